@@ -1,0 +1,2 @@
+//! Days of the proleptic Gregorian calendar.
+#![tactic(auto)]

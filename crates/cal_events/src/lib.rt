@@ -1,0 +1,2 @@
+//! Events, instances and calendars.
+#![tactic(auto)]

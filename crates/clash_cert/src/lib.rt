@@ -1,0 +1,2 @@
+//! Certificates: their text, and making one.
+#![tactic(auto)]

@@ -1,0 +1,2 @@
+//! The checker: does a certificate stand for a calendar?
+#![tactic(auto)]

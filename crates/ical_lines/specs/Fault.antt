@@ -1,0 +1,9 @@
+-- What a clause says of a `Fault`.
+use Rattle.std.specs.Prelude.{ℕ, Bool, IsTrue}
+use Rattle.ical_lines.specs.declared.fault.Fault.{Fault}
+use Rattle.ical_lines.specs.declared.fault.Fault.TheVariants.{Refused, Memory}
+
+-- want of memory, or a refusal whose number passes the test
+abbrev pub RefusesOnly : (ℕ → Bool) → Fault → Type 0
+RefusesOnly test Memory = Unit {0}
+RefusesOnly test (Refused r) = IsTrue (test r.number)

@@ -1,0 +1,115 @@
+//! Refusals: the one error convention of all crates. A number is printed at the edge and named here.
+ghost use Rattle.std.specs.Prelude.{◌≡◌};
+ghost use Rattle.ical_lines.specs.declared.fault.Fault.TheVariants.{Refused, Memory};
+
+use std::alloc::{AllocError, AllocFailed};
+use thiserror::Error;
+
+/// Why an input is refused, by the number that is printed for it.
+#[derive(Clone, Copy, Debug, PartialEq, Eq, Drop, Error)]
+#[error("refused {number}")]
+pub struct Refusal {
+    pub number: u8,
+}
+
+impl Refusal {
+    /// A content line without a colon (RFC 5545 3.1).
+    pub const NO_COLON: Refusal = Refusal { number: 1 };
+    /// A name of a property or a parameter that isn't letters, digits and `-`, at least one (RFC 5545 3.1).
+    pub const BAD_NAME: Refusal = Refusal { number: 2 };
+    /// A quoted parameter value that isn't closed, or a quote inside a bare one (RFC 5545 3.1).
+    pub const BAD_QUOTE: Refusal = Refusal { number: 3 };
+    /// A control octet other than TAB, or a CR that ends no line (RFC 5545 3.1).
+    pub const CONTROL: Refusal = Refusal { number: 4 };
+    /// The unfolded octets aren't UTF-8 (RFC 5545 3.1.4).
+    pub const NOT_UTF8: Refusal = Refusal { number: 5 };
+    /// More than 1,048,576 octets or 65,536 lines; this profile's choice.
+    pub const TOO_LONG: Refusal = Refusal { number: 6 };
+    /// Not a UTC date-time (RFC 5545 3.3.5, form 2).
+    pub const BAD_STAMP: Refusal = Refusal { number: 10 };
+    /// Not a date-time, or a form that doesn't go with its parameters (RFC 5545 3.3.5).
+    pub const BAD_DATE_TIME: Refusal = Refusal { number: 11 };
+    /// Not a duration (RFC 5545 3.3.6).
+    pub const BAD_DURATION: Refusal = Refusal { number: 12 };
+    /// Not a UTC offset; `-0000` is none (RFC 5545 3.3.14).
+    pub const BAD_OFFSET: Refusal = Refusal { number: 13 };
+    /// A UID of no octets or more than 1,024 (RFC 5545 3.8.4.7; the bound is this profile's).
+    pub const BAD_UID: Refusal = Refusal { number: 14 };
+    /// Not a calendar address, or more than 1,024 octets (RFC 5545 3.3.3; the bound is this profile's).
+    pub const BAD_ADDRESS: Refusal = Refusal { number: 15 };
+    /// Not a whole number from 0 to 2,147,483,647 (RFC 5545 3.8.7.4).
+    pub const BAD_SEQUENCE: Refusal = Refusal { number: 16 };
+    /// An END without its BEGIN (RFC 5545 3.6).
+    pub const STRAY_END: Refusal = Refusal { number: 20 };
+    /// A BEGIN without its END (RFC 5545 3.6).
+    pub const NOT_CLOSED: Refusal = Refusal { number: 21 };
+    /// Components nested more than 8 deep; this profile's choice.
+    pub const TOO_DEEP: Refusal = Refusal { number: 22 };
+    /// No VCALENDAR, or something outside it (RFC 5545 3.4).
+    pub const NOT_ONE_CALENDAR: Refusal = Refusal { number: 23 };
+    /// VERSION missing, twice or not `2.0` (RFC 5545 3.7.4).
+    pub const BAD_VERSION: Refusal = Refusal { number: 24 };
+    /// More than 200 VEVENTs in one message; this profile's choice.
+    pub const TOO_MANY_EVENTS: Refusal = Refusal { number: 25 };
+    /// DTEND before DTSTART (RFC 5545 3.8.2.2).
+    pub const END_BEFORE_START: Refusal = Refusal { number: 50 };
+    /// A duration past 366 days, or a negative one; this profile's choice.
+    pub const LONG_OR_NEGATIVE: Refusal = Refusal { number: 51 };
+    /// A time before 1970 or not before 10000-01-01T00:00:00Z; this profile's choice.
+    pub const OUT_OF_DATES: Refusal = Refusal { number: 52 };
+    /// Two VEVENTs of one meeting without RECURRENCE-ID (RFC 5545 3.8.4.4).
+    pub const TWO_MASTERS: Refusal = Refusal { number: 53 };
+    /// Two VEVENTs of one meeting with one RECURRENCE-ID (RFC 5545 3.8.4.4).
+    pub const TWO_OVERRIDES: Refusal = Refusal { number: 54 };
+    /// A DATE or floating value, which isn't read yet (RFC 5545 3.3.4, 3.3.5).
+    pub const NOT_FIXED: Refusal = Refusal { number: 55 };
+    /// A METHOD that isn't taken here (RFC 5546 1.4).
+    pub const BAD_METHOD: Refusal = Refusal { number: 60 };
+    /// A property that is missing, stands twice or excludes another (RFC 5545 3.6.1).
+    pub const BAD_PROPERTY: Refusal = Refusal { number: 61 };
+    /// Two UIDs or two ORGANIZERs in one message (RFC 5546 3.2).
+    pub const TWO_MEETINGS: Refusal = Refusal { number: 62 };
+    /// A message without ORGANIZER (RFC 5546 3.2).
+    pub const NO_ORGANIZER: Refusal = Refusal { number: 63 };
+    /// No VEVENT (RFC 5546 3.2).
+    pub const NO_EVENT: Refusal = Refusal { number: 66 };
+    /// A preamble or a configuration that can't be read.
+    pub const BAD_PREAMBLE: Refusal = Refusal { number: 90 };
+    /// Something that roombox doesn't read yet.
+    pub const NOT_YET: Refusal = Refusal { number: 99 };
+}
+
+/// How a call that reads can fail. Either way nothing has changed.
+#[derive(Clone, Copy, Debug, PartialEq, Eq, Drop, Error)]
+pub enum Fault {
+    /// The input is refused.
+    #[error(transparent)]
+    Refused(Refusal),
+    /// The memory that was asked for was refused.
+    #[error("out of memory")]
+    Memory,
+}
+
+impl From<Refusal> for Fault {
+    ghost from_gives = { λ r e. e ≡ Refused r };
+
+    fn from(refusal: Refusal) -> Fault {
+        Fault::Refused(refusal)
+    }
+}
+
+impl From<AllocError> for Fault {
+    ghost from_gives = { λ _ e. e ≡ Memory };
+
+    fn from(_error: AllocError) -> Fault {
+        Fault::Memory
+    }
+}
+
+impl<T: Drop> From<AllocFailed<T>> for Fault {
+    ghost from_gives = { λ _ e. e ≡ Memory };
+
+    fn from(_error: AllocFailed<T>) -> Fault {
+        Fault::Memory
+    }
+}

@@ -1,0 +1,1 @@
+-- Civil dates and day numbers on the proleptic Gregorian calendar.

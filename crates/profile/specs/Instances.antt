@@ -1,0 +1,1 @@
+-- Instances, clash and clear.

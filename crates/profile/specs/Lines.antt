@@ -1,0 +1,1 @@
+-- Logical lines and folding (RFC 5545 3.1).

@@ -1,0 +1,1 @@
+-- The tree of components that a list of lines spells, and the cut of a stream into objects (RFC 5545 3.4, 3.6).

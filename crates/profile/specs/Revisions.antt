@@ -1,0 +1,1 @@
+-- Parts, the order of revisions, and the view of all parts ever taken (RFC 5546 2.1.4, 2.1.5).

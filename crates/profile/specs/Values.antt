@@ -1,0 +1,1 @@
+-- The values of properties: which octets spell them (RFC 5545 3.3).

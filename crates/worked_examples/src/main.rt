@@ -1,0 +1,4 @@
+//! The program `roombox`.
+#![tactic(auto)]
+
+fn main() {}
