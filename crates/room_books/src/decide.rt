@@ -1,0 +1,137 @@
+//! The decision: may these instances be confirmed beside those that are?
+
+use crate::answer::LimitKind;
+use crate::asked::Asked;
+use crate::meeting::{Decided, Meeting, MeetingKey, Outcome, Span};
+use cal_events::HORIZON;
+use clash_cert::{Clash, OwnedKey};
+use ical_values::Stamp;
+use indexmap::IndexMap;
+use itip_messages::MessageComponent;
+use itip_order::Slot;
+use std::alloc::{AllocError, Global};
+
+/// How many single instances a room may have confirmed; this profile's choice.
+pub const MOST_SINGLES: usize = 10_000;
+
+/// An instance that a message asks for.
+#[derive(Clone, Copy, Debug)]
+pub struct Candidate {
+    pub slot: Slot,
+    pub span: Span,
+}
+
+/// The meetings of a room, in order of first arrival.
+pub type Meetings = IndexMap<MeetingKey, Meeting>;
+
+/// The answers to the parts that a message asks for: its fresh parts that are to take place.
+pub fn decide_all(
+    alloc: Global,
+    meetings: &Meetings,
+    key: &MeetingKey,
+    components: &[MessageComponent],
+    asked: &[Asked],
+    now: Stamp,
+) -> Result<Vec<Decided>, AllocError> {
+    let mut decided = Vec::new(alloc);
+    for (component, asked) in components.iter().zip(asked) {
+        if asked.is_decided_now() {
+            let candidate = Candidate {
+                slot: component.slot,
+                span: Span {
+                    start: component.start.instant(),
+                    end: component.end,
+                },
+            };
+            decided.push(Decided {
+                slot: candidate.slot,
+                moment: now,
+                outcome: decide(meetings, key, candidate)?,
+                span: candidate.span,
+            })?;
+        }
+    }
+    Ok(decided)
+}
+
+/// What is decided of a candidate of this meeting: the limit is looked at first, then whether it is clear of
+/// everything that other meetings have confirmed.
+pub fn decide(
+    meetings: &Meetings,
+    key: &MeetingKey,
+    candidate: Candidate,
+) -> Result<Outcome, AllocError> {
+    if confirmed_elsewhere(meetings, key) >= MOST_SINGLES {
+        return Ok(Outcome::Limit(LimitKind::Singles));
+    }
+    for (other, meeting) in meetings.iter() {
+        if *other != *key {
+            if let Some(booked) = overlapping(meeting, candidate.span) {
+                let clash = clash_between(key, candidate, other, booked)?;
+                return Ok(Outcome::Declined(clash));
+            }
+        }
+    }
+    Ok(Outcome::Accepted)
+}
+
+/// How many single instances the other meetings have confirmed.
+fn confirmed_elsewhere(meetings: &Meetings, key: &MeetingKey) -> usize {
+    let mut count = 0usize;
+    for (other, meeting) in meetings.iter() {
+        if *other != *key {
+            count = count.saturating_add(meeting.confirmed_count());
+        }
+    }
+    count
+}
+
+/// The first confirmed instance of a meeting that shares an instant with a span.
+fn overlapping(meeting: &Meeting, span: Span) -> Option<&Decided> {
+    meeting
+        .decided
+        .iter()
+        .find(|decided| decided.is_accepted() && share_an_instant(decided.span, span))
+}
+
+/// Whether two half-open spans share an instant before year 10000.
+fn share_an_instant(a: Span, b: Span) -> bool {
+    let start = a.start.max(b.start);
+    start < a.end && start < b.end && start < HORIZON
+}
+
+/// The clash of a candidate with a confirmed instance: the lesser by start, organiser, UID and slot is first.
+fn clash_between(
+    key: &MeetingKey,
+    candidate: Candidate,
+    other: &MeetingKey,
+    booked: &Decided,
+) -> Result<Clash, AllocError> {
+    let asked = owned_key(key, candidate.slot, candidate.span)?;
+    let taken = owned_key(other, booked.slot, booked.span)?;
+    let instant = candidate.span.start.max(booked.span.start);
+    let asked_first = (candidate.span.start, &asked) < (booked.span.start, &taken);
+    let (first, second) = if asked_first {
+        (asked, taken)
+    } else {
+        (taken, asked)
+    };
+    Ok(Clash {
+        first,
+        second,
+        instant,
+    })
+}
+
+/// An instance's key: its slot is its original start, which for a whole single meeting is its start.
+fn owned_key(key: &MeetingKey, slot: Slot, span: Span) -> Result<OwnedKey, AllocError> {
+    let slot = match slot {
+        Slot::Whole => span.start,
+        Slot::At(instant) => instant,
+    };
+    Ok(OwnedKey {
+        organiser: key.organiser.clone()?,
+        uid: key.uid.clone()?,
+        slot,
+    })
+}
