@@ -1,2 +1,23 @@
 //! Values of properties (RFC 5545 3.3): read from their text, and written in their one form.
 #![tactic(auto)]
+
+pub mod address;
+mod append;
+mod clock;
+mod digits;
+pub mod duration;
+pub mod local_time;
+pub mod offset;
+pub mod sequence;
+pub mod stamp;
+#[cfg(test)]
+mod tests;
+pub mod text;
+
+pub use address::Address;
+pub use duration::Duration;
+pub use local_time::LocalTime;
+pub use offset::UtcOffset;
+pub use sequence::Sequence;
+pub use stamp::Stamp;
+pub use text::Text;

@@ -1,0 +1,47 @@
+//! Sequence numbers (RFC 5545 3.8.7.4): an integer from 0 to 2,147,483,647. A `+` and leading zeros
+//! may stand (RFC 5545 3.3.8); a minus sign may not, also before 0.
+
+use crate::append::append_all;
+use ical_lines::Refusal;
+use itoa::Buffer;
+use std::alloc::AllocError;
+use std::marker::Model;
+
+/// The greatest sequence number.
+const MAX: u32 = 2_147_483_647;
+
+/// How often a meeting was revised.
+#[derive(Clone, Copy, Debug, PartialEq, Eq, PartialOrd, Ord, Hash)]
+pub struct Sequence {
+    number: u32,
+}
+
+impl Sequence {
+    /// Reads digits, with an optional `+`. Anything else, and a number past 2,147,483,647, is refused as
+    /// a bad sequence (16).
+    pub fn read(text: &str) -> Result<Sequence, Refusal> {
+        match text.parse::<u32>() {
+            Ok(number) if number <= MAX => Ok(Sequence { number }),
+            _ => Err(Refusal::BAD_SEQUENCE),
+        }
+    }
+
+    /// Appends the number in decimal digits. Without memory nothing is appended.
+    pub fn write(self, out: &mut Vec<u8>) -> Result<(), AllocError> {
+        let mut buffer = Buffer::new();
+        append_all(out, &[buffer.format(self.number).as_bytes()])
+    }
+
+    /// The number, from 0 to 2,147,483,647.
+    pub fn number(self) -> u32 {
+        self.number
+    }
+
+    /// The sequence of a number. None past 2,147,483,647.
+    pub fn of_number(number: u32) -> Option<Sequence> {
+        if number > MAX {
+            return None;
+        }
+        Some(Sequence { number })
+    }
+}

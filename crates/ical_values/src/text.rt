@@ -1,0 +1,101 @@
+//! Text (RFC 5545 3.3.11), kept without its escapes. `\\`, `\;`, `\,`, `\n` and `\N` are escapes; a
+//! backslash before anything else, or at the end, stands for itself.
+
+use ical_lines::{Fault, Refusal};
+use std::alloc::{AllocError, Global};
+
+/// The most octets of a UID; this profile's choice.
+const UID_LIMIT: usize = 1024;
+
+/// A text without escapes.
+#[derive(Clone, Debug, PartialEq, Eq, PartialOrd, Ord, Hash, Drop)]
+pub struct Text {
+    octets: String,
+}
+
+impl Text {
+    /// Reads a text and its escapes. Any text is one.
+    pub fn read(alloc: Global, text: &str) -> Result<Text, AllocError> {
+        Ok(Text {
+            octets: unescape(alloc, text)?,
+        })
+    }
+
+    /// Reads a UID: a text of 1 to 1,024 octets, counted after the escapes are read. Another is refused
+    /// as a bad UID (14).
+    pub fn read_uid(alloc: Global, text: &str) -> Result<Text, Fault> {
+        let octets = unescape(alloc, text)?;
+        if octets.is_empty() || octets.len() > UID_LIMIT {
+            return Err(Fault::Refused(Refusal::BAD_UID));
+        }
+        Ok(Text { octets })
+    }
+
+    /// The text of those octets as they are: nothing is an escape.
+    pub fn of(alloc: Global, octets: &str) -> Result<Text, AllocError> {
+        Ok(Text {
+            octets: String::from_str(alloc, octets)?,
+        })
+    }
+
+    /// The octets, without escapes.
+    pub fn as_str(&self) -> &str {
+        self.octets.as_str()
+    }
+
+    /// Appends the text with backslash, semicolon, comma and LF escaped. Without memory nothing is
+    /// appended.
+    pub fn write(&self, out: &mut Vec<u8>) -> Result<(), AllocError> {
+        let start = out.len();
+        for octet in self.octets.as_bytes() {
+            if push_escaped(out, *octet).is_err() {
+                out.truncate(start);
+                return Err(AllocError);
+            }
+        }
+        Ok(())
+    }
+}
+
+/// Appends one octet, escaped where it has to be.
+fn push_escaped(out: &mut Vec<u8>, octet: u8) -> Result<(), AllocError> {
+    match octet {
+        b'\n' => out.extend_from_slice(b"\\n"),
+        b'\\' | b';' | b',' => out.extend_from_slice(&[b'\\', octet]),
+        _ => out.extend_from_slice(&[octet]),
+    }
+}
+
+/// The text without its escapes.
+fn unescape(alloc: Global, text: &str) -> Result<String, AllocError> {
+    let mut out = String::new(alloc);
+    let mut rest = text;
+    while let Some((front, after)) = rest.split_once('\\') {
+        out.push_str(front)?;
+        let (meant, following) = escape_at(after);
+        out.push_str(meant)?;
+        rest = following;
+    }
+    out.push_str(rest)?;
+    Ok(out)
+}
+
+/// What a backslash before this text stands for, and the text that is left to be read.
+fn escape_at(after: &str) -> (&str, &str) {
+    if let Some(rest) = after.strip_prefix('\\') {
+        return ("\\", rest);
+    }
+    if let Some(rest) = after.strip_prefix(';') {
+        return (";", rest);
+    }
+    if let Some(rest) = after.strip_prefix(',') {
+        return (",", rest);
+    }
+    if let Some(rest) = after.strip_prefix('n') {
+        return ("\n", rest);
+    }
+    if let Some(rest) = after.strip_prefix('N') {
+        return ("\n", rest);
+    }
+    ("\\", after)
+}
