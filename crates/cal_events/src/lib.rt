@@ -6,9 +6,10 @@ pub mod component;
 pub mod instance;
 mod properties;
 mod reading;
-mod sweep;
+pub mod sweep;
 
-pub use calendar::Calendar;
+pub use calendar::{Calendar, Entry, Singles};
 pub use component::{Attendee, EventComponent, ParticipationStatus, Purpose};
 pub use instance::{Booking, HORIZON, Instance, InstanceKey};
 pub use reading::refuse_unread_events;
+pub use sweep::{Overlap, Span, first_overlap};

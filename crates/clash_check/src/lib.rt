@@ -1,2 +1,9 @@
-//! The checker: does a certificate stand for a calendar?
+//! The checker: does a certificate stand for a calendar? It judges the text that it is given and
+//! makes no certificate of its own.
 #![tactic(auto)]
+
+pub mod checking;
+pub mod verdict;
+
+pub use checking::{check_clash, judge_read};
+pub use verdict::{Checked, Verdict, Why};

@@ -1,0 +1,49 @@
+//! Instances: a meeting's hold on the room for one span of time, and which one it is.
+use ical_values::{Address, Text};
+
+/// The instant from which on nothing is compared: 10000-01-01T00:00:00Z, in seconds from
+/// 1970-01-01T00:00:00Z. This profile's choice.
+pub const HORIZON: i64 = 253_402_300_800;
+
+/// Which instance of which meeting: the organiser, the UID (RFC 5545 3.8.4.3, 3.8.4.7) and the
+/// original start in seconds. Keys are in order by organiser and UID as octets, and then by slot.
+#[derive(Clone, Copy, Debug, PartialEq, Eq, PartialOrd, Ord)]
+pub struct InstanceKey<'a> {
+    pub organiser: &'a str,
+    pub uid: &'a str,
+    pub slot: i64,
+}
+
+/// A meeting holds the room from `start` on and before `end`, in seconds (RFC 5545 3.6.1).
+#[derive(Clone, Copy, Debug, PartialEq, Eq)]
+pub struct Instance<'a> {
+    pub key: InstanceKey<'a>,
+    pub start: i64,
+    pub end: i64,
+}
+
+/// An instance that owns its texts.
+#[derive(Debug, Drop)]
+pub struct Booking {
+    pub organiser: Address,
+    pub uid: Text,
+    pub slot: i64,
+    pub start: i64,
+    pub end: i64,
+}
+
+impl Booking {
+    /// The instance, with its texts borrowed.
+    pub fn instance(&self) -> Instance<'_> {
+        let key = InstanceKey {
+            organiser: self.organiser.as_str(),
+            uid: self.uid.as_str(),
+            slot: self.slot,
+        };
+        Instance {
+            key,
+            start: self.start,
+            end: self.end,
+        }
+    }
+}

@@ -1,0 +1,71 @@
+//! The sweep: do two spans of a list share an instant before the horizon? Spans that have no such
+//! instant are dropped, the others sorted by start, and then neighbours alone are compared.
+use crate::instance::HORIZON;
+use std::alloc::{AllocError, Global};
+
+/// The seconds from `start` on and before `end`.
+#[derive(Clone, Copy, Debug, PartialEq, Eq)]
+pub struct Span {
+    pub start: i64,
+    pub end: i64,
+}
+
+/// Two places of a list whose spans share an instant, the earlier start first, and that instant:
+/// the later start.
+#[derive(Clone, Copy, Debug, PartialEq, Eq)]
+pub struct Overlap {
+    pub first: usize,
+    pub second: usize,
+    pub instant: i64,
+}
+
+/// A span that holds an instant before the horizon, and its place in the list.
+#[derive(Clone, Copy)]
+struct Placed {
+    start: i64,
+    end: i64,
+    place: usize,
+}
+
+/// Two places whose spans share an instant before the horizon, if there are any. In time
+/// n log n. Fails only for memory.
+pub fn first_overlap(alloc: Global, spans: &[Span]) -> Result<Option<Overlap>, AllocError> {
+    let mut placed = placed_spans(alloc, spans)?;
+    sort_by_start(&mut placed);
+    Ok(overlap_of_neighbours(&placed))
+}
+
+/// The spans that hold an instant before the horizon, each with its place.
+fn placed_spans(alloc: Global, spans: &[Span]) -> Result<Vec<Placed>, AllocError> {
+    let mut placed = Vec::new(alloc);
+    for (place, span) in spans.iter().enumerate() {
+        if span.start < span.end && span.start < HORIZON {
+            placed.push(Placed {
+                start: span.start,
+                end: span.end,
+                place,
+            })?;
+        }
+    }
+    Ok(placed)
+}
+
+fn sort_by_start(placed: &mut Vec<Placed>) {
+    placed.sort_unstable_by_key(|span| span.start);
+}
+
+/// The first two neighbours of which the second starts before the first has ended.
+fn overlap_of_neighbours(sorted: &[Placed]) -> Option<Overlap> {
+    for next in 1..sorted.len() {
+        let earlier = sorted[next - 1];
+        let later = sorted[next];
+        if later.start < earlier.end {
+            return Some(Overlap {
+                first: earlier.place,
+                second: later.place,
+                instant: later.start,
+            });
+        }
+    }
+    None
+}

@@ -1,0 +1,156 @@
+//! The text of a certificate: lines ended by LF, `ROOMCERT 1`, `SINGLES k`, `SERIES n`, `DONE`,
+//! and nothing after. Numbers are decimal, of 64 bits, without leading zeros. By now `n` is 0.
+use itoa::Buffer;
+use std::alloc::{AllocError, Global};
+use std::str;
+use thiserror::Error;
+
+/// Why octets can't be read as a certificate.
+#[derive(Clone, Copy, Debug, PartialEq, Eq, Drop, Error)]
+pub enum CertFault {
+    /// The first wrong or missing line, counted from 1. What follows `DONE` is the next line.
+    #[error("line {0} of the certificate is wrong or missing")]
+    Line(u64),
+    /// The memory that was asked for was refused.
+    #[error("out of memory")]
+    Memory,
+}
+
+/// What a certificate says: how many singles and how many series its calendar has.
+#[derive(Clone, Copy, Debug, PartialEq, Eq)]
+pub struct Certificate {
+    singles: u64,
+}
+
+impl Certificate {
+    /// The certificate of a calendar of that many singles and no series.
+    pub fn of(singles: u64) -> Certificate {
+        Certificate { singles }
+    }
+
+    /// The certificate that the octets spell; else the number of the first wrong or missing line.
+    pub fn read(_alloc: Global, bytes: &[u8]) -> Result<Certificate, CertFault> {
+        let Some(rest) = after_line(bytes, b"ROOMCERT 1") else {
+            return Err(CertFault::Line(1));
+        };
+        let Some((singles, rest)) = after_count(rest, b"SINGLES ") else {
+            return Err(CertFault::Line(2));
+        };
+        let Some(rest) = after_line(rest, b"SERIES 0") else {
+            return Err(CertFault::Line(3));
+        };
+        let Some(rest) = after_line(rest, b"DONE") else {
+            return Err(CertFault::Line(4));
+        };
+        if !rest.is_empty() {
+            return Err(CertFault::Line(5));
+        }
+        Ok(Certificate { singles })
+    }
+
+    /// Appends the certificate's text. Fails only for memory, and then `out` is unchanged.
+    pub fn write(&self, out: &mut Vec<u8>) -> Result<(), AllocError> {
+        let before = out.len();
+        let mut buffer = Buffer::new();
+        let singles = buffer.format(self.singles).as_bytes();
+        let written = append(out, singles);
+        if written.is_err() {
+            out.truncate(before);
+        }
+        written
+    }
+
+    /// How many singles it says there are.
+    pub fn singles(&self) -> u64 {
+        self.singles
+    }
+
+    /// How many series it says there are: none by now.
+    pub fn series(&self) -> u64 {
+        0
+    }
+}
+
+/// What follows the line, if the octets begin with it and its LF.
+fn after_line<'a>(bytes: &'a [u8], line: &[u8]) -> Option<&'a [u8]> {
+    bytes.strip_prefix(line)?.strip_prefix(b"\n")
+}
+
+/// The number of a line of a word and a number, and what follows the line.
+fn after_count<'a>(bytes: &'a [u8], word: &[u8]) -> Option<(u64, &'a [u8])> {
+    let rest = bytes.strip_prefix(word)?;
+    let end = rest.iter().position(|octet| *octet == b'\n')?;
+    let (digits, ended) = rest.split_at(end);
+    let number = number_of(digits)?;
+    Some((number, &ended[1..]))
+}
+
+/// The number that the digits spell in decimal without leading zeros.
+fn number_of(digits: &[u8]) -> Option<u64> {
+    let Ok(text) = str::from_utf8(digits) else {
+        return None;
+    };
+    let Ok(number) = text.parse::<u64>() else {
+        return None;
+    };
+    let mut buffer = Buffer::new();
+    if buffer.format(number).as_bytes() == digits {
+        Some(number)
+    } else {
+        None
+    }
+}
+
+/// Appends the text, the count of singles being given by its digits. After an error `out` may
+/// have grown.
+fn append(out: &mut Vec<u8>, singles: &[u8]) -> Result<(), AllocError> {
+    out.extend_from_slice(b"ROOMCERT 1\nSINGLES ")?;
+    out.extend_from_slice(singles)?;
+    out.extend_from_slice(b"\nSERIES 0\nDONE\n")
+}
+
+#[cfg(test)]
+mod tests {
+    use super::*;
+
+    fn line_of(alloc: Global, text: &str) -> Result<u64, CertFault> {
+        match Certificate::read(alloc, text.as_bytes()) {
+            Ok(_) => Ok(0),
+            Err(CertFault::Line(line)) => Ok(line),
+            Err(CertFault::Memory) => Err(CertFault::Memory),
+        }
+    }
+
+    #[test]
+    fn the_first_wrong_line_is_named(rt: HostRuntime) -> Result<(), CertFault> {
+        let rows = [
+            ("ROOMCERT 1\nSINGLES 1\nSERIES 0\nDONE\n", 0),
+            ("ROOMCERT 1\nSINGLES 18446744073709551615\nSERIES 0\nDONE\n", 0),
+            ("", 1),
+            ("ROOMCERT 2\nSINGLES 1\nSERIES 0\nDONE\n", 1),
+            ("ROOMCERT 1\nSINGLES 01\nSERIES 0\nDONE\n", 2),
+            ("ROOMCERT 1\nSINGLES +1\nSERIES 0\nDONE\n", 2),
+            ("ROOMCERT 1\nSINGLES 18446744073709551616\nSERIES 0\nDONE\n", 2),
+            ("ROOMCERT 1\nSINGLES 1\r\nSERIES 0\nDONE\n", 2),
+            ("ROOMCERT 1\nSINGLES 1\nSERIES 1\nPAIR 1 1 END\nDONE\n", 3),
+            ("ROOMCERT 1\nSINGLES 1\nSERIES 0\n", 4),
+            ("ROOMCERT 1\nSINGLES 1\nSERIES 0\nDONE", 4),
+            ("ROOMCERT 1\nSINGLES 1\nSERIES 0\nDONE\n\n", 5),
+        ];
+        for (text, line) in rows {
+            assert_eq!(rt; line_of(rt.alloc(), text)?, line, "{text}");
+        }
+        Ok(())
+    }
+
+    #[test]
+    fn a_certificate_is_written(rt: HostRuntime) -> Result<(), AllocError> {
+        let mut out = Vec::from_slice(rt.alloc(), b"x")?;
+        let certificate = Certificate::of(1);
+        certificate.write(&mut out)?;
+        assert_eq!(rt; out.as_slice(), b"xROOMCERT 1\nSINGLES 1\nSERIES 0\nDONE\n".as_slice());
+        assert_eq!(rt; certificate.singles(), 1);
+        assert_eq!(rt; certificate.series(), 0);
+        Ok(())
+    }
+}

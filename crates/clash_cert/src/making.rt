@@ -1,0 +1,128 @@
+//! Making: a certificate where the confirmed instances are clear, else a clash.
+use crate::certificate::Certificate;
+use cal_events::{Booking, Calendar, Instance};
+use ical_values::{Address, Text};
+use std::alloc::{AllocError, Global};
+
+/// A key that owns its texts.
+#[derive(Debug, Drop)]
+pub struct OwnedKey {
+    pub organiser: Address,
+    pub uid: Text,
+    pub slot: i64,
+}
+
+/// Two instances of different keys and an instant in both, before the horizon: the later start.
+/// `first` is less by start, organiser, UID, slot.
+#[derive(Debug, Drop)]
+pub struct Clash {
+    pub first: OwnedKey,
+    pub second: OwnedKey,
+    pub instant: i64,
+}
+
+/// What making gives.
+#[derive(Debug, Drop)]
+pub enum Made {
+    /// No two confirmed instances share an instant; the certificate stands.
+    Clear(Certificate),
+    /// Two of them do.
+    Clash(Clash),
+}
+
+/// A certificate that stands where the confirmed instances are clear, else a clash. Fails only
+/// for memory.
+pub fn make(alloc: Global, calendar: &Calendar) -> Result<Made, AllocError> {
+    let Some(overlap) = calendar.first_overlap(alloc)? else {
+        return Ok(Made::Clear(Certificate::of(calendar.single_count())));
+    };
+    let bookings = calendar.bookings();
+    let clash = clash_of(
+        &bookings[overlap.first],
+        &bookings[overlap.second],
+        overlap.instant,
+    )?;
+    Ok(Made::Clash(clash))
+}
+
+/// The clash of two bookings in that instant.
+fn clash_of(a: &Booking, b: &Booking, instant: i64) -> Result<Clash, AllocError> {
+    let (first, second) = if is_before(&b.instance(), &a.instance()) {
+        (b, a)
+    } else {
+        (a, b)
+    };
+    let first = owned_key(first)?;
+    let second = owned_key(second)?;
+    Ok(Clash {
+        first,
+        second,
+        instant,
+    })
+}
+
+/// Is the first less by start, organiser, UID, slot?
+fn is_before(a: &Instance<'_>, b: &Instance<'_>) -> bool {
+    (a.start, a.key) < (b.start, b.key)
+}
+
+/// The key of a booking.
+fn owned_key(booking: &Booking) -> Result<OwnedKey, AllocError> {
+    let organiser = booking.organiser.clone()?;
+    let uid = booking.uid.clone()?;
+    Ok(OwnedKey {
+        organiser,
+        uid,
+        slot: booking.slot,
+    })
+}
+
+#[cfg(test)]
+mod tests {
+    use super::*;
+    use cal_events::Entry;
+    use ical_lines::Fault;
+
+    fn calendar(alloc: Global, events: &[(&str, i64, i64)]) -> Result<Calendar, Fault> {
+        let mut entries = Vec::new(alloc);
+        for (uid, start, end) in events {
+            let booking = Booking {
+                organiser: Address::read(alloc, "mailto:ann@example.com")?,
+                uid: Text::read(alloc, uid)?,
+                slot: *start,
+                start: *start,
+                end: *end,
+            };
+            entries.push(Entry {
+                booking,
+                confirmed: true,
+            })?;
+        }
+        Calendar::of(alloc, entries)
+    }
+
+    #[test]
+    fn one_single_is_clear(rt: HostRuntime) -> Result<(), Fault> {
+        let room = calendar(rt.alloc(), &[("a", 0, 3600)])?;
+        let mut text = Vec::new(rt.alloc());
+        if let Made::Clear(certificate) = make(rt.alloc(), &room)? {
+            certificate.write(&mut text)?;
+        }
+        assert_eq!(rt; text.as_slice(), b"ROOMCERT 1\nSINGLES 1\nSERIES 0\nDONE\n".as_slice());
+        Ok(())
+    }
+
+    #[test]
+    fn a_clash_names_the_lesser_key_first(rt: HostRuntime) -> Result<(), Fault> {
+        let room = calendar(rt.alloc(), &[("m", 0, 3600), ("d", 0, 600), ("x", 9000, 9001)])?;
+        let made = make(rt.alloc(), &room)?;
+        let Made::Clash(clash) = made else {
+            assert!(rt; false, "a clash is wanted");
+            return Ok(());
+        };
+        assert_eq!(rt; clash.first.uid.as_str(), "d");
+        assert_eq!(rt; clash.second.uid.as_str(), "m");
+        assert_eq!(rt; clash.instant, 0);
+        Ok(())
+    }
+}

@@ -1,0 +1,177 @@
+//! Checking: a certificate's text against a calendar, and a clash against a calendar.
+use crate::verdict::{Checked, Verdict, Why};
+use cal_events::{Booking, Calendar, HORIZON};
+use clash_cert::{CertFault, Certificate, Clash, OwnedKey};
+use std::alloc::{AllocError, Global};
+
+/// Does the text stand as a certificate for the calendar? Fails only for memory.
+pub fn judge_read(
+    alloc: Global,
+    calendar: &Calendar,
+    certificate: &[u8],
+) -> Result<Checked, AllocError> {
+    match Certificate::read(alloc, certificate) {
+        Ok(certificate) => judge(alloc, calendar, certificate),
+        Err(CertFault::Line(line)) => Ok(Checked::no_at(Why::TEXT, line, 0)),
+        Err(CertFault::Memory) => Err(AllocError),
+    }
+}
+
+/// Does a certificate of that content stand?
+fn judge(
+    alloc: Global,
+    calendar: &Calendar,
+    certificate: Certificate,
+) -> Result<Checked, AllocError> {
+    let singles = calendar.single_count();
+    if certificate.singles() != singles || certificate.series() != calendar.series_count() {
+        return Ok(Checked::no(Why::COUNTS, 0));
+    }
+    if calendar.first_overlap(alloc)?.is_some() {
+        return Ok(Checked::no(Why::SINGLES, singles));
+    }
+    Ok(Checked {
+        verdict: Verdict::Yes,
+        made: singles,
+    })
+}
+
+/// Is this a clash of two confirmed instances of the calendar?
+pub fn check_clash(calendar: &Calendar, clash: &Clash) -> bool {
+    let Some(first) = booking_of(calendar.bookings(), &clash.first) else {
+        return false;
+    };
+    let Some(second) = booking_of(calendar.bookings(), &clash.second) else {
+        return false;
+    };
+    clash.instant < HORIZON
+        && !has_key(first, &clash.second)
+        && is_during(first, clash.instant)
+        && is_during(second, clash.instant)
+}
+
+/// The booking of that key.
+fn booking_of<'a>(bookings: &'a [Booking], key: &OwnedKey) -> Option<&'a Booking> {
+    bookings.iter().find(|booking| has_key(booking, key))
+}
+
+/// Is it the key of the booking?
+fn has_key(booking: &Booking, key: &OwnedKey) -> bool {
+    booking.slot == key.slot
+        && booking.uid.as_str() == key.uid.as_str()
+        && booking.organiser.as_str() == key.organiser.as_str()
+}
+
+/// Does the booking hold the room in that second?
+fn is_during(booking: &Booking, instant: i64) -> bool {
+    booking.start <= instant && instant < booking.end
+}
+
+#[cfg(test)]
+mod tests {
+    use super::*;
+    use cal_events::Entry;
+    use ical_lines::Fault;
+    use ical_values::{Address, Text};
+
+    // 2025-03-10T09:00:00Z, by `date -u -d 2025-03-10T09:00:00Z +%s`
+    const NINE: i64 = 1_741_597_200;
+
+    fn booking(alloc: Global, uid: &str, start: i64, end: i64) -> Result<Booking, Fault> {
+        Ok(Booking {
+            organiser: Address::read(alloc, "mailto:ann@example.com")?,
+            uid: Text::read(alloc, uid)?,
+            slot: start,
+            start,
+            end,
+        })
+    }
+
+    fn calendar(alloc: Global, events: &[(&str, i64, i64)]) -> Result<Calendar, Fault> {
+        let mut entries = Vec::new(alloc);
+        for (uid, start, end) in events {
+            let booking = booking(alloc, uid, *start, *end)?;
+            entries.push(Entry {
+                booking,
+                confirmed: true,
+            })?;
+        }
+        Calendar::of(alloc, entries)
+    }
+
+    fn number_of(checked: Checked) -> (u8, u64, u64, u64) {
+        match checked.verdict {
+            Verdict::Yes => (0, 0, 0, checked.made),
+            Verdict::No(why) => (why.number, why.first, why.second, checked.made),
+        }
+    }
+
+    const ONE: &str = "ROOMCERT 1\nSINGLES 1\nSERIES 0\nDONE\n";
+    const TWO: &str = "ROOMCERT 1\nSINGLES 2\nSERIES 0\nDONE\n";
+
+    #[test]
+    fn one_single_has_its_certificate(rt: HostRuntime) -> Result<(), Fault> {
+        let room = calendar(rt.alloc(), &[("a", NINE, NINE + 3600)])?;
+        let rows = [
+            (ONE, (0u8, 0u64, 0u64, 1u64)),
+            (TWO, (82, 0, 0, 0)),
+            ("ROOMCERT 1\nSINGLES 1\nSERIES 0\n", (81, 4, 0, 0)),
+            ("ROOMCERT 1\nSINGLES 01\nSERIES 0\nDONE\n", (81, 2, 0, 0)),
+        ];
+        for (text, wanted) in rows {
+            let checked = judge_read(rt.alloc(), &room, text.as_bytes())?;
+            assert_eq!(rt; number_of(checked), wanted, "{text}");
+        }
+        Ok(())
+    }
+
+    #[test]
+    fn two_singles_are_compared_in_time(rt: HostRuntime) -> Result<(), Fault> {
+        let half = calendar(
+            rt.alloc(),
+            &[("a", NINE, NINE + 3600), ("b", NINE + 1800, NINE + 5400)],
+        )?;
+        let checked = judge_read(rt.alloc(), &half, TWO.as_bytes())?;
+        assert_eq!(rt; checked.verdict, Checked::no(84, 0).verdict);
+        assert!(rt; checked.made <= 2);
+        let apart = calendar(
+            rt.alloc(),
+            &[("a", NINE, NINE + 3600), ("b", NINE + 3600, NINE + 5400)],
+        )?;
+        let checked = judge_read(rt.alloc(), &apart, TWO.as_bytes())?;
+        assert_eq!(rt; number_of(checked), (0u8, 0u64, 0u64, 2u64));
+        Ok(())
+    }
+
+    #[test]
+    fn a_clash_is_checked(rt: HostRuntime) -> Result<(), Fault> {
+        let room = calendar(
+            rt.alloc(),
+            &[("a", NINE, NINE + 3600), ("b", NINE + 1800, NINE + 5400)],
+        )?;
+        for (second, slot, instant, wanted) in [
+            ("b", NINE + 1800, NINE + 1800, true),
+            ("b", NINE + 1800, NINE + 3600, false),
+            ("b", NINE, NINE + 1800, false),
+            ("a", NINE, NINE + 1800, false),
+        ] {
+            let first = OwnedKey {
+                organiser: Address::read(rt.alloc(), "mailto:ann@example.com")?,
+                uid: Text::read(rt.alloc(), "a")?,
+                slot: NINE,
+            };
+            let second = OwnedKey {
+                organiser: Address::read(rt.alloc(), "mailto:ann@example.com")?,
+                uid: Text::read(rt.alloc(), second)?,
+                slot,
+            };
+            let clash = Clash {
+                first,
+                second,
+                instant,
+            };
+            assert_eq!(rt; check_clash(&room, &clash), wanted);
+        }
+        Ok(())
+    }
+}

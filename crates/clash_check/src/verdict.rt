@@ -1,0 +1,55 @@
+//! What the checker answers.
+
+/// The answer, and how many instances were made for it.
+#[derive(Clone, Copy, Debug, PartialEq, Eq)]
+pub struct Checked {
+    pub verdict: Verdict,
+    pub made: u64,
+}
+
+/// Does the certificate stand for the calendar?
+#[derive(Clone, Copy, Debug, PartialEq, Eq)]
+pub enum Verdict {
+    Yes,
+    /// The first reason that applies.
+    No(Why),
+}
+
+/// Why a certificate doesn't stand: the calendar is refused (80), the certificate's text is wrong
+/// (81, `first` is its first wrong or missing line), a count isn't the calendar's (82), an entry
+/// doesn't stand (83, `first` and `second` are its pair), a single clashes (84). Elsewhere `first`
+/// and `second` are 0.
+#[derive(Clone, Copy, Debug, PartialEq, Eq)]
+pub struct Why {
+    pub number: u8,
+    pub first: u64,
+    pub second: u64,
+}
+
+impl Why {
+    pub const CALENDAR: u8 = 80;
+    pub const TEXT: u8 = 81;
+    pub const COUNTS: u8 = 82;
+    pub const ENTRY: u8 = 83;
+    pub const SINGLES: u8 = 84;
+}
+
+impl Checked {
+    /// A no of that number that names nothing.
+    pub(crate) fn no(number: u8, made: u64) -> Checked {
+        Checked::no_at(number, 0, made)
+    }
+
+    /// A no of that number that names a line.
+    pub(crate) fn no_at(number: u8, first: u64, made: u64) -> Checked {
+        let why = Why {
+            number,
+            first,
+            second: 0,
+        };
+        Checked {
+            verdict: Verdict::No(why),
+            made,
+        }
+    }
+}
