@@ -159,7 +159,7 @@ fn read_sequence(property: Once<'_>) -> Result<Sequence, Refusal>
 {
     match property.optional()? {
         Some(line) => Sequence::read(line.value()),
-        None => Ok(Sequence::ZERO),
+        None => Ok(Sequence::zero()),
     }
 }
 

@@ -37,6 +37,11 @@ impl Sequence {
         self.number
     }
 
+    /// The number 0, which a missing SEQUENCE means (RFC 5545 3.8.7.4).
+    pub fn zero() -> Sequence {
+        Sequence { number: 0 }
+    }
+
     /// The sequence of a number. None past 2,147,483,647.
     pub fn of_number(number: u32) -> Option<Sequence> {
         if number > MAX {

@@ -3,7 +3,7 @@
 use crate::answer::LimitKind;
 use crate::asked::Asked;
 use crate::meeting::{Decided, Meeting, MeetingKey, Outcome, Span};
-use cal_events::HORIZON;
+use cal_events::{HORIZON, InstanceKey};
 use clash_cert::{Clash, OwnedKey};
 use ical_values::Stamp;
 use indexmap::IndexMap;
@@ -107,15 +107,22 @@ fn clash_between(
     other: &MeetingKey,
     booked: &Decided,
 ) -> Result<Clash, AllocError> {
-    let asked = owned_key(key, candidate.slot, candidate.span)?;
-    let taken = owned_key(other, booked.slot, booked.span)?;
     let instant = candidate.span.start.max(booked.span.start);
-    let asked_first = (candidate.span.start, &asked) < (booked.span.start, &taken);
-    let (first, second) = if asked_first {
-        (asked, taken)
-    } else {
-        (taken, asked)
-    };
+    let asked = instance_key(key, candidate.slot, candidate.span);
+    let taken = instance_key(other, booked.slot, booked.span);
+    let asked = (candidate.span.start, asked);
+    let taken = (booked.span.start, taken);
+    if asked < taken {
+        let first = owned_key(key, candidate.slot, candidate.span)?;
+        let second = owned_key(other, booked.slot, booked.span)?;
+        return Ok(Clash {
+            first,
+            second,
+            instant,
+        });
+    }
+    let first = owned_key(other, booked.slot, booked.span)?;
+    let second = owned_key(key, candidate.slot, candidate.span)?;
     Ok(Clash {
         first,
         second,
@@ -123,15 +130,26 @@ fn clash_between(
     })
 }
 
-/// An instance's key: its slot is its original start, which for a whole single meeting is its start.
+fn instance_key(key: &MeetingKey, slot: Slot, span: Span) -> InstanceKey<'_> {
+    InstanceKey {
+        organiser: key.organiser.as_str(),
+        uid: key.uid.as_str(),
+        slot: original_start(slot, span),
+    }
+}
+
 fn owned_key(key: &MeetingKey, slot: Slot, span: Span) -> Result<OwnedKey, AllocError> {
-    let slot = match slot {
-        Slot::Whole => span.start,
-        Slot::At(instant) => instant,
-    };
     Ok(OwnedKey {
         organiser: key.organiser.clone()?,
         uid: key.uid.clone()?,
-        slot,
+        slot: original_start(slot, span),
     })
+}
+
+/// The original start of an instance: of a whole single meeting its own.
+fn original_start(slot: Slot, span: Span) -> i64 {
+    match slot {
+        Slot::Whole => span.start,
+        Slot::At(instant) => instant,
+    }
 }

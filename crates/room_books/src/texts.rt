@@ -28,7 +28,7 @@ impl Room {
             singles = singles.saturating_add(meeting.confirmed_count() as u64);
         }
         let mut octets = Vec::new(self.alloc());
-        Certificate::of(singles, 0).write(&mut octets)?;
+        Certificate::of(singles).write(&mut octets)?;
         Ok(octets)
     }
 }
