@@ -1,6 +1,22 @@
 //! Content lines of iCalendar (RFC 5545 3.1): unfolding, lines, folding, and the end of an object.
+//! Input is octets, output is text that lends its lines. Values of properties aren't read here.
 #![tactic(auto)]
 
+pub mod cut;
 pub mod fault;
+pub mod fold;
+pub mod limits;
+pub mod line;
+pub mod pieces;
+pub mod text;
+pub mod unfold;
 
+pub use cut::{Cutter, cut};
 pub use fault::{Fault, Refusal};
+pub use fold::{write_line, write_property};
+pub use limits::Limits;
+pub use line::{Line, Param, Params};
+pub use text::{Lines, Unfolded};
+
+#[cfg(test)]
+mod tests;
