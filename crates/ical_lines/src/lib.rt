@@ -2,20 +2,20 @@
 //! Input is octets, output is text that lends its lines. Values of properties aren't read here.
 #![tactic(auto)]
 
-pub mod cut;
 pub mod fault;
 pub mod fold;
 pub mod limits;
 pub mod line;
+pub mod object_end;
 pub mod pieces;
 pub mod text;
 pub mod unfold;
 
-pub use cut::{Cutter, cut};
 pub use fault::{Fault, Refusal};
 pub use fold::{write_line, write_property};
 pub use limits::Limits;
 pub use line::{Line, Param, Params};
+pub use object_end::{Cutter, cut};
 pub use text::{Lines, Unfolded};
 
 #[cfg(test)]
