@@ -10,9 +10,30 @@ use std::env;
 use std::fs::File;
 use std::io::{self, BufReader, BufWriter, ErrorKind, Read, Write};
 use std::rt::Runtime;
+use std::str;
 
 /// The most octets of a file; this profile's choice.
 const MOST_OCTETS: u64 = 1_073_741_824;
+
+/// Standard error, as a writer of text.
+#[derive(Drop)]
+struct ErrorPrinter<'a, R> {
+    to: &'a R,
+}
+
+impl<R: Eprint> Write for ErrorPrinter<'_, R> {
+    fn write(&mut self, octets: &[u8]) -> io::Result<usize> {
+        let Ok(text) = str::from_utf8(octets) else {
+            return Err(io::Error::from(ErrorKind::InvalidData));
+        };
+        self.to.eprint(text)?;
+        Ok(octets.len())
+    }
+
+    fn flush(&mut self) -> io::Result<()> {
+        Ok(())
+    }
+}
 
 /// Why a file isn't taken.
 enum FileFault {
@@ -71,7 +92,7 @@ fn read_room<R: Runtime + AllocGlobal>(rt: &R, alloc: Global, word: &str) -> Res
 }
 
 fn invoke_serve<R: Runtime + AllocGlobal>(rt: &R, alloc: Global) -> u8 {
-    let mut errors = io::error_writer(rt);
+    let mut errors = ErrorPrinter { to: rt };
     let Ok(mut reader) = BufReader::new(alloc, rt.reader()) else {
         return MEMORY;
     };
@@ -82,7 +103,7 @@ fn invoke_serve<R: Runtime + AllocGlobal>(rt: &R, alloc: Global) -> u8 {
 }
 
 fn invoke_keep<R: Runtime + AllocGlobal>(rt: &R, alloc: Global, room: &Address, kept: Kept) -> u8 {
-    let mut errors = io::error_writer(rt);
+    let mut errors = ErrorPrinter { to: rt };
     let Ok(mut reader) = BufReader::new(alloc, rt.reader()) else {
         return MEMORY;
     };
@@ -97,7 +118,7 @@ fn invoke_check<R: Runtime + AllocGlobal>(
     certificate: &str,
     room: &Address,
 ) -> u8 {
-    let mut errors = io::error_writer(rt);
+    let mut errors = ErrorPrinter { to: rt };
     let calendar = match read_file(rt, alloc, calendar) {
         Ok(octets) => octets,
         Err(fault) => return report_file(&mut errors, fault),
