@@ -54,36 +54,33 @@ pub fn decide_all(
     Ok(decided)
 }
 
-/// What is decided of a candidate of this meeting: the limit is looked at first, then whether it is clear of
-/// everything that other meetings have confirmed.
-pub fn decide(
+/// What is decided of a candidate of this meeting, beside everything that other meetings have confirmed: the limit
+/// is looked at first, then whether an instant is shared.
+fn decide(
     meetings: &Meetings,
     key: &MeetingKey,
     candidate: Candidate,
 ) -> Result<Outcome, AllocError> {
-    if confirmed_elsewhere(meetings, key) >= MOST_SINGLES {
-        return Ok(Outcome::Limit(LimitKind::Singles));
-    }
-    for (other, meeting) in meetings.iter() {
-        if *other != *key {
-            if let Some(booked) = overlapping(meeting, candidate.span) {
-                let clash = clash_between(key, candidate, other, booked)?;
-                return Ok(Outcome::Declined(clash));
+    let own = meetings.get_index_of(key);
+    let mut confirmed = 0usize;
+    let mut busy = None;
+    for (place, (other, meeting)) in meetings.iter().enumerate() {
+        if own != Some(place) {
+            confirmed = confirmed.saturating_add(meeting.confirmed_count());
+            if busy.is_none() {
+                busy = overlapping(meeting, candidate.span).map(|booked| (other, booked));
             }
         }
     }
-    Ok(Outcome::Accepted)
-}
-
-/// How many single instances the other meetings have confirmed.
-fn confirmed_elsewhere(meetings: &Meetings, key: &MeetingKey) -> usize {
-    let mut count = 0usize;
-    for (other, meeting) in meetings.iter() {
-        if *other != *key {
-            count = count.saturating_add(meeting.confirmed_count());
-        }
+    if confirmed >= MOST_SINGLES {
+        return Ok(Outcome::Limit(LimitKind::Singles));
     }
-    count
+    match busy {
+        Some((other, booked)) => Ok(Outcome::Declined(clash_between(
+            key, candidate, other, booked,
+        )?)),
+        None => Ok(Outcome::Accepted),
+    }
 }
 
 /// The first confirmed instance of a meeting that shares an instant with a span.
