@@ -26,7 +26,7 @@ impl Calendar {
         for component in object.children() {
             if component.is_named("VEVENT") {
                 let event = EventComponent::read(alloc, component, Purpose::Calendar)?;
-                entries.push(entry_of(alloc, event, room)?)?;
+                entries.push(entry_of(alloc, &event, room)?)?;
             }
         }
         Calendar::of(alloc, entries)
@@ -47,20 +47,24 @@ pub fn refuse_unread_events(alloc: Global, object: &Component) -> Result<(), Fau
 }
 
 /// What a VEVENT books: its one instance, whose slot is its start, and whether the room has accepted it.
-fn entry_of(alloc: Global, event: EventComponent, room: &Address) -> Result<Entry, AllocError> {
+fn entry_of(alloc: Global, event: &EventComponent, room: &Address) -> Result<Entry, AllocError> {
     let confirmed = event.status_of(room) == Some(ParticipationStatus::Accepted);
     let start = event.start.instant();
     let end = event.end();
-    let organiser = match event.organiser {
-        Some(organiser) => organiser,
-        None => Address::empty(alloc),
-    };
     let booking = Booking {
-        organiser,
-        uid: event.uid,
+        organiser: organiser_of(alloc, event)?,
+        uid: event.uid.clone()?,
         slot: start,
         start,
         end,
     };
     Ok(Entry { booking, confirmed })
+}
+
+/// The address of an event's organiser; the empty one where ORGANIZER is missing.
+fn organiser_of(alloc: Global, event: &EventComponent) -> Result<Address, AllocError> {
+    match &event.organiser {
+        Some(organiser) => organiser.clone(),
+        None => Ok(Address::empty(alloc)),
+    }
 }

@@ -1,5 +1,7 @@
 //! The objects of a stream, one after another: never more than one of them is in memory.
 
+ghost use Rattle.std.specs.Prelude.{◌≤◌, length};
+
 use crate::fault::ServeFault;
 use ical_lines::Cutter;
 use std::alloc::Global;
@@ -70,12 +72,11 @@ impl Objects {
         }
         let most = usize::try_from(self.left).unwrap_or(usize::MAX);
         let lent = &lent[..lent.len().min(most)];
-        let end = end_of_object(cutter, lent);
-        let count = end.unwrap_or(lent.len());
-        keep(&mut self.octets, &lent[..count])?;
-        reader.consume(count);
-        self.left = self.left.saturating_sub(count as u64);
-        if end.is_some() {
+        let scanned = scan(cutter, lent);
+        keep(&mut self.octets, &lent[..scanned.count])?;
+        reader.consume(scanned.count);
+        self.left = self.left.saturating_sub(scanned.count as u64);
+        if scanned.ended {
             return Ok(Piece::Ended);
         }
         if self.left == 0 {
@@ -85,14 +86,28 @@ impl Objects {
     }
 }
 
-/// The place of the first octet that is no longer of the object, None where all of them are.
-fn end_of_object(cutter: &mut Cutter, lent: &[u8]) -> Option<usize> {
+/// How many octets belong to the object that has begun, and whether it ended before the next.
+#[derive(Clone, Copy)]
+struct Scanned {
+    count: usize,
+    ended: bool,
+}
+
+fn scan(cutter: &mut Cutter, lent: &[u8]) -> Scanned
+    ensures { result.count ≤ length lent.now }
+{
     for (place, octet) in lent.iter().enumerate() {
         if cutter.feed(*octet) {
-            return Some(place);
+            return Scanned {
+                count: place,
+                ended: true,
+            };
         }
     }
-    None
+    Scanned {
+        count: lent.len(),
+        ended: false,
+    }
 }
 
 /// Keeps octets of an object, as many as are still wanted.
