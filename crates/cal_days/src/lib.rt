@@ -58,6 +58,7 @@ impl Day {
     pub fn of(year: i32, month: u8, day: u8) -> Option<Day>
         ensures found { IsSome result ↔ IsDayDate year month day }
         ensures value { IfSome result (λ d. d ≡ number_of_day year month day) }
+        ensures early { IfSome result (λ d. year ≤ℤ pos 9999 → d ≤ℤ pos 2_932_896) }
     {
         if year < 1 || year > 10_001 {
             return None;
@@ -93,6 +94,7 @@ impl Day {
     pub fn civil(self) -> Civil
         ensures date { IsDayDate result.year result.month result.day }
         ensures number { number_of_day result.year result.month result.day ≡ self }
+        ensures early { self ≤ℤ pos 2_932_896 → result.year ≤ℤ pos 9999 }
     {
         if self.number > JIFF_LAST {
             return later(date_of(self.number - CYCLE));
