@@ -1,1 +1,4 @@
+pub mod Breaks
 pub mod Fault
+pub mod Pieces
+pub mod Text
