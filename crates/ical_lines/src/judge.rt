@@ -1,6 +1,7 @@
 //! What can be wrong with one content line (RFC 5545 3.1).
-ghost use Rattle.std.specs.Prelude.{◌≡◌, ◌==◌, ◌%◌, count_by};
-ghost use Rattle.std.specs.List.{list_any};
+ghost use Rattle.std.specs.Prelude.{◌≡◌, ◌==◌, ◌%◌, count_by, not};
+ghost use Rattle.std.specs.List.{list_all, list_any};
+ghost use Rattle.ical_lines.specs.Pieces.{pieces_left};
 ghost use Rattle.profile.specs.Lines.{
     is_quote, is_name, is_name_octet, is_control, lacks_colon, lacks_name, has_bad_name, is_badly_quoted,
     has_bad_quote, has_control, is_item
@@ -35,7 +36,14 @@ fn has_open_quote(text: &str) -> bool
 pub fn has_bad_name(line: &str) -> bool
     ensures { result ≡ has_bad_name line.now }
 {
-    !is_name(name_of(line)) || param_pieces(line).any(|param| lacks_name(param))
+    !is_name(name_of(line)) || any_lacks_name(param_pieces(line))
+}
+
+/// Whether one of some parameters doesn't begin with a name and `=`.
+fn any_lacks_name(mut params: Pieces<'_>) -> bool
+    ensures { result ≡ list_any lacks_name (pieces_left params.entry) }
+{
+    params.any(|param| lacks_name(param))
 }
 
 /// Whether a parameter doesn't begin with a name and `=`.
@@ -50,7 +58,14 @@ fn lacks_name(param: &str) -> bool
 fn is_name(text: &str) -> bool
     ensures { result ≡ is_name text.now }
 {
-    !text.is_empty() && text.bytes().all(|octet| is_name_octet(octet))
+    !text.is_empty() && are_name_octets(text)
+}
+
+/// Whether each octet of a text may stand in a name.
+fn are_name_octets(text: &str) -> bool
+    ensures { result ≡ list_all is_name_octet text.now }
+{
+    text.bytes().all(|octet| is_name_octet(octet))
 }
 
 /// Whether an octet may stand in a name.
@@ -64,14 +79,28 @@ fn is_name_octet(octet: u8) -> bool
 pub fn has_bad_quote(line: &str) -> bool
     ensures { result ≡ has_bad_quote line.now }
 {
-    param_pieces(line).any(|param| is_badly_quoted(param))
+    any_badly_quoted(param_pieces(line))
+}
+
+/// Whether one of some parameters is badly quoted.
+fn any_badly_quoted(mut params: Pieces<'_>) -> bool
+    ensures { result ≡ list_any is_badly_quoted (pieces_left params.entry) }
+{
+    params.any(|param| is_badly_quoted(param))
 }
 
 /// Whether one of a parameter's values is neither quoted nor free of quotes.
 fn is_badly_quoted(param: &str) -> bool
     ensures { result ≡ is_badly_quoted param.now }
 {
-    Pieces::of(back(param, b'='), b',').any(|item| !is_item(item))
+    any_is_no_item(Pieces::of(back(param, b'='), b','))
+}
+
+/// Whether one of some values is neither quoted nor free of quotes.
+fn any_is_no_item(mut items: Pieces<'_>) -> bool
+    ensures { result ≡ list_any (λ item. not (is_item item)) (pieces_left items.entry) }
+{
+    items.any(|item| !is_item(item))
 }
 
 /// Whether a control octet other than TAB stands in a text.
