@@ -3,8 +3,17 @@ ghost use Rattle.std.specs.Prelude.{◌≡◌, ◌==◌, ◌%◌, count_by, not}
 ghost use Rattle.std.specs.List.{list_all, list_any};
 ghost use Rattle.ical_lines.specs.Pieces.{pieces_left};
 ghost use Rattle.profile.specs.Lines.{
-    is_quote, is_name, is_name_octet, is_control, lacks_colon, lacks_name, has_bad_name, is_badly_quoted,
-    has_bad_quote, has_control, is_item
+  is_quote,
+  is_name,
+  is_name_octet,
+  is_control,
+  lacks_colon,
+  lacks_name,
+  has_bad_name,
+  is_badly_quoted,
+  has_bad_quote,
+  has_control,
+  is_item,
 };
 
 use crate::parts::{is_item, name_of, param_pieces};

@@ -24,8 +24,9 @@ pub struct Param<'a> {
 }
 
 impl<'a> Line<'a> {
-    ghost use Rattle.std.specs.Prelude.{◌≡◌, true, false, map, option_map, MatchOption, IsTrue};
+    ghost use Rattle.std.specs.Prelude.{◌≡◌, true, false, map, option_map, MatchOption, IfSome, IsTrue};
     ghost use Rattle.profile.specs.Lines.{line_name, line_value, line_params, line_param, is_same_name, is_faulty, line_has};
+    ghost use Rattle.profile.specs.Faults.{is_line_fault};
     ghost use Rattle.ical_lines.specs.Breaks.{is_one_line};
     ghost use Rattle.ical_lines.specs.Text.{line_text, params_left, param_of};
 
@@ -90,8 +91,9 @@ impl<'a> Line<'a> {
 
     /// The least of the faults 1 to 4 that stand in the line.
     pub(crate) fn fault(&self) -> Option<Refusal>
-        ensures { MatchOption result (is_faulty (line_text self.now) ≡ false)
+        ensures stands { MatchOption result (is_faulty (line_text self.now) ≡ false)
             (λ refusal. IsTrue (line_has refusal.number (line_text self.now))) }
+        ensures refuses { IfSome result (λ refusal. IsTrue (is_line_fault refusal.number)) }
     {
         if lacks_colon(self.text) {
             Some(Refusal::NO_COLON)

@@ -5,13 +5,18 @@ ghost use Rattle.std.specs.Prelude.{◌≡◌, ◌++◌, ◌<◌, ◌≤◌, [],
 ghost use Rattle.std.specs.Vec.{vec_len};
 ghost use Rattle.std.specs.List.{slice_split};
 ghost use Rattle.profile.specs.Lines.{
-    without_mark, without_return, physical_lines, is_continuation, logical_lines, ended, is_filled
+  without_mark,
+  without_return,
+  physical_lines,
+  is_continuation,
+  logical_lines,
+  ended,
+  is_filled,
 };
 ghost use Rattle.ical_lines.specs.Unfold.{lines_after, ended_if_filled};
 
-use std::alloc::{AllocError, Global};
-
 use memchr::memchr;
+use std::alloc::{AllocError, Global};
 
 /// The byte order mark in UTF-8.
 pub const MARK: [u8; 3] = [0xEF, 0xBB, 0xBF];
@@ -41,9 +46,9 @@ fn add_line(text: &mut Vec<u8>, begun: usize, line: &[u8]) -> Result<usize, Allo
     requires { begun ≤ vec_len text.old }
     ensures { IfOk result (λ start. (start ≤ vec_len text.new)
         × (take start text.new.items ≡ (if is_continuation line.now then take begun text.old.items
-            else take begun text.old.items ++ ended_if_filled (drop begun text.old.items)))
+        else take begun text.old.items ++ ended_if_filled (drop begun text.old.items)))
         × (drop start text.new.items ≡ (if is_continuation line.now then drop begun text.old.items ++ drop 1 line.now
-            else line.now))) }
+        else line.now))) }
 {
     match line {
         [b' ' | b'\t', continued @ ..] => {
