@@ -4,7 +4,7 @@ ghost use Rattle.ical_lines.specs.Breaks.{is_one_line};
 
 use crate::fault::Refusal;
 use crate::judge::{has_bad_name, has_bad_quote, has_control, lacks_colon};
-use crate::parts::{first_value, name_of, param_pieces, value_of};
+use crate::parts::{first_value, has_param_name, name_of, param_pieces, value_of};
 use crate::pieces::{Pieces, back, front};
 
 /// A content line, unfolded, without its line break. It borrows its text.
@@ -82,7 +82,7 @@ impl<'a> Line<'a> {
         ensures { option_map (λ x. x.now) result ≡ line_param name.now (line_text self.now) }
     {
         for piece in param_pieces(self.text) {
-            if front(piece, b'=').eq_ignore_ascii_case(name) {
+            if has_param_name(piece, name) {
                 return Some(first_value(piece));
             }
         }

@@ -1,6 +1,6 @@
 //! The parts of a content line's text: name, parameters and value (RFC 5545 3.1).
 ghost use Rattle.std.specs.Prelude.{◌≡◌};
-ghost use Rattle.profile.specs.Lines.{line_head, line_name, line_value, line_params, first_value, unquoted, is_quoted, is_item};
+ghost use Rattle.profile.specs.Lines.{line_head, line_name, line_value, line_params, first_value, unquoted, is_quoted, is_item, param_name, is_same_name};
 ghost use Rattle.ical_lines.specs.Pieces.{pieces_left};
 
 use crate::pieces::{Pieces, back, front};
@@ -33,6 +33,13 @@ pub fn param_pieces(line: &str) -> Pieces<'_>
     let mut pieces = Pieces::of(head_of(line), b';');
     let _name = pieces.next();
     pieces
+}
+
+/// Whether a parameter's name is this one; ASCII letters are compared caseless.
+pub fn has_param_name(param: &str, name: &str) -> bool
+    ensures { result ≡ is_same_name (param_name param.now) name.now }
+{
+    front(param, b'=').eq_ignore_ascii_case(name)
 }
 
 /// The first of the values of a parameter, which commas part, without its quotes.
