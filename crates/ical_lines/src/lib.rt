@@ -4,12 +4,14 @@
 
 pub mod fault;
 pub mod fold;
+mod judge;
 pub mod limits;
 pub mod line;
 pub mod object_end;
-pub mod pieces;
+mod parts;
+mod pieces;
 pub mod text;
-pub mod unfold;
+mod unfold;
 
 pub use fault::{Fault, Refusal};
 pub use fold::{write_line, write_property};

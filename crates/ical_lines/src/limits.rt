@@ -16,8 +16,13 @@ pub const MAX_OCTETS: usize = 1_048_576;
 pub const MAX_LINES: usize = 65_536;
 
 impl Limits {
+    ghost use Rattle.std.specs.Prelude.{◌≡◌, ◌&&◌, nat_lt};
+    ghost use Rattle.ical_lines.specs.Limits.{is_bounded};
+
     /// Whether so many octets are too many.
-    pub fn exceeds_octets(self, count: usize) -> bool {
+    pub fn exceeds_octets(self, count: usize) -> bool
+        ensures { result ≡ (is_bounded self && nat_lt 1048576 count) }
+    {
         match self {
             Limits::Message => count > MAX_OCTETS,
             Limits::Open => false,
@@ -25,7 +30,9 @@ impl Limits {
     }
 
     /// Whether so many lines are too many.
-    pub fn exceeds_lines(self, count: usize) -> bool {
+    pub fn exceeds_lines(self, count: usize) -> bool
+        ensures { result ≡ (is_bounded self && nat_lt 65536 count) }
+    {
         match self {
             Limits::Message => count > MAX_LINES,
             Limits::Open => false,

@@ -1,5 +1,9 @@
 //! Reading an object: BEGIN and END pair up, and everything stands in one VCALENDAR (RFC 5545 3.4, 3.6).
 
+ghost use Rattle.std.specs.Prelude.{◌≡◌, ◌||◌, ◌==◌, IfErr, IsTrue};
+ghost use Rattle.profile.specs.Faults.{is_object_fault, is_between};
+ghost use Rattle.ical_lines.specs.Fault.{RefusesOnly};
+
 use crate::component::Component;
 use ical_lines::{Fault, Limits, Line, Refusal, Unfolded};
 use std::alloc::Global;
@@ -17,7 +21,9 @@ const MAX_EVENTS: usize = 200;
 /// the one VCALENDAR (23). Then, at the end: a component that is still open (21), no VCALENDAR at all (23), a
 /// VERSION of VCALENDAR that is missing, stands twice or isn't `2.0` (24), and for `Limits::Message` more than
 /// 200 VEVENTs directly inside VCALENDAR (25).
-pub fn read_object(alloc: Global, bytes: &[u8], limits: Limits) -> Result<Component, Fault> {
+pub fn read_object(alloc: Global, bytes: &[u8], limits: Limits) -> Result<Component, Fault>
+    ensures refuses { IfErr result (RefusesOnly is_object_fault) }
+{
     let text = Unfolded::read(alloc, bytes, limits)?;
     let mut reader = Reader::new(alloc);
     for line in text.lines() {
@@ -47,7 +53,9 @@ impl Reader {
     }
 
     /// Takes the next line.
-    fn take(&mut self, alloc: Global, line: Line<'_>) -> Result<(), Fault> {
+    fn take(&mut self, alloc: Global, line: Line<'_>) -> Result<(), Fault>
+        ensures refuses { IfErr result (RefusesOnly is_object_fault) }
+    {
         if line.is_named("BEGIN") {
             self.begin(alloc, line.value())
         } else if line.is_named("END") {
@@ -58,7 +66,9 @@ impl Reader {
     }
 
     /// Opens a component.
-    fn begin(&mut self, alloc: Global, name: &str) -> Result<(), Fault> {
+    fn begin(&mut self, alloc: Global, name: &str) -> Result<(), Fault>
+        ensures refuses { IfErr result (RefusesOnly is_object_fault) }
+    {
         if self.open.is_empty()
             && (self.closed.is_some() || !name.eq_ignore_ascii_case("VCALENDAR"))
         {
@@ -73,7 +83,9 @@ impl Reader {
     }
 
     /// Closes the innermost component.
-    fn end(&mut self, name: &str) -> Result<(), Fault> {
+    fn end(&mut self, name: &str) -> Result<(), Fault>
+        ensures refuses { IfErr result (RefusesOnly is_object_fault) }
+    {
         let Some(component) = self.open.pop() else {
             return Err(Fault::Refused(Refusal::STRAY_END));
         };
@@ -88,7 +100,9 @@ impl Reader {
     }
 
     /// Adds a property to the innermost component.
-    fn add(&mut self, line: Line<'_>) -> Result<(), Fault> {
+    fn add(&mut self, line: Line<'_>) -> Result<(), Fault>
+        ensures refuses { IfErr result (RefusesOnly is_object_fault) }
+    {
         match self.open.last_mut() {
             Some(component) => {
                 component.push_line(line)?;
@@ -99,7 +113,9 @@ impl Reader {
     }
 
     /// The VCALENDAR, after the last line.
-    fn finish(self) -> Result<Component, Refusal> {
+    fn finish(self) -> Result<Component, Refusal>
+        ensures refuses { IfErr result (λ r. IsTrue (is_object_fault r.number)) }
+    {
         if !self.open.is_empty() {
             return Err(Refusal::NOT_CLOSED);
         }
@@ -108,7 +124,9 @@ impl Reader {
 }
 
 /// Judges a VCALENDAR as a whole: its VERSION, and how many VEVENTs it has.
-fn check_calendar(calendar: &Component, limits: Limits) -> Result<(), Refusal> {
+fn check_calendar(calendar: &Component, limits: Limits) -> Result<(), Refusal>
+    ensures refuses { IfErr result (λ r. IsTrue (is_object_fault r.number)) }
+{
     if !has_version(calendar) {
         return Err(Refusal::BAD_VERSION);
     }

@@ -1,11 +1,15 @@
 //! Writing an object: BEGIN, the component's own lines, the components inside, END, each line folded.
 
+ghost use Rattle.std.specs.Prelude.{◌≡◌, OnErr};
+
 use crate::component::Component;
 use ical_lines::{write_line, write_property};
 use std::alloc::AllocError;
 
 /// Writes a component with all that stands inside. Where memory is refused, `out` is unchanged.
-pub fn write_object(component: &Component, out: &mut Vec<u8>) -> Result<(), AllocError> {
+pub fn write_object(component: &Component, out: &mut Vec<u8>) -> Result<(), AllocError>
+    ensures unchanged { OnErr result (out.new.items ≡ out.old.items) }
+{
     let kept = out.len();
     match write_component(component, out) {
         Ok(()) => Ok(()),
