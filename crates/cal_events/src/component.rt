@@ -4,7 +4,7 @@ ghost use Rattle.std.specs.Prelude.{◌≡◌, IfErr, IsTrue};
 ghost use Rattle.ical_lines.specs.Fault.{RefusesOnly};
 ghost use Rattle.profile.specs.Faults.{is_event_fault};
 
-use crate::properties::{Once, Properties};
+use crate::properties::{optional, required};
 use ical_lines::{Fault, Line, Refusal};
 use ical_tree::Component;
 use ical_values::{Address, Duration, LocalTime, Sequence, Stamp, Text};
@@ -84,15 +84,14 @@ impl EventComponent {
     pub fn read(alloc: Global, component: &Component, purpose: Purpose) -> Result<EventComponent, Fault>
         ensures refuses { IfErr result (RefusesOnly is_event_fault) }
     {
-        let properties = Properties::gather(alloc, component)?;
-        let uid = read_uid(alloc, properties.uid)?;
-        let organiser = read_organiser(alloc, properties.organiser, purpose)?;
-        let stamp = read_stamp(properties.stamp, purpose)?;
-        let sequence = read_sequence(properties.sequence)?;
-        let _status = properties.status.optional()?;
-        let start = read_start(properties.start)?;
-        let extent = read_extent(start, properties.end, properties.duration)?;
-        let attendees = read_attendees(alloc, properties.attendees.as_slice())?;
+        let uid = read_uid(alloc, component)?;
+        let organiser = read_organiser(alloc, component, purpose)?;
+        let stamp = read_stamp(component, purpose)?;
+        let sequence = read_sequence(component)?;
+        let _status = optional(component, "STATUS")?;
+        let start = read_time(required(component, "DTSTART")?)?;
+        let extent = read_extent(component, start)?;
+        let attendees = read_attendees(alloc, component)?;
         let length = judge_times(start, extent)?;
         Ok(EventComponent {
             uid,
@@ -117,56 +116,44 @@ impl EventComponent {
     }
 }
 
-fn required(property: Once<'_>) -> Result<Line<'_>, Refusal>
-    ensures refuses { IfErr result (λ e. e.number ≡ 61) }
-{
-    property.optional()?.ok_or(Refusal::BAD_PROPERTY)
-}
-
-fn read_uid(alloc: Global, property: Once<'_>) -> Result<Text, Fault>
+fn read_uid(alloc: Global, component: &Component) -> Result<Text, Fault>
     ensures refuses { IfErr result (RefusesOnly is_event_fault) }
 {
-    let line = required(property)?;
+    let line = required(component, "UID")?;
     Text::read_uid(alloc, line.value())
 }
 
 fn read_organiser(
     alloc: Global,
-    property: Once<'_>,
+    component: &Component,
     purpose: Purpose,
 ) -> Result<Option<Address>, Fault>
     ensures refuses { IfErr result (RefusesOnly is_event_fault) }
 {
-    match property.optional()? {
+    match optional(component, "ORGANIZER")? {
         Some(line) => Ok(Some(Address::read(alloc, line.value())?)),
         None if purpose == Purpose::Request => Err(Fault::Refused(Refusal::NO_ORGANIZER)),
         None => Ok(None),
     }
 }
 
-fn read_stamp(property: Once<'_>, purpose: Purpose) -> Result<Option<Stamp>, Refusal>
+fn read_stamp(component: &Component, purpose: Purpose) -> Result<Option<Stamp>, Refusal>
     ensures refuses { IfErr result (λ e. IsTrue (is_event_fault e.number)) }
 {
-    match property.optional()? {
+    match optional(component, "DTSTAMP")? {
         Some(line) => Ok(Some(Stamp::read(line.value())?)),
         None if purpose == Purpose::Request => Err(Refusal::BAD_PROPERTY),
         None => Ok(None),
     }
 }
 
-fn read_sequence(property: Once<'_>) -> Result<Sequence, Refusal>
+fn read_sequence(component: &Component) -> Result<Sequence, Refusal>
     ensures refuses { IfErr result (λ e. IsTrue (is_event_fault e.number)) }
 {
-    match property.optional()? {
+    match optional(component, "SEQUENCE")? {
         Some(line) => Sequence::read(line.value()),
         None => Ok(Sequence::zero()),
     }
-}
-
-fn read_start(property: Once<'_>) -> Result<Stamp, Refusal>
-    ensures refuses { IfErr result (λ e. IsTrue (is_event_fault e.number)) }
-{
-    read_time(required(property)?)
 }
 
 /// How long an event is said to last.
@@ -178,19 +165,19 @@ enum Extent {
     For(Duration),
 }
 
-fn read_extent(start: Stamp, end: Once<'_>, duration: Once<'_>) -> Result<Extent, Refusal>
+fn read_extent(component: &Component, start: Stamp) -> Result<Extent, Refusal>
     ensures refuses { IfErr result (λ e. IsTrue (is_event_fault e.number)) }
 {
-    if end.is_given() && duration.is_given() {
-        return Err(Refusal::BAD_PROPERTY);
-    }
-    if let Some(line) = end.optional()? {
-        let end = read_time(line)?;
-        return Ok(Extent::ToEnd(end.instant().saturating_sub(start.instant())));
-    }
-    match duration.optional()? {
-        Some(line) => Ok(Extent::For(Duration::read(line.value())?)),
-        None => Ok(Extent::For(Duration {
+    let end = optional(component, "DTEND")?;
+    let duration = optional(component, "DURATION")?;
+    match (end, duration) {
+        (Some(_), Some(_)) => Err(Refusal::BAD_PROPERTY),
+        (Some(line), None) => {
+            let end = read_time(line)?;
+            Ok(Extent::ToEnd(end.instant().saturating_sub(start.instant())))
+        }
+        (None, Some(line)) => Ok(Extent::For(Duration::read(line.value())?)),
+        (None, None) => Ok(Extent::For(Duration {
             days: 0,
             seconds: 0,
         })),
@@ -273,16 +260,24 @@ fn is_date(text: &str) -> bool {
     }
 }
 
-fn read_attendees(alloc: Global, lines: &[Line<'_>]) -> Result<Vec<Attendee>, Fault>
+fn read_attendees(alloc: Global, component: &Component) -> Result<Vec<Attendee>, Fault>
     ensures refuses { IfErr result (RefusesOnly is_event_fault) }
 {
     let mut attendees = Vec::new(alloc);
-    for line in lines {
-        let address = Address::read(alloc, line.value())?;
-        let status = ParticipationStatus::of(line.param("PARTSTAT"));
-        attendees.push(Attendee { address, status })?;
+    for line in component.lines() {
+        if line.is_named("ATTENDEE") {
+            attendees.push(read_attendee(alloc, line)?)?;
+        }
     }
     Ok(attendees)
+}
+
+fn read_attendee(alloc: Global, line: Line<'_>) -> Result<Attendee, Fault>
+    ensures refuses { IfErr result (RefusesOnly is_event_fault) }
+{
+    let address = Address::read(alloc, line.value())?;
+    let status = ParticipationStatus::of(line.param("PARTSTAT"));
+    Ok(Attendee { address, status })
 }
 
 /// Judges the times of an event together, and gives its length.

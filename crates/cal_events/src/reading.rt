@@ -1,13 +1,13 @@
 //! A calendar read from its octets (RFC 5545 3.4), for one room: open limits, METHOD not looked at.
-ghost use Rattle.std.specs.Prelude.{IfErr};
+ghost use Rattle.std.specs.Prelude.{IfErr, IsTrue};
 ghost use Rattle.ical_lines.specs.Fault.{RefusesOnly};
 ghost use Rattle.profile.specs.Faults.{is_calendar_fault, is_unread};
 
 use crate::calendar::{Calendar, Entry};
 use crate::component::{EventComponent, ParticipationStatus, Purpose};
 use crate::instance::Booking;
-use crate::properties::refuse_unread;
-use ical_lines::{Fault, Limits};
+use crate::properties::has_unread;
+use ical_lines::{Fault, Limits, Refusal};
 use ical_tree::{Component, read_object};
 use ical_values::Address;
 use std::alloc::{AllocError, Global};
@@ -21,7 +21,7 @@ impl Calendar {
         ensures refuses { IfErr result (RefusesOnly is_calendar_fault) }
     {
         let object = read_object(alloc, bytes, Limits::Open)?;
-        refuse_unread_events(alloc, &object)?;
+        refuse_unread_events(&object)?;
         let mut entries = Vec::new(alloc);
         for component in object.children() {
             if component.is_named("VEVENT") {
@@ -35,12 +35,12 @@ impl Calendar {
 
 /// Refuses an object with a VEVENT that has something that roombox doesn't read yet.
 /// Refused: 99.
-pub fn refuse_unread_events(alloc: Global, object: &Component) -> Result<(), Fault>
-    ensures refuses { IfErr result (RefusesOnly is_unread) }
+pub fn refuse_unread_events(object: &Component) -> Result<(), Refusal>
+    ensures refuses { IfErr result (λ e. IsTrue (is_unread e.number)) }
 {
     for component in object.children() {
-        if component.is_named("VEVENT") {
-            refuse_unread(alloc, component)?;
+        if component.is_named("VEVENT") && has_unread(component) {
+            return Err(Refusal::NOT_YET);
         }
     }
     Ok(())

@@ -60,7 +60,7 @@ impl Message {
         ensures refuses { IfErr result (RefusesOnly is_message_fault) }
     {
         let object = read_object(alloc, bytes, Limits::Message)?;
-        refuse_unread_events(alloc, &object)?;
+        refuse_unread_events(&object)?;
         let method = method_of(&object)?;
         let mut events = events_of(alloc, &object)?;
         let Some(first) = events.pop() else {
