@@ -125,12 +125,18 @@ mod tests {
     fn the_first_wrong_line_is_named(rt: HostRuntime) -> Result<(), CertFault> {
         let rows = [
             ("ROOMCERT 1\nSINGLES 1\nSERIES 0\nDONE\n", 0),
-            ("ROOMCERT 1\nSINGLES 18446744073709551615\nSERIES 0\nDONE\n", 0),
+            (
+                "ROOMCERT 1\nSINGLES 18446744073709551615\nSERIES 0\nDONE\n",
+                0,
+            ),
             ("", 1),
             ("ROOMCERT 2\nSINGLES 1\nSERIES 0\nDONE\n", 1),
             ("ROOMCERT 1\nSINGLES 01\nSERIES 0\nDONE\n", 2),
             ("ROOMCERT 1\nSINGLES +1\nSERIES 0\nDONE\n", 2),
-            ("ROOMCERT 1\nSINGLES 18446744073709551616\nSERIES 0\nDONE\n", 2),
+            (
+                "ROOMCERT 1\nSINGLES 18446744073709551616\nSERIES 0\nDONE\n",
+                2,
+            ),
             ("ROOMCERT 1\nSINGLES 1\r\nSERIES 0\nDONE\n", 2),
             ("ROOMCERT 1\nSINGLES 1\nSERIES 1\nPAIR 1 1 END\nDONE\n", 3),
             ("ROOMCERT 1\nSINGLES 1\nSERIES 0\n", 4),
@@ -148,7 +154,10 @@ mod tests {
         let mut out = Vec::from_slice(rt.alloc(), b"x")?;
         let certificate = Certificate::of(1);
         certificate.write(&mut out)?;
-        assert_eq!(rt; out.as_slice(), b"xROOMCERT 1\nSINGLES 1\nSERIES 0\nDONE\n".as_slice());
+        assert_eq!(rt;
+            out.as_slice(),
+            b"xROOMCERT 1\nSINGLES 1\nSERIES 0\nDONE\n".as_slice()
+        );
         assert_eq!(rt; certificate.singles(), 1);
         assert_eq!(rt; certificate.series(), 0);
         Ok(())
