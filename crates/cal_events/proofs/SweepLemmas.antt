@@ -145,13 +145,15 @@ apart_from_neighbours spans sorted same up ends i j t s =
     let a = Contains-permutation (placed_from 0 spans) sorted _ same (contains_placed 0 spans i s.first_in (holds_from (span_at spans i) t s.in_first s.before)) in
     let b = Contains-permutation (placed_from 0 spans) sorted _ same (contains_placed 0 spans j s.second_in (holds_from (span_at spans j) t s.in_second s.before)) in
     elim (cases_order a.0 b.0) [
-      inl e ↦
-        let same_entry : entry 0 spans i ≡ entry 0 spans j = one_element sorted a.0 b.0 _ _ e a.1 a.2 b.2 in
-        let place : 0 + i ≡ 0 + j = ap (λ (p : Placed). p.place) same_entry in
-        s.differ (omega (arith, place))
-    | inr w ↦ elim w [
-        inl lt ↦ share_overlaps _ _ _ _ t s.in_first s.in_second (one_way sorted up ends a.0 b.0 (entry 0 spans i) (entry 0 spans j) lt b.1 a.2 b.2)
-      | inr lt ↦ share_overlaps _ _ _ _ t s.in_second s.in_first (one_way sorted up ends b.0 a.0 (entry 0 spans j) (entry 0 spans i) lt a.1 b.2 a.2) ] ]
+      | inl e ↦
+          let same_entry : entry 0 spans i ≡ entry 0 spans j = one_element sorted a.0 b.0 _ _ e a.1 a.2 b.2 in
+          let place : 0 + i ≡ 0 + j = ap (λ (p : Placed). p.place) same_entry in
+          s.differ (omega (arith, place))
+      | inr w ↦ elim w [
+        | inl lt ↦ share_overlaps _ _ _ _ t s.in_first s.in_second (one_way sorted up ends a.0 b.0 (entry 0 spans i) (entry 0 spans j) lt b.1 a.2 b.2)
+        | inr lt ↦ share_overlaps _ _ _ _ t s.in_second s.in_first (one_way sorted up ends b.0 a.0 (entry 0 spans j) (entry 0 spans i) lt a.1 b.2 a.2)
+      ]
+    ]
 
 -- what is known of the span at a place that the sorted list names
 record Named (spans : List Span) (i : ℕ) (p : Placed) : Type 0 where
@@ -180,7 +182,7 @@ named spans i p e h =
 neighbours_differ : (sorted : List Placed) → Distinct Differ sorted → (k : ℕ) (a b : Placed) → k + 1 < length sorted → get_or sorted k a ≡ a → get_or sorted (k + 1) b ≡ b → a.place ≢ b.place
 neighbours_differ sorted h k a b w ea eb e =
     h k (k + 1) a (omega arith) w (omega arith)
-      (ap (λ (p : Placed). p.place) ea ∙ e ∙ sym (ap (λ (p : Placed). p.place) (get_or_default sorted (k + 1) a b w ∙ eb)))
+    (ap (λ (p : Placed). p.place) ea ∙ e ∙ sym (ap (λ (p : Placed). p.place) (get_or_default sorted (k + 1) a b w ∙ eb)))
 
 neighbours_rise : (sorted : List Placed) → AllAdjacentBelow Rises sorted (length sorted) → (k : ℕ) (a b : Placed) → k + 1 < length sorted → get_or sorted k a ≡ a → get_or sorted (k + 1) b ≡ b → a.start ≤ℤ b.start
 neighbours_rise sorted up k a b w ea eb =
