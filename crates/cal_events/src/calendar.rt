@@ -1,9 +1,18 @@
 //! A room's calendar: the instances that are confirmed in it, in the calendar's order. By now each
 //! is a single: an instance of no series.
+ghost use Rattle.std.specs.Prelude.{◌≡◌, ◌≢◌, ◌+◌, ◌<◌, ◌<ℤ◌, ◌≤ℤ◌, map, length, slice_index_or, IfOk, IfErr, IfNone, IfSome, MatchBool, IsPermutation, IsSortedByKey};
+ghost use Rattle.std.specs.List.{AllAdjacentBelow};
+ghost use Rattle.std.specs.Iterator.{YieldsFirstBy, item_count};
+ghost use Rattle.profile.specs.Instances.{IsClear};
+ghost use Rattle.ical_lines.specs.Fault.{RefusesOnly};
+ghost use Rattle.cal_events.specs.Calendars.{booked_of, instance_of, singles_left, confirmed_in, meeting_of, HaveDifferentKeys, MeetingsDiffer, HaveTwins, IsTwinsFault, texts_of, meeting_cmp, span_of, HaveOtherTexts, HasEqualNeighbours};
+ghost use Rattle.cal_events.specs.Clashes.{Names};
+
 use crate::instance::{Booking, Instance};
 use crate::sweep::{Overlap, Span, first_overlap};
 use ical_lines::{Fault, Refusal};
 use std::alloc::{AllocError, Global};
+use std::marker::Model;
 
 /// An event of a calendar, and whether it holds the room: the room has accepted it and it isn't
 /// cancelled (RFC 5545 3.2.12, 3.8.1.11).
@@ -19,6 +28,18 @@ pub struct Calendar {
     bookings: Vec<Booking>,
 }
 
+impl Model for Calendar {
+    ghost use Rattle.std.specs.Prelude.{List, map};
+    ghost use Rattle.profile.specs.Instances.{Booked};
+    ghost use Rattle.cal_events.specs.Calendars.{booked_of, HaveDifferentKeys};
+
+    ghost Value = { List Booked };
+
+    ghost view = { λ c. map booked_of c.bookings.items };
+
+    ghost invariant = { λ c. HaveDifferentKeys (map booked_of c.bookings.items) };
+}
+
 /// The singles of a calendar, in its order.
 #[derive(Drop)]
 pub struct Singles<'a> {
@@ -28,7 +49,11 @@ pub struct Singles<'a> {
 impl Calendar {
     /// The calendar of these events, in this order. Refused 53 where two of them are of one meeting
     /// (organiser and UID), confirmed or not (RFC 5545 3.8.4.4); else it fails only for memory.
-    pub fn of(alloc: Global, entries: Vec<Entry>) -> Result<Calendar, Fault> {
+    pub fn of(alloc: Global, entries: Vec<Entry>) -> Result<Calendar, Fault>
+        ensures instances { IfOk result (λ calendar. calendar ≡ confirmed_in entries.items) }
+        ensures differ { IfOk result (λ _. MeetingsDiffer entries.items) }
+        ensures refused { IfErr result (IsTwinsFault entries.items) }
+    {
         if has_twins(alloc, &entries)? {
             return Err(Fault::Refused(Refusal::TWO_MASTERS));
         }
@@ -37,30 +62,43 @@ impl Calendar {
     }
 
     /// The confirmed instances of no series, in the calendar's order.
-    pub fn singles(&self) -> Singles<'_> {
+    pub fn singles(&self) -> Singles<'_>
+        ensures left { singles_left result ≡ self.now }
+        ensures keys { HaveDifferentKeys self.now }
+    {
         Singles {
             bookings: &self.bookings,
         }
     }
 
     /// The same, owned by the calendar.
-    pub fn bookings(&self) -> &[Booking] {
+    pub fn bookings(&self) -> &[Booking]
+        ensures all { map booked_of result.now ≡ self.now }
+        ensures keys { HaveDifferentKeys self.now }
+    {
         &self.bookings
     }
 
     /// How many singles there are.
-    pub fn single_count(&self) -> u64 {
+    pub fn single_count(&self) -> u64
+        ensures { result ≡ length self.now }
+    {
         self.bookings.len() as u64
     }
 
     /// How many confirmed series there are: none by now.
-    pub fn series_count(&self) -> u64 {
+    pub fn series_count(&self) -> u64
+        ensures { result ≡ 0 }
+    {
         0
     }
 
     /// The places of two singles that clash, the earlier start first, and the later start; None
     /// where the confirmed instances are clear. Fails only for memory.
-    pub fn first_overlap(&self, alloc: Global) -> Result<Option<Overlap>, AllocError> {
+    pub fn first_overlap(&self, alloc: Global) -> Result<Option<Overlap>, AllocError>
+        ensures clash { IfOk result (λ r. IfSome r (Names self.now)) }
+        ensures clear { IfOk result (λ r. IfNone r (IsClear self.now)) }
+    {
         let spans = spans_of(alloc, &self.bookings)?;
         first_overlap(alloc, &spans)
     }
@@ -68,6 +106,10 @@ impl Calendar {
 
 impl<'a> Iterator for Singles<'a> {
     type Item = Instance<'a>;
+
+    ghost next_gives = { YieldsFirstBy instance_of singles_left };
+
+    ghost remaining = { item_count singles_left };
 
     fn next(&mut self) -> Option<Instance<'a>> {
         let (booking, rest) = self.bookings.split_first()?;
@@ -77,14 +119,18 @@ impl<'a> Iterator for Singles<'a> {
 }
 
 /// Are two of the events of one meeting?
-fn has_twins(alloc: Global, entries: &[Entry]) -> Result<bool, AllocError> {
+fn has_twins(alloc: Global, entries: &[Entry]) -> Result<bool, AllocError>
+    ensures { IfOk result (λ twins. MatchBool twins (HaveTwins entries.now) (MeetingsDiffer entries.now)) }
+{
     let mut meetings = meetings_of(alloc, entries)?;
-    meetings.sort_unstable();
+    sort_meetings(&mut meetings);
     Ok(has_equal_neighbours(&meetings))
 }
 
 /// The organiser and the UID of each event.
-fn meetings_of(alloc: Global, entries: &[Entry]) -> Result<Vec<(&str, &str)>, AllocError> {
+fn meetings_of(alloc: Global, entries: &[Entry]) -> Result<Vec<(&str, &str)>, AllocError>
+    ensures { IfOk result (λ v. map texts_of v.items ≡ map meeting_of entries.now) }
+{
     let mut meetings = Vec::new(alloc);
     for entry in entries {
         meetings.push((entry.booking.organiser.as_str(), entry.booking.uid.as_str()))?;
@@ -92,17 +138,36 @@ fn meetings_of(alloc: Global, entries: &[Entry]) -> Result<Vec<(&str, &str)>, Al
     Ok(meetings)
 }
 
-fn has_equal_neighbours(sorted: &[(&str, &str)]) -> bool {
+fn sort_meetings(meetings: &mut Vec<(&str, &str)>)
+    ensures same { IsPermutation meetings.old.items meetings.new.items }
+    ensures rises { IsSortedByKey texts_of meeting_cmp meetings.new.items }
+{
+    meetings.sort_unstable();
+}
+
+fn has_equal_neighbours(sorted: &[(&str, &str)]) -> bool
+    ensures { MatchBool result (HasEqualNeighbours sorted.now) (AllAdjacentBelow HaveOtherTexts sorted.now (length sorted.now)) }
+{
     for next in 1..sorted.len() {
-        if sorted[next - 1] == sorted[next] {
+        let earlier = sorted[next - 1];
+        let later = sorted[next];
+        if is_same_meeting(earlier, later) {
             return true;
         }
     }
     false
 }
 
+fn is_same_meeting(a: (&str, &str), b: (&str, &str)) -> bool
+    ensures { MatchBool result (texts_of a.entry ≡ texts_of b.entry) (HaveOtherTexts a.entry b.entry) }
+{
+    a.0 == b.0 && a.1 == b.1
+}
+
 /// The bookings of the confirmed events, in order.
-fn confirmed(alloc: Global, entries: Vec<Entry>) -> Result<Vec<Booking>, AllocError> {
+fn confirmed(alloc: Global, entries: Vec<Entry>) -> Result<Vec<Booking>, AllocError>
+    ensures { IfOk result (λ v. map booked_of v.items ≡ confirmed_in entries.items) }
+{
     let mut bookings = Vec::new(alloc);
     for entry in entries {
         if entry.confirmed {
@@ -113,7 +178,9 @@ fn confirmed(alloc: Global, entries: Vec<Entry>) -> Result<Vec<Booking>, AllocEr
 }
 
 /// The span of each booking, in order.
-fn spans_of(alloc: Global, bookings: &[Booking]) -> Result<Vec<Span>, AllocError> {
+fn spans_of(alloc: Global, bookings: &[Booking]) -> Result<Vec<Span>, AllocError>
+    ensures { IfOk result (λ v. v.items ≡ map span_of bookings.now) }
+{
     let mut spans = Vec::new(alloc);
     for booking in bookings {
         spans.push(Span {

@@ -1,4 +1,7 @@
 //! Instances: a meeting's hold on the room for one span of time, and which one it is.
+ghost use Rattle.std.specs.Prelude.{◌≡◌};
+ghost use Rattle.cal_events.specs.Calendars.{instance_of, booked_of};
+
 use ical_values::{Address, Text};
 
 /// The instant from which on nothing is compared: 10000-01-01T00:00:00Z, in seconds from
@@ -34,7 +37,9 @@ pub struct Booking {
 
 impl Booking {
     /// The instance, with its texts borrowed.
-    pub fn instance(&self) -> Instance<'_> {
+    pub fn instance(&self) -> Instance<'_>
+        ensures { instance_of result ≡ booked_of self.now }
+    {
         let key = InstanceKey {
             organiser: self.organiser.as_str(),
             uid: self.uid.as_str(),

@@ -1,5 +1,9 @@
 //! The sweep: do two spans of a list share an instant before the horizon? Spans that have no such
 //! instant are dropped, the others sorted by start, and then neighbours alone are compared.
+ghost use Rattle.std.specs.Prelude.{◌≡◌, length, IfOk, IfNone, IfSome, IsPermutation};
+ghost use Rattle.std.specs.List.{AllAdjacentBelow};
+ghost use Rattle.cal_events.specs.Sweep.{IsOverlap, AreApart, AreNeighbours, placed_from, Rises, EndsBefore};
+
 use crate::instance::HORIZON;
 use std::alloc::{AllocError, Global};
 
@@ -29,14 +33,19 @@ struct Placed {
 
 /// Two places whose spans share an instant before the horizon, if there are any. In time
 /// n log n. Fails only for memory.
-pub fn first_overlap(alloc: Global, spans: &[Span]) -> Result<Option<Overlap>, AllocError> {
+pub fn first_overlap(alloc: Global, spans: &[Span]) -> Result<Option<Overlap>, AllocError>
+    ensures found { IfOk result (λ r. IfSome r (IsOverlap spans.now)) }
+    ensures none { IfOk result (λ r. IfNone r (AreApart spans.now)) }
+{
     let mut placed = placed_spans(alloc, spans)?;
     sort_by_start(&mut placed);
     Ok(overlap_of_neighbours(&placed))
 }
 
 /// The spans that hold an instant before the horizon, each with its place.
-fn placed_spans(alloc: Global, spans: &[Span]) -> Result<Vec<Placed>, AllocError> {
+fn placed_spans(alloc: Global, spans: &[Span]) -> Result<Vec<Placed>, AllocError>
+    ensures { IfOk result (λ placed. placed.items ≡ placed_from 0 spans.now) }
+{
     let mut placed = Vec::new(alloc);
     for (place, span) in spans.iter().enumerate() {
         if span.start < span.end && span.start < HORIZON {
@@ -50,12 +59,18 @@ fn placed_spans(alloc: Global, spans: &[Span]) -> Result<Vec<Placed>, AllocError
     Ok(placed)
 }
 
-fn sort_by_start(placed: &mut Vec<Placed>) {
+fn sort_by_start(placed: &mut Vec<Placed>)
+    ensures same { IsPermutation placed.old.items placed.new.items }
+    ensures rises { AllAdjacentBelow Rises placed.new.items (length placed.new.items) }
+{
     placed.sort_unstable_by_key(|span| span.start);
 }
 
 /// The first two neighbours of which the second starts before the first has ended.
-fn overlap_of_neighbours(sorted: &[Placed]) -> Option<Overlap> {
+fn overlap_of_neighbours(sorted: &[Placed]) -> Option<Overlap>
+    ensures found { IfSome result (AreNeighbours sorted.now) }
+    ensures none { IfNone result (AllAdjacentBelow EndsBefore sorted.now (length sorted.now)) }
+{
     for next in 1..sorted.len() {
         let earlier = sorted[next - 1];
         let later = sorted[next];

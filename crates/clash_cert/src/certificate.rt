@@ -1,7 +1,12 @@
 //! The text of a certificate: lines ended by LF, `ROOMCERT 1`, `SINGLES k`, `SERIES n`, `DONE`,
 //! and nothing after. Numbers are decimal, of 64 bits, without leading zeros. By now `n` is 0.
+ghost use Rattle.std.specs.Prelude.{ℕ, ◌≡◌, ◌^◌, ◌<◌, ◌∷◌, ◌++◌, take, length, decimal, position, ◌==◌, IfOk, IfErr, OnOk, OnErr, MatchOption};
+ghost use Rattle.profile.specs.Certificates.{Spells, text_of, IsClaims};
+ghost use Rattle.clash_cert.specs.Texts.{IsCertFault, Lacks, LacksLine, LacksCount, LacksLf, IsCutAtLf, IsNoNumber};
+
 use itoa::Buffer;
 use std::alloc::{AllocError, Global};
+use std::marker::Model;
 use std::str;
 use thiserror::Error;
 
@@ -22,14 +27,29 @@ pub struct Certificate {
     singles: u64,
 }
 
+impl Model for Certificate {
+    ghost use Rattle.profile.specs.Certificates.{Claims};
+
+    ghost Value = { Claims };
+
+    ghost view = { λ c. record { singles = c.singles } };
+
+    ghost inverse = { λ c. record { singles = c.singles } };
+}
+
 impl Certificate {
     /// The certificate of a calendar of that many singles and no series.
-    pub fn of(singles: u64) -> Certificate {
+    pub fn of(singles: u64) -> Certificate
+        ensures { result.singles ≡ singles }
+    {
         Certificate { singles }
     }
 
     /// The certificate that the octets spell; else the number of the first wrong or missing line.
-    pub fn read(_alloc: Global, bytes: &[u8]) -> Result<Certificate, CertFault> {
+    pub fn read(_alloc: Global, bytes: &[u8]) -> Result<Certificate, CertFault>
+        ensures found { IfOk result (λ c. Spells bytes.now c) }
+        ensures fault { IfErr result (IsCertFault bytes.now) }
+    {
         let Some(rest) = after_line(bytes, b"ROOMCERT 1") else {
             return Err(CertFault::Line(1));
         };
@@ -49,11 +69,14 @@ impl Certificate {
     }
 
     /// Appends the certificate's text. Fails only for memory, and then `out` is unchanged.
-    pub fn write(&self, out: &mut Vec<u8>) -> Result<(), AllocError> {
+    pub fn write(&self, out: &mut Vec<u8>) -> Result<(), AllocError>
+        ensures ok { OnOk result (out.new.items ≡ out.old.items ++ text_of self.now) }
+        ensures err { OnErr result (out.new.items ≡ out.old.items) }
+    {
         let before = out.len();
         let mut buffer = Buffer::new();
         let singles = buffer.format(self.singles).as_bytes();
-        let written = append(out, singles);
+        let written = append(out, b"ROOMCERT 1\nSINGLES ", singles, b"\nSERIES 0\nDONE\n");
         if written.is_err() {
             out.truncate(before);
         }
@@ -61,32 +84,75 @@ impl Certificate {
     }
 
     /// How many singles it says there are.
-    pub fn singles(&self) -> u64 {
+    pub fn singles(&self) -> u64
+        ensures { result ≡ self.now.singles }
+    {
         self.singles
     }
 
     /// How many series it says there are: none by now.
-    pub fn series(&self) -> u64 {
+    pub fn series(&self) -> u64
+        ensures { result ≡ 0 }
+    {
         0
     }
 }
 
-/// What follows the line, if the octets begin with it and its LF.
-fn after_line<'a>(bytes: &'a [u8], line: &[u8]) -> Option<&'a [u8]> {
-    bytes.strip_prefix(line)?.strip_prefix(b"\n")
+/// What follows these octets, if the text begins with them.
+fn after<'a>(bytes: &'a [u8], front: &[u8]) -> Option<&'a [u8]>
+    ensures { MatchOption result (Lacks front.now bytes.now) (λ rest. bytes.now ≡ front.now ++ rest.now) }
+{
+    bytes.strip_prefix(front)
+}
+
+/// What follows the line, if the text begins with it and its LF.
+fn after_line<'a>(bytes: &'a [u8], line: &[u8]) -> Option<&'a [u8]>
+    ensures { MatchOption result (LacksLine line.now bytes.now) (λ rest. bytes.now ≡ line.now ++ 10 ∷ rest.now) }
+{
+    let Some(rest) = after(bytes, line) else {
+        return None;
+    };
+    after(rest, b"\n")
 }
 
 /// The number of a line of a word and a number, and what follows the line.
-fn after_count<'a>(bytes: &'a [u8], word: &[u8]) -> Option<(u64, &'a [u8])> {
-    let rest = bytes.strip_prefix(word)?;
-    let end = rest.iter().position(|octet| *octet == b'\n')?;
-    let (digits, ended) = rest.split_at(end);
-    let number = number_of(digits)?;
-    Some((number, &ended[1..]))
+fn after_count<'a>(bytes: &'a [u8], word: &[u8]) -> Option<(u64, &'a [u8])>
+    ensures { MatchOption result (LacksCount word.now bytes.now)
+        (λ p. (p.0 < 2 ^ 64) × (bytes.now ≡ (word.now ++ decimal p.0) ++ 10 ∷ p.1.now)) }
+{
+    let Some(rest) = after(bytes, word) else {
+        return None;
+    };
+    let Some((digits, rest)) = cut_line(rest) else {
+        return None;
+    };
+    let Some(number) = number_of(digits) else {
+        return None;
+    };
+    Some((number, rest))
+}
+
+/// The first line without its LF, and what follows it.
+fn cut_line(bytes: &[u8]) -> Option<(&[u8], &[u8])>
+    ensures { MatchOption result (LacksLf bytes.now) (λ p. IsCutAtLf bytes.now p.0.now p.1.now) }
+{
+    let Some(end) = line_end(bytes) else {
+        return None;
+    };
+    Some((&bytes[..end], &bytes[end + 1..]))
+}
+
+/// Where the first LF stands.
+fn line_end(bytes: &[u8]) -> Option<usize>
+    ensures { result ≡ position (λ octet. octet == 10) bytes.now }
+{
+    bytes.iter().position(|octet| *octet == b'\n')
 }
 
 /// The number that the digits spell in decimal without leading zeros.
-fn number_of(digits: &[u8]) -> Option<u64> {
+fn number_of(digits: &[u8]) -> Option<u64>
+    ensures { MatchOption result (IsNoNumber digits.now) (λ n. (n < 2 ^ 64) × (digits.now ≡ decimal n)) }
+{
     let Ok(text) = str::from_utf8(digits) else {
         return None;
     };
@@ -101,12 +167,15 @@ fn number_of(digits: &[u8]) -> Option<u64> {
     }
 }
 
-/// Appends the text, the count of singles being given by its digits. After an error `out` may
-/// have grown.
-fn append(out: &mut Vec<u8>, singles: &[u8]) -> Result<(), AllocError> {
-    out.extend_from_slice(b"ROOMCERT 1\nSINGLES ")?;
-    out.extend_from_slice(singles)?;
-    out.extend_from_slice(b"\nSERIES 0\nDONE\n")
+/// Appends three pieces. After an error `out` may have grown.
+fn append(out: &mut Vec<u8>, head: &[u8], middle: &[u8], tail: &[u8]) -> Result<(), AllocError>
+    ensures ok { OnOk result (out.new.items ≡ out.old.items ++ (head.now ++ (middle.now ++ tail.now))) }
+    ensures err { OnErr result (take (length out.old.items) out.new.items ≡ out.old.items) }
+{
+    out.extend_from_slice(head)?;
+    out.extend_from_slice(middle)?;
+    out.extend_from_slice(tail)?;
+    Ok(())
 }
 
 #[cfg(test)]
@@ -125,12 +194,18 @@ mod tests {
     fn the_first_wrong_line_is_named(rt: HostRuntime) -> Result<(), CertFault> {
         let rows = [
             ("ROOMCERT 1\nSINGLES 1\nSERIES 0\nDONE\n", 0),
-            ("ROOMCERT 1\nSINGLES 18446744073709551615\nSERIES 0\nDONE\n", 0),
+            (
+                "ROOMCERT 1\nSINGLES 18446744073709551615\nSERIES 0\nDONE\n",
+                0,
+            ),
             ("", 1),
             ("ROOMCERT 2\nSINGLES 1\nSERIES 0\nDONE\n", 1),
             ("ROOMCERT 1\nSINGLES 01\nSERIES 0\nDONE\n", 2),
             ("ROOMCERT 1\nSINGLES +1\nSERIES 0\nDONE\n", 2),
-            ("ROOMCERT 1\nSINGLES 18446744073709551616\nSERIES 0\nDONE\n", 2),
+            (
+                "ROOMCERT 1\nSINGLES 18446744073709551616\nSERIES 0\nDONE\n",
+                2,
+            ),
             ("ROOMCERT 1\nSINGLES 1\r\nSERIES 0\nDONE\n", 2),
             ("ROOMCERT 1\nSINGLES 1\nSERIES 1\nPAIR 1 1 END\nDONE\n", 3),
             ("ROOMCERT 1\nSINGLES 1\nSERIES 0\n", 4),
@@ -148,7 +223,10 @@ mod tests {
         let mut out = Vec::from_slice(rt.alloc(), b"x")?;
         let certificate = Certificate::of(1);
         certificate.write(&mut out)?;
-        assert_eq!(rt; out.as_slice(), b"xROOMCERT 1\nSINGLES 1\nSERIES 0\nDONE\n".as_slice());
+        assert_eq!(rt;
+            out.as_slice(),
+            b"xROOMCERT 1\nSINGLES 1\nSERIES 0\nDONE\n".as_slice()
+        );
         assert_eq!(rt; certificate.singles(), 1);
         assert_eq!(rt; certificate.series(), 0);
         Ok(())

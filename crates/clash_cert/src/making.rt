@@ -108,13 +108,19 @@ mod tests {
         if let Made::Clear(certificate) = make(rt.alloc(), &room)? {
             certificate.write(&mut text)?;
         }
-        assert_eq!(rt; text.as_slice(), b"ROOMCERT 1\nSINGLES 1\nSERIES 0\nDONE\n".as_slice());
+        assert_eq!(rt;
+            text.as_slice(),
+            b"ROOMCERT 1\nSINGLES 1\nSERIES 0\nDONE\n".as_slice()
+        );
         Ok(())
     }
 
     #[test]
     fn a_clash_names_the_lesser_key_first(rt: HostRuntime) -> Result<(), Fault> {
-        let room = calendar(rt.alloc(), &[("m", 0, 3600), ("d", 0, 600), ("x", 9000, 9001)])?;
+        let room = calendar(
+            rt.alloc(),
+            &[("m", 0, 3600), ("d", 0, 600), ("x", 9000, 9001)],
+        )?;
         let made = make(rt.alloc(), &room)?;
         let Made::Clash(clash) = made else {
             assert!(rt; false, "a clash is wanted");

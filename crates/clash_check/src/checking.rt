@@ -123,6 +123,7 @@ mod tests {
     }
 
     const ONE: &str = "ROOMCERT 1\nSINGLES 1\nSERIES 0\nDONE\n";
+
     const TWO: &str = "ROOMCERT 1\nSINGLES 2\nSERIES 0\nDONE\n";
 
     #[test]

@@ -28,9 +28,13 @@ pub struct Why {
 
 impl Why {
     pub const CALENDAR: u8 = 80;
+
     pub const TEXT: u8 = 81;
+
     pub const COUNTS: u8 = 82;
+
     pub const ENTRY: u8 = 83;
+
     pub const SINGLES: u8 = 84;
 }
 

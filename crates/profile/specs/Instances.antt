@@ -1,1 +1,35 @@
--- Instances, clash and clear.
+-- Instances, clash and clear. Seconds are whole numbers from 1970-01-01T00:00:00Z.
+use Rattle.std.specs.Prelude.{ℕ, ℤ, pos, List, ◌≡◌, ◌≢◌, ◌≤ℤ◌, ◌<ℤ◌, Contains}
+
+-- which instance: its meeting's organiser and UID as octets, and its original start (RFC 5545 3.8.4.3, 3.8.4.7, 3.8.4.4)
+pub record Key : Type 0 where
+  pub organiser : List ℕ
+  pub uid : List ℕ
+  pub slot : ℤ
+
+-- an instance: it holds the room from start on and before end (RFC 5545 3.6.1)
+pub record Booked : Type 0 where
+  pub key : Key
+  pub start : ℤ
+  pub end : ℤ
+
+-- 10000-01-01T00:00:00Z: from then on nothing is compared; this profile's choice
+abbrev pub horizon : ℤ
+horizon = pos 253402300800
+
+-- from start on and before end
+abbrev pub IsWithin : ℤ → ℤ → ℤ → Type 0
+IsWithin start end t = (start ≤ℤ t) × (t <ℤ end)
+
+-- two instances of all, of different keys, hold the room in the same second t, before the horizon
+pub record IsClash (all : List Booked) (a b : Booked) (t : ℤ) : Type 0 where
+  pub first : Contains all a
+  pub second : Contains all b
+  pub differ : a.key ≢ b.key
+  pub before : t <ℤ horizon
+  pub in_first : IsWithin a.start a.end t
+  pub in_second : IsWithin b.start b.end t
+
+-- there is no clash
+abbrev pub IsClear : List Booked → Type 0
+IsClear all = (a b : Booked) (t : ℤ) → IsClash all a b t → ⊥

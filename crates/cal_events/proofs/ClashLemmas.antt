@@ -1,0 +1,104 @@
+-- From places that share an instant to instances that clash, and back.
+use Rattle.std.proofs.Common.{◌≡◌, ◌≢◌, ℕ, ◌+◌, ◌<◌, ℤ, pos, ◌≤ℤ◌, ◌<ℤ◌, List, [], ◌∷◌, map, length, get_or, subst, sym, refl, ap, ◌∙◌, inl, inr, arith}
+use Rattle.std.specs.Prelude.{Contains, AllPairs, Option, Some, None, IfSome, IfNone, Result, Ok, Err, IfOk}
+use Rattle.std.proofs.lemmas.Bool.{cases_order}
+use Rattle.std.proofs.lemmas.List.{get_or-map, get_or_default, length-map}
+use Rattle.std.proofs.lemmas.Option.{IfSome_then}
+use Rattle.profile.specs.Instances.{Key, Booked, IsClash, IsClear, IsWithin}
+use Rattle.cal_events.specs.declared.sweep.Span.{Span}
+use Rattle.cal_events.specs.declared.sweep.Overlap.{Overlap}
+use Rattle.cal_events.specs.declared.instance.Booking.{Booking}
+use Rattle.cal_events.specs.Calendars.{booked_of, span_of, HaveDifferentKeys}
+use Rattle.cal_events.specs.Clashes.{Names}
+use Rattle.cal_events.specs.Sweep.{span_at, Share, AreApart, IsOverlap}
+
+-- the span of an instance
+abbrev when : Booked → Span
+when b = record { start = b.start; end = b.end }
+
+spans_is : (bs : List Booking) → map span_of bs ≡ map when (map booked_of bs)
+spans_is [] = refl
+spans_is (b ∷ bs) = ap (λ (l : List Span). span_of b ∷ l) (spans_is bs)
+
+-- any instance: a default past the end
+abbrev some_booked : Booked
+some_booked = record { key = record { organiser = []; uid = []; slot = pos 0 }; start = pos 0; end = pos 0 }
+
+span_is : (all : List Booked) (i : ℕ) (d : Booked) → i < length all → span_at (map when all) i ≡ when (get_or all i d)
+span_is all i d w = get_or-map when all i d (record { start = pos 0; end = pos 0 }) w
+
+different : (all : List Booked) → HaveDifferentKeys all → (i j : ℕ) (d : Booked) → i < length all → j < length all → i ≢ j → (get_or all i d).key ≢ (get_or all j d).key
+different all keys i j d hi hj ne e =
+    elim (cases_order i j) [
+      | inl same ↦ ne same
+      | inr w ↦ elim w [ inl lt ↦ keys i j d lt hj e | inr lt ↦ keys j i d lt hi (sym e) ]
+    ]
+
+names : (all : List Booked) → HaveDifferentKeys all → (found : Overlap) → IsOverlap (map when all) found → Names all found
+names all keys found o =
+    let n : length (map when all) ≡ length all = length-map all when in
+    let d = some_booked in
+    let hi : found.first < length all = omega (arith, n, o.shared.first_in) in
+    let hj : found.second < length all = omega (arith, n, o.shared.second_in) in
+    let a = get_or all found.first d in
+    let b = get_or all found.second d in
+    let ea = span_is all found.first d hi in
+    let eb = span_is all found.second d hj in
+    record {
+      a = a;
+      b = b;
+      first_in = hi;
+      second_in = hj;
+      first = get_or_default all found.first a d hi;
+      second = get_or_default all found.second b d hj;
+      clash = record {
+        first = (found.first, hi, get_or_default all found.first a d hi);
+        second = (found.second, hj, get_or_default all found.second b d hj);
+        differ = different all keys found.first found.second d hi hj o.shared.differ;
+        before = o.shared.before;
+        in_first = subst (λ (s : Span). IsWithin s.start s.end found.instant) ea o.shared.in_first;
+        in_second = subst (λ (s : Span). IsWithin s.start s.end found.instant) eb o.shared.in_second;
+      };
+      later = o.later ∙ ap (λ (s : Span). s.start) eb;
+      earlier = subst (λ (s : Span). s.start ≤ℤ found.instant) ea o.earlier;
+    }
+
+clear : (all : List Booked) → AreApart (map when all) → IsClear all
+clear all apart a b t h =
+    let i = h.first.0 in
+    let j = h.second.0 in
+    let n : length (map when all) ≡ length all = length-map all when in
+    let ea : span_at (map when all) i ≡ when a = span_is all i a h.first.1 ∙ ap when h.first.2 in
+    let eb : span_at (map when all) j ≡ when b = span_is all j b h.second.1 ∙ ap when h.second.2 in
+    apart i j t (record {
+      first_in = omega (arith, n, h.first.1);
+      second_in = omega (arith, n, h.second.1);
+      differ = λ e. h.differ (ap (λ (x : Booked). x.key)
+          (sym h.first.2 ∙ get_or_default all i a b h.first.1 ∙ ap (λ k. get_or all k b) e ∙ h.second.2));
+      before = h.before;
+      in_first = subst (λ (s : Span). IsWithin s.start s.end t) (sym ea) h.in_first;
+      in_second = subst (λ (s : Span). IsWithin s.start s.end t) (sym eb) h.in_second;
+    })
+
+-- what the sweep over the spans of the bookings tells of the calendar's instances
+pub clash_from_overlap : (all : List Booked) (bs : List Booking) (spans seen : List Span) (r : Option Overlap) → HaveDifferentKeys (map booked_of bs) → map booked_of bs ≡ all
+    → spans ≡ map span_of bs → seen ≡ spans → IfSome r (IsOverlap seen) → IfSome r (Names all)
+clash_from_overlap all bs spans seen r keys view e f h =
+    IfSome_then r (subst (λ (l : List Span). IfSome r (IsOverlap l)) (f ∙ e ∙ spans_is bs ∙ ap (map when) view) h)
+    (λ found o. names all (subst HaveDifferentKeys view keys) found o)
+
+pub clear_from_none : (all : List Booked) (bs : List Booking) (spans seen : List Span) (r : Option Overlap) → map booked_of bs ≡ all
+    → spans ≡ map span_of bs → seen ≡ spans → IfNone r (AreApart seen) → IfNone r (IsClear all)
+clear_from_none all bs spans seen None view e f h =
+    clear all (subst AreApart (f ∙ e ∙ spans_is bs ∙ ap (map when) view) h)
+clear_from_none all bs spans seen (Some found) view e f h = h
+
+pub clash_from_sweep : (all : List Booked) (bs : List Booking) (spans seen : List Span) {E : Type 0} (r : Result (Option Overlap) E) → HaveDifferentKeys (map booked_of bs) → map booked_of bs ≡ all
+    → spans ≡ map span_of bs → seen ≡ spans → IfOk r (λ o. IfSome o (IsOverlap seen)) → IfOk r (λ o. IfSome o (Names all))
+clash_from_sweep all bs spans seen (Ok o) keys view e f h = clash_from_overlap all bs spans seen o keys view e f h
+clash_from_sweep all bs spans seen (Err x) keys view e f h = h
+
+pub clear_from_sweep : (all : List Booked) (bs : List Booking) (spans seen : List Span) {E : Type 0} (r : Result (Option Overlap) E) → map booked_of bs ≡ all
+    → spans ≡ map span_of bs → seen ≡ spans → IfOk r (λ o. IfNone o (AreApart seen)) → IfOk r (λ o. IfNone o (IsClear all))
+clear_from_sweep all bs spans seen (Ok o) view e f h = clear_from_none all bs spans seen o view e f h
+clear_from_sweep all bs spans seen (Err x) view e f h = h

@@ -1,0 +1,4 @@
+pub mod CalendarLemmas
+pub mod ClashLemmas
+pub mod Distinct
+pub mod SweepLemmas

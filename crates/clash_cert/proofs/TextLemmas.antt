@@ -1,0 +1,183 @@
+-- Lines: where they end, and that a text has one way to be cut into lines.
+use Rattle.std.proofs.Common.{◌≡◌, ◌≢◌, ◌==◌, ℕ, zero, suc, ◌+◌, ◌-◌, ◌^◌, ◌<◌, ◌≤◌, Bool, true, false, not, ◌&&◌, cond, List, [], ◌∷◌, ◌++◌, length, get_or, take, drop, subst, sym, refl, ap, ◌∙◌, append_assoc, arith}
+use Rattle.std.specs.Prelude.{Option, Some, None, MatchOption, position, decimal, codes}
+use Rattle.std.specs.Prelude.{Result, Ok, Err, ltb}
+use Rattle.std.specs.List.{position_or_len}
+use Rattle.std.specs.Char.{is_ascii_digit}
+use Rattle.std.specs.Str.{all_ascii_digits, IsUtf8, bytes_eq}
+use Rattle.std.specs.Str.Parse.{digits_value, ParsesUnsigned}
+use Rattle.std.proofs.lemmas.Bool.{and_parts, and_from, true≢false, cond-true}
+use Rattle.std.proofs.lemmas.Bool.Decides.{nat_tests}
+use Rattle.std.proofs.lemmas.Fmt.{digits_decimal, parse-decimal, IsAscii-decimal}
+use Rattle.std.proofs.lemmas.Str.Parse.{IsNumeralModel, numerals_by_value, tells_all_ascii_digits}
+use Rattle.std.proofs.lemmas.Str.{IsUtf8-from_ascii}
+use Rattle.std.proofs.lemmas.Option.{same_Some, none-some}
+use Rattle.std.proofs.lemmas.List.{length-append, length-take-le, length-drop, take_all, take-append-drop}
+use Rattle.std.proofs.Math.Seq.{drop-cons}
+use Rattle.std.proofs.lemmas.Slice.Eq.{bytes_eq-Decides}
+use Rattle.std.proofs.lemmas.List.Quantifiers.{position-Some}
+use denote.Ref.{Bor}
+use Rattle.profile.specs.Certificates.{Claims, IsClaims, lines_of, spelled, text_of, Spells, BeginsWell, FirstWrong}
+use Rattle.clash_cert.specs.Texts.{Lacks, LacksLine, LacksCount, LacksLf, IsCutAtLf, IsNoNumber}
+
+pub cancel : (a x y : List ℕ) → a ++ x ≡ a ++ y → x ≡ y
+cancel [] x y e = e
+cancel (c ∷ a) x y e = let h : a ++ x ≡ a ++ y = cc in cancel a x y h
+
+-- a line is its octets and an LF
+pub line_from_parts : (bytes line rest : List ℕ) (r : Option (Bor (List ℕ))) → bytes ≡ line ++ rest
+    → MatchOption r (Lacks (10 ∷ []) rest) (λ x. rest ≡ (10 ∷ []) ++ x.now) → MatchOption r (LacksLine line bytes) (λ x. bytes ≡ line ++ 10 ∷ x.now)
+line_from_parts bytes line rest None e h = λ tail f. h tail (cancel line rest (10 ∷ tail) (sym e ∙ f))
+line_from_parts bytes line rest (Some x) e h = e ∙ ap (λ l. line ++ l) h
+
+-- no octet is an LF
+abbrev pub lf_free : List ℕ → Bool
+lf_free [] = true
+lf_free (c ∷ cs) = not (c == 10) && lf_free cs
+
+lf_free-append : (a b : List ℕ) → lf_free a ≡ true → lf_free b ≡ true → lf_free (a ++ b) ≡ true
+lf_free-append [] b h k = k
+lf_free-append (c ∷ a) b h k =
+    let p = and_parts (not (c == 10)) (lf_free a) h in
+    and_from (not (c == 10)) (lf_free (a ++ b)) p.0 (lf_free-append a b p.1 k)
+
+not_lf : (c : ℕ) → not (c == 10) ≡ true → c ≢ 10
+not_lf c h e = grind (arith, nat_tests)
+
+-- a text is cut at its first LF in one way
+pub one_cut : (a b x y : List ℕ) → lf_free a ≡ true → lf_free b ≡ true → a ++ 10 ∷ x ≡ b ++ 10 ∷ y → x ≡ y
+one_cut [] [] x y h k e = cc
+one_cut [] (d ∷ b) x y h k e =
+    let p = and_parts (not (d == 10)) (lf_free b) k in
+    let f : 10 ≡ d = cc in
+    absurd (not_lf d p.0 (sym f))
+one_cut (c ∷ a) [] x y h k e =
+    let p = and_parts (not (c == 10)) (lf_free a) h in
+    let f : c ≡ 10 = cc in
+    absurd (not_lf c p.0 f)
+one_cut (c ∷ a) (d ∷ b) x y h k e =
+    let p = and_parts (not (c == 10)) (lf_free a) h in
+    let q = and_parts (not (d == 10)) (lf_free b) k in
+    let f : a ++ 10 ∷ x ≡ b ++ 10 ∷ y = cc in
+    one_cut a b x y p.1 q.1 f
+
+digit_free : (c : ℕ) → is_ascii_digit c ≡ true → not (c == 10) ≡ true
+digit_free c h = grind (arith, nat_tests)
+
+-- digits have no LF
+digits_free : (ds : List ℕ) → all_ascii_digits ds ≡ true → lf_free ds ≡ true
+digits_free [] h = refl
+digits_free (c ∷ ds) h =
+    let p = and_parts (is_ascii_digit c) (all_ascii_digits ds) h in
+    and_from (not (c == 10)) (lf_free ds) (digit_free c p.0) (digits_free ds p.1)
+
+digits_model : IsNumeralModel (λ ds. all_ascii_digits ds ≡ true) (digits_value 10)
+digits_model = numerals_by_value (λ ds. all_ascii_digits ds ≡ true) tells_all_ascii_digits
+
+pub decimal_free : (n : ℕ) → n < 2 ^ 64 → lf_free (decimal n) ≡ true
+decimal_free n h = digits_free (decimal n) (digits_decimal digits_model n h)
+
+len_at : (a rest : List ℕ) → lf_free a ≡ true → position_or_len (λ octet. octet == 10) (a ++ 10 ∷ rest) ≡ length a
+len_at [] rest h = refl
+len_at (c ∷ a) rest h =
+    let p = and_parts (not (c == 10)) (lf_free a) h in
+    rw (p.0) (omega (arith, len_at a rest p.1))
+
+-- the first LF stands after what has none
+pub position_at : (a rest : List ℕ) → lf_free a ≡ true → position (λ octet. octet == 10) (a ++ 10 ∷ rest) ≡ Some (length a)
+position_at a rest h =
+    let e = len_at a rest h in
+    let n : length (a ++ 10 ∷ rest) ≡ length a + length (10 ∷ rest) = length-append a (10 ∷ rest) in
+    let t : ltb (position_or_len (λ octet. octet == 10) (a ++ 10 ∷ rest)) (length (a ++ 10 ∷ rest)) ≡ true = grind (arith, nat_tests) in
+    cond-true _ _ _ t ∙ ap Some e
+
+-- lines without LF inside
+abbrev pub AreLines : List (List ℕ) → Type 0
+AreLines [] = Unit {0}
+AreLines (l ∷ ls) = (lf_free l ≡ true) × AreLines ls
+
+pub AreLines-take : (n : ℕ) (ls : List (List ℕ)) → AreLines ls → AreLines (take n ls)
+AreLines-take zero ls h = tt
+AreLines-take (suc n) [] h = tt
+AreLines-take (suc n) (l ∷ ls) h = (h.0, AreLines-take n ls h.1)
+
+pub lines_are : (c : Claims) → IsClaims c → AreLines (lines_of c)
+lines_are c h = (refl, (lf_free-append (codes "SINGLES ") (decimal c.singles) refl (decimal_free c.singles h), (refl, (refl, tt))))
+
+-- as many lines before, the same rest
+pub one_rest : (ls ms : List (List ℕ)) (x y : List ℕ) → AreLines ls → AreLines ms → length ls ≡ length ms → spelled ls x ≡ spelled ms y → x ≡ y
+one_rest [] [] x y h k n e = e
+one_rest [] (m ∷ ms) x y h k n e = absurd (omega (arith, n))
+one_rest (l ∷ ls) [] x y h k n e = absurd (omega (arith, n))
+one_rest (l ∷ ls) (m ∷ ms) x y h k n e =
+    one_rest ls ms x y h.1 k.1 (omega (arith, n)) (one_cut l m (spelled ls x) (spelled ms y) h.0 k.0 e)
+
+pub spelled-take : (n : ℕ) (ls : List (List ℕ)) (rest : List ℕ) → spelled ls rest ≡ spelled (take n ls) (spelled (drop n ls) rest)
+spelled-take zero ls rest = refl
+spelled-take (suc n) [] rest = refl
+spelled-take (suc n) (l ∷ ls) rest = ap (λ t. l ++ 10 ∷ t) (spelled-take n ls rest)
+
+pub spelled-take_suc : (n : ℕ) (ls : List (List ℕ)) (rest : List ℕ) → n < length ls → spelled (take (suc n) ls) rest ≡ spelled (take n ls) (get_or ls n [] ++ 10 ∷ rest)
+spelled-take_suc n [] rest h = absurd (omega arith)
+spelled-take_suc zero (l ∷ ls) rest h = refl
+spelled-take_suc (suc n) (l ∷ ls) rest h = ap (λ t. l ++ 10 ∷ t) (spelled-take_suc n ls rest (omega arith))
+
+-- where an LF was found the text is cut
+pub cut_from_end : (bytes : List ℕ) (end : ℕ) → position (λ octet. octet == 10) bytes ≡ Some end
+    → IsCutAtLf bytes (take end bytes) (take (length bytes - (end + 1)) (drop (end + 1) bytes))
+cut_from_end bytes end h =
+    let p = position-Some (λ octet. octet == 10) bytes end 0 h in
+    let within : end < length bytes = p.0 in
+    let lf : get_or bytes end 0 ≡ 10 = grind (arith, nat_tests, p.1) in
+    let whole : take (length bytes - (end + 1)) (drop (end + 1) bytes) ≡ drop (end + 1) bytes = take_all (length bytes - (end + 1)) (drop (end + 1) bytes) (omega (arith, length-drop (end + 1) bytes)) in
+    let next : suc end ≡ end + 1 = omega arith in
+    let there : drop end bytes ≡ 10 ∷ drop (end + 1) bytes = drop-cons bytes end 0 within ∙ ap (λ c. c ∷ drop (suc end) bytes) lf ∙ ap (λ k. 10 ∷ drop k bytes) next in
+    record {
+      at = h ∙ ap Some (sym (length-take-le end bytes (omega arith)));
+      parts = sym (take-append-drop end bytes) ∙ ap (λ l. take end bytes ++ l) (there ∙ ap (λ l. 10 ∷ l) (sym whole));
+    }
+
+same_front : (a b x y : List ℕ) → length a ≡ length b → a ++ x ≡ b ++ y → a ≡ b
+same_front [] [] x y n e = refl
+same_front [] (d ∷ b) x y n e = absurd (omega (arith, n))
+same_front (c ∷ a) [] x y n e = absurd (omega (arith, n))
+same_front (c ∷ a) (d ∷ b) x y n e =
+    let f : c ≡ d = cc in
+    let g : a ++ x ≡ b ++ y = cc in
+    let h : a ≡ b = same_front a b x y (omega (arith, n)) g in
+    cc
+
+-- a number's digits are read
+pub number_gives : {E : Type 0} (digits text : List ℕ) (r : Result ℕ E) (n : ℕ) → n < 2 ^ 64 → text ≡ digits → digits ≡ decimal n → ParsesUnsigned 64 10 text r → r ≡ Ok n
+number_gives digits text r n h e f p = parse-decimal 64 n text r h h (e ∙ f) p
+
+pub number_is_text : (digits : List ℕ) (n : ℕ) → n < 2 ^ 64 → digits ≡ decimal n → IsUtf8 digits
+number_is_text digits n h e = subst IsUtf8 (sym e) (IsUtf8-from_ascii (decimal n) (IsAscii-decimal n h))
+
+-- after the word there is no line of a number
+pub no_count : (bytes word rest : List ℕ) → bytes ≡ word ++ rest → LacksLf rest → LacksCount word bytes
+no_count bytes word rest e none n tail h f =
+    let g : rest ≡ decimal n ++ 10 ∷ tail = cancel word rest (decimal n ++ 10 ∷ tail) (sym e ∙ f ∙ append_assoc word (decimal n) (10 ∷ tail)) in
+    let k = position_at (decimal n) tail (decimal_free n h) in
+    none-some (length (decimal n)) (sym none ∙ ap (position (λ octet. octet == 10)) g ∙ k)
+
+pub other_count : (bytes word rest digits tail : List ℕ) → bytes ≡ word ++ rest → IsCutAtLf rest digits tail → IsNoNumber digits → LacksCount word bytes
+other_count bytes word rest digits tail e cut none n end h f =
+    let g : rest ≡ decimal n ++ 10 ∷ end = cancel word rest (decimal n ++ 10 ∷ end) (sym e ∙ f ∙ append_assoc word (decimal n) (10 ∷ end)) in
+    let k = position_at (decimal n) end (decimal_free n h) in
+    let same : length digits ≡ length (decimal n) = same_Some _ _ (sym cut.at ∙ ap (position (λ octet. octet == 10)) g ∙ k) in
+    none n h (same_front digits (decimal n) (10 ∷ tail) (10 ∷ end) same (sym cut.parts ∙ g))
+
+pub count_from_parts : (bytes word rest digits tail : List ℕ) (n : ℕ) → bytes ≡ word ++ rest → IsCutAtLf rest digits tail → digits ≡ decimal n → bytes ≡ (word ++ decimal n) ++ 10 ∷ tail
+count_from_parts bytes word rest digits tail n e cut d =
+    e ∙ ap (λ l. word ++ l) (cut.parts ∙ ap (λ l. l ++ 10 ∷ tail) d) ∙ sym (append_assoc word (decimal n) (10 ∷ tail))
+
+-- the number that was read is printed as the digits
+pub not_printed : {E : Type 0} (digits printed : List ℕ) (r : Result ℕ E) (n m : ℕ) (b : Bool) → r ≡ Ok n → r ≡ Ok m → digits ≡ decimal n → printed ≡ decimal m
+    → b ≡ bytes_eq printed digits → b ≡ false → ⊥
+not_printed digits printed r n m b en em d p e f =
+    let same : m ≡ n = cc in
+    true≢false (sym ((bytes_eq-Decides printed digits).1 (p ∙ ap decimal same ∙ sym d)) ∙ sym e ∙ f)
+
+pub not_read : {E : Type 0} (r : Result ℕ E) (n : ℕ) (x : E) → r ≡ Ok n → r ≡ Err x → ⊥
+not_read r n x e f = cc

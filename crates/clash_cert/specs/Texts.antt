@@ -1,0 +1,35 @@
+-- What the steps of the reader say.
+use Rattle.std.specs.Prelude.{ℕ, List, [], ◌∷◌, ◌++◌, ◌^◌, ◌<◌, ◌≡◌, ◌≢◌, ◌==◌, Some, None, length, position, decimal}
+use Rattle.profile.specs.Certificates.{FirstWrong}
+use Rattle.clash_cert.specs.declared.certificate.CertFault.{CertFault}
+use Rattle.clash_cert.specs.declared.certificate.CertFault.TheVariants.{Line, Memory}
+
+-- want of memory, or the first wrong or missing line
+abbrev pub IsCertFault : List ℕ → CertFault → Type 0
+IsCertFault text Memory = Unit {0}
+IsCertFault text (Line n) = FirstWrong text n
+
+-- the octets don't begin so
+abbrev pub Lacks : List ℕ → List ℕ → Type 0
+Lacks front bytes = (rest : List ℕ) → bytes ≢ front ++ rest
+
+-- they don't begin with this line, whole
+abbrev pub LacksLine : List ℕ → List ℕ → Type 0
+LacksLine line bytes = (rest : List ℕ) → bytes ≢ line ++ 10 ∷ rest
+
+-- they don't begin with a line of this word and a number of 64 bits
+abbrev pub LacksCount : List ℕ → List ℕ → Type 0
+LacksCount word bytes = (n : ℕ) (rest : List ℕ) → n < 2 ^ 64 → bytes ≢ (word ++ decimal n) ++ 10 ∷ rest
+
+-- they are no number of 64 bits
+abbrev pub IsNoNumber : List ℕ → Type 0
+IsNoNumber digits = (n : ℕ) → n < 2 ^ 64 → digits ≢ decimal n
+
+-- there is no LF
+abbrev pub LacksLf : List ℕ → Type 0
+LacksLf bytes = position (λ octet. octet == 10) bytes ≡ None
+
+-- the first LF stands between the two parts
+pub record IsCutAtLf (bytes line rest : List ℕ) : Type 0 where
+  pub at : position (λ octet. octet == 10) bytes ≡ Some (length line)
+  pub parts : bytes ≡ line ++ 10 ∷ rest
