@@ -1,5 +1,5 @@
 -- VEVENTs: what their lines say (RFC 5545 3.6.1), for single events in UTC. A VEVENT is its content lines here.
-use Rattle.std.specs.Prelude.{◌≡◌, ℕ, ◌+◌, ◌*◌, ◌<◌, ◌≤◌, ◌⊎◌, Bool, true, false, IsTrue, if◌then◌else◌, not, ◌&&◌, ◌||◌, ◌==◌, List, [], ◌∷◌, length, map, filter, codes, Option, Some, None, is_some, option_map, unwrap_or, slice_index, ℤ, pos, negsuc, ◌+ℤ◌, ◌-ℤ◌, ◌≤ℤ◌, ◌<ℤ◌}
+use Rattle.std.specs.Prelude.{◌≡◌, ℕ, ◌+◌, ◌-◌, ◌*◌, ◌^◌, Contains, ◌<◌, ◌≤◌, ◌⊎◌, Bool, true, false, IsTrue, if◌then◌else◌, not, ◌&&◌, ◌||◌, ◌==◌, List, [], ◌∷◌, length, map, filter, codes, Option, Some, None, is_some, option_map, unwrap_or, slice_index, ℤ, pos, negsuc, ◌+ℤ◌, ◌-ℤ◌, ◌≤ℤ◌, ◌<ℤ◌}
 use Rattle.std.specs.Option.{option_to_list}
 use Rattle.std.specs.List.{find, list_any, AllZip}
 use Rattle.std.specs.Str.{bytes_eq}
@@ -183,3 +183,104 @@ is_confirmed room event = unwrap_or (option_map is_accepted (answer_of room even
 -- the confirmed instances of some events, in order
 abbrev pub confirmed : List ℕ → List Event → List Booked
 confirmed room events = map booked_by (filter (is_confirmed room) events)
+
+-- ---- what can be wrong with a VEVENT, by the number of its refusal
+
+-- the lines that a property with this name has, at least two
+abbrev pub StandsTwice : List ℕ → List (List ℕ) → Type 0
+StandsTwice name lines = 1 < length (lines_named name lines)
+
+abbrev pub IsMissing : List ℕ → List (List ℕ) → Type 0
+IsMissing name lines = lines_named name lines ≡ []
+
+-- a line of this property stands there, and so is it
+abbrev pub SomeLine : List ℕ → (List ℕ → Type 0) → List (List ℕ) → Type 0
+SomeLine name P lines = (line : List ℕ) × Contains (lines_named name lines) line × P line
+
+-- the value begins as a UTC time would end: with `Z`
+abbrev pub ends_in_z : List ℕ → Bool
+ends_in_z text = slice_index text (length text - 1) == 90
+
+-- VALUE says so
+abbrev pub has_value : List ℕ → List ℕ → Bool
+has_value word line = unwrap_or (option_map (λ given. is_same_name given word) (line_param (codes "VALUE") line)) false
+
+-- no instant is spelled
+abbrev pub IsNoStamp : List ℕ → Type 0
+IsNoStamp text = (t : ℤ) → SpellsStamp text t → ⊥
+
+-- a date (RFC 5545 3.3.4), or a local time without zone (RFC 5545 3.3.5, form 1)
+abbrev pub IsDate : List ℕ → Type 0
+IsDate text = (number : ℤ) × SpellsDate text number
+
+abbrev pub IsLocal : List ℕ → Type 0
+IsLocal text = (t : ℤ) × SpellsLocal text t
+
+-- the value is no UTC date-time, or VALUE says that it is something else
+abbrev pub IsNoTime : List ℕ → Type 0
+IsNoTime line = IsNoStamp (line_value line) ⊎ IsTrue (not (is_date_time line))
+
+-- what is wrong with a start or an end: 10 and 11 it is no time, 55 a date or a floating time, 56 a period
+abbrev pub TimeFault : ℕ → List ℕ → Type 0
+TimeFault n line =
+    ((n ≡ 10) × IsTrue (ends_in_z (line_value line)) × IsNoTime line)
+    ⊎ (((n ≡ 11) × IsNoTime line)
+    ⊎ (((n ≡ 55) × (IsDate (line_value line) ⊎ IsLocal (line_value line)))
+    ⊎ ((n ≡ 56) × IsTrue (has_value (codes "PERIOD") line))))
+
+-- the names that may stand once, of which 61 speaks
+abbrev pub single_names : List (List ℕ)
+single_names =
+    codes "UID" ∷ codes "ORGANIZER" ∷ codes "DTSTAMP" ∷ codes "SEQUENCE" ∷ codes "STATUS" ∷ codes "DTSTART" ∷ codes "DTEND" ∷ codes "DURATION" ∷ []
+
+-- 61: a property is missing that has to stand, or stands twice, or DTEND and DURATION both stand
+abbrev pub PropertyFault : Bool → List (List ℕ) → Type 0
+PropertyFault in_message lines =
+    IsMissing (codes "UID") lines ⊎ (IsMissing (codes "DTSTART") lines ⊎ ((IsTrue in_message × IsMissing (codes "DTSTAMP") lines)
+    ⊎ (((name : List ℕ) × Contains single_names name × StandsTwice name lines)
+    ⊎ (SomeLine (codes "DTEND") (λ _. Unit {0}) lines × SomeLine (codes "DURATION") (λ _. Unit {0}) lines))))
+
+-- the value of a line spells no address, no sequence number, no duration
+abbrev pub IsNoAddress : List ℕ → Type 0
+IsNoAddress line = IsAddress (line_value line) → ⊥
+
+abbrev pub IsNoSequence : List ℕ → Type 0
+IsNoSequence line = (n : ℕ) → SpellsSequence (line_value line) n → ⊥
+
+abbrev pub IsNoDuration : List ℕ → Type 0
+IsNoDuration text = ((days seconds : ℕ) → SpellsDuration text days seconds → ⊥) × (SpellsNegative text → ⊥)
+
+-- a duration that is negative, or has a count past 32 bits
+abbrev pub IsWideOrNegative : List ℕ → Type 0
+IsWideOrNegative text =
+    SpellsNegative text
+    ⊎ ((days : ℕ) × (seconds : ℕ) × SpellsDuration text days seconds × ((2 ^ 32 ≤ days) ⊎ (2 ^ 32 ≤ seconds)))
+
+-- the lines hold a start, and a length from it of more seconds than allowed, or fewer than none
+abbrev pub EndsBeforeStart : List (List ℕ) → Type 0
+EndsBeforeStart lines =
+    (start : ℤ) × (end : ℤ) × SomeLine (codes "DTSTART") (λ line. IsTime line start) lines
+    × SomeLine (codes "DTEND") (λ line. IsTime line end) lines × (end <ℤ start)
+
+abbrev pub IsTooLong : List (List ℕ) → Type 0
+IsTooLong lines =
+    ((start : ℤ) × (end : ℤ) × SomeLine (codes "DTSTART") (λ line. IsTime line start) lines
+    × SomeLine (codes "DTEND") (λ line. IsTime line end) lines × ((start +ℤ pos 31_622_400) <ℤ end))
+    ⊎ (((length : Length) × SomeLine (codes "DURATION") (λ line. LastsFor line length) lines × (31_622_400 < length_seconds length))
+    ⊎ SomeLine (codes "DURATION") (λ line. IsWideOrNegative (line_value line)) lines)
+
+-- the fault of this number, 10 to 16, 50 to 52, 55, 56, 61 or 63, stands in the lines of a VEVENT
+abbrev pub EventFault : Bool → ℕ → List (List ℕ) → Type 0
+EventFault in_message n lines =
+    SomeLine (codes "DTSTART") (TimeFault n) lines
+    ⊎ (SomeLine (codes "DTEND") (TimeFault n) lines
+    ⊎ (((n ≡ 10) × SomeLine (codes "DTSTAMP") (λ line. IsNoStamp (line_value line)) lines)
+    ⊎ (((n ≡ 12) × SomeLine (codes "DURATION") (λ line. IsNoDuration (line_value line)) lines)
+    ⊎ (((n ≡ 14) × SomeLine (codes "UID") (λ line. IsUid (unescaped (line_value line)) → ⊥) lines)
+    ⊎ (((n ≡ 15) × (SomeLine (codes "ORGANIZER") IsNoAddress lines ⊎ SomeLine (codes "ATTENDEE") IsNoAddress lines))
+    ⊎ (((n ≡ 16) × SomeLine (codes "SEQUENCE") IsNoSequence lines)
+    ⊎ (((n ≡ 50) × EndsBeforeStart lines)
+    ⊎ (((n ≡ 51) × IsTooLong lines)
+    ⊎ (((n ≡ 52) × (start : ℤ) × SomeLine (codes "DTSTART") (λ line. IsTime line start) lines × (start <ℤ negsuc 86_399))
+    ⊎ (((n ≡ 61) × PropertyFault in_message lines)
+    ⊎ ((n ≡ 63) × IsTrue in_message × IsMissing (codes "ORGANIZER") lines)))))))))))
