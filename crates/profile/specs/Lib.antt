@@ -7,3 +7,5 @@ pub mod Instances
 pub mod Certificates
 pub mod Revisions
 pub mod Events
+pub mod Messages
+pub mod Rooms
