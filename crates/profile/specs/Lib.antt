@@ -9,3 +9,4 @@ pub mod Revisions
 pub mod Events
 pub mod Messages
 pub mod Rooms
+pub mod Kept
