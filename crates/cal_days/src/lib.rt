@@ -4,7 +4,8 @@
 //! ends at 9999-12-31: a later day is computed 400 years, which are 146,097 days, earlier.
 #![tactic(auto)]
 
-ghost use Rattle.std.specs.Prelude.{◌≡◌};
+ghost use Rattle.std.specs.Prelude.{◌≡◌, ◌↔◌, ◌≤ℤ◌, ◌+ℤ◌, pos, negsuc, unsigned_abs, IsSome, IfSome};
+ghost use Rattle.profile.specs.Days.{IsDayNumber, IsDayDate, IsDate, number_of_date, number_of_day};
 
 use jiff::civil;
 use std::marker::Model;
@@ -27,6 +28,19 @@ pub struct Day {
     number: i64,
 }
 
+impl Model for Day {
+    ghost use Rattle.std.specs.Prelude.{ℤ};
+    ghost use Rattle.profile.specs.Days.{IsDayNumber};
+
+    ghost Value = { ℤ };
+
+    ghost view = { λ d. d.number };
+
+    ghost inverse = { λ n. record { number = n } };
+
+    ghost invariant = { λ d. IsDayNumber d.number };
+}
+
 /// The date of a day.
 #[derive(Clone, Copy, Debug, PartialEq, Eq, PartialOrd, Ord, Hash)]
 pub struct Civil {
@@ -41,22 +55,27 @@ pub struct Civil {
 impl Day {
     /// The day of that date. None where the calendar has no such date, or the year isn't one of 1 to
     /// 10001.
-    pub fn of(year: i32, month: u8, day: u8) -> Option<Day> {
+    pub fn of(year: i32, month: u8, day: u8) -> Option<Day>
+        ensures found { IsSome result ↔ IsDayDate year month day }
+        ensures value { IfSome result (λ d. d ≡ number_of_day year month day) }
+        ensures early { IfSome result (λ d. year ≤ℤ pos 9999 → d ≤ℤ pos 2_932_896) }
+    {
         if year < 1 || year > 10_001 {
             return None;
         }
         if year > 9999 {
-            let number = number_of(year - 400, month, day)?;
-            return Some(Day {
-                number: number + CYCLE,
-            });
+            let number = late_number_of(year, month, day)?;
+            return Some(Day { number });
         }
         let number = number_of(year, month, day)?;
         Some(Day { number })
     }
 
     /// The day of that number. None before 0001-01-01 and after 10001-12-31.
-    pub fn of_number(number: i64) -> Option<Day> {
+    pub fn of_number(number: i64) -> Option<Day>
+        ensures found { IsSome result ↔ IsDayNumber number }
+        ensures value { IfSome result (λ d. d ≡ number) }
+    {
         if number < FIRST || number > LAST {
             return None;
         }
@@ -64,41 +83,92 @@ impl Day {
     }
 
     /// Days from 1970-01-01.
-    pub fn number(self) -> i64 {
+    pub fn number(self) -> i64
+        ensures value { result ≡ self }
+        ensures range { IsDayNumber result }
+    {
         self.number
     }
 
     /// The date of the day.
-    pub fn civil(self) -> Civil {
+    pub fn civil(self) -> Civil
+        ensures date { IsDayDate result.year result.month result.day }
+        ensures number { number_of_day result.year result.month result.day ≡ self }
+        ensures early { self ≤ℤ pos 2_932_896 → result.year ≤ℤ pos 9999 }
+    {
         if self.number > JIFF_LAST {
-            let early = date_of(self.number - CYCLE);
-            return Civil {
-                year: early.year + 400,
-                month: early.month,
-                day: early.day,
-            };
+            return later(date_of(self.number - CYCLE));
         }
         date_of(self.number)
     }
 }
 
 /// The number of a date of the years 1 to 9999.
-fn number_of(year: i32, month: u8, day: u8) -> Option<i64> {
+fn number_of(year: i32, month: u8, day: u8) -> Option<i64>
+    requires low { pos 1 ≤ℤ year }
+    requires high { year ≤ℤ pos 9999 }
+    ensures found { IsSome result ↔ IsDate (unsigned_abs year) month day }
+    ensures value { IfSome result (λ n. n ≡ number_of_day year month day) }
+    ensures low { IfSome result (λ n. negsuc 719_161 ≤ℤ n) }
+    ensures high { IfSome result (λ n. n ≤ℤ pos 2_932_896) }
+{
     if month > 12 || day > 31 {
         return None;
     }
-    let date = civil::Date::new(year as i16, month as i8, day as i8).ok()?;
-    Some(date.to_plain().to_unix_epoch_day() as i64)
+    match civil::Date::new(year as i16, month as i8, day as i8) {
+        Ok(date) => Some(date.to_plain().to_unix_epoch_day() as i64),
+        Err(_) => None,
+    }
+}
+
+/// The number of a date of the years 10000 and 10001.
+fn late_number_of(year: i32, month: u8, day: u8) -> Option<i64>
+    requires low { pos 10_000 ≤ℤ year }
+    requires high { year ≤ℤ pos 10_001 }
+    ensures found { IsSome result ↔ IsDate (unsigned_abs year) month day }
+    ensures value { IfSome result (λ n. n ≡ number_of_day year month day) }
+    ensures low { IfSome result (λ n. negsuc 719_161 ≤ℤ n) }
+    ensures high { IfSome result (λ n. n ≤ℤ pos 2_933_627) }
+{
+    let early = year - 400;
+    match number_of(early, month, day) {
+        Some(number) => Some(number + CYCLE),
+        None => None,
+    }
 }
 
 /// The date of a number from that of 0001-01-01 to that of 9999-12-31.
-fn date_of(number: i64) -> Civil {
+fn date_of(number: i64) -> Civil
+    requires low { negsuc 719_161 ≤ℤ number }
+    requires high { number ≤ℤ pos 2_932_896 }
+    ensures low { pos 1 ≤ℤ result.year }
+    ensures high { result.year ≤ℤ pos 9999 }
+    ensures date { IsDate (unsigned_abs result.year) result.month result.day }
+    ensures number { number_of_day result.year result.month result.day ≡ number }
+{
     let epoch = civil::date(1970, 1, 1).to_plain();
     let date = epoch.checked_add(number).unwrap();
     Civil {
         year: date.year as i32,
         month: date.month,
         day: date.day,
+    }
+}
+
+/// The same date 400 years later.
+fn later(early: Civil) -> Civil
+    requires low { pos 1 ≤ℤ early.year }
+    requires high { early.year ≤ℤ pos 9999 }
+    requires date { IsDate (unsigned_abs early.year) early.month early.day }
+    ensures year { result.year ≡ early.year +ℤ pos 400 }
+    ensures date { IsDate (unsigned_abs result.year) result.month result.day }
+    ensures number { number_of_day result.year result.month result.day
+        ≡ number_of_day early.year early.month early.day +ℤ pos 146_097 }
+{
+    Civil {
+        year: early.year + 400,
+        month: early.month,
+        day: early.day,
     }
 }
 

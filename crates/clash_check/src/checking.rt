@@ -2,7 +2,24 @@
 use crate::verdict::{Checked, Verdict, Why};
 use cal_events::{Booking, Calendar, HORIZON};
 use clash_cert::{CertFault, Certificate, Clash, OwnedKey};
+use ical_lines::Fault;
+use ical_values::Address;
 use std::alloc::{AllocError, Global};
+
+/// Does the certificate stand for the room's calendar? No for the first of: the calendar is refused (80), the
+/// certificate's text is wrong (81), a count isn't the calendar's (82), a single clashes (84). Fails only for memory.
+pub fn check(
+    alloc: Global,
+    calendar: &[u8],
+    certificate: &[u8],
+    room: &Address,
+) -> Result<Checked, AllocError> {
+    match Calendar::read(alloc, calendar, room) {
+        Ok(calendar) => judge_read(alloc, &calendar, certificate),
+        Err(Fault::Refused(_)) => Ok(Checked::no(Why::CALENDAR, 0)),
+        Err(Fault::Memory) => Err(AllocError),
+    }
+}
 
 /// Does the text stand as a certificate for the calendar? Fails only for memory.
 pub fn judge_read(
@@ -71,8 +88,7 @@ fn is_during(booking: &Booking, instant: i64) -> bool {
 mod tests {
     use super::*;
     use cal_events::Entry;
-    use ical_lines::Fault;
-    use ical_values::{Address, Text};
+    use ical_values::Text;
 
     // 2025-03-10T09:00:00Z, by `date -u -d 2025-03-10T09:00:00Z +%s`
     const NINE: i64 = 1_741_597_200;

@@ -5,5 +5,5 @@
 pub mod checking;
 pub mod verdict;
 
-pub use checking::{check_clash, judge_read};
+pub use checking::{check, check_clash, judge_read};
 pub use verdict::{Checked, Verdict, Why};

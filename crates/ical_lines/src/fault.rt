@@ -63,6 +63,8 @@ impl Refusal {
     pub const TWO_OVERRIDES: Refusal = Refusal { number: 54 };
     /// A DATE or floating value, which isn't read yet (RFC 5545 3.3.4, 3.3.5).
     pub const NOT_FIXED: Refusal = Refusal { number: 55 };
+    /// An RDATE or EXDATE of more than 366 entries, or a PERIOD (RFC 5545 3.8.5.2; the bound is this profile's).
+    pub const LIST_OR_PERIOD: Refusal = Refusal { number: 56 };
     /// A METHOD that isn't taken here (RFC 5546 1.4).
     pub const BAD_METHOD: Refusal = Refusal { number: 60 };
     /// A property that is missing, stands twice or excludes another (RFC 5545 3.6.1).

@@ -27,6 +27,13 @@ impl Address {
         })
     }
 
+    /// No octets: what stands for a missing ORGANIZER. No text is read as it.
+    pub fn empty(alloc: Global) -> Address {
+        Address {
+            octets: String::new(alloc),
+        }
+    }
+
     /// The address in ASCII lower case.
     pub fn as_str(&self) -> &str {
         self.octets.as_str()

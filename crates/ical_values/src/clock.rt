@@ -1,6 +1,10 @@
 //! A date and a time of day as `YYYYMMDDTHHMMSS` (RFC 5545 3.3.5), kept as seconds from
 //! 1970-01-01T00:00:00. Years are 0001 to 9999. Second 60 is read as 59.
 
+ghost use Rattle.std.specs.Prelude.{◌≡◌, ◌++◌, ◌<◌, ◌≤ℤ◌, ℕ, ℤ, List, pos, negsuc, IfSome, IfNone, OnOk, OnErr};
+ghost use Rattle.profile.specs.Values.{SpellsDate, SpellsTime, SpellsClock, IsClockSeconds};
+ghost use Rattle.ical_values.specs.Written.{Appends};
+
 use crate::append::append_all;
 use crate::digits;
 use cal_days::Day;
@@ -16,35 +20,66 @@ pub const FIRST: i64 = -62_135_596_800;
 pub const LAST: i64 = 253_402_300_799;
 
 /// The seconds of a date and a time of day. None where the text is no such one.
-pub fn read(text: &[u8]) -> Option<i64> {
+pub fn read(text: &[u8]) -> Option<i64>
+    ensures found { IfSome result (SpellsClock 60 text.now) }
+    ensures range { IfSome result IsClockSeconds }
+    ensures none { IfNone result ((seconds : ℤ) → SpellsClock 60 text.now seconds → ⊥) }
+{
     if text.len() != 15 || text[8] != b'T' {
         return None;
     }
-    let day = read_date(&text[..8])?;
-    let second = read_time(&text[9..])?;
+    let Some(day) = read_date(&text[..8]) else {
+        return None;
+    };
+    let Some(second) = read_time(&text[9..]) else {
+        return None;
+    };
     Some(day * DAY + second as i64)
 }
 
 /// The day number of `YYYYMMDD`, for the years 0001 to 9999.
-fn read_date(text: &[u8]) -> Option<i64> {
+fn read_date(text: &[u8]) -> Option<i64>
+    ensures found { IfSome result (SpellsDate text.now) }
+    ensures low { IfSome result (λ n. negsuc 719_161 ≤ℤ n) }
+    ensures high { IfSome result (λ n. n ≤ℤ pos 2_932_896) }
+    ensures none { IfNone result ((number : ℤ) → SpellsDate text.now number → ⊥) }
+{
     let [y1, y2, y3, y4, m1, m2, d1, d2] = text else {
         return None;
     };
-    let year = digits::read_four(*y1, *y2, *y3, *y4)?;
-    let month = digits::read_two(*m1, *m2)?;
-    let day = digits::read_two(*d1, *d2)?;
-    let found = Day::of(year as i32, month, day)?;
-    Some(found.number())
+    let Some(year) = digits::read_four(*y1, *y2, *y3, *y4) else {
+        return None;
+    };
+    let Some(month) = digits::read_two(*m1, *m2) else {
+        return None;
+    };
+    let Some(day) = digits::read_two(*d1, *d2) else {
+        return None;
+    };
+    match Day::of(year as i32, month, day) {
+        Some(found) => Some(found.number()),
+        None => None,
+    }
 }
 
 /// The second of the day of `HHMMSS`.
-fn read_time(text: &[u8]) -> Option<u32> {
+fn read_time(text: &[u8]) -> Option<u32>
+    ensures found { IfSome result (SpellsTime 60 text.now) }
+    ensures range { IfSome result (λ n. n < 86_400) }
+    ensures none { IfNone result ((total : ℕ) → SpellsTime 60 text.now total → ⊥) }
+{
     let [h1, h2, m1, m2, s1, s2] = text else {
         return None;
     };
-    let hour = digits::read_two(*h1, *h2)?;
-    let minute = digits::read_two(*m1, *m2)?;
-    let second = digits::read_two(*s1, *s2)?;
+    let Some(hour) = digits::read_two(*h1, *h2) else {
+        return None;
+    };
+    let Some(minute) = digits::read_two(*m1, *m2) else {
+        return None;
+    };
+    let Some(second) = digits::read_two(*s1, *s2) else {
+        return None;
+    };
     if hour > 23 || minute > 59 || second > 60 {
         return None;
     }
@@ -52,24 +87,38 @@ fn read_time(text: &[u8]) -> Option<u32> {
 }
 
 /// Appends `YYYYMMDDTHHMMSS` and then the octets of `zone`, of seconds from `FIRST` to `LAST`.
-pub fn write(seconds: i64, zone: &[u8], out: &mut Vec<u8>) -> Result<(), AllocError> {
+pub fn write(seconds: i64, zone: &[u8], out: &mut Vec<u8>) -> Result<(), AllocError>
+    requires { IsClockSeconds seconds }
+    ensures ok { OnOk result
+        (Appends out.old.items out.new.items
+            (λ text. (clock : List ℕ) × SpellsClock 59 clock seconds × (text ≡ clock ++ zone.now))) }
+    ensures err { OnErr result (out.new.items ≡ out.old.items) }
+{
     let date = date_text(seconds.div_euclid(DAY));
     let time = time_text(seconds.rem_euclid(DAY) as u32);
     append_all(out, &[&date, b"T", &time, zone])
 }
 
 /// The digits `YYYYMMDD` of a day number of the years 0001 to 9999.
-fn date_text(number: i64) -> [u8; 8] {
+fn date_text(number: i64) -> [u8; 8]
+    requires low { negsuc 719_161 ≤ℤ number }
+    requires high { number ≤ℤ pos 2_932_896 }
+    ensures { SpellsDate result number }
+{
     let date = Day::of_number(number).unwrap().civil();
-    let [y1, y2] = digits::two((date.year / 100) as u8);
-    let [y3, y4] = digits::two((date.year % 100) as u8);
+    let year = date.year.unsigned_abs();
+    let [y1, y2] = digits::two((year / 100) as u8);
+    let [y3, y4] = digits::two((year % 100) as u8);
     let [m1, m2] = digits::two(date.month);
     let [d1, d2] = digits::two(date.day);
     [y1, y2, y3, y4, m1, m2, d1, d2]
 }
 
 /// The digits `HHMMSS` of a second of the day.
-fn time_text(second: u32) -> [u8; 6] {
+fn time_text(second: u32) -> [u8; 6]
+    requires { second < 86_400 }
+    ensures { SpellsTime 59 result second }
+{
     let [h1, h2] = digits::two((second / 3600) as u8);
     let [m1, m2] = digits::two((second / 60 % 60) as u8);
     let [s1, s2] = digits::two((second % 60) as u8);

@@ -1,6 +1,10 @@
 //! Local date-times (RFC 5545 3.3.5, forms 1 and 3): `YYYYMMDDTHHMMSS`, of the years 0001 to 9999,
 //! without a zone. Second 60 is read as 59.
 
+ghost use Rattle.std.specs.Prelude.{◌≡◌, ◌↔◌, ◌++◌, ℤ, IsSome, IfSome, IfOk, IfErr, OnOk, OnErr};
+ghost use Rattle.profile.specs.Values.{SpellsLocal, WritesLocal, IsClockSeconds};
+ghost use Rattle.ical_values.specs.Written.{Appends};
+
 use crate::clock;
 use ical_lines::Refusal;
 use std::alloc::AllocError;
@@ -12,9 +16,26 @@ pub struct LocalTime {
     seconds: i64,
 }
 
+impl Model for LocalTime {
+    ghost use Rattle.std.specs.Prelude.{ℤ};
+    ghost use Rattle.profile.specs.Values.{IsClockSeconds};
+
+    ghost Value = { ℤ };
+
+    ghost view = { λ s. s.seconds };
+
+    ghost inverse = { λ n. record { seconds = n } };
+
+    ghost invariant = { λ s. IsClockSeconds s.seconds };
+}
+
 impl LocalTime {
     /// Reads `YYYYMMDDTHHMMSS`. Anything else is refused as a bad date-time (11).
-    pub fn read(text: &str) -> Result<LocalTime, Refusal> {
+    pub fn read(text: &str) -> Result<LocalTime, Refusal>
+        ensures reads { IfOk result (SpellsLocal text.now) }
+        ensures refuses { IfErr result (λ e. e.number ≡ 11) }
+        ensures none { OnErr result ((seconds : ℤ) → SpellsLocal text.now seconds → ⊥) }
+    {
         match clock::read(text.as_bytes()) {
             Some(seconds) => Ok(LocalTime { seconds }),
             None => Err(Refusal::BAD_DATE_TIME),
@@ -22,17 +43,26 @@ impl LocalTime {
     }
 
     /// Appends `YYYYMMDDTHHMMSS`. Without memory nothing is appended.
-    pub fn write(self, out: &mut Vec<u8>) -> Result<(), AllocError> {
+    pub fn write(self, out: &mut Vec<u8>) -> Result<(), AllocError>
+        ensures ok { OnOk result (Appends out.old.items out.new.items (λ text. WritesLocal text self)) }
+        ensures err { OnErr result (out.new.items ≡ out.old.items) }
+    {
         clock::write(self.seconds, b"", out)
     }
 
     /// Seconds from 1970-01-01T00:00:00 on the same clock.
-    pub fn seconds(self) -> i64 {
+    pub fn seconds(self) -> i64
+        ensures value { result ≡ self }
+        ensures range { IsClockSeconds result }
+    {
         self.seconds
     }
 
     /// The local time of those seconds. None before the year 1 and after the year 9999.
-    pub fn of_seconds(seconds: i64) -> Option<LocalTime> {
+    pub fn of_seconds(seconds: i64) -> Option<LocalTime>
+        ensures found { IsSome result ↔ IsClockSeconds seconds }
+        ensures value { IfSome result (λ s. s ≡ seconds) }
+    {
         if seconds < clock::FIRST || seconds > clock::LAST {
             return None;
         }

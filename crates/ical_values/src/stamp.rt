@@ -1,6 +1,10 @@
 //! UTC date-times (RFC 5545 3.3.5, form 2): `YYYYMMDDTHHMMSSZ`, of the years 0001 to 9999. A stamp is
 //! kept as its instant. Leap seconds aren't counted: second 60 is read as 59.
 
+ghost use Rattle.std.specs.Prelude.{◌≡◌, ◌↔◌, ◌++◌, negsuc, IsSome, IfSome, ℤ, IfOk, IfErr, OnOk, OnErr};
+ghost use Rattle.profile.specs.Values.{SpellsStamp, WritesStamp, IsClockSeconds};
+ghost use Rattle.ical_values.specs.Written.{Appends};
+
 use crate::clock;
 use ical_lines::Refusal;
 use std::alloc::AllocError;
@@ -12,9 +16,26 @@ pub struct Stamp {
     instant: i64,
 }
 
+impl Model for Stamp {
+    ghost use Rattle.std.specs.Prelude.{ℤ};
+    ghost use Rattle.profile.specs.Values.{IsClockSeconds};
+
+    ghost Value = { ℤ };
+
+    ghost view = { λ s. s.instant };
+
+    ghost inverse = { λ n. record { instant = n } };
+
+    ghost invariant = { λ s. IsClockSeconds s.instant };
+}
+
 impl Stamp {
     /// Reads `YYYYMMDDTHHMMSSZ`. Anything else is refused as a bad stamp (10).
-    pub fn read(text: &str) -> Result<Stamp, Refusal> {
+    pub fn read(text: &str) -> Result<Stamp, Refusal>
+        ensures reads { IfOk result (SpellsStamp text.now) }
+        ensures refuses { IfErr result (λ e. e.number ≡ 10) }
+        ensures none { OnErr result ((instant : ℤ) → SpellsStamp text.now instant → ⊥) }
+    {
         let [local @ .., b'Z'] = text.as_bytes() else {
             return Err(Refusal::BAD_STAMP);
         };
@@ -25,17 +46,26 @@ impl Stamp {
     }
 
     /// Appends `YYYYMMDDTHHMMSSZ`. Without memory nothing is appended.
-    pub fn write(self, out: &mut Vec<u8>) -> Result<(), AllocError> {
+    pub fn write(self, out: &mut Vec<u8>) -> Result<(), AllocError>
+        ensures ok { OnOk result (Appends out.old.items out.new.items (λ text. WritesStamp text self)) }
+        ensures err { OnErr result (out.new.items ≡ out.old.items) }
+    {
         clock::write(self.instant, b"Z", out)
     }
 
     /// Seconds from 1970-01-01T00:00:00Z.
-    pub fn instant(self) -> i64 {
+    pub fn instant(self) -> i64
+        ensures value { result ≡ self }
+        ensures range { IsClockSeconds result }
+    {
         self.instant
     }
 
     /// The stamp of an instant. None before the year 1 and after the year 9999.
-    pub fn of_instant(instant: i64) -> Option<Stamp> {
+    pub fn of_instant(instant: i64) -> Option<Stamp>
+        ensures found { IsSome result ↔ IsClockSeconds instant }
+        ensures value { IfSome result (λ s. s ≡ instant) }
+    {
         if instant < clock::FIRST || instant > clock::LAST {
             return None;
         }
@@ -43,7 +73,9 @@ impl Stamp {
     }
 
     /// 0001-01-01T00:00:00Z, the first stamp.
-    pub fn least() -> Stamp {
+    pub fn least() -> Stamp
+        ensures { result ≡ negsuc 62_135_596_799 }
+    {
         Stamp {
             instant: clock::FIRST,
         }

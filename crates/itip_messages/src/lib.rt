@@ -1,2 +1,11 @@
 //! iTIP messages: their parts, and replies (RFC 5546 3.2).
 #![tactic(auto)]
+
+pub mod message;
+mod parts;
+pub mod reply;
+pub mod writer;
+
+pub use message::{Message, MessageComponent, Method};
+pub use reply::{Conflict, Decision, ReplyEvent, write_reply};
+pub use writer::ObjectWriter;

@@ -13,3 +13,27 @@ is_line_fault = is_between 1 6
 -- a fault of an object's tree: the lines' faults and those of BEGIN, END and VERSION (RFC 5545 3.4, 3.6)
 abbrev pub is_object_fault : ℕ → Bool
 is_object_fault n = is_line_fault n || is_between 20 25 n
+
+-- a fault of a value (RFC 5545 3.3)
+abbrev pub is_value_fault : ℕ → Bool
+is_value_fault = is_between 10 16
+
+-- a fault of one VEVENT: its values, its times, and properties that are missing, repeated or exclude another (RFC 5545 3.6.1)
+abbrev pub is_event_fault : ℕ → Bool
+is_event_fault n = is_value_fault n || is_between 50 52 n || is_between 55 56 n || n == 61 || n == 63
+
+-- what isn't read yet
+abbrev pub is_unread : ℕ → Bool
+is_unread n = n == 99
+
+-- a fault of a calendar: an object, its VEVENTs, two masters or two overrides of one start, or what isn't read yet
+abbrev pub is_calendar_fault : ℕ → Bool
+is_calendar_fault n = is_object_fault n || is_event_fault n || is_between 53 54 n || is_unread n
+
+-- a fault of a message: of a calendar, or of its method, its meeting or the want of a VEVENT (RFC 5546 3.2)
+abbrev pub is_message_fault : ℕ → Bool
+is_message_fault n = is_calendar_fault n || n == 60 || n == 62 || n == 66
+
+-- a fault of a preamble or a configuration
+abbrev pub is_preamble_fault : ℕ → Bool
+is_preamble_fault n = n == 90

@@ -6,3 +6,4 @@ pub mod Values
 pub mod Instances
 pub mod Certificates
 pub mod Revisions
+pub mod Events

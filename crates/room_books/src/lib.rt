@@ -1,2 +1,13 @@
 //! A room: it takes messages, answers them, and keeps a calendar and a certificate.
 #![tactic(auto)]
+
+pub mod answer;
+mod asked;
+pub mod decide;
+pub mod meeting;
+mod reply;
+pub mod room;
+mod texts;
+
+pub use answer::{Answer, Kind, LimitKind};
+pub use room::Room;

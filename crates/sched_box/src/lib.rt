@@ -1,2 +1,16 @@
 //! A box of rooms: streams of objects, and the answers to them.
 #![tactic(auto)]
+
+pub mod config;
+mod fault;
+pub mod objects;
+pub mod preamble;
+pub mod serving;
+
+pub use config::Config;
+pub use fault::{ServeFault, StreamFault};
+pub use preamble::read_preamble;
+pub use serving::{ServeReport, keep, serve, serve_stream};
+
+#[cfg(test)]
+mod tests;

@@ -1,0 +1,33 @@
+# roombox: build, run, test and measure. RT is the command of the Rattle kit.
+RT ?= rt
+EXAMPLE := examples/first-request.ics-stream
+
+.PHONY: run try test bench clean
+
+# Proves and builds the program, leaves it as bin/roombox, and answers the first request.
+run: bin/roombox
+	bin/roombox < $(EXAMPLE)
+
+bin/roombox: FORCE
+	@mkdir -p bin out
+	@cd crates/roombox && $(RT) run < ../../$(EXAMPLE) > ../../out/first-reply 2> ../../out/build.log \
+		|| { cat ../../out/build.log; exit 1; }
+	@cp crates/roombox/out/roombox bin/roombox
+
+FORCE:
+
+# Answers the first request within about a minute. Nothing is proved this way.
+try:
+	@cd crates/roombox && $(RT) try < ../../$(EXAMPLE)
+	@echo "(nothing was proved: 'make run' proves what it runs)"
+
+# The whole gate: every proof from nothing, the edits that must fail, the tests and the programs.
+test:
+	$(RT) ci
+
+# Requests for one room: objects per second, peak memory, and the growth from 1,000 to 10,000.
+bench: bin/roombox
+	python3 bench/requests.py bin/roombox
+
+clean:
+	rm -rf bin out crates/*/out

@@ -1,0 +1,61 @@
+//! The lines of one VEVENT by their property names (RFC 5545 3.6.1, 3.8), and what isn't read yet.
+ghost use Rattle.std.specs.Prelude.{◌≡◌, IfErr};
+
+use ical_lines::{Line, Refusal};
+use ical_tree::Component;
+
+/// The line of a property that may stand once, None where there is none. Names are compared caseless.
+/// Refused: 61 where it stands twice.
+pub fn optional<'a>(component: &'a Component, name: &str) -> Result<Option<Line<'a>>, Refusal>
+    ensures refuses { IfErr result (λ e. e.number ≡ 61) }
+{
+    let mut found = None;
+    for line in component.lines() {
+        if line.is_named(name) {
+            if found.is_some() {
+                return Err(Refusal::BAD_PROPERTY);
+            }
+            found = Some(line);
+        }
+    }
+    Ok(found)
+}
+
+/// The line of a property that stands once.
+/// Refused: 61 where it is missing or stands twice.
+pub fn required<'a>(component: &'a Component, name: &str) -> Result<Line<'a>, Refusal>
+    ensures refuses { IfErr result (λ e. e.number ≡ 61) }
+{
+    optional(component, name)?.ok_or(Refusal::BAD_PROPERTY)
+}
+
+/// Whether a component has a line that roombox doesn't read yet.
+pub fn has_unread(component: &Component) -> bool {
+    for line in component.lines() {
+        if is_unread(line) {
+            return true;
+        }
+    }
+    false
+}
+
+/// Whether a line isn't read yet: one of a recurrence, a cancelled status, a UID with a backslash, or a start or an
+/// end in a zone.
+fn is_unread(line: Line<'_>) -> bool {
+    is_recurrence(line)
+        || (line.is_named("STATUS") && line.value().eq_ignore_ascii_case("CANCELLED"))
+        || (line.is_named("UID") && line.value().as_bytes().contains(&b'\\'))
+        || (is_end_of_event(line) && line.param("TZID").is_some())
+}
+
+fn is_recurrence(line: Line<'_>) -> bool {
+    line.is_named("RRULE")
+        || line.is_named("RDATE")
+        || line.is_named("EXDATE")
+        || line.is_named("RECURRENCE-ID")
+}
+
+/// Whether a line says when an event starts or ends.
+fn is_end_of_event(line: Line<'_>) -> bool {
+    line.is_named("DTSTART") || line.is_named("DTEND")
+}

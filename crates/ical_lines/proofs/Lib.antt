@@ -1,0 +1,4 @@
+pub mod BreakLemmas
+pub mod PieceLemmas
+pub mod QuoteLemmas
+pub mod SplitLemmas

@@ -1,0 +1,146 @@
+-- Lists of a few octets, digits, dates and clocks as they are spelled.
+use Rattle.std.proofs.Common.{to_z, of_z, w32, w64, ◌≡◌, ◌∙◌, ◌↔◌, ℕ, zero, suc, ◌+◌, ◌-◌, ◌*◌, ◌/◌, ◌%◌, ◌<◌, ◌≤◌, min, List, [], ◌∷◌, ◌++◌, length, get_or, take, drop, codes, refl, sym, ap, subst, arith, ℤ, pos, negsuc, unsigned_abs, ◌+ℤ◌, ◌*ℤ◌, ◌≤ℤ◌}
+use Rattle.std.proofs.lemmas.Int.{ints}
+use Rattle.profile.specs.Days.{IsDate, IsDayDate, days_in_month, number_of_date, number_of_day}
+use Rattle.profile.specs.Values.{two_digits, four_digits, SpellsDate, SpellsTime, SpellsClock}
+
+-- a list of 6 by its elements
+pub list_of_6 : (s : List ℕ) → length s ≡ 6 → s ≡ get_or s 0 0 ∷ get_or s 1 0 ∷ get_or s 2 0 ∷ get_or s 3 0 ∷ get_or s 4 0 ∷ get_or s 5 0 ∷ []
+list_of_6 [] h = absurd (omega arith)
+list_of_6 (x0 ∷ []) h = absurd (omega arith)
+list_of_6 (x0 ∷ x1 ∷ []) h = absurd (omega arith)
+list_of_6 (x0 ∷ x1 ∷ x2 ∷ []) h = absurd (omega arith)
+list_of_6 (x0 ∷ x1 ∷ x2 ∷ x3 ∷ []) h = absurd (omega arith)
+list_of_6 (x0 ∷ x1 ∷ x2 ∷ x3 ∷ x4 ∷ []) h = absurd (omega arith)
+list_of_6 (x0 ∷ x1 ∷ x2 ∷ x3 ∷ x4 ∷ x5 ∷ []) h = refl
+list_of_6 (x0 ∷ x1 ∷ x2 ∷ x3 ∷ x4 ∷ x5 ∷ x6 ∷ xs) h = absurd (omega arith)
+
+-- a list of 8 by its elements
+pub list_of_8 : (s : List ℕ) → length s ≡ 8 → s ≡ get_or s 0 0 ∷ get_or s 1 0 ∷ get_or s 2 0 ∷ get_or s 3 0 ∷ get_or s 4 0 ∷ get_or s 5 0 ∷ get_or s 6 0 ∷ get_or s 7 0 ∷ []
+list_of_8 [] h = absurd (omega arith)
+list_of_8 (x0 ∷ []) h = absurd (omega arith)
+list_of_8 (x0 ∷ x1 ∷ []) h = absurd (omega arith)
+list_of_8 (x0 ∷ x1 ∷ x2 ∷ []) h = absurd (omega arith)
+list_of_8 (x0 ∷ x1 ∷ x2 ∷ x3 ∷ []) h = absurd (omega arith)
+list_of_8 (x0 ∷ x1 ∷ x2 ∷ x3 ∷ x4 ∷ []) h = absurd (omega arith)
+list_of_8 (x0 ∷ x1 ∷ x2 ∷ x3 ∷ x4 ∷ x5 ∷ []) h = absurd (omega arith)
+list_of_8 (x0 ∷ x1 ∷ x2 ∷ x3 ∷ x4 ∷ x5 ∷ x6 ∷ []) h = absurd (omega arith)
+list_of_8 (x0 ∷ x1 ∷ x2 ∷ x3 ∷ x4 ∷ x5 ∷ x6 ∷ x7 ∷ []) h = refl
+list_of_8 (x0 ∷ x1 ∷ x2 ∷ x3 ∷ x4 ∷ x5 ∷ x6 ∷ x7 ∷ x8 ∷ xs) h = absurd (omega arith)
+
+-- a list of 15 by its elements
+pub list_of_15 : (s : List ℕ) → length s ≡ 15 → s ≡ get_or s 0 0 ∷ get_or s 1 0 ∷ get_or s 2 0 ∷ get_or s 3 0 ∷ get_or s 4 0 ∷ get_or s 5 0 ∷ get_or s 6 0 ∷ get_or s 7 0 ∷ get_or s 8 0 ∷ get_or s 9 0 ∷ get_or s 10 0 ∷ get_or s 11 0 ∷ get_or s 12 0 ∷ get_or s 13 0 ∷ get_or s 14 0 ∷ []
+list_of_15 [] h = absurd (omega arith)
+list_of_15 (x0 ∷ []) h = absurd (omega arith)
+list_of_15 (x0 ∷ x1 ∷ []) h = absurd (omega arith)
+list_of_15 (x0 ∷ x1 ∷ x2 ∷ []) h = absurd (omega arith)
+list_of_15 (x0 ∷ x1 ∷ x2 ∷ x3 ∷ []) h = absurd (omega arith)
+list_of_15 (x0 ∷ x1 ∷ x2 ∷ x3 ∷ x4 ∷ []) h = absurd (omega arith)
+list_of_15 (x0 ∷ x1 ∷ x2 ∷ x3 ∷ x4 ∷ x5 ∷ []) h = absurd (omega arith)
+list_of_15 (x0 ∷ x1 ∷ x2 ∷ x3 ∷ x4 ∷ x5 ∷ x6 ∷ []) h = absurd (omega arith)
+list_of_15 (x0 ∷ x1 ∷ x2 ∷ x3 ∷ x4 ∷ x5 ∷ x6 ∷ x7 ∷ []) h = absurd (omega arith)
+list_of_15 (x0 ∷ x1 ∷ x2 ∷ x3 ∷ x4 ∷ x5 ∷ x6 ∷ x7 ∷ x8 ∷ []) h = absurd (omega arith)
+list_of_15 (x0 ∷ x1 ∷ x2 ∷ x3 ∷ x4 ∷ x5 ∷ x6 ∷ x7 ∷ x8 ∷ x9 ∷ []) h = absurd (omega arith)
+list_of_15 (x0 ∷ x1 ∷ x2 ∷ x3 ∷ x4 ∷ x5 ∷ x6 ∷ x7 ∷ x8 ∷ x9 ∷ x10 ∷ []) h = absurd (omega arith)
+list_of_15 (x0 ∷ x1 ∷ x2 ∷ x3 ∷ x4 ∷ x5 ∷ x6 ∷ x7 ∷ x8 ∷ x9 ∷ x10 ∷ x11 ∷ []) h = absurd (omega arith)
+list_of_15 (x0 ∷ x1 ∷ x2 ∷ x3 ∷ x4 ∷ x5 ∷ x6 ∷ x7 ∷ x8 ∷ x9 ∷ x10 ∷ x11 ∷ x12 ∷ []) h = absurd (omega arith)
+list_of_15 (x0 ∷ x1 ∷ x2 ∷ x3 ∷ x4 ∷ x5 ∷ x6 ∷ x7 ∷ x8 ∷ x9 ∷ x10 ∷ x11 ∷ x12 ∷ x13 ∷ []) h = absurd (omega arith)
+list_of_15 (x0 ∷ x1 ∷ x2 ∷ x3 ∷ x4 ∷ x5 ∷ x6 ∷ x7 ∷ x8 ∷ x9 ∷ x10 ∷ x11 ∷ x12 ∷ x13 ∷ x14 ∷ []) h = refl
+list_of_15 (x0 ∷ x1 ∷ x2 ∷ x3 ∷ x4 ∷ x5 ∷ x6 ∷ x7 ∷ x8 ∷ x9 ∷ x10 ∷ x11 ∷ x12 ∷ x13 ∷ x14 ∷ x15 ∷ xs) h = absurd (omega arith)
+
+-- what follows the letter
+abbrev pub after_letter : List ℕ → List ℕ
+after_letter text = take (length text - 9) (drop 9 text)
+
+-- numbers with the same digits are one
+pub two_same : (m n : ℕ) (ds : List ℕ) → m < 100 → n < 100 → two_digits m ≡ ds → two_digits n ≡ ds → m ≡ n
+two_same m n ds small little d e =
+    let tens = ap (λ s. get_or s 0 0) (d ∙ sym e) in
+    let ones = ap (λ s. get_or s 1 0) (d ∙ sym e) in
+    omega arith
+
+pub four_same : (m n : ℕ) (ds : List ℕ) → m < 10_000 → n < 10_000 → four_digits m ≡ ds → four_digits n ≡ ds → m ≡ n
+four_same m n ds small little d e =
+    let a = ap (λ s. get_or s 0 0) (d ∙ sym e) in
+    let b = ap (λ s. get_or s 1 0) (d ∙ sym e) in
+    let p = ap (λ s. get_or s 2 0) (d ∙ sym e) in
+    let q = ap (λ s. get_or s 3 0) (d ∙ sym e) in
+    omega arith
+
+-- the digits of a date as it stands in the text
+pub record DateDigits (text : List ℕ) (year month day : ℕ) : Type 0 where
+  pub years : four_digits year ≡ get_or text 0 0 ∷ get_or text 1 0 ∷ get_or text 2 0 ∷ get_or text 3 0 ∷ []
+  pub months : two_digits month ≡ get_or text 4 0 ∷ get_or text 5 0 ∷ []
+  pub days : two_digits day ≡ get_or text 6 0 ∷ get_or text 7 0 ∷ []
+
+pub date_digits : (text : List ℕ) (number : ℤ) (s : SpellsDate text number) → DateDigits text s.year s.month s.day
+date_digits text number s = record { years = rw s.spelled refl; months = rw s.spelled refl; days = rw s.spelled refl }
+
+pub date_length : (text : List ℕ) (number : ℤ) (s : SpellsDate text number) → length text ≡ 8
+date_length text number s = ap length s.spelled
+
+-- the digits make the text
+joined : (a b p : List ℕ) (x0 x1 x2 x3 x4 x5 x6 x7 : ℕ) → a ≡ x0 ∷ x1 ∷ x2 ∷ x3 ∷ [] → b ≡ x4 ∷ x5 ∷ [] → p ≡ x6 ∷ x7 ∷ [] → x0 ∷ x1 ∷ x2 ∷ x3 ∷ x4 ∷ x5 ∷ x6 ∷ x7 ∷ [] ≡ a ++ b ++ p
+joined a b p x0 x1 x2 x3 x4 x5 x6 x7 d e f = rw (d, e, f) refl
+
+pub date_found : (text : List ℕ) (year month day : ℕ) (number : ℤ) → length text ≡ 8 → year < 10_000 → DateDigits text year month day → IsDayDate (pos year) month day → number ≡ number_of_day (pos year) month day → SpellsDate text number
+date_found text year month day number long small d h e = record {
+  year = year; month = month; day = day;
+  first = omega (arith, ints, h.0);
+  last = omega arith;
+  date = h.2;
+  spelled = list_of_8 text long ∙ joined _ _ _ _ _ _ _ _ _ _ _ d.years d.months d.days;
+  counted = e;
+}
+
+-- T between a date and a time
+pub record ClockParts (limit : ℕ) (text : List ℕ) (seconds : ℤ) : Type 0 where
+  pub long : length text ≡ 15
+  pub letter : get_or text 8 0 ≡ 84
+  pub number : ℤ
+  pub second : ℕ
+  pub on : SpellsDate (take 8 text) number
+  pub at_second : SpellsTime limit (after_letter text) second
+  pub counted : seconds ≡ (number *ℤ pos 86_400) +ℤ pos second
+
+pub clock_parts : (limit : ℕ) (text : List ℕ) (seconds : ℤ) → SpellsClock limit text seconds → ClockParts limit text seconds
+clock_parts limit text seconds s =
+    let whole : text ≡ (four_digits s.on.year ++ two_digits s.on.month ++ two_digits s.on.day) ++ codes "T" ++ (two_digits s.at_second.hour ++ two_digits s.at_second.minute ++ two_digits s.at_second.second) =
+        s.spelled ∙ rw (s.on.spelled, s.at_second.spelled) refl in
+    let front : take 8 text ≡ s.date = ap (take 8) whole ∙ sym s.on.spelled in
+    let back : after_letter text ≡ s.time = ap after_letter whole ∙ sym s.at_second.spelled in
+    record {
+      long = ap length whole;
+      letter = ap (λ t. get_or t 8 0) whole;
+      number = s.number;
+      second = s.second;
+      on = rw front s.on;
+      at_second = rw back s.at_second;
+      counted = s.counted;
+    }
+
+split_at_8 : (text : List ℕ) → length text ≡ 15 → get_or text 8 0 ≡ 84 → text ≡ take 8 text ++ codes "T" ++ after_letter text
+split_at_8 text long letter =
+    let e = list_of_15 text long in
+    let at_letter : ℕ → List ℕ = λ x. get_or text 0 0 ∷ get_or text 1 0 ∷ get_or text 2 0 ∷ get_or text 3 0 ∷ get_or text 4 0 ∷ get_or text 5 0 ∷ get_or text 6 0 ∷ get_or text 7 0 ∷ x ∷ get_or text 9 0 ∷ get_or text 10 0 ∷ get_or text 11 0 ∷ get_or text 12 0 ∷ get_or text 13 0 ∷ get_or text 14 0 ∷ [] in
+    e ∙ ap at_letter letter ∙ sym (ap (λ t. take 8 t ++ codes "T" ++ after_letter t) e)
+
+pub clock_found : (limit : ℕ) (text : List ℕ) (number seconds : ℤ) (second : ℕ) → length text ≡ 15 → get_or text 8 0 ≡ 84 → SpellsDate (take 8 text) number → SpellsTime limit (after_letter text) second → seconds ≡ (number *ℤ pos 86_400) +ℤ pos second → SpellsClock limit text seconds
+clock_found limit text number seconds second long letter on at_second e = record {
+  date = take 8 text; time = after_letter text; number = number; second = second;
+  on = on; at_second = at_second; spelled = split_at_8 text long letter; counted = e;
+}
+
+-- casts of small numbers
+pub small_32 : (n : ℕ) → n < 10_000 → to_z w32 n ≡ pos n
+small_32 n h = omega (arith, ints)
+
+pub small_64 : (n : ℕ) → n < 86_400 → to_z w64 n ≡ pos n
+small_64 n h = omega (arith, ints)
+
+pub same_64 : (z : ℤ) → negsuc 719_161 ≤ℤ z → z ≤ℤ pos 2_933_627 → to_z w64 (of_z w64 z) ≡ z
+same_64 z low high = omega (arith, ints)
+
+pub clock_sum : (day : ℤ) (second : ℕ) → negsuc 719_161 ≤ℤ day → day ≤ℤ pos 2_932_896 → second < 86_400 → to_z w64 (of_z w64 (to_z w64 (of_z w64 (to_z w64 (of_z w64 day) *ℤ pos 86_400)) +ℤ to_z w64 second)) ≡ (day *ℤ pos 86_400) +ℤ pos second
+clock_sum day second low high h =
+    rw (small_64 second h) (omega (arith, ints))

@@ -1,0 +1,52 @@
+//! What a room answers to a message.
+
+use clash_cert::Clash;
+
+/// Which limit of a room a request would pass.
+#[derive(Clone, Copy, Debug, PartialEq, Eq)]
+pub enum LimitKind {
+    /// More than 64 confirmed series.
+    Series,
+    /// More than 10,000 confirmed single instances.
+    Singles,
+}
+
+/// What became of a message.
+#[derive(Debug, Drop)]
+pub enum Kind {
+    /// Its fresh parts are confirmed.
+    Accepted,
+    /// Its fresh parts are declined: these two instances share an instant.
+    Declined(Clash),
+    /// Its fresh parts are declined: the room would pass a limit.
+    Limit(LimitKind),
+    /// All its fresh parts cancel something.
+    Cancelled,
+    /// None of its parts is fresh, and one is known already.
+    Repeated,
+    /// All its parts are older than what is known.
+    Stale,
+    /// It has no part for this room.
+    NotAddressed,
+}
+
+/// A room's answer: what became of the message, and the objects that it sends, as octets.
+#[derive(Debug, Drop)]
+pub struct Answer {
+    pub kind: Kind,
+    /// The REPLY, None where there is nothing to reply.
+    pub reply: Option<Vec<u8>>,
+    /// The REFRESH that asks for a meeting, None where the room has it; no message asks for one by now.
+    pub refresh: Option<Vec<u8>>,
+}
+
+impl Answer {
+    /// An answer that sends nothing.
+    pub fn silent(kind: Kind) -> Answer {
+        Answer {
+            kind,
+            reply: None,
+            refresh: None,
+        }
+    }
+}

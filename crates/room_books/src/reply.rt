@@ -1,0 +1,72 @@
+//! The reply to a message: a VEVENT for each of its parts that is to take place and is in the view.
+
+use crate::answer::LimitKind;
+use crate::asked::Asked;
+use crate::meeting::{Decided, MeetingKey, Outcome};
+use cal_events::InstanceKey;
+use clash_cert::OwnedKey;
+use ical_values::Address;
+use itip_messages::{Conflict, Decision, ReplyEvent, write_reply};
+use std::alloc::{AllocError, Global};
+
+/// The REPLY's octets, None where no part is shown.
+pub fn reply_to(
+    alloc: Global,
+    key: &MeetingKey,
+    room: &Address,
+    asked: &[Asked],
+    decided: &[Decided],
+) -> Result<Option<Vec<u8>>, AllocError> {
+    let mut events = Vec::new(alloc);
+    for asked in asked {
+        if asked.is_shown() {
+            if let Some(decided) = decided.iter().find(|decided| decided.slot == asked.part.slot) {
+                events.push(event_of(key, room, asked, decided))?;
+            }
+        }
+    }
+    if events.is_empty() {
+        return Ok(None);
+    }
+    let mut octets = Vec::new(alloc);
+    write_reply(events.as_slice(), &mut octets)?;
+    Ok(Some(octets))
+}
+
+fn event_of<'a>(
+    key: &'a MeetingKey,
+    room: &'a Address,
+    asked: &'a Asked,
+    decided: &'a Decided,
+) -> ReplyEvent<'a> {
+    ReplyEvent {
+        uid: &key.uid,
+        slot: asked.part.slot,
+        sequence: asked.part.revision.sequence,
+        moment: decided.moment,
+        organiser: &key.organiser,
+        room,
+        decision: decision_of(&decided.outcome),
+    }
+}
+
+fn decision_of(outcome: &Outcome) -> Decision<'_> {
+    match outcome {
+        Outcome::Accepted => Decision::Accepted,
+        Outcome::Limit(LimitKind::Series) => Decision::SeriesLimit,
+        Outcome::Limit(LimitKind::Singles) => Decision::SinglesLimit,
+        Outcome::Declined(clash) => Decision::Busy(Conflict {
+            instant: clash.instant,
+            first: borrowed_key(&clash.first),
+            second: borrowed_key(&clash.second),
+        }),
+    }
+}
+
+fn borrowed_key(key: &OwnedKey) -> InstanceKey<'_> {
+    InstanceKey {
+        organiser: key.organiser.as_str(),
+        uid: key.uid.as_str(),
+        slot: key.slot,
+    }
+}

@@ -1,0 +1,90 @@
+//! The words of the command line (clap reads them).
+
+use crate::commands::Kept;
+use clap::{Arg, ArgAction, ArgMatches, Command, Error};
+use std::alloc::{AllocError, Global};
+
+/// What a command line asks for. ROOM is still a word here; the others are paths.
+#[derive(Clone, Copy, Debug)]
+pub enum Invocation<'a> {
+    Serve,
+    Keep {
+        room: &'a str,
+        kept: Kept,
+    },
+    Check {
+        calendar: &'a str,
+        certificate: &'a str,
+        room: &'a str,
+    },
+}
+
+const ABOUT: &str = "Keeps rooms free of clashes: answers iCalendar meeting requests, and proves its answers";
+const SERVE: &str = "Reads a preamble and meeting requests, and writes a reply for each (also with no command).\n\
+    Example: roombox serve < examples/first-request.ics-stream";
+const KEEP: &str = "Reads the same input, and prints what a room keeps after it: its calendar, or its certificate.\n\
+    Example: roombox keep mailto:r1@example.com < examples/first-request.ics-stream";
+const CHECK: &str = "Prints yes where the certificate shows that no two confirmed instances of the room share an \
+    instant, else no and why.\nExample: roombox check kept.ics kept.cert mailto:r1@example.com";
+
+/// Reads the words; the first is the program's name.
+pub fn read_words<'a>(alloc: Global, words: &'a [String]) -> Result<Invocation<'a>, Error> {
+    let matches = program(alloc)?.try_get_matches_from(words)?;
+    Ok(invocation_of(&matches))
+}
+
+fn program<'a>(alloc: Global) -> Result<Command<'a>, AllocError> {
+    Command::new(alloc, "roombox")
+        .about(ABOUT)
+        .version("0.1.0")
+        .disable_help_subcommand(true)
+        .subcommand(Command::new(alloc, "serve").about(SERVE))?
+        .subcommand(keep_command(alloc)?)?
+        .subcommand(check_command(alloc)?)
+}
+
+fn keep_command<'a>(alloc: Global) -> Result<Command<'a>, AllocError> {
+    let certificate = Arg::new(alloc, "certificate")
+        .long("certificate")
+        .action(ArgAction::SetTrue)
+        .help("Print the certificate in place of the calendar");
+    Command::new(alloc, "keep")
+        .about(KEEP)
+        .arg(certificate)?
+        .arg(required(alloc, "ROOM"))
+}
+
+fn check_command<'a>(alloc: Global) -> Result<Command<'a>, AllocError> {
+    Command::new(alloc, "check")
+        .about(CHECK)
+        .arg(required(alloc, "CALENDAR"))?
+        .arg(required(alloc, "CERTIFICATE"))?
+        .arg(required(alloc, "ROOM"))
+}
+
+fn required<'a>(alloc: Global, name: &'a str) -> Arg<'a> {
+    Arg::new(alloc, name).required(true)
+}
+
+fn invocation_of<'a>(matches: &ArgMatches<'a>) -> Invocation<'a> {
+    match matches.subcommand() {
+        Some(("keep", words)) => Invocation::Keep {
+            room: words.get_str("ROOM").unwrap_or(""),
+            kept: kept_of(words),
+        },
+        Some(("check", words)) => Invocation::Check {
+            calendar: words.get_str("CALENDAR").unwrap_or(""),
+            certificate: words.get_str("CERTIFICATE").unwrap_or(""),
+            room: words.get_str("ROOM").unwrap_or(""),
+        },
+        _ => Invocation::Serve,
+    }
+}
+
+fn kept_of(words: &ArgMatches<'_>) -> Kept {
+    if words.get_flag("certificate") {
+        Kept::Certificate
+    } else {
+        Kept::Calendar
+    }
+}

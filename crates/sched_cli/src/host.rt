@@ -1,0 +1,169 @@
+//! The real reader, writer and files: `run` hands them to the commands.
+
+use crate::command_line::{Invocation, read_words};
+use crate::commands::{Kept, run_check, run_keep, run_serve};
+use crate::status::{DEVICE, MEMORY, USAGE, report_device, report_memory, report_too_long};
+use ical_lines::Fault;
+use ical_values::Address;
+use std::alloc::Global;
+use std::env;
+use std::fs::File;
+use std::io::{self, BufReader, BufWriter, ErrorKind, Read, Write};
+use std::rt::Runtime;
+use std::str;
+
+/// The most octets of a file; this profile's choice.
+const MOST_OCTETS: u64 = 1_073_741_824;
+
+/// Standard error, as a writer of text.
+#[derive(Drop)]
+struct ErrorPrinter<'a, R> {
+    to: &'a R,
+}
+
+impl<R: Eprint> Write for ErrorPrinter<'_, R> {
+    fn write(&mut self, octets: &[u8]) -> io::Result<usize> {
+        let Ok(text) = str::from_utf8(octets) else {
+            return Err(io::Error::from(ErrorKind::InvalidData));
+        };
+        self.to.eprint(text)?;
+        Ok(octets.len())
+    }
+
+    fn flush(&mut self) -> io::Result<()> {
+        Ok(())
+    }
+}
+
+/// Why a file isn't taken.
+enum FileFault {
+    Device,
+    TooLong,
+    Memory,
+}
+
+/// Runs the program on the words of its command line, and gives its status.
+pub fn run<R: Runtime + AllocGlobal>(rt: &R) -> u8 {
+    let alloc = rt.alloc();
+    let Ok(words) = words_of(rt, alloc) else {
+        return MEMORY;
+    };
+    match read_words(alloc, words.as_slice()) {
+        Ok(invocation) => invoke(rt, alloc, invocation),
+        Err(error) => match error.print(rt) {
+            Ok(()) => u8::try_from(error.exit_code()).unwrap_or(USAGE),
+            Err(_) => DEVICE,
+        },
+    }
+}
+
+fn words_of<R: Runtime + AllocGlobal>(rt: &R, alloc: Global) -> io::Result<Vec<String>> {
+    Ok(env::args(rt)?.collect(alloc)?)
+}
+
+fn invoke<R: Runtime + AllocGlobal>(rt: &R, alloc: Global, invocation: Invocation<'_>) -> u8 {
+    match invocation {
+        Invocation::Serve => invoke_serve(rt, alloc),
+        Invocation::Keep { room, kept } => match read_room(rt, alloc, room) {
+            Ok(room) => invoke_keep(rt, alloc, &room, kept),
+            Err(status) => status,
+        },
+        Invocation::Check {
+            calendar,
+            certificate,
+            room,
+        } => match read_room(rt, alloc, room) {
+            Ok(room) => invoke_check(rt, alloc, calendar, certificate, &room),
+            Err(status) => status,
+        },
+    }
+}
+
+/// The room that a word names; else the status of a usage fault.
+fn read_room<R: Runtime + AllocGlobal>(rt: &R, alloc: Global, word: &str) -> Result<Address, u8> {
+    match Address::read(alloc, word) {
+        Ok(room) => Ok(room),
+        Err(Fault::Memory) => Err(MEMORY),
+        Err(Fault::Refused(_)) => {
+            let _ = eprintln!(rt; "roombox: ROOM is no address, such as mailto:room@example.com: {word:?}");
+            Err(USAGE)
+        }
+    }
+}
+
+fn invoke_serve<R: Runtime + AllocGlobal>(rt: &R, alloc: Global) -> u8 {
+    let mut errors = ErrorPrinter { to: rt };
+    let Ok(mut reader) = BufReader::new(alloc, rt.reader()) else {
+        return MEMORY;
+    };
+    let Ok(mut writer) = BufWriter::new(alloc, io::writer(rt)) else {
+        return MEMORY;
+    };
+    run_serve(alloc, &mut reader, &mut writer, &mut errors)
+}
+
+fn invoke_keep<R: Runtime + AllocGlobal>(rt: &R, alloc: Global, room: &Address, kept: Kept) -> u8 {
+    let mut errors = ErrorPrinter { to: rt };
+    let Ok(mut reader) = BufReader::new(alloc, rt.reader()) else {
+        return MEMORY;
+    };
+    let mut writer = io::writer(rt);
+    run_keep(alloc, room, kept, &mut reader, &mut writer, &mut errors)
+}
+
+fn invoke_check<R: Runtime + AllocGlobal>(
+    rt: &R,
+    alloc: Global,
+    calendar: &str,
+    certificate: &str,
+    room: &Address,
+) -> u8 {
+    let mut errors = ErrorPrinter { to: rt };
+    let calendar = match read_file(rt, alloc, calendar) {
+        Ok(octets) => octets,
+        Err(fault) => return report_file(&mut errors, fault),
+    };
+    let certificate = match read_file(rt, alloc, certificate) {
+        Ok(octets) => octets,
+        Err(fault) => return report_file(&mut errors, fault),
+    };
+    let mut writer = io::writer(rt);
+    run_check(
+        alloc,
+        calendar.as_slice(),
+        certificate.as_slice(),
+        room,
+        &mut writer,
+        &mut errors,
+    )
+}
+
+fn report_file<E: Write>(errors: &mut E, fault: FileFault) -> u8 {
+    match fault {
+        FileFault::Device => report_device(errors),
+        FileFault::TooLong => report_too_long(errors),
+        FileFault::Memory => report_memory(errors),
+    }
+}
+
+/// The octets of a file.
+fn read_file<R: Runtime + AllocGlobal>(
+    rt: &R,
+    alloc: Global,
+    path: &str,
+) -> Result<Vec<u8>, FileFault> {
+    let Ok(file) = File::open(rt, path) else {
+        return Err(FileFault::Device);
+    };
+    let mut octets = Vec::new(alloc);
+    if let Err(error) = file.take(MOST_OCTETS + 1).read_to_end(&mut octets) {
+        return Err(match error.kind() {
+            ErrorKind::OutOfMemory => FileFault::Memory,
+            _ => FileFault::Device,
+        });
+    }
+    if octets.len() as u64 > MOST_OCTETS {
+        return Err(FileFault::TooLong);
+    }
+    Ok(octets)
+}

@@ -1,4 +1,0 @@
-//! The program `roombox`.
-#![tactic(auto)]
-
-fn main() {}
