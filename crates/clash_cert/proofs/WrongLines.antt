@@ -1,7 +1,7 @@
 -- Which line is the first wrong one.
 use Rattle.std.proofs.Common.{◌≡◌, ◌≢◌, ℕ, zero, suc, ◌+◌, ◌-◌, ◌^◌, ◌<◌, ◌≤◌, ◌==◌, Bool, true, false, List, [], ◌∷◌, ◌++◌, length, get_or, take, drop, subst, sym, refl, ap, ◌∙◌, arith}
 use Rattle.std.specs.Prelude.{codes, decimal}
-use Rattle.std.proofs.lemmas.Bool.{true≢false}
+use Rattle.std.proofs.lemmas.Bool.{true≢false, eqb-true}
 use Rattle.std.proofs.lemmas.List.{length-take-le}
 use Rattle.profile.specs.Certificates.{Claims, IsClaims, lines_of, spelled, text_of, Spells, BeginsWell, FirstWrong}
 use Rattle.clash_cert.specs.Texts.{LacksLine, LacksCount}
@@ -15,8 +15,8 @@ begins_next text c n r h w e b =
     let here : length (take n (lines_of c)) ≡ n = length-take-le n (lines_of c) w' in
     let there : length (take n (lines_of b.c)) ≡ n = length-take-le n (lines_of b.c) w' in
     one_rest (take n (lines_of c)) (take n (lines_of b.c)) r (get_or (lines_of b.c) n [] ++ 10 ∷ b.rest)
-      (AreLines-take n (lines_of c) (lines_are c h)) (AreLines-take n (lines_of b.c) (lines_are b.c b.claims)) (here ∙ sym there)
-      (sym e ∙ b.is ∙ spelled-take_suc n (lines_of b.c) b.rest w)
+    (AreLines-take n (lines_of c) (lines_are c h)) (AreLines-take n (lines_of b.c) (lines_are b.c b.claims)) (here ∙ sym there)
+    (sym e ∙ b.is ∙ spelled-take_suc n (lines_of b.c) b.rest w)
 
 whole_begins : (text : List ℕ) (c : Claims) (n : ℕ) → n ≤ 4 → Spells text c → BeginsWell text n
 whole_begins text c n w s = record {
@@ -94,7 +94,7 @@ spells text r s t u n e f g i none = record {
 -- what `is_empty` tells
 pub empty_from : (u : List ℕ) (b : Bool) → b ≡ (length u == 0) → b ≡ true → u ≡ []
 empty_from [] b e h = refl
-empty_from (c ∷ u) b e h = absurd (true≢false (sym h ∙ e))
+empty_from (c ∷ u) b e h = let n : length (c ∷ u) ≡ 0 = eqb-true _ _ (sym e ∙ h) in absurd (omega (arith, n))
 
 pub some_from : (u : List ℕ) (b : Bool) → b ≡ (length u == 0) → b ≡ false → u ≢ []
 some_from u b e h f = true≢false (ap (λ (l : List ℕ). length l == 0) (sym f) ∙ sym e ∙ h)

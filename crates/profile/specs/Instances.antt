@@ -1,5 +1,8 @@
 -- Instances, clash and clear. Seconds are whole numbers from 1970-01-01T00:00:00Z.
 use Rattle.std.specs.Prelude.{ℕ, ℤ, pos, List, ◌≡◌, ◌≢◌, ◌≤ℤ◌, ◌<ℤ◌, Contains}
+use Rattle.std.specs.Ordering.{ordering_then, nat_cmp, int_cmp}
+use Rattle.std.specs.Cmp.Lexicographic.{slice_cmp}
+use Rattle.std.specs.declared.cmp.Ordering.{Ordering}
 
 -- which instance: its meeting's organiser and UID as octets, and its original start (RFC 5545 3.8.4.3, 3.8.4.7, 3.8.4.4)
 pub record Key : Type 0 where
@@ -33,3 +36,11 @@ pub record IsClash (all : List Booked) (a b : Booked) (t : ℤ) : Type 0 where
 -- there is no clash
 abbrev pub IsClear : List Booked → Type 0
 IsClear all = (a b : Booked) (t : ℤ) → IsClash all a b t → ⊥
+
+-- keys by organiser and UID as octets, and then by slot
+abbrev pub key_cmp : Key → Key → Ordering
+key_cmp a b = ordering_then (slice_cmp nat_cmp a.organiser b.organiser) (ordering_then (slice_cmp nat_cmp a.uid b.uid) (int_cmp a.slot b.slot))
+
+-- instances by start, and then by key: the lesser of a clash is named first
+abbrev pub booked_cmp : Booked → Booked → Ordering
+booked_cmp a b = ordering_then (int_cmp a.start b.start) (key_cmp a.key b.key)

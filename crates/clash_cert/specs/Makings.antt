@@ -1,0 +1,50 @@
+-- What making gives, and which clash a `Clash` names.
+use Rattle.std.specs.Prelude.{ℕ, ℤ, List, MatchBool, ◌≡◌, ◌≤ℤ◌, slice_index_or}
+use Rattle.std.specs.Ordering.{is_lt}
+use Rattle.std.specs.declared.cmp.Ordering.TheVariants.{Less}
+use Rattle.profile.specs.Instances.{Key, Booked, IsClash, booked_cmp}
+use Rattle.profile.specs.Certificates.{text_of, CertificateStands}
+use Rattle.cal_events.specs.declared.sweep.Overlap.{Overlap}
+use Rattle.clash_cert.specs.declared.making.OwnedKey.{OwnedKey}
+use Rattle.clash_cert.specs.declared.making.Clash.{Clash}
+use Rattle.clash_cert.specs.declared.making.Made.{Made}
+use Rattle.clash_cert.specs.declared.making.Made.TheVariants as made
+
+-- the key that owns its texts
+abbrev pub key_of : OwnedKey → Key
+key_of k = record { organiser = k.organiser; uid = k.uid; slot = k.slot }
+
+-- it has the keys of these instances, and this instant
+pub record HasKeys (a b : Booked) (t : ℤ) (clash : Clash) : Type 0 where
+  pub first : key_of clash.first ≡ a.key
+  pub second : key_of clash.second ≡ b.key
+  pub instant : clash.instant ≡ t
+
+-- two of these instances have its keys, and clash in its instant
+pub record IsClashIn (all : List Booked) (clash : Clash) : Type 0 where
+  pub a : Booked
+  pub b : Booked
+  pub keys : HasKeys a b clash.instant clash
+  pub is : IsClash all a b clash.instant
+
+-- and it names them as a reply does: the lesser by start, organiser, UID and slot first, and the later start
+pub record IsNamedClash (all : List Booked) (clash : Clash) : Type 0 where
+  pub a : Booked
+  pub b : Booked
+  pub keys : HasKeys a b clash.instant clash
+  pub is : IsClash all a b clash.instant
+  pub less : booked_cmp a b ≡ Less
+  pub later : clash.instant ≡ b.start
+
+-- a certificate that stands where no two instances clash, else a clash of two
+abbrev pub IsMadeFor : List Booked → Made → Type 0
+IsMadeFor all (made.Clear c) = CertificateStands all (text_of c)
+IsMadeFor all (made.Clash clash) = IsNamedClash all clash
+
+-- it names the two, the lesser first
+abbrev pub AreNamed : Booked → Booked → ℤ → Clash → Type 0
+AreNamed a b t clash = MatchBool (is_lt (booked_cmp b a)) (HasKeys b a t clash) (HasKeys a b t clash)
+
+-- the same of the instances at two places
+abbrev pub AreNamedAt : List Booked → Overlap → Clash → Type 0
+AreNamedAt all o clash = (a b : Booked) → slice_index_or all o.first a ≡ a → slice_index_or all o.second b ≡ b → AreNamed a b o.instant clash
