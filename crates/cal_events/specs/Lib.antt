@@ -1,3 +1,4 @@
 pub mod Calendars
 pub mod Clashes
 pub mod Sweep
+pub mod Events

@@ -1,5 +1,8 @@
 //! The lines of one VEVENT by their property names (RFC 5545 3.6.1, 3.8), and what isn't read yet.
-ghost use Rattle.std.specs.Prelude.{◌≡◌, IfErr};
+ghost use Rattle.std.specs.Prelude.{◌≡◌, option_map, IfOk, IfErr};
+ghost use Rattle.ical_lines.specs.Text.{line_text};
+ghost use Rattle.ical_tree.specs.Tree.{component_lines};
+ghost use Rattle.profile.specs.Events.{lines_named, has_unread, is_unread_line, is_recurrence, is_end_of_event, StandsAtMostOnce, StandsTwice};
 
 use ical_lines::{Line, Refusal};
 use ical_tree::Component;
@@ -7,7 +10,9 @@ use ical_tree::Component;
 /// The line of a property that may stand once, None where there is none. Names are compared caseless.
 /// Refused: 61 where it stands twice.
 pub fn optional<'a>(component: &'a Component, name: &str) -> Result<Option<Line<'a>>, Refusal>
+    ensures found { IfOk result (λ line. StandsAtMostOnce name.now (component_lines component.now) (option_map line_text line)) }
     ensures refuses { IfErr result (λ e. e.number ≡ 61) }
+    ensures twice { IfErr result (λ _. StandsTwice name.now (component_lines component.now)) }
 {
     let mut found = None;
     for line in component.lines() {
@@ -30,7 +35,9 @@ pub fn required<'a>(component: &'a Component, name: &str) -> Result<Line<'a>, Re
 }
 
 /// Whether a component has a line that roombox doesn't read yet.
-pub fn has_unread(component: &Component) -> bool {
+pub fn has_unread_line(component: &Component) -> bool
+    ensures { result ≡ has_unread (component_lines component.now) }
+{
     for line in component.lines() {
         if is_unread(line) {
             return true;
@@ -41,14 +48,18 @@ pub fn has_unread(component: &Component) -> bool {
 
 /// Whether a line isn't read yet: one of a recurrence, a cancelled status, a UID with a backslash, or a start or an
 /// end in a zone.
-fn is_unread(line: Line<'_>) -> bool {
-    is_recurrence(line)
+fn is_unread(line: Line<'_>) -> bool
+    ensures { result ≡ is_unread_line (line_text line.entry) }
+{
+    is_recurrence_line(line)
         || (line.is_named("STATUS") && line.value().eq_ignore_ascii_case("CANCELLED"))
         || (line.is_named("UID") && line.value().as_bytes().contains(&b'\\'))
-        || (is_end_of_event(line) && line.param("TZID").is_some())
+        || (is_end_line(line) && line.param("TZID").is_some())
 }
 
-fn is_recurrence(line: Line<'_>) -> bool {
+fn is_recurrence_line(line: Line<'_>) -> bool
+    ensures { result ≡ is_recurrence (line_text line.entry) }
+{
     line.is_named("RRULE")
         || line.is_named("RDATE")
         || line.is_named("EXDATE")
@@ -56,6 +67,8 @@ fn is_recurrence(line: Line<'_>) -> bool {
 }
 
 /// Whether a line says when an event starts or ends.
-fn is_end_of_event(line: Line<'_>) -> bool {
+fn is_end_line(line: Line<'_>) -> bool
+    ensures { result ≡ is_end_of_event (line_text line.entry) }
+{
     line.is_named("DTSTART") || line.is_named("DTEND")
 }

@@ -6,7 +6,7 @@ ghost use Rattle.profile.specs.Faults.{is_calendar_fault, is_unread};
 use crate::calendar::{Calendar, Entry};
 use crate::component::{EventComponent, ParticipationStatus, Purpose};
 use crate::instance::Booking;
-use crate::properties::has_unread;
+use crate::properties::has_unread_line;
 use ical_lines::{Fault, Limits, Refusal};
 use ical_tree::{Component, read_object};
 use ical_values::Address;
@@ -39,7 +39,7 @@ pub fn refuse_unread_events(object: &Component) -> Result<(), Refusal>
     ensures refuses { IfErr result (λ e. IsTrue (is_unread e.number)) }
 {
     for component in object.children() {
-        if component.is_named("VEVENT") && has_unread(component) {
+        if component.is_named("VEVENT") && has_unread_line(component) {
             return Err(Refusal::NOT_YET);
         }
     }

@@ -1,6 +1,6 @@
 //! Writing an object: BEGIN, the component's own lines, the components inside, END, each line folded.
 
-ghost use Rattle.std.specs.Prelude.{◌≡◌, OnErr};
+ghost use Rattle.std.specs.Prelude.{◌≡◌, take, length, OnErr};
 
 use crate::component::Component;
 use ical_lines::{write_line, write_property};
@@ -20,8 +20,10 @@ pub fn write_object(component: &Component, out: &mut Vec<u8>) -> Result<(), Allo
     }
 }
 
-/// Appends a component's lines.
-fn write_component(component: &Component, out: &mut Vec<u8>) -> Result<(), AllocError> {
+/// Appends a component's lines. On an error some of them may have been appended.
+fn write_component(component: &Component, out: &mut Vec<u8>) -> Result<(), AllocError>
+    ensures keeps { take (length out.old.items) out.new.items ≡ out.old.items }
+{
     write_property(out, "BEGIN", component.name())?;
     write_lines(component, out)?;
     for child in component.children() {
@@ -30,8 +32,10 @@ fn write_component(component: &Component, out: &mut Vec<u8>) -> Result<(), Alloc
     write_property(out, "END", component.name())
 }
 
-/// Appends a component's own lines.
-fn write_lines(component: &Component, out: &mut Vec<u8>) -> Result<(), AllocError> {
+/// Appends a component's own lines. On an error some of them may have been appended.
+fn write_lines(component: &Component, out: &mut Vec<u8>) -> Result<(), AllocError>
+    ensures keeps { take (length out.old.items) out.new.items ≡ out.old.items }
+{
     for line in component.lines() {
         write_line(out, line.text())?;
     }

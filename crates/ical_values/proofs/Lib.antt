@@ -1,2 +1,5 @@
 pub mod Pairs
 pub mod Spelled
+pub mod Escapes
+pub mod Addresses
+pub mod Offsets

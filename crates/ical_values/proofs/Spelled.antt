@@ -1,8 +1,19 @@
 -- Lists of a few octets, digits, dates and clocks as they are spelled.
 use Rattle.std.proofs.Common.{to_z, of_z, w32, w64, ◌≡◌, ◌∙◌, ◌↔◌, ℕ, zero, suc, ◌+◌, ◌-◌, ◌*◌, ◌/◌, ◌%◌, ◌<◌, ◌≤◌, min, List, [], ◌∷◌, ◌++◌, length, get_or, take, drop, codes, refl, sym, ap, subst, arith, ℤ, pos, negsuc, unsigned_abs, ◌+ℤ◌, ◌*ℤ◌, ◌≤ℤ◌}
 use Rattle.std.proofs.lemmas.Int.{ints}
+use Rattle.std.proofs.lemmas.List.{append-nil}
+use Rattle.std.proofs.Common.{append_assoc}
 use Rattle.profile.specs.Days.{IsDate, IsDayDate, days_in_month, number_of_date, number_of_day}
 use Rattle.profile.specs.Values.{two_digits, four_digits, SpellsDate, SpellsTime, SpellsClock}
+
+-- a list of 4 by its elements
+pub list_of_4 : (s : List ℕ) → length s ≡ 4 → s ≡ get_or s 0 0 ∷ get_or s 1 0 ∷ get_or s 2 0 ∷ get_or s 3 0 ∷ []
+list_of_4 [] h = absurd (omega arith)
+list_of_4 (x0 ∷ []) h = absurd (omega arith)
+list_of_4 (x0 ∷ x1 ∷ []) h = absurd (omega arith)
+list_of_4 (x0 ∷ x1 ∷ x2 ∷ []) h = absurd (omega arith)
+list_of_4 (x0 ∷ x1 ∷ x2 ∷ x3 ∷ []) h = refl
+list_of_4 (x0 ∷ x1 ∷ x2 ∷ x3 ∷ x4 ∷ xs) h = absurd (omega arith)
 
 -- a list of 6 by its elements
 pub list_of_6 : (s : List ℕ) → length s ≡ 6 → s ≡ get_or s 0 0 ∷ get_or s 1 0 ∷ get_or s 2 0 ∷ get_or s 3 0 ∷ get_or s 4 0 ∷ get_or s 5 0 ∷ []
@@ -144,3 +155,13 @@ same_64 z low high = omega (arith, ints)
 pub clock_sum : (day : ℤ) (second : ℕ) → negsuc 719_161 ≤ℤ day → day ≤ℤ pos 2_932_896 → second < 86_400 → to_z w64 (of_z w64 (to_z w64 (of_z w64 (to_z w64 (of_z w64 day) *ℤ pos 86_400)) +ℤ to_z w64 second)) ≡ (day *ℤ pos 86_400) +ℤ pos second
 clock_sum day second low high h =
     rw (small_64 second h) (omega (arith, ints))
+
+-- a clock as it is appended in pieces
+pub clock_pieces : (limit : ℕ) (date time zone : List ℕ) (number seconds : ℤ) (second : ℕ) → SpellsDate date number → SpellsTime limit time second → seconds ≡ (number *ℤ pos 86_400) +ℤ pos second → (clock : List ℕ) × SpellsClock limit clock seconds × (date ++ 84 ∷ (time ++ (zone ++ [])) ≡ clock ++ zone)
+clock_pieces limit date time zone number seconds second on at_second e =
+    (date ++ codes "T" ++ time,
+    record { date = date; time = time; number = number; second = second; on = on; at_second = at_second; spelled = refl; counted = e },
+    simp (append-nil, append_assoc) refl)
+
+pub time_length : (limit : ℕ) (text : List ℕ) (total : ℕ) → SpellsTime limit text total → length text ≡ 6
+time_length limit text total s = ap length s.spelled

@@ -1,6 +1,16 @@
 //! Calendar addresses (RFC 5545 3.3.3): a URI's scheme, `:`, and at least one octet more. Kept in ASCII
 //! lower case, by which they are compared and written.
 
+ghost use Rattle.std.specs.Prelude.{◌≡◌, ◌++◌, true, map, string_bytes, IfOk, IfErr, OnOk, OnErr};
+ghost use Rattle.std.specs.List.{list_all};
+ghost use Rattle.std.specs.Char.{to_ascii_lowercase};
+ghost use Rattle.std.specs.Str.{chars, encode_utf8_all};
+ghost use Rattle.profile.specs.Faults.{is_address_fault};
+ghost use Rattle.profile.specs.Values.{IsAddress, lower_case, is_scheme, is_scheme_octet, is_path, is_path_octet};
+ghost use Rattle.ical_lines.specs.Fault.{RefusesOnly};
+ghost use Rattle.ical_values.specs.Octets.{address_octets};
+ghost use Rattle.ical_values.specs.Refused.{IfRefused};
+
 use crate::append::append_all;
 use ical_lines::{Fault, Refusal};
 use std::alloc::{AllocError, Global};
@@ -18,8 +28,13 @@ impl Address {
     /// Reads an address: a scheme (a letter, then letters, digits, `+`, `-` and `.`), `:`, and at least
     /// one octet that is no control octet and no space. Anything else, and more than 1,024 octets, is
     /// refused as a bad address (15).
-    pub fn read(alloc: Global, text: &str) -> Result<Address, Fault> {
-        if !is_address(text.as_bytes()) {
+    pub fn read(alloc: Global, text: &str) -> Result<Address, Fault>
+        ensures reads { IfOk result (λ a. address_octets a ≡ lower_case text.now) }
+        ensures address { OnOk result (IsAddress text.now) }
+        ensures refuses { IfErr result (RefusesOnly is_address_fault) }
+        ensures none { IfErr result (IfRefused (¬ (IsAddress text.now))) }
+    {
+        if !is_address(text) {
             return Err(Fault::Refused(Refusal::BAD_ADDRESS));
         }
         Ok(Address {
@@ -35,55 +50,85 @@ impl Address {
     }
 
     /// The address in ASCII lower case.
-    pub fn as_str(&self) -> &str {
+    pub fn as_str(&self) -> &str
+        ensures { result.now ≡ address_octets self.now }
+    {
         self.octets.as_str()
     }
 
     /// Appends the address in ASCII lower case. Without memory nothing is appended.
-    pub fn write(&self, out: &mut Vec<u8>) -> Result<(), AllocError> {
+    pub fn write(&self, out: &mut Vec<u8>) -> Result<(), AllocError>
+        ensures ok { OnOk result (out.new.items ≡ out.old.items ++ address_octets self.now) }
+        ensures err { OnErr result (out.new.items ≡ out.old.items) }
+    {
         append_all(out, &[self.octets.as_bytes()])
     }
 }
 
-/// Whether the octets are an address.
-fn is_address(octets: &[u8]) -> bool {
-    if octets.len() > LIMIT {
+/// Whether the text is an address.
+fn is_address(text: &str) -> bool
+    ensures sound { result ≡ true → IsAddress text.now }
+    ensures complete { IsAddress text.now → result ≡ true }
+{
+    if text.len() > LIMIT {
         return false;
     }
-    let Some(colon) = octets.iter().position(|octet| *octet == b':') else {
+    let Some((scheme, path)) = text.split_once(':') else {
         return false;
     };
-    is_scheme(&octets[..colon]) && is_path(&octets[colon + 1..])
+    is_scheme(scheme.as_bytes()) && is_path(path.as_bytes())
 }
 
 /// Whether the octets are a scheme: a letter, then letters, digits, `+`, `-` and `.`.
-fn is_scheme(octets: &[u8]) -> bool {
+fn is_scheme(octets: &[u8]) -> bool
+    ensures { result ≡ is_scheme octets.now }
+{
     let [first, rest @ ..] = octets else {
         return false;
     };
-    first.is_ascii_alphabetic() && rest.iter().all(|octet| is_scheme_octet(*octet))
+    first.is_ascii_alphabetic() && all_scheme_octets(rest)
+}
+
+/// Whether all octets may stand in a scheme after its first letter.
+fn all_scheme_octets(octets: &[u8]) -> bool
+    ensures { result ≡ list_all is_scheme_octet octets.now }
+{
+    octets.iter().all(|octet| is_scheme_octet(*octet))
 }
 
 /// Whether the octet may stand in a scheme after its first letter.
-fn is_scheme_octet(octet: u8) -> bool {
+fn is_scheme_octet(octet: u8) -> bool
+    ensures { result ≡ is_scheme_octet octet }
+{
     octet.is_ascii_alphanumeric() || octet == b'+' || octet == b'-' || octet == b'.'
 }
 
 /// Whether the octets may follow the scheme: at least one, no control octet and no space.
-fn is_path(octets: &[u8]) -> bool {
-    !octets.is_empty() && octets.iter().all(|octet| is_path_octet(*octet))
+fn is_path(octets: &[u8]) -> bool
+    ensures { result ≡ is_path octets.now }
+{
+    !octets.is_empty() && all_path_octets(octets)
+}
+
+/// Whether no octet is a control octet or a space.
+fn all_path_octets(octets: &[u8]) -> bool
+    ensures { result ≡ list_all is_path_octet octets.now }
+{
+    octets.iter().all(|octet| is_path_octet(*octet))
 }
 
 /// Whether the octet is no control octet and no space.
-fn is_path_octet(octet: u8) -> bool {
+fn is_path_octet(octet: u8) -> bool
+    ensures { result ≡ is_path_octet octet }
+{
     octet > b' ' && octet != 0x7f
 }
 
 /// The text in ASCII lower case.
-fn lower(alloc: Global, text: &str) -> Result<String, AllocError> {
-    let mut out = String::new(alloc);
-    for letter in text.chars() {
-        out.push(letter.to_ascii_lowercase())?;
-    }
-    Ok(out)
+fn lower(alloc: Global, text: &str) -> Result<String, AllocError>
+    ensures { IfOk result (λ s. string_bytes s ≡ encode_utf8_all (map to_ascii_lowercase (chars text.now))) }
+{
+    text.chars()
+        .map(|letter| letter.to_ascii_lowercase())
+        .collect(alloc)
 }

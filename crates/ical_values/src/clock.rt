@@ -1,7 +1,7 @@
 //! A date and a time of day as `YYYYMMDDTHHMMSS` (RFC 5545 3.3.5), kept as seconds from
 //! 1970-01-01T00:00:00. Years are 0001 to 9999. Second 60 is read as 59.
 
-ghost use Rattle.std.specs.Prelude.{◌≡◌, ◌++◌, ◌<◌, ◌≤ℤ◌, ℕ, ℤ, List, pos, negsuc, IfSome, IfNone, OnOk, OnErr};
+ghost use Rattle.std.specs.Prelude.{◌≡◌, ◌++◌, ◌<◌, ◌≤◌, ◌≤ℤ◌, ◌+ℤ◌, ◌*ℤ◌, ℕ, ℤ, List, pos, negsuc, IfSome, IfNone, OnOk, OnErr};
 ghost use Rattle.profile.specs.Values.{SpellsDate, SpellsTime, SpellsClock, IsClockSeconds};
 ghost use Rattle.ical_values.specs.Written.{Appends};
 
@@ -15,6 +15,9 @@ pub const DAY: i64 = 86_400;
 
 /// Seconds of 0001-01-01T00:00:00.
 pub const FIRST: i64 = -62_135_596_800;
+
+/// Days from 0001-01-01 to 1970-01-01.
+const FIRST_DAY: i64 = 719_162;
 
 /// Seconds of 9999-12-31T23:59:59.
 pub const LAST: i64 = 253_402_300_799;
@@ -31,7 +34,7 @@ pub fn read(text: &[u8]) -> Option<i64>
     let Some(day) = read_date(&text[..8]) else {
         return None;
     };
-    let Some(second) = read_time(&text[9..]) else {
+    let Some(second) = read_time(&text[9..], 60) else {
         return None;
     };
     Some(day * DAY + second as i64)
@@ -62,11 +65,13 @@ fn read_date(text: &[u8]) -> Option<i64>
     }
 }
 
-/// The second of the day of `HHMMSS`.
-fn read_time(text: &[u8]) -> Option<u32>
-    ensures found { IfSome result (SpellsTime 60 text.now) }
+/// The second of the day of `HHMMSS`, where second 60 stands for 59. `limit` is the greatest second that
+/// may stand, 59 or 60.
+pub fn read_time(text: &[u8], limit: u8) -> Option<u32>
+    requires { limit ≤ 60 }
+    ensures found { IfSome result (SpellsTime limit text.now) }
     ensures range { IfSome result (λ n. n < 86_400) }
-    ensures none { IfNone result ((total : ℕ) → SpellsTime 60 text.now total → ⊥) }
+    ensures none { IfNone result ((total : ℕ) → SpellsTime limit text.now total → ⊥) }
 {
     let [h1, h2, m1, m2, s1, s2] = text else {
         return None;
@@ -80,7 +85,7 @@ fn read_time(text: &[u8]) -> Option<u32>
     let Some(second) = digits::read_two(*s1, *s2) else {
         return None;
     };
-    if hour > 23 || minute > 59 || second > 60 {
+    if hour > 23 || minute > 59 || second > limit {
         return None;
     }
     Some(hour as u32 * 3600 + minute as u32 * 60 + second.min(59) as u32)
@@ -94,9 +99,23 @@ pub fn write(seconds: i64, zone: &[u8], out: &mut Vec<u8>) -> Result<(), AllocEr
             (λ text. (clock : List ℕ) × SpellsClock 59 clock seconds × (text ≡ clock ++ zone.now))) }
     ensures err { OnErr result (out.new.items ≡ out.old.items) }
 {
-    let date = date_text(seconds.div_euclid(DAY));
-    let time = time_text(seconds.rem_euclid(DAY) as u32);
+    let (day, second) = split(seconds);
+    let date = date_text(day);
+    let time = time_text(second);
     append_all(out, &[&date, b"T", &time, zone])
+}
+
+/// The day number and the second of that day.
+fn split(seconds: i64) -> (i64, u32)
+    requires { IsClockSeconds seconds }
+    ensures low { negsuc 719_161 ≤ℤ result.0 }
+    ensures high { result.0 ≤ℤ pos 2_932_896 }
+    ensures second { result.1 < 86_400 }
+    ensures sum { seconds ≡ (result.0 *ℤ pos 86_400) +ℤ pos result.1 }
+{
+    let since = (seconds - FIRST) as u64;
+    let day = (since / 86_400) as i64;
+    (day - FIRST_DAY, (since % 86_400) as u32)
 }
 
 /// The digits `YYYYMMDD` of a day number of the years 0001 to 9999.
@@ -115,7 +134,7 @@ fn date_text(number: i64) -> [u8; 8]
 }
 
 /// The digits `HHMMSS` of a second of the day.
-fn time_text(second: u32) -> [u8; 6]
+pub fn time_text(second: u32) -> [u8; 6]
     requires { second < 86_400 }
     ensures { SpellsTime 59 result second }
 {

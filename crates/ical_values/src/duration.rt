@@ -1,6 +1,9 @@
 //! Durations (RFC 5545 3.3.6): weeks, or days with hours, minutes and seconds. Weeks and days are
 //! nominal; the rest is exact. Negative ones and counts past 32 bits aren't kept.
 
+ghost use Rattle.std.specs.Prelude.{◌≡◌, ◌++◌, ◌⊎◌, IfErr, OnOk, OnErr};
+ghost use Rattle.profile.specs.Values.{duration_text};
+
 use crate::append::append_all;
 use ical_lines::Refusal;
 use itoa::Buffer;
@@ -24,7 +27,9 @@ impl Duration {
     /// Reads `P`, and weeks, or days with hours, minutes and seconds in this order. Each may be missing,
     /// and at least one follows `T`. A `+` may stand in front. Refused are a text that is none (12), and
     /// one with a minus sign or with a count of days or seconds past u32 (51).
-    pub fn read(text: &str) -> Result<Duration, Refusal> {
+    pub fn read(text: &str) -> Result<Duration, Refusal>
+        ensures { IfErr result (λ e. (e.number ≡ 12) ⊎ (e.number ≡ 51)) }
+    {
         match text.as_bytes() {
             [b'+', rest @ ..] => fit(read_counts(rest)),
             [b'-', rest @ ..] => match read_counts(rest) {
@@ -36,7 +41,10 @@ impl Duration {
     }
 
     /// Appends `PnD`, `PnDTnS` or `PTnS`; nothing at all is `PT0S`. Without memory nothing is appended.
-    pub fn write(self, out: &mut Vec<u8>) -> Result<(), AllocError> {
+    pub fn write(self, out: &mut Vec<u8>) -> Result<(), AllocError>
+        ensures ok { OnOk result (out.new.items ≡ out.old.items ++ duration_text self.days self.seconds) }
+        ensures err { OnErr result (out.new.items ≡ out.old.items) }
+    {
         let mut days_buffer = Buffer::new();
         let mut seconds_buffer = Buffer::new();
         let days = days_buffer.format(self.days).as_bytes();
@@ -50,7 +58,9 @@ impl Duration {
 }
 
 /// The duration of those counts, where there are any and both fit.
-fn fit(counts: Option<Counts>) -> Result<Duration, Refusal> {
+fn fit(counts: Option<Counts>) -> Result<Duration, Refusal>
+    ensures { IfErr result (λ e. (e.number ≡ 12) ⊎ (e.number ≡ 51)) }
+{
     let Some(counts) = counts else {
         return Err(Refusal::BAD_DURATION);
     };

@@ -1,8 +1,12 @@
 //! UTC offsets (RFC 5545 3.3.14): `+hhmm`, `-hhmm`, or with seconds. Hours go to 23. `-0000` and
 //! `-000000` are none.
 
+ghost use Rattle.std.specs.Prelude.{◌≡◌, ◌<◌, ℕ, ℤ, IfSome, IfNone, IfOk, IfErr, OnOk, OnErr};
+ghost use Rattle.profile.specs.Values.{SpellsOffset, WritesOffset, SpellsSize, IsOffset};
+ghost use Rattle.ical_values.specs.Written.{Appends};
+
 use crate::append::append_all;
-use crate::digits;
+use crate::clock;
 use ical_lines::Refusal;
 use std::alloc::AllocError;
 use std::marker::Model;
@@ -13,10 +17,27 @@ pub struct UtcOffset {
     seconds: i32,
 }
 
+impl Model for UtcOffset {
+    ghost use Rattle.std.specs.Prelude.{ℤ};
+    ghost use Rattle.profile.specs.Values.{IsOffset};
+
+    ghost Value = { ℤ };
+
+    ghost view = { λ s. s.seconds };
+
+    ghost inverse = { λ n. record { seconds = n } };
+
+    ghost invariant = { λ s. IsOffset s.seconds };
+}
+
 impl UtcOffset {
     /// Reads an offset. Anything else is refused as a bad offset (13).
-    pub fn read(text: &str) -> Result<UtcOffset, Refusal> {
-        match read_seconds(text.as_bytes()) {
+    pub fn read(text: &str) -> Result<UtcOffset, Refusal>
+        ensures reads { IfOk result (SpellsOffset text.now) }
+        ensures refuses { IfErr result (λ e. e.number ≡ 13) }
+        ensures none { OnErr result ((offset : ℤ) → SpellsOffset text.now offset → ⊥) }
+    {
+        match read_seconds(text) {
             Some(seconds) => Ok(UtcOffset { seconds }),
             None => Err(Refusal::BAD_OFFSET),
         }
@@ -24,55 +45,59 @@ impl UtcOffset {
 
     /// Appends a sign, two digits of hours, two of minutes, and two of seconds where they aren't 0.
     /// Without memory nothing is appended.
-    pub fn write(self, out: &mut Vec<u8>) -> Result<(), AllocError> {
+    pub fn write(self, out: &mut Vec<u8>) -> Result<(), AllocError>
+        ensures ok { OnOk result (Appends out.old.items out.new.items (λ text. WritesOffset text self)) }
+        ensures err { OnErr result (out.new.items ≡ out.old.items) }
+    {
+        let sign = [if self.seconds < 0 { b'-' } else { b'+' }];
         let size = self.seconds.unsigned_abs();
-        let sign: &[u8] = if self.seconds < 0 { b"-" } else { b"+" };
-        let hours = digits::two((size / 3600) as u8);
-        let minutes = digits::two((size / 60 % 60) as u8);
-        let seconds = digits::two((size % 60) as u8);
+        let time = clock::time_text(size);
         if size % 60 == 0 {
-            append_all(out, &[sign, &hours, &minutes])
+            append_all(out, &[&sign, &time[..4]])
         } else {
-            append_all(out, &[sign, &hours, &minutes, &seconds])
+            append_all(out, &[&sign, &time])
         }
     }
 
     /// Seconds that local time is ahead of UTC, from -86,399 to 86,399.
-    pub fn seconds(self) -> i32 {
+    pub fn seconds(self) -> i32
+        ensures value { result ≡ self }
+        ensures range { IsOffset result }
+    {
         self.seconds
     }
 }
 
 /// The seconds of an offset's text.
-fn read_seconds(text: &[u8]) -> Option<i32> {
-    match text {
-        [b'+', rest @ ..] => Some(read_size(rest)? as i32),
-        [b'-', rest @ ..] => match read_size(rest)? {
-            0 => None,
-            size => Some(-(size as i32)),
-        },
-        _ => None,
+fn read_seconds(text: &str) -> Option<i32>
+    ensures found { IfSome result (SpellsOffset text.now) }
+    ensures range { IfSome result IsOffset }
+    ensures none { IfNone result ((offset : ℤ) → SpellsOffset text.now offset → ⊥) }
+{
+    if let Some(digits) = text.strip_prefix('+') {
+        return match read_size(digits.as_bytes()) {
+            Some(size) => Some(size as i32),
+            None => None,
+        };
     }
-}
-
-/// The seconds of `hhmm` or `hhmmss`.
-fn read_size(text: &[u8]) -> Option<u32> {
-    match text {
-        [h1, h2, m1, m2] => size_of(*h1, *h2, *m1, *m2, 0),
-        [h1, h2, m1, m2, s1, s2] => {
-            let seconds = digits::read_two(*s1, *s2)?;
-            size_of(*h1, *h2, *m1, *m2, seconds)
-        }
-        _ => None,
-    }
-}
-
-/// Hours and minutes by their digits, and seconds.
-fn size_of(h1: u8, h2: u8, m1: u8, m2: u8, seconds: u8) -> Option<u32> {
-    let hours = digits::read_two(h1, h2)?;
-    let minutes = digits::read_two(m1, m2)?;
-    if hours > 23 || minutes > 59 || seconds > 59 {
+    let Some(digits) = text.strip_prefix('-') else {
         return None;
+    };
+    match read_size(digits.as_bytes()) {
+        None => None,
+        Some(0) => None,
+        Some(size) => Some(-(size as i32)),
     }
-    Some(hours as u32 * 3600 + minutes as u32 * 60 + seconds as u32)
+}
+
+/// The seconds of `hhmmss`, or of `hhmm`, which is `hhmm00`.
+fn read_size(digits: &[u8]) -> Option<u32>
+    ensures found { IfSome result (SpellsSize digits.now) }
+    ensures range { IfSome result (λ n. n < 86_400) }
+    ensures none { IfNone result ((size : ℕ) → SpellsSize digits.now size → ⊥) }
+{
+    match digits {
+        [h1, h2, m1, m2] => clock::read_time(&[*h1, *h2, *m1, *m2, b'0', b'0'], 59),
+        _ => clock::read_time(digits, 59),
+    }
 }

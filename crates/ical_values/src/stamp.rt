@@ -36,10 +36,10 @@ impl Stamp {
         ensures refuses { IfErr result (λ e. e.number ≡ 10) }
         ensures none { OnErr result ((instant : ℤ) → SpellsStamp text.now instant → ⊥) }
     {
-        let [local @ .., b'Z'] = text.as_bytes() else {
+        let Some(local) = text.strip_suffix('Z') else {
             return Err(Refusal::BAD_STAMP);
         };
-        match clock::read(local) {
+        match clock::read(local.as_bytes()) {
             Some(instant) => Ok(Stamp { instant }),
             None => Err(Refusal::BAD_STAMP),
         }

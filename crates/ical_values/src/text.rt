@@ -1,6 +1,13 @@
 //! Text (RFC 5545 3.3.11), kept without its escapes. `\\`, `\;`, `\,`, `\n` and `\N` are escapes; a
 //! backslash before anything else, or at the end, stands for itself.
 
+ghost use Rattle.std.specs.Prelude.{◌≡◌, ◌++◌, ◌∷◌, ◌≤◌, length, string_bytes, IfOk, IfErr, OnOk, OnErr};
+ghost use Rattle.profile.specs.Values.{escaped, escaped_octet, unescaped, IsUid};
+ghost use Rattle.ical_lines.specs.Fault.{RefusesOnly};
+ghost use Rattle.ical_values.specs.Octets.{text_octets};
+ghost use Rattle.profile.specs.Faults.{is_uid_fault};
+ghost use Rattle.ical_values.specs.Refused.{IfRefused};
+
 use ical_lines::{Fault, Refusal};
 use std::alloc::{AllocError, Global};
 
@@ -15,7 +22,9 @@ pub struct Text {
 
 impl Text {
     /// Reads a text and its escapes. Any text is one.
-    pub fn read(alloc: Global, text: &str) -> Result<Text, AllocError> {
+    pub fn read(alloc: Global, text: &str) -> Result<Text, AllocError>
+        ensures { IfOk result (λ t. text_octets t ≡ unescaped text.now) }
+    {
         Ok(Text {
             octets: unescape(alloc, text)?,
         })
@@ -23,7 +32,12 @@ impl Text {
 
     /// Reads a UID: a text of 1 to 1,024 octets, counted after the escapes are read. Another is refused
     /// as a bad UID (14).
-    pub fn read_uid(alloc: Global, text: &str) -> Result<Text, Fault> {
+    pub fn read_uid(alloc: Global, text: &str) -> Result<Text, Fault>
+        ensures reads { IfOk result (λ t. text_octets t ≡ unescaped text.now) }
+        ensures uid { OnOk result (IsUid (unescaped text.now)) }
+        ensures refuses { IfErr result (RefusesOnly is_uid_fault) }
+        ensures none { IfErr result (IfRefused (¬ (IsUid (unescaped text.now)))) }
+    {
         let octets = unescape(alloc, text)?;
         if octets.is_empty() || octets.len() > UID_LIMIT {
             return Err(Fault::Refused(Refusal::BAD_UID));
@@ -32,20 +46,27 @@ impl Text {
     }
 
     /// The text of those octets as they are: nothing is an escape.
-    pub fn of(alloc: Global, octets: &str) -> Result<Text, AllocError> {
+    pub fn of(alloc: Global, octets: &str) -> Result<Text, AllocError>
+        ensures { IfOk result (λ t. text_octets t ≡ octets.now) }
+    {
         Ok(Text {
             octets: String::from_str(alloc, octets)?,
         })
     }
 
     /// The octets, without escapes.
-    pub fn as_str(&self) -> &str {
+    pub fn as_str(&self) -> &str
+        ensures { result.now ≡ text_octets self.now }
+    {
         self.octets.as_str()
     }
 
     /// Appends the text with backslash, semicolon, comma and LF escaped. Without memory nothing is
     /// appended.
-    pub fn write(&self, out: &mut Vec<u8>) -> Result<(), AllocError> {
+    pub fn write(&self, out: &mut Vec<u8>) -> Result<(), AllocError>
+        ensures ok { OnOk result (out.new.items ≡ out.old.items ++ escaped (text_octets self.now)) }
+        ensures err { OnErr result (out.new.items ≡ out.old.items) }
+    {
         let start = out.len();
         for octet in self.octets.as_bytes() {
             if push_escaped(out, *octet).is_err() {
@@ -58,7 +79,10 @@ impl Text {
 }
 
 /// Appends one octet, escaped where it has to be.
-fn push_escaped(out: &mut Vec<u8>, octet: u8) -> Result<(), AllocError> {
+fn push_escaped(out: &mut Vec<u8>, octet: u8) -> Result<(), AllocError>
+    ensures ok { OnOk result (out.new.items ≡ out.old.items ++ escaped_octet octet) }
+    ensures err { OnErr result (out.new.items ≡ out.old.items) }
+{
     match octet {
         b'\n' => out.extend_from_slice(b"\\n"),
         b'\\' | b';' | b',' => out.extend_from_slice(&[b'\\', octet]),
@@ -67,7 +91,9 @@ fn push_escaped(out: &mut Vec<u8>, octet: u8) -> Result<(), AllocError> {
 }
 
 /// The text without its escapes.
-fn unescape(alloc: Global, text: &str) -> Result<String, AllocError> {
+fn unescape(alloc: Global, text: &str) -> Result<String, AllocError>
+    ensures { IfOk result (λ s. string_bytes s ≡ unescaped text.now) }
+{
     let mut out = String::new(alloc);
     let mut rest = text;
     while let Some((front, after)) = rest.split_once('\\') {
@@ -81,7 +107,10 @@ fn unescape(alloc: Global, text: &str) -> Result<String, AllocError> {
 }
 
 /// What a backslash before this text stands for, and the text that is left to be read.
-fn escape_at(after: &str) -> (&str, &str) {
+fn escape_at(after: &str) -> (&str, &str)
+    ensures meaning { result.0.now ++ unescaped result.1.now ≡ unescaped (92 ∷ after.now) }
+    ensures shorter { length result.1.now ≤ length after.now }
+{
     if let Some(rest) = after.strip_prefix('\\') {
         return ("\\", rest);
     }

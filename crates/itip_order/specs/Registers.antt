@@ -1,20 +1,20 @@
 -- What a list of registers, one for each slot, stands for.
-use Rattle.std.specs.Prelude.{◌≡◌, ℕ, Bool, true, ◌&&◌, ◌||◌, List, [], ◌∷◌, ◌++◌, IsTrue, ¬◌, ◌↔◌, Contains, filter}
-use Rattle.std.specs.List.{list_all}
-use Rattle.std.specs.Ordering.{is_lt}
-use Rattle.profile.specs.Revisions.{Part, place_cmp, is_greatest, in_view, allows}
-use Rattle.itip_order.specs.declared.held.Freshness.{Freshness}
-use Rattle.itip_order.specs.declared.held.Freshness.TheVariants.{Fresh, Same, Stale}
+use Rattle.std.specs.Prelude.{◌≡◌, ℕ, ◌<◌, ◌≤◌, Bool, true, ◌&&◌, List, [], ◌∷◌, ◌++◌, length, take, drop, slice_index_or, IsTrue, ◌↔◌, Contains, filter}
+use Rattle.std.specs.declared.cmp.Ordering.TheVariants.{Equal}
+use Rattle.std.specs.List.{list_all, list_any}
+use Rattle.std.specs.Ordering.{is_lt, is_gt}
+use Rattle.profile.specs.Revisions.{Slot, Part, place_cmp, same_place, is_greatest, in_view, allows}
 
 -- each part's place is below those of all later ones: by organiser, UID, slot
 abbrev pub is_ascending : List Part → Bool
 is_ascending [] = true
 is_ascending (part ∷ parts) = list_all (λ later. is_lt (place_cmp part later)) parts && is_ascending parts
 
--- the registers are, in the order of their places, the greatest part of each slot ever taken
+-- the registers hold the greatest part of each slot ever taken, one for each slot, by their places
 pub record StandsFor (registers history : List Part) : Type 0 where
   pub ascending : IsTrue (is_ascending registers)
-  pub greatest : (part : Part) → Contains registers part ↔ IsTrue (is_greatest history part)
+  pub greatest : IsTrue (list_all (is_greatest history) registers)
+  pub covered : IsTrue (list_all (λ part. list_any (λ register. same_place register part) registers) history)
 
 -- these are the parts in the view of the history, in the order of their places
 pub record IsView (parts history : List Part) : Type 0 where
@@ -25,12 +25,33 @@ pub record IsView (parts history : List Part) : Type 0 where
 abbrev pub SameParts : List Part → List Part → Type 0
 SameParts xs ys = (part : Part) → Contains xs part ↔ Contains ys part
 
+-- a part of the same slot was taken
+abbrev pub is_known : List Part → Part → Bool
+is_known history part = list_any (λ taken. same_place taken part) history
+
+-- each Whole register of its meeting leaves the part in the view
+abbrev pub is_allowed_by : List Part → Part → Bool
+is_allowed_by registers part = list_all (λ whole. allows whole part) registers
+
+-- those of the parts that the registers leave in the view
+abbrev pub allowed_by : List Part → List Part → List Part
+allowed_by registers parts = filter (is_allowed_by registers) parts
+
 -- the registers whose parts are in the view
 abbrev pub shown : List Part → List Part
-shown registers = filter (λ part. list_all (λ whole. allows whole part) registers) registers
+shown registers = allowed_by registers registers
 
--- what taking the part did to the view of the history
-abbrev pub IsFreshness : Freshness → List Part → Part → Type 0
-IsFreshness Fresh history part = IsTrue (in_view (history ++ part ∷ []) part) × ¬ IsTrue (in_view history part)
-IsFreshness Same history part = IsTrue (in_view (history ++ part ∷ []) part) × IsTrue (in_view history part)
-IsFreshness Stale history part = ¬ IsTrue (in_view (history ++ part ∷ []) part)
+-- the slot of the part's meeting, as a part of it
+abbrev pub at_slot : Part → Slot → Part
+at_slot part slot = record part { slot = slot }
+
+-- the register at this place in the list is that of the part's place
+pub record IsAt (registers : List Part) (part : Part) (at : ℕ) : Type 0 where
+  pub in_range : at < length registers
+  pub same : (default : Part) → place_cmp (slice_index_or registers at default) part ≡ Equal
+
+-- no register is of the part's place, and a new one would go here
+pub record IsGap (registers : List Part) (part : Part) (at : ℕ) : Type 0 where
+  pub in_range : at ≤ length registers
+  pub below : IsTrue (list_all (λ register. is_lt (place_cmp register part)) (take at registers))
+  pub above : IsTrue (list_all (λ register. is_gt (place_cmp register part)) (drop at registers))

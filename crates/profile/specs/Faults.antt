@@ -14,6 +14,14 @@ is_line_fault = is_between 1 6
 abbrev pub is_object_fault : ℕ → Bool
 is_object_fault n = is_line_fault n || is_between 20 25 n
 
+-- a fault of a UID's octets (RFC 5545 3.8.4.7)
+abbrev pub is_uid_fault : ℕ → Bool
+is_uid_fault n = n == 14
+
+-- a fault of an address (RFC 5545 3.3.3)
+abbrev pub is_address_fault : ℕ → Bool
+is_address_fault n = n == 15
+
 -- a fault of a value (RFC 5545 3.3)
 abbrev pub is_value_fault : ℕ → Bool
 is_value_fault = is_between 10 16

@@ -7,3 +7,6 @@ pub mod Instances
 pub mod Certificates
 pub mod Revisions
 pub mod Events
+pub mod Messages
+pub mod Rooms
+pub mod Kept

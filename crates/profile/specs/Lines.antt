@@ -2,8 +2,8 @@
 -- An octet is its number: LF is 10, CR 13, TAB 9, space 32, `"` 34, `,` 44, `-` 45, `:` 58, `;` 59, `=` 61.
 use Rattle.std.specs.Prelude.{ℕ, Bool, true, false, not, ◌&&◌, ◌||◌, ◌==◌, ◌+◌, ◌-◌, ◌%◌, nat_lt, nat_le, List, [], ◌∷◌, ◌++◌, Option, option_map, length, take, drop, map, filter, slice_index, count_by, if◌then◌else◌}
 use Rattle.std.specs.List.{slice_split, onto_first, flat_map, list_any, list_all, find}
-use Rattle.std.specs.Str.{bytes_eq, is_utf8, str_eq_ignore_ascii_case}
-use Rattle.std.specs.Char.{is_ascii_digit, is_ascii_alphabetic}
+use Rattle.std.specs.Str.{bytes_eq, is_utf8, chars, str_eq_ignore_ascii_case}
+use Rattle.std.specs.Char.{encode_utf8, is_ascii_digit, is_ascii_alphabetic}
 
 -- ---- lines
 
@@ -180,3 +180,27 @@ text_has bounded number octets =
 abbrev pub reads_as_lines : Bool → List ℕ → Bool
 reads_as_lines bounded octets =
     not (list_any is_faulty (logical_lines octets)) && is_utf8 (ended (logical_lines octets)) && not (bounded && (nat_lt 1048576 (length octets) || nat_lt 65536 (length (logical_lines octets))))
+
+-- ---- folding: no physical line has more than 75 octets, and no character is split
+
+-- the octets that stand before a character at this column: a line break and one space where it would pass octet 75
+abbrev pub fold_break : ℕ → ℕ → List ℕ
+fold_break column c = if nat_lt 75 (column + length (encode_utf8 c)) then 13 ∷ 10 ∷ 32 ∷ [] else []
+
+-- the column after the character; the space of a continuation counts
+abbrev pub next_column : ℕ → ℕ → ℕ
+next_column column c = (if nat_lt 75 (column + length (encode_utf8 c)) then 1 else column) + length (encode_utf8 c)
+
+-- characters, folded from this column on
+abbrev pub fold_from : ℕ → List ℕ → List ℕ
+fold_from column [] = []
+fold_from column (c ∷ cs) = fold_break column c ++ encode_utf8 c ++ fold_from (next_column column c) cs
+
+-- the column after some characters
+abbrev pub column_after : ℕ → List ℕ → ℕ
+column_after column [] = column
+column_after column (c ∷ cs) = column_after (next_column column c) cs
+
+-- a line as it is written: folded, and ended by CRLF
+abbrev pub folded : List ℕ → List ℕ
+folded text = fold_from 0 (chars text) ++ 13 ∷ 10 ∷ []

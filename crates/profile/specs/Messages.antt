@@ -1,0 +1,124 @@
+-- Messages: their meeting, the parts that they have for a room, and replies (RFC 5546 1.4, 3.2). By now a REQUEST of one VEVENT.
+use Rattle.std.specs.Prelude.{◌≡◌, ℕ, ◌/◌, ◌%◌, ◌+◌, ◌<◌, ◌≤◌, ◌⊎◌, Bool, true, false, not, ◌&&◌, ◌||◌, ◌==◌, IsTrue, if◌then◌else◌, nat_lt, List, [], ◌∷◌, ◌++◌, length, map, filter, codes, decimal, Option, Some, None, is_some, unwrap_or, ℤ}
+use Rattle.std.specs.List.{flat_map, list_any, AllZip}
+use Rattle.std.specs.Str.{bytes_eq}
+use Rattle.std.specs.Char.{is_ascii_alphabetic, is_ascii_digit}
+use Rattle.profile.specs.Lines.{line_value, is_same_name}
+use Rattle.profile.specs.Values.{WritesStamp, duration_text, escaped}
+use Rattle.profile.specs.Events.{Event, SaysEvent, lines_named, has_unread}
+use Rattle.profile.specs.Instances.{Key}
+use Rattle.profile.specs.Revisions.{Part, Slot, Whole, At, Revision, Body, Set, Absent, Cancelled}
+
+-- ---- what a message says
+
+-- the lines of the VCALENDAR and of each VEVENT in it say that this is a REQUEST for this one event: METHOD stands once,
+-- nothing in the VEVENTs is left unread (RFC 5546 3.2.2)
+pub record SaysRequest (own : List (List ℕ)) (events : List (List (List ℕ))) (event : Event) : Type 0 where
+  pub method_line : List ℕ
+  pub method : lines_named (codes "METHOD") own ≡ method_line ∷ []
+  pub request : is_same_name (line_value method_line) (codes "REQUEST") ≡ true
+  pub lines : List (List ℕ)
+  pub one : events ≡ lines ∷ []
+  pub read : has_unread lines ≡ false
+  pub says : SaysEvent true lines event
+
+-- ---- its parts
+
+-- the lines of a body in their one form, unfolded, each ended by CRLF: two bodies are one where these octets are equal
+pub record IsCanonical (octets : List ℕ) (event : Event) : Type 0 where
+  pub start : List ℕ
+  pub written : WritesStamp start event.start
+  pub is : octets ≡ codes "DTSTART:" ++ start ++ codes "\r\nDURATION:" ++ duration_text event.length.days event.length.seconds ++ codes "\r\n"
+
+-- an ATTENDEE line of the event has the room's address
+abbrev pub names_room : List ℕ → Event → Bool
+names_room room event = list_any (λ a. bytes_eq a.address room) event.attendees
+
+-- the part that the event of a REQUEST is: of the whole meeting, and to take place
+pub record IsPart (event : Event) (part : Part) : Type 0 where
+  pub octets : List ℕ
+  pub organiser : event.organiser ≡ Some part.organiser
+  pub uid : part.uid ≡ event.uid
+  pub slot : part.slot ≡ Whole
+  pub sequence : part.revision.sequence ≡ event.sequence
+  pub stamp : event.stamp ≡ Some part.revision.stamp
+  pub canonical : IsCanonical octets event
+  pub body : part.body ≡ Set octets
+
+-- the parts that a REQUEST has for a room: one where it names the room, else none, as it isn't addressed to it
+abbrev pub AreParts : List ℕ → Event → List Part → Type 0
+AreParts room event [] = names_room room event ≡ false
+AreParts room event (part ∷ []) = (names_room room event ≡ true) × IsPart event part
+AreParts room event (part ∷ other ∷ parts) = ⊥
+
+-- ---- replies
+
+-- what a room decided
+pub data Outcome : Type 0 where
+  Accept : Outcome
+  -- two instances, the lesser first, and an instant in both
+  Busy : Key → Key → ℤ → Outcome
+  SeriesLimit : Outcome
+  SinglesLimit : Outcome
+
+-- letters, digits and `-._~@:` stand for themselves in a word of a status
+abbrev pub is_plain : ℕ → Bool
+is_plain c =
+    is_ascii_alphabetic c || is_ascii_digit c || (c == 45) || (c == 46) || (c == 95) || (c == 126) || (c == 64) || (c == 58)
+
+-- the upper case hexadecimal digit of a number below 16
+abbrev pub hexadecimal : ℕ → ℕ
+hexadecimal n = if nat_lt n 10 then 48 + n else 55 + n
+
+-- a word of a status: each other octet is `%` and two hexadecimal digits
+abbrev pub word : List ℕ → List ℕ
+word octets = flat_map (λ c. if is_plain c then c ∷ [] else 37 ∷ hexadecimal (c / 16) ∷ hexadecimal (c % 16) ∷ []) octets
+
+-- a key in three words: slot, organiser, UID
+pub record IsKeyText (text : List ℕ) (key : Key) : Type 0 where
+  pub slot : List ℕ
+  pub written : WritesStamp slot key.slot
+  pub is : text ≡ slot ++ codes " " ++ word key.organiser ++ codes " " ++ word key.uid
+
+-- the lines that tell an outcome (RFC 5545 3.8.8.3): a status, or for a limit a line of this profile's own
+abbrev pub TellsOutcome : Outcome → List (List ℕ) → Type 0
+TellsOutcome Accept lines = lines ≡ codes "REQUEST-STATUS:2.0;Success" ∷ []
+TellsOutcome (Busy a b t) lines =
+    (instant : List ℕ) × (first : List ℕ) × (second : List ℕ) × WritesStamp instant t × IsKeyText first a × IsKeyText second b
+    × (lines ≡ (codes "REQUEST-STATUS:4.1;Event conflict.  Date-time is busy.;" ++ instant ++ codes " " ++ first ++ codes " " ++ second) ∷ [])
+TellsOutcome SeriesLimit lines = lines ≡ codes "X-ROOM-LIMIT:SERIES" ∷ []
+TellsOutcome SinglesLimit lines = lines ≡ codes "X-ROOM-LIMIT:SINGLES" ∷ []
+
+abbrev pub partstat : Outcome → List ℕ
+partstat Accept = codes "ACCEPTED"
+partstat (Busy a b t) = codes "DECLINED"
+partstat SeriesLimit = codes "DECLINED"
+partstat SinglesLimit = codes "DECLINED"
+
+-- RECURRENCE-ID, for one instance alone, in UTC
+abbrev pub TellsSlot : Slot → List (List ℕ) → Type 0
+TellsSlot Whole lines = lines ≡ []
+TellsSlot (At t) lines = (text : List ℕ) × WritesStamp text t × (lines ≡ (codes "RECURRENCE-ID:" ++ text) ∷ [])
+
+-- the VEVENT of a reply: the room's answer to a part, decided at a moment (RFC 5546 3.2.3)
+pub record IsReplyEvent (room : List ℕ) (part : Part) (moment : ℤ) (outcome : Outcome) (lines : List (List ℕ)) : Type 0 where
+  pub slot : List (List ℕ)
+  pub stamp : List ℕ
+  pub status : List (List ℕ)
+  pub tells_slot : TellsSlot part.slot slot
+  pub tells_moment : WritesStamp stamp moment
+  pub tells_outcome : TellsOutcome outcome status
+  pub is : lines ≡ (codes "BEGIN:VEVENT" ∷ (codes "UID:" ++ escaped part.uid) ∷ slot)
+    ++ ((codes "SEQUENCE:" ++ decimal part.revision.sequence) ∷ (codes "DTSTAMP:" ++ stamp) ∷ (codes "ORGANIZER:" ++ part.organiser)
+    ∷ (codes "ATTENDEE;PARTSTAT=" ++ partstat outcome ++ codes ":" ++ room) ∷ status)
+    ++ (codes "END:VEVENT" ∷ [])
+
+-- the METHOD line, where there is one
+abbrev pub method_lines : Option (List ℕ) → List (List ℕ)
+method_lines None = []
+method_lines (Some method) = (codes "METHOD:" ++ method) ∷ []
+
+-- the lines of an object with this METHOD, or with none, round some components
+abbrev pub object_lines : Option (List ℕ) → List (List ℕ) → List (List ℕ)
+object_lines method components =
+    (codes "BEGIN:VCALENDAR" ∷ codes "VERSION:2.0" ∷ codes "PRODID:-//iTIP room box//EN" ∷ method_lines method) ++ components ++ (codes "END:VCALENDAR" ∷ [])
