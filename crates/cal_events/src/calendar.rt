@@ -5,6 +5,7 @@ ghost use Rattle.std.specs.List.{AllAdjacentBelow};
 ghost use Rattle.std.specs.Iterator.{YieldsFirstBy, item_count};
 ghost use Rattle.profile.specs.Instances.{IsClear};
 ghost use Rattle.ical_lines.specs.Fault.{RefusesOnly};
+ghost use Rattle.profile.specs.Faults.{is_between};
 ghost use Rattle.cal_events.specs.Calendars.{booked_of, instance_of, singles_left, confirmed_in, meeting_of, HaveDifferentKeys, MeetingsDiffer, HaveTwins, IsTwinsFault, texts_of, meeting_cmp, span_of, HaveOtherTexts, HasEqualNeighbours};
 ghost use Rattle.cal_events.specs.Clashes.{Names};
 
@@ -53,6 +54,7 @@ impl Calendar {
         ensures instances { IfOk result (λ calendar. calendar ≡ confirmed_in entries.items) }
         ensures differ { IfOk result (λ _. MeetingsDiffer entries.items) }
         ensures refused { IfErr result (IsTwinsFault entries.items) }
+        ensures refuses { IfErr result (RefusesOnly (is_between 53 53)) }
     {
         if has_twins(alloc, &entries)? {
             return Err(Fault::Refused(Refusal::TWO_MASTERS));

@@ -81,7 +81,11 @@ impl EventComponent {
     /// Refused: 10 to 12 and 14 to 16 for a value, 50 to 52 for times that don't go together or lie outside
     /// 1970 to 9999, 55 for a date or a floating time, 56 for a period, 61 and 63 for a property that is
     /// missing, stands twice or excludes another.
-    pub fn read(alloc: Global, component: &Component, purpose: Purpose) -> Result<EventComponent, Fault>
+    pub fn read(
+        alloc: Global,
+        component: &Component,
+        purpose: Purpose,
+    ) -> Result<EventComponent, Fault>
         ensures refuses { IfErr result (RefusesOnly is_event_fault) }
     {
         let uid = read_uid(alloc, component)?;
@@ -111,7 +115,10 @@ impl EventComponent {
 
     /// What the attendee of this address answered, None where none has it.
     pub fn status_of(&self, address: &Address) -> Option<ParticipationStatus> {
-        let found = self.attendees.iter().find(|attendee| attendee.address == *address)?;
+        let found = self
+            .attendees
+            .iter()
+            .find(|attendee| attendee.address == *address)?;
         Some(found.status)
     }
 }

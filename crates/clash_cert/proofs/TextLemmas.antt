@@ -8,7 +8,7 @@ use Rattle.std.specs.Str.{all_ascii_digits, IsUtf8, bytes_eq}
 use Rattle.std.specs.Str.Parse.{digits_value, ParsesUnsigned}
 use Rattle.std.proofs.lemmas.Bool.{and_parts, and_from, true≢false, cond-true}
 use Rattle.std.proofs.lemmas.Bool.Decides.{nat_tests}
-use Rattle.std.proofs.lemmas.Fmt.{digits_decimal, parse-decimal, IsAscii-decimal}
+use Rattle.std.proofs.lemmas.Fmt.{digits_decimal, digits_value-decimal, parse-decimal, IsAscii-decimal}
 use Rattle.std.proofs.lemmas.Str.Parse.{IsNumeralModel, numerals_by_value, tells_all_ascii_digits}
 use Rattle.std.proofs.lemmas.Str.{IsUtf8-from_ascii}
 use Rattle.std.proofs.lemmas.Option.{same_Some, none-some}
@@ -64,6 +64,25 @@ one_cut (c ∷ a) (d ∷ b) x y h k e =
 digit_free : (c : ℕ) → is_ascii_digit c ≡ true → not (c == 10) ≡ true
 digit_free c h = grind (arith, nat_tests)
 
+-- and before it stands the same line
+pub one_line : (a b x y : List ℕ) → lf_free a ≡ true → lf_free b ≡ true → a ++ 10 ∷ x ≡ b ++ 10 ∷ y → a ≡ b
+one_line [] [] x y h k e = refl
+one_line [] (d ∷ b) x y h k e =
+    let p = and_parts (not (d == 10)) (lf_free b) k in
+    let f : 10 ≡ d = cc in
+    absurd (not_lf d p.0 (sym f))
+one_line (c ∷ a) [] x y h k e =
+    let p = and_parts (not (c == 10)) (lf_free a) h in
+    let f : c ≡ 10 = cc in
+    absurd (not_lf c p.0 f)
+one_line (c ∷ a) (d ∷ b) x y h k e =
+    let p = and_parts (not (c == 10)) (lf_free a) h in
+    let q = and_parts (not (d == 10)) (lf_free b) k in
+    let f : a ++ 10 ∷ x ≡ b ++ 10 ∷ y = cc in
+    let g : c ≡ d = cc in
+    let r : a ≡ b = one_line a b x y p.1 q.1 f in
+    cc
+
 -- digits have no LF
 digits_free : (ds : List ℕ) → all_ascii_digits ds ≡ true → lf_free ds ≡ true
 digits_free [] h = refl
@@ -73,6 +92,10 @@ digits_free (c ∷ ds) h =
 
 digits_model : IsNumeralModel (λ ds. all_ascii_digits ds ≡ true) (digits_value 10)
 digits_model = numerals_by_value (λ ds. all_ascii_digits ds ≡ true) tells_all_ascii_digits
+
+-- a number's digits are its own
+pub decimal_once : (m n : ℕ) → m < 2 ^ 64 → n < 2 ^ 64 → decimal m ≡ decimal n → m ≡ n
+decimal_once m n h k e = sym (digits_value-decimal digits_model m h) ∙ ap (digits_value 10) e ∙ digits_value-decimal digits_model n k
 
 pub decimal_free : (n : ℕ) → n < 2 ^ 64 → lf_free (decimal n) ≡ true
 decimal_free n h = digits_free (decimal n) (digits_decimal digits_model n h)

@@ -5,7 +5,7 @@ use Rattle.std.proofs.lemmas.Bool.{true≢false, eqb-true}
 use Rattle.std.proofs.lemmas.List.{length-take-le}
 use Rattle.profile.specs.Certificates.{Claims, IsClaims, lines_of, spelled, text_of, Spells, BeginsWell, FirstWrong}
 use Rattle.clash_cert.specs.Texts.{LacksLine, LacksCount}
-use Rattle.clash_cert.proofs.TextLemmas.{AreLines-take, lines_are, one_rest, spelled-take, spelled-take_suc}
+use Rattle.clash_cert.proofs.TextLemmas.{AreLines, AreLines-take, lines_are, one_rest, one_cut, one_line, cancel, decimal_once, spelled-take, spelled-take_suc}
 
 -- after the first n lines a text that goes well has the next
 begins_next : (text : List ℕ) (c : Claims) (n : ℕ) (r : List ℕ) → IsClaims c → n < 4 → text ≡ spelled (take n (lines_of c)) r
@@ -98,3 +98,22 @@ empty_from (c ∷ u) b e h = let n : length (c ∷ u) ≡ 0 = eqb-true _ _ (sym 
 
 pub some_from : (u : List ℕ) (b : Bool) → b ≡ (length u == 0) → b ≡ false → u ≢ []
 some_from u b e h f = true≢false (ap (λ (l : List ℕ). length l == 0) (sym f) ∙ sym e ∙ h)
+
+-- lines cut at their ends are the same lines
+same_lines : (ls ms : List (List ℕ)) (x y : List ℕ) → AreLines ls → AreLines ms → length ls ≡ length ms → spelled ls x ≡ spelled ms y → ls ≡ ms
+same_lines [] [] x y h k n e = refl
+same_lines [] (m ∷ ms) x y h k n e = absurd (omega (arith, n))
+same_lines (l ∷ ls) [] x y h k n e = absurd (omega (arith, n))
+same_lines (l ∷ ls) (m ∷ ms) x y h k n e =
+    let rest = one_cut l m (spelled ls x) (spelled ms y) h.0 k.0 e in
+    let first : l ≡ m = one_line l m (spelled ls x) (spelled ms y) h.0 k.0 e in
+    let others : ls ≡ ms = same_lines ls ms x y h.1 k.1 (omega (arith, n)) rest in
+    ap (λ (z : List ℕ). z ∷ ls) first ∙ ap (λ (zs : List (List ℕ)). m ∷ zs) others
+
+-- a text is the certificate of one content
+pub one_content : (text : List ℕ) (c d : Claims) → Spells text c → Spells text d → d ≡ c
+one_content text c d h k =
+    let lines = same_lines (lines_of d) (lines_of c) [] [] (lines_are d k.claims) (lines_are c h.claims) refl (sym k.is ∙ h.is) in
+    let second : codes "SINGLES " ++ decimal d.singles ≡ codes "SINGLES " ++ decimal c.singles = ap (λ (ls : List (List ℕ)). get_or ls 1 []) lines in
+    let digits : decimal d.singles ≡ decimal c.singles = cancel (codes "SINGLES ") (decimal d.singles) (decimal c.singles) second in
+    ap (λ (n : ℕ). record { singles = n }) (decimal_once d.singles c.singles k.claims h.claims digits)

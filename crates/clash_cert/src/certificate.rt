@@ -1,7 +1,7 @@
 //! The text of a certificate: lines ended by LF, `ROOMCERT 1`, `SINGLES k`, `SERIES n`, `DONE`,
 //! and nothing after. Numbers are decimal, of 64 bits, without leading zeros. By now `n` is 0.
 ghost use Rattle.std.specs.Prelude.{ℕ, ◌≡◌, ◌^◌, ◌<◌, ◌∷◌, ◌++◌, take, length, decimal, position, ◌==◌, IfOk, IfErr, OnOk, OnErr, MatchOption};
-ghost use Rattle.profile.specs.Certificates.{Spells, text_of, IsClaims};
+ghost use Rattle.profile.specs.Certificates.{Claims, Spells, text_of};
 ghost use Rattle.clash_cert.specs.Texts.{IsCertFault, Lacks, LacksLine, LacksCount, LacksLf, IsCutAtLf, IsNoNumber};
 
 use itoa::Buffer;
@@ -48,6 +48,7 @@ impl Certificate {
     /// The certificate that the octets spell; else the number of the first wrong or missing line.
     pub fn read(_alloc: Global, bytes: &[u8]) -> Result<Certificate, CertFault>
         ensures found { IfOk result (λ c. Spells bytes.now c) }
+        ensures only { IfOk result (λ c. (d : Claims) → Spells bytes.now d → d ≡ c) }
         ensures fault { IfErr result (IsCertFault bytes.now) }
     {
         let Some(rest) = after_line(bytes, b"ROOMCERT 1") else {

@@ -1,4 +1,12 @@
 //! Checking: a certificate's text against a calendar, and a clash against a calendar.
+ghost use Rattle.std.specs.Prelude.{ℕ, List, ◌≡◌, ◌<ℤ◌, ◌≤ℤ◌, ◌↔◌, ◌⊎◌, map, IsTrue, IfOk, IfNone, IfSome, Contains};
+ghost use Rattle.profile.specs.Instances.{Booked, IsClear, IsWithin};
+ghost use Rattle.profile.specs.Certificates.{CertificateStands, Spells};
+ghost use Rattle.cal_events.specs.Calendars.{booked_of};
+ghost use Rattle.clash_cert.specs.Makings.{key_of, IsClashIn};
+ghost use Rattle.cal_events.specs.declared.instance.Booking.{Booking};
+ghost use Rattle.clash_check.specs.Verdicts.{IsVerdict, MakesFew, IsNo, IsRefusedCalendar, IsForSome, HasThatKey, Share};
+
 use crate::verdict::{Checked, Verdict, Why};
 use cal_events::{Booking, Calendar, HORIZON};
 use clash_cert::{CertFault, Certificate, Clash, OwnedKey};
@@ -13,7 +21,10 @@ pub fn check(
     calendar: &[u8],
     certificate: &[u8],
     room: &Address,
-) -> Result<Checked, AllocError> {
+) -> Result<Checked, AllocError>
+    // The calendar is refused, or this is the judgement of its instances.
+    ensures { IfOk result (λ checked. IsRefusedCalendar checked ⊎ IsForSome certificate.now checked) }
+{
     match Calendar::read(alloc, calendar, room) {
         Ok(calendar) => judge_read(alloc, &calendar, certificate),
         Err(Fault::Refused(_)) => Ok(Checked::no(Why::CALENDAR, 0)),
@@ -26,7 +37,11 @@ pub fn judge_read(
     alloc: Global,
     calendar: &Calendar,
     certificate: &[u8],
-) -> Result<Checked, AllocError> {
+) -> Result<Checked, AllocError>
+    ensures verdict { IfOk result (λ checked. IsVerdict calendar.now certificate.now checked.verdict) }
+    ensures yes { IfOk result (λ checked. (checked.verdict ≡ Verdict.Yes) ↔ CertificateStands calendar.now certificate.now) }
+    ensures made { IfOk result (MakesFew calendar.now) }
+{
     match Certificate::read(alloc, certificate) {
         Ok(certificate) => judge(alloc, calendar, certificate),
         Err(CertFault::Line(line)) => Ok(Checked::no_at(Why::TEXT, line, 0)),
@@ -39,48 +54,78 @@ fn judge(
     alloc: Global,
     calendar: &Calendar,
     certificate: Certificate,
-) -> Result<Checked, AllocError> {
+) -> Result<Checked, AllocError>
+    ensures verdict { IfOk result (λ checked. (text : List ℕ) → Spells text certificate → IsVerdict calendar.now text checked.verdict) }
+    ensures made { IfOk result (MakesFew calendar.now) }
+{
     let singles = calendar.single_count();
     if certificate.singles() != singles || certificate.series() != calendar.series_count() {
         return Ok(Checked::no(Why::COUNTS, 0));
     }
-    if calendar.first_overlap(alloc)?.is_some() {
-        return Ok(Checked::no(Why::SINGLES, singles));
+    match calendar.first_overlap(alloc)? {
+        Some(_) => Ok(Checked::no(Why::SINGLES, singles)),
+        None => Ok(Checked {
+            verdict: Verdict::Yes,
+            made: singles,
+        }),
     }
-    Ok(Checked {
-        verdict: Verdict::Yes,
-        made: singles,
-    })
 }
 
+/// A certificate that stands for instances is enough: no two of them clash.
+pub fn standing_means_clear()
+    ensures { (all : List Booked) (text : List ℕ) → CertificateStands all text → IsClear all }
+{}
+
 /// Is this a clash of two confirmed instances of the calendar?
-pub fn check_clash(calendar: &Calendar, clash: &Clash) -> bool {
-    let Some(first) = booking_of(calendar.bookings(), &clash.first) else {
+pub fn check_clash(calendar: &Calendar, clash: &Clash) -> bool
+    ensures { IsTrue result ↔ IsClashIn calendar.now clash.now }
+{
+    let bookings = calendar.bookings();
+    let Some(first) = booking_of(bookings, &clash.first) else {
         return false;
     };
-    let Some(second) = booking_of(calendar.bookings(), &clash.second) else {
+    let Some(second) = booking_of(bookings, &clash.second) else {
         return false;
     };
-    clash.instant < HORIZON
-        && !has_key(first, &clash.second)
-        && is_during(first, clash.instant)
-        && is_during(second, clash.instant)
+    if has_key(first, &clash.second) {
+        return false;
+    }
+    share(first, second, clash.instant)
+}
+
+/// Do both hold the room in that second, before the horizon?
+fn share(first: &Booking, second: &Booking, instant: i64) -> bool
+    ensures { IsTrue result ↔ Share (booked_of first.now) (booked_of second.now) instant }
+{
+    instant < HORIZON && is_during(first, instant) && is_during(second, instant)
 }
 
 /// The booking of that key.
-fn booking_of<'a>(bookings: &'a [Booking], key: &OwnedKey) -> Option<&'a Booking> {
-    bookings.iter().find(|booking| has_key(booking, key))
+fn booking_of<'a>(bookings: &'a [Booking], key: &OwnedKey) -> Option<&'a Booking>
+    ensures found { IfSome result (λ b. Contains bookings.now b.now × HasThatKey key.now b.now) }
+    ensures none { IfNone result ((b : Booking) → Contains bookings.now b → HasThatKey key.now b → ⊥) }
+{
+    for booking in bookings {
+        if has_key(booking, key) {
+            return Some(booking);
+        }
+    }
+    None
 }
 
 /// Is it the key of the booking?
-fn has_key(booking: &Booking, key: &OwnedKey) -> bool {
+fn has_key(booking: &Booking, key: &OwnedKey) -> bool
+    ensures { IsTrue result ↔ HasThatKey key.now booking.now }
+{
     booking.slot == key.slot
         && booking.uid.as_str() == key.uid.as_str()
         && booking.organiser.as_str() == key.organiser.as_str()
 }
 
 /// Does the booking hold the room in that second?
-fn is_during(booking: &Booking, instant: i64) -> bool {
+fn is_during(booking: &Booking, instant: i64) -> bool
+    ensures { IsTrue result ↔ IsWithin booking.now.start booking.now.end instant }
+{
     booking.start <= instant && instant < booking.end
 }
 

@@ -1,4 +1,6 @@
 //! What the checker answers.
+ghost use Rattle.std.specs.Prelude.{◌≡◌};
+ghost use Rattle.clash_check.specs.Verdicts.{IsNo};
 
 /// The answer, and how many instances were made for it.
 #[derive(Clone, Copy, Debug, PartialEq, Eq)]
@@ -40,12 +42,18 @@ impl Why {
 
 impl Checked {
     /// A no of that number that names nothing.
-    pub(crate) fn no(number: u8, made: u64) -> Checked {
+    pub(crate) fn no(number: u8, made: u64) -> Checked
+        ensures no { IsNo number 0 result.verdict }
+        ensures made { result.made ≡ made }
+    {
         Checked::no_at(number, 0, made)
     }
 
     /// A no of that number that names a line.
-    pub(crate) fn no_at(number: u8, first: u64, made: u64) -> Checked {
+    pub(crate) fn no_at(number: u8, first: u64, made: u64) -> Checked
+        ensures no { IsNo number first result.verdict }
+        ensures made { result.made ≡ made }
+    {
         let why = Why {
             number,
             first,

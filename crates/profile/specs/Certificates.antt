@@ -1,6 +1,6 @@
 -- The text of a certificate, and when it stands. The format is this profile's own.
-use Rattle.std.specs.Prelude.{ℕ, List, [], ◌∷◌, ◌++◌, ◌+◌, ◌-◌, ◌^◌, ◌<◌, ◌≤◌, ◌≡◌, length, take, codes, decimal}
-use Rattle.profile.specs.Instances.{Booked, IsClear}
+use Rattle.std.specs.Prelude.{ℕ, ℤ, List, [], ◌∷◌, ◌++◌, ◌-◌, ◌^◌, ◌<◌, ◌≤◌, ◌≡◌, ◌≢◌, length, take, codes, decimal}
+use Rattle.profile.specs.Instances.{Booked, IsClash, IsClear}
 
 -- what a certificate says of its calendar: how many singles it has; by now no series
 pub record Claims : Type 0 where
@@ -49,3 +49,28 @@ pub record CertificateStands (all : List Booked) (text : List ℕ) : Type 0 wher
   pub spells : Spells text c
   pub singles : c.singles ≡ length all
   pub clear : IsClear all
+
+-- the octets are no certificate: 81, with the first wrong line
+pub record IsWrongText (text : List ℕ) (number line : ℕ) : Type 0 where
+  pub is : number ≡ 81
+  pub wrong : FirstWrong text line
+
+-- they are one, of another count of singles: 82
+pub record IsWrongCount (all : List Booked) (text : List ℕ) (number line : ℕ) : Type 0 where
+  pub is : number ≡ 82
+  pub no_line : line ≡ 0
+  pub c : Claims
+  pub spells : Spells text c
+  pub other : c.singles ≢ length all
+
+-- they are one of the right count, and two singles clash: 84
+pub record HasClashes (all : List Booked) (text : List ℕ) (number line : ℕ) : Type 0 where
+  pub is : number ≡ 84
+  pub no_line : line ≡ 0
+  pub c : Claims
+  pub spells : Spells text c
+  pub singles : c.singles ≡ length all
+  pub a : Booked
+  pub b : Booked
+  pub t : ℤ
+  pub clash : IsClash all a b t

@@ -1,4 +1,4 @@
-use Rattle.clash_cert.proofs.WrongLines.{wrong_first, wrong_second, wrong_third, wrong_fourth, wrong_after, spells, empty_from, some_from}
+use Rattle.clash_cert.proofs.WrongLines.{wrong_first, wrong_second, wrong_third, wrong_fourth, wrong_after, spells, empty_from, some_from, one_content}
 use Rattle.clash_cert.proofs.certificate.Certificate.read.Goals as goal
 
 pub returns-in_default-clause-fault : goal.returns-in_default-clause-fault
@@ -26,3 +26,8 @@ pub returns-clause-found : goal.returns-clause-found
 returns-clause-found c =
     spells c.args.bytes.now c.in-Some.rest.now c.in-Some-after_count.rest.now c.in-Some-after_line.rest.now c.in-Some-after_line-2.rest.now c.in-Some-after_count.singles
     c.in-Some.ensures c.in-Some-after_count.ensures c.in-Some-after_line.ensures c.in-Some-after_line-2.ensures (empty_from _ _ c.is_empty.ensures c.if-not-is_empty.false)
+
+pub returns-clause-only : goal.returns-clause-only
+returns-clause-only c = λ d k. one_content c.args.bytes.now _ d
+    (spells c.args.bytes.now c.in-Some.rest.now c.in-Some-after_count.rest.now c.in-Some-after_line.rest.now c.in-Some-after_line-2.rest.now c.in-Some-after_count.singles
+    c.in-Some.ensures c.in-Some-after_count.ensures c.in-Some-after_line.ensures c.in-Some-after_line-2.ensures (empty_from _ _ c.is_empty.ensures c.if-not-is_empty.false)) k

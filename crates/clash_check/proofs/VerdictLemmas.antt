@@ -1,0 +1,45 @@
+-- A verdict is yes exactly where the certificate stands.
+use Rattle.std.proofs.Common.{◌≡◌, ◌≢◌, ℕ, List, ◌⊎◌, length, subst, sym, refl, ap, ◌∙◌, inl, inr}
+use Rattle.std.specs.Prelude.{◌↔◌, Result, Ok, Err, IfOk}
+use Rattle.profile.specs.Instances.{Booked}
+use Rattle.profile.specs.Certificates.{Claims, Spells, FirstWrong, CertificateStands, IsWrongText, IsWrongCount, HasClashes}
+use Rattle.clash_check.specs.declared.verdict.Checked.{Checked}
+use Rattle.clash_check.specs.declared.verdict.Verdict.{Verdict}
+use Rattle.clash_check.specs.declared.verdict.Verdict.TheVariants.{Yes, No}
+use Rattle.clash_check.specs.declared.verdict.Why.{Why}
+use Rattle.clash_check.specs.Verdicts.{IsVerdict, IsNo}
+
+no_is_not_yes : (why : Why) → No why ≡ Yes → ⊥
+no_is_not_yes why e = cc
+
+-- none of the three reasons holds of a certificate that stands
+fails : (all : List Booked) (text : List ℕ) (claims : Claims) (number line : ℕ) → ((d : Claims) → Spells text d → d ≡ claims)
+    → (IsWrongText text number line ⊎ IsWrongCount all text number line ⊎ HasClashes all text number line) → CertificateStands all text → ⊥
+fails all text claims number line only h s =
+    elim h [
+      | inl t ↦ t.wrong.none s.c s.spells
+      | inr w ↦ elim w [
+        | inl n ↦ n.other (ap (λ (c : Claims). c.singles) (only n.c n.spells ∙ sym (only s.c s.spells)) ∙ s.singles)
+        | inr k ↦ s.clear k.a k.b k.t k.clash
+      ]
+    ]
+
+pub yes_iff : (all : List Booked) (text : List ℕ) (claims : Claims) (v : Verdict) → ((d : Claims) → Spells text d → d ≡ claims)
+    → IsVerdict all text v → (v ≡ Yes) ↔ CertificateStands all text
+yes_iff all text claims Yes only h = (λ e. h, λ s. refl)
+yes_iff all text claims (No why) only h = (λ e. absurd (no_is_not_yes why e), λ s. absurd (fails all text claims why.number why.first only h.1 s))
+
+-- where the text has a wrong line the answer is no
+pub no_iff : (all : List Booked) (text : List ℕ) (line : ℕ) (v : Verdict) → IsNo 81 line v → FirstWrong text line → (v ≡ Yes) ↔ CertificateStands all text
+no_iff all text line Yes h w = absurd h
+no_iff all text line (No why) h w = (λ e. absurd (no_is_not_yes why e), λ s. absurd (w.none s.c s.spells))
+
+pub verdict_of : (all : List Booked) (text : List ℕ) (claims : Claims) {E : Type 0} (r : Result Checked E) → Spells text claims
+    → IfOk r (λ checked. (t : List ℕ) → Spells t claims → IsVerdict all t checked.verdict) → IfOk r (λ checked. IsVerdict all text checked.verdict)
+verdict_of all text claims (Ok checked) s h = h text s
+verdict_of all text claims (Err e) s h = h
+
+pub yes_of : (all : List Booked) (text : List ℕ) (claims : Claims) {E : Type 0} (r : Result Checked E) → ((d : Claims) → Spells text d → d ≡ claims)
+    → IfOk r (λ checked. IsVerdict all text checked.verdict) → IfOk r (λ checked. (checked.verdict ≡ Yes) ↔ CertificateStands all text)
+yes_of all text claims (Ok checked) only h = yes_iff all text claims checked.verdict only h
+yes_of all text claims (Err e) only h = h

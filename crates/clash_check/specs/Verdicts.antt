@@ -1,0 +1,49 @@
+-- What the checker's answers say.
+use Rattle.std.specs.Prelude.{ℕ, ℤ, List, ◌≡◌, ◌≤◌, ◌<ℤ◌, ◌⊎◌, length}
+use Rattle.profile.specs.Instances.{Booked, horizon, IsWithin}
+use Rattle.profile.specs.Certificates.{CertificateStands, IsWrongText, IsWrongCount, HasClashes}
+use Rattle.cal_events.specs.declared.instance.Booking.{Booking}
+use Rattle.cal_events.specs.Calendars.{booked_of, HaveDifferentKeys}
+use Rattle.clash_cert.specs.declared.making.OwnedKey.{OwnedKey}
+use Rattle.clash_cert.specs.Makings.{key_of}
+use Rattle.clash_check.specs.declared.verdict.Checked.{Checked}
+use Rattle.clash_check.specs.declared.verdict.Verdict.{Verdict}
+use Rattle.clash_check.specs.declared.verdict.Verdict.TheVariants.{Yes, No}
+
+-- yes where the certificate stands; else the first number that applies, with the line of 81
+abbrev pub IsVerdict : List Booked → List ℕ → Verdict → Type 0
+IsVerdict all text Yes = CertificateStands all text
+IsVerdict all text (No why) = (why.second ≡ 0)
+    × (IsWrongText text why.number why.first ⊎ IsWrongCount all text why.number why.first ⊎ HasClashes all text why.number why.first)
+
+-- a no of that number and line
+abbrev pub IsNo : ℕ → ℕ → Verdict → Type 0
+IsNo number line Yes = ⊥
+IsNo number line (No why) = (why.number ≡ number) × (why.first ≡ line) × (why.second ≡ 0)
+
+-- at most one instance for each single; none for a text or a count that is wrong
+abbrev pub MakesFewFor : List Booked → ℕ → Verdict → Type 0
+MakesFewFor all made Yes = made ≤ length all
+MakesFewFor all made (No why) = (made ≤ length all) × (why.number ≤ 82 → made ≡ 0)
+
+abbrev pub MakesFew : List Booked → Checked → Type 0
+MakesFew all checked = MakesFewFor all checked.made checked.verdict
+
+-- the calendar is refused: 80
+abbrev pub IsRefusedCalendar : Checked → Type 0
+IsRefusedCalendar checked = IsNo 80 0 checked.verdict × (checked.made ≡ 0)
+
+-- the judgement of the text for some instances of different keys
+pub record IsForSome (text : List ℕ) (checked : Checked) : Type 0 where
+  pub all : List Booked
+  pub keys : HaveDifferentKeys all
+  pub verdict : IsVerdict all text checked.verdict
+  pub made : MakesFew all checked
+
+-- the booking has the key
+abbrev pub HasThatKey : OwnedKey → Booking → Type 0
+HasThatKey key b = (booked_of b).key ≡ key_of key
+
+-- both hold the room in the second t, before the horizon
+abbrev pub Share : Booked → Booked → ℤ → Type 0
+Share a b t = (t <ℤ horizon) × IsWithin a.start a.end t × IsWithin b.start b.end t
