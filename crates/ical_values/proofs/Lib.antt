@@ -3,3 +3,4 @@ pub mod Spelled
 pub mod Escapes
 pub mod Addresses
 pub mod Offsets
+pub mod Parts
