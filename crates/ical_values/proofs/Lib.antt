@@ -4,3 +4,4 @@ pub mod Escapes
 pub mod Addresses
 pub mod Offsets
 pub mod Parts
+pub mod Signs

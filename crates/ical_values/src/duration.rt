@@ -84,8 +84,8 @@ fn read_unsigned(text: &[u8]) -> Result<Duration, Refusal>
 
 /// The duration of those counts, where both fit.
 fn fit(counts: Counts) -> Result<Duration, Refusal>
-    ensures ok { IfOk result (λ d. (d.days ≡ counts.days) × (d.seconds ≡ counts.seconds)) }
-    ensures small { IfOk result (λ d. (d.days < 2 ^ 32) × (d.seconds < 2 ^ 32)) }
+    ensures ok { IfOk result (λ d. (d.days ≡ counts.days) × (d.seconds ≡ counts.seconds)
+        × (d.days < 2 ^ 32) × (d.seconds < 2 ^ 32)) }
     ensures range { IfErr result
         (λ e. (e.number ≡ 51) × ((2 ^ 32 ≤ counts.days) ⊎ (2 ^ 32 ≤ counts.seconds))) }
 {
