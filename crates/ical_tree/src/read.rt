@@ -102,9 +102,7 @@ impl Reader {
             → Built (reverse self.new.open.items) self.new.closed (done ++ line ∷ [])) }
         ensures refuses { IfErr result (RefusesOnly is_object_fault) }
     {
-        if self.open.is_empty()
-            && (self.closed.is_some() || !name.eq_ignore_ascii_case("VCALENDAR"))
-        {
+        if self.open.is_empty() && !may_be_outermost(&self.closed, name) {
             return Err(Fault::Refused(Refusal::NOT_ONE_CALENDAR));
         }
         if self.open.len() >= MAX_DEPTH {
@@ -169,6 +167,13 @@ impl Reader {
     }
 }
 
+/// Whether a component of this name may stand alone: it is the first VCALENDAR.
+fn may_be_outermost(closed: &Option<Component>, name: &str) -> bool
+    ensures { result ≡ true → (closed.now ≡ None) × (is_same_name name.now (codes "VCALENDAR") ≡ true) }
+{
+    closed.is_none() && name.eq_ignore_ascii_case("VCALENDAR")
+}
+
 /// Judges a VCALENDAR as a whole: its VERSION, and how many VEVENTs it has.
 fn check_calendar(calendar: &Component, limits: Limits) -> Result<(), Refusal>
     ensures version { OnOk result (has_version (component_lines calendar.now) ≡ true) }
@@ -188,11 +193,19 @@ fn check_calendar(calendar: &Component, limits: Limits) -> Result<(), Refusal>
 fn has_version(calendar: &Component) -> bool
     ensures { result ≡ has_version (component_lines calendar.now) }
 {
-    let mut versions = calendar.lines().filter(|line| line.is_named("VERSION"));
-    let Some(version) = versions.next() else {
-        return false;
-    };
-    version.value() == "2.0" && versions.next().is_none()
+    let mut version = None;
+    for line in calendar.lines() {
+        if line.is_named("VERSION") {
+            if version.is_some() {
+                return false;
+            }
+            version = Some(line);
+        }
+    }
+    match version {
+        Some(line) => line.value() == "2.0",
+        None => false,
+    }
 }
 
 /// Whether the VEVENTs directly inside are more than the limits allow.
