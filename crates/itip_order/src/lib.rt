@@ -1,2 +1,15 @@
 //! Revisions of the parts of messages, and the view of all parts taken (RFC 5546 2.1.4, 2.1.5).
+//!
+//! A message says something of slots of a meeting: of the whole of it, or of one instance. Each such
+//! part has a revision. `Held` keeps the greatest part of each slot, and shows those that stand
+//! beside the Whole of their meeting. The answer doesn't hang on the order in which parts come.
 #![tactic(auto)]
+
+mod held;
+mod part;
+
+pub use held::{Freshness, Held, View};
+pub use part::{Body, Part, Revision, Slot};
+
+#[cfg(test)]
+mod tests;

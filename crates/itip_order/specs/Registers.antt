@@ -1,0 +1,37 @@
+-- What a list of registers, one for each slot, stands for.
+use Rattle.std.specs.Prelude.{Bool, true, ◌&&◌, List, [], ◌∷◌, ◌++◌, IsTrue, ◌↔◌, Contains, filter}
+use Rattle.std.specs.List.{list_all, list_any}
+use Rattle.std.specs.Ordering.{is_lt}
+use Rattle.profile.specs.Revisions.{Part, place_cmp, same_place, is_greatest, in_view, allows}
+use Rattle.itip_order.specs.declared.held.Freshness.{Freshness}
+use Rattle.itip_order.specs.declared.held.Freshness.TheVariants.{Fresh, Same, Stale}
+
+-- each part's place is below those of all later ones: by organiser, UID, slot
+abbrev pub is_ascending : List Part → Bool
+is_ascending [] = true
+is_ascending (part ∷ parts) = list_all (λ later. is_lt (place_cmp part later)) parts && is_ascending parts
+
+-- the registers hold the greatest part of each slot ever taken, one for each slot, by their places
+pub record StandsFor (registers history : List Part) : Type 0 where
+  pub ascending : IsTrue (is_ascending registers)
+  pub greatest : IsTrue (list_all (is_greatest history) registers)
+  pub covered : IsTrue (list_all (λ part. list_any (λ register. same_place register part) registers) history)
+
+-- these are the parts in the view of the history, in the order of their places
+pub record IsView (parts history : List Part) : Type 0 where
+  pub ascending : IsTrue (is_ascending parts)
+  pub exact : (part : Part) → Contains parts part ↔ IsTrue (in_view history part)
+
+-- the same parts were taken, in any order, each any number of times
+abbrev pub SameParts : List Part → List Part → Type 0
+SameParts xs ys = (part : Part) → Contains xs part ↔ Contains ys part
+
+-- the registers whose parts are in the view
+abbrev pub shown : List Part → List Part
+shown registers = filter (λ part. list_all (λ whole. allows whole part) registers) registers
+
+-- what taking the part did to the view of the history
+abbrev pub IsFreshness : Freshness → List Part → Part → Type 0
+IsFreshness Fresh history part = IsTrue (in_view (history ++ part ∷ []) part) × ¬ IsTrue (in_view history part)
+IsFreshness Same history part = IsTrue (in_view (history ++ part ∷ []) part) × IsTrue (in_view history part)
+IsFreshness Stale history part = ¬ IsTrue (in_view (history ++ part ∷ []) part)
