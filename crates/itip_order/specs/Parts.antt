@@ -12,18 +12,18 @@ use Rattle.profile.specs.Revisions as revisions
 
 -- the octets of an organiser
 abbrev pub address_octets : Address → List ℕ
-address_octets address = string_bytes address.text
+address_octets address = string_bytes address.octets
 
 -- the octets of a UID
 abbrev pub text_octets : Text → List ℕ
-text_octets text = string_bytes text.text
+text_octets text = string_bytes text.octets
 
 abbrev pub slot_of : Slot → revisions.Slot
 slot_of Whole = revisions.Whole
 slot_of (At instant) = revisions.At instant
 
 abbrev pub revision_of : Revision → revisions.Revision
-revision_of revision = record { sequence = revision.sequence; stamp = revision.stamp }
+revision_of revision = record { sequence = revision.sequence.number; stamp = revision.stamp.instant }
 
 abbrev pub body_of : Body → revisions.Body
 body_of (Set octets) = revisions.Set octets.items

@@ -1,8 +1,9 @@
 -- What a list of registers, one for each slot, stands for.
-use Rattle.std.specs.Prelude.{Bool, true, ◌&&◌, List, [], ◌∷◌, ◌++◌, IsTrue, ◌↔◌, Contains, filter}
+use Rattle.std.specs.Prelude.{◌≡◌, ℕ, ◌<◌, ◌≤◌, Bool, true, ◌&&◌, List, [], ◌∷◌, ◌++◌, length, take, drop, slice_index_or, IsTrue, ◌↔◌, Contains, filter}
+use Rattle.std.specs.declared.cmp.Ordering.TheVariants.{Equal}
 use Rattle.std.specs.List.{list_all, list_any}
-use Rattle.std.specs.Ordering.{is_lt}
-use Rattle.profile.specs.Revisions.{Part, place_cmp, same_place, is_greatest, in_view, allows}
+use Rattle.std.specs.Ordering.{is_lt, is_gt}
+use Rattle.profile.specs.Revisions.{Slot, Part, place_cmp, same_place, is_greatest, in_view, allows}
 use Rattle.itip_order.specs.declared.held.Freshness.{Freshness}
 use Rattle.itip_order.specs.declared.held.Freshness.TheVariants.{Fresh, Same, Stale}
 
@@ -35,3 +36,18 @@ abbrev pub IsFreshness : Freshness → List Part → Part → Type 0
 IsFreshness Fresh history part = IsTrue (in_view (history ++ part ∷ []) part) × ¬ IsTrue (in_view history part)
 IsFreshness Same history part = IsTrue (in_view (history ++ part ∷ []) part) × IsTrue (in_view history part)
 IsFreshness Stale history part = ¬ IsTrue (in_view (history ++ part ∷ []) part)
+
+-- the slot of the part's meeting, as a part of it
+abbrev pub at_slot : Part → Slot → Part
+at_slot part slot = record part { slot = slot }
+
+-- the register at this place in the list is that of the part's place
+pub record IsAt (registers : List Part) (part : Part) (at : ℕ) : Type 0 where
+  pub in_range : at < length registers
+  pub same : (default : Part) → place_cmp (slice_index_or registers at default) part ≡ Equal
+
+-- no register is of the part's place, and a new one would go here
+pub record IsGap (registers : List Part) (part : Part) (at : ℕ) : Type 0 where
+  pub in_range : at ≤ length registers
+  pub below : IsTrue (list_all (λ register. is_lt (place_cmp register part)) (take at registers))
+  pub above : IsTrue (list_all (λ register. is_gt (place_cmp register part)) (drop at registers))

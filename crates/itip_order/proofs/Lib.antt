@@ -1,0 +1,6 @@
+pub mod Examples
+pub mod Lists
+pub mod Order
+pub mod Registers
+pub mod Search
+pub mod Taking

@@ -1,0 +1,193 @@
+-- What taking a part does to the registers and to the view.
+use Rattle.std.proofs.Common.{◌≡◌, ℕ, suc, ◌<◌, ◌≤◌, Bool, true, false, ◌&&◌, ◌||◌, cond, List, [], ◌∷◌, ◌++◌, ◌⊎◌, inl, inr, length, get_or, set, take, drop, refl, sym, ap, ◌∙◌, subst}
+use Rattle.std.specs.declared.cmp.Ordering.{Ordering}
+use Rattle.std.specs.declared.cmp.Ordering.TheVariants.{Less, Equal, Greater}
+use Rattle.std.specs.Ordering.{ordering_reverse, is_eq, is_lt, is_gt, is_le}
+use Rattle.std.specs.List.{list_all, list_any, Contains, insert}
+use Rattle.std.proofs.lemmas.Bool.{and_parts, and_from, true≢false, both_ways, cases_Bool}
+use Rattle.std.proofs.lemmas.Cmp.{tied_back, alike_right, tied_itself}
+use Rattle.std.proofs.lemmas.List.{take-append-drop, set_split}
+use Rattle.std.proofs.Math.Seq.{drop-cons}
+use Rattle.std.proofs.lemmas.List.Elements.{Contains-append_left, Contains-append_right, Contains-append_cases, Contains-push}
+use Rattle.profile.specs.Revisions.{Part, place_cmp, part_cmp, same_place, allows, in_view}
+use Rattle.itip_order.specs.declared.held.Freshness.{Freshness}
+use Rattle.itip_order.specs.declared.held.Freshness.TheVariants.{Fresh, Same, Stale}
+use Rattle.itip_order.specs.Registers.{is_ascending, StandsFor, IsFreshness, IsAt, IsGap}
+use Rattle.itip_order.proofs.Lists.{all_at, all_from, in_head, in_tail, in_cons, none_in_nil}
+use Rattle.itip_order.proofs.Order.{place_total, part_total, is_eq_true}
+use Rattle.itip_order.proofs.Registers.{Puts, stands_kept, stands_put, in_view_from, in_view_at, register_greatest, greatest_unique, Greatest, allows_same_place, eq_refl, place_sym}
+
+is_lt_true : (o : Ordering) → is_lt o ≡ true → o ≡ Less
+is_lt_true Less e = refl
+is_lt_true Equal e = absurd (true≢false (sym e))
+is_lt_true Greater e = absurd (true≢false (sym e))
+
+is_gt_true : (o : Ordering) → is_gt o ≡ true → o ≡ Greater
+is_gt_true Less e = absurd (true≢false (sym e))
+is_gt_true Equal e = absurd (true≢false (sym e))
+is_gt_true Greater e = refl
+
+-- the part's place is above all of the one list and below all of the other
+record Between (A B : List Part) (p : Part) : Type 0 where
+  low : (x : Part) → Contains A x → place_cmp x p ≡ Less
+  high : (x : Part) → Contains B x → place_cmp p x ≡ Less
+
+low_other : (A B : List Part) (p : Part) → Between A B p → (x : Part) → Contains A x → same_place x p ≡ false
+low_other A B p w x c = ap is_eq (w.low x c)
+
+high_other : (A B : List Part) (p : Part) → Between A B p → (x : Part) → Contains B x → same_place x p ≡ false
+high_other A B p w x c = ap is_eq (place_total.antisymm x p ∙ ap ordering_reverse (w.high x c))
+
+ascending_between : (A B : List Part) (p : Part) → is_ascending (A ++ B) ≡ true → Between A B p → is_ascending (A ++ p ∷ B) ≡ true
+ascending_between [] B p a w = and_from _ _ (all_from (λ y. is_lt (place_cmp p y)) B (λ x c. ap is_lt (w.high x c))) a
+ascending_between (x ∷ A) B p a w =
+    let both = and_parts _ _ a in
+    let below = λ (y : Part) (c : Contains (A ++ B) y). all_at (λ y. is_lt (place_cmp x y)) (A ++ B) y both.0 c in
+    and_from _ _
+    (all_from (λ y. is_lt (place_cmp x y)) (A ++ p ∷ B) (λ y c. elim (Contains-append_cases A (p ∷ B) y c) [
+      | inl left ↦ below y (Contains-append_left A B y left)
+      | inr right ↦ elim (in_cons p B y right) [
+          | inl same ↦ subst (λ (z : Part). is_lt (place_cmp x z) ≡ true) same (ap is_lt (w.low x (in_head x A)))
+          | inr later ↦ below y (Contains-append_right A B y later)
+        ]
+    ]))
+    (ascending_between A B p both.1 record { low = λ y c. w.low y (in_tail x A y c); high = w.high })
+
+-- without its middle a list still ascends
+ascending_without : (A : List Part) (r : Part) (B : List Part) → is_ascending (A ++ r ∷ B) ≡ true → is_ascending (A ++ B) ≡ true
+ascending_without [] r B a = (and_parts _ _ a).1
+ascending_without (x ∷ A) r B a =
+    let both = and_parts _ _ a in
+    and_from _ _
+    (all_from (λ y. is_lt (place_cmp x y)) (A ++ B) (λ y c. all_at (λ y. is_lt (place_cmp x y)) (A ++ r ∷ B) y both.0 (elim (Contains-append_cases A B y c) [
+      | inl left ↦ Contains-append_left A (r ∷ B) y left
+      | inr right ↦ Contains-append_right A (r ∷ B) y (in_tail r B y right)
+    ])))
+    (ascending_without A r B both.1)
+
+-- the middle is between the sides
+between_sides : (A : List Part) (r : Part) (B : List Part) → is_ascending (A ++ r ∷ B) ≡ true → Between A B r
+between_sides [] r B a = record {
+  low = λ x c. absurd (none_in_nil x c);
+  high = λ x c. is_lt_true _ (all_at (λ y. is_lt (place_cmp r y)) B x (and_parts _ _ a).0 c);
+}
+between_sides (y ∷ A) r B a =
+    let both = and_parts _ _ a in
+    let rest = between_sides A r B both.1 in
+    record {
+      low = λ x c. elim (in_cons y A x c) [
+        | inl same ↦ subst (λ (z : Part). place_cmp z r ≡ Less) same (is_lt_true _ (all_at (λ z. is_lt (place_cmp y z)) (A ++ r ∷ B) r both.0 (Contains-append_right A (r ∷ B) r (in_head r B))))
+        | inr later ↦ rest.low x later
+      ];
+      high = rest.high;
+    }
+
+-- a part in the gap
+puts_between : (A B : List Part) (p : Part) → is_ascending (A ++ B) ≡ true → Between A B p → Puts (A ++ B) (A ++ p ∷ B) p
+puts_between A B p a w = record {
+  ascending = ascending_between A B p a w;
+  put = Contains-append_right A (p ∷ B) p (in_head p B);
+  others = λ x c. elim (Contains-append_cases A (p ∷ B) x c) [
+    | inl left ↦ inr (Contains-append_left A B x left, low_other A B p w x left)
+    | inr right ↦ elim (in_cons p B x right) [
+        | inl same ↦ inl same
+        | inr later ↦ inr (Contains-append_right A B x later, high_other A B p w x later)
+      ]
+  ];
+  kept = λ x c other. elim (Contains-append_cases A B x c) [
+    | inl left ↦ Contains-append_left A (p ∷ B) x left
+    | inr right ↦ Contains-append_right A (p ∷ B) x (in_tail p B x right)
+  ];
+  beaten = λ x c same. elim (Contains-append_cases A B x c) [
+    | inl left ↦ absurd (both_ways _ (low_other A B p w x left) same)
+    | inr right ↦ absurd (both_ways _ (high_other A B p w x right) same)
+  ];
+}
+
+-- a part over the lesser part of its place
+puts_over : (A : List Part) (r : Part) (B : List Part) (p : Part) → is_ascending (A ++ r ∷ B) ≡ true → place_cmp r p ≡ Equal → part_cmp p r ≡ Greater → Puts (A ++ r ∷ B) (A ++ p ∷ B) p
+puts_over A r B p a place greater =
+    let w = between_sides A r B a in
+    let v : Between A B p = record {
+      low = λ x c. sym (alike_right place_total r p x place) ∙ w.low x c;
+      high = λ x c. sym (place_total.congr r p x place) ∙ w.high x c;
+    } in
+    record {
+      ascending = ascending_between A B p (ascending_without A r B a) v;
+      put = Contains-append_right A (p ∷ B) p (in_head p B);
+      others = λ x c. elim (Contains-append_cases A (p ∷ B) x c) [
+        | inl left ↦ inr (Contains-append_left A (r ∷ B) x left, low_other A B p v x left)
+        | inr right ↦ elim (in_cons p B x right) [
+            | inl same ↦ inl same
+            | inr later ↦ inr (Contains-append_right A (r ∷ B) x (in_tail r B x later), high_other A B p v x later)
+          ]
+      ];
+      kept = λ x c other. elim (Contains-append_cases A (r ∷ B) x c) [
+        | inl left ↦ Contains-append_left A (p ∷ B) x left
+        | inr right ↦ elim (in_cons r B x right) [
+            | inl same ↦ absurd (both_ways _ other (ap is_eq (subst (λ (z : Part). place_cmp z p ≡ Equal) same place)))
+            | inr later ↦ Contains-append_right A (p ∷ B) x (in_tail p B x later)
+          ]
+      ];
+      beaten = λ x c same. elim (Contains-append_cases A (r ∷ B) x c) [
+        | inl left ↦ absurd (both_ways _ (low_other A B p v x left) same)
+        | inr right ↦ elim (in_cons r B x right) [
+            | inl is_r ↦ subst (λ (z : Part). part_cmp z p ≡ Less) is_r (part_total.antisymm r p ∙ ap ordering_reverse greater)
+            | inr later ↦ absurd (both_ways _ (high_other A B p v x later) same)
+          ]
+      ];
+    }
+
+pub puts_insert : (R : List Part) (p : Part) (at : ℕ) → is_ascending R ≡ true → IsGap R p at → Puts R (insert R at p) p
+puts_insert R p at a gap =
+    let e = take-append-drop at R in
+    let w : Between (take at R) (drop at R) p = record {
+      low = λ x c. is_lt_true _ (all_at (λ r. is_lt (place_cmp r p)) (take at R) x gap.below c);
+      high = λ x c. place_total.antisymm p x ∙ ap ordering_reverse (is_gt_true _ (all_at (λ r. is_gt (place_cmp r p)) (drop at R) x gap.above c));
+    } in
+    subst (λ (xs : List Part). Puts xs (take at R ++ p ∷ drop at R) p) e (puts_between (take at R) (drop at R) p (rw e a) w)
+
+pub puts_set : (R : List Part) (p r : Part) (at : ℕ) → is_ascending R ≡ true → IsAt R p at → r ≡ get_or R at r → part_cmp p r ≡ Greater → Puts R (set R at p) p
+puts_set R p r at a found is greater =
+    let in_range = found.in_range in
+    let e : take at R ++ r ∷ drop (suc at) R ≡ R = ap (λ z. take at R ++ z ∷ drop (suc at) R) is ∙ ap (λ zs. take at R ++ zs) (sym (drop-cons R at r in_range)) ∙ take-append-drop at R in
+    let place : place_cmp r p ≡ Equal = subst (λ (z : Part). place_cmp z p ≡ Equal) (sym is) (found.same r) in
+    rw set_split
+    (subst (λ (xs : List Part). Puts xs (take at R ++ p ∷ drop (suc at) R) p) e (puts_over (take at R) r (drop (suc at) R) p (rw e a) place greater))
+
+-- each Whole register of its meeting lets the part show
+abbrev pub is_allowed_by : List Part → Part → Bool
+is_allowed_by R p = list_all (λ whole. allows whole p) R
+
+allowed_after : (R R' : List Part) (p : Part) → Puts R R' p → is_allowed_by R p ≡ true → is_allowed_by R' p ≡ true
+allowed_after R R' p u a = all_from (λ whole. allows whole p) R' (λ x c. elim (u.others x c) [
+  | inl itself ↦ allows_same_place x p (ap is_eq (subst (λ (z : Part). place_cmp z p ≡ Equal) itself (tied_itself place_total p)))
+  | inr other ↦ all_at (λ whole. allows whole p) R x a other.0
+])
+
+allowed_before : (R R' : List Part) (p : Part) → Puts R R' p → is_allowed_by R' p ≡ true → is_allowed_by R p ≡ true
+allowed_before R R' p u a = all_from (λ whole. allows whole p) R (λ x c. elim (cases_Bool (same_place x p)) [
+  | inl here ↦ allows_same_place x p here
+  | inr there ↦ all_at (λ whole. allows whole p) R' x a (u.kept x c there)
+])
+
+-- a part that was put wasn't a register before
+not_before : (R R' : List Part) (p : Part) → Puts R R' p → Contains R p → ⊥
+not_before R R' p u c = true≢false (sym (ap is_lt (u.beaten p c (eq_refl p))) ∙ ap is_lt (tied_itself part_total p))
+
+-- the part was put in the registers
+pub entered_is : (R R' h : List Part) (p : Part) (b : Bool) → StandsFor R h → Puts R R' p → b ≡ is_allowed_by R p → IsFreshness (cond b Fresh Stale) h p
+entered_is R R' h p true s u e = (in_view_from R' (h ++ p ∷ []) (stands_put R R' h p s u) p u.put (allowed_after R R' p u (sym e)), λ v. not_before R R' p u (in_view_at R h s p v).0)
+entered_is R R' h p false s u e = λ v. true≢false (sym (allowed_before R R' p u (in_view_at R' (h ++ p ∷ []) (stands_put R R' h p s u) p v).1) ∙ sym e)
+
+-- the part is its register
+pub repeated_is : (R h : List Part) (p : Part) (b : Bool) → StandsFor R h → Contains R p → b ≡ is_allowed_by R p → IsFreshness (cond b Same Stale) h p
+repeated_is R h p true s c e = (in_view_from R (h ++ p ∷ []) (stands_kept R h p p s c (eq_refl p) (ap is_le (tied_itself part_total p))) p c (sym e), in_view_from R h s p c (sym e))
+repeated_is R h p false s c e = λ v. true≢false (sym (in_view_at R (h ++ p ∷ []) (stands_kept R h p p s c (eq_refl p) (ap is_le (tied_itself part_total p))) p v).1 ∙ sym e)
+
+-- the part is below its register
+pub stale_is : (R h : List Part) (p r : Part) → StandsFor R h → Contains R r → same_place r p ≡ true → part_cmp p r ≡ Less → IsFreshness Stale h p
+stale_is R h p r s c place less v =
+    let in_R = (in_view_at R (h ++ p ∷ []) (stands_kept R h p r s c place (ap is_le less)) p v).0 in
+    let same = greatest_unique h r p (register_greatest R h s r c) (register_greatest R h s p in_R) place in
+    true≢false (sym (ap is_lt (subst (λ (z : Part). part_cmp p z ≡ Less) same less)) ∙ ap is_lt (tied_itself part_total p))
