@@ -4,3 +4,4 @@ pub mod Order
 pub mod Registers
 pub mod Search
 pub mod Taking
+pub mod Allowed

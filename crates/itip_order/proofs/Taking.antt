@@ -12,7 +12,8 @@ use Rattle.std.proofs.lemmas.List.Elements.{Contains-append_left, Contains-appen
 use Rattle.profile.specs.Revisions.{Part, place_cmp, part_cmp, same_place, allows, in_view}
 use Rattle.itip_order.specs.declared.held.Freshness.{Freshness}
 use Rattle.itip_order.specs.declared.held.Freshness.TheVariants.{Fresh, Same, Stale}
-use Rattle.itip_order.specs.Registers.{is_ascending, StandsFor, IsFreshness, IsAt, IsGap}
+use Rattle.itip_order.specs.Freshness.{IsFreshness}
+use Rattle.itip_order.specs.Registers.{is_ascending, is_allowed_by, StandsFor, IsAt, IsGap}
 use Rattle.itip_order.proofs.Lists.{all_at, all_from, in_head, in_tail, in_cons, none_in_nil}
 use Rattle.itip_order.proofs.Order.{place_total, part_total, is_eq_true}
 use Rattle.itip_order.proofs.Registers.{Puts, stands_kept, stands_put, in_view_from, in_view_at, register_greatest, greatest_unique, Greatest, allows_same_place, eq_refl, place_sym}
@@ -154,10 +155,6 @@ puts_set R p r at a found is greater =
     let place : place_cmp r p ≡ Equal = subst (λ (z : Part). place_cmp z p ≡ Equal) (sym is) (found.same r) in
     rw set_split
     (subst (λ (xs : List Part). Puts xs (take at R ++ p ∷ drop (suc at) R) p) e (puts_over (take at R) r (drop (suc at) R) p (rw e a) place greater))
-
--- each Whole register of its meeting lets the part show
-abbrev pub is_allowed_by : List Part → Part → Bool
-is_allowed_by R p = list_all (λ whole. allows whole p) R
 
 allowed_after : (R R' : List Part) (p : Part) → Puts R R' p → is_allowed_by R p ≡ true → is_allowed_by R' p ≡ true
 allowed_after R R' p u a = all_from (λ whole. allows whole p) R' (λ x c. elim (u.others x c) [

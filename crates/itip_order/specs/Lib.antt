@@ -1,2 +1,3 @@
+pub mod Freshness
 pub mod Parts
 pub mod Registers

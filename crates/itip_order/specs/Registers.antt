@@ -4,8 +4,6 @@ use Rattle.std.specs.declared.cmp.Ordering.TheVariants.{Equal}
 use Rattle.std.specs.List.{list_all, list_any}
 use Rattle.std.specs.Ordering.{is_lt, is_gt}
 use Rattle.profile.specs.Revisions.{Slot, Part, place_cmp, same_place, is_greatest, in_view, allows}
-use Rattle.itip_order.specs.declared.held.Freshness.{Freshness}
-use Rattle.itip_order.specs.declared.held.Freshness.TheVariants.{Fresh, Same, Stale}
 
 -- each part's place is below those of all later ones: by organiser, UID, slot
 abbrev pub is_ascending : List Part → Bool
@@ -27,15 +25,17 @@ pub record IsView (parts history : List Part) : Type 0 where
 abbrev pub SameParts : List Part → List Part → Type 0
 SameParts xs ys = (part : Part) → Contains xs part ↔ Contains ys part
 
+-- each Whole register of its meeting leaves the part in the view
+abbrev pub is_allowed_by : List Part → Part → Bool
+is_allowed_by registers part = list_all (λ whole. allows whole part) registers
+
+-- those of the parts that the registers leave in the view
+abbrev pub allowed_by : List Part → List Part → List Part
+allowed_by registers parts = filter (is_allowed_by registers) parts
+
 -- the registers whose parts are in the view
 abbrev pub shown : List Part → List Part
-shown registers = filter (λ part. list_all (λ whole. allows whole part) registers) registers
-
--- what taking the part did to the view of the history
-abbrev pub IsFreshness : Freshness → List Part → Part → Type 0
-IsFreshness Fresh history part = IsTrue (in_view (history ++ part ∷ []) part) × ¬ IsTrue (in_view history part)
-IsFreshness Same history part = IsTrue (in_view (history ++ part ∷ []) part) × IsTrue (in_view history part)
-IsFreshness Stale history part = ¬ IsTrue (in_view (history ++ part ∷ []) part)
+shown registers = allowed_by registers registers
 
 -- the slot of the part's meeting, as a part of it
 abbrev pub at_slot : Part → Slot → Part

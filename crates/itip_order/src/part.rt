@@ -2,6 +2,9 @@
 //!
 //! Octets of organisers and UIDs are compared as they are: an `Address` is kept in lower case.
 
+ghost use Rattle.std.specs.Prelude.{◌≡◌};
+ghost use Rattle.profile.specs.Revisions.{meeting_cmp, place_cmp, part_cmp};
+
 use ical_values::{Address, Sequence, Stamp, Text};
 use std::alloc::AllocError;
 use std::cmp::Ordering;
@@ -34,6 +37,10 @@ pub enum Body {
 }
 
 impl Clone for Body {
+    ghost use Rattle.itip_order.specs.Parts.{body_of};
+
+    ghost is_clone = { λ body copy. body_of copy ≡ body_of body };
+
     fn clone(&self) -> Result<Body, AllocError> {
         match self {
             Body::Set(octets) => Ok(Body::Set(octets.clone()?)),
@@ -54,6 +61,10 @@ pub struct Part {
 }
 
 impl Clone for Part {
+    ghost use Rattle.itip_order.specs.Parts.{part_of};
+
+    ghost is_clone = { λ part copy. part_of copy ≡ part_of part };
+
     fn clone(&self) -> Result<Part, AllocError> {
         let organiser = self.organiser.clone()?;
         let uid = self.uid.clone()?;
@@ -69,19 +80,28 @@ impl Clone for Part {
 }
 
 impl Part {
-    /// Compares meetings: by organiser, then UID, octet by octet.
-    pub fn cmp_meeting(&self, other: &Part) -> Ordering {
+    ghost use Rattle.itip_order.specs.Parts.{part_of, slot_of};
+    ghost use Rattle.itip_order.specs.Registers.{at_slot};
+
+    // Compares meetings: by organiser, then UID, octet by octet.
+    fn cmp_meeting(&self, other: &Part) -> Ordering
+        ensures { result ≡ meeting_cmp (part_of self.now) (part_of other.now) }
+    {
         let organiser = self.organiser.as_str().cmp(other.organiser.as_str());
         organiser.then(self.uid.as_str().cmp(other.uid.as_str()))
     }
 
-    /// Compares a part's place with a slot of another part's meeting.
-    pub fn cmp_place(&self, other: &Part, slot: Slot) -> Ordering {
+    // Compares the part's place with a slot of the other's meeting.
+    pub(crate) fn cmp_place(&self, other: &Part, slot: Slot) -> Ordering
+        ensures { result ≡ place_cmp (part_of self.now) (at_slot (part_of other.now) (slot_of slot)) }
+    {
         self.cmp_meeting(other).then(self.slot.cmp(&slot))
     }
 
-    /// Compares two parts of one place: SEQUENCE, DTSTAMP, then the body.
-    pub fn cmp_part(&self, other: &Part) -> Ordering {
+    // Compares two parts of one place: SEQUENCE, DTSTAMP, then the body.
+    pub(crate) fn cmp_part(&self, other: &Part) -> Ordering
+        ensures { result ≡ part_cmp (part_of self.now) (part_of other.now) }
+    {
         let revision = self.revision.cmp(&other.revision);
         revision.then(self.body.cmp(&other.body))
     }

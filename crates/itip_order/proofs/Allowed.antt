@@ -1,0 +1,85 @@
+-- The one Whole register of a part's meeting says whether the part is in the view.
+use Rattle.std.proofs.Common.{◌≡◌, ℕ, ◌<◌, Bool, true, false, ◌&&◌, ◌||◌, List, [], ◌∷◌, ◌++◌, ◌⊎◌, inl, inr, length, get_or, take, drop, refl, sym, ap, ◌∙◌, subst}
+use Rattle.std.specs.declared.cmp.Ordering.{Ordering}
+use Rattle.std.specs.declared.cmp.Ordering.TheVariants.{Less, Equal, Greater}
+use Rattle.std.specs.Ordering.{ordering_then, is_eq, is_lt, is_gt}
+use Rattle.std.specs.Cmp.{both_ways}
+use Rattle.std.specs.List.{Contains}
+use Rattle.std.proofs.lemmas.Bool.{and_parts, true≢false, or_left, cases_Bool}
+use Rattle.std.proofs.lemmas.List.{take-append-drop}
+use Rattle.std.proofs.lemmas.List.Elements.{Contains-get_or, Contains-append_cases}
+use Rattle.profile.specs.Revisions.{Slot, Whole, At, Part, slot_cmp, meeting_cmp, place_cmp, same_meeting, same_place, is_whole, implies, stands_beside, allows}
+use Rattle.itip_order.specs.Registers.{is_ascending, is_allowed_by, at_slot, IsAt, IsGap}
+use Rattle.itip_order.proofs.Lists.{all_at, all_from, in_cons, none_in_nil}
+use Rattle.itip_order.proofs.Order.{place_total, is_eq_true, then_equal}
+use Rattle.itip_order.proofs.Registers.{implies_at, implies_from, place_sym, place_trans}
+
+eq_then : (a b : Ordering) → is_eq a ≡ true → is_eq b ≡ true → is_eq (ordering_then a b) ≡ true
+eq_then Less b p q = p
+eq_then Equal b p q = q
+eq_then Greater b p q = p
+
+lt_not_eq : (o : Ordering) → is_lt o ≡ true → is_eq o ≡ true → ⊥
+lt_not_eq Less p q = true≢false (sym q)
+lt_not_eq Equal p q = true≢false (sym p)
+lt_not_eq Greater p q = true≢false (sym p)
+
+gt_not_eq : (o : Ordering) → is_gt o ≡ true → is_eq o ≡ true → ⊥
+gt_not_eq Less p q = true≢false (sym q)
+gt_not_eq Equal p q = true≢false (sym p)
+gt_not_eq Greater p q = true≢false (sym q)
+
+-- ascending parts have different places
+ascending_unique : (R : List Part) (x y : Part) → is_ascending R ≡ true → Contains R x → Contains R y → same_place x y ≡ true → x ≡ y
+ascending_unique [] x y a c d e = absurd (none_in_nil x c)
+ascending_unique (z ∷ R) x y a c d e =
+    let both = and_parts _ _ a in
+    elim (in_cons z R x c) [
+      | inl first ↦ elim (in_cons z R y d) [
+          | inl same ↦ sym first ∙ same
+          | inr later ↦ absurd (lt_not_eq _ (all_at (λ w. is_lt (place_cmp z w)) R y both.0 later) (subst (λ (w : Part). same_place w y ≡ true) (sym first) e))
+        ]
+      | inr later ↦ elim (in_cons z R y d) [
+          | inl first ↦ absurd (lt_not_eq _ (all_at (λ w. is_lt (place_cmp z w)) R x both.0 later) (subst (λ (w : Part). same_place w x ≡ true) (sym first) (place_sym x y e)))
+          | inr second ↦ ascending_unique R x y both.1 later second e
+        ]
+    ]
+
+-- a Whole of the meeting is at the place of the meeting's Whole
+at_whole : (x p : Part) → (is_whole x && same_meeting x p) ≡ true → same_place x (at_slot p Whole) ≡ true
+at_whole x p e = let both = and_parts _ _ e in eq_then _ _ both.1 both.0
+
+pub allowed_whole : (R : List Part) (p : Part) → is_whole p ≡ true → true ≡ is_allowed_by R p
+allowed_whole R p whole = sym (all_from (λ w. allows w p) R (λ x c. or_left _ _ whole))
+
+or_from_right : (a b : Bool) → b ≡ true → (a || b) ≡ true
+or_from_right true b e = refl
+or_from_right false b e = e
+
+or_right_of : (a b : Bool) → a ≡ false → (a || b) ≡ true → b ≡ true
+or_right_of true b p q = absurd (true≢false p)
+or_right_of false b p q = q
+
+and_of : (a b : Bool) → a ≡ true → b ≡ true → (a && b) ≡ true
+and_of true b p q = q
+and_of false b p q = p
+
+pub allowed_absent : (R : List Part) (p : Part) (at : ℕ) → IsGap R (at_slot p Whole) at → true ≡ is_allowed_by R p
+allowed_absent R p at gap = sym (all_from (λ w. allows w p) R (λ x c.
+    or_from_right (is_whole p) _ (implies_from _ _ (λ whole.
+    let here = at_whole x p whole in
+    absurd (elim (Contains-append_cases (take at R) (drop at R) x (subst (λ (xs : List Part). Contains xs x) (sym (take-append-drop at R)) c)) [
+      | inl left ↦ lt_not_eq _ (all_at (λ r. is_lt (place_cmp r (at_slot p Whole))) (take at R) x gap.below left) here
+      | inr right ↦ gt_not_eq _ (all_at (λ r. is_gt (place_cmp r (at_slot p Whole))) (drop at R) x gap.above right) here
+    ])))))
+
+pub allowed_found : (R : List Part) (p w : Part) (at : ℕ) → is_ascending R ≡ true → is_whole p ≡ false → IsAt R (at_slot p Whole) at → w ≡ get_or R at w → stands_beside w p ≡ is_allowed_by R p
+allowed_found R p w at a other found is =
+    let in_R : Contains R w = subst (λ (z : Part). Contains R z) (sym is) (Contains-get_or R at w found.in_range) in
+    let place : place_cmp w (at_slot p Whole) ≡ Equal = subst (λ (z : Part). place_cmp z (at_slot p Whole) ≡ Equal) (sym is) (found.same w) in
+    let both = then_equal _ _ place in
+    both_ways (stands_beside w p) (is_allowed_by R p)
+    (λ stands. all_from (λ v. allows v p) R (λ x c. or_from_right (is_whole p) _ (implies_from _ _ (λ whole.
+      let same = ascending_unique R x w a c in_R (place_trans x (at_slot p Whole) w (at_whole x p whole) (place_sym w (at_slot p Whole) (ap is_eq place))) in
+      subst (λ (z : Part). stands_beside z p ≡ true) (sym same) stands))))
+    (λ allowed. implies_at _ _ (or_right_of (is_whole p) _ other (all_at (λ v. allows v p) R w allowed in_R)) (and_of _ _ (ap is_eq both.1) (ap is_eq both.0)))
