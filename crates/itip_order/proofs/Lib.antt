@@ -5,3 +5,4 @@ pub mod Registers
 pub mod Search
 pub mod Taking
 pub mod Allowed
+pub mod Steps

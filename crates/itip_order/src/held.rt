@@ -3,9 +3,16 @@
 //! One register for each slot, in the order of organiser, UID, slot, so a slot is found by halves.
 //! A tombstone stays for good, also one of a meeting that was never heard of.
 
+ghost use Rattle.std.specs.Prelude.{◌≡◌, List, [], ◌∷◌, ◌++◌, IsTrue, IfOk, IfErr, OnOk, OnErr, if◌then◌else◌};
+ghost use Rattle.std.specs.Iterator.{YieldsFirstBy, item_count};
+ghost use Rattle.itip_order.specs.Parts.{part_of, parts_of, slot_of};
+ghost use Rattle.itip_order.specs.Registers.{is_ascending, is_allowed_by, shown, at_slot, StandsFor, IsView, SameParts, IsAt, IsGap};
+ghost use Rattle.profile.specs.Revisions as revisions;
+
 use crate::part::{Body, Part, Slot};
 use std::alloc::{AllocError, Global};
 use std::cmp::Ordering;
+use std::marker::Model;
 
 /// What taking a part did to the view.
 #[derive(Clone, Copy, Debug, PartialEq, Eq, Drop)]
@@ -18,22 +25,49 @@ pub enum Freshness {
     Stale,
 }
 
-/// All parts ever taken, as far as later calls can tell.
+/// All parts ever taken, as far as later calls can tell. Seen as its registers: it stands for each
+/// history whose greatest parts they are.
 #[derive(Debug, Drop)]
 pub struct Held {
     registers: Vec<Part>,
 }
 
+impl Model for Held {
+    ghost use Rattle.std.specs.Prelude.{List, IsTrue};
+    ghost use Rattle.profile.specs.Revisions as revisions;
+    ghost use Rattle.itip_order.specs.Parts.{parts_of};
+    ghost use Rattle.itip_order.specs.Registers.{is_ascending};
+
+    ghost Value = { List revisions.Part };
+
+    ghost view = { λ held. parts_of held.registers.items };
+
+    ghost invariant = { λ held. IsTrue (is_ascending (parts_of held.registers.items)) };
+}
+
 impl Held {
+    ghost use Rattle.itip_order.specs.Freshness.{IsFreshness};
+
     /// No part was taken. Takes no memory yet.
-    pub fn new(alloc: Global) -> Held {
+    pub fn new(alloc: Global) -> Held
+        ensures { StandsFor result [] }
+    {
         Held {
             registers: Vec::new(alloc),
         }
     }
 
     /// Takes a part. On an error nothing has changed.
-    pub fn take(&mut self, part: Part) -> Result<Freshness, AllocError> {
+    pub fn take(&mut self, part: Part) -> Result<Freshness, AllocError>
+        // The new value stands for each history that the old one stands for, with the part added.
+        ensures taken { OnOk result ((history : List revisions.Part) → StandsFor self.old history
+            → StandsFor self.new (history ++ part_of part ∷ [])) }
+
+        // The answer tells the part's place in the views before and after.
+        ensures freshness { IfOk result (λ freshness. (history : List revisions.Part)
+            → StandsFor self.old history → IsFreshness freshness history (part_of part)) }
+        ensures err { OnErr result (self.new ≡ self.old) }
+    {
         let in_view = is_allowed(&self.registers, &part);
         match place_of(&self.registers, &part, part.slot) {
             Ok(at) => match part.cmp_part(&self.registers[at]) {
@@ -52,7 +86,11 @@ impl Held {
     }
 
     /// The parts in the view, in the order of organiser, UID, slot. Takes no memory.
-    pub fn view(&self) -> View<'_> {
+    pub fn view(&self) -> View<'_>
+        // They are the view of each history that the value stands for.
+        ensures exact { (history : List revisions.Part) → StandsFor self.now history → IsView result history }
+        ensures registers { result ≡ shown self.now }
+    {
         View {
             registers: &self.registers,
             left: &self.registers,
@@ -60,22 +98,41 @@ impl Held {
     }
 
     /// A second one that has taken the same parts.
-    pub fn copy(&self) -> Result<Held, AllocError> {
+    pub fn copy(&self) -> Result<Held, AllocError>
+        ensures { IfOk result (λ copy. copy ≡ self.now) }
+    {
         Ok(Held {
             registers: self.registers.clone()?,
         })
     }
 }
 
-/// The parts in the view that are left.
+/// The parts in the view that are left. Seen as the list of them.
 #[derive(Drop)]
 pub struct View<'a> {
     registers: &'a [Part],
     left: &'a [Part],
 }
 
+impl<'a> Model for View<'a> {
+    ghost use Rattle.std.specs.Prelude.{List, IsTrue};
+    ghost use Rattle.profile.specs.Revisions as revisions;
+    ghost use Rattle.itip_order.specs.Parts.{parts_of};
+    ghost use Rattle.itip_order.specs.Registers.{is_ascending, allowed_by};
+
+    ghost Value = { List revisions.Part };
+
+    ghost view = { λ view. allowed_by (parts_of view.registers.now) (parts_of view.left.now) };
+
+    ghost invariant = { λ view. IsTrue (is_ascending (parts_of view.registers.now)) };
+}
+
 impl<'a> Iterator for View<'a> {
     type Item = &'a Part;
+
+    ghost next_gives = { YieldsFirstBy (λ part. part_of part.now) (λ left. left) };
+
+    ghost remaining = { item_count (λ left. left) };
 
     fn next(&mut self) -> Option<&'a Part> {
         while let Some((first, others)) = self.left.split_first() {
@@ -88,45 +145,50 @@ impl<'a> Iterator for View<'a> {
     }
 }
 
-// What the greatest part of a slot did to the view, where the slot's register is new.
-fn entered(in_view: bool) -> Freshness {
-    if in_view {
-        Freshness::Fresh
-    } else {
-        Freshness::Stale
-    }
+// What the greatest part of a slot did to the view, where its register is new.
+fn entered(in_view: bool) -> Freshness
+    ensures { result ≡ (if in_view then Freshness.Fresh else Freshness.Stale) }
+{
+    if in_view { Freshness::Fresh } else { Freshness::Stale }
 }
 
-// The same, where the register stays.
-fn repeated(in_view: bool) -> Freshness {
-    if in_view {
-        Freshness::Same
-    } else {
-        Freshness::Stale
-    }
+// The same, where the register was there.
+fn repeated(in_view: bool) -> Freshness
+    ensures { result ≡ (if in_view then Freshness.Same else Freshness.Stale) }
+{
+    if in_view { Freshness::Same } else { Freshness::Stale }
 }
 
-// The place of the part's meeting at a slot, or the place where it would go.
-fn place_of(registers: &[Part], part: &Part, slot: Slot) -> Result<usize, usize> {
+// The place of a slot of the part's meeting, or the place where it would go.
+fn place_of(registers: &[Part], part: &Part, slot: Slot) -> Result<usize, usize>
+    requires { IsTrue (is_ascending (parts_of registers.now)) }
+    ensures found { IfOk result (IsAt (parts_of registers.now) (at_slot (part_of part.now) (slot_of slot))) }
+    ensures absent { IfErr result (IsGap (parts_of registers.now) (at_slot (part_of part.now) (slot_of slot))) }
+{
     registers.binary_search_by(|register| register.cmp_place(part, slot))
 }
 
 // The Whole of its meeting leaves the part in the view.
-fn is_allowed(registers: &[Part], part: &Part) -> bool {
-    if part.slot == Slot::Whole {
-        return true;
-    }
-    match place_of(registers, part, Slot::Whole) {
-        Ok(at) => stands_beside(&registers[at], part),
-        Err(_) => true,
+fn is_allowed(registers: &[Part], part: &Part) -> bool
+    requires { IsTrue (is_ascending (parts_of registers.now)) }
+    ensures { result ≡ is_allowed_by (parts_of registers.now) (part_of part.now) }
+{
+    match part.slot {
+        Slot::Whole => true,
+        Slot::At(_) => match place_of(registers, part, Slot::Whole) {
+            Ok(at) => stands_with(&registers[at], part),
+            Err(_) => true,
+        },
     }
 }
 
 // The part's revision isn't below the Whole's, and is above it where the Whole is cancelled.
-fn stands_beside(whole: &Part, part: &Part) -> bool {
+fn stands_with(whole: &Part, part: &Part) -> bool
+    ensures { result ≡ revisions.stands_beside (part_of whole.now) (part_of part.now) }
+{
     match part.revision.cmp(&whole.revision) {
         Ordering::Less => false,
-        Ordering::Equal => whole.body != Body::Cancelled,
+        Ordering::Equal => !matches!(whole.body, Body::Cancelled),
         Ordering::Greater => true,
     }
 }

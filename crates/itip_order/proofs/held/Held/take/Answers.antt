@@ -1,0 +1,83 @@
+use Rattle.std.proofs.Common.{◌≡◌, true, Bool, cond, List, [], ◌∷◌, ◌++◌, sym, ◌∙◌, ap, subst}
+use Rattle.std.specs.Ordering.{is_eq, is_le, is_lt}
+use Rattle.profile.specs.Revisions as revisions
+use Rattle.itip_order.specs.declared.held.Freshness.{Freshness}
+use Rattle.itip_order.specs.declared.held.Freshness.TheVariants.{Fresh, Same, Stale}
+use Rattle.itip_order.specs.Freshness.{IsFreshness}
+use Rattle.itip_order.specs.Parts.{part_of, parts_of}
+use Rattle.itip_order.specs.Registers.{is_ascending, is_allowed_by, StandsFor}
+use Rattle.itip_order.proofs.Registers.{stands_kept, stands_put}
+use Rattle.itip_order.proofs.Taking.{entered_is, repeated_is, stale_is}
+use Rattle.itip_order.proofs.Steps.{register_in, register_same, put_at, put_gap, ascending_either}
+use Rattle.itip_order.proofs.held.Held.take.Goals as goal
+
+-- the part goes over the lesser register of its place
+pub invariant_of-self : goal.invariant_of-self
+invariant_of-self c =
+    let found = rw c.deref-2.ensures.value at c.in-Ok.ensures.found in
+    (put_at c.self.inside.registers.items c.args.part c.index.result.now c.in-Ok.at c.self.invariant found c.index.ensures (sym c.in-Greater.ensures)).ascending
+
+-- the part goes into the gap
+pub invariant_of-self-in-Err : goal.invariant_of-self-in-Err
+invariant_of-self-in-Err c =
+    let gap = rw c.deref-2.ensures.value at c.in-Err.ensures.absent in
+    ascending_either _ c.self.inside.registers.items c.insert.new.self.items c.args.part c.in-Err.at c.self.invariant gap c.insert.ensures.items
+
+pub returns-in-Less-clause-taken : goal.returns-in-Less-clause-taken
+returns-in-Less-clause-taken c = λ history s.
+    let found = rw c.deref-2.ensures.value at c.in-Ok.ensures.found in
+    let r = register_in c.self.inside.registers.items c.index.result.now (part_of c.args.part) c.in-Ok.at found c.index.ensures in
+    let stands = subst (λ (R : List revisions.Part). StandsFor R history) (sym c.self.view_is) s in
+    subst (λ (R : List revisions.Part). StandsFor R (history ++ part_of c.args.part ∷ [])) c.self.view_is (stands_kept _ history (part_of c.args.part) (part_of c.index.result.now) stands r.0 (ap is_eq r.1) (ap is_le (sym c.in-Less.ensures)))
+
+pub returns-in-Less-clause-freshness : goal.returns-in-Less-clause-freshness
+returns-in-Less-clause-freshness c = λ history s.
+    let found = rw c.deref-2.ensures.value at c.in-Ok.ensures.found in
+    let r = register_in c.self.inside.registers.items c.index.result.now (part_of c.args.part) c.in-Ok.at found c.index.ensures in
+    let stands = subst (λ (R : List revisions.Part). StandsFor R history) (sym c.self.view_is) s in
+    stale_is _ history (part_of c.args.part) (part_of c.index.result.now) stands r.0 (ap is_eq r.1) (sym c.in-Less.ensures)
+
+pub returns-in-Equal-clause-taken : goal.returns-in-Equal-clause-taken
+returns-in-Equal-clause-taken c = λ history s.
+    let found = rw c.deref-2.ensures.value at c.in-Ok.ensures.found in
+    let r = register_in c.self.inside.registers.items c.index.result.now (part_of c.args.part) c.in-Ok.at found c.index.ensures in
+    let stands = subst (λ (R : List revisions.Part). StandsFor R history) (sym c.self.view_is) s in
+    subst (λ (R : List revisions.Part). StandsFor R (history ++ part_of c.args.part ∷ [])) c.self.view_is (stands_kept _ history (part_of c.args.part) (part_of c.index.result.now) stands r.0 (ap is_eq r.1) (ap is_le (sym c.in-Equal.ensures)))
+
+pub returns-in-Greater-clause-taken : goal.returns-in-Greater-clause-taken
+returns-in-Greater-clause-taken c = λ history s.
+    let found = rw c.deref-2.ensures.value at c.in-Ok.ensures.found in
+    let stands = subst (λ (R : List revisions.Part). StandsFor R history) (sym c.self.view_is) s in
+    stands_put _ _ history (part_of c.args.part) stands (put_at c.self.inside.registers.items c.args.part c.index.result.now c.in-Ok.at c.self.invariant found c.index.ensures (sym c.in-Greater.ensures))
+
+pub returns-in-Greater-clause-freshness : goal.returns-in-Greater-clause-freshness
+returns-in-Greater-clause-freshness c = λ history s.
+    let found = rw c.deref-2.ensures.value at c.in-Ok.ensures.found in
+    let stands = subst (λ (R : List revisions.Part). StandsFor R history) (sym c.self.view_is) s in
+    let allowed = c.is_allowed-in_view.ensures ∙ ap (λ items. is_allowed_by (parts_of items) (part_of c.args.part)) c.deref.ensures.value in
+    let fresh = entered_is _ _ history (part_of c.args.part) c.is_allowed-in_view.result stands (put_at c.self.inside.registers.items c.args.part c.index.result.now c.in-Ok.at c.self.invariant found c.index.ensures (sym c.in-Greater.ensures)) allowed in
+    subst (λ (f : Freshness). IsFreshness f history (part_of c.args.part)) (sym c.entered.ensures) fresh
+
+pub returns-in-Equal-clause-freshness : goal.returns-in-Equal-clause-freshness
+returns-in-Equal-clause-freshness c = λ history s.
+    let found = rw c.deref-2.ensures.value at c.in-Ok.ensures.found in
+    let stands = subst (λ (R : List revisions.Part). StandsFor R history) (sym c.self.view_is) s in
+    let allowed = c.is_allowed-in_view.ensures ∙ ap (λ items. is_allowed_by (parts_of items) (part_of c.args.part)) c.deref.ensures.value in
+    let same = register_same c.self.inside.registers.items c.index.result.now (part_of c.args.part) c.in-Ok.at found c.index.ensures (sym c.in-Equal.ensures) in
+    let fresh = repeated_is _ history (part_of c.args.part) c.is_allowed-in_view.result stands same allowed in
+    subst (λ (f : Freshness). IsFreshness f history (part_of c.args.part)) (sym c.repeated.ensures) fresh
+
+pub returns-in_ok-insert-in-Err-clause-taken : goal.returns-in_ok-insert-in-Err-clause-taken
+returns-in_ok-insert-in-Err-clause-taken c = λ history s.
+    let gap = rw c.deref-2.ensures.value at c.in-Err.ensures.absent in
+    let stands = subst (λ (R : List revisions.Part). StandsFor R history) (sym c.self.view_is) s in
+    let after = stands_put _ _ history (part_of c.args.part) stands (put_gap c.self.inside.registers.items c.args.part c.in-Err.at c.self.invariant gap) in
+    subst (λ items. StandsFor (parts_of items) (history ++ part_of c.args.part ∷ [])) (sym c.in_ok-insert-in-Err.ensures.items) after
+
+pub returns-in_ok-insert-in-Err-clause-freshness : goal.returns-in_ok-insert-in-Err-clause-freshness
+returns-in_ok-insert-in-Err-clause-freshness c = λ history s.
+    let gap = rw c.deref-2.ensures.value at c.in-Err.ensures.absent in
+    let stands = subst (λ (R : List revisions.Part). StandsFor R history) (sym c.self.view_is) s in
+    let allowed = c.is_allowed-in_view.ensures ∙ ap (λ items. is_allowed_by (parts_of items) (part_of c.args.part)) c.deref.ensures.value in
+    let fresh = entered_is _ _ history (part_of c.args.part) c.is_allowed-in_view.result stands (put_gap c.self.inside.registers.items c.args.part c.in-Err.at c.self.invariant gap) allowed in
+    subst (λ (f : Freshness). IsFreshness f history (part_of c.args.part)) (sym c.entered-in-Err.ensures) fresh
