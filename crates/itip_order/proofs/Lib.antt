@@ -6,3 +6,4 @@ pub mod Search
 pub mod Taking
 pub mod Allowed
 pub mod Steps
+pub mod Orders

@@ -18,7 +18,7 @@ use Rattle.itip_order.proofs.Lists.{all_at, all_from, in_head, in_tail, in_cons,
 use Rattle.itip_order.proofs.Order.{place_total, part_total, is_eq_true}
 use Rattle.itip_order.proofs.Registers.{Puts, stands_kept, stands_put, in_view_from, in_view_at, register_greatest, greatest_unique, Greatest, allows_same_place, eq_refl, place_sym}
 
-is_lt_true : (o : Ordering) → is_lt o ≡ true → o ≡ Less
+pub is_lt_true : (o : Ordering) → is_lt o ≡ true → o ≡ Less
 is_lt_true Less e = refl
 is_lt_true Equal e = absurd (true≢false (sym e))
 is_lt_true Greater e = absurd (true≢false (sym e))

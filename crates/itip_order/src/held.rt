@@ -89,7 +89,7 @@ impl Held {
     pub fn view(&self) -> View<'_>
         // They are the view of each history that the value stands for.
         ensures exact { (history : List revisions.Part) → StandsFor self.now history → IsView result history }
-        ensures registers { result ≡ shown self.now }
+        ensures shown { result ≡ shown self.now }
     {
         View {
             registers: &self.registers,
@@ -143,6 +143,16 @@ impl<'a> Iterator for View<'a> {
         }
         None
     }
+}
+
+/// A law, with nothing to do: two that took the same parts, in any order and each any number of times,
+/// are equal, and so are their views.
+pub fn same_parts_same_view(one: &Held, other: &Held)
+    ensures held { (xs ys : List revisions.Part) → StandsFor one.now xs → StandsFor other.now ys
+        → SameParts xs ys → one.now ≡ other.now }
+    ensures view { (xs ys : List revisions.Part) → SameParts xs ys
+        → (part : revisions.Part) → revisions.in_view xs part ≡ revisions.in_view ys part }
+{
 }
 
 // What the greatest part of a slot did to the view, where its register is new.
