@@ -3,8 +3,9 @@ use Rattle.std.proofs.Common.{◌≡◌, ℕ, suc, ◌<◌, ◌≤◌, Bool, tru
 use Rattle.std.specs.declared.cmp.Ordering.{Ordering}
 use Rattle.std.specs.declared.cmp.Ordering.TheVariants.{Less, Equal, Greater}
 use Rattle.std.specs.Ordering.{ordering_reverse, is_eq, is_lt, is_gt, is_le}
+use Rattle.std.specs.Cmp.{both_ways as same_tests}
 use Rattle.std.specs.List.{list_all, list_any, Contains, insert}
-use Rattle.std.proofs.lemmas.Bool.{and_parts, and_from, true≢false, both_ways, cases_Bool}
+use Rattle.std.proofs.lemmas.Bool.{and_parts, and_from, true≢false, both_ways, cases_Bool, false_from_ne_true}
 use Rattle.std.proofs.lemmas.Cmp.{tied_back, alike_right, tied_itself}
 use Rattle.std.proofs.lemmas.List.{take-append-drop, set_split}
 use Rattle.std.proofs.Math.Seq.{drop-cons}
@@ -13,10 +14,10 @@ use Rattle.profile.specs.Revisions.{Part, place_cmp, part_cmp, same_place, allow
 use Rattle.itip_order.specs.declared.held.Freshness.{Freshness}
 use Rattle.itip_order.specs.declared.held.Freshness.TheVariants.{Fresh, Same, Stale}
 use Rattle.itip_order.specs.Freshness.{IsFreshness}
-use Rattle.itip_order.specs.Registers.{is_ascending, is_allowed_by, StandsFor, IsAt, IsGap}
-use Rattle.itip_order.proofs.Lists.{all_at, all_from, in_head, in_tail, in_cons, none_in_nil}
+use Rattle.itip_order.specs.Registers.{is_ascending, is_allowed_by, is_known, StandsFor, IsAt, IsGap}
+use Rattle.itip_order.proofs.Lists.{all_at, all_from, any_at, any_from, in_head, in_tail, in_cons, none_in_nil}
 use Rattle.itip_order.proofs.Order.{place_total, part_total, is_eq_true}
-use Rattle.itip_order.proofs.Registers.{Puts, stands_kept, stands_put, in_view_from, in_view_at, register_greatest, greatest_unique, Greatest, allows_same_place, eq_refl, place_sym}
+use Rattle.itip_order.proofs.Registers.{Puts, stands_kept, stands_put, in_view_from, in_view_at, register_greatest, register_of, place_trans, greatest_unique, Greatest, allows_same_place, eq_refl, place_sym}
 
 pub is_lt_true : (o : Ordering) → is_lt o ≡ true → o ≡ Less
 is_lt_true Less e = refl
@@ -188,3 +189,30 @@ stale_is R h p r s c place less v =
     let in_R = (in_view_at R (h ++ p ∷ []) (stands_kept R h p r s c place (ap is_le less)) p v).0 in
     let same = greatest_unique h r p (register_greatest R h s r c) (register_greatest R h s p in_R) place in
     true≢false (sym (ap is_lt (subst (λ (z : Part). part_cmp p z ≡ Less) same less)) ∙ ap is_lt (tied_itself part_total p))
+
+-- without a register of its slot no part of it was taken
+pub unknown_is : (R h : List Part) (p : Part) (at : ℕ) → StandsFor R h → IsGap R p at → is_known h p ≡ false
+unknown_is R h p at s gap = false_from_ne_true _ (λ known.
+    let found = any_at (λ taken. same_place taken p) h known in
+    let r = register_of R h s found.0 found.1 in
+    let here = place_trans r.0 found.0 p r.2 found.2 in
+    elim (Contains-append_cases (take at R) (drop at R) r.0 (subst (λ (xs : List Part). Contains xs r.0) (sym (take-append-drop at R)) r.1)) [
+      | inl left ↦ true≢false (sym here ∙ ap is_eq (is_lt_true _ (all_at (λ x. is_lt (place_cmp x p)) (take at R) r.0 gap.below left)))
+      | inr right ↦ true≢false (sym here ∙ ap is_eq (is_gt_true _ (all_at (λ x. is_gt (place_cmp x p)) (drop at R) r.0 gap.above right)))
+    ])
+
+-- a register is in the view where it is allowed
+pub shown_is : (R h : List Part) (p : Part) → StandsFor R h → Contains R p → is_allowed_by R p ≡ in_view h p
+shown_is R h p s c = same_tests _ _ (in_view_from R h s p c) (λ v. (in_view_at R h s p v).1)
+
+-- a part that doesn't tie with the register of its slot isn't in the view
+pub hidden_is : (R h : List Part) (p r : Part) → StandsFor R h → Contains R r → same_place r p ≡ true → is_eq (part_cmp p r) ≡ false → false ≡ in_view h p
+hidden_is R h p r s c place other = sym (false_from_ne_true _ (λ v.
+    let same = greatest_unique h r p (register_greatest R h s r c) (register_greatest R h s p (in_view_at R h s p v).0) place in
+    true≢false (sym (ap is_eq (tied_itself part_total p)) ∙ subst (λ (z : Part). is_eq (part_cmp p z) ≡ false) same other)))
+
+-- nor is a part without a register
+pub missing_is : (R h : List Part) (p : Part) (at : ℕ) → StandsFor R h → IsGap R p at → false ≡ in_view h p
+missing_is R h p at s gap = sym (false_from_ne_true _ (λ v.
+    let taken = (register_greatest R h s p (in_view_at R h s p v).0).taken in
+    true≢false (sym (any_from (λ taken. same_place taken p) h p taken (eq_refl p)) ∙ unknown_is R h p at s gap)))

@@ -25,6 +25,10 @@ pub record IsView (parts history : List Part) : Type 0 where
 abbrev pub SameParts : List Part → List Part → Type 0
 SameParts xs ys = (part : Part) → Contains xs part ↔ Contains ys part
 
+-- a part of the same slot was taken
+abbrev pub is_known : List Part → Part → Bool
+is_known history part = list_any (λ taken. same_place taken part) history
+
 -- each Whole register of its meeting leaves the part in the view
 abbrev pub is_allowed_by : List Part → Part → Bool
 is_allowed_by registers part = list_all (λ whole. allows whole part) registers

@@ -3,10 +3,10 @@
 //! One register for each slot, in the order of organiser, UID, slot, so a slot is found by halves.
 //! A tombstone stays for good, also one of a meeting that was never heard of.
 
-ghost use Rattle.std.specs.Prelude.{◌≡◌, List, [], ◌∷◌, ◌++◌, IsTrue, IfOk, IfErr, OnOk, OnErr, if◌then◌else◌};
+ghost use Rattle.std.specs.Prelude.{◌≡◌, false, List, [], ◌∷◌, ◌++◌, IsTrue, IfOk, IfErr, OnOk, OnErr, if◌then◌else◌};
 ghost use Rattle.std.specs.Iterator.{YieldsFirstBy, item_count};
 ghost use Rattle.itip_order.specs.Parts.{part_of, parts_of, slot_of};
-ghost use Rattle.itip_order.specs.Registers.{is_ascending, is_allowed_by, shown, at_slot, StandsFor, IsView, SameParts, IsAt, IsGap};
+ghost use Rattle.itip_order.specs.Registers.{is_ascending, is_allowed_by, shown, at_slot, is_known, StandsFor, IsView, SameParts, IsAt, IsGap};
 ghost use Rattle.profile.specs.Revisions as revisions;
 
 use crate::part::{Body, Part, Slot};
@@ -66,6 +66,10 @@ impl Held {
         // The answer tells the part's place in the views before and after.
         ensures freshness { IfOk result (λ freshness. (history : List revisions.Part)
             → StandsFor self.old history → IsFreshness freshness history (part_of part)) }
+
+        // Memory is wanted only for a slot that no part was taken of.
+        ensures memory { OnErr result ((history : List revisions.Part) → StandsFor self.old history
+            → is_known history (part_of part) ≡ false) }
         ensures err { OnErr result (self.new ≡ self.old) }
     {
         let in_view = is_allowed(&self.registers, &part);
@@ -82,6 +86,19 @@ impl Held {
                 self.registers.insert(at, part)?;
                 Ok(entered(in_view))
             }
+        }
+    }
+
+    /// Whether the part is in the view. Takes no memory.
+    pub fn shows(&self, part: &Part) -> bool
+        ensures { (history : List revisions.Part) → StandsFor self.now history
+            → result ≡ revisions.in_view history (part_of part.now) }
+    {
+        match place_of(&self.registers, part, part.slot) {
+            Ok(at) => {
+                part.cmp_part(&self.registers[at]).is_eq() && is_allowed(&self.registers, part)
+            }
+            Err(_) => false,
         }
     }
 

@@ -1,14 +1,14 @@
-use Rattle.std.proofs.Common.{◌≡◌, true, Bool, cond, List, [], ◌∷◌, ◌++◌, sym, ◌∙◌, ap, subst}
+use Rattle.std.proofs.Common.{◌≡◌, true, false, Bool, cond, List, [], ◌∷◌, ◌++◌, sym, ◌∙◌, ap, subst}
 use Rattle.std.specs.Ordering.{is_eq, is_le, is_lt}
 use Rattle.profile.specs.Revisions as revisions
 use Rattle.itip_order.specs.declared.held.Freshness.{Freshness}
 use Rattle.itip_order.specs.declared.held.Freshness.TheVariants.{Fresh, Same, Stale}
 use Rattle.itip_order.specs.Freshness.{IsFreshness}
 use Rattle.itip_order.specs.Parts.{part_of, parts_of}
-use Rattle.itip_order.specs.Registers.{is_ascending, is_allowed_by, StandsFor}
+use Rattle.itip_order.specs.Registers.{is_ascending, is_allowed_by, is_known, StandsFor}
 use Rattle.itip_order.proofs.Registers.{stands_kept, stands_put}
-use Rattle.itip_order.proofs.Taking.{entered_is, repeated_is, stale_is}
-use Rattle.itip_order.proofs.Steps.{register_in, register_same, put_at, put_gap, ascending_either}
+use Rattle.itip_order.proofs.Taking.{entered_is, repeated_is, stale_is, unknown_is}
+use Rattle.itip_order.proofs.Steps.{on_err_from, register_in, register_same, put_at, put_gap, ascending_either}
 use Rattle.itip_order.proofs.held.Held.take.Goals as goal
 
 -- the part goes over the lesser register of its place
@@ -81,3 +81,9 @@ returns-in_ok-insert-in-Err-clause-freshness c = λ history s.
     let allowed = c.is_allowed-in_view.ensures ∙ ap (λ items. is_allowed_by (parts_of items) (part_of c.args.part)) c.deref.ensures.value in
     let fresh = entered_is _ _ history (part_of c.args.part) c.is_allowed-in_view.result stands (put_gap c.self.inside.registers.items c.args.part c.in-Err.at c.self.invariant gap) allowed in
     subst (λ (f : Freshness). IsFreshness f history (part_of c.args.part)) (sym c.entered-in-Err.ensures) fresh
+
+pub returns-in_err-insert-in-Err-clause-memory : goal.returns-in_err-insert-in-Err-clause-memory
+returns-in_err-insert-in-Err-clause-memory c =
+    let gap = rw c.deref-2.ensures.value at c.in-Err.ensures.absent in
+    let unknown : (history : List revisions.Part) → StandsFor c.args.self.now history → is_known history (part_of c.args.part) ≡ false = λ history s. unknown_is _ history (part_of c.args.part) c.in-Err.at (subst (λ (R : List revisions.Part). StandsFor R history) (sym c.self.view_is) s) gap in
+    on_err_from _ _ unknown
