@@ -118,9 +118,8 @@ impl Held {
     pub fn copy(&self) -> Result<Held, AllocError>
         ensures { IfOk result (λ copy. copy ≡ self.now) }
     {
-        Ok(Held {
-            registers: self.registers.clone()?,
-        })
+        let registers = self.registers.clone()?;
+        Ok(Held { registers })
     }
 }
 
