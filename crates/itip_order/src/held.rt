@@ -161,6 +161,13 @@ impl<'a> Iterator for View<'a> {
     }
 }
 
+/// A law, with nothing to do: a value stands for a history, that of its own registers.
+pub fn stands_for_its_registers(held: &Held)
+    ensures { StandsFor held.now held.now }
+{
+    let _ = &held.registers;
+}
+
 /// A law, with nothing to do: two that took the same parts, in any order and each any number of times,
 /// are equal, and so are their views.
 pub fn same_parts_same_view(one: &Held, other: &Held)
@@ -168,21 +175,28 @@ pub fn same_parts_same_view(one: &Held, other: &Held)
         → SameParts xs ys → one.now ≡ other.now }
     ensures view { (xs ys : List revisions.Part) → SameParts xs ys
         → (part : revisions.Part) → revisions.in_view xs part ≡ revisions.in_view ys part }
-{
-}
+{}
 
 // What the greatest part of a slot did to the view, where its register is new.
 fn entered(in_view: bool) -> Freshness
     ensures { result ≡ (if in_view then Freshness.Fresh else Freshness.Stale) }
 {
-    if in_view { Freshness::Fresh } else { Freshness::Stale }
+    if in_view {
+        Freshness::Fresh
+    } else {
+        Freshness::Stale
+    }
 }
 
 // The same, where the register was there.
 fn repeated(in_view: bool) -> Freshness
     ensures { result ≡ (if in_view then Freshness.Same else Freshness.Stale) }
 {
-    if in_view { Freshness::Same } else { Freshness::Stale }
+    if in_view {
+        Freshness::Same
+    } else {
+        Freshness::Stale
+    }
 }
 
 // The place of a slot of the part's meeting, or the place where it would go.

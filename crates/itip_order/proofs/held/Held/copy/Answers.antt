@@ -1,4 +1,4 @@
-use Rattle.std.proofs.Common.{◌≡◌, true, List, sym, ◌∙◌, ap, subst}
+use Rattle.std.proofs.Common.{◌≡◌, true, List, sym, ◌∙◌, subst}
 use Rattle.profile.specs.Revisions as revisions
 use Rattle.itip_order.specs.Registers.{is_ascending}
 use Rattle.itip_order.proofs.Steps.{parts_of_clones}
