@@ -3,7 +3,7 @@
 //! One register for each slot, in the order of organiser, UID, slot, so a slot is found by halves.
 //! A tombstone stays for good, also one of a meeting that was never heard of.
 
-ghost use Rattle.std.specs.Prelude.{◌≡◌, false, List, [], ◌∷◌, ◌++◌, IsTrue, IfOk, IfErr, OnOk, OnErr, if◌then◌else◌};
+ghost use Rattle.std.specs.Prelude.{◌≡◌, ◌<◌, ◌^◌, false, List, [], ◌∷◌, ◌++◌, length, IsTrue, IfOk, IfErr, OnOk, OnErr, if◌then◌else◌};
 ghost use Rattle.std.specs.Iterator.{YieldsFirstBy, item_count};
 ghost use Rattle.itip_order.specs.Parts.{part_of, parts_of, slot_of};
 ghost use Rattle.itip_order.specs.Registers.{is_ascending, is_allowed_by, shown, at_slot, is_known, StandsFor, IsView, SameParts, IsAt, IsGap};
@@ -107,6 +107,7 @@ impl Held {
         // They are the view of each history that the value stands for.
         ensures exact { (history : List revisions.Part) → StandsFor self.now history → IsView result history }
         ensures shown { result ≡ shown self.now }
+        ensures few { length result < 2 ^ 64 }
     {
         View {
             registers: &self.registers,
