@@ -1,1 +1,6 @@
+pub mod Breaks
 pub mod Fault
+pub mod Limits
+pub mod Pieces
+pub mod Text
+pub mod Unfold

@@ -1,6 +1,24 @@
 //! Content lines of iCalendar (RFC 5545 3.1): unfolding, lines, folding, and the end of an object.
+//! Input is octets, output is text that lends its lines. Values of properties aren't read here.
 #![tactic(auto)]
 
 pub mod fault;
+pub mod fold;
+mod judge;
+pub mod limits;
+pub mod line;
+pub mod object_end;
+mod parts;
+mod pieces;
+pub mod text;
+mod unfold;
 
 pub use fault::{Fault, Refusal};
+pub use fold::{write_line, write_property};
+pub use limits::Limits;
+pub use line::{Line, Param, Params};
+pub use object_end::{Cutter, cut};
+pub use text::{Lines, Unfolded};
+
+#[cfg(test)]
+mod tests;

@@ -1,2 +1,14 @@
-//! Objects: components with their lines and children (RFC 5545 3.4, 3.6).
+//! The tree of components that content lines spell (RFC 5545 3.4, 3.6), read and written.
+//! Properties keep their lines as they are; their values aren't read here.
 #![tactic(auto)]
+
+pub mod component;
+pub mod read;
+pub mod write;
+
+pub use component::Component;
+pub use read::read_object;
+pub use write::write_object;
+
+#[cfg(test)]
+mod tests;

@@ -1,0 +1,276 @@
+-- Lines kept as one text in which each ends with an LF.
+use Rattle.std.proofs.Common.{◌≡◌, Result, Ok, Err, OnOk, OnErr, map, filter, ℕ, suc, zero, ◌+◌, ◌-◌, ◌<◌, ◌≤◌, Bool, true, false, not, ◌&&◌, ◌||◌, cond, eqb, ltb, Option, None, Some, List, [], ◌∷◌, ◌++◌, length, take, drop, get_or, refl, ap, sym, subst, ◌∙◌, arith, count_by}
+use Rattle.std.specs.List.{slice_split, onto_first, list_any, list_all, All}
+use Rattle.std.proofs.lemmas.List.{append_assoc, append-nil, length-take, length-drop, drop-drop, get_or-take}
+use Rattle.std.proofs.lemmas.List.Concat.{flat_map-append}
+use Rattle.std.proofs.lemmas.List.Folds.{list_all-append}
+use Rattle.std.proofs.lemmas.List.Splits.{length-slice_split, slice_split_at}
+use Rattle.std.proofs.lemmas.List.Sums.{count_by-le-length}
+use Rattle.memchr.specs.Find.{IsFirstByte, is_byte}
+use Rattle.profile.specs.Lines.{ended, without_return, physical_lines, is_continuation, gather, unfolded, is_filled, logical_lines, without_mark, line_has, is_faulty, text_has, reads_as_lines}
+use Rattle.ical_lines.specs.Breaks.{is_break, is_one_line, lines_of}
+use Rattle.std.specs.Str.{IsUtf8, is_utf8, IsCharBoundary}
+use Rattle.std.proofs.lemmas.Str.{IsUtf8-from_is_utf8, is_utf8-from_IsUtf8}
+use Rattle.std.proofs.Math.Bool.{or-true}
+use Rattle.std.proofs.lemmas.Bool.Decides.{Decides-eqb}
+use Rattle.ical_lines.proofs.PieceLemmas.{boundary_past}
+use Rattle.ical_lines.proofs.SplitLemmas.{split_at_byte, split_no_byte}
+
+-- ---- the lines of a text
+
+cut_last : (x : List ℕ) (s : List (List ℕ)) (n : ℕ) → length s ≡ n + 1 → take (length (x ∷ s) - 1) (x ∷ s) ≡ x ∷ take (length s - 1) s
+cut_last x s n e =
+    let a : length (x ∷ s) - 1 ≡ suc n = omega (arith, e) in
+    let b : length s - 1 ≡ n = omega (arith, e) in
+    rw (a, b) refl
+
+pub lines_of_first : (xs : List ℕ) (i : ℕ) → IsFirstByte (is_byte 10) xs (Some i) → lines_of xs ≡ take i xs ∷ lines_of (drop (i + 1) xs)
+lines_of_first xs i h =
+    ap (λ s. take (length s - 1) s) (split_at_byte 10 xs i h) ∙ cut_last (take i xs) (slice_split is_break (drop (i + 1) xs)) (count_by is_break (drop (i + 1) xs)) (length-slice_split is_break (drop (i + 1) xs))
+
+pub lines_of_none : (xs : List ℕ) → IsFirstByte (is_byte 10) xs None → lines_of xs ≡ []
+lines_of_none xs h = ap (λ s. take (length s - 1) s) (split_no_byte 10 xs h)
+
+pub lines_of-le : (xs : List ℕ) → length (lines_of xs) ≤ length xs
+lines_of-le xs =
+    let s = slice_split is_break xs in
+    omega (arith, length-take (length s - 1) s, length-slice_split is_break xs, count_by-le-length is_break xs)
+
+-- ---- texts without a break
+
+pub neither_first : (a b : Bool) → (a || b) ≡ false → a ≡ false
+neither_first true b h = h
+neither_first false b h = refl
+
+pub neither_second : (a b : Bool) → (a || b) ≡ false → b ≡ false
+neither_second true b h = cc
+neither_second false b h = h
+
+pub both : (a b : Bool) → (a && b) ≡ true → (a ≡ true) × (b ≡ true)
+both true b h = (refl, h)
+both false b h = cc
+
+pub not_true : (b : Bool) → (b ≡ true → ⊥) → b ≡ false
+not_true true h = absurd (h refl)
+not_true false h = refl
+
+pub was_false : (b : Bool) → not b ≡ true → b ≡ false
+was_false true h = cc
+was_false false h = refl
+
+not_any : (p : ℕ → Bool) (xs : List ℕ) → ((k : ℕ) → k < length xs → p (get_or xs k 0) ≡ false) → list_any p xs ≡ false
+not_any p [] h = refl
+not_any p (x ∷ xs) h =
+    let first : p x ≡ false = h 0 (omega arith) in
+    let rest : list_any p xs ≡ false = not_any p xs (λ k l. h (suc k) (omega arith)) in
+    rw (first, rest) refl
+
+pub none_at : (p : ℕ → Bool) (xs : List ℕ) → list_any p xs ≡ false → (k d : ℕ) → k < length xs → p (get_or xs k d) ≡ false
+none_at p [] h k d l = absurd (omega arith)
+none_at p (x ∷ xs) h zero d l = neither_first (p x) (list_any p xs) h
+none_at p (x ∷ xs) h (suc k) d l = none_at p xs (neither_second (p x) (list_any p xs) h) k d (omega arith)
+
+front_at : (xs : List ℕ) (i : ℕ) → IsFirstByte (is_byte 10) xs (Some i) → (k : ℕ) → k < i → is_break (get_or (take i xs) k 0) ≡ false
+front_at xs i h k l = rw (get_or-take i xs k 0 l) (not_true (is_break (get_or xs k 0)) (h.0.before k (omega arith) l))
+
+pub one_line_front : (xs : List ℕ) (i : ℕ) → IsFirstByte (is_byte 10) xs (Some i) → is_one_line (take i xs) ≡ true
+one_line_front xs i h =
+    let e : list_any is_break (take i xs) ≡ false = not_any is_break (take i xs) (λ k l. front_at xs i h k (omega (arith, length-take i xs))) in
+    rw e refl
+
+-- ---- the lines of lines that are ended
+
+pub lines_of-ended : (lines : List (List ℕ)) → list_all is_one_line lines ≡ true → lines_of (ended lines) ≡ lines
+lines_of-ended [] h = refl
+lines_of-ended (x ∷ ls) h =
+    let parts = both (is_one_line x) (list_all is_one_line ls) h in
+    let none = none_at is_break x (was_false (list_any is_break x) parts.0) in
+    let split : slice_split is_break (ended (x ∷ ls)) ≡ x ∷ slice_split is_break (ended ls) = ap (slice_split is_break) (append_assoc x (10 ∷ []) (ended ls)) ∙ slice_split_at is_break x 10 (ended ls) none refl in
+    ap (λ s. take (length s - 1) s) split ∙ (cut_last x (slice_split is_break (ended ls)) (count_by is_break (ended ls)) (length-slice_split is_break (ended ls)) ∙ ap (λ z. x ∷ z) (lines_of-ended ls parts.1))
+
+-- ---- what is split at breaks has none
+
+whole_by : (b : Bool) (x : ℕ) (s : List (List ℕ)) → is_break x ≡ b → list_all is_one_line s ≡ true → list_all is_one_line (cond b ([] ∷ s) (onto_first x s)) ≡ true
+whole_by true x s e h = h
+whole_by false x [] e h = rw e refl
+whole_by false x (part ∷ s) e h = rw e h
+
+pub parts_whole : (xs : List ℕ) → list_all is_one_line (slice_split is_break xs) ≡ true
+parts_whole [] = refl
+parts_whole (x ∷ xs) = whole_by (is_break x) x (slice_split is_break xs) refl (parts_whole xs)
+
+all_take : (n : ℕ) (s : List (List ℕ)) → list_all is_one_line s ≡ true → list_all is_one_line (take n s) ≡ true
+all_take zero s h = refl
+all_take (suc n) [] h = refl
+all_take (suc n) (x ∷ s) h =
+    let parts = both (is_one_line x) (list_all is_one_line s) h in
+    rw (parts.0, all_take n s parts.1) refl
+
+pub lines_whole : (xs : List ℕ) → list_all is_one_line (lines_of xs) ≡ true
+lines_whole xs = all_take (length (slice_split is_break xs) - 1) (slice_split is_break xs) (parts_whole xs)
+
+any_take : (n : ℕ) (xs : List ℕ) → list_any is_break xs ≡ false → list_any is_break (take n xs) ≡ false
+any_take zero xs h = refl
+any_take (suc n) [] h = refl
+any_take (suc n) (x ∷ xs) h =
+    let first = neither_first (is_break x) (list_any is_break xs) h in
+    rw (first, any_take n xs (neither_second (is_break x) (list_any is_break xs) h)) refl
+
+any_rest : (xs : List ℕ) → list_any is_break xs ≡ false → list_any is_break (drop 1 xs) ≡ false
+any_rest [] h = refl
+any_rest (x ∷ xs) h = neither_second (is_break x) (list_any is_break xs) h
+
+any_append : (xs ys : List ℕ) → list_any is_break xs ≡ false → list_any is_break ys ≡ false → list_any is_break (xs ++ ys) ≡ false
+any_append [] ys h k = k
+any_append (x ∷ xs) ys h k =
+    let first = neither_first (is_break x) (list_any is_break xs) h in
+    rw (first, any_append xs ys (neither_second (is_break x) (list_any is_break xs) h) k) refl
+
+one_line : (b : Bool) → b ≡ false → not b ≡ true
+one_line b h = rw h refl
+
+return_by : (b : Bool) (n : ℕ) (l : List ℕ) → is_one_line l ≡ true → is_one_line (cond b (take n l) l) ≡ true
+return_by true n l h = one_line (list_any is_break (take n l)) (any_take n l (was_false (list_any is_break l) h))
+return_by false n l h = h
+
+returns_whole : (s : List (List ℕ)) → list_all is_one_line s ≡ true → list_all is_one_line (map without_return s) ≡ true
+returns_whole [] h = refl
+returns_whole (l ∷ s) h =
+    let parts = both (is_one_line l) (list_all is_one_line s) h in
+    let first : is_one_line (without_return l) ≡ true = return_by (eqb (get_or l (length l - 1) 0) 13) (length l - 1) l parts.0 in
+    rw (first, returns_whole s parts.1) refl
+
+all_cond : (b : Bool) (s t : List (List ℕ)) → list_all is_one_line s ≡ true → list_all is_one_line t ≡ true → list_all is_one_line (cond b s t) ≡ true
+all_cond true s t h k = h
+all_cond false s t h k = k
+
+gather_whole : (begun : List ℕ) (s : List (List ℕ)) → is_one_line begun ≡ true → list_all is_one_line s ≡ true → list_all is_one_line (gather begun s) ≡ true
+gather_whole begun [] h k = rw h refl
+gather_whole begun (l ∷ s) h k =
+    let parts = both (is_one_line l) (list_all is_one_line s) k in
+    let joined : is_one_line (begun ++ drop 1 l) ≡ true = one_line (list_any is_break (begun ++ drop 1 l)) (any_append begun (drop 1 l) (was_false (list_any is_break begun) h) (any_rest l (was_false (list_any is_break l) parts.0))) in
+    all_cond (is_continuation l) (gather (begun ++ drop 1 l) s) (begun ∷ gather l s) (gather_whole (begun ++ drop 1 l) s joined parts.1) (rw h (gather_whole l s parts.0 parts.1))
+
+unfolded_whole : (s : List (List ℕ)) → list_all is_one_line s ≡ true → list_all is_one_line (unfolded s) ≡ true
+unfolded_whole [] h = refl
+unfolded_whole (l ∷ s) h =
+    let parts = both (is_one_line l) (list_all is_one_line s) h in gather_whole l s parts.0 parts.1
+
+filled_whole : (s : List (List ℕ)) → list_all is_one_line s ≡ true → list_all is_one_line (filter is_filled s) ≡ true
+filled_whole [] h = refl
+filled_whole (l ∷ s) h =
+    let parts = both (is_one_line l) (list_all is_one_line s) h in
+    all_cond (is_filled l) (l ∷ filter is_filled s) (filter is_filled s) (rw parts.0 (filled_whole s parts.1)) (filled_whole s parts.1)
+
+pub logical_whole : (octets : List ℕ) → list_all is_one_line (logical_lines octets) ≡ true
+logical_whole octets =
+    filled_whole (unfolded (physical_lines (without_mark octets))) (unfolded_whole (physical_lines (without_mark octets)) (returns_whole (slice_split is_break (without_mark octets)) (parts_whole (without_mark octets))))
+
+-- ---- a line more
+
+ended_push : (lines : List (List ℕ)) (line : List ℕ) → ended (lines ++ line ∷ []) ≡ ended lines ++ (line ++ 10 ∷ [])
+ended_push lines line = flat_map-append (λ l. l ++ 10 ∷ []) lines (line ∷ []) ∙ ap (λ z. ended lines ++ z) (append-nil (line ++ 10 ∷ []))
+
+push_whole : (s : List (List ℕ)) (l : List ℕ) → list_all is_one_line s ≡ true → is_one_line l ≡ true → list_all is_one_line (s ++ l ∷ []) ≡ true
+push_whole s l h k = rw (list_all-append is_one_line s (l ∷ []), h, k) refl
+
+pub lines_of_more : (text line : List ℕ) → text ≡ ended (lines_of text) → is_one_line line ≡ true → lines_of (text ++ (line ++ 10 ∷ [])) ≡ lines_of text ++ line ∷ []
+lines_of_more text line e h =
+    ap lines_of (ap (λ z. z ++ (line ++ 10 ∷ [])) e ∙ sym (ended_push (lines_of text) line)) ∙ lines_of-ended (lines_of text ++ line ∷ []) (push_whole (lines_of text) line (lines_whole text) h)
+
+pub ended_more : (text line : List ℕ) → text ≡ ended (lines_of text) → is_one_line line ≡ true → text ++ (line ++ 10 ∷ []) ≡ ended (lines_of (text ++ (line ++ 10 ∷ [])))
+ended_more text line e h =
+    (ap (λ z. z ++ (line ++ 10 ∷ [])) e ∙ sym (ended_push (lines_of text) line)) ∙ sym (ap ended (lines_of_more text line e h))
+
+-- ---- a text of logical lines
+
+pub lines_of-logical : (bs octets : List ℕ) → bs ≡ ended (logical_lines octets) → lines_of bs ≡ logical_lines octets
+lines_of-logical bs octets e = ap lines_of e ∙ lines_of-ended (logical_lines octets) (logical_whole octets)
+
+pub ended-logical : (bs octets : List ℕ) → bs ≡ ended (logical_lines octets) → bs ≡ ended (lines_of bs)
+ended-logical bs octets e = e ∙ sym (ap ended (lines_of-logical bs octets e))
+
+-- ---- the next line of a text
+
+pub next_line : (bytes text line tail rest : List ℕ) (i : ℕ) → bytes ≡ text → IsFirstByte (is_byte 10) bytes (Some i) → line ≡ take i text → tail ≡ drop i text → rest ≡ drop 1 tail → lines_of text ≡ line ∷ lines_of rest
+next_line bytes text line tail rest i b f l t r =
+    let found : IsFirstByte (is_byte 10) text (Some i) = (let P : List ℕ → Type 0 = λ xs. IsFirstByte (is_byte 10) xs (Some i) in subst P b f) in
+    let after : drop (i + 1) text ≡ rest = sym (r ∙ (ap (drop 1) t ∙ drop-drop 1 i text)) in
+    lines_of_first text i found ∙ (ap (λ z. z ∷ lines_of (drop (i + 1) text)) (sym l) ∙ ap (λ z. line ∷ lines_of z) after)
+
+pub no_next_line : (bytes text : List ℕ) → bytes ≡ text → IsFirstByte (is_byte 10) bytes None → lines_of text ≡ []
+no_next_line bytes text b f = ap lines_of (sym b) ∙ lines_of_none bytes f
+
+pub next_whole : (bytes text line : List ℕ) (i : ℕ) → bytes ≡ text → IsFirstByte (is_byte 10) bytes (Some i) → line ≡ take i text → is_one_line line ≡ true
+next_whole bytes text line i b f l = ap is_one_line (l ∙ ap (take i) (sym b)) ∙ one_line_front bytes i f
+
+pub next_cut : (bytes text tail : List ℕ) (i : ℕ) → IsUtf8 bytes → bytes ≡ text → IsFirstByte (is_byte 10) bytes (Some i) → tail ≡ drop i text → IsCharBoundary tail 1
+next_cut bytes text tail i u b f t =
+    let l : i < length bytes = f.0.high in
+    let here : get_or bytes i 0 ≡ 10 = (Decides-eqb (get_or bytes i 0) 10).0 f.1 in
+    let filled : 0 < length tail = omega (arith, ap length t, length-drop i text, ap length b) in
+    boundary_past text bytes tail i 10 (subst IsUtf8 b u) b t filled (λ _. here) (omega arith)
+
+-- ---- a test of the lines so far
+
+pub and_false : (a : Bool) → (a && false) ≡ false
+and_false true = refl
+and_false false = refl
+
+pub any_later : (p : List ℕ → Bool) (x : List ℕ) (xs ys : List (List ℕ)) → ys ≡ x ∷ xs → list_any p xs ≡ true → list_any p ys ≡ true
+any_later p x xs ys e h = ap (list_any p) e ∙ (ap (λ b. p x || b) h ∙ or-true (p x))
+
+pub any_here : (p : List ℕ → Bool) (x : List ℕ) (xs ys : List (List ℕ)) → ys ≡ x ∷ xs → p x ≡ true → list_any p ys ≡ true
+any_here p x xs ys e h = ap (list_any p) e ∙ ap (λ b. b || list_any p xs) h
+
+-- ---- what a push leaves
+
+pub push_keeps : {T E : Type 0} (r : Result T E) (old new line : List ℕ) → OnOk r (new ≡ old ++ (line ++ 10 ∷ [])) → OnErr r (new ≡ old) → old ≡ ended (lines_of old) → is_one_line line ≡ true → new ≡ ended (lines_of new)
+push_keeps (Ok x) old new line a u e h = rw a (ended_more old line e h)
+push_keeps (Err x) old new line a u e h = rw u e
+
+pub push_adds : {T E : Type 0} (r : Result T E) (old new line : List ℕ) (lines : List (List ℕ)) → OnOk r (new ≡ old ++ (line ++ 10 ∷ [])) → old ≡ ended (lines_of old) → is_one_line line ≡ true → lines_of old ≡ lines → OnOk r (lines_of new ≡ lines ++ line ∷ [])
+push_adds (Ok x) old new line lines a e h v = ap lines_of a ∙ (lines_of_more old line e h ∙ ap (λ z. z ++ line ∷ []) v)
+push_adds (Err x) old new line lines a e h v = tt
+
+-- ---- what a text of logical lines has
+
+within_or : (b x y : Bool) → (b && y) ≡ true → (b && (x || y)) ≡ true
+within_or true true y h = refl
+within_or true false y h = h
+within_or false x y h = h
+
+bound_or : (a u k b x y : Bool) → (a || (k && (b && y))) ≡ true → (a || u || (k && (b && (x || y)))) ≡ true
+bound_or true u k b x y h = refl
+bound_or false true k b x y h = refl
+bound_or false false true b x y h = within_or b x y h
+bound_or false false false b x y h = h
+
+neither_bound : (b x y : Bool) → (b && x) ≡ false → (b && y) ≡ false → (b && (x || y)) ≡ false
+neither_bound true true y h k = h
+neither_bound true false y h k = k
+neither_bound false x y h k = refl
+
+pub lines_stand : (b : Bool) (n : ℕ) (octets bs : List ℕ) → bs ≡ ended (logical_lines octets) → (list_any (line_has n) (lines_of bs) || (eqb n 6 && (b && ltb 65536 (length (lines_of bs))))) ≡ true → text_has b n octets ≡ true
+lines_stand b n octets bs e h =
+    let s = lines_of-logical bs octets e in
+    let k : (list_any (line_has n) (logical_lines octets) || (eqb n 6 && (b && ltb 65536 (length (logical_lines octets))))) ≡ true = (let P : List (List ℕ) → Type 0 = λ ls. (list_any (line_has n) ls || (eqb n 6 && (b && ltb 65536 (length ls)))) ≡ true in subst P s h) in
+    bound_or (list_any (line_has n) (logical_lines octets)) (eqb n 5 && not (is_utf8 (ended (logical_lines octets)))) (eqb n 6) b (ltb 1048576 (length octets)) (ltb 65536 (length (logical_lines octets))) k
+
+or_second : (a c : Bool) → (a || true || c) ≡ true
+or_second true c = refl
+or_second false c = refl
+
+pub utf8_stands : (b : Bool) (octets bs : List ℕ) → bs ≡ ended (logical_lines octets) → (IsUtf8 bs → ⊥) → text_has b 5 octets ≡ true
+utf8_stands b octets bs e h =
+    let u : is_utf8 (ended (logical_lines octets)) ≡ false = not_true (is_utf8 (ended (logical_lines octets))) (λ t. h (subst IsUtf8 (sym e) (IsUtf8-from_is_utf8 (ended (logical_lines octets)) t))) in
+    rw u (or_second (list_any (line_has 5) (logical_lines octets)) (false && (b && (ltb 1048576 (length octets) || ltb 65536 (length (logical_lines octets))))))
+
+pub all_read : (b : Bool) (octets bs : List ℕ) → bs ≡ ended (logical_lines octets) → IsUtf8 bs → list_any is_faulty (lines_of bs) ≡ false → (b && ltb 65536 (length (lines_of bs))) ≡ false → (b && ltb 1048576 (length octets)) ≡ false → reads_as_lines b octets ≡ true
+all_read b octets bs e u f n o =
+    let s = lines_of-logical bs octets e in
+    let g : list_any is_faulty (logical_lines octets) ≡ false = ap (list_any is_faulty) (sym s) ∙ f in
+    let m : (b && ltb 65536 (length (logical_lines octets))) ≡ false = ap (λ ls. b && ltb 65536 (length ls)) (sym s) ∙ n in
+    let v : is_utf8 (ended (logical_lines octets)) ≡ true = is_utf8-from_IsUtf8 (ended (logical_lines octets)) (subst IsUtf8 e u) in
+    let w : (b && (ltb 1048576 (length octets) || ltb 65536 (length (logical_lines octets)))) ≡ false = neither_bound b (ltb 1048576 (length octets)) (ltb 65536 (length (logical_lines octets))) o m in
+    rw (g, v, w) refl

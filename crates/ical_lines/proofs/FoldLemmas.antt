@@ -1,0 +1,66 @@
+-- Folding, character by character.
+use Rattle.std.proofs.Common.{◌≡◌, ℕ, ◌+◌, ◌<◌, ◌≤◌, Bool, true, false, cond, Result, Ok, Err, OnOk, is_ok, List, [], ◌∷◌, ◌++◌, length, take, drop, get_or, refl, ap, sym, ◌∙◌, arith}
+use Rattle.std.specs.Char.{encode_utf8}
+use Rattle.std.specs.Str.{IsUtf8, chars}
+use Rattle.std.proofs.lemmas.List.{append_assoc, append-nil, drop_more, drop_all, length_push, length-take, take-take}
+use Rattle.std.proofs.lemmas.Str.{chars-append}
+use Rattle.profile.specs.Lines.{fold_break, fold_from, next_column, column_after, folded}
+
+pub chars_left : (cs ys : List ℕ) (c : ℕ) → (length ys < length cs) × (c ≡ get_or cs (length ys) c) → drop (length ys) cs ≡ c ∷ drop (length (ys ++ c ∷ [])) cs
+chars_left cs ys c h =
+    drop_more cs (length ys) c h.0 ∙ (ap (λ z. z ∷ drop (length ys + 1) cs) (sym h.1) ∙ ap (λ n. c ∷ drop n cs) (sym (length_push ys c)))
+
+pub add_character : (out new all rest left : List ℕ) (at after c : ℕ) → new ≡ out ++ (fold_break at c ++ encode_utf8 c) → after ≡ next_column at c → left ≡ c ∷ rest → out ++ fold_from at left ≡ all → new ++ fold_from after rest ≡ all
+add_character out new all rest left at after c e f g h =
+    rw (e, f) (append_assoc out (fold_break at c ++ encode_utf8 c) (fold_from (next_column at c) rest) ∙ (ap (λ z. out ++ fold_from at z) (sym g) ∙ h))
+
+pub add_column : (all : ℕ) (rest left : List ℕ) (at after c : ℕ) → after ≡ next_column at c → left ≡ c ∷ rest → column_after at left ≡ all → column_after after rest ≡ all
+add_column all rest left at after c f g h = ap (λ z. column_after z rest) f ∙ (ap (column_after at) (sym g) ∙ h)
+
+pub fold_ends : (out all cs : List ℕ) (at n : ℕ) → length cs ≤ n → out ++ fold_from at (drop n cs) ≡ all → out ≡ all
+fold_ends out all cs at n l h = sym (append-nil out) ∙ (ap (λ z. out ++ fold_from at z) (sym (drop_all n cs l)) ∙ h)
+
+pub column_ends : (all : ℕ) (cs : List ℕ) (at n : ℕ) → length cs ≤ n → column_after at (drop n cs) ≡ all → at ≡ all
+column_ends all cs at n l h = ap (column_after at) (sym (drop_all n cs l)) ∙ h
+
+pub fold_from-append : (at : ℕ) (xs ys : List ℕ) → fold_from at (xs ++ ys) ≡ fold_from at xs ++ fold_from (column_after at xs) ys
+fold_from-append at [] ys = refl
+fold_from-append at (x ∷ xs) ys =
+    ap (λ z. fold_break at x ++ encode_utf8 x ++ z) (fold_from-append (next_column at x) xs ys) ∙ sym (append_assoc (fold_break at x ++ encode_utf8 x) (fold_from (next_column at x) xs) (fold_from (column_after (next_column at x) xs) ys))
+
+pub keeps_on : (a y z : List ℕ) → take (length a) y ≡ a → take (length y) z ≡ y → take (length a) z ≡ a
+keeps_on a y z e f =
+    let l : length a ≤ length y = omega (arith, ap length e, length-take (length a) y) in
+    sym (take-take (length a) (length y) z l) ∙ (ap (take (length a)) f ∙ e)
+
+chars_colon : (value : List ℕ) → chars (58 ∷ value) ≡ 58 ∷ chars value
+unfolding chars
+chars_colon [] = refl
+chars_colon (b ∷ value) = refl
+
+chars_property : (name value : List ℕ) → IsUtf8 name → chars (name ++ 58 ∷ value) ≡ chars name ++ 58 ∷ chars value
+chars_property name value u = chars-append name (58 ∷ value) u ∙ ap (λ z. chars name ++ z) (chars_colon value)
+
+chars_one : chars (58 ∷ []) ≡ 58 ∷ []
+unfolding chars
+chars_one = refl
+
+parts_joined : (column : ℕ) (cs ds : List ℕ) → (fold_from column cs ++ fold_from (column_after column cs) (58 ∷ [])) ++ fold_from (column_after (column_after column cs) (58 ∷ [])) ds ≡ fold_from column (cs ++ 58 ∷ ds)
+parts_joined column cs ds =
+    let a = column_after column cs in
+    append_assoc (fold_from column cs) (fold_from a (58 ∷ [])) (fold_from (column_after a (58 ∷ [])) ds) ∙ (ap (λ z. fold_from column cs ++ z) (sym (fold_from-append a (58 ∷ []) ds)) ∙ sym (fold_from-append column cs (58 ∷ ds)))
+
+pub property_written : {T E : Type 0} (r : Result T E) (old first second third new name value : List ℕ) (a b : ℕ) → IsUtf8 name → first ≡ old ++ fold_from 0 (chars name) → a ≡ column_after 0 (chars name) → second ≡ first ++ fold_from a (chars (58 ∷ [])) → b ≡ column_after a (chars (58 ∷ [])) → third ≡ second ++ fold_from b (chars value) → new ≡ cond (is_ok r) (third ++ 13 ∷ 10 ∷ []) third → OnOk r (new ≡ old ++ folded (name ++ 58 ∷ value))
+property_written (Err x) old first second third new name value a b u e f g h k n = tt
+property_written (Ok x) old first second third new name value a b u e f g h k n =
+    let cs = chars name in
+    let ds = chars value in
+    let ca = column_after 0 cs in
+    let m = fold_from ca (58 ∷ []) in
+    let cb = column_after ca (58 ∷ []) in
+    let g1 : second ≡ (old ++ fold_from 0 cs) ++ m = g ∙ (ap (λ z. first ++ fold_from a z) chars_one ∙ (ap (λ z. z ++ fold_from a (58 ∷ [])) e ∙ ap (λ z. (old ++ fold_from 0 cs) ++ fold_from z (58 ∷ [])) f)) in
+    let h1 : b ≡ cb = h ∙ (ap (λ z. column_after z (chars (58 ∷ []))) f ∙ ap (column_after ca) chars_one) in
+    let k1 : third ≡ ((old ++ fold_from 0 cs) ++ m) ++ fold_from cb ds = k ∙ (ap (λ z. z ++ fold_from b ds) g1 ∙ ap (λ z. ((old ++ fold_from 0 cs) ++ m) ++ fold_from z ds) h1) in
+    let k2 : third ≡ old ++ ((fold_from 0 cs ++ m) ++ fold_from cb ds) = k1 ∙ (ap (λ z. z ++ fold_from cb ds) (append_assoc old (fold_from 0 cs) m) ∙ append_assoc old (fold_from 0 cs ++ m) (fold_from cb ds)) in
+    let k3 : third ≡ old ++ fold_from 0 (chars (name ++ 58 ∷ value)) = k2 ∙ ap (λ z. old ++ z) (parts_joined 0 cs ds ∙ ap (fold_from 0) (sym (chars_property name value u))) in
+    n ∙ (ap (λ z. z ++ 13 ∷ 10 ∷ []) k3 ∙ append_assoc old (fold_from 0 (chars (name ++ 58 ∷ value))) (13 ∷ 10 ∷ []))

@@ -1,0 +1,6 @@
+use Rattle.ical_lines.proofs.FoldLemmas.{property_written}
+use Rattle.ical_lines.proofs.fold.fold_property.Goals as goal
+
+pub returns-clause-written : goal.returns-clause-written
+returns-clause-written c =
+    property_written c.extend_from_slice.result c.args.out.now.items c.fold_part.new.out.items c.fold_part-2.new.out.items c.fold_part-3.new.out.items c.extend_from_slice.new.self.items c.args.name.now c.args.value.now c.in_ok-after_name.after_name c.in_ok-after_colon.after_colon c.utf8.name c.in_ok-after_name.ensures.written c.in_ok-after_name.ensures.column c.in_ok-after_colon.ensures.written c.in_ok-after_colon.ensures.column c.in_ok-fold_part.ensures.written c.extend_from_slice.ensures.items

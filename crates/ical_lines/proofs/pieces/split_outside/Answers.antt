@@ -1,0 +1,8 @@
+use Rattle.std.proofs.Common.{◌<◌, length, arith}
+use Rattle.ical_lines.proofs.PieceLemmas.{boundary_past}
+use Rattle.ical_lines.proofs.pieces.split_outside.Goals as goal
+
+pub split_at-requires-2 : goal.split_at-requires-2
+split_at-requires-2 c =
+    let filled : 0 < length c.split_at.result.1.now = grind (arith, c.is_empty.ensures, c.if-is_empty.false) in
+    boundary_past c.args.text.now c.as_bytes.result.now _ c.outside-place.result c.args.stop c.utf8.text c.as_bytes.ensures.value c.split_at.ensures.back filled c.outside-place.ensures.at c.requires

@@ -1,0 +1,18 @@
+use Rattle.std.proofs.Common.{◌≡◌, ◌+◌, ◌≤◌, ◌&&◌, ℕ, nat_lt, length, true, false}
+use Rattle.std.specs.List.{list_any}
+use Rattle.profile.specs.Lines.{is_faulty, line_has}
+use Rattle.ical_lines.specs.Breaks.{lines_of}
+use Rattle.ical_lines.specs.Limits.{is_bounded}
+use Rattle.ical_lines.specs.Text.{lines_left}
+use Rattle.ical_lines.proofs.text.check_lines.Given as goal
+
+abbrev pub invariant-loop-line : goal.invariant-loop-line
+invariant-loop-line l = record {
+  can : (goal.iterator-loop-line).can_next l.line-iterator;
+  finite : (goal.iterator-loop-line).is_finite l.line-iterator;
+  counted : l.count + length (lines_left l.line-iterator) ≡ length (lines_of l.text);
+  fits : l.count + length (lines_left l.line-iterator) ≤ length l.text;
+  within : (is_bounded l.limits && nat_lt 65536 l.count) ≡ false;
+  same : list_any is_faulty (lines_of l.text) ≡ list_any is_faulty (lines_left l.line-iterator);
+  among : (n : ℕ) → list_any (line_has n) (lines_left l.line-iterator) ≡ true → list_any (line_has n) (lines_of l.text) ≡ true;
+}

@@ -1,0 +1,29 @@
+-- Lines kept as one text in which each ends with an LF, and what the types that lend them show.
+use Rattle.std.specs.Prelude.{ℕ, Bool, not, ◌==◌, ◌-◌, List, length, take, map}
+use Rattle.std.specs.List.{slice_split, list_any, list_all}
+use Rattle.profile.specs.Lines.{param_name, param_value}
+use Rattle.ical_lines.specs.Pieces.{pieces_left}
+use Rattle.ical_lines.specs.declared.line.Line.{Line}
+use Rattle.ical_lines.specs.declared.line.Param.{Param}
+use Rattle.ical_lines.specs.declared.line.Params.{Params}
+use Rattle.ical_lines.specs.declared.text.Lines.{Lines}
+use Rattle.ical_lines.specs.Breaks.{lines_of}
+
+-- the octets of a line
+abbrev pub line_text : Line → List ℕ
+line_text line = line.text.now
+
+-- a parameter as its name and its value
+abbrev pub param_view : Param → List ℕ × List ℕ
+param_view p = (p.name.now, p.value.now)
+
+abbrev pub param_of : List ℕ → List ℕ × List ℕ
+param_of piece = (param_name piece, param_value piece)
+
+-- the parameters that are still to come
+abbrev pub params_left : Params → List (List ℕ × List ℕ)
+params_left p = map param_of (pieces_left p.pieces)
+
+-- the lines that are still to come
+abbrev pub lines_left : Lines → List (List ℕ)
+lines_left s = lines_of s.rest.now

@@ -1,0 +1,103 @@
+//! A text cut at an octet that stands outside quotes (RFC 5545 3.1, param-value).
+//! A quote opens and the next one closes; an octet between them is inside.
+ghost use Rattle.std.specs.Prelude.{◌≡◌, ◌<◌, ◌≤◌, length, MatchOption, slice_index};
+ghost use Rattle.profile.specs.Lines.{outside, front, back};
+
+/// How many octets stand before the first `stop` outside quotes; all of them where there is none.
+fn outside(text: &[u8], stop: u8) -> usize
+    ensures value { result ≡ outside stop text.now }
+    ensures bound { result ≤ length text.now }
+    ensures at { result < length text.now → slice_index text.now result ≡ stop }
+{
+    let mut quoted = false;
+    for (place, octet) in text.iter().enumerate() {
+        if *octet == b'"' {
+            quoted = !quoted;
+        } else if *octet == stop && !quoted {
+            return place;
+        }
+    }
+    text.len()
+}
+
+/// The text before the first `stop` outside quotes, and the text after it where there is one.
+pub fn split_outside(text: &str, stop: u8) -> (&str, Option<&str>)
+    requires { stop < 128 }
+    ensures front { result.0.now ≡ front stop text.now }
+    ensures back { MatchOption result.1 (length text.now ≤ outside stop text.now)
+        (λ after. (outside stop text.now < length text.now) × (after.now ≡ back stop text.now)) }
+{
+    let place = outside(text.as_bytes(), stop);
+    let (front, rest) = text.split_at(place);
+    if rest.is_empty() {
+        return (front, None);
+    }
+    let (_stop, after) = rest.split_at(1);
+    (front, Some(after))
+}
+
+/// The text before the first `stop` outside quotes.
+pub fn front(text: &str, stop: u8) -> &str
+    requires { stop < 128 }
+    ensures { result.now ≡ front stop text.now }
+{
+    let (front, _after) = split_outside(text, stop);
+    front
+}
+
+/// The text after the first `stop` outside quotes; empty where there is none.
+pub fn back(text: &str, stop: u8) -> &str
+    requires { stop < 128 }
+    ensures { result.now ≡ back stop text.now }
+{
+    let (_front, after) = split_outside(text, stop);
+    match after {
+        Some(after) => after,
+        None => "",
+    }
+}
+
+/// The pieces of a text between the octets `stop` outside quotes, in order. It takes no memory.
+#[derive(Clone, Copy)]
+pub struct Pieces<'a> {
+    rest: Option<&'a str>,
+    stop: u8,
+    ghost is_ascii: { stop < 128 },
+}
+
+impl<'a> Pieces<'a> {
+    ghost use Rattle.std.specs.Prelude.{◌≡◌, ◌<◌};
+    ghost use Rattle.profile.specs.Lines.{pieces};
+    ghost use Rattle.ical_lines.specs.Pieces.{pieces_left};
+
+    /// The pieces of a text; of an empty text one, which is empty.
+    pub fn of(text: &'a str, stop: u8) -> Pieces<'a>
+        requires { stop < 128 }
+        ensures { pieces_left result ≡ pieces stop text.now }
+    {
+        Pieces {
+            rest: Some(text),
+            stop,
+        }
+    }
+}
+
+impl<'a> Iterator for Pieces<'a> {
+    ghost use Rattle.std.specs.Iterator.{YieldsFirstBy, item_count};
+    ghost use Rattle.ical_lines.specs.Pieces.{pieces_left};
+
+    type Item = &'a str;
+
+    ghost next_gives = { YieldsFirstBy (λ piece. piece.now) pieces_left };
+
+    ghost remaining = { item_count pieces_left };
+
+    fn next(&mut self) -> Option<&'a str> {
+        let Some(text) = self.rest else {
+            return None;
+        };
+        let (piece, rest) = split_outside(text, self.stop);
+        self.rest = rest;
+        Some(piece)
+    }
+}

@@ -1,0 +1,9 @@
+use Rattle.std.proofs.Common.{◌≡◌, take, length}
+use Rattle.ical_tree.proofs.write.write_lines.Given as goal
+
+abbrev pub invariant-loop-line : goal.invariant-loop-line
+invariant-loop-line l = record {
+  can : (goal.iterator-loop-line).can_next l.line-iterator;
+  finite : (goal.iterator-loop-line).is_finite l.line-iterator;
+  keeps : take (length l.initial.out.items) l.out.items ≡ l.initial.out.items;
+}

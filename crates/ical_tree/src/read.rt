@@ -1,0 +1,217 @@
+//! Reading an object: BEGIN and END pair up, and everything stands in one VCALENDAR (RFC 5545 3.4, 3.6).
+ghost use Rattle.std.specs.Prelude.{
+  ◌≡◌,
+  ◌++◌,
+  ◌∷◌,
+  ◌&&◌,
+  [],
+  ℕ,
+  List,
+  Some,
+  codes,
+  reverse,
+  nat_lt,
+  true,
+  false,
+  IfErr,
+  IfOk,
+  OnOk,
+  IsTrue,
+};
+ghost use Rattle.profile.specs.Faults.{is_object_fault};
+ghost use Rattle.profile.specs.Lines.{logical_lines, line_value, is_same_name};
+ghost use Rattle.profile.specs.Objects.{is_end, is_property, has_version, count_inside, Opens};
+ghost use Rattle.ical_lines.specs.Fault.{RefusesOnly};
+ghost use Rattle.ical_lines.specs.Limits.{is_bounded};
+ghost use Rattle.ical_lines.specs.Text.{line_text};
+ghost use Rattle.ical_tree.specs.Tree.{IsObjectOf, component_name, component_lines, component_children};
+ghost use Rattle.ical_tree.specs.Reading.{Built, SpellsOf, IsCalendar};
+
+use crate::component::Component;
+use ical_lines::{Fault, Limits, Line, Refusal, Unfolded};
+use std::alloc::Global;
+
+/// The deepest nesting of components, VCALENDAR counted; this profile's choice.
+const MAX_DEPTH: usize = 8;
+
+/// The most VEVENTs of one message; this profile's choice.
+const MAX_EVENTS: usize = 200;
+
+/// Reads octets as one object: a VCALENDAR with all that stands inside.
+///
+/// It refuses first what `Unfolded::read` refuses (1 to 6). Then, in text order: an END with nothing open or of
+/// another name than the open component (20), a component more than 8 deep (22), a property or a component outside
+/// the one VCALENDAR (23). Then, at the end: a component that is still open (21), no VCALENDAR at all (23), a
+/// VERSION of VCALENDAR that is missing, stands twice or isn't `2.0` (24), and for `Limits::Message` more than
+/// 200 VEVENTs directly inside VCALENDAR (25).
+pub fn read_object(alloc: Global, bytes: &[u8], limits: Limits) -> Result<Component, Fault>
+    ensures spelled { IfOk result (λ c. IsObjectOf (is_bounded limits) c (logical_lines bytes.now)) }
+    ensures refuses { IfErr result (RefusesOnly is_object_fault) }
+{
+    let text = Unfolded::read(alloc, bytes, limits)?;
+    let mut reader = Reader::new(alloc);
+    for line in text.lines() {
+        reader.take(alloc, line)?;
+    }
+    let calendar = reader.finish()?;
+    check_calendar(&calendar, limits)?;
+    Ok(calendar)
+}
+
+/// What the lines so far have spelled.
+#[derive(Drop)]
+struct Reader {
+    /// The components that are open, from the outermost on.
+    open: Vec<Component>,
+    /// The VCALENDAR, once it is closed.
+    closed: Option<Component>,
+}
+
+impl Reader {
+    /// No lines yet.
+    fn new(alloc: Global) -> Reader
+        ensures { Built (reverse result.open.items) result.closed [] }
+    {
+        Reader {
+            open: Vec::new(alloc),
+            closed: None,
+        }
+    }
+
+    /// Takes the next line. After an error the reader is spent.
+    fn take(&mut self, alloc: Global, line: Line<'_>) -> Result<(), Fault>
+        ensures built { OnOk result ((done : List (List ℕ))
+            → Built (reverse self.old.open.items) self.old.closed done
+            → Built (reverse self.new.open.items) self.new.closed (done ++ line_text line.entry ∷ [])) }
+        ensures refuses { IfErr result (RefusesOnly is_object_fault) }
+    {
+        if line.is_named("BEGIN") {
+            self.begin(alloc, line.value())
+        } else if line.is_named("END") {
+            self.end(line.value())
+        } else {
+            self.add(line)
+        }
+    }
+
+    /// Opens a component.
+    fn begin(&mut self, alloc: Global, name: &str) -> Result<(), Fault>
+        ensures built { OnOk result ((done : List (List ℕ)) (line : List ℕ)
+            → Opens line name.now
+            → Built (reverse self.old.open.items) self.old.closed done
+            → Built (reverse self.new.open.items) self.new.closed (done ++ line ∷ [])) }
+        ensures refuses { IfErr result (RefusesOnly is_object_fault) }
+    {
+        if self.open.is_empty()
+            && (self.closed.is_some() || !name.eq_ignore_ascii_case("VCALENDAR"))
+        {
+            return Err(Fault::Refused(Refusal::NOT_ONE_CALENDAR));
+        }
+        if self.open.len() >= MAX_DEPTH {
+            return Err(Fault::Refused(Refusal::TOO_DEEP));
+        }
+        let component = Component::new(alloc, name)?;
+        self.open.push(component)?;
+        Ok(())
+    }
+
+    /// Closes the innermost component.
+    fn end(&mut self, name: &str) -> Result<(), Fault>
+        ensures built { OnOk result ((done : List (List ℕ)) (line : List ℕ)
+            → is_end line ≡ true
+            → line_value line ≡ name.now
+            → Built (reverse self.old.open.items) self.old.closed done
+            → Built (reverse self.new.open.items) self.new.closed (done ++ line ∷ [])) }
+        ensures refuses { IfErr result (RefusesOnly is_object_fault) }
+    {
+        let Some(component) = self.open.pop() else {
+            return Err(Fault::Refused(Refusal::STRAY_END));
+        };
+        if !component.is_named(name) {
+            return Err(Fault::Refused(Refusal::STRAY_END));
+        }
+        let Some(mut parent) = self.open.pop() else {
+            self.closed = Some(component);
+            return Ok(());
+        };
+        parent.push_child(component)?;
+        self.open.push(parent)?;
+        Ok(())
+    }
+
+    /// Adds a property to the innermost component.
+    fn add(&mut self, line: Line<'_>) -> Result<(), Fault>
+        ensures built { OnOk result ((done : List (List ℕ))
+            → is_property (line_text line.entry) ≡ true
+            → Built (reverse self.old.open.items) self.old.closed done
+            → Built (reverse self.new.open.items) self.new.closed (done ++ line_text line.entry ∷ [])) }
+        ensures refuses { IfErr result (RefusesOnly is_object_fault) }
+    {
+        let Some(mut component) = self.open.pop() else {
+            return Err(Fault::Refused(Refusal::NOT_ONE_CALENDAR));
+        };
+        component.push_line(line)?;
+        self.open.push(component)?;
+        Ok(())
+    }
+
+    /// The VCALENDAR, after the last line.
+    fn finish(self) -> Result<Component, Refusal>
+        ensures spelled { IfOk result (λ c. (done : List (List ℕ))
+            → Built (reverse self.open.items) self.closed done
+            → SpellsOf 7 c done × IsCalendar c) }
+        ensures refuses { IfErr result (λ r. IsTrue (is_object_fault r.number)) }
+    {
+        if !self.open.is_empty() {
+            return Err(Refusal::NOT_CLOSED);
+        }
+        self.closed.ok_or(Refusal::NOT_ONE_CALENDAR)
+    }
+}
+
+/// Judges a VCALENDAR as a whole: its VERSION, and how many VEVENTs it has.
+fn check_calendar(calendar: &Component, limits: Limits) -> Result<(), Refusal>
+    ensures version { OnOk result (has_version (component_lines calendar.now) ≡ true) }
+    ensures events { OnOk result ((is_bounded limits && nat_lt 200 (count_inside component_name component_lines component_children (codes "VEVENT") calendar.now)) ≡ false) }
+    ensures refuses { IfErr result (λ r. IsTrue (is_object_fault r.number)) }
+{
+    if !has_version(calendar) {
+        return Err(Refusal::BAD_VERSION);
+    }
+    if exceeds_events(calendar, limits) {
+        return Err(Refusal::TOO_MANY_EVENTS);
+    }
+    Ok(())
+}
+
+/// Whether VERSION stands once among the component's own lines, and is `2.0`.
+fn has_version(calendar: &Component) -> bool
+    ensures { result ≡ has_version (component_lines calendar.now) }
+{
+    let mut versions = calendar.lines().filter(|line| line.is_named("VERSION"));
+    let Some(version) = versions.next() else {
+        return false;
+    };
+    version.value() == "2.0" && versions.next().is_none()
+}
+
+/// Whether the VEVENTs directly inside are more than the limits allow.
+fn exceeds_events(calendar: &Component, limits: Limits) -> bool
+    ensures { result ≡ (is_bounded limits && nat_lt 200 (count_inside component_name component_lines component_children (codes "VEVENT") calendar.now)) }
+{
+    match limits {
+        Limits::Message => count_events(calendar) > MAX_EVENTS,
+        Limits::Open => false,
+    }
+}
+
+/// How many VEVENTs stand directly inside.
+fn count_events(calendar: &Component) -> usize
+    ensures { result ≡ count_inside component_name component_lines component_children (codes "VEVENT") calendar.now }
+{
+    calendar
+        .children()
+        .iter()
+        .filter(|child| child.is_named("VEVENT"))
+        .count()
+}

@@ -1,0 +1,43 @@
+//! Writing an object: BEGIN, the component's own lines, the components inside, END, each line folded.
+
+ghost use Rattle.std.specs.Prelude.{◌≡◌, take, length, OnErr};
+
+use crate::component::Component;
+use ical_lines::{write_line, write_property};
+use std::alloc::AllocError;
+
+/// Writes a component with all that stands inside. Where memory is refused, `out` is unchanged.
+pub fn write_object(component: &Component, out: &mut Vec<u8>) -> Result<(), AllocError>
+    ensures unchanged { OnErr result (out.new.items ≡ out.old.items) }
+{
+    let kept = out.len();
+    match write_component(component, out) {
+        Ok(()) => Ok(()),
+        Err(error) => {
+            out.truncate(kept);
+            Err(error)
+        }
+    }
+}
+
+/// Appends a component's lines. On an error some of them may have been appended.
+fn write_component(component: &Component, out: &mut Vec<u8>) -> Result<(), AllocError>
+    ensures keeps { take (length out.old.items) out.new.items ≡ out.old.items }
+{
+    write_property(out, "BEGIN", component.name())?;
+    write_lines(component, out)?;
+    for child in component.children() {
+        write_component(child, out)?;
+    }
+    write_property(out, "END", component.name())
+}
+
+/// Appends a component's own lines. On an error some of them may have been appended.
+fn write_lines(component: &Component, out: &mut Vec<u8>) -> Result<(), AllocError>
+    ensures keeps { take (length out.old.items) out.new.items ≡ out.old.items }
+{
+    for line in component.lines() {
+        write_line(out, line.text())?;
+    }
+    Ok(())
+}
