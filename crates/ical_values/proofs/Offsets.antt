@@ -3,7 +3,7 @@ use Rattle.std.proofs.Common.{◌≡◌, ◌≢◌, ◌∙◌, ℕ, ◌+◌, ◌
 use Rattle.profile.specs.Values.{two_digits, SpellsTime, SpellsSize, SpellsOffset}
 use Rattle.ical_values.proofs.Spelled.{list_of_4, two_same, time_length}
 
-pub if_none_weaker : (r : Option ℕ) {P Q : Type 0} → (P → Q) → IfNone r P → IfNone r Q
+pub if_none_weaker : {A : Type 0} (r : Option A) {P Q : Type 0} → (P → Q) → IfNone r P → IfNone r Q
 if_none_weaker (Some x) f h = tt
 if_none_weaker None f h = f h
 
