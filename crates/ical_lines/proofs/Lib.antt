@@ -1,4 +1,5 @@
 pub mod BreakLemmas
+pub mod CutLemmas
 pub mod FoldLemmas
 pub mod PieceLemmas
 pub mod QuoteLemmas

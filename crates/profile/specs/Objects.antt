@@ -1,9 +1,9 @@
 -- The tree of components that a list of lines spells (RFC 5545 3.4, 3.6).
 -- A component is anything that shows its name, its own lines, and the components inside it.
-use Rattle.std.specs.Prelude.{◌≡◌, ℕ, suc, ◌+◌, ◌≤◌, Bool, true, false, not, ◌&&◌, ◌||◌, ◌==◌, nat_lt, List, [], ◌∷◌, ◌++◌, length, filter, count_by, codes}
-use Rattle.std.specs.List.{list_all}
-use Rattle.std.specs.Str.{bytes_eq}
-use Rattle.profile.specs.Lines.{line_name, line_value, is_same_name}
+use Rattle.std.specs.Prelude.{◌≡◌, ℕ, suc, ◌+◌, ◌≤◌, Bool, true, false, not, ◌&&◌, ◌||◌, ◌==◌, nat_lt, List, [], ◌∷◌, ◌++◌, length, drop, filter, count_by, codes, if◌then◌else◌}
+use Rattle.std.specs.List.{slice_split, join_with_byte}
+use Rattle.std.specs.Str.{bytes_eq, str_to_ascii_lowercase}
+use Rattle.profile.specs.Lines.{line_name, line_value, is_same_name, is_continuation, without_mark, without_return}
 
 abbrev pub is_begin : List ℕ → Bool
 is_begin line = is_same_name (line_name line) (codes "BEGIN")
@@ -64,3 +64,25 @@ module _ {T : Type 0} (name : T → List ℕ) (own : T → List (List ℕ)) (ins
     pub calendar : is_same_name (name whole) (codes "VCALENDAR") ≡ true
     pub version : has_version (own whole) ≡ true
     pub events : (bounded && nat_lt 200 (count_inside (codes "VEVENT") whole)) ≡ false
+
+-- ---- the cut of a stream into objects; where an object ends is this profile's choice
+
+-- the line that ends an object, whatever its case
+abbrev pub is_last : List ℕ → Bool
+is_last line = bytes_eq (str_to_ascii_lowercase line) (codes "end:vcalendar")
+
+-- the octets between LFs that follow the first object, after the line that has begun: it ends where its last line isn't continued
+abbrev pub parts_after : List ℕ → List (List ℕ) → List (List ℕ)
+parts_after begun [] = []
+parts_after begun (part ∷ rest) =
+    if is_continuation part then parts_after (begun ++ drop 1 (without_return part)) rest
+    else (if is_last begun then part ∷ rest else parts_after (without_return part) rest)
+
+-- the octets that follow, where the line that has begun goes on with the first of these parts
+abbrev pub octets_after : List ℕ → List (List ℕ) → List ℕ
+octets_after begun [] = []
+octets_after begun (part ∷ rest) = join_with_byte 10 (parts_after (begun ++ without_return part) rest)
+
+-- what follows the first object of a stream
+abbrev pub after_object : List ℕ → List ℕ
+after_object octets = octets_after [] (slice_split (λ x. x == 10) (without_mark octets))
