@@ -19,23 +19,23 @@ use Rattle.ical_lines.specs.Cut.{next_seen, is_whole, is_blank, rest_after, fres
 
 -- ---- how much of the last line is seen
 
-abbrev last_line : List ℕ
+abbrev pub last_line : List ℕ
 last_line = codes "end:vcalendar"
 
-abbrev follows : Seen → List ℕ → Bool
+abbrev pub follows : Seen → List ℕ → Bool
 follows (First k) rest = bytes_eq (str_to_ascii_lowercase rest) (drop k last_line)
 follows Other rest = false
 
-abbrev IsWithin : Seen → Type 0
+abbrev pub IsWithin : Seen → Type 0
 IsWithin (First k) = k ≤ 13
 IsWithin Other = Unit {0}
 
 -- the line so far is the last line, whatever follows, where what follows is what is left of it
-record SeenOf (s : Seen) (line : List ℕ) : Type 0 where
+pub record SeenOf (s : Seen) (line : List ℕ) : Type 0 where
   small : IsWithin s
   tells : (rest : List ℕ) → is_last (line ++ rest) ≡ follows s rest
 
-seen_none : SeenOf (First 0) []
+pub seen_none : SeenOf (First 0) []
 seen_none = record { small = omega arith; tells = λ rest. refl }
 
 follows_by : (c : Bool) (k : ℕ) (rest : List ℕ) → (c && bytes_eq (str_to_ascii_lowercase rest) (drop (k + 1) last_line)) ≡ follows (cond c (First (k + 1)) Other) rest
@@ -76,7 +76,7 @@ whole_follows (First k) w =
     elim (cases_lt k 13) [ inl l ↦ (let d : drop k last_line ≡ get_or last_line k 0 ∷ drop (k + 1) last_line = drop_more last_line k 0 l in let e : eqb k 13 ≡ false = grind (arith, nat_tests) in ap (bytes_eq []) d ∙ sym e) | inr g ↦ (let P : ℕ → Type 0 = λ n. bytes_eq [] (drop n last_line) ≡ eqb n 13 in let e : 13 ≡ k = omega arith in subst P e refl) ]
 whole_follows Other w = refl
 
-seen_whole : (s : Seen) (line : List ℕ) → SeenOf s line → is_last line ≡ is_whole s
+pub seen_whole : (s : Seen) (line : List ℕ) → SeenOf s line → is_last line ≡ is_whole s
 seen_whole s line h = ap is_last (sym (append-nil line)) ∙ (h.tells [] ∙ whole_follows s h.small)
 
 -- ---- what follows, from a place inside a line, and from a line break
@@ -87,7 +87,7 @@ inside line rest = octets_after line (slice_split is_break rest)
 abbrev broken : List ℕ → List ℕ → List ℕ
 broken line rest = join_with_byte 10 (parts_after line (slice_split is_break rest))
 
-abbrev mk : Place → Seen → Bool → Cutter
+abbrev pub mk : Place → Seen → Bool → Cutter
 mk p s b = record { place = p; seen = s; begun = b }
 
 record Claims (rest : List ℕ) : Type 0 where
@@ -101,13 +101,13 @@ cond_cons : (t : Bool) (b : ℕ) (xs ys : List ℕ) → cond t (b ∷ xs) (b ∷
 cond_cons true b xs ys = refl
 cond_cons false b xs ys = refl
 
-without_return-cons : (b : ℕ) (c : ℕ) (p : List ℕ) → without_return (b ∷ c ∷ p) ≡ b ∷ without_return (c ∷ p)
+pub without_return-cons : (b : ℕ) (c : ℕ) (p : List ℕ) → without_return (b ∷ c ∷ p) ≡ b ∷ without_return (c ∷ p)
 without_return-cons b c p =
     let n : length (b ∷ c ∷ p) - 1 ≡ suc (length p) = omega arith in
     let m : length (c ∷ p) - 1 ≡ length p = omega arith in
     rw (n, m) (cond_cons (eqb (get_or (c ∷ p) (length p) 0) 13) b (take (length p) (c ∷ p)) (c ∷ p))
 
-without_return-other : (b : ℕ) (p : List ℕ) → eqb b 13 ≡ false → without_return (b ∷ p) ≡ b ∷ without_return p
+pub without_return-other : (b : ℕ) (p : List ℕ) → eqb b 13 ≡ false → without_return (b ∷ p) ≡ b ∷ without_return p
 without_return-other b [] h = ap (λ t. cond t [] (b ∷ [])) h
 without_return-other b (c ∷ p) h = without_return-cons b c p
 
@@ -173,7 +173,7 @@ break_last b line rest h l =
 break_other : (b : ℕ) (line rest : List ℕ) → is_blank b ≡ false → is_last line ≡ false → broken line (b ∷ rest) ≡ inside [] (b ∷ rest)
 break_other b line rest h l = other_by (eqb b 10) b line (slice_split is_break rest) h l
 
-blank_other : (b : ℕ) → is_blank b ≡ true → (eqb b 10 ≡ false) × (eqb b 13 ≡ false)
+pub blank_other : (b : ℕ) → is_blank b ≡ true → (eqb b 10 ≡ false) × (eqb b 13 ≡ false)
 blank_other b h = (grind (arith, nat_tests), grind (arith, nat_tests))
 
 blank_by : (t w : Bool) (b : ℕ) (rest : List ℕ) (ih : Claims rest) (s : Seen) (g : Bool) (line : List ℕ) → is_blank b ≡ t → is_whole s ≡ w → SeenOf s line → rest_after (mk Break s g) (b ∷ rest) ≡ broken line (b ∷ rest)

@@ -1,3 +1,4 @@
+pub mod BegunLemmas
 pub mod BreakLemmas
 pub mod CutLemmas
 pub mod FoldLemmas

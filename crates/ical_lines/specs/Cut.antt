@@ -71,6 +71,11 @@ abbrev pub rest_after : Cutter → List ℕ → List ℕ
 rest_after s [] = []
 rest_after s (b ∷ bs) = if ends_before s b then b ∷ bs else rest_after (step s b) bs
 
+-- whether more than empty lines have come, once these octets have
+abbrev pub begun_after : Cutter → List ℕ → Bool
+begun_after s [] = s.begun
+begun_after s (b ∷ bs) = if ends_before s b then true else begun_after (step s b) bs
+
 -- at the start of an object
 abbrev pub fresh : Cutter
 fresh = record { place = Mark 0; seen = First 0; begun = false }

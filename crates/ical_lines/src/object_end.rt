@@ -1,8 +1,8 @@
 //! The cut of a stream into objects (RFC 5545 3.4; where an object ends is this profile's choice).
 //! An object ends with the first unfolded line that is caselessly `END:VCALENDAR`, its line break included, or with
 //! the input. A line may still be continued after its line break, so one octet more has to be seen.
-ghost use Rattle.std.specs.Prelude.{◌≡◌, ◌≤◌, [], length, drop, MatchOption, if◌then◌else◌};
-ghost use Rattle.profile.specs.Objects.{after_object};
+ghost use Rattle.std.specs.Prelude.{◌≡◌, ◌≤◌, [], length, drop, MatchOption, is_some, if◌then◌else◌};
+ghost use Rattle.profile.specs.Objects.{after_object, is_begun};
 ghost use Rattle.ical_lines.specs.Cut.{
   added,
   after_break,
@@ -234,9 +234,10 @@ fn is_blank(octet: u8) -> bool
 /// How many octets the first object has, its last line break included.
 /// None where only empty lines are left. It takes no memory.
 pub fn cut(bytes: &[u8]) -> Option<usize>
-    ensures { MatchOption result
+    ensures rest { MatchOption result
         (after_object bytes.now ≡ [])
         (λ n. (n ≤ length bytes.now) × (drop n bytes.now ≡ after_object bytes.now)) }
+    ensures begun { is_some result ≡ is_begun bytes.now }
 {
     let mut cutter = Cutter::new();
     for (place, octet) in bytes.iter().enumerate() {

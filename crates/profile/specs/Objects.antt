@@ -1,9 +1,9 @@
 -- The tree of components that a list of lines spells (RFC 5545 3.4, 3.6).
 -- A component is anything that shows its name, its own lines, and the components inside it.
-use Rattle.std.specs.Prelude.{◌≡◌, ℕ, suc, ◌+◌, ◌≤◌, Bool, true, false, not, ◌&&◌, ◌||◌, ◌==◌, nat_lt, List, [], ◌∷◌, ◌++◌, length, drop, filter, count_by, codes, if◌then◌else◌}
-use Rattle.std.specs.List.{slice_split, join_with_byte}
+use Rattle.std.specs.Prelude.{◌≡◌, ℕ, suc, ◌+◌, ◌≤◌, Bool, true, false, not, ◌&&◌, ◌||◌, ◌==◌, nat_lt, List, [], ◌∷◌, ◌++◌, length, take, drop, filter, count_by, codes, if◌then◌else◌}
+use Rattle.std.specs.List.{slice_split, join_with_byte, list_any}
 use Rattle.std.specs.Str.{bytes_eq, str_to_ascii_lowercase}
-use Rattle.profile.specs.Lines.{line_name, line_value, is_same_name, is_continuation, without_mark, without_return}
+use Rattle.profile.specs.Lines.{line_name, line_value, is_same_name, is_continuation, is_filled, physical_lines, unfolded, without_mark, without_return}
 
 abbrev pub is_begin : List ℕ → Bool
 is_begin line = is_same_name (line_name line) (codes "BEGIN")
@@ -86,3 +86,8 @@ octets_after begun (part ∷ rest) = join_with_byte 10 (parts_after (begun ++ wi
 -- what follows the first object of a stream
 abbrev pub after_object : List ℕ → List ℕ
 after_object octets = octets_after [] (slice_split (λ x. x == 10) (without_mark octets))
+
+-- more than empty lines stand there; a byte order mark is more
+abbrev pub is_begun : List ℕ → Bool
+is_begun octets =
+    bytes_eq (take 3 octets) (0xEF ∷ 0xBB ∷ 0xBF ∷ []) || list_any is_filled (unfolded (physical_lines (without_mark octets)))
