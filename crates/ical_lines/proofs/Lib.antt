@@ -1,4 +1,6 @@
+pub mod BegunLemmas
 pub mod BreakLemmas
+pub mod CutLemmas
 pub mod FoldLemmas
 pub mod PieceLemmas
 pub mod QuoteLemmas
