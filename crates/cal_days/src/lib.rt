@@ -4,7 +4,7 @@
 //! ends at 9999-12-31: a later day is computed 400 years, which are 146,097 days, earlier.
 #![tactic(auto)]
 
-ghost use Rattle.std.specs.Prelude.{◌≡◌, ◌↔◌, ◌≤ℤ◌, ◌+ℤ◌, pos, negsuc, unsigned_abs, IsSome, IfSome};
+ghost use Rattle.std.specs.Prelude.{ℕ, ◌≡◌, ◌↔◌, ◌≤ℤ◌, ◌+ℤ◌, pos, negsuc, unsigned_abs, IsSome, IfSome};
 ghost use Rattle.profile.specs.Days.{IsDayNumber, IsDayDate, IsDate, number_of_date, number_of_day};
 
 use jiff::civil;
@@ -101,6 +101,15 @@ impl Day {
         }
         date_of(self.number)
     }
+}
+
+/// No two dates have one number.
+pub fn one_date()
+    ensures { (year month day late_year late_month late_day : ℕ) → IsDate year month day
+        → IsDate late_year late_month late_day
+        → number_of_date year month day ≡ number_of_date late_year late_month late_day
+        → (year ≡ late_year) × (month ≡ late_month) × (day ≡ late_day) }
+{
 }
 
 /// The number of a date of the years 1 to 9999.
