@@ -109,8 +109,7 @@ pub fn one_date()
         → IsDate late_year late_month late_day
         → number_of_date year month day ≡ number_of_date late_year late_month late_day
         → (year ≡ late_year) × (month ≡ late_month) × (day ≡ late_day) }
-{
-}
+{}
 
 /// The number of a date of the years 1 to 9999.
 fn number_of(year: i32, month: u8, day: u8) -> Option<i64>
