@@ -96,10 +96,11 @@ impl Day {
         ensures number { number_of_day result.year result.month result.day ≡ self }
         ensures early { self ≤ℤ pos 2_932_896 → result.year ≤ℤ pos 9999 }
     {
-        if self.number > JIFF_LAST {
-            return later(date_of(self.number - CYCLE));
+        let Day { number } = self;
+        if number > JIFF_LAST {
+            return later(date_of(number - CYCLE));
         }
-        date_of(self.number)
+        date_of(number)
     }
 }
 

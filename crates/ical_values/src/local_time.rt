@@ -47,7 +47,8 @@ impl LocalTime {
         ensures ok { OnOk result (Appends out.old.items out.new.items (λ text. WritesLocal text self)) }
         ensures err { OnErr result (out.new.items ≡ out.old.items) }
     {
-        clock::write(self.seconds, b"", out)
+        let LocalTime { seconds } = self;
+        clock::write(seconds, b"", out)
     }
 
     /// Seconds from 1970-01-01T00:00:00 on the same clock.

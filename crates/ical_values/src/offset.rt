@@ -49,8 +49,9 @@ impl UtcOffset {
         ensures ok { OnOk result (Appends out.old.items out.new.items (λ text. WritesOffset text self)) }
         ensures err { OnErr result (out.new.items ≡ out.old.items) }
     {
-        let sign = [if self.seconds < 0 { b'-' } else { b'+' }];
-        let size = self.seconds.unsigned_abs();
+        let UtcOffset { seconds } = self;
+        let sign = [if seconds < 0 { b'-' } else { b'+' }];
+        let size = seconds.unsigned_abs();
         let time = clock::time_text(size);
         if size % 60 == 0 {
             append_all(out, &[&sign, &time[..4]])

@@ -51,7 +51,8 @@ impl Sequence {
         ensures err { OnErr result (out.new.items ≡ out.old.items) }
     {
         let mut buffer = Buffer::new();
-        append_all(out, &[buffer.format(self.number).as_bytes()])
+        let Sequence { number } = self;
+        append_all(out, &[buffer.format(number).as_bytes()])
     }
 
     /// The number, from 0 to 2,147,483,647.

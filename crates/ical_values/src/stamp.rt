@@ -50,7 +50,8 @@ impl Stamp {
         ensures ok { OnOk result (Appends out.old.items out.new.items (λ text. WritesStamp text self)) }
         ensures err { OnErr result (out.new.items ≡ out.old.items) }
     {
-        clock::write(self.instant, b"Z", out)
+        let Stamp { instant } = self;
+        clock::write(instant, b"Z", out)
     }
 
     /// Seconds from 1970-01-01T00:00:00Z.
