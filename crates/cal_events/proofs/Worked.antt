@@ -1,10 +1,9 @@
 -- The definitions at worked examples.
-use Rattle.std.proofs.Common.{◌≡◌, ◌≢◌, ℕ, ℤ, pos, negsuc, ◌≤ℤ◌, ◌<ℤ◌, Bool, true, false, List, [], ◌∷◌, get_or, refl, ap, arith, lit<}
+use Rattle.std.proofs.Common.{◌≡◌, ℕ, ℤ, pos, negsuc, true, false, List, [], ◌∷◌, get_or, refl, ap, arith, lit<}
 use Rattle.std.specs.Prelude.{codes}
 use Rattle.std.specs.declared.cmp.Ordering.TheVariants.{Less}
 use Rattle.std.proofs.lemmas.Int.{ints}
 use Rattle.profile.specs.Instances.{Key, Booked, IsClash, IsWithin, horizon, booked_cmp}
-use Rattle.cal_events.specs.declared.sweep.Span.{Span}
 use Rattle.cal_events.specs.Sweep.{holds_instant}
 
 -- an instance of Ann's meeting in these seconds, named by its start

@@ -1,22 +1,21 @@
 -- Which of two clashing instances is named first.
-use Rattle.std.proofs.Common.{◌≡◌, ◌≢◌, ℕ, ◌<◌, ℤ, ◌≤ℤ◌, ◌<ℤ◌, Bool, true, false, List, ◌∷◌, map, length, get_or, subst, sym, refl, ap, ◌∙◌, arith, Ordering}
+use Rattle.std.proofs.Common.{◌≡◌, ℕ, ◌<◌, ℤ, ◌≤ℤ◌, List, map, length, get_or, subst, sym, refl, ap, ◌∙◌, arith, Ordering}
 use Rattle.std.specs.Prelude.{Result, Ok, Err, IfOk, MatchBool}
 use Rattle.std.specs.declared.cmp.Ordering.TheVariants.{Less, Equal, Greater}
 use Rattle.std.specs.Ordering.{is_lt, nat_cmp, int_cmp, ordering_then, ordering_reverse}
 use Rattle.std.specs.Cmp.{IsTotalOrder}
 use Rattle.std.specs.Cmp.Lexicographic.{slice_cmp}
-use Rattle.std.proofs.lemmas.Bool.{true≢false}
 use Rattle.std.proofs.lemmas.Cmp.{on_total, then_total, nat_list_cmp_total, int_cmp_total}
 use Rattle.std.proofs.lemmas.Int.{ints}
 use Rattle.std.proofs.lemmas.List.{get_or-map}
 use Rattle.std.proofs.lemmas.Map.Lookups.{exact_pairs, exact_bytes, exact_signed}
-use Rattle.profile.specs.Instances.{Key, Booked, IsClash, IsWithin, booked_cmp, key_cmp}
+use Rattle.profile.specs.Instances.{Key, Booked, IsClash, booked_cmp, key_cmp}
 use Rattle.cal_events.specs.declared.sweep.Overlap.{Overlap}
 use Rattle.cal_events.specs.declared.instance.Booking.{Booking}
 use Rattle.cal_events.specs.Calendars.{booked_of}
 use Rattle.cal_events.specs.Clashes.{Names}
 use Rattle.clash_cert.specs.declared.making.Clash.{Clash}
-use Rattle.clash_cert.specs.Makings.{key_of, HasKeys, IsNamedClash, AreNamed, AreNamedAt}
+use Rattle.clash_cert.specs.Makings.{HasKeys, IsNamedClash, AreNamed, AreNamedAt}
 
 key_total : IsTotalOrder key_cmp
 key_total =

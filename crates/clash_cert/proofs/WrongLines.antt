@@ -1,9 +1,9 @@
 -- Which line is the first wrong one.
-use Rattle.std.proofs.Common.{◌≡◌, ◌≢◌, ℕ, zero, suc, ◌+◌, ◌-◌, ◌^◌, ◌<◌, ◌≤◌, ◌==◌, Bool, true, false, List, [], ◌∷◌, ◌++◌, length, get_or, take, drop, subst, sym, refl, ap, ◌∙◌, arith}
+use Rattle.std.proofs.Common.{◌≡◌, ◌≢◌, ℕ, suc, ◌-◌, ◌^◌, ◌<◌, ◌≤◌, ◌==◌, Bool, true, false, List, [], ◌∷◌, ◌++◌, length, get_or, take, drop, subst, sym, refl, ap, ◌∙◌, arith}
 use Rattle.std.specs.Prelude.{codes, decimal}
 use Rattle.std.proofs.lemmas.Bool.{true≢false, eqb-true}
 use Rattle.std.proofs.lemmas.List.{length-take-le}
-use Rattle.profile.specs.Certificates.{Claims, IsClaims, lines_of, spelled, text_of, Spells, BeginsWell, FirstWrong}
+use Rattle.profile.specs.Certificates.{Claims, IsClaims, lines_of, spelled, Spells, BeginsWell, FirstWrong}
 use Rattle.clash_cert.specs.Texts.{LacksLine, LacksCount}
 use Rattle.clash_cert.proofs.TextLemmas.{AreLines, AreLines-take, lines_are, one_rest, one_cut, one_line, cancel, decimal_once, spelled-take, spelled-take_suc}
 

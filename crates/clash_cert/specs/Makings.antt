@@ -1,5 +1,5 @@
 -- What making gives, and which clash a `Clash` names.
-use Rattle.std.specs.Prelude.{ℕ, ℤ, List, MatchBool, ◌≡◌, ◌≤ℤ◌, slice_index_or}
+use Rattle.std.specs.Prelude.{ℤ, List, MatchBool, ◌≡◌, slice_index_or}
 use Rattle.std.specs.Ordering.{is_lt}
 use Rattle.std.specs.declared.cmp.Ordering.TheVariants.{Less}
 use Rattle.profile.specs.Instances.{Key, Booked, IsClash, booked_cmp}
