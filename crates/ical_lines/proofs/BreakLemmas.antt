@@ -38,23 +38,23 @@ lines_of-le xs =
 
 -- ---- texts without a break
 
-neither_first : (a b : Bool) → (a || b) ≡ false → a ≡ false
+pub neither_first : (a b : Bool) → (a || b) ≡ false → a ≡ false
 neither_first true b h = h
 neither_first false b h = refl
 
-neither_second : (a b : Bool) → (a || b) ≡ false → b ≡ false
+pub neither_second : (a b : Bool) → (a || b) ≡ false → b ≡ false
 neither_second true b h = cc
 neither_second false b h = h
 
-both : (a b : Bool) → (a && b) ≡ true → (a ≡ true) × (b ≡ true)
+pub both : (a b : Bool) → (a && b) ≡ true → (a ≡ true) × (b ≡ true)
 both true b h = (refl, h)
 both false b h = cc
 
-not_true : (b : Bool) → (b ≡ true → ⊥) → b ≡ false
+pub not_true : (b : Bool) → (b ≡ true → ⊥) → b ≡ false
 not_true true h = absurd (h refl)
 not_true false h = refl
 
-was_false : (b : Bool) → not b ≡ true → b ≡ false
+pub was_false : (b : Bool) → not b ≡ true → b ≡ false
 was_false true h = cc
 was_false false h = refl
 
@@ -65,7 +65,7 @@ not_any p (x ∷ xs) h =
     let rest : list_any p xs ≡ false = not_any p xs (λ k l. h (suc k) (omega arith)) in
     rw (first, rest) refl
 
-none_at : (p : ℕ → Bool) (xs : List ℕ) → list_any p xs ≡ false → (k d : ℕ) → k < length xs → p (get_or xs k d) ≡ false
+pub none_at : (p : ℕ → Bool) (xs : List ℕ) → list_any p xs ≡ false → (k d : ℕ) → k < length xs → p (get_or xs k d) ≡ false
 none_at p [] h k d l = absurd (omega arith)
 none_at p (x ∷ xs) h zero d l = neither_first (p x) (list_any p xs) h
 none_at p (x ∷ xs) h (suc k) d l = none_at p xs (neither_second (p x) (list_any p xs) h) k d (omega arith)

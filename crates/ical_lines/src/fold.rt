@@ -1,21 +1,28 @@
 //! Folding (RFC 5545 3.1): a written line of more than 75 octets is broken, never inside a character.
 //! Each continuation begins with one space, which counts among its 75 octets.
 
-ghost use Rattle.std.specs.Prelude.{◌≡◌, ◌++◌, ◌∷◌, ◌≤◌, take, length, IfOk, OnOk, OnErr};
+ghost use Rattle.std.specs.Prelude.{◌≡◌, ◌++◌, ◌∷◌, ◌≤◌, List, ℕ, true, false, take, length, IfOk, OnOk, OnErr};
 ghost use Rattle.std.specs.Char.{encode_utf8};
 ghost use Rattle.std.specs.Str.{chars};
-ghost use Rattle.profile.specs.Lines.{fold_break, fold_from, next_column, column_after, folded};
+ghost use Rattle.profile.specs.Lines.{fold_break, fold_from, next_column, column_after, folded, is_continuation, is_short, physical_lines, unfolded};
+ghost use Rattle.std.specs.List.{list_all};
+ghost use Rattle.ical_lines.specs.Breaks.{is_one_line};
 
 use std::alloc::AllocError;
 
 /// The most octets of a physical line, its line break not counted.
 const MAX_COLUMN: usize = 75;
 
-/// Writes one content line, folded and ended by CRLF.
+/// Writes one content line, folded and ended by CRLF. A text without LF reads back, whatever line follows it.
 /// Where memory is refused, `out` is unchanged.
 pub fn write_line(out: &mut Vec<u8>, text: &str) -> Result<(), AllocError>
     ensures written { OnOk result (out.new.items ≡ out.old.items ++ folded text.now) }
     ensures unchanged { OnErr result (out.new.items ≡ out.old.items) }
+    ensures reads_back { is_one_line text.now ≡ true
+        → (rest : List ℕ)
+        → is_continuation rest ≡ false
+        → unfolded (physical_lines (folded text.now ++ rest)) ≡ text.now ∷ unfolded (physical_lines rest) }
+    ensures short { is_one_line text.now ≡ true → list_all is_short (physical_lines (folded text.now)) ≡ true }
 {
     let kept = out.len();
     match fold_line(out, text) {
@@ -32,6 +39,11 @@ pub fn write_line(out: &mut Vec<u8>, text: &str) -> Result<(), AllocError>
 pub fn write_property(out: &mut Vec<u8>, name: &str, value: &str) -> Result<(), AllocError>
     ensures written { OnOk result (out.new.items ≡ out.old.items ++ folded (name.now ++ 58 ∷ value.now)) }
     ensures unchanged { OnErr result (out.new.items ≡ out.old.items) }
+    ensures reads_back { is_one_line (name.now ++ 58 ∷ value.now) ≡ true
+        → (rest : List ℕ)
+        → is_continuation rest ≡ false
+        → unfolded (physical_lines (folded (name.now ++ 58 ∷ value.now) ++ rest)) ≡ (name.now ++ 58 ∷ value.now) ∷ unfolded (physical_lines rest) }
+    ensures short { is_one_line (name.now ++ 58 ∷ value.now) ≡ true → list_all is_short (physical_lines (folded (name.now ++ 58 ∷ value.now))) ≡ true }
 {
     let kept = out.len();
     match fold_property(out, name, value) {

@@ -3,3 +3,5 @@ pub mod Spelled
 pub mod Escapes
 pub mod Addresses
 pub mod Offsets
+pub mod Parts
+pub mod Signs

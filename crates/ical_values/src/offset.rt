@@ -96,8 +96,9 @@ fn read_size(digits: &[u8]) -> Option<u32>
     ensures range { IfSome result (λ n. n < 86_400) }
     ensures none { IfNone result ((size : ℕ) → SpellsSize digits.now size → ⊥) }
 {
-    match digits {
-        [h1, h2, m1, m2] => clock::read_time(&[*h1, *h2, *m1, *m2, b'0', b'0'], 59),
-        _ => clock::read_time(digits, 59),
+    if digits.len() != 4 {
+        return clock::read_time(digits, 59);
     }
+    let [h1, h2, m1, m2] = [digits[0], digits[1], digits[2], digits[3]];
+    clock::read_time(&[h1, h2, m1, m2, b'0', b'0'], 59)
 }

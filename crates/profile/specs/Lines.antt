@@ -204,3 +204,7 @@ column_after column (c ∷ cs) = column_after (next_column column c) cs
 -- a line as it is written: folded, and ended by CRLF
 abbrev pub folded : List ℕ → List ℕ
 folded text = fold_from 0 (chars text) ++ 13 ∷ 10 ∷ []
+
+-- a physical line of at most 75 octets, its line break not counted
+abbrev pub is_short : List ℕ → Bool
+is_short line = nat_le (length line) 75
