@@ -42,6 +42,11 @@ abbrev pub IsMadeFor : List Booked → Made → Type 0
 IsMadeFor all (made.Clear c) = CertificateStands all (text_of c)
 IsMadeFor all (made.Clash clash) = IsNamedClash all clash
 
+-- a certificate was made, and no clash found
+abbrev pub IsCertificate : Made → Type 0
+IsCertificate (made.Clear c) = Unit {0}
+IsCertificate (made.Clash clash) = ⊥
+
 -- it names the two, the lesser first
 abbrev pub AreNamed : Booked → Booked → ℤ → Clash → Type 0
 AreNamed a b t clash = MatchBool (is_lt (booked_cmp b a)) (HasKeys b a t clash) (HasKeys a b t clash)
