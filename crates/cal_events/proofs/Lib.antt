@@ -2,3 +2,4 @@ pub mod CalendarLemmas
 pub mod ClashLemmas
 pub mod Distinct
 pub mod SweepLemmas
+mod Worked
