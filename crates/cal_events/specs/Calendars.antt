@@ -6,6 +6,7 @@ use Rattle.std.specs.declared.cmp.Ordering.{Ordering}
 use denote.Ref.{Bor}
 use Rattle.cal_events.specs.declared.sweep.Span.{Span}
 use Rattle.profile.specs.Instances.{Key, Booked}
+use Rattle.ical_values.specs.Octets.{address_octets, text_octets}
 use Rattle.ical_lines.specs.declared.fault.Fault.{Fault}
 use Rattle.ical_lines.specs.declared.fault.Fault.TheVariants.{Refused, Memory}
 use Rattle.cal_events.specs.declared.instance.InstanceKey.{InstanceKey}
@@ -24,7 +25,7 @@ instance_of i = record { key = key_of i.key; start = i.start; end = i.end }
 
 -- the instance that a booking is
 abbrev pub booked_of : Booking → Booked
-booked_of b = record { key = record { organiser = b.organiser; uid = b.uid; slot = b.slot }; start = b.start; end = b.end }
+booked_of b = record { key = record { organiser = address_octets b.organiser; uid = text_octets b.uid; slot = b.slot }; start = b.start; end = b.end }
 
 -- the singles that an iterator has left
 abbrev pub singles_left : Singles → List Booked
@@ -36,7 +37,7 @@ HaveDifferentKeys all = AllPairs (λ a b. a.key ≢ b.key) all
 
 -- the meeting of an event: its organiser and its UID
 abbrev pub meeting_of : Entry → List ℕ × List ℕ
-meeting_of e = (e.booking.organiser, e.booking.uid)
+meeting_of e = (address_octets e.booking.organiser, text_octets e.booking.uid)
 
 -- the instances of the confirmed events, in order
 abbrev pub confirmed_in : List Entry → List Booked
