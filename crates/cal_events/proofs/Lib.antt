@@ -1,3 +1,4 @@
+pub mod EventLemmas
 pub mod CalendarLemmas
 pub mod ClashLemmas
 pub mod Distinct
