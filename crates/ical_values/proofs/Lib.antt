@@ -1,5 +1,10 @@
+mod Examples
 pub mod Pairs
 pub mod Spelled
 pub mod Escapes
 pub mod Addresses
 pub mod Offsets
+pub mod Parts
+pub mod Signs
+pub mod Readings
+pub mod Spans

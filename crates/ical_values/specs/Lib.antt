@@ -1,3 +1,4 @@
 pub mod Written
 pub mod Octets
 pub mod Refused
+pub mod Counts

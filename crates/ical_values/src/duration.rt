@@ -1,8 +1,11 @@
 //! Durations (RFC 5545 3.3.6): weeks, or days with hours, minutes and seconds. Weeks and days are
 //! nominal; the rest is exact. Negative ones and counts past 32 bits aren't kept.
 
-ghost use Rattle.std.specs.Prelude.{◌≡◌, ◌++◌, ◌⊎◌, IfErr, OnOk, OnErr};
-ghost use Rattle.profile.specs.Values.{duration_text};
+ghost use Rattle.std.specs.Prelude.{◌≡◌, ◌+◌, ◌*◌, ◌<◌, ◌≤◌, ◌^◌, ◌++◌, ◌∷◌, ◌⊎◌, ℕ, List, length, take, slice_index, IfSome, IfNone, IfOk, IfErr, OnOk, OnErr};
+ghost use Rattle.std.specs.Int.{IsInRange};
+ghost use Rattle.std.specs.Str.Parse.{AllDigits, digits_value};
+ghost use Rattle.profile.specs.Values.{duration_text, SpellsDuration, SpellsNegative, SpellsLong, SpellsUnsigned, SpellsDays, SpellsExact};
+ghost use Rattle.ical_values.specs.Counts.{capped, Begins, Takes, TakesOrSkips, CountsExact, CountsDays, CountsUnsigned, SpellsLongBody};
 
 use crate::append::append_all;
 use ical_lines::Refusal;
@@ -28,15 +31,23 @@ impl Duration {
     /// and at least one follows `T`. A `+` may stand in front. Refused are a text that is none (12), and
     /// one with a minus sign or with a count of days or seconds past u32 (51).
     pub fn read(text: &str) -> Result<Duration, Refusal>
-        ensures { IfErr result (λ e. (e.number ≡ 12) ⊎ (e.number ≡ 51)) }
+        ensures reads { IfOk result (λ d. SpellsDuration text.now d.days d.seconds) }
+        ensures refuses { IfErr result (λ e. (e.number ≡ 12) ⊎ (e.number ≡ 51)) }
+        ensures none { IfErr result
+            (λ e. e.number ≡ 12 → (days seconds : ℕ) → SpellsDuration text.now days seconds → ⊥) }
+        ensures not_negative { IfErr result (λ e. e.number ≡ 12 → SpellsNegative text.now → ⊥) }
+        ensures range { IfErr result
+            (λ e. e.number ≡ 51 → SpellsNegative text.now ⊎ SpellsLong text.now) }
     {
-        match text.as_bytes() {
-            [b'+', rest @ ..] => fit(read_counts(rest)),
-            [b'-', rest @ ..] => match read_counts(rest) {
-                Some(_) => Err(Refusal::LONG_OR_NEGATIVE),
-                None => Err(Refusal::BAD_DURATION),
-            },
-            rest => fit(read_counts(rest)),
+        if let Some(body) = text.strip_prefix('+') {
+            return read_unsigned(body.as_bytes());
+        }
+        let Some(body) = text.strip_prefix('-') else {
+            return read_unsigned(text.as_bytes());
+        };
+        match read_counts(body.as_bytes()) {
+            Some(_) => Err(Refusal::LONG_OR_NEGATIVE),
+            None => Err(Refusal::BAD_DURATION),
         }
     }
 
@@ -57,14 +68,31 @@ impl Duration {
     }
 }
 
-/// The duration of those counts, where there are any and both fit.
-fn fit(counts: Option<Counts>) -> Result<Duration, Refusal>
-    ensures { IfErr result (λ e. (e.number ≡ 12) ⊎ (e.number ≡ 51)) }
+/// Reads a duration without its sign.
+fn read_unsigned(text: &[u8]) -> Result<Duration, Refusal>
+    ensures reads { IfOk result (λ d. SpellsUnsigned text.now d.days d.seconds) }
+    ensures refuses { IfErr result (λ e. (e.number ≡ 12) ⊎ (e.number ≡ 51)) }
+    ensures none { IfErr result
+        (λ e. e.number ≡ 12 → (days seconds : ℕ) → SpellsUnsigned text.now days seconds → ⊥) }
+    ensures range { IfErr result (λ e. e.number ≡ 51 → SpellsLongBody text.now) }
 {
-    let Some(counts) = counts else {
-        return Err(Refusal::BAD_DURATION);
-    };
-    if counts.days > u32::MAX as u64 || counts.seconds > u32::MAX as u64 {
+    match read_counts(text) {
+        Some(counts) => fit(counts),
+        None => Err(Refusal::BAD_DURATION),
+    }
+}
+
+/// The duration of those counts, where both fit.
+fn fit(counts: Counts) -> Result<Duration, Refusal>
+    ensures ok { IfOk result (λ d. (d.days ≡ counts.days) × (d.seconds ≡ counts.seconds)
+        × (d.days < 2 ^ 32) × (d.seconds < 2 ^ 32)) }
+    ensures range { IfErr result
+        (λ e. (e.number ≡ 51) × ((2 ^ 32 ≤ counts.days) ⊎ (2 ^ 32 ≤ counts.seconds))) }
+{
+    if counts.days > u32::MAX as u64 {
+        return Err(Refusal::LONG_OR_NEGATIVE);
+    }
+    if counts.seconds > u32::MAX as u64 {
         return Err(Refusal::LONG_OR_NEGATIVE);
     }
     Ok(Duration {
@@ -73,80 +101,135 @@ fn fit(counts: Option<Counts>) -> Result<Duration, Refusal>
     })
 }
 
-/// What stands after the sign.
-fn read_counts(text: &[u8]) -> Option<Counts> {
-    let [b'P', rest @ ..] = text else {
+/// The counts of `P` and what follows it.
+fn read_counts(text: &[u8]) -> Option<Counts>
+    ensures found { IfSome result (λ c. CountsUnsigned text.now c.days c.seconds) }
+    ensures none { IfNone result
+        ((days seconds : ℕ) → SpellsUnsigned text.now days seconds → ⊥) }
+{
+    let Some(body) = after(text, b'P') else {
         return None;
     };
-    match take_part(rest, b'W') {
-        Some((weeks, [])) => Some(Counts {
-            days: weeks.saturating_mul(7),
-            seconds: 0,
-        }),
-        _ => read_days(rest),
+    let Some((weeks, rest)) = take_part(body, b'W') else {
+        return read_days(body);
+    };
+    if !rest.is_empty() {
+        return None;
     }
+    Some(Counts {
+        days: weeks.saturating_mul(7),
+        seconds: 0,
+    })
 }
 
 /// Days, a time, or both.
-fn read_days(text: &[u8]) -> Option<Counts> {
-    match take_part(text, b'D') {
-        None => Some(Counts {
-            days: 0,
-            seconds: read_time(text)?,
-        }),
-        Some((days, [])) => Some(Counts { days, seconds: 0 }),
-        Some((days, rest)) => Some(Counts {
-            days,
-            seconds: read_time(rest)?,
-        }),
+fn read_days(text: &[u8]) -> Option<Counts>
+    ensures found { IfSome result (λ c. CountsDays text.now c.days c.seconds) }
+    ensures none { IfNone result ((days seconds : ℕ) → SpellsDays text.now days seconds → ⊥) }
+{
+    let Some((days, rest)) = take_part(text, b'D') else {
+        return match read_time(text) {
+            Some(seconds) => Some(Counts { days: 0, seconds }),
+            None => None,
+        };
+    };
+    if rest.is_empty() {
+        return Some(Counts { days, seconds: 0 });
+    }
+    match read_time(rest) {
+        Some(seconds) => Some(Counts { days, seconds }),
+        None => None,
     }
 }
 
 /// The seconds of `T`, and hours, minutes and seconds, of which at least one stands.
-fn read_time(text: &[u8]) -> Option<u64> {
-    let [b'T', rest @ ..] = text else {
+fn read_time(text: &[u8]) -> Option<u64>
+    ensures found { IfSome result (CountsExact text.now) }
+    ensures none { IfNone result ((total : ℕ) → SpellsExact text.now total → ⊥) }
+{
+    let Some(body) = after(text, b'T') else {
         return None;
     };
-    if rest.is_empty() {
+    if body.is_empty() {
         return None;
     }
-    let (hours, rest) = part_or_zero(rest, b'H');
-    let (minutes, rest) = part_or_zero(rest, b'M');
-    let (seconds, rest) = part_or_zero(rest, b'S');
+    let (hours, after_hours) = part_or_zero(body, b'H');
+    let (minutes, after_minutes) = part_or_zero(after_hours, b'M');
+    let (seconds, rest) = part_or_zero(after_minutes, b'S');
     if !rest.is_empty() {
         return None;
     }
-    Some(
-        hours
-            .saturating_mul(3600)
-            .saturating_add(minutes.saturating_mul(60))
-            .saturating_add(seconds),
-    )
+    Some(total(hours, minutes, seconds))
+}
+
+/// Hours, minutes and seconds as seconds, at most the greatest u64.
+fn total(hours: u64, minutes: u64, seconds: u64) -> u64
+    ensures { result ≡ capped (3600 * hours + 60 * minutes + seconds) }
+{
+    hours
+        .saturating_mul(3600)
+        .saturating_add(minutes.saturating_mul(60))
+        .saturating_add(seconds)
+}
+
+/// What follows the letter at the front.
+fn after(text: &[u8], letter: u8) -> Option<&[u8]>
+    ensures found { IfSome result (λ rest. text.now ≡ letter ∷ rest.now) }
+    ensures none { IfNone result ((rest : List ℕ) → text.now ≡ letter ∷ rest → ⊥) }
+{
+    if text.is_empty() {
+        return None;
+    }
+    if text[0] != letter {
+        return None;
+    }
+    Some(&text[1..])
 }
 
 /// The number before the letter and what follows the letter. Where the text doesn't begin with a number
 /// and the letter: 0, and the text.
-fn part_or_zero(text: &[u8], letter: u8) -> (u64, &[u8]) {
+fn part_or_zero(text: &[u8], letter: u8) -> (u64, &[u8])
+    requires { 57 < letter }
+    ensures { TakesOrSkips letter text.now result.0 result.1.now }
+{
     match take_part(text, letter) {
-        Some(found) => found,
+        Some((number, rest)) => (number, rest),
         None => (0, text),
     }
 }
 
 /// The number at the front, which the letter follows, and the rest after the letter.
-fn take_part(text: &[u8], letter: u8) -> Option<(u64, &[u8])> {
+fn take_part(text: &[u8], letter: u8) -> Option<(u64, &[u8])>
+    requires { 57 < letter }
+    ensures found { IfSome result (λ r. Takes letter text.now r.0 r.1.now) }
+    ensures none { IfNone result ((n : ℕ) (rest : List ℕ) → Begins letter text.now n rest → ⊥) }
+{
     let (number, count) = leading_number(text);
-    if count == 0 || count >= text.len() || text[count] != letter {
+    if count == 0 {
+        return None;
+    }
+    if count >= text.len() {
+        return None;
+    }
+    if text[count] != letter {
         return None;
     }
     Some((number, &text[count + 1..]))
 }
 
 /// The number of the digits at the front, and how many they are. A number past u64 is the greatest u64.
-fn leading_number(text: &[u8]) -> (u64, usize) {
+fn leading_number(text: &[u8]) -> (u64, usize)
+    ensures within { result.1 ≤ length text.now }
+    ensures digits { AllDigits 10 (take result.1 text.now) }
+    ensures value { result.0 ≡ capped (digits_value 10 (take result.1 text.now)) }
+    ensures end { result.1 < length text.now → IsInRange 48 57 (slice_index text.now result.1) → ⊥ }
+{
     let mut number: u64 = 0;
     for (i, octet) in text.iter().enumerate() {
-        if *octet < b'0' || *octet > b'9' {
+        if *octet < b'0' {
+            return (number, i);
+        }
+        if *octet > b'9' {
             return (number, i);
         }
         number = number
@@ -155,3 +238,14 @@ fn leading_number(text: &[u8]) -> (u64, usize) {
     }
     (number, text.len())
 }
+
+/// A text spells at most one duration, negative or not, and what is written of one spells it.
+pub fn one_duration()
+    ensures reading { (text : List ℕ) (days seconds other_days other_seconds : ℕ)
+        → SpellsDuration text days seconds → SpellsDuration text other_days other_seconds
+        → (days ≡ other_days) × (seconds ≡ other_seconds) }
+    ensures negative { (text : List ℕ) (days seconds : ℕ)
+        → SpellsDuration text days seconds → SpellsNegative text → ⊥ }
+    ensures written { (days seconds : ℕ) → days < 2 ^ 32 → seconds < 2 ^ 32
+        → SpellsDuration (duration_text days seconds) days seconds }
+{}

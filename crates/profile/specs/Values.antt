@@ -163,13 +163,18 @@ pub record SpellsExact (text : List ℕ) (total : ℕ) : Type 0 where
   pub spelled : text ≡ codes "T" ++ hour_part ++ minute_part ++ second_part
   pub counted : total ≡ 3600 * hours + 60 * minutes + seconds
 
--- what follows `P`: weeks; days; a time; or days and a time
+-- days; a time; or days and a time
+abbrev pub SpellsDays : List ℕ → ℕ → ℕ → Type 0
+SpellsDays text days seconds =
+    ((digits : List ℕ) × IsNumber digits days × (text ≡ digits ++ codes "D") × (seconds ≡ 0))
+    ⊎ ((SpellsExact text seconds × (days ≡ 0))
+    ⊎ ((digits : List ℕ) × (exact : List ℕ) × IsNumber digits days × SpellsExact exact seconds × (text ≡ digits ++ (codes "D" ++ exact))))
+
+-- what follows `P`: weeks, or those
 abbrev pub SpellsCounts : List ℕ → ℕ → ℕ → Type 0
 SpellsCounts text days seconds =
     ((digits : List ℕ) × (weeks : ℕ) × IsNumber digits weeks × (text ≡ digits ++ codes "W") × (days ≡ 7 * weeks) × (seconds ≡ 0))
-    ⊎ (((digits : List ℕ) × IsNumber digits days × (text ≡ digits ++ codes "D") × (seconds ≡ 0))
-    ⊎ ((SpellsExact text seconds × (days ≡ 0))
-    ⊎ ((digits : List ℕ) × (exact : List ℕ) × IsNumber digits days × SpellsExact exact seconds × (text ≡ digits ++ (codes "D" ++ exact)))))
+    ⊎ SpellsDays text days seconds
 
 -- a duration without its sign
 abbrev pub SpellsUnsigned : List ℕ → ℕ → ℕ → Type 0
@@ -184,6 +189,11 @@ SpellsDuration text days seconds =
 abbrev pub SpellsNegative : List ℕ → Type 0
 SpellsNegative text =
     (body : List ℕ) × (days : ℕ) × (seconds : ℕ) × SpellsUnsigned body days seconds × (text ≡ codes "-" ++ body)
+
+-- one that isn't negative, with more days or seconds than 32 bits count
+abbrev pub SpellsLong : List ℕ → Type 0
+SpellsLong text =
+    (days : ℕ) × (seconds : ℕ) × SpellsDuration text days seconds × ((2 ^ 32 ≤ days) ⊎ (2 ^ 32 ≤ seconds))
 
 -- the one form in which a duration is written
 abbrev pub duration_text : ℕ → ℕ → List ℕ

@@ -1,0 +1,12 @@
+use Rattle.ical_values.proofs.Parts.{no_letter_left, no_such_letter}
+use Rattle.ical_values.proofs.duration.take_part.Goals as goal
+
+pub returns-then-count-text-clause-none : goal.returns-then-count-text-clause-none
+returns-then-count-text-clause-none c =
+    let f = c.leading_number-number.ensures in
+    no_letter_left c.args.letter c.args.text.now c.leading_number-number.result.1 c.requires f.digits f.end c.if-count-text.true
+
+pub returns-then-text-count-clause-none : goal.returns-then-text-count-clause-none
+returns-then-text-count-clause-none c =
+    let f = c.leading_number-number.ensures in
+    no_such_letter c.args.letter c.args.text.now c.leading_number-number.result.1 c.requires f.digits f.end c.if-text-count.true
