@@ -1,17 +1,17 @@
 -- The one Whole register of a part's meeting says whether the part is in the view.
-use Rattle.std.proofs.Common.{◌≡◌, ℕ, ◌<◌, Bool, true, false, ◌&&◌, ◌||◌, List, [], ◌∷◌, ◌++◌, ◌⊎◌, inl, inr, length, get_or, take, drop, refl, sym, ap, ◌∙◌, subst}
+use Rattle.std.proofs.Common.{◌≡◌, ℕ, Bool, true, false, ◌&&◌, ◌||◌, List, [], ◌∷◌, inl, inr, get_or, take, drop, refl, sym, ap, ◌∙◌, subst}
 use Rattle.std.specs.declared.cmp.Ordering.{Ordering}
 use Rattle.std.specs.declared.cmp.Ordering.TheVariants.{Less, Equal, Greater}
 use Rattle.std.specs.Ordering.{ordering_then, is_eq, is_lt, is_gt}
 use Rattle.std.specs.Cmp.{both_ways}
 use Rattle.std.specs.List.{Contains}
-use Rattle.std.proofs.lemmas.Bool.{and_parts, true≢false, or_left, cases_Bool}
+use Rattle.std.proofs.lemmas.Bool.{and_parts, true≢false, or_left}
 use Rattle.std.proofs.lemmas.List.{take-append-drop}
 use Rattle.std.proofs.lemmas.List.Elements.{Contains-get_or, Contains-append_cases}
-use Rattle.profile.specs.Revisions.{Slot, Whole, At, Part, slot_cmp, meeting_cmp, place_cmp, same_meeting, same_place, is_whole, implies, stands_beside, allows}
+use Rattle.profile.specs.Revisions.{Whole, Part, place_cmp, same_meeting, same_place, is_whole, stands_beside, allows}
 use Rattle.itip_order.specs.Registers.{is_ascending, is_allowed_by, at_slot, IsAt, IsGap}
 use Rattle.itip_order.proofs.Lists.{all_at, all_from, in_cons, none_in_nil}
-use Rattle.itip_order.proofs.Order.{place_total, is_eq_true, then_equal}
+use Rattle.itip_order.proofs.Order.{then_equal}
 use Rattle.itip_order.proofs.Registers.{implies_at, implies_from, place_sym, place_trans}
 
 eq_then : (a b : Ordering) → is_eq a ≡ true → is_eq b ≡ true → is_eq (ordering_then a b) ≡ true
@@ -30,19 +30,19 @@ gt_not_eq Equal p q = true≢false (sym p)
 gt_not_eq Greater p q = true≢false (sym q)
 
 -- ascending parts have different places
-ascending_unique : (R : List Part) (x y : Part) → is_ascending R ≡ true → Contains R x → Contains R y → same_place x y ≡ true → x ≡ y
+pub ascending_unique : (R : List Part) (x y : Part) → is_ascending R ≡ true → Contains R x → Contains R y → same_place x y ≡ true → x ≡ y
 ascending_unique [] x y a c d e = absurd (none_in_nil x c)
 ascending_unique (z ∷ R) x y a c d e =
     let both = and_parts _ _ a in
     elim (in_cons z R x c) [
       | inl first ↦ elim (in_cons z R y d) [
-          | inl same ↦ sym first ∙ same
-          | inr later ↦ absurd (lt_not_eq _ (all_at (λ w. is_lt (place_cmp z w)) R y both.0 later) (subst (λ (w : Part). same_place w y ≡ true) (sym first) e))
-        ]
+        | inl same ↦ sym first ∙ same
+        | inr later ↦ absurd (lt_not_eq _ (all_at (λ w. is_lt (place_cmp z w)) R y both.0 later) (subst (λ (w : Part). same_place w y ≡ true) (sym first) e))
+      ]
       | inr later ↦ elim (in_cons z R y d) [
-          | inl first ↦ absurd (lt_not_eq _ (all_at (λ w. is_lt (place_cmp z w)) R x both.0 later) (subst (λ (w : Part). same_place w x ≡ true) (sym first) (place_sym x y e)))
-          | inr second ↦ ascending_unique R x y both.1 later second e
-        ]
+        | inl first ↦ absurd (lt_not_eq _ (all_at (λ w. is_lt (place_cmp z w)) R x both.0 later) (subst (λ (w : Part). same_place w x ≡ true) (sym first) (place_sym x y e)))
+        | inr second ↦ ascending_unique R x y both.1 later second e
+      ]
     ]
 
 -- a Whole of the meeting is at the place of the meeting's Whole
@@ -80,6 +80,6 @@ allowed_found R p w at a other found is =
     let both = then_equal _ _ place in
     both_ways (stands_beside w p) (is_allowed_by R p)
     (λ stands. all_from (λ v. allows v p) R (λ x c. or_from_right (is_whole p) _ (implies_from _ _ (λ whole.
-      let same = ascending_unique R x w a c in_R (place_trans x (at_slot p Whole) w (at_whole x p whole) (place_sym w (at_slot p Whole) (ap is_eq place))) in
-      subst (λ (z : Part). stands_beside z p ≡ true) (sym same) stands))))
+    let same = ascending_unique R x w a c in_R (place_trans x (at_slot p Whole) w (at_whole x p whole) (place_sym w (at_slot p Whole) (ap is_eq place))) in
+    subst (λ (z : Part). stands_beside z p ≡ true) (sym same) stands))))
     (λ allowed. implies_at _ _ (or_right_of (is_whole p) _ other (all_at (λ v. allows v p) R w allowed in_R)) (and_of _ _ (ap is_eq both.1) (ap is_eq both.0)))

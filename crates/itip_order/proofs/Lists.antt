@@ -1,5 +1,5 @@
 -- Tests of all or some elements of a list, against membership.
-use Rattle.std.proofs.Common.{◌≡◌, ℕ, Bool, true, false, cond, List, [], ◌∷◌, ◌++◌, ◌⊎◌, inl, inr, refl, sym, subst, arith}
+use Rattle.std.proofs.Common.{◌≤◌, length, ◌≡◌, Bool, true, false, cond, List, [], ◌∷◌, ◌⊎◌, inl, inr, sym, subst, arith}
 use Rattle.std.specs.List.{list_all, list_any, Contains, filter}
 use Rattle.std.proofs.lemmas.Bool.{true≢false}
 use Rattle.std.proofs.lemmas.List.Sums.{AllPass-from_list_all, list_all-from_AllPass}
@@ -51,13 +51,22 @@ module _ {X : Type 0} where
   filter_from f (y ∷ ys) x c e =
       elim (in_cons y ys x c) [
         | inl same ↦
-          let P : X → Type 0 = λ z. Contains (filter f (y ∷ ys)) z in
-          let Q : X → Type 0 = λ z. f z ≡ true in
-          subst P same (filter_head y (f y) (filter f ys) (subst Q (sym same) e))
+            let P : X → Type 0 = λ z. Contains (filter f (y ∷ ys)) z in
+            let Q : X → Type 0 = λ z. f z ≡ true in
+            subst P same (filter_head y (f y) (filter f ys) (subst Q (sym same) e))
         | inr there ↦ filter_cons y (f y) (filter f ys) x (filter_from f ys x there e)
       ]
 
   pub filter_at : (f : X → Bool) (xs : List X) (x : X) → Contains (filter f xs) x → Contains xs x × (f x ≡ true)
-  filter_at f xs x c =
-      (All-contains (λ y. Contains xs y) (filter f xs) x (All-filter f (λ y. Contains xs y) xs (All-contains_itself xs)) c,
-       All-contains (λ y. f y ≡ true) (filter f xs) x (filter_passes f xs) c)
+  filter_at f xs x c = (
+    All-contains (λ y. Contains xs y) (filter f xs) x (All-filter f (λ y. Contains xs y) xs (All-contains_itself xs)) c,
+    All-contains (λ y. f y ≡ true) (filter f xs) x (filter_passes f xs) c,
+  )
+
+  cond_no_longer : (b : Bool) (x : X) (xs ys : List X) → length xs ≤ length ys → length (cond b (x ∷ xs) xs) ≤ length (x ∷ ys)
+  cond_no_longer true x xs ys le = omega arith
+  cond_no_longer false x xs ys le = omega arith
+
+  pub filter_no_longer : (f : X → Bool) (xs : List X) → length (filter f xs) ≤ length xs
+  filter_no_longer f [] = omega arith
+  filter_no_longer f (x ∷ xs) = cond_no_longer (f x) x (filter f xs) xs (filter_no_longer f xs)

@@ -1,12 +1,12 @@
 -- The orders of places and of parts are total, and tie only what is the same.
-use Rattle.std.proofs.Common.{◌≡◌, ℕ, ℤ, pos, Bool, true, false, ◌&&◌, List, [], refl, sym, ap, ◌∙◌, subst}
+use Rattle.std.proofs.Common.{◌≡◌, ℕ, ℤ, pos, true, List, [], refl, ap, subst}
 use Rattle.std.specs.declared.cmp.Ordering.{Ordering}
 use Rattle.std.specs.declared.cmp.Ordering.TheVariants.{Less, Equal, Greater}
 use Rattle.std.specs.Ordering.{nat_cmp, int_cmp, ordering_then, then_cmp, on, is_eq}
 use Rattle.std.specs.Cmp.{IsTotalOrder}
 use Rattle.std.specs.FinMap.{IsAntisymmetric, nat_cmp-IsAntisymmetric, int_cmp-IsAntisymmetric, slice_cmp-IsAntisymmetric}
 use Rattle.std.proofs.lemmas.Cmp.{nat_cmp_total, int_cmp_total, nat_list_cmp_total, on_total, then_total}
-use Rattle.profile.specs.Revisions.{Slot, Whole, At, Revision, Body, Set, Absent, Cancelled, Part, octets_cmp, slot_cmp, meeting_cmp, place_cmp, revision_cmp, body_cmp, part_cmp, same_place, same_meeting, same_part}
+use Rattle.profile.specs.Revisions.{Slot, Whole, At, Revision, Body, Set, Absent, Cancelled, Part, octets_cmp, slot_cmp, meeting_cmp, place_cmp, revision_cmp, body_cmp, part_cmp}
 
 -- the Whole comes first
 slot_rank : Slot → ℕ

@@ -1,17 +1,16 @@
 -- Registers stand for a history: what taking a part does to them, and what is in the view.
-use Rattle.std.proofs.Common.{◌≡◌, ℕ, Bool, true, false, not, ◌&&◌, ◌||◌, cond, List, [], ◌∷◌, ◌++◌, ◌⊎◌, inl, inr, refl, sym, ap, ◌∙◌, subst}
+use Rattle.std.proofs.Common.{◌≡◌, Bool, true, false, ◌&&◌, ◌||◌, cond, List, [], ◌∷◌, ◌++◌, ◌⊎◌, inl, inr, refl, sym, ap, ◌∙◌, subst}
 use Rattle.std.specs.declared.cmp.Ordering.{Ordering}
 use Rattle.std.specs.declared.cmp.Ordering.TheVariants.{Less, Equal, Greater}
-use Rattle.std.specs.Ordering.{ordering_then, ordering_reverse, is_eq, is_lt, is_le, is_gt}
+use Rattle.std.specs.Ordering.{ordering_reverse, is_eq, is_lt, is_le, is_gt}
 use Rattle.std.specs.List.{list_all, list_any, Contains, filter}
-use Rattle.std.specs.Cmp.{IsTotalOrder}
 use Rattle.std.proofs.lemmas.Bool.{and_parts, and_from, true≢false, both_ways, cases_Bool}
-use Rattle.std.proofs.lemmas.Cmp.{upto, tied_itself, tied_back, alike_right}
+use Rattle.std.proofs.lemmas.Cmp.{upto, tied_itself, tied_back}
 use Rattle.std.proofs.lemmas.List.Elements.{Contains-append_left, Contains-push, Contains-push_cases}
-use Rattle.profile.specs.Revisions.{Slot, Whole, At, Part, slot_cmp, meeting_cmp, place_cmp, revision_cmp, part_cmp, same_meeting, same_place, same_part, is_whole, implies, is_greatest, stands_beside, allows, in_view}
-use Rattle.itip_order.specs.Registers.{is_ascending, StandsFor, IsView, SameParts, shown}
+use Rattle.profile.specs.Revisions.{Whole, Part, place_cmp, part_cmp, same_place, same_part, is_whole, implies, is_greatest, allows, in_view}
+use Rattle.itip_order.specs.Registers.{is_ascending, StandsFor, IsView, shown}
 use Rattle.itip_order.proofs.Lists.{all_at, all_from, any_at, any_from, filter_at, filter_from}
-use Rattle.itip_order.proofs.Order.{slot_total, place_total, part_total, meeting_total, part_same, is_eq_true, then_equal}
+use Rattle.itip_order.proofs.Order.{slot_total, place_total, part_total, part_same, is_eq_true, then_equal}
 
 -- small facts of tests
 
@@ -51,7 +50,7 @@ place_trans a b c p q = ap is_eq (place_total.congr a b c (is_eq_true _ p)) ∙ 
 pub part_le_trans : (a b c : Part) → is_le (part_cmp a b) ≡ true → is_le (part_cmp b c) ≡ true → is_le (part_cmp a c) ≡ true
 part_le_trans a b c p q = le_not_gt _ (upto part_total a b c (gt_not_le _ p) (gt_not_le _ q))
 
-part_le_refl : (a : Part) → is_le (part_cmp a a) ≡ true
+pub part_le_refl : (a : Part) → is_le (part_cmp a a) ≡ true
 part_le_refl a = ap is_le (tied_itself part_total a)
 
 pub part_antisymm : (a b : Part) → same_place a b ≡ true → is_le (part_cmp a b) ≡ true → is_le (part_cmp b a) ≡ true → a ≡ b
@@ -124,11 +123,12 @@ module _ (R h : List Part) (s : StandsFor R h) where
 
   pub in_view_at : (x : Part) → in_view h x ≡ true → Contains R x × Allowed x
   in_view_at x v =
-      let both = and_parts _ _ v in
-      (greatest_register x (greatest_at h x both.0),
-       all_from (λ whole. allows whole x) R (λ w c.
-       let g = register_greatest w c in
-       implies_at _ _ (all_at (λ whole. implies (is_greatest h whole) (allows whole x)) h w both.1 g.taken) (greatest_from h w g)))
+      let both = and_parts _ _ v in (
+        greatest_register x (greatest_at h x both.0),
+        all_from (λ whole. allows whole x) R (λ w c.
+            let g = register_greatest w c in
+            implies_at _ _ (all_at (λ whole. implies (is_greatest h whole) (allows whole x)) h w both.1 g.taken) (greatest_from h w g)),
+      )
 
 -- a filter of ascending parts ascends
 all_filter : (f g : Part → Bool) (xs : List Part) → list_all f xs ≡ true → list_all f (filter g xs) ≡ true
@@ -150,7 +150,8 @@ view_of_registers R h s = record {
   ascending = ascending_filter _ R s.ascending;
   exact = λ x. (
     λ c. (let both = filter_at (λ part. list_all (λ whole. allows whole part) R) R x c in in_view_from R h s x both.0 both.1),
-    λ v. (let both = in_view_at R h s x v in filter_from (λ part. list_all (λ whole. allows whole part) R) R x both.0 both.1));
+    λ v. (let both = in_view_at R h s x v in filter_from (λ part. list_all (λ whole. allows whole part) R) R x both.0 both.1),
+  );
 }
 
 -- taking a part that isn't above its register changes nothing
@@ -158,23 +159,23 @@ pub stands_kept : (R h : List Part) (p r : Part) → StandsFor R h → Contains 
 stands_kept R h p r s in_r place le = record {
   ascending = s.ascending;
   greatest = all_from (is_greatest (h ++ p ∷ [])) R (λ x c.
-    let g = register_greatest R h s x c in
-    greatest_from _ x record {
-      taken = Contains-append_left h (p ∷ []) x g.taken;
-      top = λ y inside same.
-        elim (Contains-push_cases h p y inside) [
-          | inl old ↦ g.top y old same
-          | inr new ↦
-            let at_p : same_place p x ≡ true = subst (λ (z : Part). same_place z x ≡ true) (sym new) same in
-            let same_register = greatest_unique h r x (register_greatest R h s r in_r) g (place_trans r p x place at_p) in
-            subst (λ (z : Part). is_le (part_cmp z x) ≡ true) new (subst (λ (z : Part). is_le (part_cmp p z) ≡ true) same_register le)
-        ];
-    });
+      let g = register_greatest R h s x c in
+      greatest_from _ x record {
+        taken = Contains-append_left h (p ∷ []) x g.taken;
+        top = λ y inside same.
+            elim (Contains-push_cases h p y inside) [
+              | inl old ↦ g.top y old same
+              | inr new ↦
+                  let at_p : same_place p x ≡ true = subst (λ (z : Part). same_place z x ≡ true) (sym new) same in
+                  let same_register = greatest_unique h r x (register_greatest R h s r in_r) g (place_trans r p x place at_p) in
+                  subst (λ (z : Part). is_le (part_cmp z x) ≡ true) new (subst (λ (z : Part). is_le (part_cmp p z) ≡ true) same_register le)
+            ];
+      });
   covered = all_from (λ part. list_any (λ register. same_place register part) R) (h ++ p ∷ []) (λ y inside.
-    elim (Contains-push_cases h p y inside) [
-      | inl old ↦ all_at (λ part. list_any (λ register. same_place register part) R) h y s.covered old
-      | inr new ↦ subst (λ (z : Part). list_any (λ register. same_place register z) R ≡ true) new (any_from (λ register. same_place register p) R r in_r place)
-    ]);
+      elim (Contains-push_cases h p y inside) [
+        | inl old ↦ all_at (λ part. list_any (λ register. same_place register part) R) h y s.covered old
+        | inr new ↦ subst (λ (z : Part). list_any (λ register. same_place register z) R ≡ true) new (any_from (λ register. same_place register p) R r in_r place)
+      ]);
 }
 
 -- the new registers are the old ones of other places, and the part, which is above its old register
@@ -193,37 +194,37 @@ stands_put R R' h p s u = record {
   ascending = u.ascending;
   greatest = all_from (is_greatest (h ++ p ∷ [])) R' (λ x c. greatest_from _ x (elim (u.others x c) [
     | inl new ↦ subst (λ (z : Part). Greatest (h ++ p ∷ []) z) new (record {
-        taken = Contains-push h p;
-        top = λ y inside same.
+      taken = Contains-push h p;
+      top = λ y inside same.
           elim (Contains-push_cases h p y inside) [
             | inl old ↦
-              let r = register_of R h s y old in
-              let top = (register_greatest R h s r.0 r.1).top y old (place_sym r.0 y r.2) in
-              part_le_trans y r.0 p top (less_le _ (u.beaten r.0 r.1 (place_trans r.0 y p r.2 same)))
+                let r = register_of R h s y old in
+                let top = (register_greatest R h s r.0 r.1).top y old (place_sym r.0 y r.2) in
+                part_le_trans y r.0 p top (less_le _ (u.beaten r.0 r.1 (place_trans r.0 y p r.2 same)))
             | inr itself ↦ subst (λ (z : Part). is_le (part_cmp z p) ≡ true) itself (part_le_refl p)
           ];
-      })
+    })
     | inr other ↦
-      let g = register_greatest R h s x other.0 in
-      record {
-        taken = Contains-append_left h (p ∷ []) x g.taken;
-        top = λ y inside same.
-          elim (Contains-push_cases h p y inside) [
-            | inl old ↦ g.top y old same
-            | inr itself ↦
-              let at_p : same_place p x ≡ true = subst (λ (z : Part). same_place z x ≡ true) (sym itself) same in
-              absurd (both_ways _ other.1 (place_sym p x at_p))
-          ];
-      }
+        let g = register_greatest R h s x other.0 in
+        record {
+          taken = Contains-append_left h (p ∷ []) x g.taken;
+          top = λ y inside same.
+              elim (Contains-push_cases h p y inside) [
+                | inl old ↦ g.top y old same
+                | inr itself ↦
+                    let at_p : same_place p x ≡ true = subst (λ (z : Part). same_place z x ≡ true) (sym itself) same in
+                    absurd (both_ways _ other.1 (place_sym p x at_p))
+              ];
+        }
   ]));
   covered = all_from (λ part. list_any (λ register. same_place register part) R') (h ++ p ∷ []) (λ y inside.
-    elim (Contains-push_cases h p y inside) [
-      | inl old ↦
-        let r = register_of R h s y old in
-        elim (cases_Bool (same_place r.0 p)) [
-          | inl here ↦ any_from (λ register. same_place register y) R' p u.put (place_trans p r.0 y (place_sym r.0 p here) r.2)
-          | inr there ↦ any_from (λ register. same_place register y) R' r.0 (u.kept r.0 r.1 there) r.2
-        ]
-      | inr new ↦ subst (λ (z : Part). list_any (λ register. same_place register z) R' ≡ true) new (any_from (λ register. same_place register p) R' p u.put (eq_refl p))
-    ]);
+      elim (Contains-push_cases h p y inside) [
+        | inl old ↦
+            let r = register_of R h s y old in
+            elim (cases_Bool (same_place r.0 p)) [
+              | inl here ↦ any_from (λ register. same_place register y) R' p u.put (place_trans p r.0 y (place_sym r.0 p here) r.2)
+              | inr there ↦ any_from (λ register. same_place register y) R' r.0 (u.kept r.0 r.1 there) r.2
+            ]
+        | inr new ↦ subst (λ (z : Part). list_any (λ register. same_place register z) R' ≡ true) new (any_from (λ register. same_place register p) R' p u.put (eq_refl p))
+      ]);
 }

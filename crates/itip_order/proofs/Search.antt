@@ -1,10 +1,10 @@
 -- A search by halves among ascending registers.
-use Rattle.std.proofs.Common.{◌≡◌, ℕ, zero, suc, ◌+◌, ◌<◌, ◌≤◌, Bool, true, false, List, [], ◌∷◌, length, get_or, take, drop, map, Result, Ok, Err, IfOk, IfErr, refl, sym, ap, ◌∙◌, subst, arith}
+use Rattle.std.proofs.Common.{◌≡◌, ℕ, zero, suc, ◌+◌, ◌<◌, ◌≤◌, true, false, List, [], ◌∷◌, length, get_or, take, drop, map, Result, Ok, Err, IfOk, IfErr, refl, sym, ap, ◌∙◌, arith}
 use Rattle.std.specs.declared.cmp.Ordering.{Ordering}
 use Rattle.std.specs.declared.cmp.Ordering.TheVariants.{Less, Equal, Greater}
-use Rattle.std.specs.Ordering.{is_lt, is_gt, is_eq, ordering_reverse, ordering_index}
-use Rattle.std.specs.List.{list_all, Contains, All, AllWithin}
-use Rattle.std.specs.List.Sorted.{IsSearchInRange, IsBinarySearchResult, IsNonDecreasingBy, IsSortedBy}
+use Rattle.std.specs.Ordering.{is_lt, is_gt, ordering_reverse}
+use Rattle.std.specs.List.{All, AllWithin}
+use Rattle.std.specs.List.Sorted.{IsSearchInRange, IsBinarySearchResult, IsSortedBy}
 use Rattle.std.proofs.lemmas.Bool.{and_parts, true≢false}
 use Rattle.std.proofs.lemmas.List.{get_or-map as read_map, get_or-take, get_or-drop, length-take, length-drop, length-map, take-map, drop-map}
 use Rattle.std.proofs.Math.ListN.{get_or-map}
@@ -50,15 +50,20 @@ module _ {X : Type 0} (f : X → Part) (xs : List X) (a : is_ascending (map f xs
 
   -- what the search by halves answers
   pub searched : (target : Part) (r : Result ℕ ℕ) → IsSearchInRange r (length xs) → IsBinarySearchResult (λ x. place_cmp (f x) target) xs r → IfOk r (IsAt (map f xs) target) × IfErr r (IsGap (map f xs) target)
-  searched target (Ok at) in_range equal = (record {
-    in_range = rw length-map in_range;
-    same = λ d. rw (read_map f xs at (element xs at in_range) d in_range) (equal (element xs at in_range));
-  }, tt)
+  searched target (Ok at) in_range equal = (
+    record {
+      in_range = rw length-map in_range;
+      same = λ d. rw (read_map f xs at (element xs at in_range) d in_range) (equal (element xs at in_range));
+    },
+    tt,
+  )
   searched target (Err at) in_range parted =
       let rises = searchable_from_sorted place_total f xs target sorted in
-      let parts = parted rises in
-      (tt, record {
-        in_range = rw length-map in_range;
-        below = rw take-map (list_all-from_AllPass (λ r. is_lt (place_cmp r target)) (map f (take at xs)) (All-map (λ r. is_lt (place_cmp r target) ≡ true) f (take at xs) (λ k d lt. ap is_lt (within_take (λ x. place_cmp (f x) target ≡ Less) at in_range parts.0 k d lt))));
-        above = rw drop-map (list_all-from_AllPass (λ r. is_gt (place_cmp r target)) (map f (drop at xs)) (All-map (λ r. is_gt (place_cmp r target) ≡ true) f (drop at xs) (λ k d lt. ap is_gt (within_drop (λ x. place_cmp (f x) target ≡ Greater) at parts.1 k d lt))));
-      })
+      let parts = parted rises in (
+        tt,
+        record {
+          in_range = rw length-map in_range;
+          below = rw take-map (list_all-from_AllPass (λ r. is_lt (place_cmp r target)) (map f (take at xs)) (All-map (λ r. is_lt (place_cmp r target) ≡ true) f (take at xs) (λ k d lt. ap is_lt (within_take (λ x. place_cmp (f x) target ≡ Less) at in_range parts.0 k d lt))));
+          above = rw drop-map (list_all-from_AllPass (λ r. is_gt (place_cmp r target)) (map f (drop at xs)) (All-map (λ r. is_gt (place_cmp r target) ≡ true) f (drop at xs) (λ k d lt. ap is_gt (within_drop (λ x. place_cmp (f x) target ≡ Greater) at parts.1 k d lt))));
+        },
+      )

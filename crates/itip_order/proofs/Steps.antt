@@ -1,6 +1,6 @@
 -- The same, of this crate's own parts: a register that is written over, a new one, a copied list.
-use Rattle.std.proofs.Common.{◌≡◌, ℕ, ◌<◌, ◌≤◌, Bool, true, false, cond, List, [], ◌∷◌, ◌++◌, length, get_or, set, take, drop, map, Result, Ok, Err, refl, sym, ap, ◌∙◌, subst}
-use Rattle.std.specs.declared.cmp.Ordering.TheVariants.{Less, Equal, Greater}
+use Rattle.std.proofs.Common.{◌≡◌, ℕ, Bool, true, false, cond, List, [], ◌∷◌, ◌++◌, get_or, set, take, drop, Result, Ok, Err, refl, sym, ap, ◌∙◌, subst}
+use Rattle.std.specs.declared.cmp.Ordering.TheVariants.{Equal, Greater}
 use Rattle.std.specs.List.{Contains, insert, AllZip}
 use Rattle.std.specs.Result.{OnErr}
 use Rattle.std.proofs.lemmas.List.{map-append, map-set, take-map, drop-map}
@@ -26,9 +26,10 @@ register_is items r at is = ap part_of is ∙ sym (get_or-map part_of items at r
 
 pub register_in : (items : List Part) (r : Part) (p : revisions.Part) (at : ℕ) → IsAt (parts_of items) p at → r ≡ get_or items at r → Contains (parts_of items) (part_of r) × (revisions.place_cmp (part_of r) p ≡ Equal)
 register_in items r p at found is =
-    let e = register_is items r at is in
-    (subst (λ (z : revisions.Part). Contains (parts_of items) z) (sym e) (Contains-get_or (parts_of items) at (part_of r) found.in_range),
-     subst (λ (z : revisions.Part). revisions.place_cmp z p ≡ Equal) (sym e) (found.same (part_of r)))
+    let e = register_is items r at is in (
+      subst (λ (z : revisions.Part). Contains (parts_of items) z) (sym e) (Contains-get_or (parts_of items) at (part_of r) found.in_range),
+      subst (λ (z : revisions.Part). revisions.place_cmp z p ≡ Equal) (sym e) (found.same (part_of r)),
+    )
 
 pub put_at : (items : List Part) (part r : Part) (at : ℕ) → is_ascending (parts_of items) ≡ true → IsAt (parts_of items) (part_of part) at → r ≡ get_or items at r → revisions.part_cmp (part_of part) (part_of r) ≡ Greater → Puts (parts_of items) (parts_of (set items at part)) (part_of part)
 put_at items part r at a found is greater =

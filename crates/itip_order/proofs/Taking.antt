@@ -1,23 +1,22 @@
 -- What taking a part does to the registers and to the view.
-use Rattle.std.proofs.Common.{◌≡◌, ℕ, suc, ◌<◌, ◌≤◌, Bool, true, false, ◌&&◌, ◌||◌, cond, List, [], ◌∷◌, ◌++◌, ◌⊎◌, inl, inr, length, get_or, set, take, drop, refl, sym, ap, ◌∙◌, subst}
+use Rattle.std.proofs.Common.{◌≡◌, ℕ, suc, Bool, true, false, cond, List, [], ◌∷◌, ◌++◌, inl, inr, get_or, set, take, drop, refl, sym, ap, ◌∙◌, subst}
 use Rattle.std.specs.declared.cmp.Ordering.{Ordering}
 use Rattle.std.specs.declared.cmp.Ordering.TheVariants.{Less, Equal, Greater}
 use Rattle.std.specs.Ordering.{ordering_reverse, is_eq, is_lt, is_gt, is_le}
 use Rattle.std.specs.Cmp.{both_ways as same_tests}
-use Rattle.std.specs.List.{list_all, list_any, Contains, insert}
+use Rattle.std.specs.List.{Contains, insert}
 use Rattle.std.proofs.lemmas.Bool.{and_parts, and_from, true≢false, both_ways, cases_Bool, false_from_ne_true}
-use Rattle.std.proofs.lemmas.Cmp.{tied_back, alike_right, tied_itself}
+use Rattle.std.proofs.lemmas.Cmp.{alike_right, tied_itself}
 use Rattle.std.proofs.lemmas.List.{take-append-drop, set_split}
 use Rattle.std.proofs.Math.Seq.{drop-cons}
-use Rattle.std.proofs.lemmas.List.Elements.{Contains-append_left, Contains-append_right, Contains-append_cases, Contains-push}
+use Rattle.std.proofs.lemmas.List.Elements.{Contains-append_left, Contains-append_right, Contains-append_cases}
 use Rattle.profile.specs.Revisions.{Part, place_cmp, part_cmp, same_place, allows, in_view}
-use Rattle.itip_order.specs.declared.held.Freshness.{Freshness}
 use Rattle.itip_order.specs.declared.held.Freshness.TheVariants.{Fresh, Same, Stale}
 use Rattle.itip_order.specs.Freshness.{IsFreshness}
 use Rattle.itip_order.specs.Registers.{is_ascending, is_allowed_by, is_known, StandsFor, IsAt, IsGap}
 use Rattle.itip_order.proofs.Lists.{all_at, all_from, any_at, any_from, in_head, in_tail, in_cons, none_in_nil}
-use Rattle.itip_order.proofs.Order.{place_total, part_total, is_eq_true}
-use Rattle.itip_order.proofs.Registers.{Puts, stands_kept, stands_put, in_view_from, in_view_at, register_greatest, register_of, place_trans, greatest_unique, Greatest, allows_same_place, eq_refl, place_sym}
+use Rattle.itip_order.proofs.Order.{place_total, part_total}
+use Rattle.itip_order.proofs.Registers.{Puts, stands_kept, stands_put, in_view_from, in_view_at, register_greatest, register_of, place_trans, greatest_unique, allows_same_place, eq_refl}
 
 pub is_lt_true : (o : Ordering) → is_lt o ≡ true → o ≡ Less
 is_lt_true Less e = refl
@@ -49,9 +48,9 @@ ascending_between (x ∷ A) B p a w =
     (all_from (λ y. is_lt (place_cmp x y)) (A ++ p ∷ B) (λ y c. elim (Contains-append_cases A (p ∷ B) y c) [
       | inl left ↦ below y (Contains-append_left A B y left)
       | inr right ↦ elim (in_cons p B y right) [
-          | inl same ↦ subst (λ (z : Part). is_lt (place_cmp x z) ≡ true) same (ap is_lt (w.low x (in_head x A)))
-          | inr later ↦ below y (Contains-append_right A B y later)
-        ]
+        | inl same ↦ subst (λ (z : Part). is_lt (place_cmp x z) ≡ true) same (ap is_lt (w.low x (in_head x A)))
+        | inr later ↦ below y (Contains-append_right A B y later)
+      ]
     ]))
     (ascending_between A B p both.1 record { low = λ y c. w.low y (in_tail x A y c); high = w.high })
 
@@ -92,9 +91,9 @@ puts_between A B p a w = record {
   others = λ x c. elim (Contains-append_cases A (p ∷ B) x c) [
     | inl left ↦ inr (Contains-append_left A B x left, low_other A B p w x left)
     | inr right ↦ elim (in_cons p B x right) [
-        | inl same ↦ inl same
-        | inr later ↦ inr (Contains-append_right A B x later, high_other A B p w x later)
-      ]
+      | inl same ↦ inl same
+      | inr later ↦ inr (Contains-append_right A B x later, high_other A B p w x later)
+    ]
   ];
   kept = λ x c other. elim (Contains-append_cases A B x c) [
     | inl left ↦ Contains-append_left A (p ∷ B) x left
@@ -120,23 +119,23 @@ puts_over A r B p a place greater =
       others = λ x c. elim (Contains-append_cases A (p ∷ B) x c) [
         | inl left ↦ inr (Contains-append_left A (r ∷ B) x left, low_other A B p v x left)
         | inr right ↦ elim (in_cons p B x right) [
-            | inl same ↦ inl same
-            | inr later ↦ inr (Contains-append_right A (r ∷ B) x (in_tail r B x later), high_other A B p v x later)
-          ]
+          | inl same ↦ inl same
+          | inr later ↦ inr (Contains-append_right A (r ∷ B) x (in_tail r B x later), high_other A B p v x later)
+        ]
       ];
       kept = λ x c other. elim (Contains-append_cases A (r ∷ B) x c) [
         | inl left ↦ Contains-append_left A (p ∷ B) x left
         | inr right ↦ elim (in_cons r B x right) [
-            | inl same ↦ absurd (both_ways _ other (ap is_eq (subst (λ (z : Part). place_cmp z p ≡ Equal) same place)))
-            | inr later ↦ Contains-append_right A (p ∷ B) x (in_tail p B x later)
-          ]
+          | inl same ↦ absurd (both_ways _ other (ap is_eq (subst (λ (z : Part). place_cmp z p ≡ Equal) same place)))
+          | inr later ↦ Contains-append_right A (p ∷ B) x (in_tail p B x later)
+        ]
       ];
       beaten = λ x c same. elim (Contains-append_cases A (r ∷ B) x c) [
         | inl left ↦ absurd (both_ways _ (low_other A B p v x left) same)
         | inr right ↦ elim (in_cons r B x right) [
-            | inl is_r ↦ subst (λ (z : Part). part_cmp z p ≡ Less) is_r (part_total.antisymm r p ∙ ap ordering_reverse greater)
-            | inr later ↦ absurd (both_ways _ (high_other A B p v x later) same)
-          ]
+          | inl is_r ↦ subst (λ (z : Part). part_cmp z p ≡ Less) is_r (part_total.antisymm r p ∙ ap ordering_reverse greater)
+          | inr later ↦ absurd (both_ways _ (high_other A B p v x later) same)
+        ]
       ];
     }
 

@@ -1,7 +1,6 @@
 -- This crate's parts, seen as the profile's parts.
-use Rattle.std.specs.Prelude.{ℕ, List, map, string_bytes}
-use Rattle.ical_values.specs.declared.Address.{Address}
-use Rattle.ical_values.specs.declared.Text.{Text}
+use Rattle.std.specs.Prelude.{List, map}
+use Rattle.ical_values.specs.Octets.{address_octets, text_octets}
 use Rattle.itip_order.specs.declared.part.Slot.{Slot}
 use Rattle.itip_order.specs.declared.part.Slot.TheVariants.{Whole, At}
 use Rattle.itip_order.specs.declared.part.Revision.{Revision}
@@ -10,20 +9,12 @@ use Rattle.itip_order.specs.declared.part.Body.TheVariants.{Set, Absent, Cancell
 use Rattle.itip_order.specs.declared.part.Part.{Part}
 use Rattle.profile.specs.Revisions as revisions
 
--- the octets of an organiser
-abbrev pub address_octets : Address → List ℕ
-address_octets address = string_bytes address.octets
-
--- the octets of a UID
-abbrev pub text_octets : Text → List ℕ
-text_octets text = string_bytes text.octets
-
 abbrev pub slot_of : Slot → revisions.Slot
 slot_of Whole = revisions.Whole
 slot_of (At instant) = revisions.At instant
 
 abbrev pub revision_of : Revision → revisions.Revision
-revision_of revision = record { sequence = revision.sequence.number; stamp = revision.stamp.instant }
+revision_of revision = record { sequence = revision.sequence; stamp = revision.stamp }
 
 abbrev pub body_of : Body → revisions.Body
 body_of (Set octets) = revisions.Set octets.items

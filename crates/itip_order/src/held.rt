@@ -3,7 +3,7 @@
 //! One register for each slot, in the order of organiser, UID, slot, so a slot is found by halves.
 //! A tombstone stays for good, also one of a meeting that was never heard of.
 
-ghost use Rattle.std.specs.Prelude.{◌≡◌, false, List, [], ◌∷◌, ◌++◌, IsTrue, IfOk, IfErr, OnOk, OnErr, if◌then◌else◌};
+ghost use Rattle.std.specs.Prelude.{◌≡◌, ◌<◌, ◌^◌, true, false, Contains, List, [], ◌∷◌, ◌++◌, length, IsTrue, IfOk, IfErr, OnOk, OnErr, if◌then◌else◌};
 ghost use Rattle.std.specs.Iterator.{YieldsFirstBy, item_count};
 ghost use Rattle.itip_order.specs.Parts.{part_of, parts_of, slot_of};
 ghost use Rattle.itip_order.specs.Registers.{is_ascending, is_allowed_by, shown, at_slot, is_known, StandsFor, IsView, SameParts, IsAt, IsGap};
@@ -107,6 +107,7 @@ impl Held {
         // They are the view of each history that the value stands for.
         ensures exact { (history : List revisions.Part) → StandsFor self.now history → IsView result history }
         ensures shown { result ≡ shown self.now }
+        ensures few { length result < 2 ^ 64 }
     {
         View {
             registers: &self.registers,
@@ -118,9 +119,8 @@ impl Held {
     pub fn copy(&self) -> Result<Held, AllocError>
         ensures { IfOk result (λ copy. copy ≡ self.now) }
     {
-        Ok(Held {
-            registers: self.registers.clone()?,
-        })
+        let registers = self.registers.clone()?;
+        Ok(Held { registers })
     }
 }
 
@@ -162,6 +162,13 @@ impl<'a> Iterator for View<'a> {
     }
 }
 
+/// A law, with nothing to do: a value stands for a history, that of its own registers.
+pub fn stands_for_its_registers(held: &Held)
+    ensures { StandsFor held.now held.now }
+{
+    let _ = &held.registers;
+}
+
 /// A law, with nothing to do: two that took the same parts, in any order and each any number of times,
 /// are equal, and so are their views.
 pub fn same_parts_same_view(one: &Held, other: &Held)
@@ -169,6 +176,18 @@ pub fn same_parts_same_view(one: &Held, other: &Held)
         → SameParts xs ys → one.now ≡ other.now }
     ensures view { (xs ys : List revisions.Part) → SameParts xs ys
         → (part : revisions.Part) → revisions.in_view xs part ≡ revisions.in_view ys part }
+{}
+
+/// A law, with nothing to do: what any history's view is like. What left it never comes back.
+pub fn view_is_lasting()
+    ensures taken { (history : List revisions.Part) (part : revisions.Part)
+        → revisions.in_view history part ≡ true → Contains history part }
+    ensures one_of_a_slot { (history : List revisions.Part) (one other : revisions.Part)
+        → revisions.in_view history one ≡ true → revisions.in_view history other ≡ true
+        → revisions.same_place one other ≡ true → one ≡ other }
+    ensures gone_for_good { (history more : List revisions.Part) (part : revisions.Part)
+        → Contains history part → revisions.in_view history part ≡ false
+        → revisions.in_view (history ++ more) part ≡ false }
 {
 }
 
@@ -176,14 +195,22 @@ pub fn same_parts_same_view(one: &Held, other: &Held)
 fn entered(in_view: bool) -> Freshness
     ensures { result ≡ (if in_view then Freshness.Fresh else Freshness.Stale) }
 {
-    if in_view { Freshness::Fresh } else { Freshness::Stale }
+    if in_view {
+        Freshness::Fresh
+    } else {
+        Freshness::Stale
+    }
 }
 
 // The same, where the register was there.
 fn repeated(in_view: bool) -> Freshness
     ensures { result ≡ (if in_view then Freshness.Same else Freshness.Stale) }
 {
-    if in_view { Freshness::Same } else { Freshness::Stale }
+    if in_view {
+        Freshness::Same
+    } else {
+        Freshness::Stale
+    }
 }
 
 // The place of a slot of the part's meeting, or the place where it would go.

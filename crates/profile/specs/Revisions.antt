@@ -98,13 +98,13 @@ implies a b = not a || b
 abbrev pub is_greatest : List Part → Part → Bool
 is_greatest history part =
     list_any (λ taken. same_part taken part) history
-        && list_all (λ taken. implies (same_place taken part) (is_le (part_cmp taken part))) history
+    && list_all (λ taken. implies (same_place taken part) (is_le (part_cmp taken part))) history
 
 -- the part's revision isn't below the Whole's, and is above it where the Whole is Cancelled
 abbrev pub stands_beside : Part → Part → Bool
 stands_beside whole part =
     is_gt (revision_cmp part.revision whole.revision)
-        || (is_eq (revision_cmp part.revision whole.revision) && not (is_cancelled whole))
+    || (is_eq (revision_cmp part.revision whole.revision) && not (is_cancelled whole))
 
 -- a Whole of its meeting leaves the part in the view; a Whole stands by itself
 abbrev pub allows : Part → Part → Bool
@@ -116,4 +116,4 @@ allows whole part =
 abbrev pub in_view : List Part → Part → Bool
 in_view history part =
     is_greatest history part
-        && list_all (λ whole. implies (is_greatest history whole) (allows whole part)) history
+    && list_all (λ whole. implies (is_greatest history whole) (allows whole part)) history

@@ -1,11 +1,10 @@
-use Rattle.std.proofs.Common.{◌≡◌, true, false, Bool, cond, List, [], ◌∷◌, ◌++◌, sym, ◌∙◌, ap, subst}
-use Rattle.std.specs.Ordering.{is_eq, is_le, is_lt}
+use Rattle.std.proofs.Common.{◌≡◌, false, List, [], ◌∷◌, ◌++◌, sym, ◌∙◌, ap, subst}
+use Rattle.std.specs.Ordering.{is_eq, is_le}
 use Rattle.profile.specs.Revisions as revisions
 use Rattle.itip_order.specs.declared.held.Freshness.{Freshness}
-use Rattle.itip_order.specs.declared.held.Freshness.TheVariants.{Fresh, Same, Stale}
 use Rattle.itip_order.specs.Freshness.{IsFreshness}
 use Rattle.itip_order.specs.Parts.{part_of, parts_of}
-use Rattle.itip_order.specs.Registers.{is_ascending, is_allowed_by, is_known, StandsFor}
+use Rattle.itip_order.specs.Registers.{is_allowed_by, is_known, StandsFor}
 use Rattle.itip_order.proofs.Registers.{stands_kept, stands_put}
 use Rattle.itip_order.proofs.Taking.{entered_is, repeated_is, stale_is, unknown_is}
 use Rattle.itip_order.proofs.Steps.{on_err_from, register_in, register_same, put_at, put_gap, ascending_either}
