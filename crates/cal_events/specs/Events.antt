@@ -4,6 +4,10 @@ use Rattle.ical_lines.specs.declared.fault.Fault.{Fault}
 use Rattle.ical_lines.specs.declared.fault.Fault.TheVariants.{Refused, Memory}
 use Rattle.ical_values.specs.Octets.{address_octets, text_octets}
 use Rattle.ical_values.specs.declared.duration.Duration.{Duration}
+use Rattle.std.specs.List.{AllZip}
+use Rattle.cal_events.specs.Calendars.{booked_of}
+use Rattle.cal_events.specs.declared.calendar.Entry.{Entry}
+use Rattle.profile.specs.Instances.{Booked}
 use Rattle.profile.specs.Events as profile
 use Rattle.profile.specs.Events.{StandsAtMostOnce, IsTime, IsLength, IsDate, IsLocal, IsNoStamp, is_date_time, has_value, ends_in_z, length_seconds}
 use Rattle.profile.specs.Lines.{is_same_name}
@@ -105,3 +109,16 @@ is_vevent c = is_same_name (component_name c) (codes "VEVENT")
 
 abbrev pub vevents_of : Component → List (List (List ℕ))
 vevents_of object = map component_lines (filter is_vevent (component_children object))
+
+-- what an entry of a calendar shows: its instance, and whether it is confirmed
+abbrev pub entry_view : Entry → Booked × Bool
+entry_view e = (booked_of e.booking, e.confirmed)
+
+-- what an event enters into a room's calendar
+abbrev pub entry_said : List ℕ → profile.Event → Booked × Bool
+entry_said room event = (profile.booked_by event, profile.is_confirmed room event)
+
+-- the VEVENTs say events, and these are their entries
+abbrev pub AreEntries : List ℕ → List (List (List ℕ)) → List Entry → Type 0
+AreEntries room vevents entries =
+    (events : List profile.Event) × AllZip (profile.SaysEvent false) vevents events × (map entry_view entries ≡ map (entry_said room) events)
