@@ -1,7 +1,7 @@
 //! Calendar addresses (RFC 5545 3.3.3): a URI's scheme, `:`, and at least one octet more. Kept in ASCII
 //! lower case, by which they are compared and written.
 
-ghost use Rattle.std.specs.Prelude.{ℕ, List, ◌≡◌, ◌++◌, true, map, string_bytes, IfOk, IfErr, OnOk, OnErr};
+ghost use Rattle.std.specs.Prelude.{ℕ, List, [], ◌≡◌, ◌++◌, true, map, string_bytes, IfOk, IfErr, OnOk, OnErr};
 ghost use Rattle.std.specs.List.{list_all};
 ghost use Rattle.std.specs.Char.{to_ascii_lowercase};
 ghost use Rattle.std.specs.Str.{chars, encode_utf8_all};
@@ -42,7 +42,9 @@ impl Address {
     }
 
     /// No octets: what stands for a missing ORGANIZER. No text is read as it.
-    pub fn empty(alloc: Global) -> Address {
+    pub fn empty(alloc: Global) -> Address
+        ensures { address_octets result ≡ [] }
+    {
         Address {
             octets: String::new(alloc),
         }

@@ -63,7 +63,9 @@ impl Sequence {
     }
 
     /// The number 0, which a missing SEQUENCE means (RFC 5545 3.8.7.4).
-    pub fn zero() -> Sequence {
+    pub fn zero() -> Sequence
+        ensures { result ≡ 0 }
+    {
         Sequence { number: 0 }
     }
 
