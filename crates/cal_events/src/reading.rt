@@ -3,7 +3,8 @@ ghost use Rattle.std.specs.Prelude.{◌≡◌, [], true, false, unwrap_or, IfOk,
 ghost use Rattle.std.specs.List.{list_any};
 ghost use Rattle.ical_lines.specs.Fault.{RefusesOnly};
 ghost use Rattle.ical_values.specs.Octets.{address_octets};
-ghost use Rattle.profile.specs.Faults.{is_calendar_fault};
+ghost use Rattle.profile.specs.Faults.{is_object_fault, is_calendar_fault};
+ghost use Rattle.profile.specs.Calendars.{SpellsCalendar, EventsFault};
 ghost use Rattle.profile.specs.Events.{is_confirmed, SaysCalendar, CalendarFault, has_unread};
 ghost use Rattle.cal_events.specs.Events.{event_of, vevents_of, entry_view, entry_said, AreEntries, StandsIn};
 
@@ -22,7 +23,9 @@ impl Calendar {
     /// Refused: 1 to 5 and 20 to 24 for the object, 10 to 16, 50 to 52, 55, 56 and 61 for a VEVENT, 53 for two
     /// VEVENTs of one meeting, 99 for what isn't read yet.
     pub fn read(alloc: Global, bytes: &[u8], room: &Address) -> Result<Calendar, Fault>
+        ensures spells { IfOk result (SpellsCalendar (address_octets room.now) bytes.now) }
         ensures refuses { IfErr result (RefusesOnly is_calendar_fault) }
+        ensures stands { IfErr result (StandsIn (λ n. is_object_fault n ≡ false → EventsFault bytes.now n)) }
     {
         let object = read_object(alloc, bytes, Limits::Open)?;
         Calendar::of_object(alloc, &object, room)
