@@ -1,3 +1,4 @@
+mod Samples
 pub mod BegunLemmas
 pub mod BreakLemmas
 pub mod CutLemmas
