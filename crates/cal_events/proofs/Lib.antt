@@ -7,3 +7,4 @@ pub mod CalendarLemmas
 pub mod ClashLemmas
 pub mod Distinct
 pub mod SweepLemmas
+mod Worked

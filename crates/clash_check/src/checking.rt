@@ -205,6 +205,29 @@ mod tests {
         Ok(())
     }
 
+    const BOOKED: &str =
+        "BEGIN:VCALENDAR\r\nVERSION:2.0\r\nPRODID:-//iTIP room box//EN\r\nBEGIN:VEVENT\r\nUID:a\r\nSEQUENCE:0\r\nDTSTAMP:20250101T000000Z\r\nDTSTART:20250310T090000Z\r\nDURATION:PT3600S\r\nORGANIZER:mailto:ann@example.com\r\nATTENDEE;PARTSTAT=ACCEPTED:mailto:r1@example.com\r\nEND:VEVENT\r\nEND:VCALENDAR\r\n";
+
+    const NONE: &str = "ROOMCERT 1\nSINGLES 0\nSERIES 0\nDONE\n";
+
+    #[test]
+    fn a_kept_calendar_has_its_certificate(rt: HostRuntime) -> Result<(), Fault> {
+        let room = Address::read(rt.alloc(), "mailto:r1@example.com")?;
+        let other = Address::read(rt.alloc(), "mailto:r2@example.com")?;
+        let rows = [
+            (BOOKED, ONE, &room, (0u8, 0u64, 0u64, 1u64)),
+            (BOOKED, NONE, &room, (82, 0, 0, 0)),
+            (BOOKED, NONE, &other, (0, 0, 0, 0)),
+            ("BEGIN:VCALENDAR\r\n", ONE, &room, (80, 0, 0, 0)),
+            ("BEGIN:VCALENDAR\r\n", "", &room, (80, 0, 0, 0)),
+        ];
+        for (calendar, text, address, wanted) in rows {
+            let checked = check(rt.alloc(), calendar.as_bytes(), text.as_bytes(), address)?;
+            assert_eq!(rt; number_of(checked), wanted, "{text}");
+        }
+        Ok(())
+    }
+
     #[test]
     fn a_clash_is_checked(rt: HostRuntime) -> Result<(), Fault> {
         let room = calendar(

@@ -12,4 +12,4 @@ pub mod Messages
 pub mod Rooms
 pub mod Kept
 pub mod Trees
-pub mod ObjectFaults
+pub mod Streams
