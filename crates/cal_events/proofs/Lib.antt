@@ -1,3 +1,6 @@
+pub mod EventLemmas
+pub mod ReadingLemmas
+pub mod TreeLemmas
 pub mod CalendarLemmas
 pub mod ClashLemmas
 pub mod Distinct

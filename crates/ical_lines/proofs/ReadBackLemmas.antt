@@ -122,7 +122,7 @@ starts_by true c parts line h = refl
 starts_by false c [] line h = begins_line line (without_return (c ∷ [])) [] (line_starts c [] h)
 starts_by false c (part ∷ parts) line h = begins_line line (without_return (c ∷ part)) (map without_return parts) (line_starts c part h)
 
-next_starts : (rest : List ℕ) → is_continuation rest ≡ false → (line : List ℕ) → gather line (physical_lines rest) ≡ line ∷ unfolded (physical_lines rest)
+pub next_starts : (rest : List ℕ) → is_continuation rest ≡ false → (line : List ℕ) → gather line (physical_lines rest) ≡ line ∷ unfolded (physical_lines rest)
 next_starts [] h line = refl
 next_starts (c ∷ cs) h line = starts_by (is_break c) c (slice_split is_break cs) line h
 

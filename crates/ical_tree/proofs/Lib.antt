@@ -1,2 +1,3 @@
 pub mod BuiltLemmas
+pub mod StandsLemmas
 pub mod WriteLemmas
