@@ -5,8 +5,9 @@ use Rattle.std.proofs.Common.{◌≡◌, ℕ, pos, ℤ, Bool, true, false, List,
 use Rattle.std.proofs.lemmas.Fmt.{decimal_digit}
 use Rattle.profile.specs.Faults.{is_line_fault, is_event_fault, is_calendar_fault, is_message_fault}
 use Rattle.profile.specs.Instances.{Key, Booked}
+use Rattle.profile.specs.Lines.{line_param}
 use Rattle.profile.specs.Trees.{Tree, Trees, tree, none, more, tree_name, vevents}
-use Rattle.profile.specs.Events.{Event, Length, Attendee, Participation, Accepted, Declined, NeedsAction, lines_named, is_unread_line, has_unread, participation_of, booked_by, confirmed, length_seconds}
+use Rattle.profile.specs.Events.{Event, Length, Attendee, Participation, Accepted, Declined, NeedsAction, lines_named, is_unread_line, has_unread, answer_named, booked_by, confirmed, length_seconds}
 use Rattle.profile.specs.Revisions.{Part, Revision, Whole, Set}
 use Rattle.profile.specs.Messages.{Accept, SinglesLimit, object_lines, word}
 use Rattle.profile.specs.Rooms.{Book, Answer, Claim, empty_book}
@@ -55,10 +56,10 @@ a_start_in_a_zone_is_unread = refl
 a_tentative_status_is_read : has_unread (codes "STATUS:TENTATIVE" ∷ codes "DTSTART:20250310T090000Z" ∷ []) ≡ false
 a_tentative_status_is_read = refl
 
-the_word_is_caseless : participation_of (codes "ATTENDEE;RSVP=TRUE;PARTSTAT=accepted:mailto:r1@example.com") ≡ Accepted
+the_word_is_caseless : answer_named (line_param (codes "PARTSTAT") (codes "ATTENDEE;RSVP=TRUE;PARTSTAT=accepted:mailto:r1@example.com")) ≡ Accepted
 the_word_is_caseless = refl
 
-no_word_is_no_answer : participation_of (codes "ATTENDEE:mailto:r1@example.com") ≡ NeedsAction
+no_word_is_no_answer : answer_named (line_param (codes "PARTSTAT") (codes "ATTENDEE:mailto:r1@example.com")) ≡ NeedsAction
 no_word_is_no_answer = refl
 
 -- from second 100 for a day and a second
