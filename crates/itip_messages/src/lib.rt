@@ -7,5 +7,5 @@ pub mod reply;
 pub mod writer;
 
 pub use message::{Message, MessageComponent, Method};
-pub use reply::{Conflict, Decision, ReplyEvent, write_reply};
+pub use reply::{Conflict, ConflictKey, Decision, ReplyEvent, write_reply};
 pub use writer::ObjectWriter;

@@ -38,7 +38,9 @@ pub struct MessageComponent {
 impl MessageComponent {
     /// Whether an ATTENDEE line has this address.
     pub fn names(&self, address: &Address) -> bool {
-        self.attendees.iter().any(|attendee| attendee.address == *address)
+        self.attendees
+            .iter()
+            .any(|attendee| attendee.address == *address)
     }
 }
 

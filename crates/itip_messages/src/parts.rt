@@ -32,6 +32,8 @@ impl Message {
 
     /// Whether any of the components names the room as ATTENDEE.
     pub fn is_addressed_to(&self, room: &Address) -> bool {
-        self.components().iter().any(|component| component.names(room))
+        self.components()
+            .iter()
+            .any(|component| component.names(room))
     }
 }

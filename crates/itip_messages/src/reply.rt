@@ -4,16 +4,50 @@ ghost use Rattle.std.specs.Prelude.{◌≡◌, OnErr};
 use crate::writer::ObjectWriter;
 use cal_events::InstanceKey;
 use ical_values::{Address, Sequence, Stamp, Text};
-use itip_order::Slot;
 use std::alloc::AllocError;
+
+/// Which instance of which meeting, as a reply names it: its original start can be written.
+#[derive(Clone, Copy, Debug)]
+pub struct ConflictKey<'a> {
+    pub organiser: &'a str,
+    pub uid: &'a str,
+    pub slot: Stamp,
+}
+
+impl<'a> ConflictKey<'a> {
+    /// The key with its slot as a stamp; None where the slot lies outside the years 1 to 9999.
+    pub fn of(key: InstanceKey<'a>) -> Option<ConflictKey<'a>> {
+        let slot = Stamp::of_instant(key.slot)?;
+        Some(ConflictKey {
+            organiser: key.organiser,
+            uid: key.uid,
+            slot,
+        })
+    }
+}
 
 /// Two instances that share an instant, the later of their starts.
 #[derive(Clone, Copy, Debug)]
 pub struct Conflict<'a> {
-    /// Seconds from 1970-01-01T00:00:00Z.
-    pub instant: i64,
-    pub first: InstanceKey<'a>,
-    pub second: InstanceKey<'a>,
+    pub instant: Stamp,
+    pub first: ConflictKey<'a>,
+    pub second: ConflictKey<'a>,
+}
+
+impl<'a> Conflict<'a> {
+    /// Two instances and an instant in seconds from 1970-01-01T00:00:00Z; None where the instant or a slot lies
+    /// outside the years 1 to 9999, which no stamp can write.
+    pub fn of(
+        instant: i64,
+        first: InstanceKey<'a>,
+        second: InstanceKey<'a>,
+    ) -> Option<Conflict<'a>> {
+        Some(Conflict {
+            instant: Stamp::of_instant(instant)?,
+            first: ConflictKey::of(first)?,
+            second: ConflictKey::of(second)?,
+        })
+    }
 }
 
 /// What a room decided.
@@ -32,7 +66,8 @@ pub enum Decision<'a> {
 #[derive(Clone, Copy, Debug)]
 pub struct ReplyEvent<'a> {
     pub uid: &'a Text,
-    pub slot: Slot,
+    /// The instance that is answered by itself, written as RECURRENCE-ID; None for the whole meeting.
+    pub recurrence: Option<Stamp>,
     pub sequence: Sequence,
     /// The moment of the decision, written as DTSTAMP.
     pub moment: Stamp,
@@ -59,7 +94,7 @@ pub fn write_reply(events: &[ReplyEvent<'_>], out: &mut Vec<u8>) -> Result<(), A
 fn write_event(object: &mut ObjectWriter, event: &ReplyEvent<'_>) -> Result<(), AllocError> {
     object.line("BEGIN:VEVENT")?;
     object.uid(event.uid)?;
-    write_slot(object, event.slot)?;
+    write_recurrence(object, event.recurrence)?;
     object.sequence(event.sequence)?;
     object.stamp("DTSTAMP:", event.moment)?;
     object.named("ORGANIZER:", event.organiser.as_str())?;
@@ -72,11 +107,11 @@ fn write_event(object: &mut ObjectWriter, event: &ReplyEvent<'_>) -> Result<(), 
     object.line("END:VEVENT")
 }
 
-fn write_slot(object: &mut ObjectWriter, slot: Slot) -> Result<(), AllocError> {
-    let Slot::At(instant) = slot else {
-        return Ok(());
-    };
-    match Stamp::of_instant(instant) {
+fn write_recurrence(
+    object: &mut ObjectWriter,
+    recurrence: Option<Stamp>,
+) -> Result<(), AllocError> {
+    match recurrence {
         Some(stamp) => object.stamp("RECURRENCE-ID:", stamp),
         None => Ok(()),
     }
@@ -99,26 +134,19 @@ fn write_conflict(object: &mut ObjectWriter, conflict: Conflict<'_>) -> Result<(
         alloc,
         b"REQUEST-STATUS:4.1;Event conflict.  Date-time is busy.;",
     )?;
-    put_instant(&mut line, conflict.instant)?;
+    conflict.instant.write(&mut line)?;
     put_key(&mut line, conflict.first)?;
     put_key(&mut line, conflict.second)?;
     object.octets(line.as_slice())
 }
 
-fn put_key(line: &mut Vec<u8>, key: InstanceKey<'_>) -> Result<(), AllocError> {
+fn put_key(line: &mut Vec<u8>, key: ConflictKey<'_>) -> Result<(), AllocError> {
     line.extend_from_slice(b" ")?;
-    put_instant(line, key.slot)?;
+    key.slot.write(line)?;
     line.extend_from_slice(b" ")?;
     put_word(line, key.organiser)?;
     line.extend_from_slice(b" ")?;
     put_word(line, key.uid)
-}
-
-fn put_instant(line: &mut Vec<u8>, instant: i64) -> Result<(), AllocError> {
-    match Stamp::of_instant(instant) {
-        Some(stamp) => stamp.write(line),
-        None => Ok(()),
-    }
 }
 
 /// A word of the status: each octet other than letters, digits and `-._~@:` becomes `%` and two hexadecimal
