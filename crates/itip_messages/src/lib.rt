@@ -4,6 +4,7 @@
 pub mod message;
 mod parts;
 pub mod reply;
+mod values;
 pub mod writer;
 
 pub use message::{Message, MessageComponent, Method};

@@ -70,9 +70,13 @@ is_plain c =
 abbrev pub hexadecimal : ℕ → ℕ
 hexadecimal n = if nat_lt n 10 then 48 + n else 55 + n
 
--- a word of a status: each other octet is `%` and two hexadecimal digits
+-- each other octet is `%` and two hexadecimal digits
+abbrev pub word_octet : ℕ → List ℕ
+word_octet c = if is_plain c then c ∷ [] else 37 ∷ hexadecimal (c / 16) ∷ hexadecimal (c % 16) ∷ []
+
+-- a word of a status
 abbrev pub word : List ℕ → List ℕ
-word octets = flat_map (λ c. if is_plain c then c ∷ [] else 37 ∷ hexadecimal (c / 16) ∷ hexadecimal (c % 16) ∷ []) octets
+word = flat_map word_octet
 
 -- a key in three words: slot, organiser, UID
 pub record IsKeyText (text : List ℕ) (key : Key) : Type 0 where
@@ -118,7 +122,10 @@ abbrev pub method_lines : Option (List ℕ) → List (List ℕ)
 method_lines None = []
 method_lines (Some method) = (codes "METHOD:" ++ method) ∷ []
 
--- the lines of an object with this METHOD, or with none, round some components
+-- the lines that open an object with this METHOD, or with none
+abbrev pub opening_lines : Option (List ℕ) → List (List ℕ)
+opening_lines method = codes "BEGIN:VCALENDAR" ∷ codes "VERSION:2.0" ∷ codes "PRODID:-//iTIP room box//EN" ∷ method_lines method
+
+-- the lines of the object, round some components
 abbrev pub object_lines : Option (List ℕ) → List (List ℕ) → List (List ℕ)
-object_lines method components =
-    (codes "BEGIN:VCALENDAR" ∷ codes "VERSION:2.0" ∷ codes "PRODID:-//iTIP room box//EN" ∷ method_lines method) ++ components ++ (codes "END:VCALENDAR" ∷ [])
+object_lines method components = opening_lines method ++ components ++ (codes "END:VCALENDAR" ∷ [])
