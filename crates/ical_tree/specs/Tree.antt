@@ -1,6 +1,7 @@
 -- What callers see of a component.
-use Rattle.std.specs.Prelude.{ℕ, List}
+use Rattle.std.specs.Prelude.{ℕ, Bool, List}
 use Rattle.std.specs.String.{string_bytes}
+use Rattle.profile.specs.Objects.{IsObject}
 use Rattle.ical_tree.specs.declared.component.Component.{Component, out-Component}
 
 -- the name, as BEGIN has it
@@ -14,3 +15,7 @@ component_lines c = (out-Component c).lines
 -- the components directly inside
 abbrev pub component_children : Component → List Component
 component_children c = (out-Component c).children.items
+
+-- the lines spell this component as one object
+abbrev pub IsObjectOf : Bool → Component → List (List ℕ) → Type 0
+IsObjectOf bounded c lines = IsObject component_name component_lines component_children bounded c lines

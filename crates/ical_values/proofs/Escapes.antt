@@ -1,8 +1,8 @@
 -- Escapes of text.
-use Rattle.std.proofs.Common.{◌≡◌, ◌≢◌, ◌∙◌, ℕ, suc, ◌<◌, ◌≤◌, Bool, true, false, nat_eq, ◌&&◌, ◌||◌, cond, List, [], ◌∷◌, ◌++◌, length, get_or, refl, sym, ap, arith, append_assoc, ◌⊎◌, inl, inr}
+use Rattle.std.proofs.Common.{◌≡◌, ◌≢◌, ◌∙◌, ℕ, suc, ◌<◌, true, false, cond, List, [], ◌∷◌, ◌++◌, length, get_or, refl, sym, ap, arith, append_assoc, ◌⊎◌, inl, inr}
 use Rattle.std.proofs.lemmas.List.{append-nil}
 use Rattle.std.proofs.lemmas.Bool.Decides.{nat_tests}
-use Rattle.profile.specs.Values.{unescaped, escaped, escaped_octet, is_escape, meant}
+use Rattle.profile.specs.Values.{unescaped, is_escape, meant}
 
 -- an octet that is no backslash stands for itself
 pub unescaped_plain : (c : ℕ) (cs : List ℕ) → c ≢ 92 → unescaped (c ∷ cs) ≡ c ∷ unescaped cs

@@ -10,3 +10,5 @@ pub mod Events
 pub mod Messages
 pub mod Rooms
 pub mod Kept
+pub mod Trees
+pub mod ObjectFaults

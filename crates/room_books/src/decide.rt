@@ -85,10 +85,8 @@ fn decide(
 
 /// The first confirmed instance of a meeting that shares an instant with a span.
 fn overlapping(meeting: &Meeting, span: Span) -> Option<&Decided> {
-    meeting
-        .decided
-        .iter()
-        .find(|decided| decided.is_accepted() && share_an_instant(decided.span, span))
+    meeting.decided.iter().find(|decided| decided.is_accepted()
+        && share_an_instant(decided.span, span))
 }
 
 /// Whether two half-open spans share an instant before year 10000.

@@ -4,10 +4,12 @@
 pub mod answer;
 mod asked;
 pub mod decide;
+mod laws;
 pub mod meeting;
 mod reply;
 pub mod room;
 mod texts;
 
 pub use answer::{Answer, Kind, LimitKind};
+pub use laws::runs_stay_clear;
 pub use room::Room;

@@ -69,7 +69,10 @@ impl Meeting {
 
     /// How many of its instances are confirmed.
     pub fn confirmed_count(&self) -> usize {
-        self.decided.iter().filter(|decided| decided.is_accepted()).count()
+        self.decided
+            .iter()
+            .filter(|decided| decided.is_accepted())
+            .count()
     }
 }
 

@@ -10,7 +10,7 @@ use itip_messages::{Conflict, Decision, ReplyEvent, write_reply};
 use itip_order::Slot;
 use std::alloc::{AllocError, Global};
 
-/// The REPLY's octets, None where no part is shown.
+/// The REPLY's octets, None where no part is shown. By now a message has one part at most.
 pub fn reply_to(
     alloc: Global,
     key: &MeetingKey,
@@ -18,24 +18,41 @@ pub fn reply_to(
     asked: &[Asked],
     decided: &[Decided],
 ) -> Result<Option<Vec<u8>>, AllocError> {
-    let mut events = Vec::new(alloc);
     for asked in asked {
         if asked.is_shown() {
-            if let Some(decided) = decided
-                .iter()
-                .find(|decided| decided.slot == asked.part.slot)
-            {
-                if let Some(event) = event_of(key, room, asked, decided) {
-                    events.push(event)?;
-                }
-            }
+            return reply_to_part(alloc, key, room, asked, decided);
         }
     }
-    if events.is_empty() {
-        return Ok(None);
+    Ok(None)
+}
+
+fn reply_to_part(
+    alloc: Global,
+    key: &MeetingKey,
+    room: &Address,
+    asked: &Asked,
+    decided: &[Decided],
+) -> Result<Option<Vec<u8>>, AllocError> {
+    for decided in decided {
+        if decided.slot == asked.part.slot {
+            return reply_with(alloc, key, room, asked, decided);
+        }
     }
+    Ok(None)
+}
+
+fn reply_with<'a>(
+    alloc: Global,
+    key: &'a MeetingKey,
+    room: &'a Address,
+    asked: &'a Asked,
+    decided: &'a Decided,
+) -> Result<Option<Vec<u8>>, AllocError> {
+    let Some(event) = event_of(key, room, asked, decided) else {
+        return Ok(None);
+    };
     let mut octets = Vec::new(alloc);
-    write_reply(events.as_slice(), &mut octets)?;
+    write_reply(&[event], &mut octets)?;
     Ok(Some(octets))
 }
 

@@ -55,7 +55,13 @@ impl Room {
         let held = held_with(self.alloc, before, parts.as_slice())?;
         let asked = ask(self.alloc, parts, before, &held)?;
         let decided = self.decided_with(&key, message, asked.as_slice(), now)?;
-        let reply = reply_to(self.alloc, &key, &self.address, asked.as_slice(), decided.as_slice())?;
+        let reply = reply_to(
+            self.alloc,
+            &key,
+            &self.address,
+            asked.as_slice(),
+            decided.as_slice(),
+        )?;
         let kind = kind_of(asked.as_slice(), decided.as_slice())?;
         self.meetings.insert(key, Meeting { held, decided })?;
         Ok(Answer {

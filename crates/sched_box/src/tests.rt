@@ -7,12 +7,14 @@ use std::alloc::Global;
 use std::io::{self, BufReader, ErrorKind, Read, Write};
 use std::test::Fail;
 
-const STREAM: &str = "now 20250102T000000Z\nroom mailto:r1@example.com\n\nBEGIN:VCALENDAR\r\nVERSION:2.0\r\nMETHOD:REQUEST\r\n\
+const STREAM: &str =
+    "now 20250102T000000Z\nroom mailto:r1@example.com\n\nBEGIN:VCALENDAR\r\nVERSION:2.0\r\nMETHOD:REQUEST\r\n\
     BEGIN:VEVENT\r\nUID:a\r\nDTSTAMP:20250101T000000Z\r\nORGANIZER:mailto:ann@example.com\r\n\
     ATTENDEE:mailto:r1@example.com\r\nDTSTART:20250310T090000Z\r\nDURATION:PT1H\r\nEND:VEVENT\r\nEND:VCALENDAR\r\n\
     BEGIN:VCALENDAR\r\nVERSION:2.0\r\nMETHOD:CANCEL\r\nEND:VCALENDAR\r\n";
 
-const ANSWERS: &str = "BEGIN:VCALENDAR\r\nVERSION:2.0\r\nPRODID:-//iTIP room box//EN\r\nMETHOD:REPLY\r\nBEGIN:VEVENT\r\n\
+const ANSWERS: &str =
+    "BEGIN:VCALENDAR\r\nVERSION:2.0\r\nPRODID:-//iTIP room box//EN\r\nMETHOD:REPLY\r\nBEGIN:VEVENT\r\n\
     UID:a\r\nSEQUENCE:0\r\nDTSTAMP:20250102T000000Z\r\nORGANIZER:mailto:ann@example.com\r\n\
     ATTENDEE;PARTSTAT=ACCEPTED:mailto:r1@example.com\r\nREQUEST-STATUS:2.0;Success\r\nEND:VEVENT\r\nEND:VCALENDAR\r\n\
     REFUSED;OBJECT=2:99\r\n";
@@ -102,9 +104,16 @@ fn a_reader_that_fails_ends_the_call(rt: HostRuntime) -> Result<(), Fail> {
     for call in 1..400u32 {
         let (report, written) = served(rt.alloc(), call, 0)?;
         if call as usize <= STREAM.len() {
-            assert_eq!(rt; report, Err(StreamFault::Serve(ServeFault::Read)), "at call {call}");
+            assert_eq!(rt;
+                report,
+                Err(StreamFault::Serve(ServeFault::Read)),
+                "at call {call}"
+            );
         }
-        assert!(rt; ANSWERS.as_bytes().starts_with(written.as_slice()), "at call {call}");
+        assert!(rt;
+            ANSWERS.as_bytes().starts_with(written.as_slice()),
+            "at call {call}"
+        );
     }
     Ok(())
 }
@@ -114,10 +123,17 @@ fn a_writer_that_fails_ends_the_call(rt: HostRuntime) -> Result<(), Fail> {
     for call in 1..400u32 {
         let (report, written) = served(rt.alloc(), 0, call)?;
         if call as usize <= ANSWERS.len() {
-            assert_eq!(rt; report, Err(StreamFault::Serve(ServeFault::Write)), "at call {call}");
+            assert_eq!(rt;
+                report,
+                Err(StreamFault::Serve(ServeFault::Write)),
+                "at call {call}"
+            );
             assert_eq!(rt; written.len() + 1, call as usize);
         }
-        assert!(rt; ANSWERS.as_bytes().starts_with(written.as_slice()), "at call {call}");
+        assert!(rt;
+            ANSWERS.as_bytes().starts_with(written.as_slice()),
+            "at call {call}"
+        );
     }
     Ok(())
 }

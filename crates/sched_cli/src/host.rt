@@ -6,11 +6,10 @@ use crate::status::{DEVICE, MEMORY, USAGE, report_device, report_memory, report_
 use ical_lines::Fault;
 use ical_values::Address;
 use std::alloc::Global;
-use std::env;
 use std::fs::File;
 use std::io::{self, BufReader, BufWriter, ErrorKind, Read, Write};
 use std::rt::Runtime;
-use std::str;
+use std::{env, str};
 
 /// The most octets of a file; this profile's choice.
 const MOST_OCTETS: u64 = 1_073_741_824;
@@ -85,7 +84,9 @@ fn read_room<R: Runtime + AllocGlobal>(rt: &R, alloc: Global, word: &str) -> Res
         Ok(room) => Ok(room),
         Err(Fault::Memory) => Err(MEMORY),
         Err(Fault::Refused(_)) => {
-            let _ = eprintln!(rt; "roombox: ROOM is no address, such as mailto:room@example.com: {word:?}");
+            let _ = eprintln!(rt;
+                "roombox: ROOM is no address, such as mailto:room@example.com: {word:?}"
+            );
             Err(USAGE)
         }
     }

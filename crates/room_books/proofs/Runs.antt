@@ -1,0 +1,166 @@
+-- Over every run the confirmed instances are clear, and no more than the limit.
+use Rattle.std.proofs.Common.{◌≡◌, ℤ, ◌≤◌, Bool, true, false, ◌&&◌, cond, List, [], ◌∷◌, ◌++◌, inl, inr, refl, sym, ap, ◌∙◌, subst, length, arith, length-append, append-nil}
+use Rattle.std.specs.Prelude.{IsTrue, nat_lt}
+use Rattle.std.specs.List.{Contains, filter, flat_map}
+use Rattle.std.proofs.lemmas.Bool.{and_parts, and_from, true≢false, lt-ltb}
+use Rattle.std.proofs.lemmas.List.Elements.{Contains-append_left, Contains-append_right, Contains-append_cases, filter-append}
+use Rattle.std.proofs.lemmas.Grind.{flat_map-append}
+use Rattle.profile.specs.Instances.{Booked, IsClear}
+use Rattle.profile.specs.Revisions.{Part, in_view}
+use Rattle.profile.specs.Messages.{Outcome, Accept, Busy, SeriesLimit, SinglesLimit}
+use Rattle.profile.specs.Rooms.{Claim, Answer, Book, empty_book, is_accept, is_confirmed, confirmed_in, confirmed, is_fresh, is_set, parts_of, asked, most_singles, Decides, answered, IsStep, Delivery, Runs}
+use Rattle.itip_order.proofs.Lists.{in_cons, in_head, in_tail, none_in_nil, filter_at}
+use Rattle.room_books.proofs.Views.{view_back}
+
+-- clear, and no more than the limit
+pub record Good (xs : List Booked) : Type 0 where
+  pub clear : IsClear xs
+  pub few : length xs ≤ most_singles
+
+-- each answer's part was taken
+abbrev pub AnswersTaken : Book → Type 0
+AnswersTaken book = (a : Answer) → Contains book.answers a → Contains book.taken a.claim.part
+
+-- the elements of xs are among those of ys, which is no shorter
+pub record IsWithin (xs ys : List Booked) : Type 0 where
+  pub among : (x : Booked) → Contains xs x → Contains ys x
+  pub shorter : length xs ≤ length ys
+
+within_good : (xs ys : List Booked) → IsWithin xs ys → Good ys → Good xs
+within_good xs ys w g = record {
+  clear = λ a b t c. g.clear a b t (record {
+    first = w.among a c.first;
+    second = w.among b c.second;
+    differ = c.differ;
+    before = c.before;
+    in_first = c.in_first;
+    in_second = c.in_second;
+  });
+  few = let s = w.shorter in let f = g.few in omega arith;
+}
+
+within_itself : (xs : List Booked) → IsWithin xs xs
+within_itself xs = record { among = λ x c. c; shorter = omega arith }
+
+within_both : (f xs ys : List Booked) → IsWithin xs ys → IsWithin (f ++ xs) (f ++ ys)
+within_both f xs ys w = record {
+  among = λ x c. elim (Contains-append_cases f xs x c) [
+    | inl here ↦ Contains-append_left f ys x here
+    | inr there ↦ Contains-append_right f ys x (w.among x there)
+  ];
+  shorter = let s = w.shorter in omega (arith, length-append f xs, length-append f ys);
+}
+
+within_more : (f xs ys : List Booked) → IsWithin xs ys → IsWithin xs (f ++ ys)
+within_more f xs ys w = record {
+  among = λ x c. Contains-append_right f ys x (w.among x c);
+  shorter = let s = w.shorter in omega (arith, length-append f ys);
+}
+
+abbrev books : Answer → List Booked
+books a = a.claim.books
+
+within_step : (q p : Bool) (a : Answer) (xs ys : List Answer) → (q ≡ true → p ≡ true) → IsWithin (flat_map books xs) (flat_map books ys) → IsWithin (flat_map books (cond q (a ∷ xs) xs)) (flat_map books (cond p (a ∷ ys) ys))
+within_step true true a xs ys f w = within_both (books a) (flat_map books xs) (flat_map books ys) w
+within_step true false a xs ys f w = absurd (true≢false (sym (f refl)))
+within_step false true a xs ys f w = within_more (books a) (flat_map books xs) (flat_map books ys) w
+within_step false false a xs ys f w = w
+
+-- a stronger test keeps fewer
+within_filter : (q p : Answer → Bool) (xs : List Answer) → ((a : Answer) → Contains xs a → q a ≡ true → p a ≡ true) → IsWithin (flat_map books (filter q xs)) (flat_map books (filter p xs))
+within_filter q p [] f = within_itself []
+within_filter q p (a ∷ xs) f = within_step (q a) (p a) a (filter q xs) (filter p xs) (f a (in_head a xs)) (within_filter q p xs (λ x c. f x (in_tail a xs x c)))
+
+-- after more parts the old answers confirm no more than before
+confirmed_back : (taken more : List Part) (answers : List Answer) → ((a : Answer) → Contains answers a → Contains taken a.claim.part) → IsWithin (confirmed_in (taken ++ more) answers) (confirmed_in taken answers)
+confirmed_back taken more answers known =
+    within_filter (is_confirmed (taken ++ more)) (is_confirmed taken) answers (λ a c e.
+    let both = and_parts _ _ e in
+    and_from _ _ both.0 (view_back taken more a.claim.part (known a c) both.1))
+
+confirmed_split : (taken : List Part) (xs ys : List Answer) → confirmed_in taken (xs ++ ys) ≡ confirmed_in taken xs ++ confirmed_in taken ys
+confirmed_split taken xs ys = ap (flat_map books) (filter-append (is_confirmed taken) xs ys) ∙ flat_map-append books (filter (is_confirmed taken) xs) (filter (is_confirmed taken) ys)
+
+-- parts that are accepted and in the view are confirmed
+accepted_are : (taken : List Part) (moment : ℤ) (claims : List Claim) → ((c : Claim) → Contains claims c → in_view taken c.part ≡ true) → confirmed_in taken (answered moment Accept claims) ≡ flat_map (λ c. c.books) claims
+accepted_are taken moment [] f = refl
+accepted_are taken moment (c ∷ cs) f =
+    let rest = accepted_are taken moment cs (λ x h. f x (in_tail c cs x h)) in
+    ap (λ b. flat_map books (cond b (record { claim = c; moment = moment; outcome = Accept } ∷ filter (is_confirmed taken) (answered moment Accept cs)) (filter (is_confirmed taken) (answered moment Accept cs)))) (f c (in_head c cs))
+    ∙ ap (λ l. c.books ++ l) rest
+
+declined_are : (taken : List Part) (moment : ℤ) (outcome : Outcome) (claims : List Claim) → is_accept outcome ≡ false → confirmed_in taken (answered moment outcome claims) ≡ []
+declined_are taken moment outcome [] e = refl
+declined_are taken moment outcome (c ∷ cs) e =
+    ap (λ b. flat_map books (cond (b && in_view taken c.part) (record { claim = c; moment = moment; outcome = outcome } ∷ filter (is_confirmed taken) (answered moment outcome cs)) (filter (is_confirmed taken) (answered moment outcome cs)))) e
+    ∙ declined_are taken moment outcome cs e
+
+good_none : (old : List Booked) (new : List Booked) → Good old → new ≡ [] → Good (old ++ new)
+good_none old new g e = subst Good (sym (ap (λ l. old ++ l) e ∙ append-nil old)) g
+
+-- where those that stayed are good, what was decided leaves good ones
+decided_good : (old : List Booked) (taken : List Part) (moment : ℤ) (outcome : Outcome) (claims : List Claim) → ((c : Claim) → Contains claims c → in_view taken c.part ≡ true) → Good old → (IsTrue (nat_lt 0 (length claims)) → Decides (old ++ flat_map (λ c. c.books) claims) outcome) → Good (old ++ confirmed_in taken (answered moment outcome claims))
+decided_good old taken moment Accept [] seen g d = good_none old [] g refl
+decided_good old taken moment Accept (c ∷ cs) seen g d =
+    let both = d (lt-ltb 0 (length (c ∷ cs)) (omega arith)) in
+    subst Good (ap (λ l. old ++ l) (sym (accepted_are taken moment (c ∷ cs) seen))) (record { clear = both.1; few = both.0 })
+decided_good old taken moment (Busy a b t) claims seen g d = good_none old _ g (declined_are taken moment (Busy a b t) claims refl)
+decided_good old taken moment SeriesLimit claims seen g d = good_none old _ g (declined_are taken moment SeriesLimit claims refl)
+decided_good old taken moment SinglesLimit claims seen g d = good_none old _ g (declined_are taken moment SinglesLimit claims refl)
+
+-- what holds of each book that a room reaches
+pub record IsSound (book : Book) : Type 0 where
+  pub known : AnswersTaken book
+  pub good : Good (confirmed book)
+
+answered_part : (moment : ℤ) (outcome : Outcome) (claims : List Claim) (a : Answer) → Contains (answered moment outcome claims) a → (c : Claim) × Contains claims c × (a.claim ≡ c)
+answered_part moment outcome [] a c = absurd (none_in_nil a c)
+answered_part moment outcome (x ∷ xs) a c =
+    elim (in_cons _ _ a c) [
+      | inl here ↦ (x, in_head x xs, sym (ap (λ y. y.claim) here))
+      | inr there ↦ let rest = answered_part moment outcome xs a there in (rest.0, in_tail x xs rest.0 rest.1, rest.2)
+    ]
+
+part_among : (claims : List Claim) (c : Claim) → Contains claims c → Contains (parts_of claims) c.part
+part_among [] c h = absurd (none_in_nil c h)
+part_among (x ∷ xs) c h =
+    elim (in_cons x xs c h) [
+      | inl here ↦ subst (λ (y : Claim). Contains (parts_of (x ∷ xs)) y.part) here (in_head x.part (parts_of xs))
+      | inr there ↦ in_tail x.part (parts_of xs) c.part (part_among xs c there)
+    ]
+
+-- a step from a sound book leads to a sound book
+pub step_sound : (before : Book) (claims : List Claim) (moment : ℤ) (outcome : Outcome) (after : Book) → IsStep before claims moment outcome after → IsSound before → IsSound after
+step_sound before claims moment outcome after s sound =
+    let asked_now = asked before.taken after.taken claims in
+    let is_asked = λ (c : Claim) (h : Contains asked_now c). filter_at (λ c. is_set c.part && is_fresh before.taken after.taken c.part) claims c h in
+    let seen = λ (c : Claim) (h : Contains asked_now c). (and_parts _ _ (and_parts _ _ (is_asked c h).1).1).0 in
+    let stayed = subst (λ (t : List Part). IsWithin (confirmed_in t before.answers) (confirmed before)) (sym s.taken) (confirmed_back before.taken (parts_of claims) before.answers sound.known) in
+    let kept = within_good _ _ stayed sound.good in
+    let now = decided_good (confirmed_in after.taken before.answers) after.taken moment outcome asked_now seen kept s.decided in
+    record {
+      known = λ a c.
+          let P : List Part → Type 0 = λ t. Contains t a.claim.part in
+          subst P (sym s.taken) (elim (Contains-append_cases before.answers _ a (subst (λ (l : List Answer). Contains l a) s.answers c)) [
+            | inl old ↦ Contains-append_left before.taken (parts_of claims) a.claim.part (sound.known a old)
+            | inr new ↦
+                let found = answered_part moment outcome asked_now a new in
+                Contains-append_right before.taken (parts_of claims) a.claim.part
+                (subst (λ (c : Claim). Contains (parts_of claims) c.part) (sym found.2) (part_among claims found.0 (is_asked found.0 found.1).0))
+          ]);
+      good = subst Good (sym (ap (confirmed_in after.taken) s.answers ∙ confirmed_split after.taken before.answers (answered moment outcome asked_now))) now;
+    }
+
+empty_sound : IsSound empty_book
+empty_sound = record {
+  known = λ a c. absurd (none_in_nil a c);
+  good = record { clear = λ a b t c. none_in_nil a c.first; few = omega arith };
+}
+
+run_sound : (before : Book) (ds : List Delivery) (after : Book) → Runs before ds after → IsSound before → IsSound after
+run_sound before [] after r sound = subst IsSound (sym r) sound
+run_sound before (d ∷ ds) after r sound =
+    run_sound r.0 ds after r.3 (step_sound before d.claims d.moment r.1 r.0 r.2 sound)
+
+pub runs_good : (ds : List Delivery) (book : Book) → Runs empty_book ds book → Good (confirmed book)
+runs_good ds book r = (run_sound empty_book ds book r empty_sound).good
