@@ -1,3 +1,5 @@
+pub mod EventLemmas
+pub mod ReadingLemmas
 pub mod CalendarLemmas
 pub mod ClashLemmas
 pub mod Distinct

@@ -40,7 +40,7 @@ pub begins_nothing : (l n : ℕ) (rest : List ℕ) → Begins l [] n rest → �
 begins_nothing l n rest b =
     absurd (omega (arith, ap length b.spelled, length-append b.digits (l ∷ rest)))
 
-part_begins : (l : ℕ) (digits rest : List ℕ) (n : ℕ) → IsNumber digits n → Begins l ((digits ++ l ∷ []) ++ rest) n rest
+pub part_begins : (l : ℕ) (digits rest : List ℕ) (n : ℕ) → IsNumber digits n → Begins l ((digits ++ l ∷ []) ++ rest) n rest
 part_begins l digits rest n h = record { digits = digits; number = h; spelled = append_assoc digits (l ∷ []) rest }
 
 -- another part in front: still no such beginning
