@@ -188,7 +188,7 @@ attendee_pushed all left rest done line old new a e s h zip n is = (
   done ++ line ∷ [],
   named_next (codes "ATTENDEE") all left rest done line e s h ∙ sym (append_assoc done (line ∷ []) (lines_named (codes "ATTENDEE") rest)),
   subst (AllZip IsAttendee (done ++ line ∷ [])) (sym (ap (map attendee_of) n ∙ map-append attendee_of old (a ∷ [])))
-  (push_zip IsAttendee done (map attendee_of old) line (attendee_of a) zip is),
+      (push_zip IsAttendee done (map attendee_of old) line (attendee_of a) zip is),
 )
 
 pub attendee_fault : (m : Bool) (all left rest done : List (List ℕ)) (line : List ℕ) (f : Fault)

@@ -1,6 +1,10 @@
 pub mod EventLemmas
 pub mod ReadingLemmas
+pub mod TreeLemmas
+pub mod OneEvent
+pub mod OneCalendar
 pub mod CalendarLemmas
 pub mod ClashLemmas
 pub mod Distinct
 pub mod SweepLemmas
+mod Worked

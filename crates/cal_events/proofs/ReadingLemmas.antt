@@ -58,7 +58,7 @@ split cs i =
 pub is_among : (cs : List Component) (i : ℕ) (c : Component) → i < length cs → c ≡ get_or cs i c → is_vevent c ≡ true → Contains (events_in cs) (component_lines c)
 is_among cs i c w e h =
     let whole : events_in cs ≡ events_in (take i cs) ++ component_lines c ∷ events_in (drop (i + 1) cs) =
-      split cs i ∙ ap (λ l. events_in (take i cs) ++ l) (drop_event cs i c w e h) in
+    split cs i ∙ ap (λ l. events_in (take i cs) ++ l) (drop_event cs i c w e h) in
     subst (λ (l : List Lines). Contains l (component_lines c)) (sym whole)
     (Contains-append_right (events_in (take i cs)) (component_lines c ∷ events_in (drop (i + 1) cs)) (component_lines c) (zero, omega arith, refl))
 
@@ -79,7 +79,7 @@ entry_pushed room vs lines event old new e (events, zip, are) says view n = (
   events ++ event ∷ [],
   push_zip (SaysEvent false) vs events lines event zip says,
   ap (map entry_view) n ∙ map-append entry_view old (e ∷ []) ∙ ap (λ l. l ++ entry_view e ∷ []) are ∙ ap (λ x. map (entry_said room) events ++ x ∷ []) view
-  ∙ sym (map-append (entry_said room) events (event ∷ [])),
+      ∙ sym (map-append (entry_said room) events (event ∷ [])),
 )
 
 one_confirmed : (a : Booked) (p : Bool) (event : Event) (q : Bool) (xs : List Booked) (events : List Event) → a ≡ booked_by event → p ≡ q → xs ≡ map booked_by events

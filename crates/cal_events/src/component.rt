@@ -1,6 +1,6 @@
 //! One VEVENT, read: its values, judged one property after another in a fixed order, and then
 //! together (RFC 5545 3.6.1). By now single events with UTC times alone are read.
-ghost use Rattle.std.specs.Prelude.{◌≡◌, ◌≤◌, ◌^◌, ◌++◌, ◌<ℤ◌, length, Bool, Some, map, codes, pos, negsuc, ◌+ℤ◌, ◌≤ℤ◌, option_map, true, IfOk, IfErr, OnOk, IsTrue};
+ghost use Rattle.std.specs.Prelude.{ℕ, List, ◌≡◌, ◌≤◌, ◌^◌, ◌++◌, ◌<ℤ◌, length, Bool, Some, map, codes, pos, negsuc, ◌+ℤ◌, ◌≤ℤ◌, option_map, true, IfOk, IfErr, OnOk, IsTrue};
 ghost use Rattle.std.specs.Bool.{OnTrue};
 ghost use Rattle.std.specs.List.{AllZip};
 ghost use Rattle.ical_lines.specs.Fault.{RefusesOnly};
@@ -9,12 +9,15 @@ ghost use Rattle.ical_tree.specs.Tree.{component_lines};
 ghost use Rattle.ical_values.specs.Octets.{address_octets, text_octets};
 ghost use Rattle.profile.specs.Faults.{is_event_fault};
 ghost use Rattle.profile.specs.Values.{SpellsStamp};
-ghost use Rattle.profile.specs.Events.{answer_named, answer_of, length_seconds, ends_in_z, lines_named, Says, SaysSequence, SaysEvent, IsUidLine, IsAddressLine, IsStampLine, IsAttendee, IsTime, IsDate, IsLocal, IsNoAddress, TimeFault, EventFault};
+ghost use Rattle.profile.specs.Events.{Event, answer_named, answer_of, length_seconds, ends_in_z, lines_named, Says, SaysSequence, SaysEvent, IsUidLine, IsAddressLine, IsStampLine, IsAttendee, IsTime, IsDate, IsLocal, IsNoAddress, TimeFault, EventFault};
 ghost use Rattle.cal_events.specs.Events.{is_message, participation_of, attendee_of, length_of, event_of, StandsIn, DateTimeFault, DateFault, IsKind, IsExtent, GivesLength, ExtentFault, TimesFault};
 
 use crate::properties::{optional, required};
 use ical_lines::{Fault, Line, Refusal};
 use ical_tree::Component;
+use ical_values::duration::one_duration;
+use ical_values::sequence::one_sequence;
+use ical_values::stamp::one_stamp;
 use ical_values::{Address, Duration, LocalTime, Sequence, Stamp, Text};
 use std::alloc::Global;
 
@@ -138,6 +141,18 @@ impl EventComponent {
         }
         None
     }
+}
+
+/// The lines of a VEVENT say at most one event, and none where a fault stands in them.
+pub fn one_event()
+    ensures one { (in_message : Bool) (lines : List (List ℕ)) (a b : Event)
+        → SaysEvent in_message lines a → SaysEvent in_message lines b → a ≡ b }
+    ensures or_a_fault { (in_message : Bool) (lines : List (List ℕ)) (a : Event) (n : ℕ)
+        → SaysEvent in_message lines a → EventFault in_message lines n → ⊥ }
+{
+    one_stamp();
+    one_duration();
+    one_sequence();
 }
 
 fn read_uid(alloc: Global, component: &Component) -> Result<Text, Fault>

@@ -48,14 +48,12 @@ pub fn has_unread_line(component: &Component) -> bool
     false
 }
 
-/// Whether a line isn't read yet: one of a recurrence, a cancelled status, a UID with a backslash, or a start or an
-/// end in a zone.
+/// Whether a line isn't read yet: one of a recurrence, a cancelled status, or a start or an end in a zone.
 fn is_unread(line: Line<'_>) -> bool
     ensures { result ≡ is_unread_line (line_text line.entry) }
 {
     is_recurrence_line(line)
         || (line.is_named("STATUS") && line.value().eq_ignore_ascii_case("CANCELLED"))
-        || (line.is_named("UID") && line.value().as_bytes().contains(&b'\\'))
         || (is_end_line(line) && line.param("TZID").is_some())
 }
 

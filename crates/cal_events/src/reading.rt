@@ -1,14 +1,16 @@
 //! A calendar read from its octets (RFC 5545 3.4), for one room: open limits, METHOD not looked at.
-ghost use Rattle.std.specs.Prelude.{◌≡◌, [], true, false, unwrap_or, IfOk, IfErr, OnOk, OnErr, IsTrue};
+ghost use Rattle.std.specs.Prelude.{ℕ, List, ◌≡◌, [], true, false, unwrap_or, IfOk, IfErr, OnOk, OnErr, IsTrue};
 ghost use Rattle.std.specs.List.{list_any};
 ghost use Rattle.ical_lines.specs.Fault.{RefusesOnly};
 ghost use Rattle.ical_values.specs.Octets.{address_octets};
-ghost use Rattle.profile.specs.Faults.{is_calendar_fault};
+ghost use Rattle.profile.specs.Faults.{is_object_fault, is_calendar_fault};
+ghost use Rattle.profile.specs.Instances.{Booked};
+ghost use Rattle.profile.specs.Calendars.{SpellsCalendar, EventsFault};
 ghost use Rattle.profile.specs.Events.{is_confirmed, SaysCalendar, CalendarFault, has_unread};
 ghost use Rattle.cal_events.specs.Events.{event_of, vevents_of, entry_view, entry_said, AreEntries, StandsIn};
 
 use crate::calendar::{Calendar, Entry};
-use crate::component::{EventComponent, ParticipationStatus, Purpose};
+use crate::component::{EventComponent, ParticipationStatus, Purpose, one_event};
 use crate::instance::Booking;
 use crate::properties::has_unread_line;
 use ical_lines::{Fault, Limits, Refusal};
@@ -22,7 +24,9 @@ impl Calendar {
     /// Refused: 1 to 5 and 20 to 24 for the object, 10 to 16, 50 to 52, 55, 56 and 61 for a VEVENT, 53 for two
     /// VEVENTs of one meeting, 99 for what isn't read yet.
     pub fn read(alloc: Global, bytes: &[u8], room: &Address) -> Result<Calendar, Fault>
+        ensures spells { IfOk result (SpellsCalendar (address_octets room.now) bytes.now) }
         ensures refuses { IfErr result (RefusesOnly is_calendar_fault) }
+        ensures stands { IfErr result (StandsIn (λ n. is_object_fault n ≡ false → EventsFault bytes.now n)) }
     {
         let object = read_object(alloc, bytes, Limits::Open)?;
         Calendar::of_object(alloc, &object, room)
@@ -39,6 +43,16 @@ impl Calendar {
         let entries = entries_of(alloc, object, room)?;
         Calendar::of(alloc, entries)
     }
+}
+
+/// The VEVENTs of a calendar say at most one calendar for a room, and none where a fault stands in them.
+pub fn one_calendar()
+    ensures one { (room : List ℕ) (vevents : List (List (List ℕ))) (a b : List Booked)
+        → SaysCalendar room vevents a → SaysCalendar room vevents b → a ≡ b }
+    ensures or_a_fault { (room : List ℕ) (vevents : List (List (List ℕ))) (a : List Booked) (n : ℕ)
+        → SaysCalendar room vevents a → CalendarFault vevents n → ⊥ }
+{
+    one_event();
 }
 
 /// Refuses an object with a VEVENT that has something that roombox doesn't read yet.

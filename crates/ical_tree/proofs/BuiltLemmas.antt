@@ -1,12 +1,12 @@
 -- One line more, and what the open components are then.
-use Rattle.std.proofs.Common.{◌≡◌, ℕ, suc, zero, ◌+◌, ◌-◌, ◌<◌, ◌≤◌, true, Option, None, Some, List, [], ◌∷◌, ◌++◌, length, reverse, codes, refl, ap, sym, subst, ◌∙◌, arith}
+use Rattle.std.proofs.Common.{◌≡◌, ℕ, suc, ◌-◌, ◌≤◌, true, Option, None, Some, List, [], ◌∷◌, ◌++◌, length, reverse, refl, ap, sym, subst, ◌∙◌, arith}
 use Rattle.std.proofs.lemmas.List.{append_assoc, reverse-append, length-reverse, nil_from_length}
 use Rattle.profile.specs.Lines.{line_value, is_same_name}
-use Rattle.profile.specs.Objects.{Body, Spells, Opens, Closes, is_property, is_end}
+use Rattle.profile.specs.Objects.{Opens, Closes, is_property, is_end}
 use Rattle.profile.specs.Objects.Body.{nothing, property, component}
 use Rattle.ical_tree.specs.declared.component.Component.{Component}
 use Rattle.ical_tree.specs.Tree.{component_name, component_lines, component_children}
-use Rattle.ical_tree.specs.Reading.{BodyOf, SpellsOf, IsCalendar, IsOuter, OpenLines, Built}
+use Rattle.ical_tree.specs.Reading.{BodyOf, IsCalendar, IsOuter, Built, names_of}
 
 pub reverse-push : (xs : List Component) (x : Component) → reverse (xs ++ x ∷ []) ≡ x ∷ reverse xs
 reverse-push xs x = reverse-append xs (x ∷ [])
@@ -92,3 +92,8 @@ ended_only old rest after c closed done line e s p r a b =
     let bare : old ≡ c ∷ [] = p ∙ ap (λ z. z ++ c ∷ []) (nil_from_length rest r) in
     let h : Built (c ∷ []) closed done = subst (λ xs. Built (reverse xs) closed done) bare b in
     subst (λ xs. Built (reverse xs) (Some c) (done ++ line ∷ [])) (sym (nil_from_length after a)) (ended_last c closed done line e s h)
+
+-- ---- the names of the open components
+
+pub names-push : (xs : List Component) (x : Component) → names_of (reverse (xs ++ x ∷ [])) ≡ component_name x ∷ names_of (reverse xs)
+names-push xs x = ap names_of (reverse-push xs x)

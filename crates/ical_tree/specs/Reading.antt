@@ -1,7 +1,9 @@
 -- What the lines so far have spelled.
-use Rattle.std.specs.Prelude.{◌≡◌, ℕ, ◌-◌, ◌≤◌, true, List, [], ◌∷◌, ◌++◌, Option, None, Some, length, codes}
-use Rattle.profile.specs.Lines.{is_same_name}
-use Rattle.profile.specs.Objects.{Body, Spells, Opens}
+use Rattle.std.specs.Prelude.{◌≡◌, ◌⊎◌, ◌&&◌, ◌||◌, ◌==◌, ℕ, ◌-◌, ◌≤◌, Bool, true, not, nat_lt, map, IsTrue, List, [], ◌∷◌, ◌++◌, Option, None, Some, length, codes}
+use Rattle.profile.specs.Lines.{is_same_name, logical_lines, text_has}
+use Rattle.profile.specs.Objects.{Body, Spells, Opens, has_version, count_inside, lines_have}
+use Rattle.ical_lines.specs.declared.fault.Fault.{Fault}
+use Rattle.ical_lines.specs.declared.fault.Fault.TheVariants.{Refused, Memory}
 use Rattle.ical_tree.specs.declared.component.Component.{Component}
 use Rattle.ical_tree.specs.Tree.{component_name, component_lines, component_children}
 
@@ -33,3 +35,22 @@ Built [] None done = done ≡ []
 Built [] (Some c) done = SpellsOf 7 c done × IsCalendar c
 Built (c ∷ around) closed done =
     (before : List (List ℕ)) × OpenLines c (7 - length around) before done × Built around closed before × (length around ≤ 7) × IsOuter c around closed
+
+-- the names of the open components, from the innermost on
+abbrev pub names_of : List Component → List (List ℕ)
+names_of cs = map component_name cs
+
+-- the fault of this number, 24 or 25, stands in a component that the lines spell
+abbrev pub calendar_has : Bool → ℕ → Component → Bool
+calendar_has bounded number c =
+    (number == 24 && not (has_version (component_lines c))) || (number == 25 && (bounded && nat_lt 200 (count_inside component_name component_lines component_children (codes "VEVENT") c)))
+
+-- the fault of this number stands in the octets: in the lines, in how they pair up, or in the object that they spell
+abbrev pub ObjectHas : Bool → ℕ → List ℕ → Type 0
+ObjectHas bounded number octets =
+    IsTrue (text_has bounded number octets) ⊎ (IsTrue (lines_have number (logical_lines octets)) ⊎ ((c : Component) × (SpellsOf 7 c (logical_lines octets) × IsTrue (calendar_has bounded number c))))
+
+-- want of memory, or a refusal whose fault stands in the octets
+abbrev pub Stands : Bool → List ℕ → Fault → Type 0
+Stands bounded octets Memory = Unit {0}
+Stands bounded octets (Refused r) = ObjectHas bounded r.number octets

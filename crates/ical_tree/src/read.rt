@@ -4,10 +4,15 @@ ghost use Rattle.std.specs.Prelude.{
   ◌++◌,
   ◌∷◌,
   ◌&&◌,
+  ◌||◌,
+  ◌==◌,
   [],
+  not,
+  drop,
+  is_some,
+  None,
   ℕ,
   List,
-  Some,
   codes,
   reverse,
   nat_lt,
@@ -20,12 +25,12 @@ ghost use Rattle.std.specs.Prelude.{
 };
 ghost use Rattle.profile.specs.Faults.{is_object_fault};
 ghost use Rattle.profile.specs.Lines.{logical_lines, line_value, is_same_name};
-ghost use Rattle.profile.specs.Objects.{is_end, is_property, has_version, count_inside, Opens};
+ghost use Rattle.profile.specs.Objects.{is_end, is_property, has_version, count_inside, Opens, is_none, now_open, misplaced, misplaced_begin, misplaced_end, misplaced_property};
 ghost use Rattle.ical_lines.specs.Fault.{RefusesOnly};
 ghost use Rattle.ical_lines.specs.Limits.{is_bounded};
 ghost use Rattle.ical_lines.specs.Text.{line_text};
 ghost use Rattle.ical_tree.specs.Tree.{IsObjectOf, component_name, component_lines, component_children};
-ghost use Rattle.ical_tree.specs.Reading.{Built, SpellsOf, IsCalendar};
+ghost use Rattle.ical_tree.specs.Reading.{Built, SpellsOf, IsCalendar, Stands, calendar_has, names_of};
 
 use crate::component::Component;
 use ical_lines::{Fault, Limits, Line, Refusal, Unfolded};
@@ -46,6 +51,7 @@ const MAX_EVENTS: usize = 200;
 /// 200 VEVENTs directly inside VCALENDAR (25).
 pub fn read_object(alloc: Global, bytes: &[u8], limits: Limits) -> Result<Component, Fault>
     ensures spelled { IfOk result (λ c. IsObjectOf (is_bounded limits) c (logical_lines bytes.now)) }
+    ensures stands { IfErr result (Stands (is_bounded limits) bytes.now) }
     ensures refuses { IfErr result (RefusesOnly is_object_fault) }
 {
     let text = Unfolded::read(alloc, bytes, limits)?;
@@ -70,7 +76,8 @@ struct Reader {
 impl Reader {
     /// No lines yet.
     fn new(alloc: Global) -> Reader
-        ensures { Built (reverse result.open.items) result.closed [] }
+        ensures open { result.open.items ≡ [] }
+        ensures closed { result.closed ≡ None }
     {
         Reader {
             open: Vec::new(alloc),
@@ -83,6 +90,8 @@ impl Reader {
         ensures built { OnOk result ((done : List (List ℕ))
             → Built (reverse self.old.open.items) self.old.closed done
             → Built (reverse self.new.open.items) self.new.closed (done ++ line_text line.entry ∷ [])) }
+        ensures names { OnOk result (names_of (reverse self.new.open.items) ≡ now_open (names_of (reverse self.old.open.items)) (line_text line.entry)) }
+        ensures stands { IfErr result (RefusesOnly (λ n. misplaced n (names_of (reverse self.old.open.items)) (is_some self.old.closed) (line_text line.entry))) }
         ensures refuses { IfErr result (RefusesOnly is_object_fault) }
     {
         if line.is_named("BEGIN") {
@@ -100,6 +109,8 @@ impl Reader {
             → Opens line name.now
             → Built (reverse self.old.open.items) self.old.closed done
             → Built (reverse self.new.open.items) self.new.closed (done ++ line ∷ [])) }
+        ensures names { OnOk result (names_of (reverse self.new.open.items) ≡ name.now ∷ names_of (reverse self.old.open.items)) }
+        ensures stands { IfErr result (RefusesOnly (λ n. misplaced_begin n (names_of (reverse self.old.open.items)) (is_some self.old.closed) name.now)) }
         ensures refuses { IfErr result (RefusesOnly is_object_fault) }
     {
         if self.open.is_empty() && !may_be_outermost(&self.closed, name) {
@@ -120,6 +131,8 @@ impl Reader {
             → line_value line ≡ name.now
             → Built (reverse self.old.open.items) self.old.closed done
             → Built (reverse self.new.open.items) self.new.closed (done ++ line ∷ [])) }
+        ensures names { OnOk result (names_of (reverse self.new.open.items) ≡ drop 1 (names_of (reverse self.old.open.items))) }
+        ensures stands { IfErr result (RefusesOnly (λ n. misplaced_end n (names_of (reverse self.old.open.items)) name.now)) }
         ensures refuses { IfErr result (RefusesOnly is_object_fault) }
     {
         let Some(component) = self.open.pop() else {
@@ -143,6 +156,8 @@ impl Reader {
             → is_property (line_text line.entry) ≡ true
             → Built (reverse self.old.open.items) self.old.closed done
             → Built (reverse self.new.open.items) self.new.closed (done ++ line_text line.entry ∷ [])) }
+        ensures names { OnOk result (names_of (reverse self.new.open.items) ≡ names_of (reverse self.old.open.items)) }
+        ensures stands { IfErr result (RefusesOnly (λ n. misplaced_property n (names_of (reverse self.old.open.items)))) }
         ensures refuses { IfErr result (RefusesOnly is_object_fault) }
     {
         let Some(mut component) = self.open.pop() else {
@@ -158,6 +173,8 @@ impl Reader {
         ensures spelled { IfOk result (λ c. (done : List (List ℕ))
             → Built (reverse self.open.items) self.closed done
             → SpellsOf 7 c done × IsCalendar c) }
+        ensures stands { IfErr result (λ r. IsTrue ((r.number == 21 && not (is_none (names_of (reverse self.open.items))))
+            || (r.number == 23 && (is_none (names_of (reverse self.open.items)) && not (is_some self.closed))))) }
         ensures refuses { IfErr result (λ r. IsTrue (is_object_fault r.number)) }
     {
         if !self.open.is_empty() {
@@ -169,15 +186,16 @@ impl Reader {
 
 /// Whether a component of this name may stand alone: it is the first VCALENDAR.
 fn may_be_outermost(closed: &Option<Component>, name: &str) -> bool
-    ensures { result ≡ true → (closed.now ≡ None) × (is_same_name name.now (codes "VCALENDAR") ≡ true) }
+    ensures { result ≡ (is_same_name name.now (codes "VCALENDAR") && not (is_some closed.now)) }
 {
-    closed.is_none() && name.eq_ignore_ascii_case("VCALENDAR")
+    name.eq_ignore_ascii_case("VCALENDAR") && closed.is_none()
 }
 
 /// Judges a VCALENDAR as a whole: its VERSION, and how many VEVENTs it has.
 fn check_calendar(calendar: &Component, limits: Limits) -> Result<(), Refusal>
     ensures version { OnOk result (has_version (component_lines calendar.now) ≡ true) }
     ensures events { OnOk result ((is_bounded limits && nat_lt 200 (count_inside component_name component_lines component_children (codes "VEVENT") calendar.now)) ≡ false) }
+    ensures stands { IfErr result (λ r. IsTrue (calendar_has (is_bounded limits) r.number calendar.now)) }
     ensures refuses { IfErr result (λ r. IsTrue (is_object_fault r.number)) }
 {
     if !has_version(calendar) {

@@ -11,7 +11,6 @@ ghost use Rattle.ical_lines.specs.Fault.{RefusesOnly};
 ghost use Rattle.ical_values.specs.Octets.{address_octets};
 ghost use Rattle.ical_values.specs.Refused.{IfRefused};
 
-use crate::append::append_all;
 use ical_lines::{Fault, Refusal};
 use std::alloc::{AllocError, Global};
 
@@ -63,7 +62,7 @@ impl Address {
         ensures ok { OnOk result (out.new.items ≡ out.old.items ++ address_octets self.now) }
         ensures err { OnErr result (out.new.items ≡ out.old.items) }
     {
-        append_all(out, &[self.octets.as_bytes()])
+        out.extend_from_slice(self.octets.as_bytes())
     }
 }
 

@@ -15,7 +15,9 @@ use std::alloc::AllocError;
 /// Nominal days, and exact seconds beside them.
 #[derive(Clone, Copy, Debug, PartialEq, Eq, PartialOrd, Ord, Hash)]
 pub struct Duration {
+    /// Days, each as long as it is where they are counted; a week is 7.
     pub days: u32,
+    /// Seconds of hours, minutes and seconds.
     pub seconds: u32,
 }
 

@@ -4,7 +4,6 @@
 ghost use Rattle.std.specs.Prelude.{List, ◌≡◌, ◌↔◌, ◌++◌, ◌<◌, ◌^◌, ℕ, decimal, IsSome, IfSome, IfOk, IfErr, OnOk, OnErr};
 ghost use Rattle.profile.specs.Values.{SpellsSequence};
 
-use crate::append::append_all;
 use ical_lines::Refusal;
 use itoa::Buffer;
 use std::alloc::AllocError;
@@ -52,7 +51,7 @@ impl Sequence {
     {
         let mut buffer = Buffer::new();
         let Sequence { number } = self;
-        append_all(out, &[buffer.format(number).as_bytes()])
+        out.extend_from_slice(buffer.format(number).as_bytes())
     }
 
     /// The number, from 0 to 2,147,483,647.

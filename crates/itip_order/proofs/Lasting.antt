@@ -1,15 +1,15 @@
 -- What the view says of any history: its parts were taken, one of a slot, and what is gone stays gone.
-use Rattle.std.proofs.Common.{◌≡◌, ℕ, Bool, true, false, not, ◌&&◌, ◌||◌, List, [], ◌∷◌, ◌++◌, ◌⊎◌, inl, inr, refl, sym, ap, ◌∙◌, subst}
+use Rattle.std.proofs.Common.{◌≡◌, true, false, List, [], ◌∷◌, ◌++◌, ◌⊎◌, inl, inr, refl, sym, ap, ◌∙◌, subst}
 use Rattle.std.specs.declared.cmp.Ordering.{Ordering}
 use Rattle.std.specs.declared.cmp.Ordering.TheVariants.{Less, Equal, Greater}
 use Rattle.std.specs.Ordering.{ordering_then, ordering_reverse, is_eq, is_lt, is_le, is_gt}
-use Rattle.std.specs.List.{list_all, list_any, Contains}
+use Rattle.std.specs.List.{Contains}
 use Rattle.std.proofs.lemmas.Bool.{and_parts, and_from, true≢false, or_cases, or_left, or_right, not_from_false, not-true, cases_Bool, false_from_ne_true, true_from_ne_false}
 use Rattle.std.proofs.lemmas.Cmp.{upto, tied_back}
 use Rattle.std.proofs.lemmas.List.Elements.{Contains-append_left}
-use Rattle.profile.specs.Revisions.{Slot, Whole, Revision, Body, Set, Absent, Cancelled, Part, slot_cmp, meeting_cmp, revision_cmp, body_cmp, part_cmp, place_cmp, same_meeting, same_place, is_whole, is_cancelled, implies, is_greatest, stands_beside, allows, in_view}
+use Rattle.profile.specs.Revisions.{Whole, Revision, Body, Set, Absent, Cancelled, Part, revision_cmp, body_cmp, part_cmp, same_place, implies, is_greatest, stands_beside, allows, in_view}
 use Rattle.itip_order.proofs.Lists.{all_at, all_from, in_cons, in_head, in_tail, none_in_nil}
-use Rattle.itip_order.proofs.Order.{slot_total, meeting_total, revision_total, place_total, part_total, is_eq_true, then_equal}
+use Rattle.itip_order.proofs.Order.{slot_total, meeting_total, revision_total, part_total, is_eq_true, then_equal}
 use Rattle.itip_order.proofs.Registers.{Greatest, greatest_at, greatest_from, greatest_unique, implies_at, implies_from, eq_refl, place_sym, place_trans, part_le_refl, part_le_trans}
 
 pub view_taken : (h : List Part) (p : Part) → in_view h p ≡ true → Contains h p
@@ -35,9 +35,9 @@ best_past h q x g b low = record {
   top = λ y c e. elim (in_cons q (x ∷ h) y c) [
     | inl same ↦ b.top y (subst (λ (z : Part). Contains (q ∷ h) z) same (in_head q h)) e
     | inr rest ↦ elim (in_cons x h y rest) [
-        | inl is_x ↦ subst (λ (z : Part). is_le (part_cmp z g) ≡ true) is_x (low (subst (λ (z : Part). same_place z q ≡ true) (sym is_x) e))
-        | inr later ↦ b.top y (in_tail q h y later) e
-      ]
+      | inl is_x ↦ subst (λ (z : Part). is_le (part_cmp z g) ≡ true) is_x (low (subst (λ (z : Part). same_place z q ≡ true) (sym is_x) e))
+      | inr later ↦ b.top y (in_tail q h y later) e
+    ]
   ];
 }
 
@@ -48,9 +48,9 @@ best_new h q x g b place high = record {
   top = λ y c e. elim (in_cons q (x ∷ h) y c) [
     | inl same ↦ part_le_trans y g x (b.top y (subst (λ (z : Part). Contains (q ∷ h) z) same (in_head q h)) e) high
     | inr rest ↦ elim (in_cons x h y rest) [
-        | inl is_x ↦ subst (λ (z : Part). is_le (part_cmp z x) ≡ true) is_x (part_le_refl x)
-        | inr later ↦ part_le_trans y g x (b.top y (in_tail q h y later) e) high
-      ]
+      | inl is_x ↦ subst (λ (z : Part). is_le (part_cmp z x) ≡ true) is_x (part_le_refl x)
+      | inr later ↦ part_le_trans y g x (b.top y (in_tail q h y later) e) high
+    ]
   ];
 }
 
@@ -60,32 +60,38 @@ le_or_ge Equal p e = inl refl
 le_or_ge Greater p e = inr (ap is_le e)
 
 best : (h : List Part) (q : Part) → (g : Part) × Best h q g
-best [] q = (q, record {
-  taken = in_head q [];
-  here = eq_refl q;
-  top = λ y c e. elim (in_cons q [] y c) [
-    | inl same ↦ subst (λ (z : Part). is_le (part_cmp z q) ≡ true) same (part_le_refl q)
-    | inr none ↦ absurd (none_in_nil y none)
-  ];
-})
+best [] q = (
+  q,
+  record {
+    taken = in_head q [];
+    here = eq_refl q;
+    top = λ y c e. elim (in_cons q [] y c) [
+      | inl same ↦ subst (λ (z : Part). is_le (part_cmp z q) ≡ true) same (part_le_refl q)
+      | inr none ↦ absurd (none_in_nil y none)
+    ];
+  },
+)
 best (x ∷ h) q =
     let b = best h q in
     elim (cases_Bool (same_place x q)) [
       | inl here ↦ elim (le_or_ge (part_cmp x b.0) (part_cmp b.0 x) (part_total.antisymm b.0 x)) [
-          | inl low ↦ (b.0, best_past h q x b.0 b.1 (λ _. low))
-          | inr high ↦ (x, best_new h q x b.0 b.1 here high)
-        ]
+        | inl low ↦ (b.0, best_past h q x b.0 b.1 (λ _. low))
+        | inr high ↦ (x, best_new h q x b.0 b.1 here high)
+      ]
       | inr there ↦ (b.0, best_past h q x b.0 b.1 (λ here. absurd (true≢false (sym here ∙ there))))
     ]
 
 -- each part that was taken has a greatest of its place
 pub greatest_of : (h : List Part) (q : Part) → Contains h q → (g : Part) × Greatest h g × (same_place g q ≡ true)
 greatest_of h q c =
-    let b = best h q in
-    (b.0, record {
-      taken = elim (in_cons q h b.0 b.1.taken) [ inl same ↦ subst (λ (z : Part). Contains h z) same c | inr later ↦ later ];
-      top = λ y d e. b.1.top y (in_tail q h y d) (place_trans y b.0 q e b.1.here);
-    }, b.1.here)
+    let b = best h q in (
+      b.0,
+      record {
+        taken = elim (in_cons q h b.0 b.1.taken) [ inl same ↦ subst (λ (z : Part). Contains h z) same c | inr later ↦ later ];
+        top = λ y d e. b.1.top y (in_tail q h y d) (place_trans y b.0 q e b.1.here);
+      },
+      b.1.here,
+    )
 
 -- the order of parts is that of revisions first
 revision_le : (r b : Ordering) → is_le (ordering_then r b) ≡ true → is_gt r ≡ false
@@ -122,15 +128,15 @@ stands_lower w v p le stands =
     elim (or_cases _ _ stands) [
       | inl above ↦ or_left _ _ (above_lower p.revision v.revision w.revision above low)
       | inr level ↦
-        let both = and_parts _ _ level in
-        let tie = is_eq_true _ both.0 in
-        let as_v = revision_total.congr p.revision v.revision w.revision tie in
-        elim (less_or_equal (revision_cmp w.revision v.revision) low) [
-          | inl less ↦ or_left _ _ (ap is_gt (as_v ∙ revision_total.antisymm v.revision w.revision ∙ ap ordering_reverse less))
-          | inr same ↦ or_right _ _ (and_from _ _
-              (ap is_eq (as_v ∙ tied_back revision_total w.revision v.revision same))
-              (not_from_false _ (false_from_ne_true _ (λ cancelled. true≢false (sym (cancelled_top w.body v.body (body_le _ _ le same) cancelled) ∙ not-true _ both.1)))))
-        ]
+          let both = and_parts _ _ level in
+          let tie = is_eq_true _ both.0 in
+          let as_v = revision_total.congr p.revision v.revision w.revision tie in
+          elim (less_or_equal (revision_cmp w.revision v.revision) low) [
+            | inl less ↦ or_left _ _ (ap is_gt (as_v ∙ revision_total.antisymm v.revision w.revision ∙ ap ordering_reverse less))
+            | inr same ↦ or_right _ _ (and_from _ _
+                (ap is_eq (as_v ∙ tied_back revision_total w.revision v.revision same))
+                (not_from_false _ (false_from_ne_true _ (λ cancelled. true≢false (sym (cancelled_top w.body v.body (body_le _ _ le same) cancelled) ∙ not-true _ both.1)))))
+          ]
     ]
 
 -- and so with what a Whole leaves in the view
@@ -140,10 +146,10 @@ allows_lower w v p place le allowed =
     elim (or_cases _ _ allowed) [
       | inl whole ↦ or_left _ _ whole
       | inr hides ↦ or_right _ _ (implies_from _ _ (λ whole.
-        let both = and_parts _ _ whole in
-        let v_whole = ap is_eq (slot_total.congr v.slot w.slot Whole places.1) ∙ both.0 in
-        let v_meeting = ap is_eq (meeting_total.congr v w p places.0) ∙ both.1 in
-        stands_lower w v p le (implies_at _ _ hides (and_from _ _ v_whole v_meeting))))
+          let both = and_parts _ _ whole in
+          let v_whole = ap is_eq (slot_total.congr v.slot w.slot Whole places.1) ∙ both.0 in
+          let v_meeting = ap is_eq (meeting_total.congr v w p places.0) ∙ both.1 in
+          stands_lower w v p le (implies_at _ _ hides (and_from _ _ v_whole v_meeting))))
     ]
 
 -- what left the view stays out of it
@@ -152,10 +158,10 @@ gone_for_good h more p c gone = false_from_ne_true _ (λ v.
     let both = and_parts _ _ v in
     let g = greatest_at (h ++ more) p both.0 in
     let allowed = λ (w : Part) (d : Contains h w).
-      let top = greatest_of (h ++ more) w (Contains-append_left h more w d) in
-      let by_top = implies_at _ _ (all_at (λ whole. implies (is_greatest (h ++ more) whole) (allows whole p)) (h ++ more) top.0 both.1 top.1.taken) (greatest_from (h ++ more) top.0 top.1) in
-      allows_lower w top.0 p top.2 (top.1.top w (Contains-append_left h more w d) (place_sym top.0 w top.2)) by_top in
+    let top = greatest_of (h ++ more) w (Contains-append_left h more w d) in
+    let by_top = implies_at _ _ (all_at (λ whole. implies (is_greatest (h ++ more) whole) (allows whole p)) (h ++ more) top.0 both.1 top.1.taken) (greatest_from (h ++ more) top.0 top.1) in
+    allows_lower w top.0 p top.2 (top.1.top w (Contains-append_left h more w d) (place_sym top.0 w top.2)) by_top in
     let back : in_view h p ≡ true =
-      and_from _ _ (greatest_from h p record { taken = c; top = λ y d e. g.top y (Contains-append_left h more y d) e })
-      (all_from (λ whole. implies (is_greatest h whole) (allows whole p)) h (λ w d. implies_from (is_greatest h w) (allows w p) (λ _. allowed w d))) in
+    and_from _ _ (greatest_from h p record { taken = c; top = λ y d e. g.top y (Contains-append_left h more y d) e })
+    (all_from (λ whole. implies (is_greatest h whole) (allows whole p)) h (λ w d. implies_from (is_greatest h w) (allows w p) (λ _. allowed w d))) in
     true≢false (sym back ∙ gone))

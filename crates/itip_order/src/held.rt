@@ -188,8 +188,7 @@ pub fn view_is_lasting()
     ensures gone_for_good { (history more : List revisions.Part) (part : revisions.Part)
         → Contains history part → revisions.in_view history part ≡ false
         → revisions.in_view (history ++ more) part ≡ false }
-{
-}
+{}
 
 // What the greatest part of a slot did to the view, where its register is new.
 fn entered(in_view: bool) -> Freshness

@@ -146,9 +146,6 @@ pub record SaysEvent (in_message : Bool) (lines : List (List ℕ)) (event : Even
 
 -- ---- what isn't read yet
 
-abbrev pub has_backslash : List ℕ → Bool
-has_backslash text = list_any (λ c. c == 92) text
-
 abbrev pub is_recurrence : List ℕ → Bool
 is_recurrence line =
     is_of (codes "RRULE") line || is_of (codes "RDATE") line || is_of (codes "EXDATE") line || is_of (codes "RECURRENCE-ID") line
@@ -156,11 +153,11 @@ is_recurrence line =
 abbrev pub is_end_of_event : List ℕ → Bool
 is_end_of_event line = is_of (codes "DTSTART") line || is_of (codes "DTEND") line
 
--- a recurrence, a cancelled status, a UID with a backslash, or a start or an end in a zone
+-- a recurrence, a cancelled status, or a start or an end in a zone
 abbrev pub is_unread_line : List ℕ → Bool
 is_unread_line line =
     is_recurrence line || (is_of (codes "STATUS") line && is_same_name (line_value line) (codes "CANCELLED"))
-        || (is_of (codes "UID") line && has_backslash (line_value line)) || (is_end_of_event line && is_some (line_param (codes "TZID") line))
+        || (is_end_of_event line && is_some (line_param (codes "TZID") line))
 
 -- something in the lines isn't read yet
 abbrev pub has_unread : List (List ℕ) → Bool

@@ -137,3 +137,42 @@ fn a_writer_that_fails_ends_the_call(rt: HostRuntime) -> Result<(), Fail> {
     }
     Ok(())
 }
+
+/// An object of this many octets: a VCALENDAR with one long line.
+fn long_object(alloc: Global, octets: usize) -> Result<Vec<u8>, Fail> {
+    let mut object = Vec::from_slice(alloc, b"BEGIN:VCALENDAR\r\nX-LONG:")?;
+    let end = b"\r\nEND:VCALENDAR\r\n";
+    for _ in object.len()..octets.saturating_sub(end.len()) {
+        object.push(b'x')?;
+    }
+    object.extend_from_slice(end)?;
+    Ok(object)
+}
+
+#[test]
+fn an_object_that_is_too_long_is_refused_and_the_next_is_answered(
+    rt: HostRuntime,
+) -> Result<(), Fail> {
+    for (octets, expected) in [
+        (1_048_576, "REFUSED;OBJECT=1:24\r\n"),
+        (1_048_577, "REFUSED;OBJECT=1:6\r\n"),
+    ] {
+        let object = long_object(rt.alloc(), octets)?;
+        assert_eq!(rt; object.len(), octets);
+        let mut stream = Vec::from_slice(
+            rt.alloc(),
+            b"now 20250102T000000Z\nroom mailto:r1@example.com\n\n",
+        )?;
+        stream.extend_from_slice(object.as_slice())?;
+        stream.extend_from_slice(
+            b"BEGIN:VCALENDAR\r\nVERSION:2.0\r\nMETHOD:REQUEST\r\nEND:VCALENDAR\r\n",
+        )?;
+        let mut written = Vec::new(rt.alloc());
+        let report = serve_stream(rt.alloc(), &mut stream.as_slice(), &mut written)?;
+        assert_eq!(rt; report.objects, 2);
+        let text = std::str::from_utf8(written.as_slice()).map_err(|_| "text")?;
+        assert!(rt; text.starts_with(expected), "{text}");
+        assert!(rt; text.ends_with("REFUSED;OBJECT=2:66\r\n"), "{text}");
+    }
+    Ok(())
+}

@@ -14,7 +14,10 @@ returns-in_err-read_attendee-clause-stands c = λ m.
 
 pub loop-line-preserved-in_ok-push : goal.loop-line-preserved-in_ok-push
 loop-line-preserved-in_ok-push c =
-    let inv = c.loop-line.invariant.2 in
-    (tt, tt, attendee_pushed (component_lines c.args.component.now) (lines_left c.loop-line.line-iterator) (lines_left c.next.new.self) inv.0 (line_text c.in-Some.line)
-    c.loop-line.attendees.items c.push.new.self.items c.in_ok-read_attendee.field-0 inv.1 c.in-Some.ensures.steps (sym c.if-is_named.ensures) inv.2
-    c.in_ok-push.ensures.items c.in_ok-read_attendee.ensures.reads)
+    let inv = c.loop-line.invariant.2 in (
+      tt,
+      tt,
+      attendee_pushed (component_lines c.args.component.now) (lines_left c.loop-line.line-iterator) (lines_left c.next.new.self) inv.0 (line_text c.in-Some.line)
+          c.loop-line.attendees.items c.push.new.self.items c.in_ok-read_attendee.field-0 inv.1 c.in-Some.ensures.steps (sym c.if-is_named.ensures) inv.2
+          c.in_ok-push.ensures.items c.in_ok-read_attendee.ensures.reads,
+    )
