@@ -5,8 +5,9 @@ use crate::asked::Asked;
 use crate::meeting::{Decided, MeetingKey, Outcome};
 use cal_events::InstanceKey;
 use clash_cert::OwnedKey;
-use ical_values::Address;
+use ical_values::{Address, Stamp};
 use itip_messages::{Conflict, Decision, ReplyEvent, write_reply};
+use itip_order::Slot;
 use std::alloc::{AllocError, Global};
 
 /// The REPLY's octets, None where no part is shown. By now a message has one part at most.
@@ -47,7 +48,9 @@ fn reply_with<'a>(
     asked: &'a Asked,
     decided: &'a Decided,
 ) -> Result<Option<Vec<u8>>, AllocError> {
-    let event = event_of(key, room, asked, decided);
+    let Some(event) = event_of(key, room, asked, decided) else {
+        return Ok(None);
+    };
     let mut octets = Vec::new(alloc);
     write_reply(&[event], &mut octets)?;
     Ok(Some(octets))
@@ -58,28 +61,36 @@ fn event_of<'a>(
     room: &'a Address,
     asked: &'a Asked,
     decided: &'a Decided,
-) -> ReplyEvent<'a> {
-    ReplyEvent {
+) -> Option<ReplyEvent<'a>> {
+    Some(ReplyEvent {
         uid: &key.uid,
-        slot: asked.part.slot,
+        recurrence: recurrence_of(asked.part.slot),
         sequence: asked.part.revision.sequence,
         moment: decided.moment,
         organiser: &key.organiser,
         room,
-        decision: decision_of(&decided.outcome),
+        decision: decision_of(&decided.outcome)?,
+    })
+}
+
+fn recurrence_of(slot: Slot) -> Option<Stamp> {
+    match slot {
+        Slot::Whole => None,
+        Slot::At(instant) => Stamp::of_instant(instant),
     }
 }
 
-fn decision_of(outcome: &Outcome) -> Decision<'_> {
+/// The decision, None where a clash has an instant that no stamp can write.
+fn decision_of(outcome: &Outcome) -> Option<Decision<'_>> {
     match outcome {
-        Outcome::Accepted => Decision::Accepted,
-        Outcome::Limit(LimitKind::Series) => Decision::SeriesLimit,
-        Outcome::Limit(LimitKind::Singles) => Decision::SinglesLimit,
-        Outcome::Declined(clash) => Decision::Busy(Conflict {
-            instant: clash.instant,
-            first: borrowed_key(&clash.first),
-            second: borrowed_key(&clash.second),
-        }),
+        Outcome::Accepted => Some(Decision::Accepted),
+        Outcome::Limit(LimitKind::Series) => Some(Decision::SeriesLimit),
+        Outcome::Limit(LimitKind::Singles) => Some(Decision::SinglesLimit),
+        Outcome::Declined(clash) => {
+            let first = borrowed_key(&clash.first);
+            let second = borrowed_key(&clash.second);
+            Some(Decision::Busy(Conflict::of(clash.instant, first, second)?))
+        }
     }
 }
 
