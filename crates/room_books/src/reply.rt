@@ -1,50 +1,49 @@
-//! The reply to a message: a VEVENT for each of its parts that is to take place and is in the view.
+//! The reply to a message: a VEVENT for its part, where that is to take place and is in the view.
 
 use crate::answer::LimitKind;
-use crate::asked::Asked;
-use crate::meeting::{Decided, MeetingKey, Outcome};
+use crate::meeting::{Decided, Outcome};
+use crate::taking::Taken;
 use cal_events::InstanceKey;
 use clash_cert::OwnedKey;
 use ical_values::Address;
 use itip_messages::{Conflict, Decision, ReplyEvent, write_reply};
+use itip_order::{Freshness, Part};
 use std::alloc::{AllocError, Global};
 
-/// The REPLY's octets, None where no part is shown.
+/// The REPLY's octets, None where the part isn't in the view.
 pub fn reply_to(
     alloc: Global,
-    key: &MeetingKey,
     room: &Address,
-    asked: &[Asked],
-    decided: &[Decided],
+    part: &Part,
+    taken: &Taken,
 ) -> Result<Option<Vec<u8>>, AllocError> {
-    let mut events = Vec::new(alloc);
-    for asked in asked {
-        if asked.is_shown() {
-            if let Some(decided) = decided.iter().find(|decided| decided.slot == asked.part.slot) {
-                events.push(event_of(key, room, asked, decided))?;
-            }
+    match (&taken.meeting.decided, taken.freshness) {
+        (Some(decided), Freshness::Fresh | Freshness::Same) => {
+            Ok(Some(reply_of(alloc, room, part, decided)?))
         }
+        _ => Ok(None),
     }
-    if events.is_empty() {
-        return Ok(None);
-    }
-    let mut octets = Vec::new(alloc);
-    write_reply(events.as_slice(), &mut octets)?;
-    Ok(Some(octets))
 }
 
-fn event_of<'a>(
-    key: &'a MeetingKey,
-    room: &'a Address,
-    asked: &'a Asked,
-    decided: &'a Decided,
-) -> ReplyEvent<'a> {
+/// The REPLY that tells the answer to a part.
+fn reply_of(
+    alloc: Global,
+    room: &Address,
+    part: &Part,
+    decided: &Decided,
+) -> Result<Vec<u8>, AllocError> {
+    let mut octets = Vec::new(alloc);
+    write_reply(&[event_of(room, part, decided)], &mut octets)?;
+    Ok(octets)
+}
+
+fn event_of<'a>(room: &'a Address, part: &'a Part, decided: &'a Decided) -> ReplyEvent<'a> {
     ReplyEvent {
-        uid: &key.uid,
-        slot: asked.part.slot,
-        sequence: asked.part.revision.sequence,
+        uid: &part.uid,
+        slot: part.slot,
+        sequence: part.revision.sequence,
         moment: decided.moment,
-        organiser: &key.organiser,
+        organiser: &part.organiser,
         room,
         decision: decision_of(&decided.outcome),
     }
