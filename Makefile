@@ -25,9 +25,9 @@ try:
 test:
 	$(RT) ci
 
-# Requests for one room: objects per second, peak memory, and the growth from 1,000 to 10,000.
+# One table: serving, reading and checking, with sizes, times, peak memory and growth. LARGE=--large checks 1,000,000.
 bench: bin/roombox
-	python3 bench/requests.py bin/roombox
+	python3 bench/bench.py bin/roombox $(LARGE)
 
 clean:
 	rm -rf bin out crates/*/out

@@ -23,7 +23,7 @@ years_same (suc year) =
     let turn : suc year + 10_000 ≡ suc (year + 10_000) = omega arith in
     rw turn (omega (arith, years_same year, days_of_years-suc (year + 10_000), leap_day-shift (pos year) (year + 10_000) refl, days_in_year-leap_day (pos year)))
 
-months_same : (year months : ℕ) → jiff.days_of_months (pos year) months ≡ days_of_months year months
+pub months_same : (year months : ℕ) → jiff.days_of_months (pos year) months ≡ days_of_months year months
 unfolding days_of_months jiff.days_of_months
 months_same year zero = refl
 months_same year (suc months) = rw (months_same year months) refl

@@ -4,7 +4,7 @@
 //! ends at 9999-12-31: a later day is computed 400 years, which are 146,097 days, earlier.
 #![tactic(auto)]
 
-ghost use Rattle.std.specs.Prelude.{◌≡◌, ◌↔◌, ◌≤ℤ◌, ◌+ℤ◌, pos, negsuc, unsigned_abs, IsSome, IfSome};
+ghost use Rattle.std.specs.Prelude.{ℕ, ◌≡◌, ◌↔◌, ◌≤ℤ◌, ◌+ℤ◌, pos, negsuc, unsigned_abs, IsSome, IfSome};
 ghost use Rattle.profile.specs.Days.{IsDayNumber, IsDayDate, IsDate, number_of_date, number_of_day};
 
 use jiff::civil;
@@ -96,12 +96,21 @@ impl Day {
         ensures number { number_of_day result.year result.month result.day ≡ self }
         ensures early { self ≤ℤ pos 2_932_896 → result.year ≤ℤ pos 9999 }
     {
-        if self.number > JIFF_LAST {
-            return later(date_of(self.number - CYCLE));
+        let Day { number } = self;
+        if number > JIFF_LAST {
+            return later(date_of(number - CYCLE));
         }
-        date_of(self.number)
+        date_of(number)
     }
 }
+
+/// No two dates have one number.
+pub fn one_date()
+    ensures { (year month day late_year late_month late_day : ℕ) → IsDate year month day
+        → IsDate late_year late_month late_day
+        → number_of_date year month day ≡ number_of_date late_year late_month late_day
+        → (year ≡ late_year) × (month ≡ late_month) × (day ≡ late_day) }
+{}
 
 /// The number of a date of the years 1 to 9999.
 fn number_of(year: i32, month: u8, day: u8) -> Option<i64>

@@ -1,16 +1,16 @@
 -- From places that share an instant to instances that clash, and back.
-use Rattle.std.proofs.Common.{◌≡◌, ◌≢◌, ℕ, ◌+◌, ◌<◌, ℤ, pos, ◌≤ℤ◌, ◌<ℤ◌, List, [], ◌∷◌, map, length, get_or, subst, sym, refl, ap, ◌∙◌, inl, inr, arith}
-use Rattle.std.specs.Prelude.{Contains, AllPairs, Option, Some, None, IfSome, IfNone, Result, Ok, Err, IfOk}
+use Rattle.std.proofs.Common.{◌≡◌, ◌≢◌, ℕ, ◌<◌, pos, ◌≤ℤ◌, List, [], ◌∷◌, map, length, get_or, subst, sym, refl, ap, ◌∙◌, inl, inr, arith}
+use Rattle.std.specs.Prelude.{Option, Some, None, IfSome, IfNone, Result, Ok, Err, IfOk}
 use Rattle.std.proofs.lemmas.Bool.{cases_order}
 use Rattle.std.proofs.lemmas.List.{get_or-map, get_or_default, length-map}
 use Rattle.std.proofs.lemmas.Option.{IfSome_then}
-use Rattle.profile.specs.Instances.{Key, Booked, IsClash, IsClear, IsWithin}
+use Rattle.profile.specs.Instances.{Booked, IsClear, IsWithin}
 use Rattle.cal_events.specs.declared.sweep.Span.{Span}
 use Rattle.cal_events.specs.declared.sweep.Overlap.{Overlap}
 use Rattle.cal_events.specs.declared.instance.Booking.{Booking}
 use Rattle.cal_events.specs.Calendars.{booked_of, span_of, HaveDifferentKeys}
 use Rattle.cal_events.specs.Clashes.{Names}
-use Rattle.cal_events.specs.Sweep.{span_at, Share, AreApart, IsOverlap}
+use Rattle.cal_events.specs.Sweep.{span_at, AreApart, IsOverlap}
 
 -- the span of an instance
 abbrev when : Booked → Span

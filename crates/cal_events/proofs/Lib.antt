@@ -1,4 +1,11 @@
+mod EventExamples
+pub mod EventLemmas
+pub mod ReadingLemmas
+pub mod TreeLemmas
+pub mod OneEvent
+pub mod OneCalendar
 pub mod CalendarLemmas
 pub mod ClashLemmas
 pub mod Distinct
 pub mod SweepLemmas
+mod Worked

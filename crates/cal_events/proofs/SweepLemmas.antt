@@ -1,6 +1,6 @@
 -- Why it is enough to compare neighbours.
-use Rattle.std.proofs.Common.{◌≡◌, ◌≢◌, ℕ, zero, suc, ◌+◌, ◌-◌, ◌<◌, ◌≤◌, ℤ, pos, ◌≤ℤ◌, ◌<ℤ◌, Bool, true, false, cond, ◌&&◌, List, [], ◌∷◌, length, get_or, subst, sym, refl, ap, ◌∙◌, arith, add-zero, inl, inr}
-use Rattle.std.specs.Prelude.{int_lt, Contains, All, Option, Some, None, IfSome, IfNone}
+use Rattle.std.proofs.Common.{◌≡◌, ◌≢◌, ℕ, zero, suc, ◌+◌, ◌-◌, ◌<◌, ℤ, ◌≤ℤ◌, ◌<ℤ◌, Bool, true, false, cond, List, [], ◌∷◌, length, get_or, subst, sym, refl, ap, ◌∙◌, arith, add-zero, inl, inr}
+use Rattle.std.specs.Prelude.{Contains, All, Option, Some, None, IfSome, IfNone}
 use Rattle.std.specs.Ordering.{is_lt, int_cmp}
 use Rattle.std.specs.Fn.{Called, ComputesKey}
 use Rattle.std.specs.List.{AllAdjacentBelow}
@@ -10,15 +10,15 @@ use Rattle.std.proofs.lemmas.Int.{ints}
 use Rattle.std.proofs.lemmas.Bool.{cases_order}
 use Rattle.std.proofs.lemmas.List.{get_or_default}
 use Rattle.std.proofs.lemmas.Option.{IfSome_then}
-use Rattle.std.proofs.lemmas.List.Elements.{All-nil, All-cons, All-weaker, All-contains}
-use Rattle.std.proofs.lemmas.List.Sorted.{All-permutation, Contains-permutation, length_permutation}
+use Rattle.std.proofs.lemmas.List.Elements.{All-nil, All-cons, All-weaker}
+use Rattle.std.proofs.lemmas.List.Sorted.{All-permutation, Contains-permutation}
 use denote.Param.Members.{Mut}
 use denote.Ref.{Bor}
 use Rattle.profile.specs.Instances.{horizon, IsWithin}
 use Rattle.cal_events.specs.declared.sweep.Span.{Span}
 use Rattle.cal_events.specs.declared.sweep.Placed.{Placed}
 use Rattle.cal_events.specs.declared.sweep.Overlap.{Overlap}
-use Rattle.cal_events.specs.Sweep.{span_at, Share, AreApart, IsOverlap, holds_instant, placed_from, Rises, EndsBefore, AreNeighbours}
+use Rattle.cal_events.specs.Sweep.{span_at, AreApart, IsOverlap, holds_instant, placed_from, Rises, EndsBefore, AreNeighbours}
 use Rattle.cal_events.proofs.Distinct.{Distinct, distinct_nil, distinct_cons, distinct_permutation}
 
 le_from_not_lt : (a b : ℤ) → is_lt (int_cmp b a) ≡ false → a ≤ℤ b

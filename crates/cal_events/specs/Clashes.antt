@@ -1,5 +1,5 @@
 -- The clash that two places of a list name.
-use Rattle.std.specs.Prelude.{ℕ, List, ◌≡◌, ◌<◌, ◌≤ℤ◌, length, slice_index_or}
+use Rattle.std.specs.Prelude.{List, ◌≡◌, ◌<◌, ◌≤ℤ◌, length, slice_index_or}
 use Rattle.profile.specs.Instances.{Booked, IsClash}
 use Rattle.cal_events.specs.declared.sweep.Overlap.{Overlap}
 

@@ -1,10 +1,22 @@
 -- What the types of a VEVENT that was read stand for.
-use Rattle.std.specs.Prelude.{ℕ, Bool, true, false, List, map, option_map}
+use Rattle.std.specs.Prelude.{ℕ, Bool, true, false, List, map, filter, option_map, codes, Option, Some, None, ◌≡◌, ◌⊎◌, ◌<◌, ◌≤◌, ℤ, pos, negsuc, ◌+ℤ◌, ◌<ℤ◌}
 use Rattle.ical_lines.specs.declared.fault.Fault.{Fault}
 use Rattle.ical_lines.specs.declared.fault.Fault.TheVariants.{Refused, Memory}
 use Rattle.ical_values.specs.Octets.{address_octets, text_octets}
 use Rattle.ical_values.specs.declared.duration.Duration.{Duration}
+use Rattle.std.specs.List.{AllZip}
+use Rattle.cal_events.specs.Calendars.{booked_of}
+use Rattle.cal_events.specs.declared.calendar.Entry.{Entry}
+use Rattle.profile.specs.Instances.{Booked}
 use Rattle.profile.specs.Events as profile
+use Rattle.profile.specs.Events.{StandsAtMostOnce, IsTime, IsLength, IsDate, IsLocal, IsNoStamp, is_date_time, has_value, ends_in_z, length_seconds}
+use Rattle.profile.specs.Lines.{is_same_name}
+use Rattle.ical_tree.specs.Tree.{component_name, component_lines, component_children}
+use Rattle.ical_tree.specs.declared.component.Component.{Component}
+use Rattle.cal_events.specs.declared.component.Extent.{Extent}
+use Rattle.cal_events.specs.declared.component.Extent.TheVariants.{ToEnd, For}
+use Rattle.cal_events.specs.declared.component.TimeKind.{TimeKind}
+use Rattle.cal_events.specs.declared.component.TimeKind.TheVariants.{Date, DateTime, Period, Other}
 use Rattle.cal_events.specs.declared.component.Attendee.{Attendee}
 use Rattle.cal_events.specs.declared.component.EventComponent.{EventComponent}
 use Rattle.cal_events.specs.declared.component.ParticipationStatus.{ParticipationStatus}
@@ -46,3 +58,67 @@ event_of e = record {
 abbrev pub StandsIn : (ℕ → Type 0) → Fault → Type 0
 StandsIn P Memory = Unit {0}
 StandsIn P (Refused r) = P r.number
+
+-- what VALUE tells where the line is of this kind
+abbrev pub IsKind : List ℕ → TimeKind → Type 0
+IsKind line DateTime = is_date_time line ≡ true
+IsKind line Date = is_date_time line ≡ false
+IsKind line Period = has_value (codes "PERIOD") line ≡ true
+IsKind line Other = is_date_time line ≡ false
+
+-- what is wrong with the value of a start or an end that VALUE doesn't call anything else
+pub data DateTimeFault (text : List ℕ) : ℕ → Type 0 where
+  no_stamp : ends_in_z text ≡ true → IsNoStamp text → DateTimeFault text 10
+  not_fixed : IsDate text ⊎ IsLocal text → DateTimeFault text 55
+  no_time : IsNoStamp text → DateTimeFault text 11
+
+-- and that VALUE calls a date
+pub data DateFault (text : List ℕ) : ℕ → Type 0 where
+  date : IsDate text → DateFault text 55
+  ending : ends_in_z text ≡ true → DateFault text 10
+  no_date : DateFault text 11
+
+-- DTEND lies so many seconds from the start, or DURATION is so, or neither stands
+abbrev pub IsExtent : List (List ℕ) → ℤ → Extent → Type 0
+IsExtent lines start (ToEnd seconds) =
+    (line : List ℕ) × StandsAtMostOnce (codes "DTEND") lines (Some line) × StandsAtMostOnce (codes "DURATION") lines None
+    × IsTime line (start +ℤ seconds)
+IsExtent lines start (For duration) =
+    (line : Option (List ℕ)) × StandsAtMostOnce (codes "DTEND") lines None × StandsAtMostOnce (codes "DURATION") lines line
+    × IsLength start None line (length_of duration)
+
+-- the length that an extent gives
+abbrev pub GivesLength : Extent → Duration → Type 0
+GivesLength (ToEnd seconds) length = (length.days ≡ 0) × (seconds ≡ pos length.seconds)
+GivesLength (For duration) length = length ≡ duration
+
+-- what is wrong with an extent: it ends before the start, or lasts longer than 366 days
+pub data ExtentFault : Extent → ℕ → Type 0 where
+  ends_early : (seconds : ℤ) → seconds <ℤ pos 0 → ExtentFault (ToEnd seconds) 50
+  ends_late : (seconds : ℤ) → pos 31_622_400 <ℤ seconds → ExtentFault (ToEnd seconds) 51
+  lasts_long : (duration : Duration) → 31_622_400 < length_seconds (length_of duration) → ExtentFault (For duration) 51
+
+-- and with a start too: before 1969-12-31T00:00:00Z
+pub data TimesFault (start : ℤ) (extent : Extent) : ℕ → Type 0 where
+  in_extent : {n : ℕ} → ExtentFault extent n → TimesFault start extent n
+  starts_early : start <ℤ negsuc 86_399 → TimesFault start extent 52
+
+-- the VEVENTs of an object, each as its lines
+abbrev pub is_vevent : Component → Bool
+is_vevent c = is_same_name (component_name c) (codes "VEVENT")
+
+abbrev pub vevents_of : Component → List (List (List ℕ))
+vevents_of object = map component_lines (filter is_vevent (component_children object))
+
+-- what an entry of a calendar shows: its instance, and whether it is confirmed
+abbrev pub entry_view : Entry → Booked × Bool
+entry_view e = (booked_of e.booking, e.confirmed)
+
+-- what an event enters into a room's calendar
+abbrev pub entry_said : List ℕ → profile.Event → Booked × Bool
+entry_said room event = (profile.booked_by event, profile.is_confirmed room event)
+
+-- the VEVENTs say events, and these are their entries
+abbrev pub AreEntries : List ℕ → List (List (List ℕ)) → List Entry → Type 0
+AreEntries room vevents entries =
+    (events : List profile.Event) × AllZip (profile.SaysEvent false) vevents events × (map entry_view entries ≡ map (entry_said room) events)

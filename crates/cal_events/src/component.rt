@@ -1,12 +1,23 @@
 //! One VEVENT, read: its values, judged one property after another in a fixed order, and then
 //! together (RFC 5545 3.6.1). By now single events with UTC times alone are read.
-ghost use Rattle.std.specs.Prelude.{◌≡◌, IfErr, IsTrue};
+ghost use Rattle.std.specs.Prelude.{ℕ, List, ◌≡◌, ◌≤◌, ◌^◌, ◌++◌, ◌<ℤ◌, length, Bool, Some, map, codes, pos, negsuc, ◌+ℤ◌, ◌≤ℤ◌, option_map, true, IfOk, IfErr, OnOk, IsTrue};
+ghost use Rattle.std.specs.Bool.{OnTrue};
+ghost use Rattle.std.specs.List.{AllZip};
 ghost use Rattle.ical_lines.specs.Fault.{RefusesOnly};
+ghost use Rattle.ical_lines.specs.Text.{line_text};
+ghost use Rattle.ical_tree.specs.Tree.{component_lines};
+ghost use Rattle.ical_values.specs.Octets.{address_octets, text_octets};
 ghost use Rattle.profile.specs.Faults.{is_event_fault};
+ghost use Rattle.profile.specs.Values.{SpellsStamp};
+ghost use Rattle.profile.specs.Events.{Event, answer_named, answer_of, length_seconds, ends_in_z, lines_named, Says, SaysSequence, SaysEvent, IsUidLine, IsAddressLine, IsStampLine, IsAttendee, IsTime, IsDate, IsLocal, IsNoAddress, TimeFault, EventFault};
+ghost use Rattle.cal_events.specs.Events.{is_message, participation_of, attendee_of, length_of, event_of, StandsIn, DateTimeFault, DateFault, IsKind, IsExtent, GivesLength, ExtentFault, TimesFault};
 
 use crate::properties::{optional, required};
 use ical_lines::{Fault, Line, Refusal};
 use ical_tree::Component;
+use ical_values::duration::one_duration;
+use ical_values::sequence::one_sequence;
+use ical_values::stamp::one_stamp;
 use ical_values::{Address, Duration, LocalTime, Sequence, Stamp, Text};
 use std::alloc::Global;
 
@@ -40,7 +51,9 @@ pub enum ParticipationStatus {
 
 impl ParticipationStatus {
     /// The status that a PARTSTAT word names (caseless); NeedsAction where it is missing or unknown.
-    pub fn of(word: Option<&str>) -> ParticipationStatus {
+    pub fn of(word: Option<&str>) -> ParticipationStatus
+        ensures { participation_of result ≡ answer_named (option_map (λ x. x.now) word.entry) }
+    {
         match word {
             Some(word) if word.eq_ignore_ascii_case("ACCEPTED") => ParticipationStatus::Accepted,
             Some(word) if word.eq_ignore_ascii_case("DECLINED") => ParticipationStatus::Declined,
@@ -86,14 +99,16 @@ impl EventComponent {
         component: &Component,
         purpose: Purpose,
     ) -> Result<EventComponent, Fault>
+        ensures says { IfOk result (λ event. SaysEvent (is_message purpose) (component_lines component.now) (event_of event)) }
         ensures refuses { IfErr result (RefusesOnly is_event_fault) }
+        ensures stands { IfErr result (StandsIn (EventFault (is_message purpose) (component_lines component.now))) }
     {
         let uid = read_uid(alloc, component)?;
         let organiser = read_organiser(alloc, component, purpose)?;
         let stamp = read_stamp(component, purpose)?;
         let sequence = read_sequence(component)?;
         let _status = optional(component, "STATUS")?;
-        let start = read_time(required(component, "DTSTART")?)?;
+        let start = read_start(component)?;
         let extent = read_extent(component, start)?;
         let attendees = read_attendees(alloc, component)?;
         let length = judge_times(start, extent)?;
@@ -109,22 +124,41 @@ impl EventComponent {
     }
 
     /// The first second after the event, in seconds from 1970-01-01T00:00:00Z.
-    pub fn end(&self) -> i64 {
+    pub fn end(&self) -> i64
+        ensures { result ≡ self.now.start +ℤ pos (length_seconds (length_of self.now.length)) }
+    {
         self.start.instant().saturating_add(seconds_of(self.length))
     }
 
     /// What the attendee of this address answered, None where none has it.
-    pub fn status_of(&self, address: &Address) -> Option<ParticipationStatus> {
-        let found = self
-            .attendees
-            .iter()
-            .find(|attendee| attendee.address == *address)?;
-        Some(found.status)
+    pub fn status_of(&self, address: &Address) -> Option<ParticipationStatus>
+        ensures { option_map participation_of result ≡ answer_of (address_octets address.now) (event_of self.now) }
+    {
+        for attendee in &self.attendees {
+            if attendee.address == *address {
+                return Some(attendee.status);
+            }
+        }
+        None
     }
 }
 
+/// The lines of a VEVENT say at most one event, and none where a fault stands in them.
+pub fn one_event()
+    ensures one { (in_message : Bool) (lines : List (List ℕ)) (a b : Event)
+        → SaysEvent in_message lines a → SaysEvent in_message lines b → a ≡ b }
+    ensures or_a_fault { (in_message : Bool) (lines : List (List ℕ)) (a : Event) (n : ℕ)
+        → SaysEvent in_message lines a → EventFault in_message lines n → ⊥ }
+{
+    one_stamp();
+    one_duration();
+    one_sequence();
+}
+
 fn read_uid(alloc: Global, component: &Component) -> Result<Text, Fault>
+    ensures reads { IfOk result (λ uid. Says (codes "UID") true IsUidLine (component_lines component.now) (Some (text_octets uid))) }
     ensures refuses { IfErr result (RefusesOnly is_event_fault) }
+    ensures stands { (in_message : Bool) → IfErr result (StandsIn (EventFault in_message (component_lines component.now))) }
 {
     let line = required(component, "UID")?;
     Text::read_uid(alloc, line.value())
@@ -135,32 +169,48 @@ fn read_organiser(
     component: &Component,
     purpose: Purpose,
 ) -> Result<Option<Address>, Fault>
+    ensures reads { IfOk result (λ found. Says (codes "ORGANIZER") (is_message purpose) IsAddressLine (component_lines component.now) (option_map address_octets found)) }
     ensures refuses { IfErr result (RefusesOnly is_event_fault) }
+    ensures stands { IfErr result (StandsIn (EventFault (is_message purpose) (component_lines component.now))) }
 {
-    match optional(component, "ORGANIZER")? {
-        Some(line) => Ok(Some(Address::read(alloc, line.value())?)),
-        None if purpose == Purpose::Request => Err(Fault::Refused(Refusal::NO_ORGANIZER)),
-        None => Ok(None),
+    match (optional(component, "ORGANIZER")?, purpose) {
+        (Some(line), _) => Ok(Some(Address::read(alloc, line.value())?)),
+        (None, Purpose::Request) => Err(Fault::Refused(Refusal::NO_ORGANIZER)),
+        (None, Purpose::Calendar) => Ok(None),
     }
 }
 
 fn read_stamp(component: &Component, purpose: Purpose) -> Result<Option<Stamp>, Refusal>
+    ensures reads { IfOk result (λ found. Says (codes "DTSTAMP") (is_message purpose) IsStampLine (component_lines component.now) found) }
     ensures refuses { IfErr result (λ e. IsTrue (is_event_fault e.number)) }
+    ensures stands { IfErr result (λ e. EventFault (is_message purpose) (component_lines component.now) e.number) }
 {
-    match optional(component, "DTSTAMP")? {
-        Some(line) => Ok(Some(Stamp::read(line.value())?)),
-        None if purpose == Purpose::Request => Err(Refusal::BAD_PROPERTY),
-        None => Ok(None),
+    match (optional(component, "DTSTAMP")?, purpose) {
+        (Some(line), _) => Ok(Some(Stamp::read(line.value())?)),
+        (None, Purpose::Request) => Err(Refusal::BAD_PROPERTY),
+        (None, Purpose::Calendar) => Ok(None),
     }
 }
 
 fn read_sequence(component: &Component) -> Result<Sequence, Refusal>
+    ensures reads { IfOk result (SaysSequence (component_lines component.now)) }
     ensures refuses { IfErr result (λ e. IsTrue (is_event_fault e.number)) }
+    ensures stands { (in_message : Bool) → IfErr result (λ e. EventFault in_message (component_lines component.now) e.number) }
 {
     match optional(component, "SEQUENCE")? {
         Some(line) => Sequence::read(line.value()),
         None => Ok(Sequence::zero()),
     }
+}
+
+/// Refused: 61 where DTSTART is missing or stands twice, and what a time is refused for.
+fn read_start(component: &Component) -> Result<Stamp, Refusal>
+    ensures reads { IfOk result (λ start. Says (codes "DTSTART") true IsTime (component_lines component.now) (Some start)) }
+    ensures refuses { IfErr result (λ e. IsTrue (is_event_fault e.number)) }
+    ensures stands { (in_message : Bool) → IfErr result (λ e. EventFault in_message (component_lines component.now) e.number) }
+{
+    let line = required(component, "DTSTART")?;
+    read_time(line)
 }
 
 /// How long an event is said to last.
@@ -173,16 +223,15 @@ enum Extent {
 }
 
 fn read_extent(component: &Component, start: Stamp) -> Result<Extent, Refusal>
+    ensures reads { IfOk result (IsExtent (component_lines component.now) start) }
     ensures refuses { IfErr result (λ e. IsTrue (is_event_fault e.number)) }
+    ensures stands { (in_message : Bool) → IfErr result (λ e. EventFault in_message (component_lines component.now) e.number) }
 {
     let end = optional(component, "DTEND")?;
     let duration = optional(component, "DURATION")?;
     match (end, duration) {
         (Some(_), Some(_)) => Err(Refusal::BAD_PROPERTY),
-        (Some(line), None) => {
-            let end = read_time(line)?;
-            Ok(Extent::ToEnd(end.instant().saturating_sub(start.instant())))
-        }
+        (Some(line), None) => Ok(Extent::ToEnd(seconds_between(start, read_time(line)?))),
         (None, Some(line)) => Ok(Extent::For(Duration::read(line.value())?)),
         (None, None) => Ok(Extent::For(Duration {
             days: 0,
@@ -191,8 +240,18 @@ fn read_extent(component: &Component, start: Stamp) -> Result<Extent, Refusal>
     }
 }
 
+/// The seconds from one time to another.
+fn seconds_between(start: Stamp, end: Stamp) -> i64
+    ensures { start +ℤ result ≡ end }
+{
+    end.instant() - start.instant()
+}
+
 /// A duration in seconds, days as 86,400: in UTC no day is longer or shorter.
-fn seconds_of(duration: Duration) -> i64 {
+fn seconds_of(duration: Duration) -> i64
+    ensures value { result ≡ pos (length_seconds (length_of duration)) }
+    ensures range { result <ℤ pos (2 ^ 49) }
+{
     i64::from(duration.days) * DAY + i64::from(duration.seconds)
 }
 
@@ -204,7 +263,9 @@ enum TimeKind {
     Other,
 }
 
-fn kind_of(line: Line<'_>) -> TimeKind {
+fn kind_of(line: Line<'_>) -> TimeKind
+    ensures { IsKind (line_text line.entry) result }
+{
     match line.param("VALUE") {
         None => TimeKind::DateTime,
         Some(word) if word.eq_ignore_ascii_case("DATE-TIME") => TimeKind::DateTime,
@@ -218,57 +279,96 @@ fn kind_of(line: Line<'_>) -> TimeKind {
 /// Refused: 10 where the text ends in `Z` and is no UTC date-time, 11 where it is no date-time, 55 where it is a
 /// date or a floating time, 56 where VALUE is PERIOD.
 fn read_time(line: Line<'_>) -> Result<Stamp, Refusal>
+    ensures reads { IfOk result (IsTime (line_text line.entry)) }
     ensures refuses { IfErr result (λ e. IsTrue (is_event_fault e.number)) }
+    ensures stands { IfErr result (λ e. TimeFault (line_text line.entry) e.number) }
 {
     match kind_of(line) {
-        TimeKind::DateTime if line.value().ends_with('Z') => Stamp::read(line.value()),
-        TimeKind::DateTime => Err(refusal_of_local(line.value())),
+        TimeKind::DateTime => read_date_time(line.value()),
         TimeKind::Date => Err(refusal_of_date(line.value())),
         TimeKind::Period => Err(Refusal::LIST_OR_PERIOD),
         TimeKind::Other => Err(Refusal::BAD_DATE_TIME),
     }
 }
 
-fn refusal_of_local(text: &str) -> Refusal
-    ensures refuses { IsTrue (is_event_fault result.number) }
+fn read_date_time(text: &str) -> Result<Stamp, Refusal>
+    ensures reads { IfOk result (SpellsStamp text.now) }
+    ensures refuses { IfErr result (λ e. IsTrue (is_event_fault e.number)) }
+    ensures stands { IfErr result (λ e. DateTimeFault text.now e.number) }
 {
-    if LocalTime::read(text).is_ok() || is_date(text) {
-        Refusal::NOT_FIXED
+    if ends_in_z(text) {
+        Stamp::read(text)
+    } else if is_local(text) || is_date(text) {
+        Err(Refusal::NOT_FIXED)
     } else {
-        Refusal::BAD_DATE_TIME
+        Err(Refusal::BAD_DATE_TIME)
     }
 }
 
 fn refusal_of_date(text: &str) -> Refusal
     ensures refuses { IsTrue (is_event_fault result.number) }
+    ensures stands { DateFault text.now result.number }
 {
     if is_date(text) {
         Refusal::NOT_FIXED
-    } else if text.ends_with('Z') {
+    } else if ends_in_z(text) {
         Refusal::BAD_STAMP
     } else {
         Refusal::BAD_DATE_TIME
     }
 }
 
+fn ends_in_z(text: &str) -> bool
+    ensures { result ≡ ends_in_z text.now }
+{
+    match text.as_bytes().last() {
+        Some(octet) => *octet == b'Z',
+        None => false,
+    }
+}
+
+/// Whether a text is a local time (RFC 5545 3.3.5, form 1).
+fn is_local(text: &str) -> bool
+    ensures { OnTrue result (IsLocal text.now) }
+{
+    LocalTime::read(text).is_ok()
+}
+
 /// Whether a text is a date (RFC 5545 3.3.4): with midnight behind it, it is a local time.
-fn is_date(text: &str) -> bool {
-    let mut midnight = *b"00000000T000000";
-    let Some(date) = midnight.get_mut(..8) else {
-        return false;
-    };
-    if text.len() != date.len() {
+fn is_date(text: &str) -> bool
+    ensures { OnTrue result (IsDate text.now) }
+{
+    let octets = text.as_bytes();
+    if octets.len() != 8 {
         return false;
     }
-    date.copy_from_slice(text.as_bytes());
-    match std::str::from_utf8(&midnight) {
-        Ok(time) => LocalTime::read(time).is_ok(),
+    are_local(&midnight_of(octets))
+}
+
+/// The text of a date's midnight.
+fn midnight_of(date: &[u8]) -> [u8; 15]
+    requires { length date.now ≡ 8 }
+    ensures { result ≡ date.now ++ codes "T000000" }
+{
+    let mut midnight = *b"00000000T000000";
+    midnight[..8].copy_from_slice(date);
+    midnight
+}
+
+/// Whether octets are a local time.
+fn are_local(octets: &[u8]) -> bool
+    ensures { OnTrue result (IsLocal octets.now) }
+{
+    match std::str::from_utf8(octets) {
+        Ok(text) => is_local(text),
         Err(_) => false,
     }
 }
 
 fn read_attendees(alloc: Global, component: &Component) -> Result<Vec<Attendee>, Fault>
+    ensures reads { IfOk result (λ v. AllZip IsAttendee (lines_named (codes "ATTENDEE") (component_lines component.now)) (map attendee_of v.items)) }
     ensures refuses { IfErr result (RefusesOnly is_event_fault) }
+    ensures stands { (in_message : Bool) → IfErr result (StandsIn (EventFault in_message (component_lines component.now))) }
 {
     let mut attendees = Vec::new(alloc);
     for line in component.lines() {
@@ -280,7 +380,9 @@ fn read_attendees(alloc: Global, component: &Component) -> Result<Vec<Attendee>,
 }
 
 fn read_attendee(alloc: Global, line: Line<'_>) -> Result<Attendee, Fault>
+    ensures reads { IfOk result (λ attendee. IsAttendee (line_text line.entry) (attendee_of attendee)) }
     ensures refuses { IfErr result (RefusesOnly is_event_fault) }
+    ensures stands { IfErr result (StandsIn (λ n. (n ≡ 15) × IsNoAddress (line_text line.entry))) }
 {
     let address = Address::read(alloc, line.value())?;
     let status = ParticipationStatus::of(line.param("PARTSTAT"));
@@ -290,22 +392,33 @@ fn read_attendee(alloc: Global, line: Line<'_>) -> Result<Attendee, Fault>
 /// Judges the times of an event together, and gives its length.
 /// Refused: 50 where it ends before it starts, 51 past 366 days, 52 where it starts before 1969-12-31T00:00:00Z.
 fn judge_times(start: Stamp, extent: Extent) -> Result<Duration, Refusal>
+    ensures length { IfOk result (GivesLength extent) }
+    ensures most { IfOk result (λ length. length_seconds (length_of length) ≤ 31_622_400) }
+    ensures from_1970 { OnOk result (negsuc 86_399 ≤ℤ start) }
     ensures refuses { IfErr result (λ e. IsTrue (is_event_fault e.number)) }
+    ensures stands { IfErr result (λ e. TimesFault start extent e.number) }
 {
-    let length = match extent {
-        Extent::ToEnd(seconds) if seconds < 0 => return Err(Refusal::END_BEFORE_START),
-        Extent::ToEnd(seconds) if seconds > LONGEST => return Err(Refusal::LONG_OR_NEGATIVE),
-        Extent::ToEnd(seconds) => Duration {
-            days: 0,
-            seconds: seconds as u32,
-        },
-        Extent::For(duration) => duration,
-    };
-    if seconds_of(length) > LONGEST {
-        return Err(Refusal::LONG_OR_NEGATIVE);
-    }
+    let length = judge_extent(extent)?;
     if start.instant() < FIRST_SECOND {
         return Err(Refusal::OUT_OF_DATES);
     }
     Ok(length)
+}
+
+fn judge_extent(extent: Extent) -> Result<Duration, Refusal>
+    ensures length { IfOk result (GivesLength extent) }
+    ensures most { IfOk result (λ length. length_seconds (length_of length) ≤ 31_622_400) }
+    ensures refuses { IfErr result (λ e. IsTrue (is_event_fault e.number)) }
+    ensures stands { IfErr result (λ e. ExtentFault extent e.number) }
+{
+    match extent {
+        Extent::ToEnd(seconds) if seconds < 0 => Err(Refusal::END_BEFORE_START),
+        Extent::ToEnd(seconds) if seconds > LONGEST => Err(Refusal::LONG_OR_NEGATIVE),
+        Extent::ToEnd(seconds) => Ok(Duration {
+            days: 0,
+            seconds: seconds as u32,
+        }),
+        Extent::For(duration) if seconds_of(duration) > LONGEST => Err(Refusal::LONG_OR_NEGATIVE),
+        Extent::For(duration) => Ok(duration),
+    }
 }

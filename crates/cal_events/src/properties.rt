@@ -1,8 +1,8 @@
 //! The lines of one VEVENT by their property names (RFC 5545 3.6.1, 3.8), and what isn't read yet.
-ghost use Rattle.std.specs.Prelude.{◌≡◌, option_map, IfOk, IfErr};
+ghost use Rattle.std.specs.Prelude.{◌≡◌, ◌⊎◌, Some, option_map, IfOk, IfErr};
 ghost use Rattle.ical_lines.specs.Text.{line_text};
 ghost use Rattle.ical_tree.specs.Tree.{component_lines};
-ghost use Rattle.profile.specs.Events.{lines_named, has_unread, is_unread_line, is_recurrence, is_end_of_event, StandsAtMostOnce, StandsTwice};
+ghost use Rattle.profile.specs.Events.{lines_named, has_unread, is_unread_line, is_recurrence, is_end_of_event, IsMissing, StandsAtMostOnce, StandsTwice};
 
 use ical_lines::{Line, Refusal};
 use ical_tree::Component;
@@ -29,7 +29,9 @@ pub fn optional<'a>(component: &'a Component, name: &str) -> Result<Option<Line<
 /// The line of a property that stands once.
 /// Refused: 61 where it is missing or stands twice.
 pub fn required<'a>(component: &'a Component, name: &str) -> Result<Line<'a>, Refusal>
+    ensures found { IfOk result (λ line. StandsAtMostOnce name.now (component_lines component.now) (Some (line_text line))) }
     ensures refuses { IfErr result (λ e. e.number ≡ 61) }
+    ensures faulty { IfErr result (λ _. IsMissing name.now (component_lines component.now) ⊎ StandsTwice name.now (component_lines component.now)) }
 {
     optional(component, name)?.ok_or(Refusal::BAD_PROPERTY)
 }
@@ -46,14 +48,12 @@ pub fn has_unread_line(component: &Component) -> bool
     false
 }
 
-/// Whether a line isn't read yet: one of a recurrence, a cancelled status, a UID with a backslash, or a start or an
-/// end in a zone.
+/// Whether a line isn't read yet: one of a recurrence, a cancelled status, or a start or an end in a zone.
 fn is_unread(line: Line<'_>) -> bool
     ensures { result ≡ is_unread_line (line_text line.entry) }
 {
     is_recurrence_line(line)
         || (line.is_named("STATUS") && line.value().eq_ignore_ascii_case("CANCELLED"))
-        || (line.is_named("UID") && line.value().as_bytes().contains(&b'\\'))
         || (is_end_line(line) && line.param("TZID").is_some())
 }
 

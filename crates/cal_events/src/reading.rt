@@ -1,10 +1,16 @@
 //! A calendar read from its octets (RFC 5545 3.4), for one room: open limits, METHOD not looked at.
-ghost use Rattle.std.specs.Prelude.{IfErr, IsTrue};
+ghost use Rattle.std.specs.Prelude.{ℕ, List, ◌≡◌, [], true, false, unwrap_or, IfOk, IfErr, OnOk, OnErr, IsTrue};
+ghost use Rattle.std.specs.List.{list_any};
 ghost use Rattle.ical_lines.specs.Fault.{RefusesOnly};
-ghost use Rattle.profile.specs.Faults.{is_calendar_fault, is_unread};
+ghost use Rattle.ical_values.specs.Octets.{address_octets};
+ghost use Rattle.profile.specs.Faults.{is_calendar_fault};
+ghost use Rattle.profile.specs.Instances.{Booked};
+ghost use Rattle.profile.specs.Calendars.{SpellsCalendar, CalendarTextFault};
+ghost use Rattle.profile.specs.Events.{is_confirmed, SaysCalendar, CalendarFault, has_unread};
+ghost use Rattle.cal_events.specs.Events.{event_of, vevents_of, entry_view, entry_said, AreEntries, StandsIn};
 
 use crate::calendar::{Calendar, Entry};
-use crate::component::{EventComponent, ParticipationStatus, Purpose};
+use crate::component::{EventComponent, ParticipationStatus, Purpose, one_event};
 use crate::instance::Booking;
 use crate::properties::has_unread_line;
 use ical_lines::{Fault, Limits, Refusal};
@@ -18,25 +24,43 @@ impl Calendar {
     /// Refused: 1 to 5 and 20 to 24 for the object, 10 to 16, 50 to 52, 55, 56 and 61 for a VEVENT, 53 for two
     /// VEVENTs of one meeting, 99 for what isn't read yet.
     pub fn read(alloc: Global, bytes: &[u8], room: &Address) -> Result<Calendar, Fault>
+        ensures spells { IfOk result (SpellsCalendar (address_octets room.now) bytes.now) }
         ensures refuses { IfErr result (RefusesOnly is_calendar_fault) }
+        ensures stands { IfErr result (StandsIn (CalendarTextFault bytes.now)) }
     {
         let object = read_object(alloc, bytes, Limits::Open)?;
-        refuse_unread_events(&object)?;
-        let mut entries = Vec::new(alloc);
-        for component in object.children() {
-            if component.is_named("VEVENT") {
-                let event = EventComponent::read(alloc, component, Purpose::Calendar)?;
-                entries.push(entry_of(alloc, &event, room)?)?;
-            }
-        }
+        Calendar::of_object(alloc, &object, room)
+    }
+
+    /// The calendar of an object that was read.
+    /// Refused: as by `read`, but for the object.
+    pub fn of_object(alloc: Global, object: &Component, room: &Address) -> Result<Calendar, Fault>
+        ensures says { IfOk result (SaysCalendar (address_octets room.now) (vevents_of object.now)) }
+        ensures refuses { IfErr result (RefusesOnly is_calendar_fault) }
+        ensures stands { IfErr result (StandsIn (CalendarFault (vevents_of object.now))) }
+    {
+        refuse_unread_events(object)?;
+        let entries = entries_of(alloc, object, room)?;
         Calendar::of(alloc, entries)
     }
+}
+
+/// The VEVENTs of a calendar say at most one calendar for a room, and none where a fault stands in them.
+pub fn one_calendar()
+    ensures one { (room : List ℕ) (vevents : List (List (List ℕ))) (a b : List Booked)
+        → SaysCalendar room vevents a → SaysCalendar room vevents b → a ≡ b }
+    ensures or_a_fault { (room : List ℕ) (vevents : List (List (List ℕ))) (a : List Booked) (n : ℕ)
+        → SaysCalendar room vevents a → CalendarFault vevents n → ⊥ }
+{
+    one_event();
 }
 
 /// Refuses an object with a VEVENT that has something that roombox doesn't read yet.
 /// Refused: 99.
 pub fn refuse_unread_events(object: &Component) -> Result<(), Refusal>
-    ensures refuses { IfErr result (λ e. IsTrue (is_unread e.number)) }
+    ensures read { OnOk result (list_any has_unread (vevents_of object.now) ≡ false) }
+    ensures refuses { IfErr result (λ e. e.number ≡ 99) }
+    ensures unread { OnErr result (list_any has_unread (vevents_of object.now) ≡ true) }
 {
     for component in object.children() {
         if component.is_named("VEVENT") && has_unread_line(component) {
@@ -46,9 +70,27 @@ pub fn refuse_unread_events(object: &Component) -> Result<(), Refusal>
     Ok(())
 }
 
+/// What the VEVENTs of an object book, in order.
+fn entries_of(alloc: Global, object: &Component, room: &Address) -> Result<Vec<Entry>, Fault>
+    ensures says { IfOk result (λ entries. AreEntries (address_octets room.now) (vevents_of object.now) entries.items) }
+    ensures refuses { IfErr result (RefusesOnly is_calendar_fault) }
+    ensures stands { IfErr result (StandsIn (CalendarFault (vevents_of object.now))) }
+{
+    let mut entries = Vec::new(alloc);
+    for component in object.children() {
+        if component.is_named("VEVENT") {
+            let event = EventComponent::read(alloc, component, Purpose::Calendar)?;
+            entries.push(entry_of(alloc, &event, room)?)?;
+        }
+    }
+    Ok(entries)
+}
+
 /// What a VEVENT books: its one instance, whose slot is its start, and whether the room has accepted it.
-fn entry_of(alloc: Global, event: &EventComponent, room: &Address) -> Result<Entry, AllocError> {
-    let confirmed = event.status_of(room) == Some(ParticipationStatus::Accepted);
+fn entry_of(alloc: Global, event: &EventComponent, room: &Address) -> Result<Entry, AllocError>
+    ensures { IfOk result (λ entry. entry_view entry ≡ entry_said (address_octets room.now) (event_of event.now)) }
+{
+    let confirmed = has_accepted(event, room);
     let start = event.start.instant();
     let end = event.end();
     let booking = Booking {
@@ -61,8 +103,20 @@ fn entry_of(alloc: Global, event: &EventComponent, room: &Address) -> Result<Ent
     Ok(Entry { booking, confirmed })
 }
 
+/// Whether the attendee of this address has accepted.
+fn has_accepted(event: &EventComponent, room: &Address) -> bool
+    ensures { result ≡ is_confirmed (address_octets room.now) (event_of event.now) }
+{
+    match event.status_of(room) {
+        Some(ParticipationStatus::Accepted) => true,
+        _ => false,
+    }
+}
+
 /// The address of an event's organiser; the empty one where ORGANIZER is missing.
-fn organiser_of(alloc: Global, event: &EventComponent) -> Result<Address, AllocError> {
+fn organiser_of(alloc: Global, event: &EventComponent) -> Result<Address, AllocError>
+    ensures { IfOk result (λ address. address_octets address ≡ unwrap_or (event_of event.now).organiser []) }
+{
     match &event.organiser {
         Some(organiser) => organiser.clone(),
         None => Ok(Address::empty(alloc)),

@@ -1,3 +1,4 @@
 pub mod TextLemmas
 pub mod WrongLines
 pub mod MakingLemmas
+mod Worked

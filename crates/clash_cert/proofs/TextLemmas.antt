@@ -1,5 +1,5 @@
 -- Lines: where they end, and that a text has one way to be cut into lines.
-use Rattle.std.proofs.Common.{◌≡◌, ◌≢◌, ◌==◌, ℕ, zero, suc, ◌+◌, ◌-◌, ◌^◌, ◌<◌, ◌≤◌, Bool, true, false, not, ◌&&◌, cond, List, [], ◌∷◌, ◌++◌, length, get_or, take, drop, subst, sym, refl, ap, ◌∙◌, append_assoc, arith}
+use Rattle.std.proofs.Common.{◌≡◌, ◌≢◌, ◌==◌, ℕ, zero, suc, ◌+◌, ◌-◌, ◌^◌, ◌<◌, Bool, true, false, not, ◌&&◌, List, [], ◌∷◌, ◌++◌, length, get_or, take, drop, subst, sym, refl, ap, ◌∙◌, append_assoc, arith}
 use Rattle.std.specs.Prelude.{Option, Some, None, MatchOption, position, decimal, codes}
 use Rattle.std.specs.Prelude.{Result, Ok, Err, ltb}
 use Rattle.std.specs.List.{position_or_len}
@@ -17,7 +17,7 @@ use Rattle.std.proofs.Math.Seq.{drop-cons}
 use Rattle.std.proofs.lemmas.Slice.Eq.{bytes_eq-Decides}
 use Rattle.std.proofs.lemmas.List.Quantifiers.{position-Some}
 use denote.Ref.{Bor}
-use Rattle.profile.specs.Certificates.{Claims, IsClaims, lines_of, spelled, text_of, Spells, BeginsWell, FirstWrong}
+use Rattle.profile.specs.Certificates.{Claims, IsClaims, lines_of, spelled}
 use Rattle.clash_cert.specs.Texts.{Lacks, LacksLine, LacksCount, LacksLf, IsCutAtLf, IsNoNumber}
 
 pub cancel : (a x y : List ℕ) → a ++ x ≡ a ++ y → x ≡ y

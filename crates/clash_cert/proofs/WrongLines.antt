@@ -1,9 +1,9 @@
 -- Which line is the first wrong one.
-use Rattle.std.proofs.Common.{◌≡◌, ◌≢◌, ℕ, zero, suc, ◌+◌, ◌-◌, ◌^◌, ◌<◌, ◌≤◌, ◌==◌, Bool, true, false, List, [], ◌∷◌, ◌++◌, length, get_or, take, drop, subst, sym, refl, ap, ◌∙◌, arith}
+use Rattle.std.proofs.Common.{◌≡◌, ◌≢◌, ℕ, zero, suc, ◌-◌, ◌^◌, ◌<◌, ◌≤◌, ◌==◌, Bool, true, false, List, [], ◌∷◌, ◌++◌, length, get_or, take, drop, subst, sym, refl, ap, ◌∙◌, inl, inr, arith}
 use Rattle.std.specs.Prelude.{codes, decimal}
-use Rattle.std.proofs.lemmas.Bool.{true≢false, eqb-true}
+use Rattle.std.proofs.lemmas.Bool.{cases_order, true≢false, eqb-true}
 use Rattle.std.proofs.lemmas.List.{length-take-le}
-use Rattle.profile.specs.Certificates.{Claims, IsClaims, lines_of, spelled, text_of, Spells, BeginsWell, FirstWrong}
+use Rattle.profile.specs.Certificates.{Claims, IsClaims, lines_of, spelled, Spells, BeginsWell, FirstWrong}
 use Rattle.clash_cert.specs.Texts.{LacksLine, LacksCount}
 use Rattle.clash_cert.proofs.TextLemmas.{AreLines, AreLines-take, lines_are, one_rest, one_cut, one_line, cancel, decimal_once, spelled-take, spelled-take_suc}
 
@@ -117,3 +117,33 @@ one_content text c d h k =
     let second : codes "SINGLES " ++ decimal d.singles ≡ codes "SINGLES " ++ decimal c.singles = ap (λ (ls : List (List ℕ)). get_or ls 1 []) lines in
     let digits : decimal d.singles ≡ decimal c.singles = cancel (codes "SINGLES ") (decimal d.singles) (decimal c.singles) second in
     ap (λ (n : ℕ). record { singles = n }) (decimal_once d.singles c.singles k.claims h.claims digits)
+
+take-take-le : (j k : ℕ) (ls : List (List ℕ)) → j ≤ k → take j (take k ls) ≡ take j ls
+take-take-le zero k ls le = refl
+take-take-le (suc j) zero ls le = absurd (omega arith)
+take-take-le (suc j) (suc k) [] le = refl
+take-take-le (suc j) (suc k) (l ∷ ls) le = ap (λ (ms : List (List ℕ)). l ∷ ms) (take-take-le j k ls (omega arith))
+
+-- a text that begins with k lines begins with each fewer
+begins_less : (text : List ℕ) (j k : ℕ) → j ≤ k → BeginsWell text k → BeginsWell text j
+begins_less text j k le b =
+    let w : j ≤ length (lines_of b.c) = omega (arith, b.within) in
+    let fewer : take j (take k (lines_of b.c)) ≡ take j (lines_of b.c) = take-take-le j k (lines_of b.c) le in
+    record {
+      c = b.c;
+      rest = spelled (drop j (take k (lines_of b.c))) b.rest;
+      claims = b.claims;
+      within = w;
+      is = b.is ∙ spelled-take j (take k (lines_of b.c)) b.rest ∙ ap (λ (ls : List (List ℕ)). spelled ls (spelled (drop j (take k (lines_of b.c))) b.rest)) fewer;
+    }
+
+-- two first wrong lines are one
+pub one_wrong_line : (text : List ℕ) (m n : ℕ) → FirstWrong text m → FirstWrong text n → m ≡ n
+one_wrong_line text m n h k =
+    elim (cases_order m n) [
+      | inl e ↦ e
+      | inr w ↦ elim w [
+        | inl lt ↦ absurd (h.here (begins_less text m (n - 1) (omega arith) k.before))
+        | inr lt ↦ absurd (k.here (begins_less text n (m - 1) (omega arith) h.before))
+      ]
+    ]

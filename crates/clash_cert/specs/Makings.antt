@@ -1,5 +1,5 @@
 -- What making gives, and which clash a `Clash` names.
-use Rattle.std.specs.Prelude.{ℕ, ℤ, List, MatchBool, ◌≡◌, ◌≤ℤ◌, slice_index_or}
+use Rattle.std.specs.Prelude.{ℤ, List, MatchBool, ◌≡◌, slice_index_or}
 use Rattle.std.specs.Ordering.{is_lt}
 use Rattle.std.specs.declared.cmp.Ordering.TheVariants.{Less}
 use Rattle.profile.specs.Instances.{Key, Booked, IsClash, booked_cmp}
@@ -41,6 +41,11 @@ pub record IsNamedClash (all : List Booked) (clash : Clash) : Type 0 where
 abbrev pub IsMadeFor : List Booked → Made → Type 0
 IsMadeFor all (made.Clear c) = CertificateStands all (text_of c)
 IsMadeFor all (made.Clash clash) = IsNamedClash all clash
+
+-- a certificate was made, and no clash found
+abbrev pub IsCertificate : Made → Type 0
+IsCertificate (made.Clear c) = Unit {0}
+IsCertificate (made.Clash clash) = ⊥
 
 -- it names the two, the lesser first
 abbrev pub AreNamed : Booked → Booked → ℤ → Clash → Type 0

@@ -1,5 +1,5 @@
 -- What the steps of the reader say.
-use Rattle.std.specs.Prelude.{ℕ, List, [], ◌∷◌, ◌++◌, ◌^◌, ◌<◌, ◌≡◌, ◌≢◌, ◌==◌, Some, None, length, position, decimal}
+use Rattle.std.specs.Prelude.{ℕ, List, ◌∷◌, ◌++◌, ◌^◌, ◌<◌, ◌≡◌, ◌≢◌, ◌==◌, Some, None, length, position, decimal}
 use Rattle.profile.specs.Certificates.{FirstWrong}
 use Rattle.clash_cert.specs.declared.certificate.CertFault.{CertFault}
 use Rattle.clash_cert.specs.declared.certificate.CertFault.TheVariants.{Line, Memory}

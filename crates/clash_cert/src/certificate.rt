@@ -1,7 +1,7 @@
 //! The text of a certificate: lines ended by LF, `ROOMCERT 1`, `SINGLES k`, `SERIES n`, `DONE`,
 //! and nothing after. Numbers are decimal, of 64 bits, without leading zeros. By now `n` is 0.
-ghost use Rattle.std.specs.Prelude.{ℕ, ◌≡◌, ◌^◌, ◌<◌, ◌∷◌, ◌++◌, take, length, decimal, position, ◌==◌, IfOk, IfErr, OnOk, OnErr, MatchOption};
-ghost use Rattle.profile.specs.Certificates.{Claims, Spells, text_of};
+ghost use Rattle.std.specs.Prelude.{ℕ, List, ◌≡◌, ◌^◌, ◌<◌, ◌∷◌, ◌++◌, take, length, decimal, position, ◌==◌, IfOk, IfErr, OnOk, OnErr, MatchOption};
+ghost use Rattle.profile.specs.Certificates.{Claims, FirstWrong, Spells, text_of};
 ghost use Rattle.clash_cert.specs.Texts.{IsCertFault, Lacks, LacksLine, LacksCount, LacksLf, IsCutAtLf, IsNoNumber};
 
 use itoa::Buffer;
@@ -99,6 +99,11 @@ impl Certificate {
     }
 }
 
+/// A text has one first wrong line at most: the line that a fault names is the only one.
+pub fn first_wrong_line_is_one()
+    ensures { (text : List ℕ) (m n : ℕ) → FirstWrong text m → FirstWrong text n → m ≡ n }
+{}
+
 /// What follows these octets, if the text begins with them.
 fn after<'a>(bytes: &'a [u8], front: &[u8]) -> Option<&'a [u8]>
     ensures { MatchOption result (Lacks front.now bytes.now) (λ rest. bytes.now ≡ front.now ++ rest.now) }
@@ -191,14 +196,13 @@ mod tests {
         }
     }
 
+    const GREATEST: &str = "ROOMCERT 1\nSINGLES 18446744073709551615\nSERIES 0\nDONE\n";
+
     #[test]
     fn the_first_wrong_line_is_named(rt: HostRuntime) -> Result<(), CertFault> {
         let rows = [
             ("ROOMCERT 1\nSINGLES 1\nSERIES 0\nDONE\n", 0),
-            (
-                "ROOMCERT 1\nSINGLES 18446744073709551615\nSERIES 0\nDONE\n",
-                0,
-            ),
+            (GREATEST, 0),
             ("", 1),
             ("ROOMCERT 2\nSINGLES 1\nSERIES 0\nDONE\n", 1),
             ("ROOMCERT 1\nSINGLES 01\nSERIES 0\nDONE\n", 2),

@@ -1,9 +1,9 @@
 //! Making: a certificate where the confirmed instances are clear, else a clash.
-ghost use Rattle.std.specs.Prelude.{◌≡◌, ◌<◌, map, length, IfOk};
+ghost use Rattle.std.specs.Prelude.{◌≡◌, ◌<◌, ◌↔◌, map, length, IfOk};
 ghost use Rattle.std.specs.Ordering.{is_lt};
-ghost use Rattle.profile.specs.Instances.{booked_cmp};
+ghost use Rattle.profile.specs.Instances.{IsClear, booked_cmp};
 ghost use Rattle.cal_events.specs.Calendars.{booked_of, instance_of};
-ghost use Rattle.clash_cert.specs.Makings.{key_of, IsMadeFor, AreNamed, AreNamedAt, HasKeys};
+ghost use Rattle.clash_cert.specs.Makings.{key_of, IsCertificate, IsMadeFor, AreNamed, AreNamedAt, HasKeys};
 
 use crate::certificate::Certificate;
 use cal_events::{Booking, Calendar, Instance, Overlap};
@@ -39,7 +39,8 @@ pub enum Made {
 /// A certificate that stands where the confirmed instances are clear, else a clash. Fails only
 /// for memory.
 pub fn make(alloc: Global, calendar: &Calendar) -> Result<Made, AllocError>
-    ensures { IfOk result (IsMadeFor calendar.now) }
+    ensures made { IfOk result (IsMadeFor calendar.now) }
+    ensures clear { IfOk result (λ made. IsCertificate made ↔ IsClear calendar.now) }
 {
     let Some(overlap) = calendar.first_overlap(alloc)? else {
         return Ok(Made::Clear(Certificate::of(calendar.single_count())));

@@ -1,14 +1,13 @@
 -- A clash of two instances is found by their keys.
-use Rattle.std.proofs.Common.{◌≡◌, ◌≢◌, ℕ, ◌<◌, ℤ, Bool, true, false, List, [], ◌∷◌, map, length, get_or, subst, sym, refl, ap, ◌∙◌, inl, inr, arith}
+use Rattle.std.proofs.Common.{◌≡◌, ◌<◌, ℤ, Bool, false, List, [], ◌∷◌, map, length, get_or, subst, sym, refl, ap, ◌∙◌, inl, inr, arith}
 use Rattle.std.specs.Prelude.{Contains, ◌↔◌, IsTrue}
 use Rattle.std.proofs.lemmas.Bool.{cases_order, true≢false}
 use Rattle.std.proofs.lemmas.List.{get_or-map, get_or_default, length-map}
-use Rattle.profile.specs.Instances.{Key, Booked, IsClash}
+use Rattle.profile.specs.Instances.{Booked}
 use Rattle.cal_events.specs.declared.instance.Booking.{Booking}
 use Rattle.cal_events.specs.Calendars.{booked_of, HaveDifferentKeys}
-use Rattle.clash_cert.specs.declared.making.OwnedKey.{OwnedKey}
 use Rattle.clash_cert.specs.declared.making.Clash.{Clash}
-use Rattle.clash_cert.specs.Makings.{key_of, IsClashIn}
+use Rattle.clash_cert.specs.Makings.{IsClashIn}
 use Rattle.clash_check.specs.Verdicts.{HasThatKey, Share}
 
 contains_map : (bs : List Booking) (b : Booking) → Contains bs b → Contains (map booked_of bs) (booked_of b)

@@ -1,5 +1,5 @@
 -- A verdict is yes exactly where the certificate stands.
-use Rattle.std.proofs.Common.{◌≡◌, ◌≢◌, ℕ, List, ◌⊎◌, length, subst, sym, refl, ap, ◌∙◌, inl, inr}
+use Rattle.std.proofs.Common.{◌≡◌, ℕ, List, ◌⊎◌, sym, refl, ap, ◌∙◌, inl, inr}
 use Rattle.std.specs.Prelude.{◌↔◌, Result, Ok, Err, IfOk}
 use Rattle.profile.specs.Instances.{Booked}
 use Rattle.profile.specs.Certificates.{Claims, Spells, FirstWrong, CertificateStands, IsWrongText, IsWrongCount, HasClashes}

@@ -1,11 +1,13 @@
 //! Checking: a certificate's text against a calendar, and a clash against a calendar.
 ghost use Rattle.std.specs.Prelude.{ℕ, List, ◌≡◌, ◌<ℤ◌, ◌≤ℤ◌, ◌↔◌, ◌⊎◌, map, IsTrue, IfOk, IfNone, IfSome, Contains};
 ghost use Rattle.profile.specs.Instances.{Booked, IsClear, IsWithin};
+ghost use Rattle.profile.specs.Calendars.{CertificateHolds};
 ghost use Rattle.profile.specs.Certificates.{CertificateStands, Spells};
+ghost use Rattle.ical_values.specs.Octets.{address_octets};
 ghost use Rattle.cal_events.specs.Calendars.{booked_of};
 ghost use Rattle.clash_cert.specs.Makings.{key_of, IsClashIn};
 ghost use Rattle.cal_events.specs.declared.instance.Booking.{Booking};
-ghost use Rattle.clash_check.specs.Verdicts.{IsVerdict, MakesFew, IsNo, IsRefusedCalendar, IsForSome, HasThatKey, Share};
+ghost use Rattle.clash_check.specs.Verdicts.{IsVerdict, MakesFew, IsNo, IsRefusedCalendar, IsJudgement, HasThatKey, Share};
 
 use crate::verdict::{Checked, Verdict, Why};
 use cal_events::{Booking, Calendar, HORIZON};
@@ -22,8 +24,11 @@ pub fn check(
     certificate: &[u8],
     room: &Address,
 ) -> Result<Checked, AllocError>
-    // The calendar is refused, or this is the judgement of its instances.
-    ensures { IfOk result (λ checked. IsRefusedCalendar checked ⊎ IsForSome certificate.now checked) }
+    // A yes means that the certificate holds for what the calendar's octets spell.
+    ensures yes { IfOk result (λ checked. checked.verdict ≡ Verdict.Yes → CertificateHolds (address_octets room.now) calendar.now certificate.now) }
+    // The calendar is refused, or this is the judgement of its confirmed instances.
+    ensures judged { IfOk result (λ checked. IsRefusedCalendar calendar.now checked
+        ⊎ IsJudgement (address_octets room.now) calendar.now certificate.now checked) }
 {
     match Calendar::read(alloc, calendar, room) {
         Ok(calendar) => judge_read(alloc, &calendar, certificate),
@@ -202,6 +207,29 @@ mod tests {
         )?;
         let checked = judge_read(rt.alloc(), &apart, TWO.as_bytes())?;
         assert_eq!(rt; number_of(checked), (0u8, 0u64, 0u64, 2u64));
+        Ok(())
+    }
+
+    const BOOKED: &str =
+        "BEGIN:VCALENDAR\r\nVERSION:2.0\r\nPRODID:-//iTIP room box//EN\r\nBEGIN:VEVENT\r\nUID:a\r\nSEQUENCE:0\r\nDTSTAMP:20250101T000000Z\r\nDTSTART:20250310T090000Z\r\nDURATION:PT3600S\r\nORGANIZER:mailto:ann@example.com\r\nATTENDEE;PARTSTAT=ACCEPTED:mailto:r1@example.com\r\nEND:VEVENT\r\nEND:VCALENDAR\r\n";
+
+    const NONE: &str = "ROOMCERT 1\nSINGLES 0\nSERIES 0\nDONE\n";
+
+    #[test]
+    fn a_kept_calendar_has_its_certificate(rt: HostRuntime) -> Result<(), Fault> {
+        let room = Address::read(rt.alloc(), "mailto:r1@example.com")?;
+        let other = Address::read(rt.alloc(), "mailto:r2@example.com")?;
+        let rows = [
+            (BOOKED, ONE, &room, (0u8, 0u64, 0u64, 1u64)),
+            (BOOKED, NONE, &room, (82, 0, 0, 0)),
+            (BOOKED, NONE, &other, (0, 0, 0, 0)),
+            ("BEGIN:VCALENDAR\r\n", ONE, &room, (80, 0, 0, 0)),
+            ("BEGIN:VCALENDAR\r\n", "", &room, (80, 0, 0, 0)),
+        ];
+        for (calendar, text, address, wanted) in rows {
+            let checked = check(rt.alloc(), calendar.as_bytes(), text.as_bytes(), address)?;
+            assert_eq!(rt; number_of(checked), wanted, "{text}");
+        }
         Ok(())
     }
 

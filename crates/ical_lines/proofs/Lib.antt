@@ -1,4 +1,7 @@
+mod Samples
+pub mod BegunLemmas
 pub mod BreakLemmas
+pub mod CutLemmas
 pub mod FoldLemmas
 pub mod PieceLemmas
 pub mod QuoteLemmas

@@ -1,4 +1,5 @@
 pub mod Breaks
+pub mod Cut
 pub mod Fault
 pub mod Limits
 pub mod Pieces

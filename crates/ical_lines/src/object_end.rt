@@ -1,11 +1,26 @@
 //! The cut of a stream into objects (RFC 5545 3.4; where an object ends is this profile's choice).
 //! An object ends with the first unfolded line that is caselessly `END:VCALENDAR`, its line break included, or with
 //! the input. A line may still be continued after its line break, so one octet more has to be seen.
+ghost use Rattle.std.specs.Prelude.{◌≡◌, ◌≤◌, [], length, drop, MatchOption, is_some, if◌then◌else◌};
+ghost use Rattle.profile.specs.Objects.{after_object, is_begun};
+ghost use Rattle.ical_lines.specs.Cut.{
+  added,
+  after_break,
+  after_line,
+  after_mark,
+  after_return,
+  at_place,
+  at_start,
+  ends_before,
+  fresh,
+  is_blank,
+  is_whole,
+  next_seen,
+  step,
+};
 
-use crate::unfold::MARK;
-
-/// The line that ends an object, in upper case.
-const LAST_LINE: [u8; 13] = *b"END:VCALENDAR";
+/// The line that ends an object, in lower case.
+const LAST_LINE: [u8; 13] = *b"end:vcalendar";
 
 /// The number of octets of the line that ends an object.
 const LAST_LENGTH: u8 = 13;
@@ -24,7 +39,7 @@ enum Seen {
 enum Place {
     /// So many octets of a byte order mark were seen, and nothing else.
     Mark(u8),
-    /// Inside a physical line, or at the start of the first.
+    /// Inside a physical line.
     Line,
     /// After a CR, which is part of the line unless an LF or the end of the input follows.
     Return,
@@ -47,7 +62,9 @@ pub struct Cutter {
 
 impl Cutter {
     /// At the start of an object, before its first octet.
-    pub fn new() -> Cutter {
+    pub fn new() -> Cutter
+        ensures { result ≡ fresh }
+    {
         Cutter {
             place: Place::Mark(0),
             seen: Seen::First(0),
@@ -56,96 +73,172 @@ impl Cutter {
     }
 
     /// Takes the next octet, and tells whether the object ended before it.
-    /// After true the cutter is spent: a new one is made for the next object.
-    pub fn feed(&mut self, octet: u8) -> bool {
-        match self.place {
-            Place::Mark(count) => self.feed_mark(count, octet),
-            Place::Line => self.feed_line(octet),
-            Place::Return => self.feed_return(octet),
-            Place::Break => return self.feed_break(octet),
+    /// After true the cutter is as it was: a new one is made for the next object.
+    pub fn feed(&mut self, octet: u8) -> bool
+        ensures ended { result ≡ ends_before self.old octet }
+        ensures after { self.new ≡ (if ends_before self.old octet then self.old else step self.old octet) }
+    {
+        let ended = self.ends_before(octet);
+        if !ended {
+            *self = self.step(octet);
         }
-        false
+        ended
     }
 
     /// Whether the octets so far hold more than empty lines. A byte order mark is more.
-    pub fn has_begun(&self) -> bool {
+    pub fn has_begun(&self) -> bool
+        ensures { result ≡ self.now.begun }
+    {
         self.begun
     }
 
-    /// An octet after so many of a byte order mark.
-    fn feed_mark(&mut self, count: u8, octet: u8) {
-        if count == 0 && octet == MARK[0] {
-            self.add(octet);
-            self.place = Place::Mark(1);
-        } else if count == 1 && octet == MARK[1] {
-            self.add(octet);
-            self.place = Place::Mark(2);
-        } else if count == 2 && octet == MARK[2] {
-            self.seen = Seen::First(0);
-            self.place = Place::Line;
+    /// Whether the object ended before this octet.
+    fn ends_before(&self, octet: u8) -> bool
+        ensures { result ≡ ends_before self.now octet }
+    {
+        match self.place {
+            Place::Break => !is_blank(octet) && is_whole(self.seen),
+            _ => false,
+        }
+    }
+
+    /// The cutter after one octet more.
+    fn step(&self, octet: u8) -> Cutter
+        ensures { result ≡ step self.now octet }
+    {
+        match self.place {
+            Place::Mark(count) => self.after_mark(count, octet),
+            Place::Line => self.after_line(octet),
+            Place::Return => self.after_return(octet),
+            Place::Break => self.after_break(octet),
+        }
+    }
+
+    /// After an octet that follows so many of a byte order mark.
+    fn after_mark(&self, count: u8, octet: u8) -> Cutter
+        ensures { result ≡ after_mark count self.now octet }
+    {
+        if count == 0 && octet == 0xEF {
+            self.added(octet).at(Place::Mark(1))
+        } else if count == 1 && octet == 0xBB {
+            self.added(octet).at(Place::Mark(2))
+        } else if count == 2 && octet == 0xBF {
+            self.at_start().at(Place::Line)
         } else {
-            self.feed_line(octet);
+            self.after_line(octet)
         }
     }
 
-    /// An octet inside a physical line.
-    fn feed_line(&mut self, octet: u8) {
-        match octet {
-            b'\n' => self.place = Place::Break,
-            b'\r' => self.place = Place::Return,
-            _ => {
-                self.place = Place::Line;
-                self.add(octet);
-            }
+    /// After an octet inside a physical line.
+    fn after_line(&self, octet: u8) -> Cutter
+        ensures { result ≡ after_line self.now octet }
+    {
+        if octet == b'\n' {
+            self.at(Place::Break)
+        } else if octet == b'\r' {
+            self.at(Place::Return)
+        } else {
+            self.added(octet).at(Place::Line)
         }
     }
 
-    /// An octet after a CR.
-    fn feed_return(&mut self, octet: u8) {
-        if octet != b'\n' {
-            self.add(b'\r');
+    /// After an octet that follows a CR.
+    fn after_return(&self, octet: u8) -> Cutter
+        ensures { result ≡ after_return self.now octet }
+    {
+        if octet == b'\n' {
+            self.after_line(octet)
+        } else {
+            self.added(b'\r').after_line(octet)
         }
-        self.feed_line(octet);
     }
 
-    /// An octet after an LF: it continues the line, or the line has ended.
-    fn feed_break(&mut self, octet: u8) -> bool {
-        if octet == b' ' || octet == b'\t' {
-            self.place = Place::Line;
-            return false;
+    /// After an octet that follows an LF: it continues the line, or begins another.
+    fn after_break(&self, octet: u8) -> Cutter
+        ensures { result ≡ after_break self.now octet }
+    {
+        if is_blank(octet) {
+            self.at(Place::Line)
+        } else {
+            self.at_start().after_line(octet)
         }
-        if self.seen == Seen::First(LAST_LENGTH) {
-            return true;
-        }
-        self.seen = Seen::First(0);
-        self.feed_line(octet);
-        false
     }
 
-    /// Adds an octet to the logical line that has begun.
-    fn add(&mut self, octet: u8) {
-        self.begun = true;
-        self.seen = next_seen(self.seen, octet);
+    /// With one octet more in the logical line that has begun.
+    fn added(&self, octet: u8) -> Cutter
+        ensures { result ≡ added self.now octet }
+    {
+        Cutter {
+            place: self.place,
+            seen: next_seen(self.seen, octet),
+            begun: true,
+        }
+    }
+
+    /// The same at another place.
+    fn at(&self, place: Place) -> Cutter
+        ensures { result ≡ at_place place self.now }
+    {
+        Cutter {
+            place,
+            seen: self.seen,
+            begun: self.begun,
+        }
+    }
+
+    /// At the start of a logical line.
+    fn at_start(&self) -> Cutter
+        ensures { result ≡ at_start self.now }
+    {
+        Cutter {
+            place: self.place,
+            seen: Seen::First(0),
+            begun: self.begun,
+        }
     }
 }
 
 /// How much is seen of `END:VCALENDAR` with one octet more.
-fn next_seen(seen: Seen, octet: u8) -> Seen {
+fn next_seen(seen: Seen, octet: u8) -> Seen
+    ensures { result ≡ next_seen seen octet }
+{
     match seen {
-        Seen::First(count) if count < LAST_LENGTH => {
-            if octet.to_ascii_uppercase() == LAST_LINE[count as usize] {
+        Seen::First(count) => {
+            if count < LAST_LENGTH && octet.to_ascii_lowercase() == LAST_LINE[count as usize] {
                 Seen::First(count + 1)
             } else {
                 Seen::Other
             }
         }
-        _ => Seen::Other,
+        Seen::Other => Seen::Other,
     }
+}
+
+/// Whether the line is all of `END:VCALENDAR`.
+fn is_whole(seen: Seen) -> bool
+    ensures { result ≡ is_whole seen }
+{
+    match seen {
+        Seen::First(count) => count == LAST_LENGTH,
+        Seen::Other => false,
+    }
+}
+
+/// Whether an octet continues a line at the start of a physical line.
+fn is_blank(octet: u8) -> bool
+    ensures { result ≡ is_blank octet }
+{
+    octet == b' ' || octet == b'\t'
 }
 
 /// How many octets the first object has, its last line break included.
 /// None where only empty lines are left. It takes no memory.
-pub fn cut(bytes: &[u8]) -> Option<usize> {
+pub fn cut(bytes: &[u8]) -> Option<usize>
+    ensures rest { MatchOption result
+        (after_object bytes.now ≡ [])
+        (λ n. (n ≤ length bytes.now) × (drop n bytes.now ≡ after_object bytes.now)) }
+    ensures begun { is_some result ≡ is_begun bytes.now }
+{
     let mut cutter = Cutter::new();
     for (place, octet) in bytes.iter().enumerate() {
         if cutter.feed(*octet) {

@@ -1,7 +1,12 @@
 -- What callers see of a component.
-use Rattle.std.specs.Prelude.{ℕ, List}
+use Rattle.std.specs.Prelude.{ℕ, Bool, List, [], ◌∷◌, ◌++◌, codes}
+use Rattle.std.specs.List.{flat_map}
 use Rattle.std.specs.String.{string_bytes}
+use Rattle.profile.specs.Lines.{folded}
+use Rattle.profile.specs.Objects.{IsObject}
 use Rattle.ical_tree.specs.declared.component.Component.{Component, out-Component}
+use Rattle.ical_tree.specs.declared.component.Component.TheOpen.{Component-F}
+use Rattle.ical_tree.specs.declared.component.Component.TheFolds.{fold-Component}
 
 -- the name, as BEGIN has it
 abbrev pub component_name : Component → List ℕ
@@ -14,3 +19,20 @@ component_lines c = (out-Component c).lines
 -- the components directly inside
 abbrev pub component_children : Component → List Component
 component_children c = (out-Component c).children.items
+
+-- the lines spell this component as one object
+abbrev pub IsObjectOf : Bool → Component → List (List ℕ) → Type 0
+IsObjectOf bounded c lines = IsObject component_name component_lines component_children bounded c lines
+
+-- the lines that one level is written with, given those of each component inside
+abbrev pub written_step : Component-F (List (List ℕ)) → List (List ℕ)
+written_step c =
+    (codes "BEGIN" ++ 58 ∷ string_bytes c.name) ∷ (c.lines ++ flat_map (λ part. part) c.children.items ++ (codes "END" ++ 58 ∷ string_bytes c.name) ∷ [])
+
+-- the lines that a component is written with: its BEGIN, its own lines, the components inside, its END
+abbrev pub written_lines : Component → List (List ℕ)
+written_lines = fold-Component (List (List ℕ)) written_step
+
+-- the octets that a component is written with
+abbrev pub written : Component → List ℕ
+written c = flat_map folded (written_lines c)

@@ -1,8 +1,36 @@
 //! Reading an object: BEGIN and END pair up, and everything stands in one VCALENDAR (RFC 5545 3.4, 3.6).
-
-ghost use Rattle.std.specs.Prelude.{◌≡◌, ◌||◌, ◌==◌, IfErr, IsTrue};
-ghost use Rattle.profile.specs.Faults.{is_object_fault, is_between};
+ghost use Rattle.std.specs.Prelude.{
+  ◌≡◌,
+  ◌++◌,
+  ◌∷◌,
+  ◌&&◌,
+  ◌||◌,
+  ◌==◌,
+  [],
+  not,
+  drop,
+  is_some,
+  None,
+  ℕ,
+  List,
+  codes,
+  reverse,
+  nat_lt,
+  true,
+  false,
+  IfErr,
+  IfOk,
+  OnOk,
+  IsTrue,
+};
+ghost use Rattle.profile.specs.Faults.{is_object_fault};
+ghost use Rattle.profile.specs.Lines.{logical_lines, line_value, is_same_name, reads_as_lines};
+ghost use Rattle.profile.specs.Objects.{is_end, is_property, has_version, count_inside, Opens, is_none, now_open, misplaced, misplaced_begin, misplaced_end, misplaced_property};
 ghost use Rattle.ical_lines.specs.Fault.{RefusesOnly};
+ghost use Rattle.ical_lines.specs.Limits.{is_bounded};
+ghost use Rattle.ical_lines.specs.Text.{line_text};
+ghost use Rattle.ical_tree.specs.Tree.{IsObjectOf, component_name, component_lines, component_children};
+ghost use Rattle.ical_tree.specs.Reading.{Built, SpellsOf, IsCalendar, Stands, calendar_has, names_of};
 
 use crate::component::Component;
 use ical_lines::{Fault, Limits, Line, Refusal, Unfolded};
@@ -22,6 +50,9 @@ const MAX_EVENTS: usize = 200;
 /// VERSION of VCALENDAR that is missing, stands twice or isn't `2.0` (24), and for `Limits::Message` more than
 /// 200 VEVENTs directly inside VCALENDAR (25).
 pub fn read_object(alloc: Global, bytes: &[u8], limits: Limits) -> Result<Component, Fault>
+    ensures spelled { IfOk result (λ c. IsObjectOf (is_bounded limits) c (logical_lines bytes.now)) }
+    ensures reads { OnOk result (reads_as_lines (is_bounded limits) bytes.now ≡ true) }
+    ensures stands { IfErr result (Stands (is_bounded limits) bytes.now) }
     ensures refuses { IfErr result (RefusesOnly is_object_fault) }
 {
     let text = Unfolded::read(alloc, bytes, limits)?;
@@ -45,15 +76,23 @@ struct Reader {
 
 impl Reader {
     /// No lines yet.
-    fn new(alloc: Global) -> Reader {
+    fn new(alloc: Global) -> Reader
+        ensures open { result.open.items ≡ [] }
+        ensures closed { result.closed ≡ None }
+    {
         Reader {
             open: Vec::new(alloc),
             closed: None,
         }
     }
 
-    /// Takes the next line.
+    /// Takes the next line. After an error the reader is spent.
     fn take(&mut self, alloc: Global, line: Line<'_>) -> Result<(), Fault>
+        ensures built { OnOk result ((done : List (List ℕ))
+            → Built (reverse self.old.open.items) self.old.closed done
+            → Built (reverse self.new.open.items) self.new.closed (done ++ line_text line.entry ∷ [])) }
+        ensures names { OnOk result (names_of (reverse self.new.open.items) ≡ now_open (names_of (reverse self.old.open.items)) (line_text line.entry)) }
+        ensures stands { IfErr result (RefusesOnly (λ n. misplaced n (names_of (reverse self.old.open.items)) (is_some self.old.closed) (line_text line.entry))) }
         ensures refuses { IfErr result (RefusesOnly is_object_fault) }
     {
         if line.is_named("BEGIN") {
@@ -67,11 +106,15 @@ impl Reader {
 
     /// Opens a component.
     fn begin(&mut self, alloc: Global, name: &str) -> Result<(), Fault>
+        ensures built { OnOk result ((done : List (List ℕ)) (line : List ℕ)
+            → Opens line name.now
+            → Built (reverse self.old.open.items) self.old.closed done
+            → Built (reverse self.new.open.items) self.new.closed (done ++ line ∷ [])) }
+        ensures names { OnOk result (names_of (reverse self.new.open.items) ≡ name.now ∷ names_of (reverse self.old.open.items)) }
+        ensures stands { IfErr result (RefusesOnly (λ n. misplaced_begin n (names_of (reverse self.old.open.items)) (is_some self.old.closed) name.now)) }
         ensures refuses { IfErr result (RefusesOnly is_object_fault) }
     {
-        if self.open.is_empty()
-            && (self.closed.is_some() || !name.eq_ignore_ascii_case("VCALENDAR"))
-        {
+        if self.open.is_empty() && !may_be_outermost(&self.closed, name) {
             return Err(Fault::Refused(Refusal::NOT_ONE_CALENDAR));
         }
         if self.open.len() >= MAX_DEPTH {
@@ -84,6 +127,13 @@ impl Reader {
 
     /// Closes the innermost component.
     fn end(&mut self, name: &str) -> Result<(), Fault>
+        ensures built { OnOk result ((done : List (List ℕ)) (line : List ℕ)
+            → is_end line ≡ true
+            → line_value line ≡ name.now
+            → Built (reverse self.old.open.items) self.old.closed done
+            → Built (reverse self.new.open.items) self.new.closed (done ++ line ∷ [])) }
+        ensures names { OnOk result (names_of (reverse self.new.open.items) ≡ drop 1 (names_of (reverse self.old.open.items))) }
+        ensures stands { IfErr result (RefusesOnly (λ n. misplaced_end n (names_of (reverse self.old.open.items)) name.now)) }
         ensures refuses { IfErr result (RefusesOnly is_object_fault) }
     {
         let Some(component) = self.open.pop() else {
@@ -92,28 +142,40 @@ impl Reader {
         if !component.is_named(name) {
             return Err(Fault::Refused(Refusal::STRAY_END));
         }
-        match self.open.last_mut() {
-            Some(parent) => parent.push_child(component)?,
-            None => self.closed = Some(component),
-        }
+        let Some(mut parent) = self.open.pop() else {
+            self.closed = Some(component);
+            return Ok(());
+        };
+        parent.push_child(component)?;
+        self.open.push(parent)?;
         Ok(())
     }
 
     /// Adds a property to the innermost component.
     fn add(&mut self, line: Line<'_>) -> Result<(), Fault>
+        ensures built { OnOk result ((done : List (List ℕ))
+            → is_property (line_text line.entry) ≡ true
+            → Built (reverse self.old.open.items) self.old.closed done
+            → Built (reverse self.new.open.items) self.new.closed (done ++ line_text line.entry ∷ [])) }
+        ensures names { OnOk result (names_of (reverse self.new.open.items) ≡ names_of (reverse self.old.open.items)) }
+        ensures stands { IfErr result (RefusesOnly (λ n. misplaced_property n (names_of (reverse self.old.open.items)))) }
         ensures refuses { IfErr result (RefusesOnly is_object_fault) }
     {
-        match self.open.last_mut() {
-            Some(component) => {
-                component.push_line(line)?;
-                Ok(())
-            }
-            None => Err(Fault::Refused(Refusal::NOT_ONE_CALENDAR)),
-        }
+        let Some(mut component) = self.open.pop() else {
+            return Err(Fault::Refused(Refusal::NOT_ONE_CALENDAR));
+        };
+        component.push_line(line)?;
+        self.open.push(component)?;
+        Ok(())
     }
 
     /// The VCALENDAR, after the last line.
     fn finish(self) -> Result<Component, Refusal>
+        ensures spelled { IfOk result (λ c. (done : List (List ℕ))
+            → Built (reverse self.open.items) self.closed done
+            → SpellsOf 7 c done × IsCalendar c) }
+        ensures stands { IfErr result (λ r. IsTrue ((r.number == 21 && not (is_none (names_of (reverse self.open.items))))
+            || (r.number == 23 && (is_none (names_of (reverse self.open.items)) && not (is_some self.closed))))) }
         ensures refuses { IfErr result (λ r. IsTrue (is_object_fault r.number)) }
     {
         if !self.open.is_empty() {
@@ -123,8 +185,18 @@ impl Reader {
     }
 }
 
+/// Whether a component of this name may stand alone: it is the first VCALENDAR.
+fn may_be_outermost(closed: &Option<Component>, name: &str) -> bool
+    ensures { result ≡ (is_same_name name.now (codes "VCALENDAR") && not (is_some closed.now)) }
+{
+    name.eq_ignore_ascii_case("VCALENDAR") && closed.is_none()
+}
+
 /// Judges a VCALENDAR as a whole: its VERSION, and how many VEVENTs it has.
 fn check_calendar(calendar: &Component, limits: Limits) -> Result<(), Refusal>
+    ensures version { OnOk result (has_version (component_lines calendar.now) ≡ true) }
+    ensures events { OnOk result ((is_bounded limits && nat_lt 200 (count_inside component_name component_lines component_children (codes "VEVENT") calendar.now)) ≡ false) }
+    ensures stands { IfErr result (λ r. IsTrue (calendar_has (is_bounded limits) r.number calendar.now)) }
     ensures refuses { IfErr result (λ r. IsTrue (is_object_fault r.number)) }
 {
     if !has_version(calendar) {
@@ -137,16 +209,28 @@ fn check_calendar(calendar: &Component, limits: Limits) -> Result<(), Refusal>
 }
 
 /// Whether VERSION stands once among the component's own lines, and is `2.0`.
-fn has_version(calendar: &Component) -> bool {
-    let mut versions = calendar.lines().filter(|line| line.is_named("VERSION"));
-    let Some(version) = versions.next() else {
-        return false;
-    };
-    version.value() == "2.0" && versions.next().is_none()
+fn has_version(calendar: &Component) -> bool
+    ensures { result ≡ has_version (component_lines calendar.now) }
+{
+    let mut version = None;
+    for line in calendar.lines() {
+        if line.is_named("VERSION") {
+            if version.is_some() {
+                return false;
+            }
+            version = Some(line);
+        }
+    }
+    match version {
+        Some(line) => line.value() == "2.0",
+        None => false,
+    }
 }
 
 /// Whether the VEVENTs directly inside are more than the limits allow.
-fn exceeds_events(calendar: &Component, limits: Limits) -> bool {
+fn exceeds_events(calendar: &Component, limits: Limits) -> bool
+    ensures { result ≡ (is_bounded limits && nat_lt 200 (count_inside component_name component_lines component_children (codes "VEVENT") calendar.now)) }
+{
     match limits {
         Limits::Message => count_events(calendar) > MAX_EVENTS,
         Limits::Open => false,
@@ -154,7 +238,9 @@ fn exceeds_events(calendar: &Component, limits: Limits) -> bool {
 }
 
 /// How many VEVENTs stand directly inside.
-fn count_events(calendar: &Component) -> usize {
+fn count_events(calendar: &Component) -> usize
+    ensures { result ≡ count_inside component_name component_lines component_children (codes "VEVENT") calendar.now }
+{
     calendar
         .children()
         .iter()

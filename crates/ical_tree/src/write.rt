@@ -1,6 +1,9 @@
 //! Writing an object: BEGIN, the component's own lines, the components inside, END, each line folded.
 
-ghost use Rattle.std.specs.Prelude.{◌≡◌, take, length, OnErr};
+ghost use Rattle.std.specs.Prelude.{◌≡◌, take, length, OnErr, OnOk, ◌++◌};
+ghost use Rattle.std.specs.List.{flat_map};
+ghost use Rattle.profile.specs.Lines.{folded};
+ghost use Rattle.ical_tree.specs.Tree.{written, component_lines};
 
 use crate::component::Component;
 use ical_lines::{write_line, write_property};
@@ -8,6 +11,7 @@ use std::alloc::AllocError;
 
 /// Writes a component with all that stands inside. Where memory is refused, `out` is unchanged.
 pub fn write_object(component: &Component, out: &mut Vec<u8>) -> Result<(), AllocError>
+    ensures written { OnOk result (out.new.items ≡ out.old.items ++ written component.now) }
     ensures unchanged { OnErr result (out.new.items ≡ out.old.items) }
 {
     let kept = out.len();
@@ -22,6 +26,7 @@ pub fn write_object(component: &Component, out: &mut Vec<u8>) -> Result<(), Allo
 
 /// Appends a component's lines. On an error some of them may have been appended.
 fn write_component(component: &Component, out: &mut Vec<u8>) -> Result<(), AllocError>
+    ensures written { OnOk result (out.new.items ≡ out.old.items ++ written component.now) }
     ensures keeps { take (length out.old.items) out.new.items ≡ out.old.items }
 {
     write_property(out, "BEGIN", component.name())?;
@@ -34,6 +39,7 @@ fn write_component(component: &Component, out: &mut Vec<u8>) -> Result<(), Alloc
 
 /// Appends a component's own lines. On an error some of them may have been appended.
 fn write_lines(component: &Component, out: &mut Vec<u8>) -> Result<(), AllocError>
+    ensures written { OnOk result (out.new.items ≡ out.old.items ++ flat_map folded (component_lines component.now)) }
     ensures keeps { take (length out.old.items) out.new.items ≡ out.old.items }
 {
     for line in component.lines() {

@@ -1,15 +1,18 @@
 -- Schemes, and ASCII lower case of text.
-use Rattle.std.proofs.Common.{◌≡◌, ◌≢◌, ◌∙◌, ℕ, zero, suc, ◌+◌, ◌<◌, ◌≤◌, Bool, true, false, nat_eq, ◌&&◌, ◌||◌, cond, List, [], ◌∷◌, ◌++◌, length, get_or, map, refl, sym, ap, arith, inl, inr, ltb}
+use Rattle.std.proofs.Common.{◌≡◌, ◌≢◌, ◌∙◌, ℕ, zero, suc, ◌<◌, ◌≤◌, Bool, true, false, cond, List, [], ◌∷◌, length, get_or, map, refl, sym, ap, arith, inl, inr, ltb}
 use Rattle.std.proofs.lemmas.Bool.{cases_order}
 use Rattle.std.proofs.lemmas.Bool.Decides.{nat_tests}
 use Rattle.std.proofs.lemmas.List.{map-append}
 use Rattle.std.proofs.lemmas.Str.{encode_ascii, encodes-chars}
-use Rattle.std.proofs.lemmas.Str.Ascii.{lowercase_is, lowercase_ascii}
+use Rattle.std.proofs.lemmas.Str.Ascii.{lowercase_is, lowercase_ascii, lowercase-lowercase}
 use Rattle.std.specs.List.{list_all}
-use Rattle.std.specs.Char.{to_ascii_lowercase}
+use Rattle.std.specs.Char.{to_ascii_lowercase, is_ascii_alphabetic}
+use Rattle.std.proofs.lemmas.Bool.{false≢true}
+use Rattle.std.proofs.lemmas.List.{length-map}
+use Rattle.std.proofs.Common.{◌&&◌, nat_lt}
 use Rattle.std.specs.Str.{chars, IsUtf8}
 use lib.Utf8.{encode, encodes}
-use Rattle.profile.specs.Values.{is_scheme, is_scheme_octet, lower_case}
+use Rattle.profile.specs.Values.{IsAddress, is_scheme, is_scheme_octet, is_path, is_path_octet, lower_case}
 
 octets_no_colon : (cs : List ℕ) → list_all is_scheme_octet cs ≡ true → (i : ℕ) → i < length cs → get_or cs i 0 ≢ 58
 octets_no_colon [] h i k = absurd (omega arith)
@@ -56,3 +59,51 @@ lower_encodes (c ∷ cs) = rw (lower_encode c, lower_encodes cs) (sym (map-appen
 -- lower case of the characters is lower case of the octets
 pub lower_text : (bs : List ℕ) → IsUtf8 bs → encodes (map to_ascii_lowercase (chars bs)) ≡ lower_case bs
 lower_text bs h = lower_encodes (chars bs) ∙ ap lower_case (encodes-chars bs h)
+
+-- lower case again is the same
+pub lower_twice : (text : List ℕ) → lower_case (lower_case text) ≡ lower_case text
+lower_twice [] = refl
+lower_twice (c ∷ cs) = rw (lowercase-lowercase c, lower_twice cs) refl
+
+lower_letter : (c : ℕ) → is_ascii_alphabetic c ≡ true → is_ascii_alphabetic (to_ascii_lowercase c) ≡ true
+lower_letter c h = grind (arith, nat_tests)
+
+lower_scheme_octet : (c : ℕ) → is_scheme_octet c ≡ true → is_scheme_octet (to_ascii_lowercase c) ≡ true
+lower_scheme_octet c h = grind (arith, nat_tests)
+
+lower_path_octet : (c : ℕ) → is_path_octet c ≡ true → is_path_octet (to_ascii_lowercase c) ≡ true
+lower_path_octet c h = grind (arith, nat_tests)
+
+both : (a b : Bool) → a && b ≡ true → (a ≡ true) × (b ≡ true)
+both true true h = (refl, refl)
+both true false h = absurd (false≢true h)
+both false b h = absurd (false≢true h)
+
+lower_all : (test : ℕ → Bool) → ((c : ℕ) → test c ≡ true → test (to_ascii_lowercase c) ≡ true) → (cs : List ℕ) → list_all test cs ≡ true → list_all test (lower_case cs) ≡ true
+lower_all test f [] h = refl
+lower_all test f (c ∷ cs) h =
+    let p = both (test c) (list_all test cs) h in
+    rw (f c p.0, lower_all test f cs p.1) refl
+
+lower_scheme : (cs : List ℕ) → is_scheme cs ≡ true → is_scheme (lower_case cs) ≡ true
+lower_scheme [] h = h
+lower_scheme (c ∷ cs) h =
+    let p = both (is_ascii_alphabetic c) (list_all is_scheme_octet cs) h in
+    rw (lower_letter c p.0, lower_all is_scheme_octet lower_scheme_octet cs p.1) refl
+
+lower_path : (cs : List ℕ) → is_path cs ≡ true → is_path (lower_case cs) ≡ true
+lower_path cs h =
+    let p = both (nat_lt 0 (length cs)) (list_all is_path_octet cs) h in
+    let long : length (lower_case cs) ≡ length cs = length-map cs to_ascii_lowercase in
+    rw (long, p.0, lower_all is_path_octet lower_path_octet cs p.1) refl
+
+-- an address in lower case is one
+pub lower_address : (text : List ℕ) → IsAddress text → IsAddress (lower_case text)
+lower_address text (scheme, path, e, s, p, short) = (
+  lower_case scheme,
+  lower_case path,
+  ap lower_case e ∙ map-append to_ascii_lowercase scheme (58 ∷ path),
+  lower_scheme scheme s,
+  lower_path path p,
+  rw (length-map text to_ascii_lowercase) short,
+)

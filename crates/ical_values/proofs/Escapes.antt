@@ -1,6 +1,7 @@
 -- Escapes of text.
-use Rattle.std.proofs.Common.{◌≡◌, ◌≢◌, ◌∙◌, ℕ, suc, ◌<◌, ◌≤◌, Bool, true, false, nat_eq, ◌&&◌, ◌||◌, cond, List, [], ◌∷◌, ◌++◌, length, get_or, refl, sym, ap, arith, append_assoc, ◌⊎◌, inl, inr}
+use Rattle.std.proofs.Common.{◌≡◌, ◌≢◌, ◌∙◌, ℕ, suc, ◌<◌, true, false, cond, List, [], ◌∷◌, ◌++◌, length, get_or, refl, sym, ap, arith, append_assoc, ◌⊎◌, inl, inr}
 use Rattle.std.proofs.lemmas.List.{append-nil}
+use Rattle.std.proofs.lemmas.Bool.{cases_order}
 use Rattle.std.proofs.lemmas.Bool.Decides.{nat_tests}
 use Rattle.profile.specs.Values.{unescaped, escaped, escaped_octet, is_escape, meant}
 
@@ -59,3 +60,35 @@ no_escape text a b d e f c rest h same =
       | inr (inr (inr (inl x))) ↦ e rest (same ∙ ap (λ y. y ∷ rest) x)
       | inr (inr (inr (inr x))) ↦ f rest (same ∙ ap (λ y. y ∷ rest) x)
     ]
+
+is_or_not : (a b : ℕ) → (a ≡ b) ⊎ (a ≢ b)
+is_or_not a b = elim (cases_order a b) [ inl e ↦ inl e | inr (inl lt) ↦ inr (λ e. omega arith) | inr (inr gt) ↦ inr (λ e. omega arith) ]
+
+octet_back : (c : ℕ) (rest : List ℕ) → unescaped (escaped_octet c ++ rest) ≡ c ∷ unescaped rest
+octet_back c rest =
+    let pair : c ≢ 10 → is_escape c ≡ true → c ≢ 110 → c ≢ 78 → unescaped (escaped_octet c ++ rest) ≡ c ∷ unescaped rest = λ n e a b.
+    let form : escaped_octet c ≡ 92 ∷ c ∷ [] = grind (arith, nat_tests) in
+    let same : meant c ≡ c = grind (arith, nat_tests) in
+    rw form (unescaped_pair c rest e ∙ ap (λ x. x ∷ unescaped rest) same) in
+    let plain : c ≢ 10 → c ≢ 92 → c ≢ 59 → c ≢ 44 → unescaped (escaped_octet c ++ rest) ≡ c ∷ unescaped rest = λ n a b d.
+    let form : escaped_octet c ≡ c ∷ [] = grind (arith, nat_tests) in
+    rw form (unescaped_plain c rest a) in
+    elim (is_or_not c 10) [
+      | inl e ↦ rw e (unescaped_pair 110 rest refl)
+      | inr n ↦ elim (is_or_not c 92) [
+        | inl e ↦ pair n (rw e refl) (omega arith) (omega arith)
+        | inr a ↦ elim (is_or_not c 59) [
+          | inl e ↦ pair n (rw e refl) (omega arith) (omega arith)
+          | inr b ↦ elim (is_or_not c 44) [
+            | inl e ↦ pair n (rw e refl) (omega arith) (omega arith)
+            | inr d ↦ plain n a b d
+          ]
+        ]
+      ]
+    ]
+
+-- what is written of a text is read as that text
+pub read_back : (text : List ℕ) → unescaped (escaped text) ≡ text
+unfolding unescaped
+read_back [] = refl
+read_back (c ∷ cs) = octet_back c (escaped cs) ∙ ap (λ x. c ∷ x) (read_back cs)

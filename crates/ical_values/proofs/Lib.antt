@@ -1,3 +1,4 @@
+mod Examples
 pub mod Pairs
 pub mod Spelled
 pub mod Escapes
@@ -5,3 +6,5 @@ pub mod Addresses
 pub mod Offsets
 pub mod Parts
 pub mod Signs
+pub mod Readings
+pub mod Spans

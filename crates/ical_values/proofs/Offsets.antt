@@ -1,7 +1,7 @@
 -- Digits of an offset, and its sign.
-use Rattle.std.proofs.Common.{◌≡◌, ◌≢◌, ◌∙◌, ℕ, ◌+◌, ◌<◌, ◌≤◌, ◌⊎◌, inl, inr, List, [], ◌∷◌, ◌++◌, length, get_or, drop, codes, Option, Some, None, IfNone, refl, sym, ap, arith, length-append, ℤ}
-use Rattle.profile.specs.Values.{two_digits, SpellsTime, SpellsSize, SpellsOffset}
-use Rattle.ical_values.proofs.Spelled.{list_of_4, two_same, time_length}
+use Rattle.std.proofs.Common.{◌≡◌, ◌≢◌, ◌∙◌, ℕ, ◌≤◌, inl, inr, List, [], ◌∷◌, ◌++◌, length, get_or, drop, codes, Option, Some, None, IfNone, sym, ap, arith, length-append, ℤ}
+use Rattle.profile.specs.Values.{SpellsTime, SpellsSize, SpellsOffset}
+use Rattle.ical_values.proofs.Spelled.{list_of_4, time_length}
 
 pub if_none_weaker : {A : Type 0} (r : Option A) {P Q : Type 0} → (P → Q) → IfNone r P → IfNone r Q
 if_none_weaker (Some x) f h = tt

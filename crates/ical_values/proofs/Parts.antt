@@ -1,5 +1,5 @@
 -- The parts of a duration: digits, then a letter.
-use Rattle.std.proofs.Common.{◌≡◌, ◌≢◌, ◌∙◌, ℕ, zero, suc, ◌+◌, ◌-◌, ◌*◌, ◌<◌, ◌≤◌, ◌⊎◌, inl, inr, min, List, [], ◌∷◌, ◌++◌, length, get_or, take, drop, codes, refl, sym, ap, arith, append_assoc, length-append}
+use Rattle.std.proofs.Common.{◌≡◌, ◌≢◌, ◌∙◌, ℕ, ◌+◌, ◌-◌, ◌*◌, ◌<◌, ◌≤◌, inl, inr, min, List, [], ◌∷◌, ◌++◌, length, get_or, take, drop, refl, sym, ap, arith, append_assoc, length-append}
 use Rattle.std.proofs.lemmas.List.{append-nil, nil_from_length, get_or_append_left, get_or-take}
 use Rattle.std.proofs.Math.Seq.{get_or-append_seam}
 use Rattle.std.proofs.Common.{length-take}
@@ -40,7 +40,7 @@ pub begins_nothing : (l n : ℕ) (rest : List ℕ) → Begins l [] n rest → �
 begins_nothing l n rest b =
     absurd (omega (arith, ap length b.spelled, length-append b.digits (l ∷ rest)))
 
-part_begins : (l : ℕ) (digits rest : List ℕ) (n : ℕ) → IsNumber digits n → Begins l ((digits ++ l ∷ []) ++ rest) n rest
+pub part_begins : (l : ℕ) (digits rest : List ℕ) (n : ℕ) → IsNumber digits n → Begins l ((digits ++ l ∷ []) ++ rest) n rest
 part_begins l digits rest n h = record { digits = digits; number = h; spelled = append_assoc digits (l ∷ []) rest }
 
 -- another part in front: still no such beginning
@@ -75,13 +75,13 @@ front_count letter text count n rest low digits last b =
     elim (cases_order count (length b.digits)) [
       | inl same ↦ same
       | inr (inl lt) ↦
-        let at_count : get_or text count 0 ≡ get_or b.digits count 0 = ap (λ t. get_or t count 0) b.spelled ∙ get_or_append_left b.digits (letter ∷ rest) 0 count lt in
-        absurd (last (omega arith) (rw at_count (digit_at b.digits count b.number.1 lt)))
+          let at_count : get_or text count 0 ≡ get_or b.digits count 0 = ap (λ t. get_or t count 0) b.spelled ∙ get_or_append_left b.digits (letter ∷ rest) 0 count lt in
+          absurd (last (omega arith) (rw at_count (digit_at b.digits count b.number.1 lt)))
       | inr (inr gt) ↦
-        let at_letter : get_or text (length b.digits) 0 ≡ letter = ap (λ t. get_or t (length b.digits) 0) b.spelled ∙ get_or-append_seam b.digits letter rest 0 in
-        let taken : get_or (take count text) (length b.digits) 0 ≡ letter = get_or-take count text (length b.digits) 0 gt ∙ at_letter in
-        let inside : length b.digits < length (take count text) = omega (arith, length-take count text) in
-        absurd (omega (arith, taken, digit_at (take count text) (length b.digits) digits inside))
+          let at_letter : get_or text (length b.digits) 0 ≡ letter = ap (λ t. get_or t (length b.digits) 0) b.spelled ∙ get_or-append_seam b.digits letter rest 0 in
+          let taken : get_or (take count text) (length b.digits) 0 ≡ letter = get_or-take count text (length b.digits) 0 gt ∙ at_letter in
+          let inside : length b.digits < length (take count text) = omega (arith, length-take count text) in
+          absurd (omega (arith, taken, digit_at (take count text) (length b.digits) digits inside))
     ]
 
 -- so no text begins with a number and this letter where the digits at the front fill it
@@ -113,14 +113,24 @@ part_of l text count left (inr (z, same, f)) = ([], 0, inl (refl, refl), sym sam
 
 exact_found' : (text body r1 r2 r3 hp mp sp : List ℕ) (h m s a b c total : ℕ) → text ≡ 84 ∷ body → 0 < length body → SpellsPart 72 hp h → SpellsPart 77 mp m → SpellsPart 83 sp s → body ≡ hp ++ r1 → r1 ≡ mp ++ r2 → r2 ≡ sp ++ r3 → r3 ≡ [] → a ≡ capped h → b ≡ capped m → c ≡ capped s → total ≡ capped (3600 * a + 60 * b + c) → CountsExact text total
 exact_found' text body r1 r2 r3 hp mp sp h m s a b c total e some hour minute second f g k end x y z t =
-    let whole : body ≡ (hp ++ mp) ++ sp = rw (f, g, k, end) (simp (append_assoc, append-nil) refl) in
-    (3600 * h + 60 * m + s, record {
-      hour_part = hp; minute_part = mp; second_part = sp; hours = h; minutes = m; seconds = s;
-      hour = hour; minute = minute; second = second;
-      some = rw whole at some;
-      spelled = e ∙ ap (λ w. 84 ∷ w) whole;
-      counted = refl;
-    }, omega (arith, x, y, z, t))
+    let whole : body ≡ (hp ++ mp) ++ sp = rw (f, g, k, end) (simp (append_assoc, append-nil) refl) in (
+      3600 * h + 60 * m + s,
+      record {
+        hour_part = hp;
+        minute_part = mp;
+        second_part = sp;
+        hours = h;
+        minutes = m;
+        seconds = s;
+        hour = hour;
+        minute = minute;
+        second = second;
+        some = rw whole at some;
+        spelled = e ∙ ap (λ w. 84 ∷ w) whole;
+        counted = refl;
+      },
+      omega (arith, x, y, z, t),
+    )
 
 pub exact_found : (text body r1 r2 r3 : List ℕ) (a b c total : ℕ) → text ≡ 84 ∷ body → 0 < length body → TakesOrSkips 72 body a r1 → TakesOrSkips 77 r1 b r2 → TakesOrSkips 83 r2 c r3 → length r3 ≡ 0 → total ≡ capped (3600 * a + 60 * b + c) → CountsExact text total
 exact_found text body r1 r2 r3 a b c total e some hour minute second end t =
@@ -210,6 +220,6 @@ pub unsigned_weeks_rest : (text body rest : List ℕ) (n : ℕ) → text ≡ 80 
 unsigned_weeks_rest text body rest n e b some days seconds u =
     elim (unsigned_of text body days seconds e u) [
       | inl (digits, weeks, number, h, x, y) ↦
-        some (ap length (begins_same 87 87 body n weeks rest [] (omega arith) (omega arith) b (record { digits = digits; number = number; spelled = h })).2)
+          some (ap length (begins_same 87 87 body n weeks rest [] (omega arith) (omega arith) b (record { digits = digits; number = number; spelled = h })).2)
       | inr h ↦ days_begin body rest n days seconds b h
     ]

@@ -1,7 +1,7 @@
 -- The sign of a duration.
-use Rattle.std.proofs.Common.{◌≡◌, ◌∙◌, ℕ, ◌<◌, ◌≤◌, ◌^◌, ◌⊎◌, inl, inr, min, List, [], ◌∷◌, ◌++◌, get_or, drop, refl, sym, ap, arith}
+use Rattle.std.proofs.Common.{◌≡◌, ◌∙◌, ℕ, ◌<◌, ◌^◌, inl, inr, List, ◌∷◌, get_or, drop, refl, sym, ap, arith}
 use Rattle.profile.specs.Values.{SpellsUnsigned, SpellsDuration, SpellsNegative, SpellsLong}
-use Rattle.ical_values.specs.Counts.{capped, CountsUnsigned, SpellsLongBody}
+use Rattle.ical_values.specs.Counts.{CountsUnsigned, SpellsLongBody}
 
 head : (a b : ℕ) (xs ys : List ℕ) → a ∷ xs ≡ b ∷ ys → a ≡ b
 head a b xs ys e = ap (λ x. get_or x 0 0) e

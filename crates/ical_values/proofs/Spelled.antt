@@ -1,9 +1,9 @@
 -- Lists of a few octets, digits, dates and clocks as they are spelled.
-use Rattle.std.proofs.Common.{to_z, of_z, w32, w64, ◌≡◌, ◌∙◌, ◌↔◌, ℕ, zero, suc, ◌+◌, ◌-◌, ◌*◌, ◌/◌, ◌%◌, ◌<◌, ◌≤◌, min, List, [], ◌∷◌, ◌++◌, length, get_or, take, drop, codes, refl, sym, ap, subst, arith, ℤ, pos, negsuc, unsigned_abs, ◌+ℤ◌, ◌*ℤ◌, ◌≤ℤ◌}
+use Rattle.std.proofs.Common.{to_z, of_z, w32, w64, ◌≡◌, ◌∙◌, ℕ, ◌-◌, ◌<◌, List, [], ◌∷◌, ◌++◌, length, get_or, take, drop, codes, refl, sym, ap, arith, ℤ, pos, negsuc, ◌+ℤ◌, ◌*ℤ◌, ◌≤ℤ◌}
 use Rattle.std.proofs.lemmas.Int.{ints}
 use Rattle.std.proofs.lemmas.List.{append-nil}
 use Rattle.std.proofs.Common.{append_assoc}
-use Rattle.profile.specs.Days.{IsDate, IsDayDate, days_in_month, number_of_date, number_of_day}
+use Rattle.profile.specs.Days.{IsDayDate, number_of_day}
 use Rattle.profile.specs.Values.{two_digits, four_digits, SpellsDate, SpellsTime, SpellsClock}
 
 -- a list of 4 by its elements
@@ -96,7 +96,9 @@ joined a b p x0 x1 x2 x3 x4 x5 x6 x7 d e f = rw (d, e, f) refl
 
 pub date_found : (text : List ℕ) (year month day : ℕ) (number : ℤ) → length text ≡ 8 → year < 10_000 → DateDigits text year month day → IsDayDate (pos year) month day → number ≡ number_of_day (pos year) month day → SpellsDate text number
 date_found text year month day number long small d h e = record {
-  year = year; month = month; day = day;
+  year = year;
+  month = month;
+  day = day;
   first = omega (arith, ints, h.0);
   last = omega arith;
   date = h.2;
@@ -117,7 +119,7 @@ pub record ClockParts (limit : ℕ) (text : List ℕ) (seconds : ℤ) : Type 0 w
 pub clock_parts : (limit : ℕ) (text : List ℕ) (seconds : ℤ) → SpellsClock limit text seconds → ClockParts limit text seconds
 clock_parts limit text seconds s =
     let whole : text ≡ (four_digits s.on.year ++ two_digits s.on.month ++ two_digits s.on.day) ++ codes "T" ++ (two_digits s.at_second.hour ++ two_digits s.at_second.minute ++ two_digits s.at_second.second) =
-        s.spelled ∙ rw (s.on.spelled, s.at_second.spelled) refl in
+    s.spelled ∙ rw (s.on.spelled, s.at_second.spelled) refl in
     let front : take 8 text ≡ s.date = ap (take 8) whole ∙ sym s.on.spelled in
     let back : after_letter text ≡ s.time = ap after_letter whole ∙ sym s.at_second.spelled in
     record {
@@ -138,8 +140,14 @@ split_at_8 text long letter =
 
 pub clock_found : (limit : ℕ) (text : List ℕ) (number seconds : ℤ) (second : ℕ) → length text ≡ 15 → get_or text 8 0 ≡ 84 → SpellsDate (take 8 text) number → SpellsTime limit (after_letter text) second → seconds ≡ (number *ℤ pos 86_400) +ℤ pos second → SpellsClock limit text seconds
 clock_found limit text number seconds second long letter on at_second e = record {
-  date = take 8 text; time = after_letter text; number = number; second = second;
-  on = on; at_second = at_second; spelled = split_at_8 text long letter; counted = e;
+  date = take 8 text;
+  time = after_letter text;
+  number = number;
+  second = second;
+  on = on;
+  at_second = at_second;
+  spelled = split_at_8 text long letter;
+  counted = e;
 }
 
 -- casts of small numbers
@@ -158,10 +166,11 @@ clock_sum day second low high h =
 
 -- a clock as it is appended in pieces
 pub clock_pieces : (limit : ℕ) (date time zone : List ℕ) (number seconds : ℤ) (second : ℕ) → SpellsDate date number → SpellsTime limit time second → seconds ≡ (number *ℤ pos 86_400) +ℤ pos second → (clock : List ℕ) × SpellsClock limit clock seconds × (date ++ 84 ∷ (time ++ (zone ++ [])) ≡ clock ++ zone)
-clock_pieces limit date time zone number seconds second on at_second e =
-    (date ++ codes "T" ++ time,
-    record { date = date; time = time; number = number; second = second; on = on; at_second = at_second; spelled = refl; counted = e },
-    simp (append-nil, append_assoc) refl)
+clock_pieces limit date time zone number seconds second on at_second e = (
+  date ++ codes "T" ++ time,
+  record { date = date; time = time; number = number; second = second; on = on; at_second = at_second; spelled = refl; counted = e },
+  simp (append-nil, append_assoc) refl,
+)
 
 pub time_length : (limit : ℕ) (text : List ℕ) (total : ℕ) → SpellsTime limit text total → length text ≡ 6
 time_length limit text total s = ap length s.spelled

@@ -1,7 +1,7 @@
 //! Calendar addresses (RFC 5545 3.3.3): a URI's scheme, `:`, and at least one octet more. Kept in ASCII
 //! lower case, by which they are compared and written.
 
-ghost use Rattle.std.specs.Prelude.{◌≡◌, ◌++◌, true, map, string_bytes, IfOk, IfErr, OnOk, OnErr};
+ghost use Rattle.std.specs.Prelude.{ℕ, List, [], ◌≡◌, ◌++◌, true, map, string_bytes, IfOk, IfErr, OnOk, OnErr};
 ghost use Rattle.std.specs.List.{list_all};
 ghost use Rattle.std.specs.Char.{to_ascii_lowercase};
 ghost use Rattle.std.specs.Str.{chars, encode_utf8_all};
@@ -11,7 +11,6 @@ ghost use Rattle.ical_lines.specs.Fault.{RefusesOnly};
 ghost use Rattle.ical_values.specs.Octets.{address_octets};
 ghost use Rattle.ical_values.specs.Refused.{IfRefused};
 
-use crate::append::append_all;
 use ical_lines::{Fault, Refusal};
 use std::alloc::{AllocError, Global};
 
@@ -43,7 +42,9 @@ impl Address {
     }
 
     /// No octets: what stands for a missing ORGANIZER. No text is read as it.
-    pub fn empty(alloc: Global) -> Address {
+    pub fn empty(alloc: Global) -> Address
+        ensures { address_octets result ≡ [] }
+    {
         Address {
             octets: String::new(alloc),
         }
@@ -61,7 +62,7 @@ impl Address {
         ensures ok { OnOk result (out.new.items ≡ out.old.items ++ address_octets self.now) }
         ensures err { OnErr result (out.new.items ≡ out.old.items) }
     {
-        append_all(out, &[self.octets.as_bytes()])
+        out.extend_from_slice(self.octets.as_bytes())
     }
 }
 
@@ -132,3 +133,9 @@ fn lower(alloc: Global, text: &str) -> Result<String, AllocError>
         .map(|letter| letter.to_ascii_lowercase())
         .collect(alloc)
 }
+
+/// An address in lower case is an address, and stays as it is when it is read again.
+pub fn address_reads_back()
+    ensures address { (text : List ℕ) → IsAddress text → IsAddress (lower_case text) }
+    ensures same { (text : List ℕ) → lower_case (lower_case text) ≡ lower_case text }
+{}

@@ -96,7 +96,7 @@ pub fn write(seconds: i64, zone: &[u8], out: &mut Vec<u8>) -> Result<(), AllocEr
     requires { IsClockSeconds seconds }
     ensures ok { OnOk result
         (Appends out.old.items out.new.items
-            (λ text. (clock : List ℕ) × SpellsClock 59 clock seconds × (text ≡ clock ++ zone.now))) }
+        (λ text. (clock : List ℕ) × SpellsClock 59 clock seconds × (text ≡ clock ++ zone.now))) }
     ensures err { OnErr result (out.new.items ≡ out.old.items) }
 {
     let (day, second) = split(seconds);

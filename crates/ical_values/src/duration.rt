@@ -15,7 +15,9 @@ use std::alloc::AllocError;
 /// Nominal days, and exact seconds beside them.
 #[derive(Clone, Copy, Debug, PartialEq, Eq, PartialOrd, Ord, Hash)]
 pub struct Duration {
+    /// Days, each as long as it is where they are counted; a week is 7.
     pub days: u32,
+    /// Seconds of hours, minutes and seconds.
     pub seconds: u32,
 }
 
@@ -238,3 +240,14 @@ fn leading_number(text: &[u8]) -> (u64, usize)
     }
     (number, text.len())
 }
+
+/// A text spells at most one duration, negative or not, and what is written of one spells it.
+pub fn one_duration()
+    ensures reading { (text : List ℕ) (days seconds other_days other_seconds : ℕ)
+        → SpellsDuration text days seconds → SpellsDuration text other_days other_seconds
+        → (days ≡ other_days) × (seconds ≡ other_seconds) }
+    ensures negative { (text : List ℕ) (days seconds : ℕ)
+        → SpellsDuration text days seconds → SpellsNegative text → ⊥ }
+    ensures written { (days seconds : ℕ) → days < 2 ^ 32 → seconds < 2 ^ 32
+        → SpellsDuration (duration_text days seconds) days seconds }
+{}

@@ -1,7 +1,7 @@
 //! Local date-times (RFC 5545 3.3.5, forms 1 and 3): `YYYYMMDDTHHMMSS`, of the years 0001 to 9999,
 //! without a zone. Second 60 is read as 59.
 
-ghost use Rattle.std.specs.Prelude.{◌≡◌, ◌↔◌, ◌++◌, ℤ, IsSome, IfSome, IfOk, IfErr, OnOk, OnErr};
+ghost use Rattle.std.specs.Prelude.{ℕ, List, ◌≡◌, ◌↔◌, ◌++◌, ℤ, IsSome, IfSome, IfOk, IfErr, OnOk, OnErr};
 ghost use Rattle.profile.specs.Values.{SpellsLocal, WritesLocal, IsClockSeconds};
 ghost use Rattle.ical_values.specs.Written.{Appends};
 
@@ -47,7 +47,8 @@ impl LocalTime {
         ensures ok { OnOk result (Appends out.old.items out.new.items (λ text. WritesLocal text self)) }
         ensures err { OnErr result (out.new.items ≡ out.old.items) }
     {
-        clock::write(self.seconds, b"", out)
+        let LocalTime { seconds } = self;
+        clock::write(seconds, b"", out)
     }
 
     /// Seconds from 1970-01-01T00:00:00 on the same clock.
@@ -68,4 +69,13 @@ impl LocalTime {
         }
         Some(LocalTime { seconds })
     }
+}
+
+/// A text spells at most one local time, what is written of one spells it, and it is written in one form.
+pub fn one_local_time()
+    ensures reading { (text : List ℕ) (a b : ℤ) → SpellsLocal text a → SpellsLocal text b → a ≡ b }
+    ensures written { (text : List ℕ) (a : ℤ) → WritesLocal text a → SpellsLocal text a }
+    ensures form { (x y : List ℕ) (a : ℤ) → WritesLocal x a → WritesLocal y a → x ≡ y }
+{
+    cal_days::one_date();
 }

@@ -1,7 +1,7 @@
 //! UTC offsets (RFC 5545 3.3.14): `+hhmm`, `-hhmm`, or with seconds. Hours go to 23. `-0000` and
 //! `-000000` are none.
 
-ghost use Rattle.std.specs.Prelude.{◌≡◌, ◌<◌, ℕ, ℤ, IfSome, IfNone, IfOk, IfErr, OnOk, OnErr};
+ghost use Rattle.std.specs.Prelude.{List, ◌≡◌, ◌<◌, ℕ, ℤ, IfSome, IfNone, IfOk, IfErr, OnOk, OnErr};
 ghost use Rattle.profile.specs.Values.{SpellsOffset, WritesOffset, SpellsSize, IsOffset};
 ghost use Rattle.ical_values.specs.Written.{Appends};
 
@@ -49,8 +49,9 @@ impl UtcOffset {
         ensures ok { OnOk result (Appends out.old.items out.new.items (λ text. WritesOffset text self)) }
         ensures err { OnErr result (out.new.items ≡ out.old.items) }
     {
-        let sign = [if self.seconds < 0 { b'-' } else { b'+' }];
-        let size = self.seconds.unsigned_abs();
+        let UtcOffset { seconds } = self;
+        let sign = [if seconds < 0 { b'-' } else { b'+' }];
+        let size = seconds.unsigned_abs();
         let time = clock::time_text(size);
         if size % 60 == 0 {
             append_all(out, &[&sign, &time[..4]])
@@ -102,3 +103,10 @@ fn read_size(digits: &[u8]) -> Option<u32>
     let [h1, h2, m1, m2] = [digits[0], digits[1], digits[2], digits[3]];
     clock::read_time(&[h1, h2, m1, m2, b'0', b'0'], 59)
 }
+
+/// A text spells at most one offset, what is written of one spells it, and it is written in one form.
+pub fn one_offset()
+    ensures reading { (text : List ℕ) (a b : ℤ) → SpellsOffset text a → SpellsOffset text b → a ≡ b }
+    ensures written { (text : List ℕ) (a : ℤ) → WritesOffset text a → SpellsOffset text a }
+    ensures form { (x y : List ℕ) (a : ℤ) → WritesOffset x a → WritesOffset y a → x ≡ y }
+{}

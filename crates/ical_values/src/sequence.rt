@@ -1,10 +1,9 @@
 //! Sequence numbers (RFC 5545 3.8.7.4): an integer from 0 to 2,147,483,647. A `+` and leading zeros
 //! may stand (RFC 5545 3.3.8); a minus sign may not, also before 0.
 
-ghost use Rattle.std.specs.Prelude.{◌≡◌, ◌↔◌, ◌++◌, ◌<◌, ◌^◌, ℕ, decimal, IsSome, IfSome, IfOk, IfErr, OnOk, OnErr};
+ghost use Rattle.std.specs.Prelude.{List, ◌≡◌, ◌↔◌, ◌++◌, ◌<◌, ◌^◌, ℕ, decimal, IsSome, IfSome, IfOk, IfErr, OnOk, OnErr};
 ghost use Rattle.profile.specs.Values.{SpellsSequence};
 
-use crate::append::append_all;
 use ical_lines::Refusal;
 use itoa::Buffer;
 use std::alloc::AllocError;
@@ -51,7 +50,8 @@ impl Sequence {
         ensures err { OnErr result (out.new.items ≡ out.old.items) }
     {
         let mut buffer = Buffer::new();
-        append_all(out, &[buffer.format(self.number).as_bytes()])
+        let Sequence { number } = self;
+        out.extend_from_slice(buffer.format(number).as_bytes())
     }
 
     /// The number, from 0 to 2,147,483,647.
@@ -63,7 +63,9 @@ impl Sequence {
     }
 
     /// The number 0, which a missing SEQUENCE means (RFC 5545 3.8.7.4).
-    pub fn zero() -> Sequence {
+    pub fn zero() -> Sequence
+        ensures { result ≡ 0 }
+    {
         Sequence { number: 0 }
     }
 
@@ -78,3 +80,9 @@ impl Sequence {
         Some(Sequence { number })
     }
 }
+
+/// A text spells at most one sequence, and what is written of one spells it.
+pub fn one_sequence()
+    ensures reading { (text : List ℕ) (a b : ℕ) → SpellsSequence text a → SpellsSequence text b → a ≡ b }
+    ensures written { (n : ℕ) → n < 2 ^ 31 → SpellsSequence (decimal n) n }
+{}

@@ -1,7 +1,7 @@
 //! UTC date-times (RFC 5545 3.3.5, form 2): `YYYYMMDDTHHMMSSZ`, of the years 0001 to 9999. A stamp is
 //! kept as its instant. Leap seconds aren't counted: second 60 is read as 59.
 
-ghost use Rattle.std.specs.Prelude.{◌≡◌, ◌↔◌, ◌++◌, negsuc, IsSome, IfSome, ℤ, IfOk, IfErr, OnOk, OnErr};
+ghost use Rattle.std.specs.Prelude.{ℕ, List, ◌≡◌, ◌↔◌, ◌++◌, negsuc, IsSome, IfSome, ℤ, IfOk, IfErr, OnOk, OnErr};
 ghost use Rattle.profile.specs.Values.{SpellsStamp, WritesStamp, IsClockSeconds};
 ghost use Rattle.ical_values.specs.Written.{Appends};
 
@@ -50,7 +50,8 @@ impl Stamp {
         ensures ok { OnOk result (Appends out.old.items out.new.items (λ text. WritesStamp text self)) }
         ensures err { OnErr result (out.new.items ≡ out.old.items) }
     {
-        clock::write(self.instant, b"Z", out)
+        let Stamp { instant } = self;
+        clock::write(instant, b"Z", out)
     }
 
     /// Seconds from 1970-01-01T00:00:00Z.
@@ -80,4 +81,14 @@ impl Stamp {
             instant: clock::FIRST,
         }
     }
+}
+
+/// A text spells at most one stamp, what is written of a stamp spells it, and a stamp is written in one
+/// form. With the contracts of `read` and `write`: what was written is read as the same stamp.
+pub fn one_stamp()
+    ensures reading { (text : List ℕ) (a b : ℤ) → SpellsStamp text a → SpellsStamp text b → a ≡ b }
+    ensures written { (text : List ℕ) (a : ℤ) → WritesStamp text a → SpellsStamp text a }
+    ensures form { (x y : List ℕ) (a : ℤ) → WritesStamp x a → WritesStamp y a → x ≡ y }
+{
+    cal_days::one_date();
 }

@@ -1,7 +1,7 @@
 //! Text (RFC 5545 3.3.11), kept without its escapes. `\\`, `\;`, `\,`, `\n` and `\N` are escapes; a
 //! backslash before anything else, or at the end, stands for itself.
 
-ghost use Rattle.std.specs.Prelude.{◌≡◌, ◌++◌, ◌∷◌, ◌≤◌, length, string_bytes, IfOk, IfErr, OnOk, OnErr};
+ghost use Rattle.std.specs.Prelude.{ℕ, List, ◌≡◌, ◌++◌, ◌∷◌, ◌≤◌, length, string_bytes, IfOk, IfErr, OnOk, OnErr};
 ghost use Rattle.profile.specs.Values.{escaped, escaped_octet, unescaped, IsUid};
 ghost use Rattle.ical_lines.specs.Fault.{RefusesOnly};
 ghost use Rattle.ical_values.specs.Octets.{text_octets};
@@ -128,3 +128,8 @@ fn escape_at(after: &str) -> (&str, &str)
     }
     ("\\", after)
 }
+
+/// What is written of a text is read as that text.
+pub fn text_reads_back()
+    ensures { (octets : List ℕ) → unescaped (escaped octets) ≡ octets }
+{}

@@ -7,3 +7,4 @@ pub mod Taking
 pub mod Allowed
 pub mod Steps
 pub mod Orders
+pub mod Lasting

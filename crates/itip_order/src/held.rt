@@ -3,7 +3,7 @@
 //! One register for each slot, in the order of organiser, UID, slot, so a slot is found by halves.
 //! A tombstone stays for good, also one of a meeting that was never heard of.
 
-ghost use Rattle.std.specs.Prelude.{◌≡◌, ◌<◌, ◌^◌, false, List, [], ◌∷◌, ◌++◌, length, IsTrue, IfOk, IfErr, OnOk, OnErr, if◌then◌else◌};
+ghost use Rattle.std.specs.Prelude.{◌≡◌, ◌<◌, ◌^◌, true, false, Contains, List, [], ◌∷◌, ◌++◌, length, IsTrue, IfOk, IfErr, OnOk, OnErr, if◌then◌else◌};
 ghost use Rattle.std.specs.Iterator.{YieldsFirstBy, item_count};
 ghost use Rattle.itip_order.specs.Parts.{part_of, parts_of, slot_of};
 ghost use Rattle.itip_order.specs.Registers.{is_ascending, is_allowed_by, shown, at_slot, is_known, StandsFor, IsView, SameParts, IsAt, IsGap};
@@ -176,6 +176,18 @@ pub fn same_parts_same_view(one: &Held, other: &Held)
         → SameParts xs ys → one.now ≡ other.now }
     ensures view { (xs ys : List revisions.Part) → SameParts xs ys
         → (part : revisions.Part) → revisions.in_view xs part ≡ revisions.in_view ys part }
+{}
+
+/// A law, with nothing to do: what any history's view is like. What left it never comes back.
+pub fn view_is_lasting()
+    ensures taken { (history : List revisions.Part) (part : revisions.Part)
+        → revisions.in_view history part ≡ true → Contains history part }
+    ensures one_of_a_slot { (history : List revisions.Part) (one other : revisions.Part)
+        → revisions.in_view history one ≡ true → revisions.in_view history other ≡ true
+        → revisions.same_place one other ≡ true → one ≡ other }
+    ensures gone_for_good { (history more : List revisions.Part) (part : revisions.Part)
+        → Contains history part → revisions.in_view history part ≡ false
+        → revisions.in_view (history ++ more) part ≡ false }
 {}
 
 // What the greatest part of a slot did to the view, where its register is new.

@@ -8,7 +8,9 @@
 mod held;
 mod part;
 
-pub use held::{Freshness, Held, View, same_parts_same_view, stands_for_its_registers};
+pub use held::{
+    Freshness, Held, View, same_parts_same_view, stands_for_its_registers, view_is_lasting,
+};
 pub use part::{Body, Part, Revision, Slot};
 
 #[cfg(test)]

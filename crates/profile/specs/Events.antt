@@ -1,5 +1,5 @@
 -- VEVENTs: what their lines say (RFC 5545 3.6.1), for single events in UTC. A VEVENT is its content lines here.
-use Rattle.std.specs.Prelude.{◌≡◌, ℕ, ◌+◌, ◌-◌, ◌*◌, ◌^◌, Contains, ◌<◌, ◌≤◌, ◌⊎◌, Bool, true, false, IsTrue, if◌then◌else◌, not, ◌&&◌, ◌||◌, ◌==◌, List, [], ◌∷◌, length, map, filter, codes, Option, Some, None, is_some, option_map, unwrap_or, slice_index, ℤ, pos, negsuc, ◌+ℤ◌, ◌-ℤ◌, ◌≤ℤ◌, ◌<ℤ◌}
+use Rattle.std.specs.Prelude.{◌≡◌, ◌≢◌, ℕ, ◌+◌, ◌-◌, ◌*◌, Contains, AllPairs, ◌<◌, ◌≤◌, ◌⊎◌, Bool, true, false, if◌then◌else◌, ◌&&◌, ◌||◌, ◌==◌, List, [], ◌∷◌, length, map, filter, codes, Option, Some, None, is_some, option_map, unwrap_or, slice_index, ℤ, pos, negsuc, ◌+ℤ◌, ◌≤ℤ◌, ◌<ℤ◌}
 use Rattle.std.specs.Option.{option_to_list}
 use Rattle.std.specs.List.{find, list_any, AllZip}
 use Rattle.std.specs.Str.{bytes_eq}
@@ -23,12 +23,19 @@ StandsAtMostOnce name lines line = lines_named name lines ≡ option_to_list lin
 
 -- ---- values
 
--- the value of a line is a UTC date-time: VALUE, if it stands, says so (RFC 5545 3.3.5, 3.2.20)
+-- VALUE says that the line's value is a date-time, or doesn't stand (RFC 5545 3.2.20)
 abbrev pub is_date_time : List ℕ → Bool
 is_date_time line = unwrap_or (option_map (λ word. is_same_name word (codes "DATE-TIME")) (line_param (codes "VALUE") line)) true
 
+-- the value of the line is this instant, as a UTC date-time (RFC 5545 3.3.5, form 2)
 abbrev pub IsTime : List ℕ → ℤ → Type 0
-IsTime line instant = IsTrue (is_date_time line) × SpellsStamp (line_value line) instant
+IsTime line instant = (is_date_time line ≡ true) × SpellsStamp (line_value line) instant
+
+abbrev pub IsStampLine : List ℕ → ℤ → Type 0
+IsStampLine line instant = SpellsStamp (line_value line) instant
+
+abbrev pub IsSequenceLine : List ℕ → ℕ → Type 0
+IsSequenceLine line n = SpellsSequence (line_value line) n
 
 -- an address, in ASCII lower case
 abbrev pub IsAddressLine : List ℕ → List ℕ → Type 0
@@ -50,8 +57,8 @@ participation_named word =
     else (if is_same_name word (codes "TENTATIVE") then Tentative
     else (if is_same_name word (codes "DELEGATED") then Delegated else NeedsAction)))
 
-abbrev pub participation_of : List ℕ → Participation
-participation_of line = unwrap_or (option_map participation_named (line_param (codes "PARTSTAT") line)) NeedsAction
+abbrev pub answer_named : Option (List ℕ) → Participation
+answer_named word = unwrap_or (option_map participation_named word) NeedsAction
 
 pub record Attendee : Type 0 where
   pub address : List ℕ
@@ -59,7 +66,7 @@ pub record Attendee : Type 0 where
 
 -- an ATTENDEE line (RFC 5545 3.8.4.1)
 abbrev pub IsAttendee : List ℕ → Attendee → Type 0
-IsAttendee line attendee = IsAddressLine line attendee.address × (attendee.participation ≡ participation_of line)
+IsAttendee line attendee = IsAddressLine line attendee.address × (attendee.participation ≡ answer_named (line_param (codes "PARTSTAT") line))
 
 -- ---- one event
 
@@ -92,7 +99,7 @@ BothOrNeither R (Some a) None = ⊥
 pub record Says {V : Type 0} (name : List ℕ) (needed : Bool) (IsValue : List ℕ → V → Type 0) (lines : List (List ℕ)) (value : Option V) : Type 0 where
   pub line : Option (List ℕ)
   pub once : StandsAtMostOnce name lines line
-  pub stands : IsTrue needed → IsTrue (is_some line)
+  pub stands : needed ≡ true → is_some line ≡ true
   pub is : BothOrNeither IsValue line value
 
 abbrev pub IsUidLine : List ℕ → List ℕ → Type 0
@@ -120,13 +127,17 @@ pub record SaysLength (lines : List (List ℕ)) (start : ℤ) (length : Length) 
   pub is : IsLength start end_line duration_line length
   pub most : length_seconds length ≤ 31_622_400
 
+-- SEQUENCE, 0 where it is missing (RFC 5545 3.8.7.4)
+abbrev pub SaysSequence : List (List ℕ) → ℕ → Type 0
+SaysSequence lines n = (given : Option ℕ) × Says (codes "SEQUENCE") false IsSequenceLine lines given × (n ≡ unwrap_or given 0)
+
 -- the lines of a VEVENT say this event. In a message ORGANIZER and DTSTAMP have to stand; UID and DTSTART always
 -- (RFC 5545 3.6.1, RFC 5546 3.2). Times before 1969-12-31T00:00:00Z are none; this profile's choice
 pub record SaysEvent (in_message : Bool) (lines : List (List ℕ)) (event : Event) : Type 0 where
   pub uid : Says (codes "UID") true IsUidLine lines (Some event.uid)
   pub organiser : Says (codes "ORGANIZER") in_message IsAddressLine lines event.organiser
-  pub stamp : Says (codes "DTSTAMP") in_message (λ line t. SpellsStamp (line_value line) t) lines event.stamp
-  pub sequence : (given : Option ℕ) × Says (codes "SEQUENCE") false (λ line n. SpellsSequence (line_value line) n) lines given × (event.sequence ≡ unwrap_or given 0)
+  pub stamp : Says (codes "DTSTAMP") in_message IsStampLine lines event.stamp
+  pub sequence : SaysSequence lines event.sequence
   pub status : (line : Option (List ℕ)) × StandsAtMostOnce (codes "STATUS") lines line
   pub start : Says (codes "DTSTART") true IsTime lines (Some event.start)
   pub length : SaysLength lines event.start event.length
@@ -135,9 +146,6 @@ pub record SaysEvent (in_message : Bool) (lines : List (List ℕ)) (event : Even
 
 -- ---- what isn't read yet
 
-abbrev pub has_backslash : List ℕ → Bool
-has_backslash text = list_any (λ c. c == 92) text
-
 abbrev pub is_recurrence : List ℕ → Bool
 is_recurrence line =
     is_of (codes "RRULE") line || is_of (codes "RDATE") line || is_of (codes "EXDATE") line || is_of (codes "RECURRENCE-ID") line
@@ -145,11 +153,11 @@ is_recurrence line =
 abbrev pub is_end_of_event : List ℕ → Bool
 is_end_of_event line = is_of (codes "DTSTART") line || is_of (codes "DTEND") line
 
--- a recurrence, a cancelled status, a UID with a backslash, or a start or an end in a zone
+-- a recurrence, a cancelled status, or a start or an end in a zone
 abbrev pub is_unread_line : List ℕ → Bool
 is_unread_line line =
     is_recurrence line || (is_of (codes "STATUS") line && is_same_name (line_value line) (codes "CANCELLED"))
-        || (is_of (codes "UID") line && has_backslash (line_value line)) || (is_end_of_event line && is_some (line_param (codes "TZID") line))
+        || (is_end_of_event line && is_some (line_param (codes "TZID") line))
 
 -- something in the lines isn't read yet
 abbrev pub has_unread : List (List ℕ) → Bool
@@ -184,9 +192,24 @@ is_confirmed room event = unwrap_or (option_map is_accepted (answer_of room even
 abbrev pub confirmed : List ℕ → List Event → List Booked
 confirmed room events = map booked_by (filter (is_confirmed room) events)
 
+-- ---- a calendar
+
+-- the meeting of an event: its organiser, the empty address where it is missing, and its UID
+abbrev pub meeting_said : Event → List ℕ × List ℕ
+meeting_said event = (unwrap_or event.organiser [], event.uid)
+
+-- the VEVENTs of a calendar, each as its lines, say events of which no two are of one meeting (RFC 5545 3.8.4.4),
+-- nothing in them isn't read yet, and these instances of them are confirmed for the room
+pub record SaysCalendar (room : List ℕ) (vevents : List (List (List ℕ))) (all : List Booked) : Type 0 where
+  pub events : List Event
+  pub says : AllZip (SaysEvent false) vevents events
+  pub read : list_any has_unread vevents ≡ false
+  pub differ : AllPairs ◌≢◌ (map meeting_said events)
+  pub is : all ≡ confirmed room events
+
 -- ---- what can be wrong with a VEVENT, by the number of its refusal
 
--- the lines that a property with this name has, at least two
+-- the property stands at least twice
 abbrev pub StandsTwice : List ℕ → List (List ℕ) → Type 0
 StandsTwice name lines = 1 < length (lines_named name lines)
 
@@ -197,7 +220,7 @@ IsMissing name lines = lines_named name lines ≡ []
 abbrev pub SomeLine : List ℕ → (List ℕ → Type 0) → List (List ℕ) → Type 0
 SomeLine name P lines = (line : List ℕ) × Contains (lines_named name lines) line × P line
 
--- the value begins as a UTC time would end: with `Z`
+-- the text ends as a UTC time does: with `Z`
 abbrev pub ends_in_z : List ℕ → Bool
 ends_in_z text = slice_index text (length text - 1) == 90
 
@@ -218,27 +241,21 @@ IsLocal text = (t : ℤ) × SpellsLocal text t
 
 -- the value is no UTC date-time, or VALUE says that it is something else
 abbrev pub IsNoTime : List ℕ → Type 0
-IsNoTime line = IsNoStamp (line_value line) ⊎ IsTrue (not (is_date_time line))
+IsNoTime line = IsNoStamp (line_value line) ⊎ (is_date_time line ≡ false)
 
--- what is wrong with a start or an end: 10 and 11 it is no time, 55 a date or a floating time, 56 a period
-abbrev pub TimeFault : ℕ → List ℕ → Type 0
-TimeFault n line =
-    ((n ≡ 10) × IsTrue (ends_in_z (line_value line)) × IsNoTime line)
-    ⊎ (((n ≡ 11) × IsNoTime line)
-    ⊎ (((n ≡ 55) × (IsDate (line_value line) ⊎ IsLocal (line_value line)))
-    ⊎ ((n ≡ 56) × IsTrue (has_value (codes "PERIOD") line))))
+-- what is wrong with a start or an end
+pub data TimeFault (line : List ℕ) : ℕ → Type 0 where
+  -- it ends as a UTC time does, and is none
+  no_stamp : ends_in_z (line_value line) ≡ true → IsNoTime line → TimeFault line 10
+  no_time : IsNoTime line → TimeFault line 11
+  -- a date or a floating time
+  not_fixed : IsDate (line_value line) ⊎ IsLocal (line_value line) → TimeFault line 55
+  period : has_value (codes "PERIOD") line ≡ true → TimeFault line 56
 
--- the names that may stand once, of which 61 speaks
+-- the properties that stand at most once
 abbrev pub single_names : List (List ℕ)
 single_names =
     codes "UID" ∷ codes "ORGANIZER" ∷ codes "DTSTAMP" ∷ codes "SEQUENCE" ∷ codes "STATUS" ∷ codes "DTSTART" ∷ codes "DTEND" ∷ codes "DURATION" ∷ []
-
--- 61: a property is missing that has to stand, or stands twice, or DTEND and DURATION both stand
-abbrev pub PropertyFault : Bool → List (List ℕ) → Type 0
-PropertyFault in_message lines =
-    IsMissing (codes "UID") lines ⊎ (IsMissing (codes "DTSTART") lines ⊎ ((IsTrue in_message × IsMissing (codes "DTSTAMP") lines)
-    ⊎ (((name : List ℕ) × Contains single_names name × StandsTwice name lines)
-    ⊎ (SomeLine (codes "DTEND") (λ _. Unit {0}) lines × SomeLine (codes "DURATION") (λ _. Unit {0}) lines))))
 
 -- the value of a line spells no address, no sequence number, no duration
 abbrev pub IsNoAddress : List ℕ → Type 0
@@ -248,39 +265,47 @@ abbrev pub IsNoSequence : List ℕ → Type 0
 IsNoSequence line = (n : ℕ) → SpellsSequence (line_value line) n → ⊥
 
 abbrev pub IsNoDuration : List ℕ → Type 0
-IsNoDuration text = ((days seconds : ℕ) → SpellsDuration text days seconds → ⊥) × (SpellsNegative text → ⊥)
+IsNoDuration line = ((days seconds : ℕ) → SpellsDuration (line_value line) days seconds → ⊥) × (SpellsNegative (line_value line) → ⊥)
 
--- a duration that is negative, or has a count past 32 bits
-abbrev pub IsWideOrNegative : List ℕ → Type 0
-IsWideOrNegative text =
-    SpellsNegative text
-    ⊎ ((days : ℕ) × (seconds : ℕ) × SpellsDuration text days seconds × ((2 ^ 32 ≤ days) ⊎ (2 ^ 32 ≤ seconds)))
+-- a duration that is negative, or of more than 366 days
+abbrev pub IsNegativeOrLong : List ℕ → Type 0
+IsNegativeOrLong line = SpellsNegative (line_value line) ⊎ ((length : Length) × LastsFor line length × (31_622_400 < length_seconds length))
 
--- the lines hold a start, and a length from it of more seconds than allowed, or fewer than none
-abbrev pub EndsBeforeStart : List (List ℕ) → Type 0
-EndsBeforeStart lines =
-    (start : ℤ) × (end : ℤ) × SomeLine (codes "DTSTART") (λ line. IsTime line start) lines
-    × SomeLine (codes "DTEND") (λ line. IsTime line end) lines × (end <ℤ start)
+-- the lines hold a start and an end, and so do the two lie
+abbrev pub StartAndEnd : (ℤ → ℤ → Type 0) → List (List ℕ) → Type 0
+StartAndEnd R lines =
+    (start : ℤ) × (end : ℤ) × SomeLine (codes "DTSTART") (λ line. IsTime line start) lines × SomeLine (codes "DTEND") (λ line. IsTime line end) lines × R start end
 
-abbrev pub IsTooLong : List (List ℕ) → Type 0
-IsTooLong lines =
-    ((start : ℤ) × (end : ℤ) × SomeLine (codes "DTSTART") (λ line. IsTime line start) lines
-    × SomeLine (codes "DTEND") (λ line. IsTime line end) lines × ((start +ℤ pos 31_622_400) <ℤ end))
-    ⊎ (((length : Length) × SomeLine (codes "DURATION") (λ line. LastsFor line length) lines × (31_622_400 < length_seconds length))
-    ⊎ SomeLine (codes "DURATION") (λ line. IsWideOrNegative (line_value line)) lines)
+-- the fault of this number stands in the lines of a VEVENT
+pub data EventFault (in_message : Bool) (lines : List (List ℕ)) : ℕ → Type 0 where
+  bad_start : {n : ℕ} → SomeLine (codes "DTSTART") (λ line. TimeFault line n) lines → EventFault in_message lines n
+  bad_end : {n : ℕ} → SomeLine (codes "DTEND") (λ line. TimeFault line n) lines → EventFault in_message lines n
+  bad_stamp : SomeLine (codes "DTSTAMP") (λ line. IsNoStamp (line_value line)) lines → EventFault in_message lines 10
+  bad_duration : SomeLine (codes "DURATION") IsNoDuration lines → EventFault in_message lines 12
+  bad_uid : SomeLine (codes "UID") (λ line. IsUid (unescaped (line_value line)) → ⊥) lines → EventFault in_message lines 14
+  bad_organiser : SomeLine (codes "ORGANIZER") IsNoAddress lines → EventFault in_message lines 15
+  bad_attendee : SomeLine (codes "ATTENDEE") IsNoAddress lines → EventFault in_message lines 15
+  bad_sequence : SomeLine (codes "SEQUENCE") IsNoSequence lines → EventFault in_message lines 16
+  -- it ends before it starts
+  ends_early : StartAndEnd (λ start end. end <ℤ start) lines → EventFault in_message lines 50
+  -- it lasts longer than 366 days
+  ends_late : StartAndEnd (λ start end. (start +ℤ pos 31_622_400) <ℤ end) lines → EventFault in_message lines 51
+  lasts_long : SomeLine (codes "DURATION") IsNegativeOrLong lines → EventFault in_message lines 51
+  -- it starts before 1969-12-31T00:00:00Z
+  starts_early : (start : ℤ) → SomeLine (codes "DTSTART") (λ line. IsTime line start) lines → start <ℤ negsuc 86_399 → EventFault in_message lines 52
+  no_uid : IsMissing (codes "UID") lines → EventFault in_message lines 61
+  no_start : IsMissing (codes "DTSTART") lines → EventFault in_message lines 61
+  no_stamp_given : in_message ≡ true → IsMissing (codes "DTSTAMP") lines → EventFault in_message lines 61
+  twice : (name : List ℕ) → Contains single_names name → StandsTwice name lines → EventFault in_message lines 61
+  end_and_duration : SomeLine (codes "DTEND") (λ _. Unit {0}) lines → SomeLine (codes "DURATION") (λ _. Unit {0}) lines → EventFault in_message lines 61
+  no_organiser : in_message ≡ true → IsMissing (codes "ORGANIZER") lines → EventFault in_message lines 63
 
--- the fault of this number, 10 to 16, 50 to 52, 55, 56, 61 or 63, stands in the lines of a VEVENT
-abbrev pub EventFault : Bool → ℕ → List (List ℕ) → Type 0
-EventFault in_message n lines =
-    SomeLine (codes "DTSTART") (TimeFault n) lines
-    ⊎ (SomeLine (codes "DTEND") (TimeFault n) lines
-    ⊎ (((n ≡ 10) × SomeLine (codes "DTSTAMP") (λ line. IsNoStamp (line_value line)) lines)
-    ⊎ (((n ≡ 12) × SomeLine (codes "DURATION") (λ line. IsNoDuration (line_value line)) lines)
-    ⊎ (((n ≡ 14) × SomeLine (codes "UID") (λ line. IsUid (unescaped (line_value line)) → ⊥) lines)
-    ⊎ (((n ≡ 15) × (SomeLine (codes "ORGANIZER") IsNoAddress lines ⊎ SomeLine (codes "ATTENDEE") IsNoAddress lines))
-    ⊎ (((n ≡ 16) × SomeLine (codes "SEQUENCE") IsNoSequence lines)
-    ⊎ (((n ≡ 50) × EndsBeforeStart lines)
-    ⊎ (((n ≡ 51) × IsTooLong lines)
-    ⊎ (((n ≡ 52) × (start : ℤ) × SomeLine (codes "DTSTART") (λ line. IsTime line start) lines × (start <ℤ negsuc 86_399))
-    ⊎ (((n ≡ 61) × PropertyFault in_message lines)
-    ⊎ ((n ≡ 63) × IsTrue in_message × IsMissing (codes "ORGANIZER") lines)))))))))))
+-- ---- what can be wrong with a calendar's VEVENTs, each of them as its lines
+
+pub data CalendarFault (vevents : List (List (List ℕ))) : ℕ → Type 0 where
+  -- one of them has this fault
+  in_event : {n : ℕ} → (lines : List (List ℕ)) → Contains vevents lines → EventFault false lines n → CalendarFault vevents n
+  -- two of them are of one meeting
+  one_meeting : (events : List Event) → AllZip (SaysEvent false) vevents events → (AllPairs ◌≢◌ (map meeting_said events) → ⊥) → CalendarFault vevents 53
+  -- something in them isn't read yet
+  not_yet : list_any has_unread vevents ≡ true → CalendarFault vevents 99

@@ -7,6 +7,9 @@ pub mod Instances
 pub mod Certificates
 pub mod Revisions
 pub mod Events
+pub mod Calendars
 pub mod Messages
 pub mod Rooms
 pub mod Kept
+pub mod Trees
+pub mod Streams

@@ -4,10 +4,10 @@ use crate::answer::LimitKind;
 use crate::meeting::{Decided, Outcome};
 use crate::taking::Taken;
 use cal_events::InstanceKey;
-use clash_cert::OwnedKey;
-use ical_values::Address;
+use clash_cert::{Clash, OwnedKey};
+use ical_values::{Address, Stamp};
 use itip_messages::{Conflict, Decision, ReplyEvent, write_reply};
-use itip_order::{Freshness, Part};
+use itip_order::{Freshness, Part, Slot};
 use std::alloc::{AllocError, Global};
 
 /// The REPLY's octets, None where the part isn't in the view.
@@ -18,47 +18,68 @@ pub fn reply_to(
     taken: &Taken,
 ) -> Result<Option<Vec<u8>>, AllocError> {
     match (&taken.meeting.decided, taken.freshness) {
-        (Some(decided), Freshness::Fresh | Freshness::Same) => {
-            Ok(Some(reply_of(alloc, room, part, decided)?))
-        }
+        (Some(decided), Freshness::Fresh | Freshness::Same) => reply_of(alloc, room, part, decided),
         _ => Ok(None),
     }
 }
 
-/// The REPLY that tells the answer to a part.
-fn reply_of(
+/// The REPLY that tells the answer to a part, None where a clash has an instant that no stamp can write.
+fn reply_of<'a>(
     alloc: Global,
-    room: &Address,
-    part: &Part,
-    decided: &Decided,
-) -> Result<Vec<u8>, AllocError> {
+    room: &'a Address,
+    part: &'a Part,
+    decided: &'a Decided,
+) -> Result<Option<Vec<u8>>, AllocError> {
+    let Some(event) = event_of(room, part, decided) else {
+        return Ok(None);
+    };
     let mut octets = Vec::new(alloc);
-    write_reply(&[event_of(room, part, decided)], &mut octets)?;
-    Ok(octets)
+    write_reply(&[event], &mut octets)?;
+    Ok(Some(octets))
 }
 
-fn event_of<'a>(room: &'a Address, part: &'a Part, decided: &'a Decided) -> ReplyEvent<'a> {
-    ReplyEvent {
+fn event_of<'a>(
+    room: &'a Address,
+    part: &'a Part,
+    decided: &'a Decided,
+) -> Option<ReplyEvent<'a>> {
+    let Some(decision) = decision_of(&decided.outcome) else {
+        return None;
+    };
+    Some(ReplyEvent {
         uid: &part.uid,
-        slot: part.slot,
+        recurrence: recurrence_of(part.slot),
         sequence: part.revision.sequence,
         moment: decided.moment,
         organiser: &part.organiser,
         room,
-        decision: decision_of(&decided.outcome),
+        decision,
+    })
+}
+
+fn recurrence_of(slot: Slot) -> Option<Stamp> {
+    match slot {
+        Slot::Whole => None,
+        Slot::At(instant) => Stamp::of_instant(instant),
     }
 }
 
-fn decision_of(outcome: &Outcome) -> Decision<'_> {
+/// The decision, None where a clash has an instant that no stamp can write.
+fn decision_of(outcome: &Outcome) -> Option<Decision<'_>> {
     match outcome {
-        Outcome::Accepted => Decision::Accepted,
-        Outcome::Limit(LimitKind::Series) => Decision::SeriesLimit,
-        Outcome::Limit(LimitKind::Singles) => Decision::SinglesLimit,
-        Outcome::Declined(clash) => Decision::Busy(Conflict {
-            instant: clash.instant,
-            first: borrowed_key(&clash.first),
-            second: borrowed_key(&clash.second),
-        }),
+        Outcome::Accepted => Some(Decision::Accepted),
+        Outcome::Limit(LimitKind::Series) => Some(Decision::SeriesLimit),
+        Outcome::Limit(LimitKind::Singles) => Some(Decision::SinglesLimit),
+        Outcome::Declined(clash) => busy(clash),
+    }
+}
+
+fn busy(clash: &Clash) -> Option<Decision<'_>> {
+    let first = borrowed_key(&clash.first);
+    let second = borrowed_key(&clash.second);
+    match Conflict::of(clash.instant, first, second) {
+        Some(conflict) => Some(Decision::Busy(conflict)),
+        None => None,
     }
 }
 

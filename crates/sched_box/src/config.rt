@@ -67,15 +67,25 @@ impl Config {
         self.rooms.iter().any(|hosted| *hosted == *room)
     }
 
+    /// Adds a room; one that is there is refused.
+    fn add_room(&mut self, alloc: Global, address: &str) -> Result<(), Fault>
+        ensures refuses { IfErr result (RefusesOnly is_preamble_fault) }
+    {
+        let room = match Address::read(alloc, address) {
+            Ok(room) => room,
+            Err(Fault::Memory) => return Err(Fault::Memory),
+            Err(Fault::Refused(_)) => return Err(refused()),
+        };
+        if self.has_room(&room) {
+            return Err(refused());
+        }
+        self.rooms.push(room)?;
+        Ok(())
+    }
+
     fn is_empty(&self) -> bool {
         self.rooms.is_empty() && self.organisers.is_empty()
     }
-}
-
-/// What one line of a preamble says.
-enum Setting {
-    Now(Stamp),
-    Room(Address),
 }
 
 fn refused() -> Fault
@@ -121,7 +131,7 @@ fn without_break(line: &str) -> &str {
     line.strip_suffix('\r').unwrap_or(line)
 }
 
-/// Adds what a line says; a second `now`, and a room that is there, are refused.
+/// Adds what a line says: the moment, or a room.
 fn add_line(
     alloc: Global,
     line: &str,
@@ -130,33 +140,23 @@ fn add_line(
 ) -> Result<(), Fault>
     ensures refuses { IfErr result (RefusesOnly is_preamble_fault) }
 {
-    match setting_of(alloc, line)? {
-        Setting::Now(_) if now.is_some() => Err(refused()),
-        Setting::Now(stamp) => {
-            *now = Some(stamp);
-            Ok(())
-        }
-        Setting::Room(room) if config.has_room(&room) => Err(refused()),
-        Setting::Room(room) => {
-            config.rooms.push(room)?;
-            Ok(())
-        }
+    match line.split_once(' ') {
+        Some(("now", stamp)) => add_now(stamp, now),
+        Some(("room", address)) => config.add_room(alloc, address),
+        _ => Err(refused()),
     }
 }
 
-fn setting_of(alloc: Global, line: &str) -> Result<Setting, Fault>
+/// Adds the moment; a second one is refused.
+fn add_now(stamp: &str, now: &mut Option<Stamp>) -> Result<(), Fault>
     ensures refuses { IfErr result (RefusesOnly is_preamble_fault) }
 {
-    match line.split_once(' ') {
-        Some(("now", stamp)) => match Stamp::read(stamp) {
-            Ok(stamp) => Ok(Setting::Now(stamp)),
-            Err(_) => Err(refused()),
-        },
-        Some(("room", address)) => match Address::read(alloc, address) {
-            Ok(room) => Ok(Setting::Room(room)),
-            Err(Fault::Memory) => Err(Fault::Memory),
-            Err(Fault::Refused(_)) => Err(refused()),
-        },
-        _ => Err(refused()),
+    if now.is_some() {
+        return Err(refused());
     }
+    let Ok(stamp) = Stamp::read(stamp) else {
+        return Err(refused());
+    };
+    *now = Some(stamp);
+    Ok(())
 }

@@ -1,5 +1,8 @@
 //! The preamble of a stream: its lines are taken from the reader up to the empty one, and nothing after it.
 
+ghost use Rattle.std.specs.Prelude.{IfErr};
+ghost use Rattle.sched_box.specs.Faults.{RefusesPreamble};
+
 use crate::config::{Config, LONGEST};
 use crate::fault::{ServeFault, StreamFault};
 use ical_lines::{Fault, Refusal};
@@ -13,7 +16,9 @@ use std::io::BufRead;
 pub fn read_preamble<R: BufRead>(
     alloc: Global,
     reader: &mut R,
-) -> Result<(Config, Stamp), StreamFault> {
+) -> Result<(Config, Stamp), StreamFault>
+    ensures refuses { IfErr result RefusesPreamble }
+{
     let octets = take_preamble(alloc, reader)?;
     match Config::read_with_now(alloc, octets.as_slice()) {
         Ok(read) => Ok(read),
@@ -24,7 +29,9 @@ pub fn read_preamble<R: BufRead>(
 
 /// The octets of a preamble, its empty line included. Each turn takes an octet at least, so there are at most
 /// as many turns as a preamble may have octets, and one.
-fn take_preamble<R: BufRead>(alloc: Global, reader: &mut R) -> Result<Vec<u8>, StreamFault> {
+fn take_preamble<R: BufRead>(alloc: Global, reader: &mut R) -> Result<Vec<u8>, StreamFault>
+    ensures refuses { IfErr result RefusesPreamble }
+{
     let mut octets = Vec::new(alloc);
     for _ in 0..LONGEST + 1 {
         let more = take_piece(reader, &mut octets)?;
@@ -39,7 +46,9 @@ fn take_preamble<R: BufRead>(alloc: Global, reader: &mut R) -> Result<Vec<u8>, S
 }
 
 /// Takes octets up to a line break, or all that the reader lends at once; false at the end of the input.
-fn take_piece<R: BufRead>(reader: &mut R, octets: &mut Vec<u8>) -> Result<bool, StreamFault> {
+fn take_piece<R: BufRead>(reader: &mut R, octets: &mut Vec<u8>) -> Result<bool, StreamFault>
+    ensures refuses { IfErr result RefusesPreamble }
+{
     let Ok(lent) = reader.fill_buf() else {
         return Err(StreamFault::Serve(ServeFault::Read));
     };

@@ -1,5 +1,8 @@
 //! Serving: each object goes to the rooms that it is addressed to, and what they answer is written.
 
+ghost use Rattle.std.specs.Prelude.{◌≤◌, IfErr, IfOk};
+ghost use Rattle.sched_box.specs.Faults.{RefusesPreamble};
+
 use crate::config::Config;
 use crate::fault::{ServeFault, StreamFault};
 use crate::objects::Objects;
@@ -24,7 +27,10 @@ pub fn serve_stream<R: BufRead, W: Write>(
     alloc: Global,
     reader: &mut R,
     writer: &mut W,
-) -> Result<ServeReport, StreamFault> {
+) -> Result<ServeReport, StreamFault>
+    ensures counts { IfOk result (λ report. report.refused ≤ report.objects) }
+    ensures refuses { IfErr result RefusesPreamble }
+{
     let (config, now) = read_preamble(alloc, reader)?;
     Ok(serve(alloc, &config, reader, writer, now)?)
 }
@@ -38,7 +44,9 @@ pub fn serve<R: BufRead, W: Write>(
     reader: &mut R,
     writer: &mut W,
     now: Stamp,
-) -> Result<ServeReport, ServeFault> {
+) -> Result<ServeReport, ServeFault>
+    ensures counts { IfOk result (λ report. report.refused ≤ report.objects) }
+{
     let mut rooms = rooms_of(alloc, config)?;
     serve_rooms(alloc, &mut rooms, reader, writer, now)
 }
@@ -51,19 +59,28 @@ pub fn keep<R: BufRead>(
     reader: &mut R,
     now: Stamp,
     room: &Address,
-) -> Result<(Vec<u8>, Vec<u8>), StreamFault> {
+) -> Result<(Vec<u8>, Vec<u8>), StreamFault>
+    ensures refuses { IfErr result RefusesPreamble }
+{
     let mut rooms = rooms_of(alloc, config)?;
     let Some(place) = rooms.iter().position(|hosted| *hosted.address() == *room) else {
-        return Err(StreamFault::Refused(Refusal::BAD_PREAMBLE));
+        return Err(not_hosted());
     };
     let mut nowhere = io::sink();
     serve_rooms(alloc, &mut rooms, reader, &mut nowhere, now)?;
     let Some(kept) = rooms.get(place) else {
-        return Err(StreamFault::Refused(Refusal::BAD_PREAMBLE));
+        return Err(not_hosted());
     };
     let calendar = kept.calendar_text()?;
     let certificate = kept.certificate_text()?;
     Ok((calendar, certificate))
+}
+
+/// What a room gets that the box doesn't host: 90.
+fn not_hosted() -> StreamFault
+    ensures refuses { RefusesPreamble result }
+{
+    StreamFault::Refused(Refusal::BAD_PREAMBLE)
 }
 
 /// An empty room for each address, in the order of the configuration.
@@ -81,7 +98,9 @@ fn serve_rooms<R: BufRead, W: Write>(
     reader: &mut R,
     writer: &mut W,
     now: Stamp,
-) -> Result<ServeReport, ServeFault> {
+) -> Result<ServeReport, ServeFault>
+    ensures counts { IfOk result (λ report. report.refused ≤ report.objects) }
+{
     let mut report = ServeReport {
         objects: 0,
         refused: 0,

@@ -7,12 +7,14 @@ use std::alloc::Global;
 use std::io::{self, BufReader, ErrorKind, Read, Write};
 use std::test::Fail;
 
-const STREAM: &str = "now 20250102T000000Z\nroom mailto:r1@example.com\n\nBEGIN:VCALENDAR\r\nVERSION:2.0\r\nMETHOD:REQUEST\r\n\
+const STREAM: &str =
+    "now 20250102T000000Z\nroom mailto:r1@example.com\n\nBEGIN:VCALENDAR\r\nVERSION:2.0\r\nMETHOD:REQUEST\r\n\
     BEGIN:VEVENT\r\nUID:a\r\nDTSTAMP:20250101T000000Z\r\nORGANIZER:mailto:ann@example.com\r\n\
     ATTENDEE:mailto:r1@example.com\r\nDTSTART:20250310T090000Z\r\nDURATION:PT1H\r\nEND:VEVENT\r\nEND:VCALENDAR\r\n\
     BEGIN:VCALENDAR\r\nVERSION:2.0\r\nMETHOD:CANCEL\r\nEND:VCALENDAR\r\n";
 
-const ANSWERS: &str = "BEGIN:VCALENDAR\r\nVERSION:2.0\r\nPRODID:-//iTIP room box//EN\r\nMETHOD:REPLY\r\nBEGIN:VEVENT\r\n\
+const ANSWERS: &str =
+    "BEGIN:VCALENDAR\r\nVERSION:2.0\r\nPRODID:-//iTIP room box//EN\r\nMETHOD:REPLY\r\nBEGIN:VEVENT\r\n\
     UID:a\r\nSEQUENCE:0\r\nDTSTAMP:20250102T000000Z\r\nORGANIZER:mailto:ann@example.com\r\n\
     ATTENDEE;PARTSTAT=ACCEPTED:mailto:r1@example.com\r\nREQUEST-STATUS:2.0;Success\r\nEND:VEVENT\r\nEND:VCALENDAR\r\n\
     REFUSED;OBJECT=2:99\r\n";
@@ -102,9 +104,16 @@ fn a_reader_that_fails_ends_the_call(rt: HostRuntime) -> Result<(), Fail> {
     for call in 1..400u32 {
         let (report, written) = served(rt.alloc(), call, 0)?;
         if call as usize <= STREAM.len() {
-            assert_eq!(rt; report, Err(StreamFault::Serve(ServeFault::Read)), "at call {call}");
+            assert_eq!(rt;
+                report,
+                Err(StreamFault::Serve(ServeFault::Read)),
+                "at call {call}"
+            );
         }
-        assert!(rt; ANSWERS.as_bytes().starts_with(written.as_slice()), "at call {call}");
+        assert!(rt;
+            ANSWERS.as_bytes().starts_with(written.as_slice()),
+            "at call {call}"
+        );
     }
     Ok(())
 }
@@ -114,10 +123,56 @@ fn a_writer_that_fails_ends_the_call(rt: HostRuntime) -> Result<(), Fail> {
     for call in 1..400u32 {
         let (report, written) = served(rt.alloc(), 0, call)?;
         if call as usize <= ANSWERS.len() {
-            assert_eq!(rt; report, Err(StreamFault::Serve(ServeFault::Write)), "at call {call}");
+            assert_eq!(rt;
+                report,
+                Err(StreamFault::Serve(ServeFault::Write)),
+                "at call {call}"
+            );
             assert_eq!(rt; written.len() + 1, call as usize);
         }
-        assert!(rt; ANSWERS.as_bytes().starts_with(written.as_slice()), "at call {call}");
+        assert!(rt;
+            ANSWERS.as_bytes().starts_with(written.as_slice()),
+            "at call {call}"
+        );
+    }
+    Ok(())
+}
+
+/// An object of this many octets: a VCALENDAR with one long line.
+fn long_object(alloc: Global, octets: usize) -> Result<Vec<u8>, Fail> {
+    let mut object = Vec::from_slice(alloc, b"BEGIN:VCALENDAR\r\nX-LONG:")?;
+    let end = b"\r\nEND:VCALENDAR\r\n";
+    for _ in object.len()..octets.saturating_sub(end.len()) {
+        object.push(b'x')?;
+    }
+    object.extend_from_slice(end)?;
+    Ok(object)
+}
+
+#[test]
+fn an_object_that_is_too_long_is_refused_and_the_next_is_answered(
+    rt: HostRuntime,
+) -> Result<(), Fail> {
+    for (octets, expected) in [
+        (1_048_576, "REFUSED;OBJECT=1:24\r\n"),
+        (1_048_577, "REFUSED;OBJECT=1:6\r\n"),
+    ] {
+        let object = long_object(rt.alloc(), octets)?;
+        assert_eq!(rt; object.len(), octets);
+        let mut stream = Vec::from_slice(
+            rt.alloc(),
+            b"now 20250102T000000Z\nroom mailto:r1@example.com\n\n",
+        )?;
+        stream.extend_from_slice(object.as_slice())?;
+        stream.extend_from_slice(
+            b"BEGIN:VCALENDAR\r\nVERSION:2.0\r\nMETHOD:REQUEST\r\nEND:VCALENDAR\r\n",
+        )?;
+        let mut written = Vec::new(rt.alloc());
+        let report = serve_stream(rt.alloc(), &mut stream.as_slice(), &mut written)?;
+        assert_eq!(rt; report.objects, 2);
+        let text = std::str::from_utf8(written.as_slice()).map_err(|_| "text")?;
+        assert!(rt; text.starts_with(expected), "{text}");
+        assert!(rt; text.ends_with("REFUSED;OBJECT=2:66\r\n"), "{text}");
     }
     Ok(())
 }

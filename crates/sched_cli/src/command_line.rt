@@ -19,12 +19,19 @@ pub enum Invocation<'a> {
     },
 }
 
-const ABOUT: &str = "Keeps rooms free of clashes: answers iCalendar meeting requests, and proves its answers";
-const SERVE: &str = "Reads a preamble and meeting requests, and writes a reply for each (also with no command).\n\
+const ABOUT: &str =
+    "Keeps rooms free of clashes: answers iCalendar meeting requests, and proves its answers";
+
+const SERVE: &str =
+    "Reads a preamble and meeting requests, and writes a reply for each (also with no command).\n\
     Example: roombox serve < examples/first-request.ics-stream";
-const KEEP: &str = "Reads the same input, and prints what a room keeps after it: its calendar, or its certificate.\n\
+
+const KEEP: &str =
+    "Reads the same input, and prints what a room keeps after it: its calendar, or its certificate.\n\
     Example: roombox keep mailto:r1@example.com < examples/first-request.ics-stream";
-const CHECK: &str = "Prints yes where the certificate shows that no two confirmed instances of the room share an \
+
+const CHECK: &str =
+    "Prints yes where the certificate shows that no two confirmed instances of the room share an \
     instant, else no and why.\nExample: roombox check kept.ics kept.cert mailto:r1@example.com";
 
 /// Reads the words; the first is the program's name.

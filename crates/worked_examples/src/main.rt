@@ -8,9 +8,8 @@ use case::{Case, Outcome};
 use ical_values::Address;
 use sched_cli::commands::{Kept, run_check, run_keep, run_serve};
 use std::alloc::Global;
-use std::fs;
-use std::io;
 use std::rt::Files;
+use std::{fs, io};
 
 const ROOM: &str = "mailto:r1@example.com";
 

@@ -1,4 +1,4 @@
-use Rattle.std.proofs.Common.{◌≡◌, ◌∙◌, sym, arith, refl, Some, None, ap}
+use Rattle.std.proofs.Common.{◌∙◌, arith, Some, None, ap}
 use Rattle.std.proofs.lemmas.Str.Pattern.{split_after}
 use Rattle.profile.specs.Values.{is_scheme, is_path}
 use Rattle.ical_values.proofs.Addresses.{scheme_no_colon}

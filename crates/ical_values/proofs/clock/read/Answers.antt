@@ -1,4 +1,3 @@
-use Rattle.std.proofs.Common.{arith, refl}
 use Rattle.ical_values.proofs.Spelled.{clock_parts, clock_found, clock_sum}
 use Rattle.ical_values.proofs.clock.read.Goals as goal
 

@@ -1,5 +1,5 @@
-use Rattle.std.proofs.Common.{arith, refl, ◌≡◌, ◌∙◌, rules}
-use Rattle.ical_values.proofs.Spelled.{date_found, DateDigits, small_32, same_64}
+use Rattle.std.proofs.Common.{refl, ◌∙◌, rules}
+use Rattle.ical_values.proofs.Spelled.{date_found, small_32, same_64}
 use Rattle.ical_values.proofs.clock.read_date.Goals as goal
 
 pub returns-in-Some-of-clause-found : goal.returns-in-Some-of-clause-found

@@ -1,4 +1,4 @@
-use Rattle.std.proofs.Common.{◌≡◌, ◌≤ℤ◌, ◌∙◌, ap, ◌++◌, sym, arith, pos, to_z, of_z, to_z-of_z, w64, rules}
+use Rattle.std.proofs.Common.{◌≤ℤ◌, arith, pos, to_z-of_z}
 use Rattle.std.proofs.lemmas.Int.{ints}
 use Rattle.std.proofs.lemmas.Result.{on_ok_weaker}
 use Rattle.ical_values.proofs.Spelled.{clock_pieces, same_64}

@@ -1,6 +1,6 @@
-use Rattle.std.proofs.Common.{◌≡◌, arith, Some, None}
+use Rattle.std.proofs.Common.{arith, Some, None}
 use Rattle.std.proofs.lemmas.Str.Pattern.{strip_prefix_char}
-use Rattle.ical_values.proofs.Offsets.{plus_none, minus_none, minus_zero, sign_none}
+use Rattle.ical_values.proofs.Offsets.{plus_none, minus_none, sign_none}
 use Rattle.ical_values.proofs.offset.read_seconds.Goals as goal
 
 pub returns-in-None-clause-none : goal.returns-in-None-clause-none

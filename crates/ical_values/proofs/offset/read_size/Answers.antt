@@ -1,4 +1,3 @@
-use Rattle.std.proofs.Common.{◌≡◌, ◌≢◌, arith, length}
 use Rattle.ical_values.proofs.Offsets.{if_none_weaker, size_of_four, size_of_others}
 use Rattle.ical_values.proofs.offset.read_size.Goals as goal
 

@@ -1,4 +1,4 @@
-use Rattle.std.proofs.Common.{◌≡◌, ◌∙◌, sym, arith, refl, Some, None}
+use Rattle.std.proofs.Common.{sym, arith, refl, Some, None}
 use Rattle.std.proofs.lemmas.Str.Pattern.{strip_prefix_char}
 use Rattle.ical_values.proofs.Escapes.{unescaped_pair, unescaped_lone, no_escape}
 use Rattle.ical_values.proofs.text.escape_at.Goals as goal

@@ -1,4 +1,4 @@
-use Rattle.std.proofs.Common.{◌≡◌, ◌∙◌}
+use Rattle.std.proofs.Common.{◌∙◌}
 use Rattle.ical_values.proofs.Addresses.{lower_text}
 use Rattle.ical_values.proofs.address.Address.read.Goals as goal
 

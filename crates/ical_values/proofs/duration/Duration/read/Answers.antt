@@ -1,4 +1,4 @@
-use Rattle.std.proofs.Common.{◌≡◌, ◌∙◌, arith, ap, Some, None, inr}
+use Rattle.std.proofs.Common.{arith, Some, None, inr}
 use Rattle.std.proofs.lemmas.Result.{IfOk-weaker, IfErr-weaker}
 use Rattle.std.proofs.lemmas.Str.Pattern.{strip_prefix_char}
 use Rattle.ical_values.proofs.Signs.{plus_reads, plus_none, plus_long, bare_reads, bare_none, bare_not_negative, bare_long, minus_none}

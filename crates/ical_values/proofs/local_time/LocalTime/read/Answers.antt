@@ -1,4 +1,3 @@
-use Rattle.std.proofs.Common.{◌≡◌}
 use Rattle.ical_values.proofs.local_time.LocalTime.read.Goals as goal
 
 pub returns-in-None-clause-none : goal.returns-in-None-clause-none

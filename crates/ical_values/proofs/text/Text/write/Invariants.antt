@@ -1,4 +1,4 @@
-use Rattle.std.proofs.Common.{◌≡◌, ◌++◌, length, take, string_bytes}
+use Rattle.std.proofs.Common.{◌≡◌, ◌++◌, length, take}
 use Rattle.profile.specs.Values.{escaped}
 use Rattle.ical_values.proofs.text.Text.write.Given as goal
 

@@ -1,0 +1,142 @@
+"""Measures roombox and prints one table. Each line names the work, its size, the time, the rate, the peak memory, and the
+growth of the time from a tenth of the size.
+
+    python3 bench/bench.py bin/roombox
+"""
+
+import os
+import subprocess
+import sys
+import tempfile
+import time
+from datetime import datetime, timedelta
+
+ROOM = "mailto:r{}@example.com"
+FIRST = datetime(2025, 1, 6)
+REQUEST = """BEGIN:VCALENDAR
+VERSION:2.0
+PRODID:-//bench//EN
+METHOD:REQUEST
+BEGIN:VEVENT
+UID:meeting-{number}@example.com
+SEQUENCE:0
+DTSTAMP:20250101T000000Z
+ORGANIZER:mailto:ann@example.com
+ATTENDEE:{room}
+DTSTART:{start}
+DURATION:PT1H
+{extra}END:VEVENT
+END:VCALENDAR
+"""
+EVENT = """BEGIN:VEVENT
+UID:meeting-{number}@example.com
+SEQUENCE:0
+DTSTAMP:20250101T000000Z
+DTSTART:{start}
+DURATION:PT3600S
+ORGANIZER:mailto:ann@example.com
+ATTENDEE;PARTSTAT=ACCEPTED:{room}
+END:VEVENT
+"""
+
+
+def stamp(number):
+    """The start of meeting `number`: each has an hour of its own."""
+    return (FIRST + timedelta(hours=number)).strftime("%Y%m%dT%H%M%SZ")
+
+
+def crlf(text):
+    return text.replace("\n", "\r\n").encode()
+
+
+def preamble(rooms):
+    lines = ["now 20250102T000000Z"] + ["room " + ROOM.format(room) for room in range(rooms)]
+    return ("\n".join(lines) + "\n\n").encode()
+
+
+def requests(count, rooms=1):
+    """A stream of requests, none of which clashes with another, spread over the rooms in turn."""
+    yield preamble(rooms)
+    for number in range(count):
+        room = ROOM.format(number % rooms)
+        yield crlf(REQUEST.format(number=number, room=room, start=stamp(number), extra=""))
+
+
+def large_objects(count):
+    """A stream of requests of about 1 MB each, most of it in folded lines."""
+    folded = "DESCRIPTION:" + "\n ".join("x" * 74 for _ in range(13_000)) + "\n"
+    yield preamble(1)
+    for number in range(count):
+        yield crlf(REQUEST.format(number=number, room=ROOM.format(0), start=stamp(number), extra=folded))
+
+
+def calendar(count):
+    yield crlf("BEGIN:VCALENDAR\nVERSION:2.0\nPRODID:-//bench//EN\n")
+    for number in range(count):
+        yield crlf(EVENT.format(number=number, room=ROOM.format(0), start=stamp(number)))
+    yield crlf("END:VCALENDAR\n")
+
+
+def run(words, stream):
+    """Seconds, peak octets and output of one run."""
+    with tempfile.TemporaryFile() as output:
+        begun = time.monotonic()
+        child = subprocess.Popen(words, stdin=stream, stdout=output)
+        _, status, usage = os.wait4(child.pid, 0)
+        seconds = time.monotonic() - begun
+        child.returncode = os.waitstatus_to_exitcode(status)
+        output.seek(0)
+        return seconds, usage.ru_maxrss * 1024, child.returncode, output.read()
+
+
+def serve(program, pieces, accepted):
+    with tempfile.TemporaryFile() as stream:
+        size = sum(stream.write(piece) for piece in pieces)
+        stream.seek(0)
+        seconds, peak, status, output = run([program, "serve"], stream)
+    if status != 0 or output.count(b"PARTSTAT=ACCEPTED") != accepted:
+        sys.exit(f"serve: status {status}, {output.count(b'PARTSTAT=ACCEPTED')} accepted of {accepted}")
+    return seconds, peak, size
+
+
+def check(program, count):
+    with tempfile.TemporaryDirectory() as folder:
+        kept, certificate = os.path.join(folder, "kept.ics"), os.path.join(folder, "kept.cert")
+        with open(kept, "wb") as file:
+            size = sum(file.write(piece) for piece in calendar(count))
+        with open(certificate, "w", encoding="ascii") as file:
+            file.write(f"ROOMCERT 1\nSINGLES {count}\nSERIES 0\nDONE\n")
+        seconds, peak, status, output = run([program, "check", kept, certificate, ROOM.format(0)], None)
+    if (status, output) != (0, b"yes\n"):
+        sys.exit(f"check: status {status}, {output!r}")
+    return seconds, peak, size
+
+
+def line(work, count, seconds, rate, peak, growth=""):
+    print(f"{work:<38}{count:>9}{seconds:>9.2f}{rate:>16}{peak / 2**20:>10.1f}{growth:>8}")
+
+
+def main():
+    program = sys.argv[1]
+    largest = 1_000_000 if "--large" in sys.argv else 100_000
+    print(f"{'work':<38}{'objects':>9}{'seconds':>9}{'rate':>16}{'peak MiB':>10}{'growth':>8}")
+    before = None
+    for count in (1_000, 10_000):
+        seconds, peak, _ = serve(program, requests(count), count)
+        growth = f"{seconds / before:.1f}" if before else ""
+        line("requests for one room", count, seconds, f"{int(count / seconds)}/s", peak, growth)
+        before = seconds
+    for rooms in (16, 32):
+        seconds, peak, _ = serve(program, requests(10_000, rooms), 10_000)
+        line(f"the same requests over {rooms} rooms", 10_000, seconds, f"{int(10_000 / seconds)}/s", peak)
+    seconds, peak, size = serve(program, large_objects(20), 20)
+    line("objects of 1 MB with folded lines", 20, seconds, f"{size / seconds / 1e6:.0f} MB/s", peak)
+    before = None
+    for count in (largest // 10, largest):
+        seconds, peak, size = check(program, count)
+        growth = f"{seconds / before:.1f}" if before else ""
+        line("singles checked", count, seconds, f"{size / seconds / 1e6:.0f} MB/s", peak, growth)
+        before = seconds
+
+
+main()

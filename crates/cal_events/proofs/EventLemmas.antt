@@ -1,0 +1,258 @@
+-- What the readers of a VEVENT's properties say, put together.
+use Rattle.std.proofs.Common.{◌≡◌, ℕ, zero, suc, ◌+◌, ◌<◌, ◌≤◌, Bool, true, false, eqb, List, [], ◌∷◌, ◌++◌, ◌-◌, length, length-append, get_or, take, drop, drop-cons, add-one, append_assoc, cond, map, codes, subst, sym, refl, ap, ◌∙◌, inl, inr, arith, ℤ, pos, ◌+ℤ◌, ◌<ℤ◌}
+use Rattle.std.specs.Prelude.{Option, Some, None, option_map, unwrap_or, Result, Ok, Err, IfOk, IfErr, OnOk, OnErr, Contains, IsTrue, ◌⊎◌, MatchBool}
+use Rattle.std.specs.Bool.{OnTrue}
+use Rattle.std.specs.List.{AllZip, find}
+use Rattle.std.proofs.lemmas.List.{map-append}
+use Rattle.std.proofs.lemmas.List.Elements.{Contains-append_right}
+use Rattle.std.specs.Result.{IsErrAnd, is_ok}
+use Rattle.std.proofs.lemmas.Bool.{true≢false}
+use Rattle.std.proofs.Math.Seq.{get_or-append_seam, take-append_seam}
+use Rattle.std.proofs.lemmas.Bool.Decides.{nat_tests}
+use Rattle.std.proofs.lemmas.Int.{ints}
+use Rattle.ical_lines.specs.Fault.{RefusesOnly}
+use Rattle.ical_lines.specs.declared.fault.Fault.{Fault}
+use Rattle.ical_lines.specs.declared.fault.Fault.TheVariants.{Refused, Memory}
+use Rattle.ical_lines.specs.declared.fault.Refusal.{Refusal}
+use Rattle.ical_values.specs.Refused.{IfRefused}
+use Rattle.ical_values.specs.Octets.{text_octets}
+use Rattle.ical_values.specs.declared.text.Text.{Text}
+use Rattle.cal_events.specs.declared.component.Attendee.{Attendee}
+use Rattle.cal_events.specs.declared.component.Extent.{Extent}
+use Rattle.cal_events.specs.declared.component.Extent.TheVariants.{ToEnd, For}
+use Rattle.ical_values.specs.declared.duration.Duration.{Duration}
+use Rattle.profile.specs.Lines.{line_value}
+use Rattle.profile.specs.Values.{SpellsStamp, SpellsDate, SpellsSequence, SpellsDuration, SpellsNegative, SpellsLong, IsUid, unescaped}
+use Rattle.profile.specs.Events.{is_of, lines_named, StandsAtMostOnce, StandsTwice, SomeLine, IsMissing, Says, SaysSequence, IsUidLine, IsSequenceLine, IsTime, IsDate, IsLocal, IsNoStamp, ends_in_z, is_date_time, TimeFault, EventFault, IsNoDuration, IsNegativeOrLong, IsAttendee, IsNoAddress, Length, SaysLength, IsLength, BothOrNeither, length_seconds, bad_duration, bad_attendee, lasts_long, ends_early, ends_late, starts_early}
+use Rattle.cal_events.specs.Events.{StandsIn, attendee_of, length_of, IsExtent, GivesLength, ExtentFault, TimesFault, ends_early as lies_before, ends_late as lies_late, lasts_long as is_long, in_extent, starts_early as lies_early, DateTimeFault, DateFault}
+use Rattle.cal_events.specs.Events.{no_stamp as spells_no_stamp, not_fixed as spells_not_fixed, no_time as spells_no_time, date, ending, no_date}
+use Rattle.profile.specs.Events.{no_stamp, not_fixed, no_time}
+
+-- ---- the exits of a `?`, by the error that it returns
+
+pub refused_exit : {T : Type 0} (r : Result T Fault) (P : ℕ → Type 0) (e : Refusal) → IsErrAnd r (λ f. f ≡ Refused e) → P e.number → IfErr r (StandsIn P)
+refused_exit (Ok x) P e h p = tt
+refused_exit (Err f) P e h p = subst (StandsIn P) (sym h) p
+
+pub fault_exit : {T : Type 0} (r : Result T Fault) (P : ℕ → Type 0) (e : Fault) → IsErrAnd r (λ f. f ≡ e) → StandsIn P e → IfErr r (StandsIn P)
+fault_exit (Ok x) P e h p = tt
+fault_exit (Err f) P e h p = subst (StandsIn P) (sym h) p
+
+pub refusal_exit : {T : Type 0} (r : Result T Refusal) (P : ℕ → Type 0) (e : Refusal) → IsErrAnd r (λ f. f ≡ e) → P e.number → IfErr r (λ f. P f.number)
+refusal_exit (Ok x) P e h p = tt
+refusal_exit (Err f) P e h p = subst (λ (x : Refusal). P x.number) (sym h) p
+
+-- what two clauses say of an error
+pub err_both : {T E : Type 0} (r : Result T E) (P Q R : E → Type 0) → ((e : E) → P e → Q e → R e) → IfErr r P → IfErr r Q → IfErr r R
+err_both (Ok x) P Q R f p q = tt
+err_both (Err e) P Q R f p q = f e p q
+
+-- a fault's one number
+is_number : (n k : ℕ) → IsTrue (eqb n k) → n ≡ k
+is_number n k h = grind (arith, nat_tests)
+
+-- what a call says that refuses by one number
+pub by_number : (f : Fault) (P : ℕ → Type 0) (Q : Type 0) (k : ℕ) → (Q → P k) → RefusesOnly (λ n. eqb n k) f → IfRefused Q f → StandsIn P f
+by_number Memory P Q k g t q = tt
+by_number (Refused r) P Q k g t q = subst P (sym (is_number r.number k t)) (g q)
+
+-- ---- lines
+
+pub the_line : (name : List ℕ) (lines : List (List ℕ)) (line : List ℕ) → StandsAtMostOnce name lines (Some line) → Contains (lines_named name lines) line
+the_line name lines line e = subst (λ (ls : List (List ℕ)). Contains ls line) (sym e) (zero, omega arith, refl)
+
+pub some_line : (name : List ℕ) (P : List ℕ → Type 0) (lines : List (List ℕ)) (line : List ℕ) → StandsAtMostOnce name lines (Some line) → P line → SomeLine name P lines
+some_line name P lines line e p = (line, the_line name lines line e, p)
+
+-- ---- values
+
+pub uid_said : (r : Result Text Fault) (lines : List (List ℕ)) (line value : List ℕ) → StandsAtMostOnce (codes "UID") lines (Some line) → value ≡ line_value line
+    → IfOk r (λ t. text_octets t ≡ unescaped value) → OnOk r (IsUid (unescaped value)) → IfOk r (λ t. Says (codes "UID") true IsUidLine lines (Some (text_octets t)))
+uid_said (Ok t) lines line value once v h u = record {
+  line = Some line;
+  once = once;
+  stands = λ _. refl;
+  is = (h ∙ ap unescaped v, subst IsUid (sym h) u);
+}
+uid_said (Err e) lines line value once v h u = tt
+
+pub sequence_said : (r : Result ℕ Refusal) (lines : List (List ℕ)) (line value : List ℕ) → StandsAtMostOnce (codes "SEQUENCE") lines (Some line) → value ≡ line_value line
+    → IfOk r (SpellsSequence value) → IfOk r (SaysSequence lines)
+sequence_said (Ok n) lines line value once v h = (
+  Some n,
+  record { line = Some line; once = once; stands = λ _. refl; is = subst (λ (t : List ℕ). SpellsSequence t n) v h },
+  refl,
+)
+sequence_said (Err e) lines line value once v h = tt
+
+pub start_said : (r : Result ℤ Refusal) (lines : List (List ℕ)) (line : List ℕ) → StandsAtMostOnce (codes "DTSTART") lines (Some line)
+    → IfOk r (IsTime line) → IfOk r (λ t. Says (codes "DTSTART") true IsTime lines (Some t))
+start_said (Ok t) lines line once h = record { line = Some line; once = once; stands = λ _. refl; is = h }
+start_said (Err e) lines line once h = tt
+
+-- ---- times
+
+pub fault_of_date_time : (line text : List ℕ) (n : ℕ) → text ≡ line_value line → DateTimeFault text n → TimeFault line n
+fault_of_date_time line text n e (spells_no_stamp z h) = no_stamp (ap ends_in_z (sym e) ∙ z) (inl (subst IsNoStamp e h))
+fault_of_date_time line text n e (spells_not_fixed h) = not_fixed (subst (λ (t : List ℕ). IsDate t ⊎ IsLocal t) e h)
+fault_of_date_time line text n e (spells_no_time h) = no_time (inl (subst IsNoStamp e h))
+
+pub fault_of_date : (line text : List ℕ) (n : ℕ) → text ≡ line_value line → is_date_time line ≡ false → DateFault text n → TimeFault line n
+fault_of_date line text n e k (date h) = not_fixed (inl (subst IsDate e h))
+fault_of_date line text n e k (ending z) = no_stamp (ap ends_in_z (sym e) ∙ z) (inr k)
+fault_of_date line text n e k no_date = no_time (inr k)
+
+-- a stamp ends in `Z`
+last_push : (xs : List ℕ) (x : ℕ) → get_or (xs ++ x ∷ []) (length (xs ++ x ∷ []) - 1) 0 ≡ x
+last_push xs x =
+    let e : length (xs ++ x ∷ []) - 1 ≡ length xs = omega (arith, length-append xs (x ∷ [])) in
+    rw e (get_or-append_seam xs x [] 0)
+
+pub no_z : (text : List ℕ) → ends_in_z text ≡ false → IsNoStamp text
+no_z text e t h =
+    let z : ends_in_z text ≡ true = subst (λ (s : List ℕ). ends_in_z s ≡ true) (sym h.2) (ap (λ c. eqb c 90) (last_push h.0 90)) in
+    absurd (true≢false (sym z ∙ e))
+
+-- the texts of dates have eight octets
+date_length : (text : List ℕ) (number : ℤ) → SpellsDate text number → length text ≡ 8
+date_length text number d = ap length d.spelled
+
+take_front : (xs ys : List ℕ) (n : ℕ) → length xs ≡ n → take n (xs ++ ys) ≡ xs
+take_front xs ys n e = subst (λ k. take k (xs ++ ys) ≡ xs) e (take-append_seam xs ys)
+
+-- eight octets that midnight makes a local time are a date
+date_before : (front rest t tail : List ℕ) → length front ≡ 8 → length t ≡ 8 → front ++ rest ≡ t ++ tail → front ≡ t
+date_before front rest t tail d e h =
+    let a : take 8 (front ++ rest) ≡ front = take_front front rest 8 d in
+    let b : take 8 (t ++ tail) ≡ t = take_front t tail 8 e in
+    sym a ∙ ap (take 8) h ∙ b
+
+pub date_of_local : (t tail octets : List ℕ) (r : Bool) → length t ≡ 8 → octets ≡ t ++ tail → OnTrue r (IsLocal octets) → OnTrue r (IsDate t)
+date_of_local t tail octets true e same (s, clock) =
+    let whole : clock.date ++ codes "T" ++ clock.time ≡ t ++ tail = sym clock.spelled ∙ same in
+    let is : clock.date ≡ t = date_before clock.date (codes "T" ++ clock.time) t tail (date_length _ _ clock.on) e (sym (append_assoc clock.date (codes "T") clock.time) ∙ whole) in
+    (clock.number, subst (λ (d : List ℕ). SpellsDate d clock.number) is clock.on)
+date_of_local t tail octets false e same h = tt
+
+pub on_true : (r : Bool) (P : Type 0) → r ≡ true → OnTrue r P → P
+on_true true P e h = h
+on_true false P e h = absurd (true≢false (sym e))
+
+-- ---- durations
+
+long_length : (line : List ℕ) → SpellsLong (line_value line) → IsNegativeOrLong line
+long_length line (d, s, spells, inl h) = inr (record { days = d; seconds = s }, spells, omega arith)
+long_length line (d, s, spells, inr h) = inr (record { days = d; seconds = s }, spells, omega arith)
+
+abbrev pub IsNone : List ℕ → Type 0
+IsNone text = (days seconds : ℕ) → SpellsDuration text days seconds → ⊥
+
+pub duration_fault : (m : Bool) (lines : List (List ℕ)) (line text : List ℕ) (n : ℕ) → StandsAtMostOnce (codes "DURATION") lines (Some line) → text ≡ line_value line
+    → (n ≡ 12) ⊎ (n ≡ 51) → (n ≡ 12 → IsNone text) → (n ≡ 12 → SpellsNegative text → ⊥) → (n ≡ 51 → SpellsNegative text ⊎ SpellsLong text)
+    → EventFault m lines n
+duration_fault m lines line text n once e (inl k) none positive long =
+    let none' = subst IsNone e (none k) in
+    let no' = subst (λ (t : List ℕ). SpellsNegative t → ⊥) e (positive k) in
+    subst (EventFault m lines) (sym k) (bad_duration (some_line (codes "DURATION") IsNoDuration lines line once (none', no')))
+duration_fault m lines line text n once e (inr k) none positive long =
+    let long' = subst (λ (t : List ℕ). SpellsNegative t ⊎ SpellsLong t) e (long k) in
+    subst (EventFault m lines) (sym k)
+    (lasts_long (some_line (codes "DURATION") IsNegativeOrLong lines line once (elim long' [ inl h ↦ inl h | inr h ↦ long_length line h ])))
+
+-- ---- attendees
+
+-- a line more
+pub one_more : (name : List ℕ) (line : List ℕ) (left : List (List ℕ)) → is_of name line ≡ true → lines_named name (line ∷ left) ≡ line ∷ lines_named name left
+one_more name line left h = ap (λ b. cond b (line ∷ lines_named name left) (lines_named name left)) h
+
+pub push_zip : {A B : Type 0} (R : A → B → Type 0) (xs : List A) (ys : List B) (x : A) (y : B) → AllZip R xs ys → R x y → AllZip R (xs ++ x ∷ []) (ys ++ y ∷ [])
+push_zip R [] [] x y h r = (r, tt)
+push_zip R [] (b ∷ ys) x y h r = absurd h
+push_zip R (a ∷ xs) [] x y h r = absurd h
+push_zip R (a ∷ xs) (b ∷ ys) x y h r = (h.0, push_zip R xs ys x y h.1 r)
+
+pub in_rest : (done rest all : List (List ℕ)) (line : List ℕ) → all ≡ done ++ line ∷ rest → Contains all line
+in_rest done rest all line e = subst (λ ls. Contains ls line) (sym e) (Contains-append_right done (line ∷ rest) line (zero, omega arith, refl))
+
+-- a line that the loop over all lines comes to
+named_next : (name : List ℕ) (all left rest done : List (List ℕ)) (line : List ℕ) → lines_named name all ≡ done ++ lines_named name left → left ≡ line ∷ rest → is_of name line ≡ true
+    → lines_named name all ≡ done ++ line ∷ lines_named name rest
+named_next name all left rest done line e s h =
+    e ∙ ap (λ l. done ++ lines_named name l) s ∙ ap (λ l. done ++ l) (one_more name line rest h)
+
+pub attendee_pushed : (all left rest done : List (List ℕ)) (line : List ℕ) (old new : List Attendee) (a : Attendee)
+    → lines_named (codes "ATTENDEE") all ≡ done ++ lines_named (codes "ATTENDEE") left → left ≡ line ∷ rest → is_of (codes "ATTENDEE") line ≡ true
+    → AllZip IsAttendee done (map attendee_of old) → new ≡ old ++ a ∷ [] → IsAttendee line (attendee_of a)
+    → (x : List (List ℕ)) × (lines_named (codes "ATTENDEE") all ≡ x ++ lines_named (codes "ATTENDEE") rest) × AllZip IsAttendee x (map attendee_of new)
+attendee_pushed all left rest done line old new a e s h zip n is = (
+  done ++ line ∷ [],
+  named_next (codes "ATTENDEE") all left rest done line e s h ∙ sym (append_assoc done (line ∷ []) (lines_named (codes "ATTENDEE") rest)),
+  subst (AllZip IsAttendee (done ++ line ∷ [])) (sym (ap (map attendee_of) n ∙ map-append attendee_of old (a ∷ [])))
+      (push_zip IsAttendee done (map attendee_of old) line (attendee_of a) zip is),
+)
+
+pub attendee_fault : (m : Bool) (all left rest done : List (List ℕ)) (line : List ℕ) (f : Fault)
+    → lines_named (codes "ATTENDEE") all ≡ done ++ lines_named (codes "ATTENDEE") left → left ≡ line ∷ rest → is_of (codes "ATTENDEE") line ≡ true
+    → StandsIn (λ n. (n ≡ 15) × IsNoAddress line) f → StandsIn (EventFault m all) f
+attendee_fault m all left rest done line Memory e s h w = tt
+attendee_fault m all left rest done line (Refused r) e s h w =
+    subst (EventFault m all) (sym w.0)
+    (bad_attendee (line, in_rest done (lines_named (codes "ATTENDEE") rest) (lines_named (codes "ATTENDEE") all) line (named_next (codes "ATTENDEE") all left rest done line e s h), w.1))
+
+-- the first element of a kind, from a place on, where the one that stands there is none
+pub find_drop : {X Y : Type 0} (p : Y → Bool) (g : X → Y) (xs : List X) (i : ℕ) (x : X) → i < length xs → x ≡ get_or xs i x → p (g x) ≡ false
+    → find p (map g (drop i xs)) ≡ find p (map g (drop (i + 1) xs))
+find_drop p g xs i x w e f =
+    rw (add-one, drop-cons xs i x w) (ap (λ b. cond b (Some (g (get_or xs i x))) (find p (map g (drop (suc i) xs)))) (ap (λ y. p (g y)) (sym e) ∙ f))
+
+-- ---- the length, and what is wrong with the times
+
+pub length_said : (lines : List (List ℕ)) (start : ℤ) (extent : Extent) (length : Duration) → IsExtent lines start extent → GivesLength extent length
+    → length_seconds (length_of length) ≤ 31_622_400 → SaysLength lines start (length_of length)
+length_said lines start (ToEnd s) length (line, once, none, time) (days, seconds) most = record {
+  end_line = Some line;
+  duration_line = None;
+  end_once = once;
+  duration_once = none;
+  is = (days, subst (λ (x : ℤ). IsTime line (start +ℤ x)) seconds time);
+  most = most;
+}
+length_said lines start (For d) length (line, none, once, is) e most = record {
+  end_line = None;
+  duration_line = line;
+  end_once = none;
+  duration_once = once;
+  is = subst (λ (x : Duration). IsLength start None line (length_of x)) (sym e) is;
+  most = most;
+}
+
+-- a start that was read stands in the lines
+start_line : (lines : List (List ℕ)) (start : ℤ) → Says (codes "DTSTART") true IsTime lines (Some start) → SomeLine (codes "DTSTART") (λ line. IsTime line start) lines
+start_line lines start says = go says.line says.once says.is
+  where
+    go : (line : Option (List ℕ)) → StandsAtMostOnce (codes "DTSTART") lines line → BothOrNeither IsTime line (Some start) → SomeLine (codes "DTSTART") (λ l. IsTime l start) lines
+    go None once is = absurd is
+    go (Some line) once is = some_line (codes "DTSTART") (λ l. IsTime l start) lines line once is
+
+long_duration : (m : Bool) (lines : List (List ℕ)) (start : ℤ) (d : Duration) (line : Option (List ℕ)) → StandsAtMostOnce (codes "DURATION") lines line
+    → IsLength start None line (length_of d) → 31_622_400 < length_seconds (length_of d) → EventFault m lines 51
+long_duration m lines start d None once is h =
+    let zero' : length_seconds (length_of d) ≡ 0 = ap length_seconds is in
+    absurd (omega arith)
+long_duration m lines start d (Some line) once is h =
+    lasts_long (some_line (codes "DURATION") IsNegativeOrLong lines line once (inr (length_of d, is, h)))
+
+extent_fault : (m : Bool) (lines : List (List ℕ)) (start : ℤ) (extent : Extent) (n : ℕ) → SomeLine (codes "DTSTART") (λ line. IsTime line start) lines
+    → ExtentFault extent n → IsExtent lines start extent → EventFault m lines n
+extent_fault m lines start extent n first (lies_before s h) (line, once, none, time) =
+    let early : (start +ℤ s) <ℤ start = omega (arith, ints) in
+    ends_early (start, start +ℤ s, first, some_line (codes "DTEND") (λ l. IsTime l (start +ℤ s)) lines line once time, early)
+extent_fault m lines start extent n first (lies_late s h) (line, once, none, time) =
+    let late : (start +ℤ pos 31_622_400) <ℤ (start +ℤ s) = omega (arith, ints) in
+    ends_late (start, start +ℤ s, first, some_line (codes "DTEND") (λ l. IsTime l (start +ℤ s)) lines line once time, late)
+extent_fault m lines start extent n first (is_long d h) (line, none, once, is) = long_duration m lines start d line once is h
+
+pub times_fault : (m : Bool) (lines : List (List ℕ)) (start : ℤ) (extent : Extent) (n : ℕ) → Says (codes "DTSTART") true IsTime lines (Some start)
+    → IsExtent lines start extent → TimesFault start extent n → EventFault m lines n
+times_fault m lines start extent n says x (in_extent h) = extent_fault m lines start extent n (start_line lines start says) h x
+times_fault m lines start extent n says x (lies_early h) = starts_early start (start_line lines start says) h

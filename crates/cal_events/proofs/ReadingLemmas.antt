@@ -1,0 +1,136 @@
+-- An object's VEVENTs, what they say, and the calendar's entries.
+use Rattle.std.proofs.Common.{◌≡◌, ◌≢◌, ℕ, zero, suc, ◌+◌, ◌<◌, Bool, true, false, cond, List, [], ◌∷◌, ◌++◌, ◌||◌, length, map, filter, get_or, take, drop, drop-cons, add-one, append_assoc, subst, sym, refl, ap, ◌∙◌, arith}
+use Rattle.std.specs.Prelude.{Contains, AllPairs, Result, Ok, Err, IfOk, IfErr}
+use Rattle.std.specs.List.{list_any, AllZip}
+use Rattle.std.proofs.lemmas.List.{map-append, take-append-drop, append-nil, length-map}
+use Rattle.std.proofs.lemmas.List.Elements.{Contains-append_right, filter_more, filter-append}
+use Rattle.ical_lines.specs.declared.fault.Fault.{Fault}
+use Rattle.ical_lines.specs.declared.fault.Fault.TheVariants.{Refused, Memory}
+use Rattle.ical_tree.specs.Tree.{component_lines}
+use Rattle.ical_tree.specs.declared.component.Component.{Component}
+use Rattle.profile.specs.Instances.{Booked}
+use Rattle.profile.specs.Events.{Event, SaysEvent, SaysCalendar, EventFault, CalendarFault, in_event, one_meeting, has_unread, booked_by, is_confirmed, confirmed, meeting_said}
+use Rattle.cal_events.specs.declared.calendar.Entry.{Entry}
+use Rattle.cal_events.specs.Calendars.{booked_of, confirmed_in, meeting_of, MeetingsDiffer, IsTwinsFault}
+use Rattle.cal_events.specs.Events.{is_vevent, vevents_of, entry_view, entry_said, AreEntries, StandsIn}
+use Rattle.cal_events.proofs.EventLemmas.{push_zip}
+
+-- ---- the VEVENTs among some components
+
+abbrev pub events_in : List Component → List (List (List ℕ))
+events_in cs = map component_lines (filter is_vevent cs)
+
+abbrev Lines : Type 0
+Lines = List (List ℕ)
+
+other_first : (c : Component) (cs : List Component) → is_vevent c ≡ false → events_in (c ∷ cs) ≡ events_in cs
+other_first c cs h = ap (λ b. map component_lines (cond b (c ∷ filter is_vevent cs) (filter is_vevent cs))) h
+
+event_first : (c : Component) (cs : List Component) → is_vevent c ≡ true → events_in (c ∷ cs) ≡ component_lines c ∷ events_in cs
+event_first c cs h = ap (λ b. map component_lines (cond b (c ∷ filter is_vevent cs) (filter is_vevent cs))) h
+
+at_place : (cs : List Component) (i : ℕ) (c : Component) → i < length cs → c ≡ get_or cs i c → drop i cs ≡ c ∷ drop (i + 1) cs
+at_place cs i c w e = rw (add-one) (drop-cons cs i c w ∙ ap (λ x. x ∷ drop (suc i) cs) (sym e))
+
+pub drop_other : (cs : List Component) (i : ℕ) (c : Component) → i < length cs → c ≡ get_or cs i c → is_vevent c ≡ false → events_in (drop i cs) ≡ events_in (drop (i + 1) cs)
+drop_other cs i c w e h = ap events_in (at_place cs i c w e) ∙ other_first c (drop (i + 1) cs) h
+
+pub drop_event : (cs : List Component) (i : ℕ) (c : Component) → i < length cs → c ≡ get_or cs i c → is_vevent c ≡ true → events_in (drop i cs) ≡ component_lines c ∷ events_in (drop (i + 1) cs)
+drop_event cs i c w e h = ap events_in (at_place cs i c w e) ∙ event_first c (drop (i + 1) cs) h
+
+pub take_other : (cs : List Component) (i : ℕ) (c : Component) → i < length cs → c ≡ get_or cs i c → is_vevent c ≡ false → events_in (take (i + 1) cs) ≡ events_in (take i cs)
+take_other cs i c w e h =
+    ap (map component_lines) (filter_more is_vevent cs i c w ∙ ap (λ x. filter is_vevent (take i cs) ++ cond (is_vevent x) (x ∷ []) []) (sym e)
+    ∙ ap (λ b. filter is_vevent (take i cs) ++ cond b (c ∷ []) []) h ∙ append-nil (filter is_vevent (take i cs)))
+
+pub take_event : (cs : List Component) (i : ℕ) (c : Component) → i < length cs → c ≡ get_or cs i c → is_vevent c ≡ true
+    → events_in (take (i + 1) cs) ≡ events_in (take i cs) ++ component_lines c ∷ []
+take_event cs i c w e h =
+    ap (map component_lines) (filter_more is_vevent cs i c w ∙ ap (λ x. filter is_vevent (take i cs) ++ cond (is_vevent x) (x ∷ []) []) (sym e)
+    ∙ ap (λ b. filter is_vevent (take i cs) ++ cond b (c ∷ []) []) h) ∙ map-append component_lines (filter is_vevent (take i cs)) (c ∷ [])
+
+split : (cs : List Component) (i : ℕ) → events_in cs ≡ events_in (take i cs) ++ events_in (drop i cs)
+split cs i =
+    ap events_in (sym (take-append-drop i cs)) ∙ ap (map component_lines) (filter-append is_vevent (take i cs) (drop i cs))
+    ∙ map-append component_lines (filter is_vevent (take i cs)) (filter is_vevent (drop i cs))
+
+-- a VEVENT that the loop comes to is one of them
+pub is_among : (cs : List Component) (i : ℕ) (c : Component) → i < length cs → c ≡ get_or cs i c → is_vevent c ≡ true → Contains (events_in cs) (component_lines c)
+is_among cs i c w e h =
+    let whole : events_in cs ≡ events_in (take i cs) ++ component_lines c ∷ events_in (drop (i + 1) cs) =
+    split cs i ∙ ap (λ l. events_in (take i cs) ++ l) (drop_event cs i c w e h) in
+    subst (λ (l : List Lines). Contains l (component_lines c)) (sym whole)
+    (Contains-append_right (events_in (take i cs)) (component_lines c ∷ events_in (drop (i + 1) cs)) (component_lines c) (zero, omega arith, refl))
+
+-- what is left decides whether something isn't read yet
+pub unread_first : (lines : Lines) (rest : List Lines) (all : List Lines) → list_any has_unread all ≡ list_any has_unread (lines ∷ rest) → has_unread lines ≡ true
+    → list_any has_unread all ≡ true
+unread_first lines rest all e h = e ∙ ap (λ b. b || list_any has_unread rest) h
+
+pub unread_next : (lines : Lines) (rest : List Lines) (all : List Lines) → list_any has_unread all ≡ list_any has_unread (lines ∷ rest) → has_unread lines ≡ false
+    → list_any has_unread all ≡ list_any has_unread rest
+unread_next lines rest all e h = e ∙ ap (λ b. b || list_any has_unread rest) h
+
+-- ---- entries
+
+pub entry_pushed : (room : List ℕ) (vs : List Lines) (lines : Lines) (event : Event) (old new : List Entry) (e : Entry) → AreEntries room vs old
+    → SaysEvent false lines event → entry_view e ≡ entry_said room event → new ≡ old ++ e ∷ [] → AreEntries room (vs ++ lines ∷ []) new
+entry_pushed room vs lines event old new e (events, zip, are) says view n = (
+  events ++ event ∷ [],
+  push_zip (SaysEvent false) vs events lines event zip says,
+  ap (map entry_view) n ∙ map-append entry_view old (e ∷ []) ∙ ap (λ l. l ++ entry_view e ∷ []) are ∙ ap (λ x. map (entry_said room) events ++ x ∷ []) view
+      ∙ sym (map-append (entry_said room) events (event ∷ [])),
+)
+
+one_confirmed : (a : Booked) (p : Bool) (event : Event) (q : Bool) (xs : List Booked) (events : List Event) → a ≡ booked_by event → p ≡ q → xs ≡ map booked_by events
+    → cond p (a ∷ xs) xs ≡ map booked_by (cond q (event ∷ events) events)
+one_confirmed a p event true xs events e h t = ap (λ b. cond b (a ∷ xs) xs) h ∙ ap (λ y. y ∷ xs) e ∙ ap (λ l. booked_by event ∷ l) t
+one_confirmed a p event false xs events e h t = ap (λ b. cond b (a ∷ xs) xs) h ∙ t
+
+-- the entries that are confirmed book what the confirmed events book
+pub same_confirmed : (room : List ℕ) (es : List Entry) (events : List Event) → map entry_view es ≡ map (entry_said room) events → confirmed_in es ≡ confirmed room events
+same_confirmed room [] [] h = refl
+same_confirmed room [] (x ∷ events) h = cc
+same_confirmed room (e ∷ es) [] h = cc
+same_confirmed room (e ∷ es) (x ∷ events) h =
+    let first : entry_view e ≡ entry_said room x = cc in
+    let rest : map entry_view es ≡ map (entry_said room) events = cc in
+    one_confirmed (booked_of e.booking) e.confirmed x (is_confirmed room x) (confirmed_in es) (filter (is_confirmed room) events)
+    (ap (λ (p : Booked × Bool). p.0) first) (ap (λ (p : Booked × Bool). p.1) first) (same_confirmed room es events rest)
+
+-- and their meetings are the same
+pub same_meetings : (room : List ℕ) (es : List Entry) (events : List Event) → map entry_view es ≡ map (entry_said room) events → map meeting_of es ≡ map meeting_said events
+same_meetings room [] [] h = refl
+same_meetings room [] (x ∷ events) h = cc
+same_meetings room (e ∷ es) [] h = cc
+same_meetings room (e ∷ es) (x ∷ events) h =
+    let first : entry_view e ≡ entry_said room x = cc in
+    let rest : map entry_view es ≡ map (entry_said room) events = cc in
+    let here : meeting_of e ≡ meeting_said x = ap (λ (p : Booked × Bool). (p.0.key.organiser, p.0.key.uid)) first in
+    ap (λ m. m ∷ map meeting_of es) here ∙ ap (λ ms. meeting_said x ∷ ms) (same_meetings room es events rest)
+
+-- ---- the calendar
+
+pub calendar_said : (r : Result (List Booked) Fault) (room : List ℕ) (vs : List Lines) (es : List Entry) → AreEntries room vs es → list_any has_unread vs ≡ false
+    → IfOk r (λ c. c ≡ confirmed_in es) → IfOk r (λ _. MeetingsDiffer es) → IfOk r (SaysCalendar room vs)
+calendar_said (Ok c) room vs es (events, zip, are) read is differ = record {
+  events = events;
+  says = zip;
+  read = read;
+  differ = subst (AllPairs ◌≢◌) (same_meetings room es events are) differ;
+  is = is ∙ same_confirmed room es events are;
+}
+calendar_said (Err f) room vs es h read is differ = tt
+
+pub twins_stand : (r : Result (List Booked) Fault) (room : List ℕ) (vs : List Lines) (es : List Entry) → AreEntries room vs es → IfErr r (IsTwinsFault es)
+    → IfErr r (StandsIn (CalendarFault vs))
+twins_stand (Ok c) room vs es h t = tt
+twins_stand (Err Memory) room vs es h t = tt
+twins_stand (Err (Refused x)) room vs es (events, zip, are) (n, (i, j, d, lt, w, e)) =
+    let e' = subst (λ (l : List (List ℕ × List ℕ)). get_or l i d ≡ get_or l j d) (same_meetings room es events are) e in
+    let lens : length es ≡ length (map meeting_said events) = sym (length-map es meeting_of) ∙ ap length (same_meetings room es events are) in
+    subst (CalendarFault vs) (sym n) (one_meeting events zip (λ apart. apart i j d lt (omega (arith, lens)) e'))
+
+pub event_stands : (vs : List Lines) (lines : Lines) (f : Fault) → Contains vs lines → StandsIn (EventFault false lines) f → StandsIn (CalendarFault vs) f
+event_stands vs lines Memory h s = tt
+event_stands vs lines (Refused r) h s = in_event lines h s

@@ -1,0 +1,18 @@
+use Rattle.std.proofs.Common.{◌<◌, pos, ◌<ℤ◌, subst, sym, arith}
+use Rattle.std.proofs.lemmas.Int.{ints}
+use Rattle.cal_events.specs.Events.{ExtentFault, length_of}
+use Rattle.cal_events.specs.Events.{ends_early, ends_late, lasts_long}
+use Rattle.profile.specs.Events.{length_seconds}
+use Rattle.cal_events.proofs.component.judge_extent.Goals as goal
+
+pub returns-in-ToEnd-clause-stands : goal.returns-in-ToEnd-clause-stands
+returns-in-ToEnd-clause-stands c =
+    subst (λ x. ExtentFault x 50) (sym c.in-ToEnd.is) (ends_early c.in-ToEnd.seconds (omega (arith, ints)))
+
+pub returns-in-ToEnd-2-clause-stands : goal.returns-in-ToEnd-2-clause-stands
+returns-in-ToEnd-2-clause-stands c =
+    subst (λ x. ExtentFault x 51) (sym c.in-ToEnd-2.is) (ends_late c.in-ToEnd-2.seconds (omega (arith, ints)))
+
+pub returns-in-For-clause-stands : goal.returns-in-For-clause-stands
+returns-in-For-clause-stands c =
+    subst (λ x. ExtentFault x 51) (sym c.in-For.is) (lasts_long c.in-For.duration (omega (arith, ints)))

@@ -1,0 +1,61 @@
+//! Each call that takes memory, once with enough of it. Instants by `date -u -d .. +%s`.
+
+use crate::{Calendar, EventComponent, ParticipationStatus, Purpose};
+use ical_lines::{Fault, Limits, Refusal};
+use ical_tree::read_object;
+use ical_values::Address;
+
+const TEXT: &[u8] =
+    b"BEGIN:VCALENDAR\r\nVERSION:2.0\r\nBEGIN:VEVENT\r\nUID:a\r\nORGANIZER:mailto:Ann@example.com\r\n\
+DTSTAMP:20250301T120000Z\r\nDTSTART:20250310T090000Z\r\nDTEND:20250310T100000Z\r\n\
+ATTENDEE;PARTSTAT=ACCEPTED:mailto:room@example.com\r\nATTENDEE;PARTSTAT=DECLINED:mailto:room@example.com\r\n\
+END:VEVENT\r\nEND:VCALENDAR\r\n";
+
+// 2025-03-10T09:00:00Z
+const NINE: i64 = 1_741_597_200;
+
+#[test]
+fn an_hour_that_the_room_accepted(rt: HostRuntime) -> Result<(), Fault> {
+    let room = Address::read(rt.alloc(), "MAILTO:room@example.com")?;
+    let calendar = Calendar::read(rt.alloc(), TEXT, &room)?;
+    assert_eq!(rt; calendar.single_count(), 1);
+    for booking in calendar.bookings() {
+        assert_eq!(rt; booking.organiser.as_str(), "mailto:ann@example.com");
+        assert_eq!(rt;
+            (booking.slot, booking.start, booking.end),
+            (NINE, NINE, NINE + 3600)
+        );
+    }
+    let other = Address::read(rt.alloc(), "mailto:hall@example.com")?;
+    assert_eq!(rt; Calendar::read(rt.alloc(), TEXT, &other)?.single_count(), 0);
+    Ok(())
+}
+
+#[test]
+fn the_first_of_two_answers_counts(rt: HostRuntime) -> Result<(), Fault> {
+    let room = Address::read(rt.alloc(), "mailto:room@example.com")?;
+    let object = read_object(rt.alloc(), TEXT, Limits::Open)?;
+    assert_eq!(rt;
+        Calendar::of_object(rt.alloc(), &object, &room)?.single_count(),
+        1
+    );
+    for component in object.children() {
+        let event = EventComponent::read(rt.alloc(), component, Purpose::Request)?;
+        assert_eq!(rt; event.end(), NINE + 3600);
+        assert_eq!(rt; event.status_of(&room), Some(ParticipationStatus::Accepted));
+    }
+    Ok(())
+}
+
+#[test]
+fn a_start_that_is_missing(rt: HostRuntime) -> Result<(), Fault> {
+    let room = Address::read(rt.alloc(), "mailto:room@example.com")?;
+    let text =
+        b"BEGIN:VCALENDAR\r\nVERSION:2.0\r\nBEGIN:VEVENT\r\nUID:a\r\nEND:VEVENT\r\nEND:VCALENDAR\r\n";
+    let read = Calendar::read(rt.alloc(), text, &room);
+    assert_eq!(rt;
+        read.map(|calendar| calendar.single_count()),
+        Err(Fault::Refused(Refusal::BAD_PROPERTY))
+    );
+    Ok(())
+}

@@ -1,0 +1,5 @@
+use Rattle.clash_cert.proofs.WrongLines.{one_wrong_line}
+use Rattle.clash_cert.proofs.certificate.first_wrong_line_is_one.Goals as goal
+
+pub returns : goal.returns
+returns c = one_wrong_line

@@ -1,0 +1,64 @@
+-- The definitions on worked examples. In `codes` a text stands for its octets; 13 is CR, 10 LF.
+use Rattle.std.proofs.Common.{◌≡◌, true, false, [], ◌∷◌, ◌++◌, replicate, codes, refl}
+use lib.Utf8.{encode}
+use Rattle.profile.specs.Lines.{logical_lines, line_name, line_value, lacks_colon, has_bad_name, has_bad_quote, has_control, fold_from}
+use Rattle.profile.specs.Objects.{after_object, is_begun}
+
+-- a continuation is joined without its blank
+joined : logical_lines (codes "A:x" ++ 13 ∷ 10 ∷ codes " y" ++ 13 ∷ 10 ∷ []) ≡ codes "A:xy" ∷ []
+joined = refl
+
+-- physical lines come first: one CR is stripped, the other stays and is bare
+bare_return : logical_lines (codes "A:x" ++ 13 ∷ 13 ∷ 10 ∷ 32 ∷ 10 ∷ []) ≡ (codes "A:x" ++ 13 ∷ []) ∷ []
+bare_return = refl
+
+bare_return_is_control : has_control (codes "A:x" ++ 13 ∷ []) ≡ true
+bare_return_is_control = refl
+
+-- an empty line may be continued
+empty_continued : logical_lines (10 ∷ codes " X") ≡ codes "X" ∷ []
+empty_continued = refl
+
+-- the first physical line has no line before it
+blank_first : logical_lines (codes " X") ≡ codes " X" ∷ []
+blank_first = refl
+
+mark_first : logical_lines (0xEF ∷ 0xBB ∷ 0xBF ∷ codes "A:") ≡ codes "A:" ∷ []
+mark_first = refl
+
+parts : (line_name (codes "A;B=:;:v") ≡ codes "A") × (line_value (codes "A;B=:;:v") ≡ codes ";:v")
+parts = (refl, refl)
+
+no_colon : lacks_colon (codes "A;B=" ++ 34 ∷ codes "x:y" ++ 34 ∷ []) ≡ true
+no_colon = refl
+
+open_quote : (lacks_colon (codes "A;B=" ++ 34 ∷ codes "x:y") ≡ false) × (has_bad_quote (codes "A;B=" ++ 34 ∷ codes "x:y") ≡ true)
+open_quote = (refl, refl)
+
+no_equals : has_bad_name (codes "A;B:y") ≡ true
+no_equals = refl
+
+-- 75 octets, a line break, one space and three letters
+three_left : fold_from 0 (replicate 78 97) ≡ replicate 75 97 ++ 13 ∷ 10 ∷ 32 ∷ replicate 3 97
+unfolding encode
+three_left = refl
+
+-- a character of two octets isn't split: 74 octets, then the character
+not_split : fold_from 0 (replicate 74 97 ++ 0xE4 ∷ []) ≡ replicate 74 97 ++ 13 ∷ 10 ∷ 32 ∷ 0xC3 ∷ 0xA4 ∷ []
+unfolding encode
+not_split = refl
+
+ended_here : after_object (codes "END:VCALENDAR" ++ 13 ∷ 10 ∷ codes "X") ≡ codes "X"
+ended_here = refl
+
+ended_later : after_object (codes "end:vcal" ++ 10 ∷ codes " endar" ++ 10 ∷ codes "X") ≡ codes "X"
+ended_later = refl
+
+continued : after_object (codes "END:VCALENDAR" ++ 10 ∷ codes " X" ++ 10 ∷ codes "Y") ≡ []
+continued = refl
+
+only_empty : is_begun (13 ∷ 10 ∷ 32 ∷ 13 ∷ 10 ∷ 13 ∷ []) ≡ false
+only_empty = refl
+
+mark_alone : is_begun (0xEF ∷ 0xBB ∷ 0xBF ∷ []) ≡ true
+mark_alone = refl

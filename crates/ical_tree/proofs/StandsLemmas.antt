@@ -1,0 +1,106 @@
+-- Which faults stand in the lines so far.
+use Rattle.std.proofs.Common.{◌≡◌, inl, inr, ℕ, Bool, true, false, not, ◌&&◌, ◌||◌, eqb, Option, None, Some, is_some, List, [], ◌∷◌, ◌++◌, length, reverse, refl, ap, sym, subst, ◌∙◌}
+use Rattle.std.proofs.Math.Bool.{or-true}
+use Rattle.std.proofs.lemmas.List.{append_assoc, append-nil, nil_from_length}
+use Rattle.profile.specs.Lines.{logical_lines}
+use Rattle.profile.specs.Objects.{is_none, now_open, opened_from, opened, misplaced, some_misplaced, lines_have}
+use Rattle.ical_lines.specs.Fault.{RefusesOnly}
+use Rattle.ical_lines.specs.declared.fault.Fault.{Fault}
+use Rattle.ical_lines.specs.declared.fault.Fault.TheVariants.{Refused, Memory}
+use Rattle.ical_tree.specs.declared.component.Component.{Component}
+use Rattle.ical_tree.specs.Reading.{Built, Stands, SpellsOf, IsCalendar, names_of}
+
+-- ---- BEGIN of an outermost component
+
+pub outermost : (closed : Option Component) (same : Bool) → (same && not (is_some closed)) ≡ true → (closed ≡ None) × (same ≡ true)
+outermost None true h = (refl, refl)
+outermost None false h = cc
+outermost (Some c) true h = cc
+outermost (Some c) false h = cc
+
+pub outside : (items : List Component) (b : Bool) → length items ≡ 0 → b ≡ false → (is_none (names_of (reverse items)) && not b) ≡ true
+outside items b e h = ap (λ xs. is_none (names_of (reverse xs)) && not b) (nil_from_length items e) ∙ ap not h
+
+-- ---- a line more
+
+opened_from-push : (stack lines : List (List ℕ)) (line : List ℕ) → opened_from stack (lines ++ line ∷ []) ≡ now_open (opened_from stack lines) line
+opened_from-push stack [] line = refl
+opened_from-push stack (l ∷ lines) line = opened_from-push (now_open stack l) lines line
+
+is_none-push : (lines : List (List ℕ)) (line : List ℕ) → is_none (lines ++ line ∷ []) ≡ false
+is_none-push [] line = refl
+is_none-push (l ∷ lines) line = refl
+
+later : (a b : Bool) → b ≡ true → (a || b) ≡ true
+later a b h = ap (λ x. a || x) h ∙ or-true a
+
+-- what the lines so far have built, and that a fault of the lines to come is one of all lines
+abbrev pub State : List Component → Option Component → List (List ℕ) → List (List ℕ) → Type 0
+State cs closed left all =
+    (done : List (List ℕ)) × Built cs closed done × (done ++ left ≡ all) × (names_of cs ≡ opened done) × ((n : ℕ) → some_misplaced n (opened done) (not (is_none done)) left ≡ true → some_misplaced n [] false all ≡ true)
+
+pub state_first : (items : List Component) (closed : Option Component) (left all : List (List ℕ)) → items ≡ [] → closed ≡ None → left ≡ all → State (reverse items) closed left all
+state_first items closed left all i c e =
+    rw (i, c) ([], refl, e, refl, λ n h. ap (some_misplaced n [] false) (sym e) ∙ h)
+
+pub state_spelled : (cs : List Component) (closed : Option Component) (left all : List (List ℕ)) (c : Component) → State cs closed left all → left ≡ [] → ((done : List (List ℕ)) → Built cs closed done → SpellsOf 7 c done × IsCalendar c) → SpellsOf 7 c all × IsCalendar c
+state_spelled cs closed left all c s e h =
+    let whole : s.0 ≡ all = sym (append-nil s.0) ∙ (ap (λ z. s.0 ++ z) (sym e) ∙ s.2) in
+    subst (λ ls. SpellsOf 7 c ls × IsCalendar c) whole (h s.0 s.1)
+
+pub state_next : (cs ds : List Component) (closed after : Option Component) (left rest all : List (List ℕ)) (line : List ℕ) → State cs closed left all → left ≡ line ∷ rest → ((done : List (List ℕ)) → Built cs closed done → Built ds after (done ++ line ∷ [])) → names_of ds ≡ now_open (names_of cs) line → State ds after rest all
+state_next cs ds closed after left rest all line s e b n =
+    let done = s.0 in
+    let more = opened_from-push [] done line in (
+      done ++ line ∷ [],
+      b done s.1,
+      append_assoc done (line ∷ []) rest ∙ (ap (λ z. done ++ z) (sym e) ∙ s.2),
+      n ∙ (ap (λ z. now_open z line) s.3 ∙ sym more),
+      λ k h. s.4 k (ap (some_misplaced k (opened done) (not (is_none done))) e ∙ later (misplaced k (opened done) (not (is_none done)) line) (some_misplaced k (now_open (opened done) line) true rest) (ap (λ z. some_misplaced k z true rest) (sym more) ∙ (ap (λ z. some_misplaced k (opened (done ++ line ∷ [])) (not z) rest) (sym (is_none-push done line)) ∙ h))),
+    )
+
+-- ---- a refusal at a line
+
+same_started : (cs : List Component) (closed : Option Component) (done : List (List ℕ)) (n : ℕ) (line : List ℕ) → Built cs closed done → misplaced n (names_of cs) (is_some closed) line ≡ misplaced n (names_of cs) (not (is_none done)) line
+same_started [] None done n line b = ap (λ d. misplaced n [] (not (is_none d)) line) (sym b)
+same_started [] (Some c) done n line b = ap (λ d. misplaced n [] (not (is_none d)) line) (sym b.0.are)
+same_started (c ∷ cs) closed done n line b = refl
+
+or_first : (a b c : Bool) → a ≡ true → (a || b || c) ≡ true
+or_first a b c h = ap (λ x. x || b || c) h
+
+pub take_stands : (bounded : Bool) (octets : List ℕ) (cs : List Component) (closed : Option Component) (left rest : List (List ℕ)) (line : List ℕ) (fault : Fault) → State cs closed left (logical_lines octets) → left ≡ line ∷ rest → RefusesOnly (λ n. misplaced n (names_of cs) (is_some closed) line) fault → Stands bounded octets fault
+take_stands bounded octets cs closed left rest line Memory s e h = tt
+take_stands bounded octets cs closed left rest line (Refused r) s e h =
+    let n = r.number in
+    let here : misplaced n (opened s.0) (not (is_none s.0)) line ≡ true = ap (λ z. misplaced n z (not (is_none s.0)) line) (sym s.3) ∙ (sym (same_started cs closed s.0 n line s.1) ∙ h) in
+    let found = s.4 n (ap (some_misplaced n (opened s.0) (not (is_none s.0))) e ∙ ap (λ x. x || some_misplaced n (now_open (opened s.0) line) true rest) here) in
+    inr (inl (or_first (some_misplaced n [] false (logical_lines octets)) (eqb n 21 && not (is_none (opened (logical_lines octets)))) (eqb n 23 && is_none (logical_lines octets)) found))
+
+-- ---- a refusal after the last line
+
+nothing_by : (a x y : Bool) → ((x && false) || (y && true)) ≡ true → (a || (x && false) || (y && true)) ≡ true
+nothing_by true x y h = refl
+nothing_by false x y h = h
+
+never_by : (x y : Bool) → ((x && false) || (y && false)) ≡ true → ⊥
+never_by true true h = cc
+never_by true false h = cc
+never_by false true h = cc
+never_by false false h = cc
+
+open_by : (a x y z : Bool) → ((x && true) || (y && false)) ≡ true → (a || (x && true) || (y && z)) ≡ true
+open_by true x y z h = refl
+open_by false true y z h = refl
+open_by false false true z h = cc
+open_by false false false z h = cc
+
+end_by : (a : Bool) (cs : List Component) (closed : Option Component) (done : List (List ℕ)) (n : ℕ) → Built cs closed done → names_of cs ≡ opened done → ((eqb n 21 && not (is_none (names_of cs))) || (eqb n 23 && (is_none (names_of cs) && not (is_some closed)))) ≡ true → (a || (eqb n 21 && not (is_none (opened done))) || (eqb n 23 && is_none done)) ≡ true
+end_by a [] None done n b e h = ap (λ d. a || (eqb n 21 && not (is_none (opened d))) || (eqb n 23 && is_none d)) b ∙ nothing_by a (eqb n 21) (eqb n 23) h
+end_by a [] (Some c) done n b e h = absurd (never_by (eqb n 21) (eqb n 23) h)
+end_by a (c ∷ cs) closed done n b e h = ap (λ z. a || (eqb n 21 && not (is_none z)) || (eqb n 23 && is_none done)) (sym e) ∙ open_by a (eqb n 21) (eqb n 23) (is_none done) h
+
+pub finish_stands : (bounded : Bool) (octets : List ℕ) (cs : List Component) (closed : Option Component) (left : List (List ℕ)) (n : ℕ) → State cs closed left (logical_lines octets) → left ≡ [] → ((eqb n 21 && not (is_none (names_of cs))) || (eqb n 23 && (is_none (names_of cs) && not (is_some closed)))) ≡ true → lines_have n (logical_lines octets) ≡ true
+finish_stands bounded octets cs closed left n s e h =
+    let all : s.0 ≡ logical_lines octets = sym (append-nil s.0) ∙ (ap (λ z. s.0 ++ z) (sym e) ∙ s.2) in
+    subst (λ ls. (some_misplaced n [] false (logical_lines octets) || (eqb n 21 && not (is_none (opened ls))) || (eqb n 23 && is_none ls)) ≡ true) all (end_by (some_misplaced n [] false (logical_lines octets)) cs closed s.0 n s.1 s.3 h)

@@ -1,0 +1,56 @@
+-- What the lines so far have spelled.
+use Rattle.std.specs.Prelude.{◌≡◌, ◌⊎◌, ◌&&◌, ◌||◌, ◌==◌, ℕ, ◌-◌, ◌≤◌, Bool, true, not, nat_lt, map, IsTrue, List, [], ◌∷◌, ◌++◌, Option, None, Some, length, codes}
+use Rattle.profile.specs.Lines.{is_same_name, logical_lines, text_has}
+use Rattle.profile.specs.Objects.{Body, Spells, Opens, has_version, count_inside, lines_have}
+use Rattle.ical_lines.specs.declared.fault.Fault.{Fault}
+use Rattle.ical_lines.specs.declared.fault.Fault.TheVariants.{Refused, Memory}
+use Rattle.ical_tree.specs.declared.component.Component.{Component}
+use Rattle.ical_tree.specs.Tree.{component_name, component_lines, component_children}
+
+abbrev pub BodyOf : ℕ → Component → List (List ℕ) → Type 0
+BodyOf depth c body = Body component_name component_lines component_children depth (component_lines c) (component_children c) body
+
+abbrev pub SpellsOf : ℕ → Component → List (List ℕ) → Type 0
+SpellsOf depth c lines = Spells component_name component_lines component_children depth c lines
+
+abbrev pub IsCalendar : Component → Type 0
+IsCalendar c = is_same_name (component_name c) (codes "VCALENDAR") ≡ true
+
+-- the outermost open component is a VCALENDAR, and nothing stands before it
+abbrev pub IsOuter : Component → List Component → Option Component → Type 0
+IsOuter c [] closed = (closed ≡ None) × IsCalendar c
+IsOuter c (_ ∷ _) closed = Unit {0}
+
+-- the lines of an open component, after those of the components around it
+pub record OpenLines (c : Component) (depth : ℕ) (before done : List (List ℕ)) : Type 0 where
+  pub begin : List ℕ
+  pub body : List (List ℕ)
+  pub are : done ≡ before ++ begin ∷ body
+  pub opens : Opens begin (component_name c)
+  pub holds : BodyOf depth c body
+
+-- the open components, from the innermost on, and the closed one are what the lines so far spell
+abbrev pub Built : List Component → Option Component → List (List ℕ) → Type 0
+Built [] None done = done ≡ []
+Built [] (Some c) done = SpellsOf 7 c done × IsCalendar c
+Built (c ∷ around) closed done =
+    (before : List (List ℕ)) × OpenLines c (7 - length around) before done × Built around closed before × (length around ≤ 7) × IsOuter c around closed
+
+-- the names of the open components, from the innermost on
+abbrev pub names_of : List Component → List (List ℕ)
+names_of cs = map component_name cs
+
+-- the fault of this number, 24 or 25, stands in a component that the lines spell
+abbrev pub calendar_has : Bool → ℕ → Component → Bool
+calendar_has bounded number c =
+    (number == 24 && not (has_version (component_lines c))) || (number == 25 && (bounded && nat_lt 200 (count_inside component_name component_lines component_children (codes "VEVENT") c)))
+
+-- the fault of this number stands in the octets: in the lines, in how they pair up, or in the object that they spell
+abbrev pub ObjectHas : Bool → ℕ → List ℕ → Type 0
+ObjectHas bounded number octets =
+    IsTrue (text_has bounded number octets) ⊎ (IsTrue (lines_have number (logical_lines octets)) ⊎ ((c : Component) × (SpellsOf 7 c (logical_lines octets) × IsTrue (calendar_has bounded number c))))
+
+-- want of memory, or a refusal whose fault stands in the octets
+abbrev pub Stands : Bool → List ℕ → Fault → Type 0
+Stands bounded octets Memory = Unit {0}
+Stands bounded octets (Refused r) = ObjectHas bounded r.number octets

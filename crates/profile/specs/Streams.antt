@@ -1,0 +1,163 @@
+-- A stream: its preamble, its objects, and what is answered to them. By now each object is a REQUEST or is refused.
+use Rattle.std.specs.Prelude.{◌≡◌, ◌≢◌, ℕ, ◌+◌, ◌-◌, ◌<◌, ◌≤◌, ◌⊎◌, Bool, true, false, not, ◌&&◌, ◌||◌, ◌==◌, IsTrue, List, [], ◌∷◌, ◌++◌, length, take, drop, map, filter, slice_index, codes, decimal, Option, Some, None, ℤ, Contains, AllPairs}
+use Rattle.std.specs.Option.{option_to_list}
+use Rattle.std.specs.List.{list_any, flat_map}
+use Rattle.profile.specs.Lines.{logical_lines, line_value, is_same_name, text_has, reads_as_lines}
+use Rattle.profile.specs.Objects.{IsObject, Spells, count_inside, has_version, lines_have, is_begun, after_object}
+use Rattle.profile.specs.Trees.{Tree, tree_name, tree_own, tree_inside, vevents}
+use Rattle.profile.specs.Events.{Event, SaysEvent, booked_by, has_unread, lines_named, EventFault}
+use Rattle.profile.specs.Messages.{SaysRequest, AreParts, Outcome}
+use Rattle.profile.specs.Revisions.{Part}
+use Rattle.profile.specs.Rooms.{Claim, Book, IsStep, empty_book}
+use Rattle.profile.specs.Kept.{Replies}
+use Rattle.profile.specs.Values.{SpellsStamp, IsAddress, lower_case}
+
+-- ---- the preamble. The format is roombox's own
+
+-- what one line says: the moment of every decision, or a room
+pub data Setting : Type 0 where
+  Now : ℤ → Setting
+  Room : List ℕ → Setting
+
+abbrev pub IsSetting : List ℕ → Setting → Type 0
+IsSetting line (Now t) = (stamp : List ℕ) × (line ≡ codes "now " ++ stamp) × SpellsStamp stamp t
+IsSetting line (Room address) = (text : List ℕ) × (line ≡ codes "room " ++ text) × IsAddress text × (address ≡ lower_case text)
+
+abbrev pub moments : List Setting → List ℤ
+moments [] = []
+moments (Now t ∷ rest) = t ∷ moments rest
+moments (Room address ∷ rest) = moments rest
+
+abbrev pub rooms : List Setting → List (List ℕ)
+rooms [] = []
+rooms (Now t ∷ rest) = rooms rest
+rooms (Room address ∷ rest) = address ∷ rooms rest
+
+-- what a preamble's lines say: lines ended by LF or CRLF, the last of them by an empty line or by the end of the input
+pub data SaysSettings : List ℕ → List Setting → Type 0 where
+  by_end : SaysSettings [] []
+  by_lf : SaysSettings (10 ∷ []) []
+  by_crlf : SaysSettings (13 ∷ 10 ∷ []) []
+  last : (line : List ℕ) (setting : Setting) → IsSetting line setting → SaysSettings line (setting ∷ [])
+  with_lf : {rest : List ℕ} {settings : List Setting} (line : List ℕ) (setting : Setting) → IsSetting line setting → SaysSettings rest settings → SaysSettings (line ++ 10 ∷ rest) (setting ∷ settings)
+  with_crlf : {rest : List ℕ} {settings : List Setting} (line : List ℕ) (setting : Setting) → IsSetting line setting → SaysSettings rest settings → SaysSettings (line ++ 13 ∷ 10 ∷ rest) (setting ∷ settings)
+
+-- the octets of a preamble give this moment and these rooms: the moment once, a room at least, and no room twice
+pub record IsPreamble (octets : List ℕ) (moment : ℤ) (addresses : List (List ℕ)) : Type 0 where
+  pub settings : List Setting
+  pub says : SaysSettings octets settings
+  pub short : length octets ≤ 65_536
+  pub moment_is : moments settings ≡ moment ∷ []
+  pub rooms_are : rooms settings ≡ addresses
+  pub some : 0 < length addresses
+  pub differ : AllPairs ◌≢◌ addresses
+
+-- ---- the objects of a stream
+
+-- the objects of a stream, in order: each is what stands before the rest after it; a rest of empty lines is none
+pub data AreObjects : List ℕ → List (List ℕ) → Type 0 where
+  no_more : {rest : List ℕ} → is_begun rest ≡ false → AreObjects rest []
+  one_more : {stream : List ℕ} {objects : List (List ℕ)} (object : List ℕ) → is_begun stream ≡ true → stream ≡ object ++ after_object stream → AreObjects (after_object stream) objects → AreObjects stream (object ∷ objects)
+
+-- ---- what is answered to an object
+
+-- the octets spell a VCALENDAR
+abbrev pub IsTree : List ℕ → Tree → Type 0
+IsTree octets t = IsTrue (reads_as_lines true octets) × IsObject tree_name tree_own tree_inside true t (logical_lines octets)
+
+-- the octets are a REQUEST for this event
+pub record IsRequest (octets : List ℕ) (event : Event) : Type 0 where
+  pub whole : Tree
+  pub is : IsTree octets whole
+  pub says : SaysRequest (tree_own whole) (vevents whole) event
+
+-- ---- what can be wrong with a message, by the number of its refusal
+
+-- the METHOD names none that is taken here (60), or one that isn't read yet (99)
+abbrev pub is_unread_method : List ℕ → Bool
+is_unread_method word =
+    is_same_name word (codes "CANCEL") || is_same_name word (codes "ADD") || is_same_name word (codes "REPLY") || is_same_name word (codes "REFRESH")
+
+abbrev pub MethodFault : ℕ → List (List ℕ) → Type 0
+MethodFault n [] = n ≡ 99
+MethodFault n (line ∷ []) =
+    ((n ≡ 99) × IsTrue (is_unread_method (line_value line)))
+    ⊎ ((n ≡ 60) × IsTrue (not (is_unread_method (line_value line) || is_same_name (line_value line) (codes "REQUEST"))))
+MethodFault n (line ∷ other ∷ lines) = n ≡ 60
+
+-- two VEVENTs say events of different meetings
+pub record HasTwoMeetings (events : List (List (List ℕ))) : Type 0 where
+  pub first : List (List ℕ)
+  pub second : List (List ℕ)
+  pub one : Event
+  pub other : Event
+  pub first_in : Contains events first
+  pub second_in : Contains events second
+  pub says_one : SaysEvent true first one
+  pub says_other : SaysEvent true second other
+  pub differ : (one.uid ≢ other.uid) ⊎ (one.organiser ≢ other.organiser)
+
+-- the fault of this number stands in the own lines of a VCALENDAR or in those of its VEVENTs
+abbrev pub RequestFault : ℕ → List (List ℕ) → List (List (List ℕ)) → Type 0
+RequestFault n own events =
+    ((n ≡ 99) × IsTrue (list_any has_unread events))
+    ⊎ (MethodFault n (lines_named (codes "METHOD") own)
+    ⊎ (((n ≡ 66) × (events ≡ []))
+    ⊎ (((lines : List (List ℕ)) × Contains events lines × EventFault true lines n)
+    ⊎ (((n ≡ 62) × HasTwoMeetings events)
+    ⊎ ((n ≡ 53) × (1 < length events))))))
+
+-- the fault of this number, 24 or 25, stands in the tree that the lines spell
+abbrev pub TreeFault : ℕ → List (List ℕ) → Type 0
+TreeFault n lines =
+    (t : Tree) × Spells tree_name tree_own tree_inside 7 t lines
+    × (((n ≡ 24) × (has_version (tree_own t) ≡ false))
+    ⊎ ((n ≡ 25) × (200 < count_inside tree_name tree_own tree_inside (codes "VEVENT") t)))
+
+-- the fault of this number stands in the octets of a message
+abbrev pub MessageFault : ℕ → List ℕ → Type 0
+MessageFault n octets =
+    IsTrue (text_has true n octets)
+    ⊎ (IsTrue (lines_have n (logical_lines octets))
+    ⊎ (TreeFault n (logical_lines octets)
+    ⊎ ((t : Tree) × IsTree octets t × RequestFault n (tree_own t) (vevents t))))
+
+-- ---- the answers
+
+-- the claim that a part makes: it books the event's one instance
+abbrev pub claim : Event → Part → Claim
+claim event part = record { part = part; books = booked_by event ∷ [] }
+
+-- a room that has this address and this book takes the event, and answers these octets
+pub record Takes (moment : ℤ) (event : Event) (room : List ℕ) (before after : Book) (octets : List ℕ) : Type 0 where
+  pub parts : List Part
+  pub are : AreParts room event parts
+  pub outcome : Outcome
+  pub step : IsStep before (map (claim event) parts) moment outcome after
+  pub reply : Option (List ℕ)
+  pub replies : Replies room after (map (claim event) parts) reply
+  pub is : octets ≡ flat_map (λ x. x) (option_to_list reply)
+
+-- all rooms take it, one after another; their answers stand in the same order
+abbrev pub AllTake : ℤ → Event → List (List ℕ) → List Book → List Book → List ℕ → Type 0
+AllTake moment event [] [] [] octets = octets ≡ []
+AllTake moment event (room ∷ rooms) (before ∷ befores) (after ∷ afters) octets =
+    (first : List ℕ) × (rest : List ℕ) × (octets ≡ first ++ rest) × Takes moment event room before after first × AllTake moment event rooms befores afters rest
+AllTake moment event _ _ _ octets = ⊥
+
+-- the line for a refused object, by its place in the stream from 1
+abbrev pub refused_line : ℕ → ℕ → List ℕ
+refused_line k n = codes "REFUSED;OBJECT=" ++ decimal k ++ codes ":" ++ decimal n ++ codes "\r\n"
+
+-- these octets answer object k: what the rooms answer to it, or the line for a refusal, which changes no book
+abbrev pub Answers : ℤ → List (List ℕ) → ℕ → List ℕ → List Book → List Book → List ℕ → Type 0
+Answers moment rooms k object befores afters octets =
+    ((event : Event) × IsRequest object event × AllTake moment event rooms befores afters octets)
+    ⊎ ((n : ℕ) × MessageFault n object × (afters ≡ befores) × (octets ≡ refused_line k n))
+
+-- the answers to objects from number k on, one behind another
+abbrev pub AllAnswers : ℤ → List (List ℕ) → ℕ → List (List ℕ) → List Book → List Book → List ℕ → Type 0
+AllAnswers moment rooms k [] befores afters octets = (afters ≡ befores) × (octets ≡ [])
+AllAnswers moment rooms k (object ∷ objects) befores afters octets =
+    (mids : List Book) × (first : List ℕ) × (rest : List ℕ) × (octets ≡ first ++ rest)
+    × Answers moment rooms k object befores mids first × AllAnswers moment rooms (k + 1) objects mids afters rest

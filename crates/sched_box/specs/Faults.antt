@@ -1,0 +1,9 @@
+-- What a clause says of the end of a stream.
+use Rattle.std.specs.Prelude.{◌≡◌, ℕ}
+use Rattle.sched_box.specs.declared.fault.StreamFault.{StreamFault}
+use Rattle.sched_box.specs.declared.fault.StreamFault.TheVariants.{Refused, Serve}
+
+-- the preamble is refused (90), or serving ended
+abbrev pub RefusesPreamble : StreamFault → Type 0
+RefusesPreamble (Refused r) = r.number ≡ 90
+RefusesPreamble (Serve fault) = Unit {0}
