@@ -9,7 +9,7 @@ use Rattle.profile.specs.Events.{Event, SaysEvent, EventFault, SaysCalendar, Cal
 abbrev Lines : Type 0
 Lines = List (List ℕ)
 
-abbrev OneEvent : Type 0
+abbrev pub OneEvent : Type 0
 OneEvent = (m : Bool) (lines : Lines) (a b : Event) → SaysEvent m lines a → SaysEvent m lines b → a ≡ b
 
 abbrev NoFault : Type 0

@@ -147,7 +147,7 @@ one_event one two three m lines a b s t =
 
 -- ---- no fault stands where an event is said
 
-same_text : (word a b : List ℕ) → is_same_name word a ≡ true → is_same_name word b ≡ true → str_to_ascii_lowercase a ≡ str_to_ascii_lowercase b
+pub same_text : (word a b : List ℕ) → is_same_name word a ≡ true → is_same_name word b ≡ true → str_to_ascii_lowercase a ≡ str_to_ascii_lowercase b
 same_text word a b h k =
     sym (bytes_eq-true (str_to_ascii_lowercase word) (str_to_ascii_lowercase a) h) ∙ bytes_eq-true (str_to_ascii_lowercase word) (str_to_ascii_lowercase b) k
   where
