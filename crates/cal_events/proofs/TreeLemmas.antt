@@ -9,7 +9,7 @@ use Rattle.ical_lines.specs.declared.fault.Fault.TheVariants.{Refused, Memory}
 use Rattle.ical_tree.specs.Tree.{component_name, component_lines, component_children, IsObjectOf}
 use Rattle.ical_tree.specs.Reading.{Stands, calendar_has}
 use Rattle.ical_tree.specs.declared.component.Component.{Component}
-use Rattle.profile.specs.Lines.{is_same_name, logical_lines}
+use Rattle.profile.specs.Lines.{is_same_name, logical_lines, reads_as_lines}
 use Rattle.profile.specs.Objects.{is_property, Opens, Closes, Body, nothing, property, component, Spells, IsObject, has_version}
 use Rattle.profile.specs.Trees.{Tree, Trees, tree, none, more, trees_list, tree_name, tree_own, tree_inside, vevents}
 use Rattle.profile.specs.Instances.{Booked}
@@ -141,9 +141,9 @@ pub object_refused : (r : Result (List Booked) Fault) (octets : List ℕ) (f : F
     → IfErr r (StandsIn (CalendarTextFault octets))
 object_refused r octets f e h = fault_exit r (CalendarTextFault octets) f e (no_object octets f h)
 
-pub calendar_spelled : (r : Result (List Booked) Fault) (room octets : List ℕ) (c : Component) → IsObjectOf false c (logical_lines octets)
-    → IfOk r (SaysCalendar room (vevents_of c)) → IfOk r (SpellsCalendar room octets)
-calendar_spelled (Ok all) room octets c object says =
+pub calendar_spelled : (r : Result (List Booked) Fault) (room octets : List ℕ) (c : Component) → reads_as_lines false octets ≡ true
+    → IsObjectOf false c (logical_lines octets) → IfOk r (SaysCalendar room (vevents_of c)) → IfOk r (SpellsCalendar room octets)
+calendar_spelled (Ok all) room octets c lines object says =
     let f = found c (logical_lines octets) object in
-    record { tree = f.0; object = f.1; says = subst (λ (vs : List Lines). SaysCalendar room vs all) (sym f.2) says }
-calendar_spelled (Err e) room octets c object says = tt
+    record { lines = lines; tree = f.0; object = f.1; says = subst (λ (vs : List Lines). SaysCalendar room vs all) (sym f.2) says }
+calendar_spelled (Err e) room octets c lines object says = tt

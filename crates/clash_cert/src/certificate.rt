@@ -196,14 +196,13 @@ mod tests {
         }
     }
 
+    const GREATEST: &str = "ROOMCERT 1\nSINGLES 18446744073709551615\nSERIES 0\nDONE\n";
+
     #[test]
     fn the_first_wrong_line_is_named(rt: HostRuntime) -> Result<(), CertFault> {
         let rows = [
             ("ROOMCERT 1\nSINGLES 1\nSERIES 0\nDONE\n", 0),
-            (
-                "ROOMCERT 1\nSINGLES 18446744073709551615\nSERIES 0\nDONE\n",
-                0,
-            ),
+            (GREATEST, 0),
             ("", 1),
             ("ROOMCERT 2\nSINGLES 1\nSERIES 0\nDONE\n", 1),
             ("ROOMCERT 1\nSINGLES 01\nSERIES 0\nDONE\n", 2),

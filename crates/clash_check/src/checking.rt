@@ -1,11 +1,13 @@
 //! Checking: a certificate's text against a calendar, and a clash against a calendar.
 ghost use Rattle.std.specs.Prelude.{ℕ, List, ◌≡◌, ◌<ℤ◌, ◌≤ℤ◌, ◌↔◌, ◌⊎◌, map, IsTrue, IfOk, IfNone, IfSome, Contains};
 ghost use Rattle.profile.specs.Instances.{Booked, IsClear, IsWithin};
+ghost use Rattle.profile.specs.Calendars.{CertificateHolds};
 ghost use Rattle.profile.specs.Certificates.{CertificateStands, Spells};
+ghost use Rattle.ical_values.specs.Octets.{address_octets};
 ghost use Rattle.cal_events.specs.Calendars.{booked_of};
 ghost use Rattle.clash_cert.specs.Makings.{key_of, IsClashIn};
 ghost use Rattle.cal_events.specs.declared.instance.Booking.{Booking};
-ghost use Rattle.clash_check.specs.Verdicts.{IsVerdict, MakesFew, IsNo, IsRefusedCalendar, IsForSome, HasThatKey, Share};
+ghost use Rattle.clash_check.specs.Verdicts.{IsVerdict, MakesFew, IsNo, IsRefusedCalendar, IsJudgement, HasThatKey, Share};
 
 use crate::verdict::{Checked, Verdict, Why};
 use cal_events::{Booking, Calendar, HORIZON};
@@ -22,8 +24,11 @@ pub fn check(
     certificate: &[u8],
     room: &Address,
 ) -> Result<Checked, AllocError>
-    // The calendar is refused, or this is the judgement of its instances.
-    ensures { IfOk result (λ checked. IsRefusedCalendar checked ⊎ IsForSome certificate.now checked) }
+    // A yes means that the certificate holds for what the calendar's octets spell.
+    ensures yes { IfOk result (λ checked. checked.verdict ≡ Verdict.Yes → CertificateHolds (address_octets room.now) calendar.now certificate.now) }
+    // The calendar is refused, or this is the judgement of its confirmed instances.
+    ensures judged { IfOk result (λ checked. IsRefusedCalendar calendar.now checked
+        ⊎ IsJudgement (address_octets room.now) calendar.now certificate.now checked) }
 {
     match Calendar::read(alloc, calendar, room) {
         Ok(calendar) => judge_read(alloc, &calendar, certificate),

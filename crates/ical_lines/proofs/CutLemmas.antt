@@ -1,5 +1,5 @@
 -- The octet steps of a cutter find the end that the definition names.
-use Rattle.std.proofs.Common.{◌≡◌, ◌≢◌, ◌⊎◌, inl, inr, map, ℕ, suc, zero, ◌+◌, ◌-◌, ◌<◌, ◌≤◌, Bool, true, false, not, ◌&&◌, ◌||◌, cond, eqb, ltb, List, [], ◌∷◌, ◌++◌, length, take, drop, get_or, codes, refl, ap, sym, subst, ◌∙◌, arith}
+use Rattle.std.proofs.Common.{◌≡◌, inl, inr, ℕ, suc, ◌+◌, ◌-◌, ◌<◌, ◌≤◌, Bool, true, false, not, ◌&&◌, cond, eqb, ltb, List, [], ◌∷◌, ◌++◌, length, take, drop, get_or, codes, refl, ap, sym, subst, ◌∙◌, arith}
 use Rattle.std.specs.Char.{to_ascii_lowercase}
 use Rattle.std.specs.List.{slice_split, onto_first, join_with_byte}
 use Rattle.std.specs.Str.{bytes_eq, str_to_ascii_lowercase}
@@ -7,7 +7,7 @@ use Rattle.std.proofs.lemmas.Bool.{cases_lt}
 use Rattle.std.proofs.lemmas.Bool.Decides.{nat_tests, eqb_tells}
 use Rattle.std.proofs.lemmas.List.{append_assoc, append-nil, drop_more, drop_all}
 use Rattle.std.proofs.lemmas.List.Splits.{join_with_byte-slice_split}
-use Rattle.profile.specs.Lines.{is_continuation, without_return, without_mark}
+use Rattle.profile.specs.Lines.{is_continuation, without_return}
 use Rattle.profile.specs.Objects.{is_last, parts_after, octets_after, after_object}
 use Rattle.ical_lines.specs.declared.object_end.Cutter.{Cutter}
 use Rattle.ical_lines.specs.declared.object_end.Place.{Place}
@@ -15,7 +15,7 @@ use Rattle.ical_lines.specs.declared.object_end.Place.TheVariants.{Mark, Line, R
 use Rattle.ical_lines.specs.declared.object_end.Seen.{Seen}
 use Rattle.ical_lines.specs.declared.object_end.Seen.TheVariants.{First, Other}
 use Rattle.ical_lines.specs.Breaks.{is_break}
-use Rattle.ical_lines.specs.Cut.{next_seen, is_whole, is_blank, rest_after, fresh, added, at_start, after_line, step, ends_before}
+use Rattle.ical_lines.specs.Cut.{next_seen, is_whole, is_blank, rest_after, fresh, after_line, step, ends_before}
 
 -- ---- how much of the last line is seen
 

@@ -1,5 +1,5 @@
 -- A folded line unfolds to itself, whatever line follows.
-use Rattle.std.proofs.Common.{◌≡◌, map, ℕ, suc, zero, ◌+◌, ◌-◌, ◌<◌, ◌≤◌, Bool, true, false, not, ◌&&◌, ◌||◌, cond, eqb, ltb, leb, List, [], ◌∷◌, ◌++◌, length, take, drop, get_or, refl, ap, sym, subst, ◌∙◌, arith}
+use Rattle.std.proofs.Common.{◌≡◌, map, ℕ, ◌+◌, ◌-◌, ◌≤◌, Bool, true, false, ◌&&◌, cond, eqb, ltb, List, [], ◌∷◌, ◌++◌, length, take, drop, get_or, refl, ap, sym, ◌∙◌, arith}
 use Rattle.std.specs.Char.{encode_utf8}
 use Rattle.std.specs.Str.{IsUtf8, chars, encode_utf8_all}
 use Rattle.std.specs.List.{slice_split, onto_first, list_any, list_all}
@@ -9,7 +9,7 @@ use Rattle.std.proofs.lemmas.List.Folds.{list_any-append, list_all-append}
 use Rattle.std.proofs.lemmas.Bool.Decides.{nat_tests}
 use Rattle.std.proofs.lemmas.Str.{encodes-chars, length-encode, len_utf8_bounds, IsUtf8-append, IsUtf8-from_ascii}
 use Rattle.std.proofs.lemmas.Str.Ascii.{IsAscii-cons, IsAscii-nil}
-use Rattle.profile.specs.Lines.{fold_break, fold_from, next_column, folded, without_return, physical_lines, is_continuation, gather, unfolded, is_short}
+use Rattle.profile.specs.Lines.{fold_from, folded, without_return, physical_lines, is_continuation, gather, unfolded, is_short}
 use Rattle.ical_lines.specs.Breaks.{is_break, is_one_line}
 use Rattle.ical_lines.proofs.BreakLemmas.{neither_first, neither_second, none_at, was_false}
 

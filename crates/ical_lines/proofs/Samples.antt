@@ -1,7 +1,7 @@
 -- The definitions on worked examples. In `codes` a text stands for its octets; 13 is CR, 10 LF.
-use Rattle.std.proofs.Common.{◌≡◌, ℕ, Bool, true, false, Some, None, List, [], ◌∷◌, ◌++◌, replicate, codes, refl}
+use Rattle.std.proofs.Common.{◌≡◌, true, false, [], ◌∷◌, ◌++◌, replicate, codes, refl}
 use lib.Utf8.{encode}
-use Rattle.profile.specs.Lines.{logical_lines, line_name, line_value, line_params, line_param, lacks_colon, has_bad_name, has_bad_quote, has_control, fold_from}
+use Rattle.profile.specs.Lines.{logical_lines, line_name, line_value, lacks_colon, has_bad_name, has_bad_quote, has_control, fold_from}
 use Rattle.profile.specs.Objects.{after_object, is_begun}
 
 -- a continuation is joined without its blank
@@ -28,7 +28,6 @@ mark_first = refl
 
 parts : (line_name (codes "A;B=:;:v") ≡ codes "A") × (line_value (codes "A;B=:;:v") ≡ codes ";:v")
 parts = (refl, refl)
-
 
 no_colon : lacks_colon (codes "A;B=" ++ 34 ∷ codes "x:y" ++ 34 ∷ []) ≡ true
 no_colon = refl

@@ -1,6 +1,5 @@
 -- Lines kept as one text in which each ends with an LF, and what the types that lend them show.
-use Rattle.std.specs.Prelude.{ℕ, Bool, not, ◌==◌, ◌-◌, List, length, take, map}
-use Rattle.std.specs.List.{slice_split, list_any, list_all}
+use Rattle.std.specs.Prelude.{ℕ, List, map}
 use Rattle.profile.specs.Lines.{param_name, param_value}
 use Rattle.ical_lines.specs.Pieces.{pieces_left}
 use Rattle.ical_lines.specs.declared.line.Line.{Line}

@@ -18,9 +18,6 @@ ghost use Rattle.ical_lines.specs.Unfold.{lines_after, ended_if_filled};
 use memchr::memchr;
 use std::alloc::{AllocError, Global};
 
-/// The byte order mark in UTF-8.
-pub const MARK: [u8; 3] = [0xEF, 0xBB, 0xBF];
-
 /// The logical lines that aren't empty, in order, each ended by one LF.
 /// It fails where memory is refused.
 pub fn unfold(alloc: Global, octets: &[u8]) -> Result<Vec<u8>, AllocError>

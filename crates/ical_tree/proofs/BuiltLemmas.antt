@@ -1,12 +1,12 @@
 -- One line more, and what the open components are then.
-use Rattle.std.proofs.Common.{◌≡◌, ℕ, suc, zero, ◌+◌, ◌-◌, ◌<◌, ◌≤◌, true, Option, None, Some, List, [], ◌∷◌, ◌++◌, length, reverse, codes, refl, ap, sym, subst, ◌∙◌, arith}
+use Rattle.std.proofs.Common.{◌≡◌, ℕ, suc, ◌-◌, ◌≤◌, true, Option, None, Some, List, [], ◌∷◌, ◌++◌, length, reverse, refl, ap, sym, subst, ◌∙◌, arith}
 use Rattle.std.proofs.lemmas.List.{append_assoc, reverse-append, length-reverse, nil_from_length}
 use Rattle.profile.specs.Lines.{line_value, is_same_name}
-use Rattle.profile.specs.Objects.{Body, Spells, Opens, Closes, is_property, is_end}
+use Rattle.profile.specs.Objects.{Opens, Closes, is_property, is_end}
 use Rattle.profile.specs.Objects.Body.{nothing, property, component}
 use Rattle.ical_tree.specs.declared.component.Component.{Component}
 use Rattle.ical_tree.specs.Tree.{component_name, component_lines, component_children}
-use Rattle.ical_tree.specs.Reading.{BodyOf, SpellsOf, IsCalendar, IsOuter, OpenLines, Built, names_of}
+use Rattle.ical_tree.specs.Reading.{BodyOf, IsCalendar, IsOuter, Built, names_of}
 
 pub reverse-push : (xs : List Component) (x : Component) → reverse (xs ++ x ∷ []) ≡ x ∷ reverse xs
 reverse-push xs x = reverse-append xs (x ∷ [])

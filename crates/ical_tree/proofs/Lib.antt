@@ -1,3 +1,4 @@
+mod Samples
 pub mod BuiltLemmas
 pub mod StandsLemmas
 pub mod WriteLemmas

@@ -1,14 +1,13 @@
 -- Which faults stand in the lines so far.
-use Rattle.std.proofs.Common.{◌≡◌, ◌⊎◌, inl, inr, ℕ, Bool, true, false, not, ◌&&◌, ◌||◌, cond, eqb, Option, None, Some, is_some, List, [], ◌∷◌, ◌++◌, length, reverse, codes, refl, ap, sym, subst, ◌∙◌}
+use Rattle.std.proofs.Common.{◌≡◌, inl, inr, ℕ, Bool, true, false, not, ◌&&◌, ◌||◌, eqb, Option, None, Some, is_some, List, [], ◌∷◌, ◌++◌, length, reverse, refl, ap, sym, subst, ◌∙◌}
 use Rattle.std.proofs.Math.Bool.{or-true}
 use Rattle.std.proofs.lemmas.List.{append_assoc, append-nil, nil_from_length}
-use Rattle.profile.specs.Lines.{logical_lines, is_same_name, line_value}
-use Rattle.profile.specs.Objects.{is_none, is_begin, is_end, now_open, opened_from, opened, misplaced, some_misplaced, lines_have}
+use Rattle.profile.specs.Lines.{logical_lines}
+use Rattle.profile.specs.Objects.{is_none, now_open, opened_from, opened, misplaced, some_misplaced, lines_have}
 use Rattle.ical_lines.specs.Fault.{RefusesOnly}
 use Rattle.ical_lines.specs.declared.fault.Fault.{Fault}
 use Rattle.ical_lines.specs.declared.fault.Fault.TheVariants.{Refused, Memory}
 use Rattle.ical_tree.specs.declared.component.Component.{Component}
-use Rattle.ical_tree.specs.Tree.{component_name}
 use Rattle.ical_tree.specs.Reading.{Built, Stands, SpellsOf, IsCalendar, names_of}
 
 -- ---- BEGIN of an outermost component

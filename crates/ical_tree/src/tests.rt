@@ -47,7 +47,10 @@ fn an_object_reads_and_is_written(rt: HostRuntime) -> Result<(), Fail> {
     let event = calendar.children().first().ok_or("no VEVENT")?;
     assert!(rt; event.is_named("VEVENT"));
     assert_eq!(rt; event.lines().next().ok_or("no UID")?.value(), "a");
-    assert_eq!(rt; calendar.lines().count(), 2);
+    let mut lines = calendar.lines();
+    assert_eq!(rt; lines.next().ok_or("no VERSION")?.value(), "2.0");
+    assert!(rt; lines.next().ok_or("no PRODID")?.is_named("prodid"));
+    assert!(rt; lines.next().is_none());
     let mut out = Vec::new(rt.alloc());
     write_object(&calendar, &mut out)?;
     let written =

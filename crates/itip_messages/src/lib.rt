@@ -4,8 +4,9 @@
 pub mod message;
 mod parts;
 pub mod reply;
+mod values;
 pub mod writer;
 
 pub use message::{Message, MessageComponent, Method};
-pub use reply::{Conflict, Decision, ReplyEvent, write_reply};
+pub use reply::{Conflict, ConflictKey, Decision, ReplyEvent, write_reply};
 pub use writer::ObjectWriter;

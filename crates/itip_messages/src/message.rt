@@ -1,8 +1,18 @@
 //! A message, read: its method, its meeting, and what each VEVENT says (RFC 5546 1.4, 3.2).
 //! By now REQUEST alone is read.
-ghost use Rattle.std.specs.Prelude.{◌≡◌, IfErr, IsTrue};
+ghost use Rattle.std.specs.Prelude.{◌≡◌, ◌++◌, [], true, codes, length, map, option_map, unwrap_or, IsTrue, IsSome, IfOk, IfErr, OnOk};
+ghost use Rattle.std.specs.List.{list_all, AllZip};
 ghost use Rattle.ical_lines.specs.Fault.{RefusesOnly};
+ghost use Rattle.ical_lines.specs.Text.{line_text};
+ghost use Rattle.ical_tree.specs.Tree.{component_lines};
+ghost use Rattle.ical_values.specs.Octets.{address_octets};
 ghost use Rattle.profile.specs.Faults.{is_message_fault};
+ghost use Rattle.profile.specs.Lines.{line_value, is_same_name};
+ghost use Rattle.profile.specs.Values.{duration_text};
+ghost use Rattle.profile.specs.Events.{SaysEvent, StandsAtMostOnce, StandsTwice};
+ghost use Rattle.profile.specs.Messages.{IsCanonical, MethodFault, MessageFault, is_same_meeting, is_unread_method};
+ghost use Rattle.cal_events.specs.Events.{event_of, vevents_of, StandsIn};
+ghost use Rattle.itip_messages.specs.Messages.{IsMessageOf, MeetingFault, NamesRequest, StandsFor, WordFault, component_names};
 
 use cal_events::{Attendee, EventComponent, Purpose, refuse_unread_events};
 use ical_lines::{Fault, Limits, Line, Refusal};
@@ -37,7 +47,9 @@ pub struct MessageComponent {
 
 impl MessageComponent {
     /// Whether an ATTENDEE line has this address.
-    pub fn names(&self, address: &Address) -> bool {
+    pub fn names(&self, address: &Address) -> bool
+        ensures { result ≡ component_names (address_octets address.now) self.now }
+    {
         self.attendees
             .iter()
             .any(|attendee| attendee.address == *address)
@@ -62,23 +74,33 @@ impl Message {
         ensures refuses { IfErr result (RefusesOnly is_message_fault) }
     {
         let object = read_object(alloc, bytes, Limits::Message)?;
-        refuse_unread_events(&object)?;
-        let method = method_of(&object)?;
-        let mut events = events_of(alloc, &object)?;
-        let Some(first) = events.pop() else {
-            return Err(Fault::Refused(Refusal::NO_EVENT));
-        };
-        judge_meeting(&first, events.as_slice())?;
-        Message::of(alloc, method, first)
+        Message::of_object(alloc, &object)
     }
 
-    fn of(alloc: Global, method: Method, event: EventComponent) -> Result<Message, Fault>
+    /// The message that an object is.
+    /// Refused: as by `read`, but for the object.
+    pub fn of_object(alloc: Global, object: &Component) -> Result<Message, Fault>
+        ensures says { IfOk result (IsMessageOf (component_lines object.now) (vevents_of object.now)) }
         ensures refuses { IfErr result (RefusesOnly is_message_fault) }
+        ensures stands { IfErr result (StandsIn (MessageFault (component_lines object.now) (vevents_of object.now))) }
+    {
+        refuse_unread_events(object)?;
+        let method = method_of(object)?;
+        let mut events = events_of(alloc, object)?;
+        judge_meeting(events.as_slice())?;
+        let event = events.remove(0);
+        Ok(Message::of(alloc, method, event)?)
+    }
+
+    fn of(alloc: Global, method: Method, event: EventComponent) -> Result<Message, AllocError>
+        requires organiser { IsSome event.organiser }
+        requires stamp { IsSome event.stamp }
+        ensures { IfOk result (λ message. StandsFor message (event_of event)) }
     {
         let canonical = canonical_body(alloc, &event)?;
         let end = event.end();
         let (Some(organiser), Some(stamp)) = (event.organiser, event.stamp) else {
-            return Err(Fault::Refused(Refusal::NO_ORGANIZER));
+            unreachable!()
         };
         let component = MessageComponent {
             slot: Slot::Whole,
@@ -101,21 +123,29 @@ impl Message {
         })
     }
 
-    pub fn method(&self) -> Method {
+    pub fn method(&self) -> Method
+        ensures { result ≡ self.now.method }
+    {
         self.method
     }
 
     /// The ORGANIZER's address.
-    pub fn organiser(&self) -> &Address {
+    pub fn organiser(&self) -> &Address
+        ensures { result.now ≡ self.now.organiser }
+    {
         &self.organiser
     }
 
-    pub fn uid(&self) -> &Text {
+    pub fn uid(&self) -> &Text
+        ensures { result.now ≡ self.now.uid }
+    {
         &self.uid
     }
 
     /// The VEVENTs, in the order of the text.
-    pub fn components(&self) -> &[MessageComponent] {
+    pub fn components(&self) -> &[MessageComponent]
+        ensures { result.now ≡ self.now.components.items }
+    {
         self.components.as_slice()
     }
 }
@@ -123,7 +153,22 @@ impl Message {
 /// The METHOD of an object.
 /// Refused: 60 for a word that names no method taken here, or two lines; 99 for one that isn't read yet, or none.
 fn method_of(object: &Component) -> Result<Method, Refusal>
+    ensures named { OnOk result (NamesRequest (component_lines object.now)) }
     ensures refuses { IfErr result (λ e. IsTrue (is_message_fault e.number)) }
+    ensures stands { IfErr result (λ e. MethodFault (component_lines object.now) e.number) }
+{
+    match method_line(object)? {
+        Some(line) => method_named(line),
+        None => Err(Refusal::NOT_YET),
+    }
+}
+
+/// The METHOD line, None where there is none.
+/// Refused: 60 where it stands twice.
+fn method_line<'a>(object: &'a Component) -> Result<Option<Line<'a>>, Refusal>
+    ensures found { IfOk result (λ line. StandsAtMostOnce (codes "METHOD") (component_lines object.now) (option_map line_text line)) }
+    ensures refuses { IfErr result (λ e. e.number ≡ 60) }
+    ensures twice { IfErr result (λ _. StandsTwice (codes "METHOD") (component_lines object.now)) }
 {
     let mut found = None;
     for line in object.lines() {
@@ -134,30 +179,39 @@ fn method_of(object: &Component) -> Result<Method, Refusal>
             found = Some(line);
         }
     }
-    match found {
-        Some(line) => method_named(line),
-        None => Err(Refusal::NOT_YET),
-    }
+    Ok(found)
 }
 
 fn method_named(line: Line<'_>) -> Result<Method, Refusal>
+    ensures named { OnOk result (is_same_name (line_value (line_text line.entry)) (codes "REQUEST") ≡ true) }
     ensures refuses { IfErr result (λ e. IsTrue (is_message_fault e.number)) }
+    ensures stands { IfErr result (λ e. WordFault (line_value (line_text line.entry)) e.number) }
 {
     let word = line.value();
     if word.eq_ignore_ascii_case("REQUEST") {
         return Ok(Method::Request);
     }
-    for unread in ["CANCEL", "ADD", "REPLY", "REFRESH"] {
-        if word.eq_ignore_ascii_case(unread) {
-            return Err(Refusal::NOT_YET);
-        }
+    if is_unread_method(word) {
+        return Err(Refusal::NOT_YET);
     }
     Err(Refusal::BAD_METHOD)
 }
 
+/// Whether a word of METHOD isn't read yet.
+fn is_unread_method(word: &str) -> bool
+    ensures { result ≡ is_unread_method word.now }
+{
+    word.eq_ignore_ascii_case("CANCEL")
+        || word.eq_ignore_ascii_case("ADD")
+        || word.eq_ignore_ascii_case("REPLY")
+        || word.eq_ignore_ascii_case("REFRESH")
+}
+
 /// What each VEVENT of a message says, in the order of the text.
 fn events_of(alloc: Global, object: &Component) -> Result<Vec<EventComponent>, Fault>
+    ensures says { IfOk result (λ events. AllZip (SaysEvent true) (vevents_of object.now) (map event_of events.items)) }
     ensures refuses { IfErr result (RefusesOnly is_message_fault) }
+    ensures stands { IfErr result (StandsIn (MessageFault (component_lines object.now) (vevents_of object.now))) }
 {
     let mut events = Vec::new(alloc);
     for component in object.children() {
@@ -168,15 +222,19 @@ fn events_of(alloc: Global, object: &Component) -> Result<Vec<EventComponent>, F
     Ok(events)
 }
 
-/// Refuses VEVENTs that aren't one meeting's, or more than one: without RECURRENCE-ID each is the whole meeting.
-/// Refused: 62 for two UIDs or ORGANIZERs, 53 for two VEVENTs of one meeting.
-fn judge_meeting(event: &EventComponent, others: &[EventComponent]) -> Result<(), Refusal>
+/// Refuses no VEVENT, VEVENTs that aren't one meeting's, or more than one: without RECURRENCE-ID each is the
+/// whole meeting.
+/// Refused: 66 for none, 62 for two UIDs or ORGANIZERs, 53 for two VEVENTs of one meeting.
+fn judge_meeting(events: &[EventComponent]) -> Result<(), Refusal>
+    ensures one { OnOk result (length events.now ≡ 1) }
     ensures refuses { IfErr result (λ e. IsTrue (is_message_fault e.number)) }
+    ensures stands { IfErr result (λ e. MeetingFault (map event_of events.now) e.number) }
 {
-    for other in others {
-        if other.uid != event.uid || other.organiser != event.organiser {
-            return Err(Refusal::TWO_MEETINGS);
-        }
+    let Some((first, others)) = events.split_first() else {
+        return Err(Refusal::NO_EVENT);
+    };
+    if !are_one_meeting(first, others) {
+        return Err(Refusal::TWO_MEETINGS);
     }
     if !others.is_empty() {
         return Err(Refusal::TWO_MASTERS);
@@ -184,8 +242,33 @@ fn judge_meeting(event: &EventComponent, others: &[EventComponent]) -> Result<()
     Ok(())
 }
 
+fn are_one_meeting(first: &EventComponent, others: &[EventComponent]) -> bool
+    ensures { result ≡ list_all (λ other. is_same_meeting (event_of first.now) (event_of other)) others.now }
+{
+    others.iter().all(|other| is_same_meeting(first, other))
+}
+
+/// Whether both are of the UID of one ORGANIZER.
+fn is_same_meeting(a: &EventComponent, b: &EventComponent) -> bool
+    ensures { result ≡ is_same_meeting (event_of a.now) (event_of b.now) }
+{
+    a.uid.as_str() == b.uid.as_str() && organiser_of(a) == organiser_of(b)
+}
+
+/// The ORGANIZER's address; the empty text where there is none.
+fn organiser_of(event: &EventComponent) -> &str
+    ensures { result.now ≡ unwrap_or (event_of event.now).organiser [] }
+{
+    match &event.organiser {
+        Some(organiser) => organiser.as_str(),
+        None => "",
+    }
+}
+
 /// The lines of a body from DTSTART on, in their one form, unfolded, each ended by CRLF.
-fn canonical_body(alloc: Global, event: &EventComponent) -> Result<Vec<u8>, AllocError> {
+fn canonical_body(alloc: Global, event: &EventComponent) -> Result<Vec<u8>, AllocError>
+    ensures { IfOk result (λ body. IsCanonical body.items (event_of event.now)) }
+{
     let mut body = Vec::from_slice(alloc, b"DTSTART:")?;
     event.start.write(&mut body)?;
     body.extend_from_slice(b"\r\nDURATION:")?;
@@ -194,6 +277,8 @@ fn canonical_body(alloc: Global, event: &EventComponent) -> Result<Vec<u8>, Allo
     Ok(body)
 }
 
-fn write_length(length: Duration, body: &mut Vec<u8>) -> Result<(), AllocError> {
+fn write_length(length: Duration, body: &mut Vec<u8>) -> Result<(), AllocError>
+    ensures { OnOk result (body.new.items ≡ body.old.items ++ duration_text length.days length.seconds) }
+{
     length.write(body)
 }

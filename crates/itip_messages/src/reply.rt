@@ -1,19 +1,60 @@
 //! Replies of a room (RFC 5546 3.2.3): one VEVENT for each part that was decided.
-ghost use Rattle.std.specs.Prelude.{◌≡◌, OnErr};
+ghost use Rattle.std.specs.Prelude.{◌≡◌, ◌↔◌, ◌++◌, ◌<◌, true, string_bytes, IsSome, IfSome, OnOk, OnErr};
+ghost use Rattle.profile.specs.Lines.{folded};
+ghost use Rattle.profile.specs.Values.{IsClockSeconds};
+ghost use Rattle.profile.specs.Messages.{TellsSlot, TellsOutcome, IsKeyText, word, word_octet, is_plain, hexadecimal};
+ghost use Rattle.cal_events.specs.Calendars.{key_of as instance_key};
+ghost use Rattle.ical_values.specs.Written.{Appends};
+ghost use Rattle.itip_messages.specs.Replies.{IsConflict, IsReplyText, IsWrittenEvent, WritesEvents, WritesLines, attendee_line, busy, key_of, outcome_of, slot_of};
 
+use crate::values::stamp_text;
 use crate::writer::ObjectWriter;
 use cal_events::InstanceKey;
 use ical_values::{Address, Sequence, Stamp, Text};
-use itip_order::Slot;
-use std::alloc::AllocError;
+use std::alloc::{AllocError, Global};
+
+/// Which instance of which meeting, as a reply names it: its original start can be written.
+#[derive(Clone, Copy, Debug)]
+pub struct ConflictKey<'a> {
+    pub organiser: &'a str,
+    pub uid: &'a str,
+    pub slot: Stamp,
+}
 
 /// Two instances that share an instant, the later of their starts.
 #[derive(Clone, Copy, Debug)]
 pub struct Conflict<'a> {
-    /// Seconds from 1970-01-01T00:00:00Z.
-    pub instant: i64,
-    pub first: InstanceKey<'a>,
-    pub second: InstanceKey<'a>,
+    pub instant: Stamp,
+    pub first: ConflictKey<'a>,
+    pub second: ConflictKey<'a>,
+}
+
+impl<'a> Conflict<'a> {
+    /// Two instances and an instant in seconds from 1970-01-01T00:00:00Z; None where the instant or a slot lies
+    /// outside the years 1 to 9999, which no stamp can write.
+    pub fn of(instant: i64, first: InstanceKey<'a>, second: InstanceKey<'a>) -> Option<Conflict<'a>>
+        ensures found { IsSome result ↔ (IsClockSeconds instant × IsClockSeconds first.entry.slot × IsClockSeconds second.entry.slot) }
+        ensures value { IfSome result (IsConflict instant (instance_key first.entry) (instance_key second.entry)) }
+    {
+        let instant = Stamp::of_instant(instant)?;
+        let first_slot = Stamp::of_instant(first.slot)?;
+        let second_slot = Stamp::of_instant(second.slot)?;
+        let first = ConflictKey {
+            organiser: first.organiser,
+            uid: first.uid,
+            slot: first_slot,
+        };
+        let second = ConflictKey {
+            organiser: second.organiser,
+            uid: second.uid,
+            slot: second_slot,
+        };
+        Some(Conflict {
+            instant,
+            first,
+            second,
+        })
+    }
 }
 
 /// What a room decided.
@@ -32,7 +73,8 @@ pub enum Decision<'a> {
 #[derive(Clone, Copy, Debug)]
 pub struct ReplyEvent<'a> {
     pub uid: &'a Text,
-    pub slot: Slot,
+    /// The instance that is answered by itself, written as RECURRENCE-ID; None for the whole meeting.
+    pub recurrence: Option<Stamp>,
     pub sequence: Sequence,
     /// The moment of the decision, written as DTSTAMP.
     pub moment: Stamp,
@@ -44,45 +86,65 @@ pub struct ReplyEvent<'a> {
 
 /// Writes a REPLY of these events. Where the memory for it is refused, `out` is as it was.
 pub fn write_reply(events: &[ReplyEvent<'_>], out: &mut Vec<u8>) -> Result<(), AllocError>
+    ensures ok { OnOk result (Appends out.old.items out.new.items (IsReplyText events.now)) }
     ensures err { OnErr result (out.new.items ≡ out.old.items) }
 {
     let mut object = ObjectWriter::new(*out.allocator());
     object.begin_calendar(Some("REPLY"))?;
-    for event in events {
-        write_event(&mut object, event)?;
-    }
+    write_events(&mut object, events)?;
     object.end_calendar()?;
     let octets = object.finish();
-    out.extend_from_slice(octets.as_slice())
+    out.extend_from_slice(octets.as_slice())?;
+    Ok(())
 }
 
-fn write_event(object: &mut ObjectWriter, event: &ReplyEvent<'_>) -> Result<(), AllocError> {
+fn write_events(object: &mut ObjectWriter, events: &[ReplyEvent<'_>]) -> Result<(), AllocError>
+    ensures { OnOk result (WritesEvents events.now object.old object.new) }
+{
+    for event in events {
+        write_event(object, event)?;
+    }
+    Ok(())
+}
+
+fn write_event(object: &mut ObjectWriter, event: &ReplyEvent<'_>) -> Result<(), AllocError>
+    ensures { OnOk result (WritesLines object.old object.new (IsWrittenEvent event.now)) }
+{
     object.line("BEGIN:VEVENT")?;
     object.uid(event.uid)?;
-    write_slot(object, event.slot)?;
+    write_recurrence(object, event.recurrence)?;
     object.sequence(event.sequence)?;
     object.stamp("DTSTAMP:", event.moment)?;
     object.named("ORGANIZER:", event.organiser.as_str())?;
-    let attendee = match event.decision {
-        Decision::Accepted => "ATTENDEE;PARTSTAT=ACCEPTED:",
-        _ => "ATTENDEE;PARTSTAT=DECLINED:",
-    };
-    object.named(attendee, event.room.as_str())?;
-    write_decision(object, event.decision)?;
-    object.line("END:VEVENT")
+    write_attendee(object, event)?;
+    write_decision(object, &event.decision)?;
+    object.line("END:VEVENT")?;
+    Ok(())
 }
 
-fn write_slot(object: &mut ObjectWriter, slot: Slot) -> Result<(), AllocError> {
-    let Slot::At(instant) = slot else {
-        return Ok(());
-    };
-    match Stamp::of_instant(instant) {
+fn write_recurrence(object: &mut ObjectWriter, recurrence: Option<Stamp>) -> Result<(), AllocError>
+    ensures { OnOk result (WritesLines object.old object.new (TellsSlot (slot_of recurrence))) }
+{
+    match recurrence {
         Some(stamp) => object.stamp("RECURRENCE-ID:", stamp),
         None => Ok(()),
     }
 }
 
-fn write_decision(object: &mut ObjectWriter, decision: Decision<'_>) -> Result<(), AllocError> {
+/// The room's own line, with its answer.
+fn write_attendee(object: &mut ObjectWriter, event: &ReplyEvent<'_>) -> Result<(), AllocError>
+    ensures { OnOk result (object.new ≡ object.old ++ folded (attendee_line event.now)) }
+{
+    let name = match event.decision {
+        Decision::Accepted => "ATTENDEE;PARTSTAT=ACCEPTED:",
+        _ => "ATTENDEE;PARTSTAT=DECLINED:",
+    };
+    object.named(name, event.room.as_str())
+}
+
+fn write_decision(object: &mut ObjectWriter, decision: &Decision<'_>) -> Result<(), AllocError>
+    ensures { OnOk result (WritesLines object.old object.new (TellsOutcome (outcome_of decision.now))) }
+{
     match decision {
         Decision::Accepted => object.line("REQUEST-STATUS:2.0;Success"),
         Decision::Busy(conflict) => write_conflict(object, conflict),
@@ -93,58 +155,74 @@ fn write_decision(object: &mut ObjectWriter, decision: Decision<'_>) -> Result<(
 
 /// The status of a decline (RFC 5545 3.8.8.3): its code, its text, and seven words, the instant and then slot,
 /// organiser and UID of each instance. The code's text and the words are this profile's choice.
-fn write_conflict(object: &mut ObjectWriter, conflict: Conflict<'_>) -> Result<(), AllocError> {
+fn write_conflict(object: &mut ObjectWriter, conflict: &Conflict<'_>) -> Result<(), AllocError>
+    ensures { OnOk result (WritesLines object.old object.new (TellsOutcome (busy conflict.now))) }
+{
     let alloc = object.alloc();
-    let mut line = Vec::from_slice(
+    let mut line = String::from_str(
         alloc,
-        b"REQUEST-STATUS:4.1;Event conflict.  Date-time is busy.;",
+        "REQUEST-STATUS:4.1;Event conflict.  Date-time is busy.;",
     )?;
-    put_instant(&mut line, conflict.instant)?;
-    put_key(&mut line, conflict.first)?;
-    put_key(&mut line, conflict.second)?;
-    object.octets(line.as_slice())
+    let instant = stamp_text(alloc, conflict.instant)?;
+    line.push_str(instant.as_str())?;
+    line.push_str(" ")?;
+    put_key(alloc, &mut line, &conflict.first)?;
+    line.push_str(" ")?;
+    put_key(alloc, &mut line, &conflict.second)?;
+    object.line(line.as_str())?;
+    Ok(())
 }
 
-fn put_key(line: &mut Vec<u8>, key: InstanceKey<'_>) -> Result<(), AllocError> {
-    line.extend_from_slice(b" ")?;
-    put_instant(line, key.slot)?;
-    line.extend_from_slice(b" ")?;
+/// A key in three words: slot, organiser, UID.
+fn put_key(alloc: Global, line: &mut String, key: &ConflictKey<'_>) -> Result<(), AllocError>
+    ensures { OnOk result (Appends (string_bytes line.old) (string_bytes line.new) (λ text. IsKeyText text (key_of key.now))) }
+{
+    let slot = stamp_text(alloc, key.slot)?;
+    line.push_str(slot.as_str())?;
+    line.push_str(" ")?;
     put_word(line, key.organiser)?;
-    line.extend_from_slice(b" ")?;
+    line.push_str(" ")?;
     put_word(line, key.uid)
-}
-
-fn put_instant(line: &mut Vec<u8>, instant: i64) -> Result<(), AllocError> {
-    match Stamp::of_instant(instant) {
-        Some(stamp) => stamp.write(line),
-        None => Ok(()),
-    }
 }
 
 /// A word of the status: each octet other than letters, digits and `-._~@:` becomes `%` and two hexadecimal
 /// digits in upper case, so that no word has a space.
-fn put_word(line: &mut Vec<u8>, text: &str) -> Result<(), AllocError> {
-    for octet in text.bytes() {
-        if is_plain(octet) {
-            line.push(octet)?;
-        } else {
-            line.push(b'%')?;
-            line.push(hexadecimal(octet / 16))?;
-            line.push(hexadecimal(octet % 16))?;
-        }
+fn put_word(line: &mut String, text: &str) -> Result<(), AllocError>
+    ensures { OnOk result (string_bytes line.new ≡ string_bytes line.old ++ word text.now) }
+{
+    for octet in text.as_bytes() {
+        put_octet(line, *octet)?;
     }
     Ok(())
 }
 
-fn is_plain(octet: u8) -> bool {
+fn put_octet(line: &mut String, octet: u8) -> Result<(), AllocError>
+    ensures { OnOk result (string_bytes line.new ≡ string_bytes line.old ++ word_octet octet) }
+{
+    if is_plain(octet) {
+        return line.push(char::from(octet));
+    }
+    line.push('%')?;
+    line.push(hexadecimal(octet / 16))?;
+    line.push(hexadecimal(octet % 16))
+}
+
+fn is_plain(octet: u8) -> bool
+    ensures value { result ≡ is_plain octet }
+    ensures ascii { result ≡ true → octet < 128 }
+{
     octet.is_ascii_alphanumeric() || matches!(octet, b'-' | b'.' | b'_' | b'~' | b'@' | b':')
 }
 
 /// The upper case digit of a number below 16.
-fn hexadecimal(number: u8) -> u8 {
-    match number {
-        0..=9 => b'0' + number,
-        10..=15 => b'A' + (number - 10),
-        _ => b'0',
+fn hexadecimal(number: u8) -> char
+    requires { number < 16 }
+    ensures value { result ≡ hexadecimal number }
+    ensures ascii { result < 128 }
+{
+    if number < 10 {
+        char::from(b'0' + number)
+    } else {
+        char::from(b'A' + (number - 10))
     }
 }

@@ -1,25 +1,47 @@
 //! An object that is being written, line by line (RFC 5545 3.1): each line folded, ended by CRLF.
+ghost use Rattle.std.specs.Prelude.{◌≡◌, [], ◌++◌, codes, decimal, option_map, OnOk, OnErr};
+ghost use Rattle.profile.specs.Lines.{folded};
+ghost use Rattle.profile.specs.Values.{escaped};
+ghost use Rattle.profile.specs.Messages.{opening_lines, method_lines};
+ghost use Rattle.profile.specs.Kept.{written};
+ghost use Rattle.ical_values.specs.Octets.{text_octets};
+ghost use Rattle.ical_values.specs.Written.{Appends};
+ghost use Rattle.itip_messages.specs.Replies.{IsStampLine, text_now};
 
+use crate::values::{escaped_text, sequence_text, stamp_text};
 use ical_lines::write_line;
 use ical_values::{Sequence, Stamp, Text};
 use std::alloc::{AllocError, Global};
-use std::str;
+use std::marker::Model;
 
-/// The lines written so far.
+/// The lines written so far. A call that lacks memory leaves them as they were.
 #[derive(Drop)]
 pub struct ObjectWriter {
     octets: Vec<u8>,
 }
 
+impl Model for ObjectWriter {
+    ghost use Rattle.std.specs.Prelude.{List, ℕ};
+
+    ghost Value = { List ℕ };
+
+    ghost view = { λ writer. writer.octets.items };
+}
+
 impl ObjectWriter {
-    pub fn new(alloc: Global) -> ObjectWriter {
+    /// No lines yet.
+    pub fn new(alloc: Global) -> ObjectWriter
+        ensures { result ≡ [] }
+    {
         ObjectWriter {
             octets: Vec::new(alloc),
         }
     }
 
     /// The octets of the lines written.
-    pub fn finish(self) -> Vec<u8> {
+    pub fn finish(self) -> Vec<u8>
+        ensures { result.items ≡ self }
+    {
         self.octets
     }
 
@@ -29,57 +51,79 @@ impl ObjectWriter {
     }
 
     /// The first lines of each object: BEGIN, VERSION and PRODID, and METHOD where there is one.
-    pub fn begin_calendar(&mut self, method: Option<&str>) -> Result<(), AllocError> {
-        self.line("BEGIN:VCALENDAR")?;
-        self.line("VERSION:2.0")?;
-        self.line("PRODID:-//iTIP room box//EN")?;
+    pub fn begin_calendar(&mut self, method: Option<&str>) -> Result<(), AllocError>
+        ensures ok { OnOk result (self.new ≡ self.old ++ written (opening_lines (option_map text_now method.entry))) }
+        ensures err { OnErr result (self.new ≡ self.old) }
+    {
+        let mut first = ObjectWriter::new(self.alloc());
+        first.line("BEGIN:VCALENDAR")?;
+        first.line("VERSION:2.0")?;
+        first.line("PRODID:-//iTIP room box//EN")?;
+        first.method(method)?;
+        self.octets.extend_from_slice(first.octets.as_slice())?;
+        Ok(())
+    }
+
+    /// METHOD, where there is one.
+    fn method(&mut self, method: Option<&str>) -> Result<(), AllocError>
+        ensures ok { OnOk result (self.new ≡ self.old ++ written (method_lines (option_map text_now method.entry))) }
+    {
         match method {
             Some(method) => self.named("METHOD:", method),
             None => Ok(()),
         }
     }
 
-    pub fn end_calendar(&mut self) -> Result<(), AllocError> {
+    /// The last line of each object.
+    pub fn end_calendar(&mut self) -> Result<(), AllocError>
+        ensures ok { OnOk result (self.new ≡ self.old ++ folded (codes "END:VCALENDAR")) }
+        ensures err { OnErr result (self.new ≡ self.old) }
+    {
         self.line("END:VCALENDAR")
     }
 
     /// One line, as it stands.
-    pub fn line(&mut self, text: &str) -> Result<(), AllocError> {
+    pub fn line(&mut self, text: &str) -> Result<(), AllocError>
+        ensures ok { OnOk result (self.new ≡ self.old ++ folded text.now) }
+        ensures err { OnErr result (self.new ≡ self.old) }
+    {
         write_line(&mut self.octets, text)
     }
 
     /// A line of two pieces: a name with its parameters and colon, and a value that is written as it stands.
-    pub fn named(&mut self, name: &str, value: &str) -> Result<(), AllocError> {
+    pub fn named(&mut self, name: &str, value: &str) -> Result<(), AllocError>
+        ensures ok { OnOk result (self.new ≡ self.old ++ folded (name.now ++ value.now)) }
+        ensures err { OnErr result (self.new ≡ self.old) }
+    {
         let mut line = String::from_str(self.alloc(), name)?;
         line.push_str(value)?;
         self.line(line.as_str())
     }
 
-    /// A line of octets that were written as text.
-    pub fn octets(&mut self, line: &[u8]) -> Result<(), AllocError> {
-        match str::from_utf8(line) {
-            Ok(text) => self.line(text),
-            Err(_) => Ok(()),
-        }
-    }
-
     /// UID, with its escapes.
-    pub fn uid(&mut self, uid: &Text) -> Result<(), AllocError> {
-        let mut line = Vec::from_slice(self.alloc(), b"UID:")?;
-        uid.write(&mut line)?;
-        self.octets(line.as_slice())
+    pub fn uid(&mut self, uid: &Text) -> Result<(), AllocError>
+        ensures ok { OnOk result (self.new ≡ self.old ++ folded (codes "UID:" ++ escaped (text_octets uid.now))) }
+        ensures err { OnErr result (self.new ≡ self.old) }
+    {
+        let text = escaped_text(self.alloc(), uid)?;
+        self.named("UID:", text.as_str())
     }
 
-    pub fn sequence(&mut self, sequence: Sequence) -> Result<(), AllocError> {
-        let mut line = Vec::from_slice(self.alloc(), b"SEQUENCE:")?;
-        sequence.write(&mut line)?;
-        self.octets(line.as_slice())
+    /// SEQUENCE, in digits.
+    pub fn sequence(&mut self, sequence: Sequence) -> Result<(), AllocError>
+        ensures ok { OnOk result (self.new ≡ self.old ++ folded (codes "SEQUENCE:" ++ decimal sequence)) }
+        ensures err { OnErr result (self.new ≡ self.old) }
+    {
+        let text = sequence_text(self.alloc(), sequence)?;
+        self.named("SEQUENCE:", text.as_str())
     }
 
     /// A line of a name with its colon, and a UTC stamp.
-    pub fn stamp(&mut self, name: &str, stamp: Stamp) -> Result<(), AllocError> {
-        let mut line = Vec::from_slice(self.alloc(), name.as_bytes())?;
-        stamp.write(&mut line)?;
-        self.octets(line.as_slice())
+    pub fn stamp(&mut self, name: &str, stamp: Stamp) -> Result<(), AllocError>
+        ensures ok { OnOk result (Appends self.old self.new (IsStampLine name.now stamp)) }
+        ensures err { OnErr result (self.new ≡ self.old) }
+    {
+        let text = stamp_text(self.alloc(), stamp)?;
+        self.named(name, text.as_str())
     }
 }

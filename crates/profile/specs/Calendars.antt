@@ -1,9 +1,10 @@
 -- The calendar of a room that a text is (RFC 5545 3.4), and what can be wrong with such a text.
 use Rattle.std.specs.Prelude.{◌≡◌, ℕ, true, false, List}
-use Rattle.profile.specs.Lines.{logical_lines, text_has}
+use Rattle.profile.specs.Lines.{logical_lines, text_has, reads_as_lines}
 use Rattle.profile.specs.Objects.{Spells, IsObject, has_version, lines_have}
 use Rattle.profile.specs.Trees.{Tree, tree_name, tree_own, tree_inside, vevents}
 use Rattle.profile.specs.Instances.{Booked}
+use Rattle.profile.specs.Certificates.{CertificateStands}
 use Rattle.profile.specs.Events.{SaysCalendar, CalendarFault}
 
 -- the octets are this VCALENDAR, of any size
@@ -12,6 +13,7 @@ IsCalendarText t octets = IsObject tree_name tree_own tree_inside false t (logic
 
 -- the octets are one VCALENDAR, and these instances of its VEVENTs are confirmed for the room
 pub record SpellsCalendar (room octets : List ℕ) (all : List Booked) : Type 0 where
+  pub lines : reads_as_lines false octets ≡ true
   pub tree : Tree
   pub object : IsCalendarText tree octets
   pub says : SaysCalendar room (vevents tree) all
@@ -26,3 +28,9 @@ pub data CalendarTextFault (octets : List ℕ) : ℕ → Type 0 where
   no_version : (t : Tree) → Spells tree_name tree_own tree_inside 7 t (logical_lines octets) → has_version (tree_own t) ≡ false → CalendarTextFault octets 24
   -- in the VEVENTs of the calendar that stands there
   in_vevents : {n : ℕ} → (t : Tree) → IsCalendarText t octets → CalendarFault (vevents t) n → CalendarTextFault octets n
+
+-- the certificate's octets stand for the room's calendar: the calendar spells confirmed instances, and the certificate is one for them
+pub record CertificateHolds (room calendar text : List ℕ) : Type 0 where
+  pub all : List Booked
+  pub spells : SpellsCalendar room calendar all
+  pub stands : CertificateStands all text

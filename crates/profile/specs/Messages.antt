@@ -1,11 +1,11 @@
 -- Messages: their meeting, the parts that they have for a room, and replies (RFC 5546 1.4, 3.2). By now a REQUEST of one VEVENT.
-use Rattle.std.specs.Prelude.{◌≡◌, ℕ, ◌/◌, ◌%◌, ◌+◌, ◌<◌, ◌≤◌, ◌⊎◌, Bool, true, false, not, ◌&&◌, ◌||◌, ◌==◌, IsTrue, if◌then◌else◌, nat_lt, List, [], ◌∷◌, ◌++◌, length, map, filter, codes, decimal, Option, Some, None, is_some, unwrap_or, ℤ}
-use Rattle.std.specs.List.{flat_map, list_any, AllZip}
+use Rattle.std.specs.Prelude.{◌≡◌, ℕ, ◌/◌, ◌%◌, ◌+◌, ◌<◌, ◌≤◌, ◌⊎◌, Bool, true, false, not, ◌&&◌, ◌||◌, ◌==◌, IsTrue, if◌then◌else◌, nat_lt, List, [], ◌∷◌, ◌++◌, length, map, filter, codes, decimal, Contains, Option, Some, None, is_some, unwrap_or, ℤ}
+use Rattle.std.specs.List.{flat_map, list_any, list_all, AllZip}
 use Rattle.std.specs.Str.{bytes_eq}
 use Rattle.std.specs.Char.{is_ascii_alphabetic, is_ascii_digit}
 use Rattle.profile.specs.Lines.{line_value, is_same_name}
 use Rattle.profile.specs.Values.{WritesStamp, duration_text, escaped}
-use Rattle.profile.specs.Events.{Event, SaysEvent, lines_named, has_unread}
+use Rattle.profile.specs.Events.{Event, SaysEvent, EventFault, SomeLine, StandsTwice, IsMissing, lines_named, has_unread}
 use Rattle.profile.specs.Instances.{Key}
 use Rattle.profile.specs.Revisions.{Part, Slot, Whole, At, Revision, Body, Set, Absent, Cancelled}
 
@@ -21,6 +21,43 @@ pub record SaysRequest (own : List (List ℕ)) (events : List (List (List ℕ)))
   pub one : events ≡ lines ∷ []
   pub read : has_unread lines ≡ false
   pub says : SaysEvent true lines event
+
+-- ---- what can be wrong with a message
+
+-- the words of METHOD that aren't read yet
+abbrev pub is_unread_method : List ℕ → Bool
+is_unread_method word =
+    is_same_name word (codes "CANCEL") || is_same_name word (codes "ADD") || is_same_name word (codes "REPLY") || is_same_name word (codes "REFRESH")
+
+-- the words of METHOD that are taken here (RFC 5546 1.4); the others ask for nothing that a room or an organiser answers
+abbrev pub is_method : List ℕ → Bool
+is_method word = is_same_name word (codes "REQUEST") || is_unread_method word
+
+-- the fault of this number stands in the VCALENDAR's lines
+pub data MethodFault (own : List (List ℕ)) : ℕ → Type 0 where
+  two_methods : StandsTwice (codes "METHOD") own → MethodFault own 60
+  bad_method : SomeLine (codes "METHOD") (λ line. is_method (line_value line) ≡ false) own → MethodFault own 60
+  unread_method : SomeLine (codes "METHOD") (λ line. is_unread_method (line_value line) ≡ true) own → MethodFault own 99
+  no_method : IsMissing (codes "METHOD") own → MethodFault own 99
+
+-- both events are of the UID of one ORGANIZER
+abbrev pub is_same_meeting : Event → Event → Bool
+is_same_meeting a b = bytes_eq a.uid b.uid && bytes_eq (unwrap_or a.organiser []) (unwrap_or b.organiser [])
+
+-- all are of the first one's meeting
+abbrev pub are_one_meeting : List Event → Bool
+are_one_meeting [] = true
+are_one_meeting (event ∷ events) = list_all (is_same_meeting event) events
+
+-- the fault of this number stands in the lines of the VCALENDAR or of its VEVENTs
+pub data MessageFault (own : List (List ℕ)) (vevents : List (List (List ℕ))) : ℕ → Type 0 where
+  in_method : {n : ℕ} → MethodFault own n → MessageFault own vevents n
+  in_event : {n : ℕ} → (lines : List (List ℕ)) → Contains vevents lines → EventFault true lines n → MessageFault own vevents n
+  not_yet : list_any has_unread vevents ≡ true → MessageFault own vevents 99
+  no_event : vevents ≡ [] → MessageFault own vevents 66
+  two_meetings : (events : List Event) → AllZip (SaysEvent true) vevents events → are_one_meeting events ≡ false → MessageFault own vevents 62
+  -- without RECURRENCE-ID each VEVENT is the whole meeting
+  two_wholes : (events : List Event) → AllZip (SaysEvent true) vevents events → are_one_meeting events ≡ true → 1 < length events → MessageFault own vevents 53
 
 -- ---- its parts
 
@@ -70,9 +107,13 @@ is_plain c =
 abbrev pub hexadecimal : ℕ → ℕ
 hexadecimal n = if nat_lt n 10 then 48 + n else 55 + n
 
--- a word of a status: each other octet is `%` and two hexadecimal digits
+-- each other octet is `%` and two hexadecimal digits
+abbrev pub word_octet : ℕ → List ℕ
+word_octet c = if is_plain c then c ∷ [] else 37 ∷ hexadecimal (c / 16) ∷ hexadecimal (c % 16) ∷ []
+
+-- a word of a status
 abbrev pub word : List ℕ → List ℕ
-word octets = flat_map (λ c. if is_plain c then c ∷ [] else 37 ∷ hexadecimal (c / 16) ∷ hexadecimal (c % 16) ∷ []) octets
+word = flat_map word_octet
 
 -- a key in three words: slot, organiser, UID
 pub record IsKeyText (text : List ℕ) (key : Key) : Type 0 where
@@ -118,7 +159,10 @@ abbrev pub method_lines : Option (List ℕ) → List (List ℕ)
 method_lines None = []
 method_lines (Some method) = (codes "METHOD:" ++ method) ∷ []
 
--- the lines of an object with this METHOD, or with none, round some components
+-- the lines that open an object with this METHOD, or with none
+abbrev pub opening_lines : Option (List ℕ) → List (List ℕ)
+opening_lines method = codes "BEGIN:VCALENDAR" ∷ codes "VERSION:2.0" ∷ codes "PRODID:-//iTIP room box//EN" ∷ method_lines method
+
+-- the lines of the object, round some components
 abbrev pub object_lines : Option (List ℕ) → List (List ℕ) → List (List ℕ)
-object_lines method components =
-    (codes "BEGIN:VCALENDAR" ∷ codes "VERSION:2.0" ∷ codes "PRODID:-//iTIP room box//EN" ∷ method_lines method) ++ components ++ (codes "END:VCALENDAR" ∷ [])
+object_lines method components = opening_lines method ++ components ++ (codes "END:VCALENDAR" ∷ [])

@@ -1,3 +1,5 @@
 pub mod Examples
 pub mod Views
 pub mod Runs
+pub mod Deciding
+pub mod Keys

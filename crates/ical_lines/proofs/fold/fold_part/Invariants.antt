@@ -1,6 +1,5 @@
 use Rattle.std.proofs.Common.{◌≡◌, ◌≤◌, ◌++◌, take, length, drop}
 use Rattle.std.specs.Str.{chars}
-use Rattle.std.specs.Str.Iter.{chars_rest}
 use Rattle.profile.specs.Lines.{fold_from, column_after}
 use Rattle.ical_lines.proofs.fold.fold_part.Given as goal
 

@@ -1,6 +1,6 @@
-use Rattle.std.proofs.Common.{◌≡◌, true, sym, ap, ◌∙◌}
+use Rattle.std.proofs.Common.{sym, ap, ◌∙◌}
 use Rattle.profile.specs.Lines.{is_quoted}
-use Rattle.ical_lines.proofs.QuoteLemmas.{quoted_start, quoted_end}
+use Rattle.ical_lines.proofs.QuoteLemmas.{quoted_start}
 use Rattle.ical_lines.proofs.parts.unquoted.Goals as goal
 
 pub split_at-requires : goal.split_at-requires

@@ -1,0 +1,30 @@
+-- The definitions on worked examples.
+use Rattle.std.proofs.Common.{◌≡◌, true, false, [], ◌∷◌, codes, refl}
+use Rattle.profile.specs.Objects.{lines_have, has_version, opened}
+
+-- without its last line an object isn't closed (21)
+not_closed : lines_have 21 (codes "BEGIN:VCALENDAR" ∷ codes "VERSION:2.0" ∷ []) ≡ true
+not_closed = refl
+
+closed : lines_have 21 (codes "BEGIN:VCALENDAR" ∷ codes "VERSION:2.0" ∷ codes "end:vcalendar" ∷ []) ≡ false
+closed = refl
+
+-- a missing END:VEVENT is an END of another name (20)
+crossed : lines_have 20 (codes "BEGIN:VCALENDAR" ∷ codes "BEGIN:VEVENT" ∷ codes "END:VCALENDAR" ∷ []) ≡ true
+crossed = refl
+
+-- a second VCALENDAR (23), a property outside (23), no line at all (23)
+second : lines_have 23 (codes "BEGIN:VCALENDAR" ∷ codes "END:VCALENDAR" ∷ codes "BEGIN:VCALENDAR" ∷ []) ≡ true
+second = refl
+
+outside : lines_have 23 (codes "VERSION:2.0" ∷ []) ≡ true
+outside = refl
+
+no_lines : lines_have 23 [] ≡ true
+no_lines = refl
+
+innermost_first : opened (codes "BEGIN:VCALENDAR" ∷ codes "BEGIN:VEVENT" ∷ []) ≡ codes "VEVENT" ∷ codes "VCALENDAR" ∷ []
+innermost_first = refl
+
+version_twice : has_version (codes "VERSION:2.0" ∷ codes "version:2.0" ∷ []) ≡ false
+version_twice = refl

@@ -1,0 +1,79 @@
+-- What is written, line by line.
+use Rattle.std.proofs.Common.{◌≡◌, ◌∙◌, ℕ, List, [], ◌∷◌, ◌++◌, refl, sym, ap, Some, Ok, Err, append_assoc}
+use Rattle.std.specs.Prelude.{Result, OnOk, codes, ℤ}
+use Rattle.std.proofs.lemmas.List.{append-nil}
+use Rattle.std.proofs.lemmas.Grind.{flat_map-append}
+use Rattle.std.specs.List.{flat_map, AllZip}
+use Rattle.profile.specs.Lines.{folded}
+use Rattle.profile.specs.Revisions.{At}
+use Rattle.profile.specs.Messages.{TellsSlot, opening_lines}
+use Rattle.profile.specs.Kept.{written}
+use Rattle.ical_values.specs.Written.{Appends}
+use Rattle.itip_messages.specs.declared.reply.ReplyEvent.{ReplyEvent}
+use Rattle.itip_messages.specs.Replies.{IsStampLine, WritesLines, WritesEvents, IsWrittenEvent, IsReplyText}
+
+-- what follows from an `Ok`
+pub on_ok : {T E P Q : Type 0} → (r : Result T E) → (P → Q) → OnOk r P → OnOk r Q
+on_ok (Ok x) f h = f h
+on_ok (Err e) f h = h
+
+-- one line
+pub one_line : (old new line : List ℕ) → new ≡ old ++ folded line → new ≡ old ++ written (line ∷ [])
+one_line old new line e = e ∙ ap (λ x. old ++ x) (sym (append-nil (folded line)))
+
+pub that_line : (old new line : List ℕ) → new ≡ old ++ folded line → WritesLines old new (λ lines. lines ≡ line ∷ [])
+that_line old new line e = (line ∷ [], refl, one_line old new line e)
+
+-- RECURRENCE-ID
+pub slot_line : (old new : List ℕ) (instant : ℤ) → Appends old new (IsStampLine (codes "RECURRENCE-ID:") instant) → WritesLines old new (TellsSlot (At instant))
+slot_line old new instant a =
+    let text = a.1.0 in
+    ((codes "RECURRENCE-ID:" ++ text) ∷ [], (text, a.1.1, refl), one_line old new _ (a.2 ∙ ap (λ x. old ++ x) a.1.2))
+
+-- the first lines of an object
+pub opened : (old new first empty one two three a b d m : List ℕ) → empty ≡ [] → one ≡ empty ++ a → two ≡ one ++ b → three ≡ two ++ d → first ≡ three ++ m → new ≡ old ++ first → new ≡ old ++ (a ++ (b ++ (d ++ m)))
+opened old new first empty one two three a b d m e0 e1 e2 e3 e4 e5 = rw (e5, e4, e3, e2, e1, e0) (simp append_assoc)
+
+joins : (f : List ℕ → List ℕ) (old o1 o2 o3 o4 o5 o6 o7 o8 o9 a b d e g h k : List ℕ) (slot status : List (List ℕ))
+    → o1 ≡ old ++ f a → o2 ≡ o1 ++ f b → o3 ≡ o2 ++ flat_map f slot → o4 ≡ o3 ++ f d → o5 ≡ o4 ++ f e
+    → o6 ≡ o5 ++ f g → o7 ≡ o6 ++ f h → o8 ≡ o7 ++ flat_map f status → o9 ≡ o8 ++ f k
+    → o9 ≡ old ++ flat_map f ((a ∷ b ∷ slot) ++ (d ∷ e ∷ g ∷ h ∷ status) ++ (k ∷ []))
+joins f old o1 o2 o3 o4 o5 o6 o7 o8 o9 a b d e g h k slot status e1 e2 e3 e4 e5 e6 e7 e8 e9 =
+    rw (e9, e8, e7, e6, e5, e4, e3, e2, e1) (simp (flat_map-append f, append_assoc, append-nil))
+
+-- the lines of a VEVENT of a reply
+pub event_written : (old o1 o2 o3 o4 o5 o6 o7 o8 o9 a b d e g h k : List ℕ) (slot status : List (List ℕ))
+    → o1 ≡ old ++ folded a → o2 ≡ o1 ++ folded b → o3 ≡ o2 ++ written slot → o4 ≡ o3 ++ folded d → o5 ≡ o4 ++ folded e
+    → o6 ≡ o5 ++ folded g → o7 ≡ o6 ++ folded h → o8 ≡ o7 ++ written status → o9 ≡ o8 ++ folded k
+    → o9 ≡ old ++ written ((a ∷ b ∷ slot) ++ (d ∷ e ∷ g ∷ h ∷ status) ++ (k ∷ []))
+event_written = joins folded
+
+-- ---- the VEVENTs of a reply
+
+AllZip-more : {A B : Type 0} (R : A → B → Type 0) (xs : List A) (ys : List B) (x : A) (y : B) → AllZip R xs ys → R x y → AllZip R (xs ++ x ∷ []) (ys ++ y ∷ [])
+AllZip-more R [] [] x y h r = (r, tt)
+AllZip-more R [] (z ∷ zs) x y h r = absurd h
+AllZip-more R (z ∷ zs) [] x y h r = absurd h
+AllZip-more R (w ∷ ws) (z ∷ zs) x y h r = (h.0, AllZip-more R ws zs x y h.1 r)
+
+more_lines : (f : List ℕ → List ℕ) (old mid new : List ℕ) (before : List (List (List ℕ))) (lines : List (List ℕ)) → mid ≡ old ++ flat_map f (flat_map (λ event. event) before) → new ≡ mid ++ flat_map f lines → new ≡ old ++ flat_map f (flat_map (λ event. event) (before ++ lines ∷ []))
+more_lines f old mid new before lines e1 e2 =
+    let grown : flat_map (λ event. event) (before ++ lines ∷ []) ≡ flat_map (λ event. event) before ++ lines =
+    flat_map-append (λ event. event) before (lines ∷ []) ∙ ap (λ x. flat_map (λ event. event) before ++ x) (append-nil lines) in
+    rw (e2, e1, grown) (simp (flat_map-append f, append_assoc))
+
+-- one event more
+pub events_more : (events : List ReplyEvent) (event : ReplyEvent) (old mid new : List ℕ) → WritesEvents events old mid → WritesLines mid new (IsWrittenEvent event) → WritesEvents (events ++ event ∷ []) old new
+events_more events event old mid new before one =
+    (before.0 ++ one.0 ∷ [], AllZip-more IsWrittenEvent events before.0 event one.0 before.1 one.1, more_lines folded old mid new before.0 one.0 before.2 one.2)
+
+whole : (f : List ℕ → List ℕ) (first lines : List (List ℕ)) (last empty opened mid closed : List ℕ) → empty ≡ [] → opened ≡ empty ++ flat_map f first → mid ≡ opened ++ flat_map f lines → closed ≡ mid ++ f last → closed ≡ flat_map f (first ++ lines ++ (last ∷ []))
+whole f first lines last empty opened mid closed e0 e1 e2 e3 = rw (e3, e2, e1, e0) (simp (flat_map-append f, append_assoc, append-nil))
+
+-- the whole reply
+pub reply_written : (events : List ReplyEvent) (empty opened mid closed : List ℕ) → empty ≡ [] → opened ≡ empty ++ written (opening_lines (Some (codes "REPLY"))) → WritesEvents events opened mid → closed ≡ mid ++ folded (codes "END:VCALENDAR") → IsReplyText events closed
+reply_written events empty opened mid closed e0 e1 w e2 = record {
+  lines = w.0;
+  each = w.1;
+  is = whole folded (opening_lines (Some (codes "REPLY"))) (flat_map (λ event. event) w.0) (codes "END:VCALENDAR") empty opened mid closed e0 e1 w.2 e2;
+}

@@ -1,0 +1,175 @@
+-- What the lines of a message say, and what is wrong with them.
+use Rattle.std.proofs.Common.{◌≡◌, ◌∙◌, ℕ, Bool, true, false, ◌&&◌, ◌||◌, cond, List, [], ◌∷◌, ◌++◌, length, map, get_or, refl, sym, ap, subst, arith, inl, inr, Option, Some, None, IsSome, is_some, option_map}
+use Rattle.std.specs.Prelude.{Result, Ok, Err, IfErr, IfOk, Contains, codes}
+use Rattle.std.specs.List.{list_all, list_any, AllZip}
+use Rattle.std.specs.Str.{bytes_eq}
+use Rattle.std.proofs.lemmas.List.{map-append}
+use Rattle.ical_lines.specs.declared.fault.Fault.{Fault}
+use Rattle.ical_lines.specs.declared.fault.Fault.TheVariants.{Refused, Memory}
+use Rattle.ical_lines.specs.declared.fault.Refusal.{Refusal}
+use Rattle.profile.specs.Lines.{line_value}
+use Rattle.profile.specs.Events.{Event, SaysEvent, Says, BothOrNeither, StandsAtMostOnce, EventFault, has_unread, lines_named}
+use Rattle.profile.specs.Messages.{SaysRequest, MethodFault, bad_method, unread_method, MessageFault, in_event, no_event, two_meetings, two_wholes, is_same_meeting, are_one_meeting, is_unread_method, is_method}
+use Rattle.cal_events.specs.declared.component.EventComponent.{EventComponent}
+use Rattle.cal_events.specs.Events.{event_of, StandsIn}
+use Rattle.cal_events.proofs.EventLemmas.{some_line, push_zip}
+use Rattle.cal_events.specs.declared.component.Attendee.{Attendee}
+use Rattle.cal_events.specs.Events.{attendee_of}
+use Rattle.profile.specs.Events as events
+use Rattle.profile.specs.Revisions as revisions
+use Rattle.profile.specs.Messages.{AreParts, IsPart, names_room}
+use Rattle.itip_order.specs.Parts.{slot_of}
+use Rattle.itip_messages.specs.declared.message.Message.{Message}
+use Rattle.itip_messages.specs.Messages.{NamesRequest, WordFault, MeetingFault, StandsFor, component_names, part_for}
+
+abbrev Lines : Type 0
+Lines = List (List ℕ)
+
+-- ---- METHOD
+
+word_stands_at : (own : Lines) (line : List ℕ) (n : ℕ) → StandsAtMostOnce (codes "METHOD") own (Some line) → WordFault (line_value line) n → MethodFault own n
+word_stands_at own line n once w = elim w [
+  | inl h ↦ subst (MethodFault own) (sym h.0) (unread_method (some_line (codes "METHOD") (λ l. is_unread_method (line_value l) ≡ true) own line once h.1))
+  | inr h ↦ subst (MethodFault own) (sym h.0) (bad_method (some_line (codes "METHOD") (λ l. is_method (line_value l) ≡ false) own line once h.1))
+]
+
+pub word_stands : {T : Type 0} (r : Result T Refusal) (own : Lines) (line : List ℕ) → StandsAtMostOnce (codes "METHOD") own (Some line) → IfErr r (λ e. WordFault (line_value line) e.number) → IfErr r (λ e. MethodFault own e.number)
+word_stands (Ok x) own line once h = tt
+word_stands (Err e) own line once h = word_stands_at own line e.number once h
+
+-- ---- the meetings
+
+all_mapped : (p : Event → Bool) (es : List EventComponent) → list_all (λ e. p (event_of e)) es ≡ list_all p (map event_of es)
+all_mapped p [] = refl
+all_mapped p (e ∷ es) = ap (λ b. p (event_of e) && b) (all_mapped p es)
+
+pub one_meeting_is : (events : List EventComponent) (first : EventComponent) (others : List EventComponent) (b : Bool) → events ≡ first ∷ others
+    → b ≡ list_all (λ other. is_same_meeting (event_of first) (event_of other)) others → are_one_meeting (map event_of events) ≡ b
+one_meeting_is events first others b e h =
+    ap (λ es. are_one_meeting (map event_of es)) e ∙ sym (all_mapped (is_same_meeting (event_of first)) others) ∙ sym h
+
+pub none_said : (vevents : List Lines) → AllZip (SaysEvent true) vevents [] → vevents ≡ []
+none_said [] z = refl
+none_said (v ∷ vs) z = absurd z
+
+pub meeting_stands : (own : Lines) (vevents : List Lines) (events : List Event) (n : ℕ) → AllZip (SaysEvent true) vevents events → MeetingFault events n → MessageFault own vevents n
+meeting_stands own vevents events n zip w = elim w [
+  | inl h ↦ subst (MessageFault own vevents) (sym h.0) (no_event (none_said vevents (subst (λ (es : List Event). AllZip (SaysEvent true) vevents es) h.1 zip)))
+  | inr (inl h) ↦ subst (MessageFault own vevents) (sym h.0) (two_meetings events zip h.1)
+  | inr (inr h) ↦ subst (MessageFault own vevents) (sym h.0) (two_wholes events zip h.1 h.2)
+]
+
+-- ---- VEVENTs
+
+pub event_stands : (own : Lines) (vevents : List Lines) (lines : Lines) (f : Fault) → Contains vevents lines → StandsIn (EventFault true lines) f → StandsIn (MessageFault own vevents) f
+event_stands own vevents lines Memory h s = tt
+event_stands own vevents lines (Refused r) h s = in_event lines h s
+
+-- one VEVENT more
+pub event_pushed : (vs : List Lines) (lines : Lines) (old new : List EventComponent) (event : EventComponent) → AllZip (SaysEvent true) vs (map event_of old) → SaysEvent true lines (event_of event)
+    → new ≡ old ++ event ∷ [] → AllZip (SaysEvent true) (vs ++ lines ∷ []) (map event_of new)
+event_pushed vs lines old new event zip says n =
+    subst (λ (es : List Event). AllZip (SaysEvent true) (vs ++ lines ∷ []) es) (sym (ap (map event_of) n ∙ map-append event_of old (event ∷ [])))
+    (push_zip (SaysEvent true) vs (map event_of old) lines (event_of event) zip says)
+
+given : {V : Type 0} (R : List ℕ → V → Type 0) (line : Option (List ℕ)) (value : Option V) → is_some line ≡ true → BothOrNeither R line value → is_some value ≡ true
+given R None None h b = h
+given R (Some l) None h b = absurd b
+given R None (Some v) h b = absurd b
+given R (Some l) (Some v) h b = refl
+
+some_of_map : {A B : Type 0} (f : A → B) (o : Option A) → is_some (option_map f o) ≡ true → IsSome o
+some_of_map f None h = cc
+some_of_map f (Some x) h = refl
+
+some_itself : {A : Type 0} (o : Option A) → is_some o ≡ true → IsSome o
+some_itself None h = cc
+some_itself (Some x) h = refl
+
+-- the one VEVENT of a message
+pub record OneSaid (vevents : List Lines) (event : EventComponent) : Type 0 where
+  pub lines : Lines
+  pub one : vevents ≡ lines ∷ []
+  pub says : SaysEvent true lines (event_of event)
+
+pub one_said : (vevents : List Lines) (es : List EventComponent) (event : EventComponent) → length es ≡ 1 → event ≡ get_or es 0 event → AllZip (SaysEvent true) vevents (map event_of es) → OneSaid vevents event
+one_said vevents [] event n at zip = absurd (omega (arith, n))
+one_said vevents (e ∷ f ∷ es) event n at zip = absurd (omega (arith, n))
+one_said [] (e ∷ []) event n at zip = absurd zip
+one_said (v ∷ w ∷ vs) (e ∷ []) event n at zip = absurd zip.1
+one_said (v ∷ []) (e ∷ []) event n at zip = record { lines = v; one = refl; says = subst (λ (x : EventComponent). SaysEvent true v (event_of x)) (sym at) zip.0 }
+
+pub organiser_given : (vevents : List Lines) (event : EventComponent) → OneSaid vevents event → IsSome event.organiser
+organiser_given vevents event o =
+    let s = o.says.organiser in
+    some_of_map _ event.organiser (given _ s.line (event_of event).organiser (s.stands refl) s.is)
+
+pub stamp_given : (vevents : List Lines) (event : EventComponent) → OneSaid vevents event → IsSome event.stamp
+stamp_given vevents event o =
+    let s = o.says.stamp in
+    some_itself event.stamp (given _ s.line (event_of event).stamp (s.stands refl) s.is)
+
+or_false : (a : Bool) → (a || false) ≡ false → a ≡ false
+or_false true h = h
+or_false false h = refl
+
+-- the message's lines say a REQUEST for it
+pub request_said : (own : Lines) (vevents : List Lines) (event : EventComponent) → NamesRequest own → list_any has_unread vevents ≡ false → OneSaid vevents event → SaysRequest own vevents (event_of event)
+request_said own vevents event named read o = record {
+  method_line = named.0;
+  method = named.1;
+  request = named.2;
+  lines = o.lines;
+  one = o.one;
+  read = or_false (has_unread o.lines) (subst (λ (vs : List Lines). list_any has_unread vs ≡ false) o.one read);
+  says = o.says;
+}
+
+-- ---- parts
+
+-- what follows of the value of an `Ok`
+pub if_ok : {T E : Type 0} (r : Result T E) (P Q : T → Type 0) → ((x : T) → P x → Q x) → IfOk r P → IfOk r Q
+if_ok (Ok x) P Q f h = f x h
+if_ok (Err e) P Q f h = tt
+
+any_mapped : (p : events.Attendee → Bool) (xs : List Attendee) → list_any (λ a. p (attendee_of a)) xs ≡ list_any p (map attendee_of xs)
+any_mapped p [] = refl
+any_mapped p (x ∷ xs) = ap (λ b. p (attendee_of x) || b) (any_mapped p xs)
+
+or_none : (b : Bool) → (b || false) ≡ b
+or_none true = refl
+or_none false = refl
+
+-- the one component names the room where the event does
+names_said : (room : List ℕ) (message : Message) (event : Event) (s : StandsFor message event) → component_names room s.component ≡ names_room room event
+names_said room message event s =
+    any_mapped (λ a. bytes_eq a.address room) s.component.attendees.items ∙ ap (list_any (λ a. bytes_eq a.address room)) s.says.attendees
+
+addressed : (room : List ℕ) (message : Message) (event : Event) → StandsFor message event → list_any (component_names room) message.components.items ≡ names_room room event
+addressed room message event s =
+    ap (list_any (component_names room)) s.one ∙ or_none (component_names room s.component) ∙ names_said room message event s
+
+-- not addressed: no parts
+pub no_parts : (room : List ℕ) (message : Message) (event : Event) (parts : List revisions.Part) (b : Bool) → b ≡ list_any (component_names room) message.components.items → b ≡ false → parts ≡ []
+    → StandsFor message event → AreParts room event parts
+no_parts room message event parts b is off none s =
+    subst (λ (ps : List revisions.Part). AreParts room event ps) (sym none) (sym (addressed room message event s) ∙ sym is ∙ off)
+
+-- addressed: the event's part
+pub one_part : (room : List ℕ) (message : Message) (event : Event) (parts : List revisions.Part) (b : Bool) → b ≡ list_any (component_names room) message.components.items → b ≡ true
+    → parts ≡ map (part_for room message) message.components.items → StandsFor message event → AreParts room event parts
+one_part room message event parts b is on are s =
+    let named : names_room room event ≡ true = sym (addressed room message event s) ∙ sym is ∙ on in
+    let here : component_names room s.component ≡ true = names_said room message event s ∙ named in
+    let part = part_for room message s.component in
+    let said : IsPart event part = record {
+      octets = s.component.canonical.items;
+      organiser = s.organiser;
+      uid = s.uid;
+      slot = ap slot_of s.says.slot;
+      sequence = s.says.sequence;
+      stamp = s.says.stamp;
+      canonical = s.says.canonical;
+      body = ap (λ (b : Bool). cond b (revisions.Set s.component.canonical.items) revisions.Absent) here;
+    } in
+    subst (λ (ps : List revisions.Part). AreParts room event ps) (sym (are ∙ ap (map (part_for room message)) s.one)) (named, said)

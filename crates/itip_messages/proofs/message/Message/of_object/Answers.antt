@@ -1,0 +1,48 @@
+use Rattle.std.proofs.Common.{sym, subst, map}
+use Rattle.ical_tree.specs.Tree.{component_lines}
+use Rattle.profile.specs.Messages.{MessageFault, in_method, not_yet}
+use Rattle.cal_events.specs.Events.{event_of, vevents_of}
+use Rattle.cal_events.proofs.EventLemmas.{refused_exit}
+use Rattle.itip_messages.proofs.MessageLemmas.{meeting_stands, one_said, organiser_given, stamp_given, request_said}
+use Rattle.itip_messages.proofs.message.Message.of_object.Goals as goal
+
+pub returns-in_err-refuse_unread_events-clause-stands : goal.returns-in_err-refuse_unread_events-clause-stands
+returns-in_err-refuse_unread_events-clause-stands c =
+    let P = MessageFault (component_lines c.args.object.now) (vevents_of c.args.object.now) in
+    refused_exit _ P _ c.from_residual.ensures.1 (subst P (sym c.in_err-refuse_unread_events.ensures.refuses) (not_yet c.in_err-refuse_unread_events.ensures.unread))
+
+pub returns-in_err-method-clause-stands : goal.returns-in_err-method-clause-stands
+returns-in_err-method-clause-stands c =
+    let P = MessageFault (component_lines c.args.object.now) (vevents_of c.args.object.now) in
+    refused_exit _ P _ c.from_residual-in_err-method.ensures.1 (in_method c.in_err-method.ensures.stands)
+
+pub returns-in_err-judge_meeting-clause-stands : goal.returns-in_err-judge_meeting-clause-stands
+returns-in_err-judge_meeting-clause-stands c =
+    let own = component_lines c.args.object.now in
+    let vevents = vevents_of c.args.object.now in
+    let wrong = rw c.as_slice.ensures.value at c.in_err-judge_meeting.ensures.stands in
+    refused_exit _ (MessageFault own vevents) _ c.from_residual-in_err-judge_meeting.ensures.1
+    (meeting_stands own vevents (map event_of c.in_ok-events.events.items) _ c.in_ok-events.ensures.says wrong)
+
+pub of-requires-clause-organiser : goal.of-requires-clause-organiser
+of-requires-clause-organiser c =
+    let vevents = vevents_of c.args.object.now in
+    let one = rw c.as_slice.ensures.value at c.in_ok-judge_meeting.ensures.one in
+    organiser_given vevents c.remove-event.result (one_said vevents c.in_ok-events.events.items c.remove-event.result one c.remove-event.ensures.value c.in_ok-events.ensures.says)
+
+pub of-requires-clause-stamp : goal.of-requires-clause-stamp
+of-requires-clause-stamp c =
+    let vevents = vevents_of c.args.object.now in
+    let one = rw c.as_slice.ensures.value at c.in_ok-judge_meeting.ensures.one in
+    stamp_given vevents c.remove-event.result (one_said vevents c.in_ok-events.events.items c.remove-event.result one c.remove-event.ensures.value c.in_ok-events.ensures.says)
+
+pub returns-clause-says : goal.returns-clause-says
+returns-clause-says c =
+    let own = component_lines c.args.object.now in
+    let vevents = vevents_of c.args.object.now in
+    let one = rw c.as_slice.ensures.value at c.in_ok-judge_meeting.ensures.one in (
+      event_of c.remove-event.result,
+      request_said own vevents c.remove-event.result c.in_ok-method.ensures.named c.in_ok-refuse_unread_events.ensures.read
+          (one_said vevents c.in_ok-events.events.items c.remove-event.result one c.remove-event.ensures.value c.in_ok-events.ensures.says),
+      c.in_ok-of.ensures,
+    )

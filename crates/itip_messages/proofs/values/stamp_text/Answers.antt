@@ -1,0 +1,7 @@
+use Rattle.itip_messages.proofs.TextLemmas.{utf8_stamp}
+use Rattle.itip_messages.proofs.values.stamp_text.Goals as goal
+
+pub text_of-requires : goal.text_of-requires
+text_of-requires c =
+    let w = c.in_ok-write.ensures.ok in
+    rw (w.2, c.new-octets.ensures.items) (utf8_stamp w.0 _ w.1)

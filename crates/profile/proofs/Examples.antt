@@ -1,0 +1,153 @@
+-- Worked examples of definitions, computed. Those of the other files stand beside the crates that meet them: Lines in ical_lines,
+-- Objects in ical_tree, Days and Values in cal_days and ical_values, Instances in cal_events, Certificates in clash_cert,
+-- Revisions in itip_order, Messages in itip_messages, Rooms in room_books.
+use Rattle.std.proofs.Common.{◌≡◌, ℕ, pos, ℤ, Bool, true, false, List, [], ◌∷◌, ◌++◌, Option, Some, None, refl, codes, inr, ap, lit<}
+use Rattle.std.proofs.lemmas.Fmt.{decimal_digit}
+use Rattle.profile.specs.Faults.{is_line_fault, is_event_fault, is_calendar_fault, is_message_fault}
+use Rattle.profile.specs.Instances.{Key, Booked}
+use Rattle.profile.specs.Lines.{line_param}
+use Rattle.profile.specs.Trees.{Tree, Trees, tree, none, more, tree_name, vevents}
+use Rattle.profile.specs.Events.{Event, Length, Attendee, Participation, Accepted, Declined, NeedsAction, lines_named, is_unread_line, has_unread, answer_named, booked_by, confirmed, length_seconds}
+use Rattle.profile.specs.Revisions.{Part, Revision, Whole, Set}
+use Rattle.profile.specs.Messages.{Accept, SinglesLimit, object_lines, word}
+use Rattle.profile.specs.Rooms.{Book, Answer, Claim, empty_book}
+use Rattle.profile.specs.Kept.{written, kept, kept_certificate, first_parts}
+use Rattle.profile.specs.Streams.{Setting, Now, Room, moments, rooms, refused_line, AreObjects, no_more, one_more, MethodFault}
+
+-- ---- lists of refusals
+
+two_masters_are_a_calendars : is_calendar_fault 53 ≡ true
+two_masters_are_a_calendars = refl
+
+two_meetings_are_a_messages_alone : is_calendar_fault 62 ≡ false
+two_meetings_are_a_messages_alone = refl
+
+no_organizer_is_an_events : is_event_fault 63 ≡ true
+no_organizer_is_an_events = refl
+
+no_refusal_is_17 : is_message_fault 17 ≡ false
+no_refusal_is_17 = refl
+
+-- ---- trees
+
+calendar_of_two : Tree
+calendar_of_two =
+    tree (codes "VCALENDAR") (codes "VERSION:2.0" ∷ []) (more (tree (codes "vevent") (codes "UID:a" ∷ []) none) (more (tree (codes "VTODO") [] none) none))
+
+-- VEVENT in any case, and nothing else
+its_events : vevents (tree (codes "VCALENDAR") [] (more (tree (codes "vevent") (codes "UID:a" ∷ []) none) (more (tree (codes "VTODO") [] none) none)))
+    ≡ (codes "UID:a" ∷ []) ∷ []
+its_events = refl
+
+no_events : vevents (tree (codes "VCALENDAR") (codes "VERSION:2.0" ∷ []) none) ≡ []
+no_events = refl
+
+-- ---- events
+
+uids : lines_named (codes "UID") (codes "uid:a" ∷ codes "SUMMARY:UID:b" ∷ codes "UID;X=1:c" ∷ []) ≡ codes "uid:a" ∷ codes "UID;X=1:c" ∷ []
+uids = refl
+
+a_rule_is_unread : is_unread_line (codes "RRULE:FREQ=DAILY") ≡ true
+a_rule_is_unread = refl
+
+a_start_in_a_zone_is_unread : is_unread_line (codes "DTSTART;TZID=Z:20250310T090000") ≡ true
+a_start_in_a_zone_is_unread = refl
+
+a_tentative_status_is_read : has_unread (codes "STATUS:TENTATIVE" ∷ codes "DTSTART:20250310T090000Z" ∷ []) ≡ false
+a_tentative_status_is_read = refl
+
+the_word_is_caseless : answer_named (line_param (codes "PARTSTAT") (codes "ATTENDEE;RSVP=TRUE;PARTSTAT=accepted:mailto:r1@example.com")) ≡ Accepted
+the_word_is_caseless = refl
+
+no_word_is_no_answer : answer_named (line_param (codes "PARTSTAT") (codes "ATTENDEE:mailto:r1@example.com")) ≡ NeedsAction
+no_word_is_no_answer = refl
+
+-- from second 100 for a day and a second
+abbrev event_with : Participation → Participation → Event
+event_with first second = record {
+  uid = codes "a";
+  organiser = None;
+  stamp = None;
+  sequence = 0;
+  start = pos 100;
+  length = record { days = 1; seconds = 1 };
+  attendees = record { address = codes "r:1"; participation = first } ∷ record { address = codes "r:1"; participation = second } ∷ [];
+}
+
+-- without ORGANIZER it is the empty address's
+what_it_books : booked_by (event_with Accepted Declined) ≡ record { key = record { organiser = []; uid = codes "a"; slot = pos 100 }; start = pos 100; end = pos 86_501 }
+what_it_books = refl
+
+-- of two lines of one address the first counts
+the_first_line_accepts : confirmed (codes "r:1") (event_with Accepted Declined ∷ []) ≡ booked_by (event_with Accepted Declined) ∷ []
+the_first_line_accepts = refl
+
+the_first_line_declines : confirmed (codes "r:1") (event_with Declined Accepted ∷ []) ≡ []
+the_first_line_declines = refl
+
+another_room_has_nothing : confirmed (codes "r:2") (event_with Accepted Accepted ∷ []) ≡ []
+another_room_has_nothing = refl
+
+-- ---- what a room writes
+
+an_object_of_nothing : object_lines None [] ≡ codes "BEGIN:VCALENDAR" ∷ codes "VERSION:2.0" ∷ codes "PRODID:-//iTIP room box//EN" ∷ codes "END:VCALENDAR" ∷ []
+an_object_of_nothing = refl
+
+a_word_has_no_comma : word (codes "a,b") ≡ codes "a%2Cb"
+a_word_has_no_comma = refl
+
+-- the certificate of a room that has taken nothing
+nothing_kept : kept_certificate empty_book ≡ codes "ROOMCERT 1\nSINGLES 0\nSERIES 0\nDONE\n"
+nothing_kept = ap (λ (d : List ℕ). codes "ROOMCERT 1\nSINGLES " ++ (d ++ codes "\nSERIES 0\nDONE\n")) (decimal_digit 0 (lit< tt))
+
+abbrev part_of : List ℕ → ℕ → Part
+part_of uid sequence = record {
+  organiser = codes "o:1";
+  uid = uid;
+  slot = Whole;
+  revision = record { sequence = sequence; stamp = pos 7 };
+  body = Set (codes "x");
+}
+
+abbrev claim_of : List ℕ → ℕ → Claim
+claim_of uid sequence = record { part = part_of uid sequence; books = record { key = record { organiser = codes "o:1"; uid = uid; slot = pos 0 }; start = pos 0; end = pos 1 } ∷ [] }
+
+-- b came first and was declined; a was accepted
+abbrev two_meetings : Book
+two_meetings = record {
+  taken = part_of (codes "b") 0 ∷ part_of (codes "a") 0 ∷ part_of (codes "b") 0 ∷ [];
+  answers = record { claim = claim_of (codes "b") 0; moment = pos 9; outcome = SinglesLimit } ∷ record { claim = claim_of (codes "a") 0; moment = pos 9; outcome = Accept } ∷ [];
+}
+
+in_order_of_arrival : first_parts two_meetings.taken ≡ part_of (codes "b") 0 ∷ part_of (codes "a") 0 ∷ []
+in_order_of_arrival = refl
+
+the_declined_is_not_kept : kept two_meetings ≡ record { claim = claim_of (codes "a") 0; moment = pos 9; outcome = Accept } ∷ []
+the_declined_is_not_kept = refl
+
+one_single : kept_certificate two_meetings ≡ codes "ROOMCERT 1\nSINGLES 1\nSERIES 0\nDONE\n"
+one_single = ap (λ (d : List ℕ). codes "ROOMCERT 1\nSINGLES " ++ (d ++ codes "\nSERIES 0\nDONE\n")) (decimal_digit 1 (lit< tt))
+
+-- ---- streams
+
+refused_for_its_size : refused_line 1 6 ≡ codes "REFUSED;OBJECT=1:6\r\n"
+refused_for_its_size = rw (decimal_digit 1 (lit< tt), decimal_digit 6 (lit< tt)) refl
+
+the_moment : moments (Room (codes "r:1") ∷ Now (pos 5) ∷ Room (codes "r:2") ∷ []) ≡ pos 5 ∷ []
+the_moment = refl
+
+the_rooms : rooms (Room (codes "r:1") ∷ Now (pos 5) ∷ Room (codes "r:2") ∷ []) ≡ codes "r:1" ∷ codes "r:2" ∷ []
+the_rooms = refl
+
+empty_lines_are_no_object : AreObjects (codes "\r\n\n") []
+empty_lines_are_no_object = no_more refl
+
+-- the second object begins after the first one's line break; a line that goes on isn't the last
+two_objects : AreObjects (codes "A:1\nEND:VCALENDAR\n\nEND:\n VCALENDAR") (codes "A:1\nEND:VCALENDAR\n" ∷ codes "\nEND:\n VCALENDAR" ∷ [])
+two_objects = one_more _ refl refl (one_more _ refl refl (no_more refl))
+
+no_method_is_unread : MethodFault 99 []
+no_method_is_unread = refl
+
+publish_is_refused : MethodFault 60 (codes "METHOD:PUBLISH" ∷ [])
+publish_is_refused = inr (refl, refl)
