@@ -1,6 +1,6 @@
 -- The lines of a VEVENT say at most one event, and none where a fault stands in them.
-use Rattle.std.proofs.Common.{◌≡◌, ◌≢◌, ℕ, zero, suc, ◌+◌, ◌*◌, ◌<◌, ◌≤◌, Bool, true, false, cond, List, [], ◌∷◌, ◌++◌, length, length-append, map, codes, get_or, subst, sym, refl, ap, ◌∙◌, inl, inr, arith, ℤ, pos, negsuc, ◌+ℤ◌, ◌<ℤ◌, ◌≤ℤ◌}
-use Rattle.std.specs.Prelude.{Option, Some, None, is_some, option_map, unwrap_or, Contains, All, AllPairs, IsTrue, ◌⊎◌}
+use Rattle.std.proofs.Common.{◌≡◌, ℕ, zero, suc, ◌+◌, ◌*◌, ◌≤◌, Bool, true, false, List, [], ◌∷◌, ◌++◌, length, length-append, codes, subst, sym, refl, ap, ◌∙◌, inl, inr, arith, ℤ, pos, ◌+ℤ◌, ◌<ℤ◌}
+use Rattle.std.specs.Prelude.{Option, Some, None, is_some, option_map, unwrap_or, Contains, All}
 use Rattle.std.specs.Option.{option_to_list}
 use Rattle.std.specs.List.{AllZip}
 use Rattle.std.specs.Str.{bytes_eq, str_to_ascii_lowercase}
@@ -9,8 +9,8 @@ use Rattle.std.proofs.lemmas.Int.{ints}
 use Rattle.std.proofs.lemmas.Slice.Eq.{bytes_eq-Decides}
 use Rattle.std.proofs.lemmas.List.Elements.{All-from_recursion, All-contains}
 use Rattle.profile.specs.Lines.{line_value, line_param, is_same_name}
-use Rattle.profile.specs.Values.{SpellsStamp, SpellsLocal, SpellsDate, SpellsClock, SpellsSequence, SpellsDuration, SpellsNegative, IsUid, unescaped}
-use Rattle.profile.specs.Events.{lines_named, StandsAtMostOnce, StandsTwice, IsMissing, SomeLine, BothOrNeither, Says, SaysSequence, SaysLength, SaysEvent, Event, Attendee, Length, length_seconds, IsLength, LastsFor, LastsUntil, IsTime, IsUidLine, IsAddressLine, IsStampLine, IsSequenceLine, IsAttendee, is_date_time, has_value, IsDate, IsLocal, IsNoStamp, IsNegativeOrLong, IsNoAddress, IsNoSequence, StartAndEnd, TimeFault, EventFault, single_names, no_stamp, no_time, not_fixed, period, bad_start, bad_end, bad_stamp, bad_duration, bad_uid, bad_organiser, bad_attendee, bad_sequence, ends_early, ends_late, lasts_long, starts_early, no_uid, no_start, no_stamp_given, twice, end_and_duration, no_organiser}
+use Rattle.profile.specs.Values.{SpellsStamp, SpellsLocal, SpellsDate, SpellsSequence, SpellsDuration, SpellsNegative, IsUid, unescaped}
+use Rattle.profile.specs.Events.{lines_named, StandsAtMostOnce, IsMissing, SomeLine, BothOrNeither, Says, SaysLength, SaysEvent, Event, Attendee, Length, length_seconds, IsLength, LastsFor, LastsUntil, IsTime, IsUidLine, IsAddressLine, IsStampLine, IsSequenceLine, IsAttendee, IsNoStamp, IsNegativeOrLong, IsNoAddress, IsNoSequence, StartAndEnd, TimeFault, EventFault, single_names, no_stamp, no_time, not_fixed, period, bad_start, bad_end, bad_stamp, bad_duration, bad_uid, bad_organiser, bad_attendee, bad_sequence, ends_early, ends_late, lasts_long, starts_early, no_uid, no_start, no_stamp_given, twice, end_and_duration, no_organiser}
 
 abbrev Lines : Type 0
 Lines = List (List ℕ)
@@ -147,7 +147,7 @@ one_event one two three m lines a b s t =
 
 -- ---- no fault stands where an event is said
 
-same_text : (word a b : List ℕ) → is_same_name word a ≡ true → is_same_name word b ≡ true → str_to_ascii_lowercase a ≡ str_to_ascii_lowercase b
+pub same_text : (word a b : List ℕ) → is_same_name word a ≡ true → is_same_name word b ≡ true → str_to_ascii_lowercase a ≡ str_to_ascii_lowercase b
 same_text word a b h k =
     sym (bytes_eq-true (str_to_ascii_lowercase word) (str_to_ascii_lowercase a) h) ∙ bytes_eq-true (str_to_ascii_lowercase word) (str_to_ascii_lowercase b) k
   where

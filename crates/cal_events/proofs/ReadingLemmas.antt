@@ -1,7 +1,7 @@
 -- An object's VEVENTs, what they say, and the calendar's entries.
-use Rattle.std.proofs.Common.{◌≡◌, ◌≢◌, ℕ, zero, suc, ◌+◌, ◌<◌, Bool, true, false, cond, List, [], ◌∷◌, ◌++◌, ◌||◌, length, map, filter, get_or, take, drop, drop-cons, add-one, append_assoc, subst, sym, refl, ap, ◌∙◌, arith}
+use Rattle.std.proofs.Common.{◌≡◌, ◌≢◌, ℕ, zero, suc, ◌+◌, ◌<◌, Bool, true, false, cond, List, [], ◌∷◌, ◌++◌, ◌||◌, length, map, filter, get_or, take, drop, drop-cons, add-one, subst, sym, refl, ap, ◌∙◌, arith}
 use Rattle.std.specs.Prelude.{Contains, AllPairs, Result, Ok, Err, IfOk, IfErr}
-use Rattle.std.specs.List.{list_any, AllZip}
+use Rattle.std.specs.List.{list_any}
 use Rattle.std.proofs.lemmas.List.{map-append, take-append-drop, append-nil, length-map}
 use Rattle.std.proofs.lemmas.List.Elements.{Contains-append_right, filter_more, filter-append}
 use Rattle.ical_lines.specs.declared.fault.Fault.{Fault}
@@ -12,7 +12,7 @@ use Rattle.profile.specs.Instances.{Booked}
 use Rattle.profile.specs.Events.{Event, SaysEvent, SaysCalendar, EventFault, CalendarFault, in_event, one_meeting, has_unread, booked_by, is_confirmed, confirmed, meeting_said}
 use Rattle.cal_events.specs.declared.calendar.Entry.{Entry}
 use Rattle.cal_events.specs.Calendars.{booked_of, confirmed_in, meeting_of, MeetingsDiffer, IsTwinsFault}
-use Rattle.cal_events.specs.Events.{is_vevent, vevents_of, entry_view, entry_said, AreEntries, StandsIn}
+use Rattle.cal_events.specs.Events.{is_vevent, entry_view, entry_said, AreEntries, StandsIn}
 use Rattle.cal_events.proofs.EventLemmas.{push_zip}
 
 -- ---- the VEVENTs among some components

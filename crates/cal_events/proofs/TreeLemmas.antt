@@ -1,5 +1,5 @@
 -- A component that lines spell, as a tree that they spell.
-use Rattle.std.proofs.Common.{◌≡◌, ℕ, suc, Bool, true, false, cond, List, [], ◌∷◌, ◌++◌, length, map, filter, codes, subst, sym, refl, ap, ◌∙◌, inl, inr, arith}
+use Rattle.std.proofs.Common.{◌≡◌, ℕ, Bool, true, false, cond, List, [], ◌∷◌, ◌++◌, map, filter, codes, subst, sym, refl, ap, ◌∙◌, inl, inr, arith}
 use Rattle.std.specs.Prelude.{IsTrue, Result, Ok, Err, IfOk, IfErr}
 use Rattle.std.specs.Result.{IsErrAnd}
 use Rattle.std.proofs.lemmas.Bool.Decides.{nat_tests}
@@ -10,7 +10,7 @@ use Rattle.ical_tree.specs.Tree.{component_name, component_lines, component_chil
 use Rattle.ical_tree.specs.Reading.{Stands, calendar_has}
 use Rattle.ical_tree.specs.declared.component.Component.{Component}
 use Rattle.profile.specs.Lines.{is_same_name, logical_lines, reads_as_lines}
-use Rattle.profile.specs.Objects.{is_property, Opens, Closes, Body, nothing, property, component, Spells, IsObject, has_version}
+use Rattle.profile.specs.Objects.{Body, nothing, property, component, Spells, IsObject, has_version}
 use Rattle.profile.specs.Trees.{Tree, Trees, tree, none, more, trees_list, tree_name, tree_own, tree_inside, vevents}
 use Rattle.profile.specs.Instances.{Booked}
 use Rattle.profile.specs.Events.{SaysCalendar, CalendarFault}

@@ -45,12 +45,15 @@ impl Calendar {
     }
 }
 
-/// The VEVENTs of a calendar say at most one calendar for a room, and none where a fault stands in them.
+/// The VEVENTs of a calendar say at most one calendar for a room, and none where a fault stands in them;
+/// octets spell at most one.
 pub fn one_calendar()
     ensures one { (room : List ℕ) (vevents : List (List (List ℕ))) (a b : List Booked)
         → SaysCalendar room vevents a → SaysCalendar room vevents b → a ≡ b }
     ensures or_a_fault { (room : List ℕ) (vevents : List (List (List ℕ))) (a : List Booked) (n : ℕ)
         → SaysCalendar room vevents a → CalendarFault vevents n → ⊥ }
+    ensures of_octets { (room octets : List ℕ) (a b : List Booked)
+        → SpellsCalendar room octets a → SpellsCalendar room octets b → a ≡ b }
 {
     one_event();
 }

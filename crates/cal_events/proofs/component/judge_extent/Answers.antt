@@ -1,8 +1,7 @@
-use Rattle.std.proofs.Common.{◌<◌, pos, ◌<ℤ◌, subst, sym, arith}
+use Rattle.std.proofs.Common.{subst, sym, arith}
 use Rattle.std.proofs.lemmas.Int.{ints}
-use Rattle.cal_events.specs.Events.{ExtentFault, length_of}
+use Rattle.cal_events.specs.Events.{ExtentFault}
 use Rattle.cal_events.specs.Events.{ends_early, ends_late, lasts_long}
-use Rattle.profile.specs.Events.{length_seconds}
 use Rattle.cal_events.proofs.component.judge_extent.Goals as goal
 
 pub returns-in-ToEnd-clause-stands : goal.returns-in-ToEnd-clause-stands

@@ -1,6 +1,5 @@
-use Rattle.std.proofs.Common.{◌≡◌, sym, inl, inr, ap, ◌∙◌, subst}
-use Rattle.std.specs.Bool.{OnTrue}
-use Rattle.profile.specs.Events.{IsNoStamp, IsDate, IsLocal}
+use Rattle.std.proofs.Common.{◌≡◌, sym, inl, inr, ◌∙◌, subst}
+use Rattle.profile.specs.Events.{IsNoStamp, IsDate}
 use Rattle.cal_events.specs.Events.{DateTimeFault, no_stamp, not_fixed, no_time}
 use Rattle.cal_events.proofs.EventLemmas.{err_both, no_z, on_true}
 use Rattle.cal_events.proofs.component.read_date_time.Goals as goal

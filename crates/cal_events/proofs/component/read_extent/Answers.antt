@@ -1,5 +1,5 @@
 use Rattle.std.proofs.Common.{◌≡◌, codes, sym, ap, subst, refl, ◌∙◌, ◌+ℤ◌, FitsSigned, to_z, of_z, w64, arith, rules}
-use Rattle.std.specs.Prelude.{Some, option_map}
+use Rattle.std.specs.Prelude.{option_map}
 use Rattle.std.specs.Option.{option_to_list}
 use Rattle.std.proofs.lemmas.Int.{ints}
 use Rattle.ical_lines.specs.Text.{line_text}

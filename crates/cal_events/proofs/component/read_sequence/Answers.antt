@@ -1,10 +1,9 @@
 use Rattle.std.proofs.Common.{◌≡◌, ℕ, codes, sym, ap, subst, refl, ◌∙◌, arith}
-use Rattle.std.specs.Prelude.{Some, option_map}
+use Rattle.std.specs.Prelude.{option_map}
 use Rattle.std.specs.Option.{option_to_list}
 use Rattle.ical_lines.specs.Text.{line_text}
 use Rattle.ical_lines.specs.declared.fault.Refusal.{Refusal}
 use Rattle.ical_tree.specs.Tree.{component_lines}
-use Rattle.profile.specs.Lines.{line_value}
 use Rattle.profile.specs.Values.{SpellsSequence}
 use Rattle.profile.specs.Events.{EventFault, IsNoSequence}
 use Rattle.profile.specs.Events.{twice, bad_sequence}

@@ -1,5 +1,5 @@
-use Rattle.std.proofs.Common.{◌≡◌, codes, sym, ap, subst, refl, ◌∙◌, arith}
-use Rattle.std.specs.Prelude.{Some, option_map}
+use Rattle.std.proofs.Common.{codes, sym, ap, subst, refl, ◌∙◌, arith}
+use Rattle.std.specs.Prelude.{option_map}
 use Rattle.std.specs.Option.{option_to_list}
 use Rattle.ical_lines.specs.Text.{line_text}
 use Rattle.ical_tree.specs.Tree.{component_lines}

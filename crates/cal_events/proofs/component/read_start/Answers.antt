@@ -1,4 +1,4 @@
-use Rattle.std.proofs.Common.{◌≡◌, codes, sym, subst, refl, inl, inr, arith}
+use Rattle.std.proofs.Common.{codes, sym, subst, refl, inl, inr, arith}
 use Rattle.std.proofs.lemmas.Result.{IfErr-weaker}
 use Rattle.ical_lines.specs.Text.{line_text}
 use Rattle.ical_tree.specs.Tree.{component_lines}

@@ -1,4 +1,4 @@
-use Rattle.std.proofs.Common.{inr, sym, subst}
+use Rattle.std.proofs.Common.{inr}
 use Rattle.std.proofs.lemmas.Result.{IfErr-weaker}
 use Rattle.ical_lines.specs.Text.{line_text}
 use Rattle.profile.specs.Events.{TimeFault}

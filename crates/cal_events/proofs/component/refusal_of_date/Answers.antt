@@ -1,4 +1,4 @@
-use Rattle.std.proofs.Common.{sym, ◌∙◌}
+use Rattle.std.proofs.Common.{sym}
 use Rattle.cal_events.specs.Events.{date, ending, no_date}
 use Rattle.cal_events.proofs.component.refusal_of_date.Goals as goal
 
