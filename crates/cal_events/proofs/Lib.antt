@@ -4,6 +4,7 @@ pub mod ReadingLemmas
 pub mod TreeLemmas
 pub mod OneEvent
 pub mod OneCalendar
+pub mod OneText
 pub mod CalendarLemmas
 pub mod ClashLemmas
 pub mod Distinct

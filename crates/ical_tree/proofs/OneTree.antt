@@ -1,5 +1,5 @@
 -- Lines spell at most one tree, and none where a fault stands in how they pair up.
-use Rattle.std.proofs.Common.{◌≡◌, ℕ, zero, suc, ◌+◌, ◌<◌, ◌≤◌, Bool, true, false, not, ◌&&◌, ◌||◌, eqb, cond, List, [], ◌∷◌, ◌++◌, length, drop, codes, refl, ap, sym, subst, ◌∙◌, arith}
+use Rattle.std.proofs.Common.{◌≡◌, ℕ, ◌+◌, ◌<◌, ◌≤◌, Bool, true, false, not, ◌&&◌, ◌||◌, eqb, cond, List, [], ◌∷◌, ◌++◌, length, drop, codes, refl, ap, sym, ◌∙◌, arith}
 use Rattle.std.specs.Prelude.{nat_le}
 use Rattle.std.specs.Str.{bytes_eq, str_to_ascii_lowercase}
 use Rattle.std.proofs.lemmas.Bool.{true≢false, lt-leb}
@@ -7,7 +7,7 @@ use Rattle.std.proofs.lemmas.Slice.Eq.{bytes_eq-Decides}
 use Rattle.std.proofs.lemmas.List.{append_assoc, append-nil}
 use Rattle.std.proofs.Math.Bool.{and-false}
 use Rattle.profile.specs.Lines.{line_name, line_value, is_same_name}
-use Rattle.profile.specs.Objects.{is_begin, is_end, is_property, Opens, Closes, Body, Spells, IsObject, is_none, now_open, opened_from, misplaced, misplaced_begin, misplaced_end, misplaced_property, some_misplaced, closes_innermost, lines_have}
+use Rattle.profile.specs.Objects.{is_begin, is_end, is_property, Opens, Closes, Body, Spells, IsObject, is_none, now_open, opened_from, misplaced, misplaced_begin, misplaced_end, misplaced_property, some_misplaced, lines_have}
 use Rattle.profile.specs.Objects.Body.{nothing, property, component}
 use Rattle.profile.specs.Trees.{Tree, Trees, tree, none, more, trees_list, tree_name, tree_own, tree_inside}
 
