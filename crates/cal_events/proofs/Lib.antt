@@ -1,3 +1,4 @@
+mod EventExamples
 pub mod EventLemmas
 pub mod ReadingLemmas
 pub mod TreeLemmas

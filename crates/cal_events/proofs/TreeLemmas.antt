@@ -1,21 +1,20 @@
 -- A component that lines spell, as a tree that they spell.
-use Rattle.std.proofs.Common.{◌≡◌, ℕ, suc, Bool, true, false, cond, List, [], ◌∷◌, ◌++◌, length, map, filter, codes, subst, sym, refl, ap, ◌∙◌, arith}
-use Rattle.std.specs.Prelude.{Result, Ok, Err, IfOk, IfErr}
+use Rattle.std.proofs.Common.{◌≡◌, ℕ, suc, Bool, true, false, cond, List, [], ◌∷◌, ◌++◌, length, map, filter, codes, subst, sym, refl, ap, ◌∙◌, inl, inr, arith}
+use Rattle.std.specs.Prelude.{IsTrue, Result, Ok, Err, IfOk, IfErr}
 use Rattle.std.specs.Result.{IsErrAnd}
 use Rattle.std.proofs.lemmas.Bool.Decides.{nat_tests}
 use Rattle.std.specs.List.{AllZip}
 use Rattle.ical_lines.specs.declared.fault.Fault.{Fault}
 use Rattle.ical_lines.specs.declared.fault.Fault.TheVariants.{Refused, Memory}
-use Rattle.ical_lines.specs.Fault.{RefusesOnly}
-use Rattle.profile.specs.Faults.{is_object_fault}
 use Rattle.ical_tree.specs.Tree.{component_name, component_lines, component_children, IsObjectOf}
+use Rattle.ical_tree.specs.Reading.{Stands, calendar_has}
 use Rattle.ical_tree.specs.declared.component.Component.{Component}
-use Rattle.profile.specs.Lines.{is_same_name, logical_lines}
-use Rattle.profile.specs.Objects.{is_property, Opens, Closes, Body, nothing, property, component, Spells, IsObject}
+use Rattle.profile.specs.Lines.{is_same_name, logical_lines, reads_as_lines}
+use Rattle.profile.specs.Objects.{is_property, Opens, Closes, Body, nothing, property, component, Spells, IsObject, has_version}
 use Rattle.profile.specs.Trees.{Tree, Trees, tree, none, more, trees_list, tree_name, tree_own, tree_inside, vevents}
 use Rattle.profile.specs.Instances.{Booked}
 use Rattle.profile.specs.Events.{SaysCalendar, CalendarFault}
-use Rattle.profile.specs.Calendars.{SpellsCalendar, EventsFault}
+use Rattle.profile.specs.Calendars.{SpellsCalendar, CalendarTextFault, in_lines, in_tree, no_version, in_vevents}
 use Rattle.cal_events.specs.Events.{is_vevent, vevents_of, StandsIn}
 use Rattle.cal_events.proofs.EventLemmas.{push_zip, fault_exit}
 use Rattle.cal_events.proofs.ReadingLemmas.{events_in}
@@ -97,25 +96,54 @@ found c lines object =
       ap (λ (ts : List Tree). map tree_own (filter (λ x. is_same_name (tree_name x) (codes "VEVENT")) ts)) (trees_back b.0) ∙ same_events (component_children c) b.0 b.2,
     )
 
+-- a component that the lines spell is a tree that they spell
+spelled_tree : (c : Component) (lines : Lines) → Spells component_name component_lines component_children 7 c lines
+    → (t : Tree) × Spells tree_name tree_own tree_inside 7 t lines × (tree_own t ≡ component_lines c)
+spelled_tree c lines s =
+    let b = body_of_trees s.holds in (
+      tree (component_name c) (component_lines c) (trees_of b.0),
+      record {
+        begin = s.begin;
+        end = s.end;
+        body = s.body;
+        are = s.are;
+        opens = s.opens;
+        closes = s.closes;
+        holds = subst (λ (ts : List Tree). BodyT 7 (component_lines c) ts s.body) (sym (trees_back b.0)) b.1;
+      },
+      refl,
+    )
+
 pub faults_there : (r : Result (List Booked) Fault) (octets : List ℕ) (c : Component) → IsObjectOf false c (logical_lines octets)
-    → IfErr r (StandsIn (CalendarFault (vevents_of c))) → IfErr r (StandsIn (λ n. is_object_fault n ≡ false → EventsFault octets n))
+    → IfErr r (StandsIn (CalendarFault (vevents_of c))) → IfErr r (StandsIn (CalendarTextFault octets))
 faults_there (Ok all) octets c object h = tt
 faults_there (Err Memory) octets c object h = tt
 faults_there (Err (Refused x)) octets c object h =
     let f = found c (logical_lines octets) object in
-    λ _. record { tree = f.0; object = f.1; fault = subst (λ (vs : List Lines). CalendarFault vs x.number) (sym f.2) h }
+    in_vevents f.0 f.1 (subst (λ (vs : List Lines). CalendarFault vs x.number) (sym f.2) h)
 
-pub object_refused : (r : Result (List Booked) Fault) (octets : List ℕ) (f : Fault) → IsErrAnd r (λ e. e ≡ f) → RefusesOnly is_object_fault f
-    → IfErr r (StandsIn (λ n. is_object_fault n ≡ false → EventsFault octets n))
-object_refused r octets f e h = fault_exit r (λ n. is_object_fault n ≡ false → EventsFault octets n) f e (no_events f h)
-  where
-    no_events : (g : Fault) → RefusesOnly is_object_fault g → StandsIn (λ n. is_object_fault n ≡ false → EventsFault octets n) g
-    no_events Memory t = tt
-    no_events (Refused x) t = λ no. absurd (grind (arith, nat_tests, t, no))
+-- what is wrong with the one VCALENDAR: nothing counts its VEVENTs here
+version_wrong : (octets : List ℕ) (n : ℕ) (c : Component) → Spells component_name component_lines component_children 7 c (logical_lines octets) → IsTrue (calendar_has false n c)
+    → CalendarTextFault octets n
+version_wrong octets n c s h =
+    let t = spelled_tree c (logical_lines octets) s in
+    let e : n ≡ 24 = grind (arith, nat_tests) in
+    let v : has_version (component_lines c) ≡ false = grind (arith, nat_tests) in
+    subst (CalendarTextFault octets) (sym e) (no_version t.0 t.1 (ap has_version t.2 ∙ v))
 
-pub calendar_spelled : (r : Result (List Booked) Fault) (room octets : List ℕ) (c : Component) → IsObjectOf false c (logical_lines octets)
-    → IfOk r (SaysCalendar room (vevents_of c)) → IfOk r (SpellsCalendar room octets)
-calendar_spelled (Ok all) room octets c object says =
+no_object : (octets : List ℕ) (f : Fault) → Stands false octets f → StandsIn (CalendarTextFault octets) f
+no_object octets Memory h = tt
+no_object octets (Refused x) (inl h) = in_lines h
+no_object octets (Refused x) (inr (inl h)) = in_tree h
+no_object octets (Refused x) (inr (inr (c, (s, h)))) = version_wrong octets x.number c s h
+
+pub object_refused : (r : Result (List Booked) Fault) (octets : List ℕ) (f : Fault) → IsErrAnd r (λ e. e ≡ f) → Stands false octets f
+    → IfErr r (StandsIn (CalendarTextFault octets))
+object_refused r octets f e h = fault_exit r (CalendarTextFault octets) f e (no_object octets f h)
+
+pub calendar_spelled : (r : Result (List Booked) Fault) (room octets : List ℕ) (c : Component) → reads_as_lines false octets ≡ true
+    → IsObjectOf false c (logical_lines octets) → IfOk r (SaysCalendar room (vevents_of c)) → IfOk r (SpellsCalendar room octets)
+calendar_spelled (Ok all) room octets c lines object says =
     let f = found c (logical_lines octets) object in
-    record { tree = f.0; object = f.1; says = subst (λ (vs : List Lines). SaysCalendar room vs all) (sym f.2) says }
-calendar_spelled (Err e) room octets c object says = tt
+    record { lines = lines; tree = f.0; object = f.1; says = subst (λ (vs : List Lines). SaysCalendar room vs all) (sym f.2) says }
+calendar_spelled (Err e) room octets c lines object says = tt

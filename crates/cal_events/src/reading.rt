@@ -3,9 +3,9 @@ ghost use Rattle.std.specs.Prelude.{ℕ, List, ◌≡◌, [], true, false, unwra
 ghost use Rattle.std.specs.List.{list_any};
 ghost use Rattle.ical_lines.specs.Fault.{RefusesOnly};
 ghost use Rattle.ical_values.specs.Octets.{address_octets};
-ghost use Rattle.profile.specs.Faults.{is_object_fault, is_calendar_fault};
+ghost use Rattle.profile.specs.Faults.{is_calendar_fault};
 ghost use Rattle.profile.specs.Instances.{Booked};
-ghost use Rattle.profile.specs.Calendars.{SpellsCalendar, EventsFault};
+ghost use Rattle.profile.specs.Calendars.{SpellsCalendar, CalendarTextFault};
 ghost use Rattle.profile.specs.Events.{is_confirmed, SaysCalendar, CalendarFault, has_unread};
 ghost use Rattle.cal_events.specs.Events.{event_of, vevents_of, entry_view, entry_said, AreEntries, StandsIn};
 
@@ -26,7 +26,7 @@ impl Calendar {
     pub fn read(alloc: Global, bytes: &[u8], room: &Address) -> Result<Calendar, Fault>
         ensures spells { IfOk result (SpellsCalendar (address_octets room.now) bytes.now) }
         ensures refuses { IfErr result (RefusesOnly is_calendar_fault) }
-        ensures stands { IfErr result (StandsIn (λ n. is_object_fault n ≡ false → EventsFault bytes.now n)) }
+        ensures stands { IfErr result (StandsIn (CalendarTextFault bytes.now)) }
     {
         let object = read_object(alloc, bytes, Limits::Open)?;
         Calendar::of_object(alloc, &object, room)

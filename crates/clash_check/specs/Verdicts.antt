@@ -2,7 +2,7 @@
 use Rattle.std.specs.Prelude.{ℕ, ℤ, false, IsTrue, List, ◌≡◌, ◌≤◌, ◌<ℤ◌, ◌⊎◌, length}
 use Rattle.profile.specs.Instances.{Booked, horizon, IsWithin}
 use Rattle.profile.specs.Faults.{is_calendar_fault, is_object_fault}
-use Rattle.profile.specs.Calendars.{SpellsCalendar, EventsFault}
+use Rattle.profile.specs.Calendars.{SpellsCalendar, CalendarTextFault}
 use Rattle.profile.specs.Certificates.{CertificateStands, IsWrongText, IsWrongCount, HasClashes}
 use Rattle.cal_events.specs.declared.instance.Booking.{Booking}
 use Rattle.cal_events.specs.Calendars.{booked_of, HaveDifferentKeys}
@@ -31,10 +31,9 @@ MakesFewFor all made (No why) = (made ≤ length all) × (why.number ≤ 82 → 
 abbrev pub MakesFew : List Booked → Checked → Type 0
 MakesFew all checked = MakesFewFor all checked.made checked.verdict
 
--- the calendar is refused: 80; where its object is read, the fault stands in its VEVENTs
+-- the calendar is refused: 80, and a fault stands in its octets
 abbrev pub IsRefusedCalendar : List ℕ → Checked → Type 0
-IsRefusedCalendar calendar checked = IsNo 80 0 checked.verdict × (checked.made ≡ 0)
-    × ((n : ℕ) × IsTrue (is_calendar_fault n) × (is_object_fault n ≡ false → EventsFault calendar n))
+IsRefusedCalendar calendar checked = IsNo 80 0 checked.verdict × (checked.made ≡ 0) × ((n : ℕ) × CalendarTextFault calendar n)
 
 -- the calendar's octets spell these confirmed instances for the room, and this is the judgement of the text for them
 pub record IsJudgement (room calendar text : List ℕ) (checked : Checked) : Type 0 where

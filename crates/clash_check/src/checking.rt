@@ -1,6 +1,7 @@
 //! Checking: a certificate's text against a calendar, and a clash against a calendar.
 ghost use Rattle.std.specs.Prelude.{ℕ, List, ◌≡◌, ◌<ℤ◌, ◌≤ℤ◌, ◌↔◌, ◌⊎◌, map, IsTrue, IfOk, IfNone, IfSome, Contains};
 ghost use Rattle.profile.specs.Instances.{Booked, IsClear, IsWithin};
+ghost use Rattle.profile.specs.Calendars.{CertificateHolds};
 ghost use Rattle.profile.specs.Certificates.{CertificateStands, Spells};
 ghost use Rattle.ical_values.specs.Octets.{address_octets};
 ghost use Rattle.cal_events.specs.Calendars.{booked_of};
@@ -23,8 +24,10 @@ pub fn check(
     certificate: &[u8],
     room: &Address,
 ) -> Result<Checked, AllocError>
+    // A yes means that the certificate holds for what the calendar's octets spell.
+    ensures yes { IfOk result (λ checked. checked.verdict ≡ Verdict.Yes → CertificateHolds (address_octets room.now) calendar.now certificate.now) }
     // The calendar is refused, or this is the judgement of its confirmed instances.
-    ensures { IfOk result (λ checked. IsRefusedCalendar calendar.now checked
+    ensures judged { IfOk result (λ checked. IsRefusedCalendar calendar.now checked
         ⊎ IsJudgement (address_octets room.now) calendar.now certificate.now checked) }
 {
     match Calendar::read(alloc, calendar, room) {

@@ -24,7 +24,7 @@ ghost use Rattle.std.specs.Prelude.{
   IsTrue,
 };
 ghost use Rattle.profile.specs.Faults.{is_object_fault};
-ghost use Rattle.profile.specs.Lines.{logical_lines, line_value, is_same_name};
+ghost use Rattle.profile.specs.Lines.{logical_lines, line_value, is_same_name, reads_as_lines};
 ghost use Rattle.profile.specs.Objects.{is_end, is_property, has_version, count_inside, Opens, is_none, now_open, misplaced, misplaced_begin, misplaced_end, misplaced_property};
 ghost use Rattle.ical_lines.specs.Fault.{RefusesOnly};
 ghost use Rattle.ical_lines.specs.Limits.{is_bounded};
@@ -51,6 +51,7 @@ const MAX_EVENTS: usize = 200;
 /// 200 VEVENTs directly inside VCALENDAR (25).
 pub fn read_object(alloc: Global, bytes: &[u8], limits: Limits) -> Result<Component, Fault>
     ensures spelled { IfOk result (λ c. IsObjectOf (is_bounded limits) c (logical_lines bytes.now)) }
+    ensures reads { OnOk result (reads_as_lines (is_bounded limits) bytes.now ≡ true) }
     ensures stands { IfErr result (Stands (is_bounded limits) bytes.now) }
     ensures refuses { IfErr result (RefusesOnly is_object_fault) }
 {

@@ -1,19 +1,36 @@
--- The calendar of a room that a text is (RFC 5545 3.4).
-use Rattle.std.specs.Prelude.{ℕ, false, List}
-use Rattle.profile.specs.Lines.{logical_lines}
-use Rattle.profile.specs.Objects.{IsObject}
+-- The calendar of a room that a text is (RFC 5545 3.4), and what can be wrong with such a text.
+use Rattle.std.specs.Prelude.{◌≡◌, ℕ, true, false, List}
+use Rattle.profile.specs.Lines.{logical_lines, text_has, reads_as_lines}
+use Rattle.profile.specs.Objects.{Spells, IsObject, has_version, lines_have}
 use Rattle.profile.specs.Trees.{Tree, tree_name, tree_own, tree_inside, vevents}
 use Rattle.profile.specs.Instances.{Booked}
+use Rattle.profile.specs.Certificates.{CertificateStands}
 use Rattle.profile.specs.Events.{SaysCalendar, CalendarFault}
 
--- the octets are one VCALENDAR, of any size, and these instances of its VEVENTs are confirmed for the room
+-- the octets are this VCALENDAR, of any size
+abbrev pub IsCalendarText : Tree → List ℕ → Type 0
+IsCalendarText t octets = IsObject tree_name tree_own tree_inside false t (logical_lines octets)
+
+-- the octets are one VCALENDAR, and these instances of its VEVENTs are confirmed for the room
 pub record SpellsCalendar (room octets : List ℕ) (all : List Booked) : Type 0 where
+  pub lines : reads_as_lines false octets ≡ true
   pub tree : Tree
-  pub object : IsObject tree_name tree_own tree_inside false tree (logical_lines octets)
+  pub object : IsCalendarText tree octets
   pub says : SaysCalendar room (vevents tree) all
 
--- the octets are one VCALENDAR, of any size, and the fault of this number stands in its VEVENTs
-pub record EventsFault (octets : List ℕ) (n : ℕ) : Type 0 where
-  pub tree : Tree
-  pub object : IsObject tree_name tree_own tree_inside false tree (logical_lines octets)
-  pub fault : CalendarFault (vevents tree) n
+-- the fault of this number stands in the octets
+pub data CalendarTextFault (octets : List ℕ) : ℕ → Type 0 where
+  -- 1 to 5: in a line
+  in_lines : {n : ℕ} → text_has false n octets ≡ true → CalendarTextFault octets n
+  -- 20 to 23: in how the lines pair up
+  in_tree : {n : ℕ} → lines_have n (logical_lines octets) ≡ true → CalendarTextFault octets n
+  -- VERSION doesn't stand once, or isn't `2.0`
+  no_version : (t : Tree) → Spells tree_name tree_own tree_inside 7 t (logical_lines octets) → has_version (tree_own t) ≡ false → CalendarTextFault octets 24
+  -- in the VEVENTs of the calendar that stands there
+  in_vevents : {n : ℕ} → (t : Tree) → IsCalendarText t octets → CalendarFault (vevents t) n → CalendarTextFault octets n
+
+-- the certificate's octets stand for the room's calendar: the calendar spells confirmed instances, and the certificate is one for them
+pub record CertificateHolds (room calendar text : List ℕ) : Type 0 where
+  pub all : List Booked
+  pub spells : SpellsCalendar room calendar all
+  pub stands : CertificateStands all text

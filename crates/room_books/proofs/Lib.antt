@@ -1,3 +1,9 @@
 pub mod Examples
 pub mod Views
 pub mod Runs
+pub mod Deciding
+pub mod Keys
+pub mod Meetings
+pub mod Partition
+pub mod Stepping
+pub mod Steps

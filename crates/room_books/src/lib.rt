@@ -2,12 +2,12 @@
 #![tactic(auto)]
 
 pub mod answer;
-mod asked;
 pub mod decide;
 mod laws;
 pub mod meeting;
 mod reply;
 pub mod room;
+mod taking;
 mod texts;
 
 pub use answer::{Answer, Kind, LimitKind};

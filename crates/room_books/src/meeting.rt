@@ -1,9 +1,17 @@
-//! What a room keeps of one meeting: the parts taken, and the answer to each part that was decided.
+//! What a room keeps of one meeting: the parts taken, and the answer to the part in the view.
+//! By now a meeting has one slot, the whole of it.
+
+ghost use Rattle.std.specs.Prelude.{◌≡◌, IfOk};
+ghost use Rattle.ical_values.specs.Octets.{address_octets, text_octets};
+ghost use Rattle.cal_events.specs.Calendars.{instance_of};
+ghost use Rattle.clash_cert.specs.Makings.{key_of};
+ghost use Rattle.room_books.specs.Views.{confirmed_span, booked_of, IsKeyOf};
 
 use crate::answer::LimitKind;
-use clash_cert::Clash;
+use cal_events::{Instance, InstanceKey};
+use clash_cert::{Clash, OwnedKey};
 use ical_values::{Address, Stamp, Text};
-use itip_order::{Held, Part, Slot};
+use itip_order::Held;
 use std::alloc::AllocError;
 
 /// A meeting's name: the UID of an ORGANIZER.
@@ -14,15 +22,45 @@ pub struct MeetingKey {
 }
 
 impl MeetingKey {
-    pub fn of(organiser: &Address, uid: &Text) -> Result<MeetingKey, AllocError> {
-        Ok(MeetingKey {
-            organiser: organiser.clone()?,
-            uid: uid.clone()?,
+    pub fn of(organiser: &Address, uid: &Text) -> Result<MeetingKey, AllocError>
+        ensures { IfOk result (IsKeyOf (address_octets organiser.now) (text_octets uid.now)) }
+    {
+        let organiser = organiser.clone()?;
+        let uid = uid.clone()?;
+        Ok(MeetingKey { organiser, uid })
+    }
+
+    /// The instance of this meeting that holds the room for a span: a single, its slot is its start.
+    pub fn instance(&self, span: Span) -> Instance<'_>
+        ensures { instance_of result ≡ booked_of self.now span }
+    {
+        let key = InstanceKey {
+            organiser: self.organiser.as_str(),
+            uid: self.uid.as_str(),
+            slot: span.start,
+        };
+        Instance {
+            key,
+            start: span.start,
+            end: span.end,
+        }
+    }
+
+    /// The key of that instance, with its own texts.
+    pub fn owned(&self, span: Span) -> Result<OwnedKey, AllocError>
+        ensures { IfOk result (λ key. key_of key ≡ (booked_of self.now span).key) }
+    {
+        let organiser = self.organiser.clone()?;
+        let uid = self.uid.clone()?;
+        Ok(OwnedKey {
+            organiser,
+            uid,
+            slot: span.start,
         })
     }
 }
 
-/// What was decided about a part. It is kept for good, so that a repeat gets the same answer.
+/// What was decided about a part.
 #[derive(Clone, Debug, Drop)]
 pub enum Outcome {
     Accepted,
@@ -30,10 +68,10 @@ pub enum Outcome {
     Limit(LimitKind),
 }
 
-/// A part that was decided: its slot, when and how, and the instance that it books.
+/// The answer to a part: when and how it was decided, and the span that it books. It is kept as long as the part is
+/// in the view, so that a repeat gets the same answer.
 #[derive(Clone, Debug, Drop)]
 pub struct Decided {
-    pub slot: Slot,
     /// The moment of the decision.
     pub moment: Stamp,
     pub outcome: Outcome,
@@ -47,36 +85,36 @@ pub struct Span {
     pub end: i64,
 }
 
-impl Decided {
-    pub fn is_accepted(&self) -> bool {
-        matches!(self.outcome, Outcome::Accepted)
-    }
-}
-
 /// A meeting of a room.
 #[derive(Drop)]
 pub struct Meeting {
     pub held: Held,
-    /// One for each slot whose part was asked for.
-    pub decided: Vec<Decided>,
+    /// The answer to the part in the view, None where that isn't to take place.
+    pub decided: Option<Decided>,
 }
 
 impl Meeting {
-    /// What was decided about the part in a slot.
-    pub fn decided_at(&self, slot: Slot) -> Option<&Decided> {
-        self.decided.iter().find(|decided| decided.slot == slot)
-    }
-
-    /// How many of its instances are confirmed.
-    pub fn confirmed_count(&self) -> usize {
-        self.decided
-            .iter()
-            .filter(|decided| decided.is_accepted())
-            .count()
+    /// The span for which the meeting holds the room: that of its part in the view, where it was accepted.
+    pub fn confirmed(&self) -> Option<Span>
+        ensures { result ≡ confirmed_span self.now.decided }
+    {
+        match &self.decided {
+            Some(decided) => decided.confirmed(),
+            None => None,
+        }
     }
 }
 
-/// Whether a part is in the view of the parts taken.
-pub fn is_in_view(held: &Held, part: &Part) -> bool {
-    held.view().any(|shown| *shown == *part)
+impl Decided {
+    ghost use Rattle.room_books.specs.Views.{accepted_span};
+
+    /// The span, where it was accepted.
+    pub fn confirmed(&self) -> Option<Span>
+        ensures { result ≡ accepted_span self.now }
+    {
+        match &self.outcome {
+            Outcome::Accepted => Some(self.span),
+            Outcome::Declined(_) | Outcome::Limit(_) => None,
+        }
+    }
 }

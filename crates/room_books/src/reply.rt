@@ -1,76 +1,60 @@
-//! The reply to a message: a VEVENT for each of its parts that is to take place and is in the view.
+//! The reply to a message: a VEVENT for its part, where that is to take place and is in the view.
 
 use crate::answer::LimitKind;
-use crate::asked::Asked;
-use crate::meeting::{Decided, MeetingKey, Outcome};
+use crate::meeting::{Decided, Outcome};
+use crate::taking::Taken;
 use cal_events::InstanceKey;
-use clash_cert::OwnedKey;
+use clash_cert::{Clash, OwnedKey};
 use ical_values::{Address, Stamp};
 use itip_messages::{Conflict, Decision, ReplyEvent, write_reply};
-use itip_order::Slot;
+use itip_order::{Freshness, Part, Slot};
 use std::alloc::{AllocError, Global};
 
-/// The REPLY's octets, None where no part is shown. By now a message has one part at most.
+/// The REPLY's octets, None where the part isn't in the view.
 pub fn reply_to(
     alloc: Global,
-    key: &MeetingKey,
     room: &Address,
-    asked: &[Asked],
-    decided: &[Decided],
+    part: &Part,
+    taken: &Taken,
 ) -> Result<Option<Vec<u8>>, AllocError> {
-    for asked in asked {
-        if asked.is_shown() {
-            return reply_to_part(alloc, key, room, asked, decided);
+    match (&taken.meeting.decided, taken.freshness) {
+        (Some(decided), Freshness::Fresh | Freshness::Same) => {
+            reply_of(alloc, room, part, decided)
         }
+        _ => Ok(None),
     }
-    Ok(None)
 }
 
-fn reply_to_part(
+/// The REPLY that tells the answer to a part; None where a clash has an instant that no stamp can write.
+fn reply_of(
     alloc: Global,
-    key: &MeetingKey,
     room: &Address,
-    asked: &Asked,
-    decided: &[Decided],
+    part: &Part,
+    decided: &Decided,
 ) -> Result<Option<Vec<u8>>, AllocError> {
-    for decided in decided {
-        if decided.slot == asked.part.slot {
-            return reply_with(alloc, key, room, asked, decided);
+    match event_of(room, part, decided) {
+        Some(event) => {
+            let mut octets = Vec::new(alloc);
+            write_reply(&[event], &mut octets)?;
+            Ok(Some(octets))
         }
+        None => Ok(None),
     }
-    Ok(None)
 }
 
-fn reply_with<'a>(
-    alloc: Global,
-    key: &'a MeetingKey,
-    room: &'a Address,
-    asked: &'a Asked,
-    decided: &'a Decided,
-) -> Result<Option<Vec<u8>>, AllocError> {
-    let Some(event) = event_of(key, room, asked, decided) else {
-        return Ok(None);
-    };
-    let mut octets = Vec::new(alloc);
-    write_reply(&[event], &mut octets)?;
-    Ok(Some(octets))
-}
-
-fn event_of<'a>(
-    key: &'a MeetingKey,
-    room: &'a Address,
-    asked: &'a Asked,
-    decided: &'a Decided,
-) -> Option<ReplyEvent<'a>> {
-    Some(ReplyEvent {
-        uid: &key.uid,
-        recurrence: recurrence_of(asked.part.slot),
-        sequence: asked.part.revision.sequence,
-        moment: decided.moment,
-        organiser: &key.organiser,
-        room,
-        decision: decision_of(&decided.outcome)?,
-    })
+fn event_of<'a>(room: &'a Address, part: &'a Part, decided: &'a Decided) -> Option<ReplyEvent<'a>> {
+    match decision_of(&decided.outcome) {
+        Some(decision) => Some(ReplyEvent {
+            uid: &part.uid,
+            recurrence: recurrence_of(part.slot),
+            sequence: part.revision.sequence,
+            moment: decided.moment,
+            organiser: &part.organiser,
+            room,
+            decision,
+        }),
+        None => None,
+    }
 }
 
 fn recurrence_of(slot: Slot) -> Option<Stamp> {
@@ -80,17 +64,21 @@ fn recurrence_of(slot: Slot) -> Option<Stamp> {
     }
 }
 
-/// The decision, None where a clash has an instant that no stamp can write.
 fn decision_of(outcome: &Outcome) -> Option<Decision<'_>> {
     match outcome {
         Outcome::Accepted => Some(Decision::Accepted),
         Outcome::Limit(LimitKind::Series) => Some(Decision::SeriesLimit),
         Outcome::Limit(LimitKind::Singles) => Some(Decision::SinglesLimit),
-        Outcome::Declined(clash) => {
-            let first = borrowed_key(&clash.first);
-            let second = borrowed_key(&clash.second);
-            Some(Decision::Busy(Conflict::of(clash.instant, first, second)?))
-        }
+        Outcome::Declined(clash) => busy(clash),
+    }
+}
+
+fn busy(clash: &Clash) -> Option<Decision<'_>> {
+    let first = borrowed_key(&clash.first);
+    let second = borrowed_key(&clash.second);
+    match Conflict::of(clash.instant, first, second) {
+        Some(conflict) => Some(Decision::Busy(conflict)),
+        None => None,
     }
 }
 

@@ -2,7 +2,7 @@
 
 use crate::command_line::{Invocation, read_words};
 use crate::commands::{Kept, run_check, run_keep, run_serve};
-use crate::status::{DEVICE, MEMORY, USAGE, report_device, report_memory, report_too_long};
+use crate::status::{DEVICE, USAGE, report_device, report_memory, report_too_long};
 use ical_lines::Fault;
 use ical_values::Address;
 use std::alloc::Global;
@@ -45,14 +45,27 @@ enum FileFault {
 pub fn run<R: Runtime + AllocGlobal>(rt: &R) -> u8 {
     let alloc = rt.alloc();
     let Ok(words) = words_of(rt, alloc) else {
-        return MEMORY;
+        return no_memory(rt);
     };
     match read_words(alloc, words.as_slice()) {
         Ok(invocation) => invoke(rt, alloc, invocation),
-        Err(error) => match error.print(rt) {
-            Ok(()) => u8::try_from(error.exit_code()).unwrap_or(USAGE),
-            Err(_) => DEVICE,
-        },
+        Err(error) => print_usage(rt, &error),
+    }
+}
+
+/// Says that memory ran out.
+fn no_memory<R: Runtime + AllocGlobal>(rt: &R) -> u8 {
+    report_memory(&mut ErrorPrinter { to: rt })
+}
+
+/// Prints what clap says: help and version on standard output, a usage fault on standard error.
+fn print_usage<R: Runtime + AllocGlobal>(rt: &R, error: &clap::Error) -> u8 {
+    if error.kind() == clap::error::ErrorKind::OutOfMemory {
+        return no_memory(rt);
+    }
+    match error.print(rt) {
+        Ok(()) => u8::try_from(error.exit_code()).unwrap_or(USAGE),
+        Err(_) => DEVICE,
     }
 }
 
@@ -82,7 +95,7 @@ fn invoke<R: Runtime + AllocGlobal>(rt: &R, alloc: Global, invocation: Invocatio
 fn read_room<R: Runtime + AllocGlobal>(rt: &R, alloc: Global, word: &str) -> Result<Address, u8> {
     match Address::read(alloc, word) {
         Ok(room) => Ok(room),
-        Err(Fault::Memory) => Err(MEMORY),
+        Err(Fault::Memory) => Err(no_memory(rt)),
         Err(Fault::Refused(_)) => {
             let _ = eprintln!(rt;
                 "roombox: ROOM is no address, such as mailto:room@example.com: {word:?}"
@@ -95,10 +108,10 @@ fn read_room<R: Runtime + AllocGlobal>(rt: &R, alloc: Global, word: &str) -> Res
 fn invoke_serve<R: Runtime + AllocGlobal>(rt: &R, alloc: Global) -> u8 {
     let mut errors = ErrorPrinter { to: rt };
     let Ok(mut reader) = BufReader::new(alloc, rt.reader()) else {
-        return MEMORY;
+        return no_memory(rt);
     };
     let Ok(mut writer) = BufWriter::new(alloc, io::writer(rt)) else {
-        return MEMORY;
+        return no_memory(rt);
     };
     run_serve(alloc, &mut reader, &mut writer, &mut errors)
 }
@@ -106,7 +119,7 @@ fn invoke_serve<R: Runtime + AllocGlobal>(rt: &R, alloc: Global) -> u8 {
 fn invoke_keep<R: Runtime + AllocGlobal>(rt: &R, alloc: Global, room: &Address, kept: Kept) -> u8 {
     let mut errors = ErrorPrinter { to: rt };
     let Ok(mut reader) = BufReader::new(alloc, rt.reader()) else {
-        return MEMORY;
+        return no_memory(rt);
     };
     let mut writer = io::writer(rt);
     run_keep(alloc, room, kept, &mut reader, &mut writer, &mut errors)

@@ -1,0 +1,103 @@
+-- What the lines of a VEVENT say, worked by the definitions alone.
+use Rattle.std.proofs.Common.{◌≡◌, true, false, List, [], ◌∷◌, codes, inl, inr, refl, arith, ℕ, pos, sym}
+use Rattle.std.specs.Prelude.{Some, None}
+use Rattle.std.proofs.lemmas.Bool.{true≢false}
+use Rattle.std.proofs.lemmas.Int.{ints}
+use Rattle.profile.specs.Days.{days_before_year, days_of_months}
+use Rattle.profile.specs.Values.{SpellsStamp, SpellsDuration, unescaped}
+use Rattle.profile.specs.Events.{Event, Accepted, Declined, SaysEvent, EventFault, confirmed, has_unread, no_organiser}
+
+-- 2025-03-10T09:00:00Z is 1,741,597,200
+nine : SpellsStamp (codes "20250310T090000Z") (pos 1_741_597_200)
+unfolding days_before_year days_of_months
+nine = (
+  codes "20250310T090000",
+  record {
+    date = codes "20250310";
+    time = codes "090000";
+    number = pos 20_157;
+    second = 32_400;
+    on = record { year = 2025; month = 3; day = 10; first = omega arith; last = omega arith; date = (omega arith, omega arith, omega arith, omega arith); spelled = refl; counted = refl };
+    at_second = record { hour = 9; minute = 0; second = 0; hours = omega arith; minutes = omega arith; seconds = omega arith; spelled = refl; counted = refl };
+    spelled = refl;
+    counted = refl;
+  },
+  refl,
+)
+
+ninety_minutes : SpellsDuration (codes "PT90M") 0 5_400
+ninety_minutes = (
+  codes "PT90M",
+  (
+    codes "T90M",
+    inr (inr (inl (
+      record {
+        hour_part = [];
+        minute_part = codes "90M";
+        second_part = [];
+        hours = 0;
+        minutes = 90;
+        seconds = 0;
+        hour = inl (refl, refl);
+        minute = inr (codes "90", (omega arith, (omega arith, (omega arith, tt)), refl), refl);
+        second = inl (refl, refl);
+        some = omega arith;
+        spelled = refl;
+        counted = refl;
+      },
+      refl,
+    ))),
+    refl,
+  ),
+  inl refl,
+)
+
+lines : List (List ℕ)
+lines = codes "uid:a" ∷ codes "DTSTART;VALUE=date-time:20250310T090000Z" ∷ codes "DURATION:PT90M" ∷ codes "ATTENDEE;PARTSTAT=Accepted:MAILTO:Room@example.com" ∷ codes "ATTENDEE;PARTSTAT=DECLINED:mailto:room@example.com" ∷ []
+
+said : Event
+said = record {
+  uid = codes "a";
+  organiser = None;
+  stamp = None;
+  sequence = 0;
+  start = pos 1_741_597_200;
+  length = record { days = 0; seconds = 5_400 };
+  attendees = record { address = codes "mailto:room@example.com"; participation = Accepted } ∷ record { address = codes "mailto:room@example.com"; participation = Declined } ∷ [];
+}
+
+no_need : {A : Type 0} → false ≡ true → A
+no_need h = absurd (true≢false (sym h))
+
+-- the lines of a calendar's VEVENT say this event
+say : SaysEvent false lines said
+unfolding lines said unescaped
+say = record {
+  uid = record { line = Some (codes "uid:a"); once = refl; stands = λ _. refl; is = (refl, (omega arith, omega arith)) };
+  organiser = record { line = None; once = refl; stands = no_need; is = tt };
+  stamp = record { line = None; once = refl; stands = no_need; is = tt };
+  sequence = (None, record { line = None; once = refl; stands = no_need; is = tt }, refl);
+  status = (None, refl);
+  start = record { line = Some (codes "DTSTART;VALUE=date-time:20250310T090000Z"); once = refl; stands = λ _. refl; is = (refl, nine) };
+  length = record { end_line = None; duration_line = Some (codes "DURATION:PT90M"); end_once = refl; duration_once = refl; is = ninety_minutes; most = omega arith };
+  attendees = (
+    (((codes "MAILTO", codes "Room@example.com", refl, refl, refl, omega arith), refl), refl),
+    ((((codes "mailto", codes "room@example.com", refl, refl, refl, omega arith), refl), refl), tt),
+  );
+  from_1970 = omega (arith, ints);
+}
+
+-- the first answer counts: the room has accepted, and the event holds it for ninety minutes
+books : confirmed (codes "mailto:room@example.com") (said ∷ []) ≡ record { key = record { organiser = []; uid = codes "a"; slot = pos 1_741_597_200 }; start = pos 1_741_597_200; end = pos 1_741_602_600 } ∷ []
+unfolding said
+books = refl
+
+-- a message lacks an organiser there
+lacks : EventFault true lines 63
+unfolding lines
+lacks = no_organiser refl refl
+
+-- what isn't read yet
+unread : (has_unread (codes "DTSTART;TZID=Europe/Paris:20250310T090000" ∷ []) ≡ true) × (has_unread (codes "Rrule:FREQ=DAILY" ∷ []) ≡ true) × (has_unread lines ≡ false)
+unfolding lines
+unread = (refl, refl, refl)

@@ -1,0 +1,110 @@
+"""Refuses each allocation of a run in turn, and looks at what the program then does: status 5, `roombox: memory` on standard error,
+and on standard output a beginning of the right answers that holds whole answers alone.
+
+    python3 tests/refused_memory.py bin/roombox
+
+The refusing is done by a small shim over the C library's allocator, built by gcc in a temporary folder.
+"""
+
+import os
+import subprocess
+import sys
+import tempfile
+
+SHIM = r"""
+#define _GNU_SOURCE
+#include <dlfcn.h>
+#include <errno.h>
+#include <stdlib.h>
+
+static long calls, refused = -1;
+
+static int refuse(void) {
+    if (refused < 0) {
+        const char *text = getenv("REFUSED_ALLOCATION");
+        refused = text ? atol(text) : 0;
+    }
+    return ++calls == refused;
+}
+
+void *malloc(size_t size) {
+    static void *(*real)(size_t);
+    if (!real) real = dlsym(RTLD_NEXT, "malloc");
+    if (refuse()) { errno = ENOMEM; return NULL; }
+    return real(size);
+}
+
+void *realloc(void *old, size_t size) {
+    static void *(*real)(void *, size_t);
+    if (!real) real = dlsym(RTLD_NEXT, "realloc");
+    if (refuse()) { errno = ENOMEM; return NULL; }
+    return real(old, size);
+}
+
+int posix_memalign(void **out, size_t align, size_t size) {
+    static int (*real)(void **, size_t, size_t);
+    if (!real) real = dlsym(RTLD_NEXT, "posix_memalign");
+    if (refuse()) return ENOMEM;
+    return real(out, align, size);
+}
+
+void *aligned_alloc(size_t align, size_t size) {
+    static void *(*real)(size_t, size_t);
+    if (!real) real = dlsym(RTLD_NEXT, "aligned_alloc");
+    if (refuse()) { errno = ENOMEM; return NULL; }
+    return real(align, size);
+}
+"""
+
+
+def read(*names):
+    folder = os.path.join(os.path.dirname(__file__), "..", "crates", "worked_examples", "data")
+    return b"".join(open(os.path.join(folder, name), "rb").read() for name in names)
+
+
+def run(words, stream, shim, number):
+    environment = dict(os.environ, LD_PRELOAD=shim, REFUSED_ALLOCATION=str(number))
+    return subprocess.run(words, input=stream, capture_output=True, env=environment, check=False)
+
+
+def sweep(name, words, stream, wholes, shim):
+    """Refuses allocation 1, 2, .. until none is left to refuse; `wholes` are the outputs that an early end may leave."""
+    refused, unmoved = 0, 0
+    for number in range(1, 100_000):
+        result = run(words, stream, shim, number)
+        if result.returncode == 0 and result.stdout == wholes[-1]:
+            # the program did without it, or made fewer allocations than that
+            unmoved += 1
+            if unmoved > 100:
+                return refused
+            continue
+        unmoved, refused = 0, refused + 1
+        if (result.returncode, result.stderr) != (5, b"roombox: memory\n") or result.stdout not in wholes:
+            sys.exit(f"{name}: allocation {number} refused: {result}")
+    sys.exit(f"{name}: no end")
+
+
+def main():
+    program = sys.argv[1]
+    with tempfile.TemporaryDirectory() as folder:
+        source, shim = os.path.join(folder, "shim.c"), os.path.join(folder, "shim.so")
+        with open(source, "w", encoding="ascii") as file:
+            file.write(SHIM)
+        subprocess.run(["gcc", "-shared", "-fPIC", "-O1", "-o", shim, source, "-ldl"], check=True)
+        accepted, declined = read("accepted-a"), read("declined-b")
+        room = "mailto:r1@example.com"
+        decline = read("preamble", "request-a", "request-b-busy")
+        kept, certificate = os.path.join(folder, "kept.ics"), os.path.join(folder, "kept.cert")
+        open(kept, "wb").write(read("calendar-a"))
+        open(certificate, "wb").write(read("certificate-1"))
+        rows = [
+            ("an accepted request", [program, "serve"], read("preamble", "request-a"), [b"", accepted]),
+            ("a declined request", [program, "serve"], decline, [b"", accepted, accepted + declined]),
+            ("a kept calendar", [program, "keep", room], decline, [b"", read("calendar-a")]),
+            ("a check", [program, "check", kept, certificate, room], b"", [b"", b"yes\n"]),
+        ]
+        for name, words, stream, wholes in rows:
+            print(f"{name}: {sweep(name, words, stream, wholes, shim)} allocations, each refused in turn")
+
+
+main()
