@@ -157,7 +157,7 @@ is_end_of_event line = is_of (codes "DTSTART") line || is_of (codes "DTEND") lin
 abbrev pub is_unread_line : List ℕ → Bool
 is_unread_line line =
     is_recurrence line || (is_of (codes "STATUS") line && is_same_name (line_value line) (codes "CANCELLED"))
-        || (is_end_of_event line && is_some (line_param (codes "TZID") line))
+    || (is_end_of_event line && is_some (line_param (codes "TZID") line))
 
 -- something in the lines isn't read yet
 abbrev pub has_unread : List (List ℕ) → Bool

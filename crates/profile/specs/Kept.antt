@@ -59,8 +59,8 @@ pub record IsKeptEvent (room : List ℕ) (answer : Answer) (lines : List (List �
   pub body_is : answer.claim.part.body ≡ Set (flat_map (λ line. line ++ codes "\r\n") body)
   pub whole_lines : list_all is_unbroken body ≡ true
   pub is : lines ≡ (codes "BEGIN:VEVENT" ∷ (codes "UID:" ++ escaped answer.claim.part.uid) ∷ (codes "SEQUENCE:" ++ decimal answer.claim.part.revision.sequence) ∷ (codes "DTSTAMP:" ++ stamp) ∷ [])
-    ++ body
-    ++ ((codes "ORGANIZER:" ++ answer.claim.part.organiser) ∷ (codes "ATTENDEE;PARTSTAT=ACCEPTED:" ++ room) ∷ codes "END:VEVENT" ∷ [])
+      ++ body
+      ++ ((codes "ORGANIZER:" ++ answer.claim.part.organiser) ∷ (codes "ATTENDEE;PARTSTAT=ACCEPTED:" ++ room) ∷ codes "END:VEVENT" ∷ [])
 
 -- the octets are the room's kept calendar
 pub record IsKeptCalendar (room : List ℕ) (book : Book) (octets : List ℕ) : Type 0 where

@@ -164,9 +164,9 @@ pub record IsReplyEvent (room : List ℕ) (part : Part) (moment : ℤ) (outcome 
   pub tells_moment : WritesStamp stamp moment
   pub tells_outcome : TellsOutcome outcome status
   pub is : lines ≡ (codes "BEGIN:VEVENT" ∷ (codes "UID:" ++ escaped part.uid) ∷ slot)
-    ++ ((codes "SEQUENCE:" ++ decimal part.revision.sequence) ∷ (codes "DTSTAMP:" ++ stamp) ∷ (codes "ORGANIZER:" ++ part.organiser)
-    ∷ (codes "ATTENDEE;PARTSTAT=" ++ partstat outcome ++ codes ":" ++ room) ∷ status)
-    ++ (codes "END:VEVENT" ∷ [])
+      ++ ((codes "SEQUENCE:" ++ decimal part.revision.sequence) ∷ (codes "DTSTAMP:" ++ stamp) ∷ (codes "ORGANIZER:" ++ part.organiser)
+      ∷ (codes "ATTENDEE;PARTSTAT=" ++ partstat outcome ++ codes ":" ++ room) ∷ status)
+      ++ (codes "END:VEVENT" ∷ [])
 
 -- the METHOD line, where there is one
 abbrev pub method_lines : Option (List ℕ) → List (List ℕ)

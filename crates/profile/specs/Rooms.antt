@@ -109,7 +109,7 @@ pub record IsStep (before : Book) (claims : List Claim) (moment : ℤ) (outcome 
   pub taken : after.taken ≡ before.taken ++ parts_of claims
   pub answers : after.answers ≡ before.answers ++ answered moment outcome (asked before.taken after.taken claims)
   pub decided : IsTrue (nat_lt 0 (length (asked before.taken after.taken claims)))
-    → Decides (confirmed_in after.taken before.answers ++ flat_map (λ c. c.books) (asked before.taken after.taken claims)) outcome
+      → Decides (confirmed_in after.taken before.answers ++ flat_map (λ c. c.books) (asked before.taken after.taken claims)) outcome
 
 -- a message, at a moment
 pub record Delivery : Type 0 where

@@ -220,7 +220,7 @@ abbrev pub WritesOffset : List ℕ → ℤ → Type 0
 WritesOffset text offset =
     (time : List ℕ) × SpellsTime 59 time (unsigned_abs offset)
     × (text ≡ (if is_negative offset then codes "-" else codes "+")
-        ++ (if unsigned_abs offset % 60 == 0 then take 4 time else time))
+    ++ (if unsigned_abs offset % 60 == 0 then take 4 time else time))
 
 -- less than a day to either side
 abbrev pub IsOffset : ℤ → Type 0
