@@ -1,18 +1,17 @@
 -- Worked examples of definitions, computed. Those of the other files stand beside the crates that meet them: Lines in ical_lines,
 -- Objects in ical_tree, Days and Values in cal_days and ical_values, Instances in cal_events, Certificates in clash_cert,
 -- Revisions in itip_order, Messages in itip_messages, Rooms in room_books.
-use Rattle.std.proofs.Common.{◌≡◌, ℕ, pos, ℤ, Bool, true, false, List, [], ◌∷◌, ◌++◌, Option, Some, None, refl, codes, inr, ap, lit<}
+use Rattle.std.proofs.Common.{◌≡◌, ℕ, pos, true, false, List, [], ◌∷◌, ◌++◌, None, refl, codes, ap, lit<}
 use Rattle.std.proofs.lemmas.Fmt.{decimal_digit}
-use Rattle.profile.specs.Faults.{is_line_fault, is_event_fault, is_calendar_fault, is_message_fault}
-use Rattle.profile.specs.Instances.{Key, Booked}
+use Rattle.profile.specs.Faults.{is_event_fault, is_calendar_fault, is_message_fault}
 use Rattle.profile.specs.Lines.{line_param}
-use Rattle.profile.specs.Trees.{Tree, Trees, tree, none, more, tree_name, vevents}
-use Rattle.profile.specs.Events.{Event, Length, Attendee, Participation, Accepted, Declined, NeedsAction, lines_named, is_unread_line, has_unread, answer_named, booked_by, confirmed, length_seconds}
-use Rattle.profile.specs.Revisions.{Part, Revision, Whole, Set}
-use Rattle.profile.specs.Messages.{Accept, SinglesLimit, object_lines, word}
-use Rattle.profile.specs.Rooms.{Book, Answer, Claim, empty_book}
-use Rattle.profile.specs.Kept.{written, kept, kept_certificate, first_parts}
-use Rattle.profile.specs.Streams.{Setting, Now, Room, moments, rooms, refused_line, AreObjects, no_more, one_more, MethodFault}
+use Rattle.profile.specs.Trees.{Tree, tree, none, more, vevents}
+use Rattle.profile.specs.Events.{Event, Participation, Accepted, Declined, NeedsAction, lines_named, is_unread_line, has_unread, answer_named, booked_by, confirmed}
+use Rattle.profile.specs.Revisions.{Part, Whole, Set}
+use Rattle.profile.specs.Messages.{Accept, SinglesLimit, MethodFault, no_method, object_lines, word}
+use Rattle.profile.specs.Rooms.{Book, Claim, empty_book}
+use Rattle.profile.specs.Kept.{kept, kept_certificate, first_parts}
+use Rattle.profile.specs.Streams.{Now, Room, moments, rooms, refused_line, AreObjects, no_more, one_more}
 
 -- ---- lists of refusals
 
@@ -146,8 +145,5 @@ empty_lines_are_no_object = no_more refl
 two_objects : AreObjects (codes "A:1\nEND:VCALENDAR\n\nEND:\n VCALENDAR") (codes "A:1\nEND:VCALENDAR\n" ∷ codes "\nEND:\n VCALENDAR" ∷ [])
 two_objects = one_more _ refl refl (one_more _ refl refl (no_more refl))
 
-no_method_is_unread : MethodFault 99 []
-no_method_is_unread = refl
-
-publish_is_refused : MethodFault 60 (codes "METHOD:PUBLISH" ∷ [])
-publish_is_refused = inr (refl, refl)
+no_method_is_unread : MethodFault [] 99
+no_method_is_unread = no_method refl

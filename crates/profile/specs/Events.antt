@@ -5,7 +5,7 @@ use Rattle.std.specs.List.{find, list_any, AllZip}
 use Rattle.std.specs.Str.{bytes_eq}
 use Rattle.profile.specs.Lines.{line_name, line_value, line_param, is_same_name}
 use Rattle.profile.specs.Values.{SpellsStamp, SpellsLocal, SpellsDate, SpellsSequence, SpellsDuration, SpellsNegative, IsAddress, IsUid, lower_case, unescaped}
-use Rattle.profile.specs.Instances.{Key, Booked}
+use Rattle.profile.specs.Instances.{Booked}
 
 -- ---- lines by their names
 

@@ -1,5 +1,5 @@
 -- Instances, clash and clear. Seconds are whole numbers from 1970-01-01T00:00:00Z.
-use Rattle.std.specs.Prelude.{ℕ, ℤ, pos, List, ◌≡◌, ◌≢◌, ◌≤ℤ◌, ◌<ℤ◌, Contains}
+use Rattle.std.specs.Prelude.{ℕ, ℤ, pos, List, ◌≢◌, ◌≤ℤ◌, ◌<ℤ◌, Contains}
 use Rattle.std.specs.Ordering.{ordering_then, nat_cmp, int_cmp}
 use Rattle.std.specs.Cmp.Lexicographic.{slice_cmp}
 use Rattle.std.specs.declared.cmp.Ordering.{Ordering}

@@ -1,6 +1,6 @@
 -- Logical lines and folding (RFC 5545 3.1).
 -- An octet is its number: LF is 10, CR 13, TAB 9, space 32, `"` 34, `,` 44, `-` 45, `:` 58, `;` 59, `=` 61.
-use Rattle.std.specs.Prelude.{ℕ, Bool, true, false, not, ◌&&◌, ◌||◌, ◌==◌, ◌+◌, ◌-◌, ◌%◌, nat_lt, nat_le, List, [], ◌∷◌, ◌++◌, Option, option_map, length, take, drop, map, filter, slice_index, count_by, if◌then◌else◌}
+use Rattle.std.specs.Prelude.{ℕ, Bool, false, not, ◌&&◌, ◌||◌, ◌==◌, ◌+◌, ◌-◌, ◌%◌, nat_lt, nat_le, List, [], ◌∷◌, ◌++◌, Option, option_map, length, take, drop, map, filter, slice_index, count_by, if◌then◌else◌}
 use Rattle.std.specs.List.{slice_split, onto_first, flat_map, list_any, list_all, find}
 use Rattle.std.specs.Str.{bytes_eq, is_utf8, chars, str_eq_ignore_ascii_case}
 use Rattle.std.specs.Char.{encode_utf8, is_ascii_digit, is_ascii_alphabetic}

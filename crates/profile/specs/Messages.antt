@@ -1,5 +1,5 @@
 -- Messages: their meeting, the parts that they have for a room, and replies (RFC 5546 1.4, 3.2). By now a REQUEST of one VEVENT.
-use Rattle.std.specs.Prelude.{◌≡◌, ℕ, ◌/◌, ◌%◌, ◌+◌, ◌<◌, ◌≤◌, ◌⊎◌, Bool, true, false, not, ◌&&◌, ◌||◌, ◌==◌, IsTrue, if◌then◌else◌, nat_lt, List, [], ◌∷◌, ◌++◌, length, map, filter, codes, decimal, Contains, Option, Some, None, is_some, unwrap_or, ℤ}
+use Rattle.std.specs.Prelude.{◌≡◌, ℕ, ◌/◌, ◌%◌, ◌+◌, ◌<◌, Bool, true, false, ◌&&◌, ◌||◌, ◌==◌, if◌then◌else◌, nat_lt, List, [], ◌∷◌, ◌++◌, length, codes, decimal, Contains, Option, Some, None, unwrap_or, ℤ}
 use Rattle.std.specs.List.{flat_map, list_any, list_all, AllZip}
 use Rattle.std.specs.Str.{bytes_eq}
 use Rattle.std.specs.Char.{is_ascii_alphabetic, is_ascii_digit}
@@ -9,7 +9,7 @@ use Rattle.profile.specs.Trees.{Tree, tree_name, tree_own, tree_inside, vevents}
 use Rattle.profile.specs.Values.{WritesStamp, duration_text, escaped}
 use Rattle.profile.specs.Events.{Event, SaysEvent, EventFault, SomeLine, StandsTwice, IsMissing, lines_named, has_unread}
 use Rattle.profile.specs.Instances.{Key}
-use Rattle.profile.specs.Revisions.{Part, Slot, Whole, At, Revision, Body, Set, Absent, Cancelled}
+use Rattle.profile.specs.Revisions.{Part, Slot, Whole, At, Set}
 
 -- ---- what a message says
 

@@ -1,8 +1,8 @@
 -- The room machine: what a room keeps, and one step of it. A step is a relation, as a decline may name any clash.
-use Rattle.std.specs.Prelude.{◌≡◌, ℕ, ◌+◌, ◌<◌, ◌≤◌, ◌⊎◌, ◌↔◌, Bool, true, false, not, ◌&&◌, ◌||◌, IsTrue, if◌then◌else◌, nat_lt, List, [], ◌∷◌, ◌++◌, length, map, filter, Contains, Option, Some, None, ℤ, ◌≤ℤ◌, ◌<ℤ◌}
-use Rattle.std.specs.List.{flat_map, list_any, AllZip}
+use Rattle.std.specs.Prelude.{◌≡◌, ℕ, ◌<◌, ◌≤◌, Bool, true, false, not, ◌&&◌, IsTrue, if◌then◌else◌, nat_lt, List, [], ◌∷◌, ◌++◌, length, map, filter, ℤ, ◌≤ℤ◌}
+use Rattle.std.specs.List.{flat_map, list_any}
 use Rattle.profile.specs.Instances.{Key, Booked, IsClash, IsClear}
-use Rattle.profile.specs.Revisions.{Part, Slot, Body, Set, Absent, Cancelled, in_view, same_part}
+use Rattle.profile.specs.Revisions.{Part, Body, Set, Absent, Cancelled, in_view, same_part}
 use Rattle.profile.specs.Messages.{Outcome, Accept, Busy, SeriesLimit, SinglesLimit}
 
 -- ---- what a room keeps

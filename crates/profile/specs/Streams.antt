@@ -1,14 +1,14 @@
 -- A stream: its preamble, its objects, and what is answered to them. By now each object is a REQUEST or is refused.
-use Rattle.std.specs.Prelude.{◌≡◌, ◌≢◌, ℕ, ◌+◌, ◌-◌, ◌<◌, ◌≤◌, ◌⊎◌, Bool, true, false, not, ◌&&◌, ◌||◌, ◌==◌, IsTrue, List, [], ◌∷◌, ◌++◌, length, take, drop, map, filter, slice_index, codes, decimal, Option, Some, None, ℤ, Contains, AllPairs}
+use Rattle.std.specs.Prelude.{◌≡◌, ◌≢◌, ℕ, ◌+◌, ◌<◌, ◌≤◌, ◌⊎◌, Bool, true, false, IsTrue, List, [], ◌∷◌, ◌++◌, length, map, codes, decimal, Option, ℤ, AllPairs}
 use Rattle.std.specs.Option.{option_to_list}
-use Rattle.std.specs.List.{list_any, flat_map}
-use Rattle.profile.specs.Lines.{logical_lines, line_value, is_same_name, text_has, reads_as_lines}
-use Rattle.profile.specs.Objects.{IsObject, Spells, count_inside, has_version, lines_have, is_begun, after_object}
-use Rattle.profile.specs.Trees.{Tree, tree_name, tree_own, tree_inside, vevents}
-use Rattle.profile.specs.Events.{Event, SaysEvent, booked_by, has_unread, lines_named, EventFault}
-use Rattle.profile.specs.Messages.{SaysRequest, AreParts, Outcome}
+use Rattle.std.specs.List.{flat_map}
+use Rattle.profile.specs.Lines.{logical_lines, text_has, reads_as_lines}
+use Rattle.profile.specs.Objects.{Spells, count_inside, has_version, lines_have, is_begun, after_object}
+use Rattle.profile.specs.Trees.{Tree, tree_name, tree_own, tree_inside}
+use Rattle.profile.specs.Events.{Event, booked_by}
+use Rattle.profile.specs.Messages.{SpellsRequest, RequestFault, AreParts, Outcome}
 use Rattle.profile.specs.Revisions.{Part}
-use Rattle.profile.specs.Rooms.{Claim, Book, IsStep, empty_book}
+use Rattle.profile.specs.Rooms.{Claim, Book, IsStep}
 use Rattle.profile.specs.Kept.{Replies}
 use Rattle.profile.specs.Values.{SpellsStamp, IsAddress, lower_case}
 
@@ -33,19 +33,19 @@ rooms [] = []
 rooms (Now t ∷ rest) = rooms rest
 rooms (Room address ∷ rest) = address ∷ rooms rest
 
--- what a preamble's lines say: lines ended by LF or CRLF, the last of them by an empty line or by the end of the input
-pub data SaysSettings : List ℕ → List Setting → Type 0 where
-  by_end : SaysSettings [] []
-  by_lf : SaysSettings (10 ∷ []) []
-  by_crlf : SaysSettings (13 ∷ 10 ∷ []) []
-  last : (line : List ℕ) (setting : Setting) → IsSetting line setting → SaysSettings line (setting ∷ [])
-  with_lf : {rest : List ℕ} {settings : List Setting} (line : List ℕ) (setting : Setting) → IsSetting line setting → SaysSettings rest settings → SaysSettings (line ++ 10 ∷ rest) (setting ∷ settings)
-  with_crlf : {rest : List ℕ} {settings : List Setting} (line : List ℕ) (setting : Setting) → IsSetting line setting → SaysSettings rest settings → SaysSettings (line ++ 13 ∷ 10 ∷ rest) (setting ∷ settings)
+-- what a preamble's lines say: each is ended by LF or CRLF, and after the last comes an empty line (closed), or nothing more
+pub data SaysSettings : Bool → List ℕ → List Setting → Type 0 where
+  by_end : SaysSettings false [] []
+  by_lf : SaysSettings true (10 ∷ []) []
+  by_crlf : SaysSettings true (13 ∷ 10 ∷ []) []
+  last : (line : List ℕ) (setting : Setting) → IsSetting line setting → SaysSettings false line (setting ∷ [])
+  with_lf : {closed : Bool} {rest : List ℕ} {settings : List Setting} (line : List ℕ) (setting : Setting) → IsSetting line setting → SaysSettings closed rest settings → SaysSettings closed (line ++ 10 ∷ rest) (setting ∷ settings)
+  with_crlf : {closed : Bool} {rest : List ℕ} {settings : List Setting} (line : List ℕ) (setting : Setting) → IsSetting line setting → SaysSettings closed rest settings → SaysSettings closed (line ++ 13 ∷ 10 ∷ rest) (setting ∷ settings)
 
 -- the octets of a preamble give this moment and these rooms: the moment once, a room at least, and no room twice
-pub record IsPreamble (octets : List ℕ) (moment : ℤ) (addresses : List (List ℕ)) : Type 0 where
+pub record IsPreamble (closed : Bool) (octets : List ℕ) (moment : ℤ) (addresses : List (List ℕ)) : Type 0 where
   pub settings : List Setting
-  pub says : SaysSettings octets settings
+  pub says : SaysSettings closed octets settings
   pub short : length octets ≤ 65_536
   pub moment_is : moments settings ≡ moment ∷ []
   pub rooms_are : rooms settings ≡ addresses
@@ -59,53 +59,23 @@ pub data AreObjects : List ℕ → List (List ℕ) → Type 0 where
   no_more : {rest : List ℕ} → is_begun rest ≡ false → AreObjects rest []
   one_more : {stream : List ℕ} {objects : List (List ℕ)} (object : List ℕ) → is_begun stream ≡ true → stream ≡ object ++ after_object stream → AreObjects (after_object stream) objects → AreObjects stream (object ∷ objects)
 
+-- the stream is a preamble with this moment and these rooms, and then these objects; a preamble without an empty line is all there is
+pub record IsStream (stream : List ℕ) (moment : ℤ) (addresses : List (List ℕ)) (objects : List (List ℕ)) : Type 0 where
+  pub preamble : List ℕ
+  pub rest : List ℕ
+  pub closed : Bool
+  pub is : stream ≡ preamble ++ rest
+  pub says : IsPreamble closed preamble moment addresses
+  pub all : closed ≡ false → rest ≡ []
+  pub objects_are : AreObjects rest objects
+
 -- ---- what is answered to an object
 
--- the octets spell a VCALENDAR
-abbrev pub IsTree : List ℕ → Tree → Type 0
-IsTree octets t = IsTrue (reads_as_lines true octets) × IsObject tree_name tree_own tree_inside true t (logical_lines octets)
+-- the octets are a REQUEST for this event, and no line of them has a fault
+abbrev pub IsRequest : List ℕ → Event → Type 0
+IsRequest octets event = IsTrue (reads_as_lines true octets) × SpellsRequest octets event
 
--- the octets are a REQUEST for this event
-pub record IsRequest (octets : List ℕ) (event : Event) : Type 0 where
-  pub whole : Tree
-  pub is : IsTree octets whole
-  pub says : SaysRequest (tree_own whole) (vevents whole) event
-
--- ---- what can be wrong with a message, by the number of its refusal
-
--- the METHOD names none that is taken here (60), or one that isn't read yet (99)
-abbrev pub is_unread_method : List ℕ → Bool
-is_unread_method word =
-    is_same_name word (codes "CANCEL") || is_same_name word (codes "ADD") || is_same_name word (codes "REPLY") || is_same_name word (codes "REFRESH")
-
-abbrev pub MethodFault : ℕ → List (List ℕ) → Type 0
-MethodFault n [] = n ≡ 99
-MethodFault n (line ∷ []) =
-    ((n ≡ 99) × IsTrue (is_unread_method (line_value line)))
-    ⊎ ((n ≡ 60) × IsTrue (not (is_unread_method (line_value line) || is_same_name (line_value line) (codes "REQUEST"))))
-MethodFault n (line ∷ other ∷ lines) = n ≡ 60
-
--- two VEVENTs say events of different meetings
-pub record HasTwoMeetings (events : List (List (List ℕ))) : Type 0 where
-  pub first : List (List ℕ)
-  pub second : List (List ℕ)
-  pub one : Event
-  pub other : Event
-  pub first_in : Contains events first
-  pub second_in : Contains events second
-  pub says_one : SaysEvent true first one
-  pub says_other : SaysEvent true second other
-  pub differ : (one.uid ≢ other.uid) ⊎ (one.organiser ≢ other.organiser)
-
--- the fault of this number stands in the own lines of a VCALENDAR or in those of its VEVENTs
-abbrev pub RequestFault : ℕ → List (List ℕ) → List (List (List ℕ)) → Type 0
-RequestFault n own events =
-    ((n ≡ 99) × IsTrue (list_any has_unread events))
-    ⊎ (MethodFault n (lines_named (codes "METHOD") own)
-    ⊎ (((n ≡ 66) × (events ≡ []))
-    ⊎ (((lines : List (List ℕ)) × Contains events lines × EventFault true lines n)
-    ⊎ (((n ≡ 62) × HasTwoMeetings events)
-    ⊎ ((n ≡ 53) × (1 < length events))))))
+-- ---- what can be wrong with an object, by the number of its refusal
 
 -- the fault of this number, 24 or 25, stands in the tree that the lines spell
 abbrev pub TreeFault : ℕ → List (List ℕ) → Type 0
@@ -114,13 +84,13 @@ TreeFault n lines =
     × (((n ≡ 24) × (has_version (tree_own t) ≡ false))
     ⊎ ((n ≡ 25) × (200 < count_inside tree_name tree_own tree_inside (codes "VEVENT") t)))
 
--- the fault of this number stands in the octets of a message
-abbrev pub MessageFault : ℕ → List ℕ → Type 0
-MessageFault n octets =
+-- the fault of this number stands in the octets: in a line, in how the lines pair up, in the tree, or in the message
+abbrev pub ObjectFault : ℕ → List ℕ → Type 0
+ObjectFault n octets =
     IsTrue (text_has true n octets)
     ⊎ (IsTrue (lines_have n (logical_lines octets))
     ⊎ (TreeFault n (logical_lines octets)
-    ⊎ ((t : Tree) × IsTree octets t × RequestFault n (tree_own t) (vevents t))))
+    ⊎ RequestFault octets n))
 
 -- ---- the answers
 
@@ -153,7 +123,7 @@ refused_line k n = codes "REFUSED;OBJECT=" ++ decimal k ++ codes ":" ++ decimal 
 abbrev pub Answers : ℤ → List (List ℕ) → ℕ → List ℕ → List Book → List Book → List ℕ → Type 0
 Answers moment rooms k object befores afters octets =
     ((event : Event) × IsRequest object event × AllTake moment event rooms befores afters octets)
-    ⊎ ((n : ℕ) × MessageFault n object × (afters ≡ befores) × (octets ≡ refused_line k n))
+    ⊎ ((n : ℕ) × ObjectFault n object × (afters ≡ befores) × (octets ≡ refused_line k n))
 
 -- the answers to objects from number k on, one behind another
 abbrev pub AllAnswers : ℤ → List (List ℕ) → ℕ → List (List ℕ) → List Book → List Book → List ℕ → Type 0
