@@ -38,11 +38,7 @@ fn reply_of<'a>(
     Ok(Some(octets))
 }
 
-fn event_of<'a>(
-    room: &'a Address,
-    part: &'a Part,
-    decided: &'a Decided,
-) -> Option<ReplyEvent<'a>> {
+fn event_of<'a>(room: &'a Address, part: &'a Part, decided: &'a Decided) -> Option<ReplyEvent<'a>> {
     let Some(decision) = decision_of(&decided.outcome) else {
         return None;
     };
