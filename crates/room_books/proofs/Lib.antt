@@ -7,3 +7,4 @@ pub mod Meetings
 pub mod Partition
 pub mod Stepping
 pub mod Steps
+pub mod Claims

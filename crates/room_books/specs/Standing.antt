@@ -1,12 +1,15 @@
 -- What the meetings of a room stand for: the parts that were taken, and the answers to them.
-use Rattle.std.specs.Prelude.{◌≡◌, ℕ, ℤ, ◌≤◌, Bool, true, ◌&&◌, List, [], ◌∷◌, length, filter, Contains, Option, Some, None}
+use Rattle.std.specs.Prelude.{◌≡◌, ℕ, ℤ, ◌≤◌, Bool, true, ◌&&◌, List, [], ◌∷◌, length, map, filter, Contains, Option, Some, None}
 use Rattle.std.specs.Str.{bytes_eq}
 use Rattle.std.specs.Map.{lookup}
 use Rattle.ical_values.specs.Octets.{address_octets, text_octets}
 use Rattle.itip_order.specs.Registers.{StandsFor}
 use Rattle.profile.specs.Instances.{Booked, IsClear}
 use Rattle.profile.specs.Revisions.{Part, Whole}
-use Rattle.profile.specs.Messages.{Outcome}
+use Rattle.profile.specs.Messages.{Outcome, AreParts}
+use Rattle.profile.specs.Events.{Event, booked_by}
+use Rattle.itip_order.specs.Parts.{part_of}
+use Rattle.itip_order.specs.declared.part.Part.{Part as HeldPart}
 use Rattle.profile.specs.Rooms.{Claim, Answer, Book, Kind, confirmed, confirmed_in, most_singles, IsStep, kind_of}
 use Rattle.room_books.specs.declared.meeting.MeetingKey.{MeetingKey}
 use Rattle.room_books.specs.declared.meeting.Meeting.{Meeting}
@@ -67,3 +70,18 @@ pub record StepsTo (entries : List (MeetingKey × Meeting)) (book : Book) (claim
   pub step : IsStep book claims moment outcome after
   pub stands : Stands entries after
   pub kind_is : kind ≡ kind_of book.taken after.taken claims outcome
+
+-- at most one part
+abbrev pub part_list : Option HeldPart → List Part
+part_list None = []
+part_list (Some part) = part_of part ∷ []
+
+-- the span that an event books
+abbrev pub span_said : Event → Span
+span_said event = record { start = (booked_by event).start; end = (booked_by event).end }
+
+-- the claims that the event of a REQUEST makes on a room: its parts for it, each with the instance that the event books
+pub record AreClaims (room : List ℕ) (event : Event) (claims : List Claim) : Type 0 where
+  pub parts : List Part
+  pub are : AreParts room event parts
+  pub books : claims ≡ map (λ part. record { part = part; books = booked_by event ∷ [] }) parts

@@ -18,43 +18,39 @@ pub fn reply_to(
     taken: &Taken,
 ) -> Result<Option<Vec<u8>>, AllocError> {
     match (&taken.meeting.decided, taken.freshness) {
-        (Some(decided), Freshness::Fresh | Freshness::Same) => {
-            reply_of(alloc, room, part, decided)
-        }
+        (Some(decided), Freshness::Fresh | Freshness::Same) => reply_of(alloc, room, part, decided),
         _ => Ok(None),
     }
 }
 
-/// The REPLY that tells the answer to a part; None where a clash has an instant that no stamp can write.
-fn reply_of(
+/// The REPLY that tells the answer to a part, None where a clash has an instant that no stamp can write.
+fn reply_of<'a>(
     alloc: Global,
-    room: &Address,
-    part: &Part,
-    decided: &Decided,
+    room: &'a Address,
+    part: &'a Part,
+    decided: &'a Decided,
 ) -> Result<Option<Vec<u8>>, AllocError> {
-    match event_of(room, part, decided) {
-        Some(event) => {
-            let mut octets = Vec::new(alloc);
-            write_reply(&[event], &mut octets)?;
-            Ok(Some(octets))
-        }
-        None => Ok(None),
-    }
+    let Some(event) = event_of(room, part, decided) else {
+        return Ok(None);
+    };
+    let mut octets = Vec::new(alloc);
+    write_reply(&[event], &mut octets)?;
+    Ok(Some(octets))
 }
 
 fn event_of<'a>(room: &'a Address, part: &'a Part, decided: &'a Decided) -> Option<ReplyEvent<'a>> {
-    match decision_of(&decided.outcome) {
-        Some(decision) => Some(ReplyEvent {
-            uid: &part.uid,
-            recurrence: recurrence_of(part.slot),
-            sequence: part.revision.sequence,
-            moment: decided.moment,
-            organiser: &part.organiser,
-            room,
-            decision,
-        }),
-        None => None,
-    }
+    let Some(decision) = decision_of(&decided.outcome) else {
+        return None;
+    };
+    Some(ReplyEvent {
+        uid: &part.uid,
+        recurrence: recurrence_of(part.slot),
+        sequence: part.revision.sequence,
+        moment: decided.moment,
+        organiser: &part.organiser,
+        room,
+        decision,
+    })
 }
 
 fn recurrence_of(slot: Slot) -> Option<Stamp> {
@@ -64,6 +60,7 @@ fn recurrence_of(slot: Slot) -> Option<Stamp> {
     }
 }
 
+/// The decision, None where a clash has an instant that no stamp can write.
 fn decision_of(outcome: &Outcome) -> Option<Decision<'_>> {
     match outcome {
         Outcome::Accepted => Some(Decision::Accepted),

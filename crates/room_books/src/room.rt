@@ -1,15 +1,19 @@
 //! A room takes messages one after another. A message is taken whole or not at all: everything is computed
 //! beside the room, and put into it by the last step.
 
-ghost use Rattle.std.specs.Prelude.{◌≡◌, true, List, [], ◌∷◌, IfOk, OnErr};
+ghost use Rattle.std.specs.Prelude.{◌≡◌, true, false, Some, List, [], ◌∷◌, IfOk, OnErr};
 ghost use Rattle.std.specs.List.{IsDistinct};
 ghost use Rattle.indexmap.specs.IndexMap.{keys};
 ghost use Rattle.itip_order.specs.Parts.{part_of};
+ghost use Rattle.ical_values.specs.Octets.{address_octets};
+ghost use Rattle.itip_messages.specs.Messages.{StandsFor};
+ghost use Rattle.profile.specs.Events.{Event};
+ghost use Rattle.profile.specs.Messages.{AreParts};
 ghost use Rattle.profile.specs.Revisions as revisions;
 ghost use Rattle.profile.specs.Rooms.{Claim, Book, empty_book, is_set};
 ghost use Rattle.room_books.specs.Views.{same_key};
 ghost use Rattle.room_books.specs.Takings.{IsRoomUnchanged, kind_view};
-ghost use Rattle.room_books.specs.Standing.{Stands, StepsTo, claim_of};
+ghost use Rattle.room_books.specs.Standing.{Stands, StepsTo, claim_of, part_list, span_said, AreClaims};
 
 use crate::answer::{Answer, Kind};
 use crate::decide::Meetings;
@@ -63,24 +67,34 @@ impl Room {
     /// Takes a message at a moment, and answers it. Where memory is refused nothing has changed.
     /// By now a message has one part for a room, of the whole of its meeting, or isn't addressed to it.
     pub fn take(&mut self, message: &Message, now: Stamp) -> Result<Answer, AllocError>
-        // From each book that the room stands for it makes a step of the room machine.
-        ensures steps { IfOk result (λ answer. (book : Book) → Stands self.old.meetings.entries book
-            → (claims : List Claim) × StepsTo self.new.meetings.entries book claims now (kind_view answer.kind)) }
+        // From each book that the room stands for it makes a step of the room machine, with the claims of the message's event.
+        ensures steps { IfOk result (λ answer. (event : Event) → StandsFor message.now event → (book : Book) → Stands self.old.meetings.entries book
+            → (claims : List Claim) × AreClaims (address_octets self.old.address) event claims
+            × StepsTo self.new.meetings.entries book claims now (kind_view answer.kind)) }
         ensures err { OnErr result (IsRoomUnchanged self.old self.new) }
     {
-        let mut parts = message.parts(self.alloc, &self.address)?;
-        let (Some(part), Some(component)) = (parts.pop(), message.components().first()) else {
+        let found = self.part_for(message)?;
+        let Some(part) = found else {
+            return Ok(Answer::silent(Kind::NotAddressed));
+        };
+        let Some(span) = span_of(message) else {
             return Ok(Answer::silent(Kind::NotAddressed));
         };
         if !is_request(&part) {
             return Ok(Answer::silent(Kind::NotAddressed));
         }
-        let span = Span {
-            start: component.start.instant(),
-            end: component.end,
-        };
         let answer = self.take_part(&part, span, now)?;
         Ok(answer)
+    }
+
+    /// The part of a message for this room, None where it isn't addressed to it.
+    fn part_for(&self, message: &Message) -> Result<Option<Part>, AllocError>
+        ensures { IfOk result (λ part. (event : Event) → StandsFor message.now event
+            → AreParts (address_octets self.now.address) event (part_list part)) }
+    {
+        let mut parts = message.parts(self.alloc, &self.address)?;
+        let part = parts.pop();
+        Ok(part)
     }
 
     /// Takes a part that asks for this span.
@@ -115,8 +129,22 @@ impl Room {
 fn is_request(part: &Part) -> bool
     ensures whole { result ≡ true → (part_of part.now).slot ≡ revisions.Whole }
     ensures set { result ≡ true → is_set (part_of part.now) ≡ true }
+    ensures none { result ≡ false → (part_of part.now).slot ≡ revisions.Whole → is_set (part_of part.now) ≡ true → ⊥ }
 {
     part.slot == Slot::Whole && matches!(part.body, Body::Set(_))
+}
+
+/// The span that a message asks for: that of its one component.
+fn span_of(message: &Message) -> Option<Span>
+    ensures { (event : Event) → StandsFor message.now event → result ≡ Some (span_said event) }
+{
+    match message.components().first() {
+        Some(component) => Some(Span {
+            start: component.start.instant(),
+            end: component.end,
+        }),
+        None => None,
+    }
 }
 
 /// What a map says of its keys: no two are of one meeting.
