@@ -5,6 +5,7 @@ pub mod TreeLemmas
 pub mod OneEvent
 pub mod OneCalendar
 pub mod OneTree
+pub mod NoOctetFault
 pub mod CalendarLemmas
 pub mod ClashLemmas
 pub mod Distinct

@@ -12,7 +12,7 @@ Lines = List (List ℕ)
 abbrev pub OneEvent : Type 0
 OneEvent = (m : Bool) (lines : Lines) (a b : Event) → SaysEvent m lines a → SaysEvent m lines b → a ≡ b
 
-abbrev NoFault : Type 0
+abbrev pub NoFault : Type 0
 NoFault = (m : Bool) (lines : Lines) (a : Event) (n : ℕ) → SaysEvent m lines a → EventFault m lines n → ⊥
 
 same_events : OneEvent → (vs : List Lines) (a b : List Event) → AllZip (SaysEvent false) vs a → AllZip (SaysEvent false) vs b → a ≡ b

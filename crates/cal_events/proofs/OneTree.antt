@@ -15,7 +15,7 @@ use Rattle.cal_events.proofs.OneCalendar.{OneEvent, one_calendar}
 abbrev Lines : Type 0
 Lines = List (List ℕ)
 
-abbrev BodyT : ℕ → Lines → List Tree → Lines → Type 0
+abbrev pub BodyT : ℕ → Lines → List Tree → Lines → Type 0
 BodyT = Body tree_name tree_own tree_inside
 
 -- ---- how many components are open
@@ -28,14 +28,14 @@ abbrev up : ℕ → Lines → Option ℕ
 up k [] = Some k
 up k (l ∷ ls) = cond (is_begin l) (up (suc k) ls) (cond (is_end l) (below k (λ j. up j ls)) (up k ls))
 
-end_begins_not : (l : List ℕ) → is_end l ≡ true → is_begin l ≡ false
+pub end_begins_not : (l : List ℕ) → is_end l ≡ true → is_begin l ≡ false
 end_begins_not l e = go (is_begin l) refl
   where
     go : (b : Bool) → is_begin l ≡ b → b ≡ false
     go false h = refl
     go true h = let n : length (codes "BEGIN") ≡ length (codes "END") = ap length (same_text (line_name l) (codes "BEGIN") (codes "END") h e) in absurd (omega arith)
 
-parts_of : (b e : Bool) → (not b && not e) ≡ true → (b ≡ false) × (e ≡ false)
+pub parts_of : (b e : Bool) → (not b && not e) ≡ true → (b ≡ false) × (e ≡ false)
 parts_of true e h = absurd (true≢false (sym h))
 parts_of false true h = absurd (true≢false (sym h))
 parts_of false false h = (refl, refl)

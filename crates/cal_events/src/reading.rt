@@ -46,7 +46,7 @@ impl Calendar {
 }
 
 /// The VEVENTs of a calendar say at most one calendar for a room, and none where a fault stands in them;
-/// octets spell at most one.
+/// octets spell at most one, and none where a fault stands in them.
 pub fn one_calendar()
     ensures one { (room : List ℕ) (vevents : List (List (List ℕ))) (a b : List Booked)
         → SaysCalendar room vevents a → SaysCalendar room vevents b → a ≡ b }
@@ -54,6 +54,8 @@ pub fn one_calendar()
         → SaysCalendar room vevents a → CalendarFault vevents n → ⊥ }
     ensures of_octets { (room octets : List ℕ) (a b : List Booked)
         → SpellsCalendar room octets a → SpellsCalendar room octets b → a ≡ b }
+    ensures octets_or_a_fault { (room octets : List ℕ) (a : List Booked) (n : ℕ)
+        → SpellsCalendar room octets a → CalendarTextFault octets n → ⊥ }
 {
     one_event();
 }

@@ -1,4 +1,5 @@
 use Rattle.cal_events.proofs.OneCalendar.{one_calendar, no_fault}
+use Rattle.cal_events.proofs.NoOctetFault.{no_octet_fault}
 use Rattle.cal_events.proofs.OneTree.{one_text}
 use Rattle.cal_events.proofs.reading.one_calendar.Goals as goal
 
@@ -10,3 +11,6 @@ returns-clause-or_a_fault c = no_fault c.one_event.ensures.one c.one_event.ensur
 
 pub returns-clause-of_octets : goal.returns-clause-of_octets
 returns-clause-of_octets c = one_text c.one_event.ensures.one
+
+pub returns-clause-octets_or_a_fault : goal.returns-clause-octets_or_a_fault
+returns-clause-octets_or_a_fault c = no_octet_fault c.one_event.ensures.one c.one_event.ensures.or_a_fault
