@@ -4,8 +4,7 @@ pub mod ReadingLemmas
 pub mod TreeLemmas
 pub mod OneEvent
 pub mod OneCalendar
-pub mod OneTree
-pub mod NoOctetFault
+pub mod OneText
 pub mod CalendarLemmas
 pub mod ClashLemmas
 pub mod Distinct

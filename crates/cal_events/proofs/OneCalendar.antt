@@ -1,7 +1,7 @@
 -- The VEVENTs of a calendar say at most one calendar for a room, and none where a fault stands in them.
-use Rattle.std.proofs.Common.{◌≡◌, ◌≢◌, ℕ, zero, suc, Bool, false, List, [], ◌∷◌, map, subst, sym, refl, ap, ◌∙◌, arith}
+use Rattle.std.proofs.Common.{◌≡◌, ◌≢◌, ℕ, zero, suc, ◌+◌, ◌<◌, Bool, true, false, List, [], ◌∷◌, length, map, get_or, subst, sym, refl, ap, ◌∙◌, arith}
 use Rattle.std.specs.Prelude.{Contains, AllPairs}
-use Rattle.std.specs.List.{AllZip}
+use Rattle.std.specs.List.{AllZip, list_any}
 use Rattle.std.proofs.lemmas.Bool.{true≢false}
 use Rattle.profile.specs.Instances.{Booked}
 use Rattle.profile.specs.Events.{Event, SaysEvent, EventFault, SaysCalendar, CalendarFault, in_event, one_meeting, not_yet, confirmed, meeting_said}
@@ -9,10 +9,10 @@ use Rattle.profile.specs.Events.{Event, SaysEvent, EventFault, SaysCalendar, Cal
 abbrev Lines : Type 0
 Lines = List (List ℕ)
 
-abbrev pub OneEvent : Type 0
+abbrev OneEvent : Type 0
 OneEvent = (m : Bool) (lines : Lines) (a b : Event) → SaysEvent m lines a → SaysEvent m lines b → a ≡ b
 
-abbrev pub NoFault : Type 0
+abbrev NoFault : Type 0
 NoFault = (m : Bool) (lines : Lines) (a : Event) (n : ℕ) → SaysEvent m lines a → EventFault m lines n → ⊥
 
 same_events : OneEvent → (vs : List Lines) (a b : List Event) → AllZip (SaysEvent false) vs a → AllZip (SaysEvent false) vs b → a ≡ b

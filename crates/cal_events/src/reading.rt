@@ -14,7 +14,7 @@ use crate::component::{EventComponent, ParticipationStatus, Purpose, one_event};
 use crate::instance::Booking;
 use crate::properties::has_unread_line;
 use ical_lines::{Fault, Limits, Refusal};
-use ical_tree::{Component, read_object};
+use ical_tree::{Component, one_tree, read_object};
 use ical_values::Address;
 use std::alloc::{AllocError, Global};
 
@@ -45,19 +45,25 @@ impl Calendar {
     }
 }
 
-/// The VEVENTs of a calendar say at most one calendar for a room, and none where a fault stands in them;
-/// octets spell at most one, and none where a fault stands in them.
+/// The VEVENTs of a calendar say at most one calendar for a room, and none where a fault stands in them.
 pub fn one_calendar()
     ensures one { (room : List ℕ) (vevents : List (List (List ℕ))) (a b : List Booked)
         → SaysCalendar room vevents a → SaysCalendar room vevents b → a ≡ b }
     ensures or_a_fault { (room : List ℕ) (vevents : List (List (List ℕ))) (a : List Booked) (n : ℕ)
         → SaysCalendar room vevents a → CalendarFault vevents n → ⊥ }
-    ensures of_octets { (room octets : List ℕ) (a b : List Booked)
-        → SpellsCalendar room octets a → SpellsCalendar room octets b → a ≡ b }
-    ensures octets_or_a_fault { (room octets : List ℕ) (a : List Booked) (n : ℕ)
-        → SpellsCalendar room octets a → CalendarTextFault octets n → ⊥ }
 {
     one_event();
+}
+
+/// Octets spell at most one calendar for a room, and none where a fault stands in them.
+pub fn one_calendar_text()
+    ensures one { (room octets : List ℕ) (a b : List Booked)
+        → SpellsCalendar room octets a → SpellsCalendar room octets b → a ≡ b }
+    ensures or_a_fault { (room octets : List ℕ) (all : List Booked) (n : ℕ)
+        → SpellsCalendar room octets all → CalendarTextFault octets n → ⊥ }
+{
+    one_tree();
+    one_calendar();
 }
 
 /// Refuses an object with a VEVENT that has something that roombox doesn't read yet.

@@ -1,8 +1,9 @@
 -- A verdict is yes exactly where the certificate stands.
-use Rattle.std.proofs.Common.{◌≡◌, ℕ, List, ◌⊎◌, sym, refl, ap, ◌∙◌, inl, inr}
+use Rattle.std.proofs.Common.{◌≡◌, ℕ, List, ◌⊎◌, sym, refl, ap, subst, ◌∙◌, inl, inr}
 use Rattle.std.specs.Prelude.{◌↔◌, Result, Ok, Err, IfOk}
 use Rattle.profile.specs.Instances.{Booked}
 use Rattle.profile.specs.Certificates.{Claims, Spells, FirstWrong, CertificateStands, IsWrongText, IsWrongCount, HasClashes}
+use Rattle.profile.specs.Calendars.{SpellsCalendar, CalendarTextFault, CertificateHolds}
 use Rattle.clash_check.specs.declared.verdict.Checked.{Checked}
 use Rattle.clash_check.specs.declared.verdict.Verdict.{Verdict}
 use Rattle.clash_check.specs.declared.verdict.Verdict.TheVariants.{Yes, No}
@@ -43,3 +44,25 @@ pub yes_of : (all : List Booked) (text : List ℕ) (claims : Claims) {E : Type 0
     → IfOk r (λ checked. IsVerdict all text checked.verdict) → IfOk r (λ checked. (checked.verdict ≡ Yes) ↔ CertificateStands all text)
 yes_of all text claims (Ok checked) only h = yes_iff all text claims checked.verdict only h
 yes_of all text claims (Err e) only h = h
+
+-- ---- of a calendar's octets
+
+abbrev OneText : Type 0
+OneText = (room octets : List ℕ) (a b : List Booked) → SpellsCalendar room octets a → SpellsCalendar room octets b → a ≡ b
+
+abbrev NoFault : Type 0
+NoFault = (room octets : List ℕ) (all : List Booked) (n : ℕ) → SpellsCalendar room octets all → CalendarTextFault octets n → ⊥
+
+-- the octets spell these instances and no others, so a certificate that holds stands for them
+pub holds_iff : OneText → (room calendar text : List ℕ) (all : List Booked) {E : Type 0} (r : Result Checked E) → SpellsCalendar room calendar all
+    → IfOk r (λ checked. (checked.verdict ≡ Yes) ↔ CertificateStands all text) → IfOk r (λ checked. (checked.verdict ≡ Yes) ↔ CertificateHolds room calendar text)
+holds_iff one room calendar text all (Ok checked) s h = (
+  λ e. record { all = all; spells = s; stands = h.0 e },
+  λ c. h.1 (subst (λ (l : List Booked). CertificateStands l text) (one room calendar c.all all c.spells s) c.stands),
+)
+holds_iff one room calendar text all (Err e) s h = h
+
+-- no certificate holds for a calendar where a fault stands
+pub refused_iff : NoFault → (room calendar text : List ℕ) (n : ℕ) (v : Verdict) → CalendarTextFault calendar n → IsNo 80 0 v → (v ≡ Yes) ↔ CertificateHolds room calendar text
+refused_iff none room calendar text n Yes f h = absurd h
+refused_iff none room calendar text n (No why) f h = (λ e. absurd (no_is_not_yes why e), λ c. absurd (none room calendar c.all n c.spells f))

@@ -10,7 +10,7 @@ ghost use Rattle.cal_events.specs.declared.instance.Booking.{Booking};
 ghost use Rattle.clash_check.specs.Verdicts.{IsVerdict, MakesFew, IsNo, IsRefusedCalendar, IsJudgement, HasThatKey, Share};
 
 use crate::verdict::{Checked, Verdict, Why};
-use cal_events::{Booking, Calendar, HORIZON};
+use cal_events::{Booking, Calendar, HORIZON, one_calendar_text};
 use clash_cert::{CertFault, Certificate, Clash, OwnedKey};
 use ical_lines::Fault;
 use ical_values::Address;
@@ -24,12 +24,13 @@ pub fn check(
     certificate: &[u8],
     room: &Address,
 ) -> Result<Checked, AllocError>
-    // A yes means that the certificate holds for what the calendar's octets spell.
-    ensures yes { IfOk result (λ checked. checked.verdict ≡ Verdict.Yes → CertificateHolds (address_octets room.now) calendar.now certificate.now) }
+    // Yes exactly where the certificate holds for what the calendar's octets spell.
+    ensures yes { IfOk result (λ checked. (checked.verdict ≡ Verdict.Yes) ↔ CertificateHolds (address_octets room.now) calendar.now certificate.now) }
     // The calendar is refused, or this is the judgement of its confirmed instances.
     ensures judged { IfOk result (λ checked. IsRefusedCalendar calendar.now checked
         ⊎ IsJudgement (address_octets room.now) calendar.now certificate.now checked) }
 {
+    one_calendar_text();
     match Calendar::read(alloc, calendar, room) {
         Ok(calendar) => judge_read(alloc, &calendar, certificate),
         Err(Fault::Refused(_)) => Ok(Checked::no(Why::CALENDAR, 0)),

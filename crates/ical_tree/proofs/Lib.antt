@@ -2,3 +2,4 @@ mod Samples
 pub mod BuiltLemmas
 pub mod StandsLemmas
 pub mod WriteLemmas
+pub mod OneTree

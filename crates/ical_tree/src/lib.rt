@@ -3,10 +3,12 @@
 #![tactic(auto)]
 
 pub mod component;
+pub mod law;
 pub mod read;
 pub mod write;
 
 pub use component::Component;
+pub use law::one_tree;
 pub use read::read_object;
 pub use write::write_object;
 

@@ -4,7 +4,7 @@ use Rattle.std.specs.List.{list_any}
 use Rattle.std.specs.Str.{bytes_eq}
 use Rattle.profile.specs.Lines.{line_value, is_same_name}
 use Rattle.profile.specs.Events.{Event, booked_by, lines_named}
-use Rattle.profile.specs.Messages.{IsCanonical, SaysRequest, is_method, is_unread_method, are_one_meeting}
+use Rattle.profile.specs.Messages.{IsCanonical, SaysRequest, SpellsRequest, is_method, is_unread_method, are_one_meeting}
 use Rattle.profile.specs.Revisions as revisions
 use Rattle.ical_values.specs.Octets.{text_octets, address_octets}
 use Rattle.cal_events.specs.Events.{attendee_of}
@@ -34,6 +34,10 @@ pub record StandsFor (message : Message) (event : Event) : Type 0 where
 -- the lines of the VCALENDAR and of its VEVENTs say a REQUEST, and the message is that
 abbrev pub IsMessageOf : List (List ℕ) → List (List (List ℕ)) → Message → Type 0
 IsMessageOf own vevents message = (event : Event) × SaysRequest own vevents event × StandsFor message event
+
+-- the octets spell a REQUEST, and the message is that
+abbrev pub IsSpelled : List ℕ → Message → Type 0
+IsSpelled octets message = (event : Event) × SpellsRequest octets event × StandsFor message event
 
 -- METHOD stands once, and is REQUEST
 abbrev pub NamesRequest : List (List ℕ) → Type 0

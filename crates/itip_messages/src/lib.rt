@@ -10,3 +10,6 @@ pub mod writer;
 pub use message::{Message, MessageComponent, Method};
 pub use reply::{Conflict, ConflictKey, Decision, ReplyEvent, write_reply};
 pub use writer::ObjectWriter;
+
+#[cfg(test)]
+mod tests;

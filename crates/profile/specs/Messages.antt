@@ -3,7 +3,9 @@ use Rattle.std.specs.Prelude.{◌≡◌, ℕ, ◌/◌, ◌%◌, ◌+◌, ◌<◌
 use Rattle.std.specs.List.{flat_map, list_any, list_all, AllZip}
 use Rattle.std.specs.Str.{bytes_eq}
 use Rattle.std.specs.Char.{is_ascii_alphabetic, is_ascii_digit}
-use Rattle.profile.specs.Lines.{line_value, is_same_name}
+use Rattle.profile.specs.Lines.{line_value, is_same_name, logical_lines}
+use Rattle.profile.specs.Objects.{IsObject}
+use Rattle.profile.specs.Trees.{Tree, tree_name, tree_own, tree_inside, vevents}
 use Rattle.profile.specs.Values.{WritesStamp, duration_text, escaped}
 use Rattle.profile.specs.Events.{Event, SaysEvent, EventFault, SomeLine, StandsTwice, IsMissing, lines_named, has_unread}
 use Rattle.profile.specs.Instances.{Key}
@@ -21,6 +23,12 @@ pub record SaysRequest (own : List (List ℕ)) (events : List (List (List ℕ)))
   pub one : events ≡ lines ∷ []
   pub read : has_unread lines ≡ false
   pub says : SaysEvent true lines event
+
+-- the octets are one VCALENDAR, within the limits of a message, and say a REQUEST for this event
+pub record SpellsRequest (octets : List ℕ) (event : Event) : Type 0 where
+  pub tree : Tree
+  pub object : IsObject tree_name tree_own tree_inside true tree (logical_lines octets)
+  pub says : SaysRequest (tree_own tree) (vevents tree) event
 
 -- ---- what can be wrong with a message
 
@@ -58,6 +66,12 @@ pub data MessageFault (own : List (List ℕ)) (vevents : List (List (List ℕ)))
   two_meetings : (events : List Event) → AllZip (SaysEvent true) vevents events → are_one_meeting events ≡ false → MessageFault own vevents 62
   -- without RECURRENCE-ID each VEVENT is the whole meeting
   two_wholes : (events : List Event) → AllZip (SaysEvent true) vevents events → are_one_meeting events ≡ true → 1 < length events → MessageFault own vevents 53
+
+-- the octets are one VCALENDAR, within the limits of a message, and the fault of this number stands in it
+pub record RequestFault (octets : List ℕ) (n : ℕ) : Type 0 where
+  pub tree : Tree
+  pub object : IsObject tree_name tree_own tree_inside true tree (logical_lines octets)
+  pub fault : MessageFault (tree_own tree) (vevents tree) n
 
 -- ---- its parts
 

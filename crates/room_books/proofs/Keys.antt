@@ -26,7 +26,7 @@ use Rattle.room_books.specs.Views.{same_key, is_other, is_place, confirmed_of, c
 pub key_eq_is : (a b : MeetingKey) → eq-value.it a b ≡ same_key a b
 key_eq_is a b = refl
 
-key_congr : (a b z : MeetingKey) → same_key a b ≡ true → same_key a z ≡ same_key b z
+pub key_congr : (a b z : MeetingKey) → same_key a b ≡ true → same_key a z ≡ same_key b z
 key_congr a b z e =
     let both = and_parts _ _ e in
     let o = (bytes_eq-Decides (address_octets a.organiser) (address_octets b.organiser)).0 both.0 in

@@ -3,3 +3,7 @@ pub mod Views
 pub mod Runs
 pub mod Deciding
 pub mod Keys
+pub mod Meetings
+pub mod Partition
+pub mod Stepping
+pub mod Steps

@@ -26,7 +26,7 @@ pub record IsWithin (xs ys : List Booked) : Type 0 where
   pub among : (x : Booked) → Contains xs x → Contains ys x
   pub shorter : length xs ≤ length ys
 
-within_good : (xs ys : List Booked) → IsWithin xs ys → Good ys → Good xs
+pub within_good : (xs ys : List Booked) → IsWithin xs ys → Good ys → Good xs
 within_good xs ys w g = record {
   clear = λ a b t c. g.clear a b t (record {
     first = w.among a c.first;
@@ -72,13 +72,13 @@ within_filter q p [] f = within_itself []
 within_filter q p (a ∷ xs) f = within_step (q a) (p a) a (filter q xs) (filter p xs) (f a (in_head a xs)) (within_filter q p xs (λ x c. f x (in_tail a xs x c)))
 
 -- after more parts the old answers confirm no more than before
-confirmed_back : (taken more : List Part) (answers : List Answer) → ((a : Answer) → Contains answers a → Contains taken a.claim.part) → IsWithin (confirmed_in (taken ++ more) answers) (confirmed_in taken answers)
+pub confirmed_back : (taken more : List Part) (answers : List Answer) → ((a : Answer) → Contains answers a → Contains taken a.claim.part) → IsWithin (confirmed_in (taken ++ more) answers) (confirmed_in taken answers)
 confirmed_back taken more answers known =
     within_filter (is_confirmed (taken ++ more)) (is_confirmed taken) answers (λ a c e.
     let both = and_parts _ _ e in
     and_from _ _ both.0 (view_back taken more a.claim.part (known a c) both.1))
 
-confirmed_split : (taken : List Part) (xs ys : List Answer) → confirmed_in taken (xs ++ ys) ≡ confirmed_in taken xs ++ confirmed_in taken ys
+pub confirmed_split : (taken : List Part) (xs ys : List Answer) → confirmed_in taken (xs ++ ys) ≡ confirmed_in taken xs ++ confirmed_in taken ys
 confirmed_split taken xs ys = ap (flat_map books) (filter-append (is_confirmed taken) xs ys) ∙ flat_map-append books (filter (is_confirmed taken) xs) (filter (is_confirmed taken) ys)
 
 -- parts that are accepted and in the view are confirmed

@@ -26,7 +26,7 @@ or_right : (a b : Bool) → b ≡ true → (a || b) ≡ true
 or_right true b e = refl
 or_right false b e = e
 
-or_first : (a b : Bool) → a ≡ true → (a || b) ≡ true
+pub or_first : (a b : Bool) → a ≡ true → (a || b) ≡ true
 or_first true b e = refl
 or_first false b e = absurd (true≢false (sym e))
 
@@ -90,11 +90,11 @@ allows_lower w q p place le h =
     (stands_lower_at w q p (revision_cmp w.revision q.revision) refl le)
     h
 
-part_le_refl : (a : Part) → is_le (part_cmp a a) ≡ true
+pub part_le_refl : (a : Part) → is_le (part_cmp a a) ≡ true
 part_le_refl a = ap is_le (tied_itself part_total a)
 
 -- one of two parts of a place is at most the other
-le_unless : (w q : Part) → same_place q w ≡ true → (same_place q w && is_le (part_cmp w q)) ≡ false → is_le (part_cmp q w) ≡ true
+pub le_unless : (w q : Part) → same_place q w ≡ true → (same_place q w && is_le (part_cmp w q)) ≡ false → is_le (part_cmp q w) ≡ true
 le_unless w q same e =
     elim (and_cases _ _ e) [
       | inl other ↦ absurd (both_ways _ other same)

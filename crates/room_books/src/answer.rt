@@ -1,5 +1,7 @@
 //! What a room answers to a message.
 
+ghost use Rattle.std.specs.Prelude.{◌≡◌};
+
 use clash_cert::Clash;
 
 /// Which limit of a room a request would pass.
@@ -42,7 +44,9 @@ pub struct Answer {
 
 impl Answer {
     /// An answer that sends nothing.
-    pub fn silent(kind: Kind) -> Answer {
+    pub fn silent(kind: Kind) -> Answer
+        ensures { result.kind ≡ kind }
+    {
         Answer {
             kind,
             reply: None,

@@ -1,8 +1,15 @@
 //! A room takes messages one after another. A message is taken whole or not at all: everything is computed
 //! beside the room, and put into it by the last step.
 
-ghost use Rattle.std.specs.Prelude.{◌≡◌, OnErr};
-ghost use Rattle.room_books.specs.Takings.{IsRoomUnchanged};
+ghost use Rattle.std.specs.Prelude.{◌≡◌, true, List, [], ◌∷◌, IfOk, OnErr};
+ghost use Rattle.std.specs.List.{IsDistinct};
+ghost use Rattle.indexmap.specs.IndexMap.{keys};
+ghost use Rattle.itip_order.specs.Parts.{part_of};
+ghost use Rattle.profile.specs.Revisions as revisions;
+ghost use Rattle.profile.specs.Rooms.{Claim, Book, empty_book, is_set};
+ghost use Rattle.room_books.specs.Views.{same_key};
+ghost use Rattle.room_books.specs.Takings.{IsRoomUnchanged, kind_view};
+ghost use Rattle.room_books.specs.Standing.{Stands, StepsTo, claim_of};
 
 use crate::answer::{Answer, Kind};
 use crate::decide::Meetings;
@@ -25,7 +32,9 @@ pub struct Room {
 
 impl Room {
     /// A room that has taken nothing.
-    pub fn new(alloc: Global, address: Address) -> Room {
+    pub fn new(alloc: Global, address: Address) -> Room
+        ensures { Stands result.meetings.entries empty_book }
+    {
         Room {
             alloc,
             address,
@@ -54,6 +63,9 @@ impl Room {
     /// Takes a message at a moment, and answers it. Where memory is refused nothing has changed.
     /// By now a message has one part for a room, of the whole of its meeting, or isn't addressed to it.
     pub fn take(&mut self, message: &Message, now: Stamp) -> Result<Answer, AllocError>
+        // From each book that the room stands for it makes a step of the room machine.
+        ensures steps { IfOk result (λ answer. (book : Book) → Stands self.old.meetings.entries book
+            → (claims : List Claim) × StepsTo self.new.meetings.entries book claims now (kind_view answer.kind)) }
         ensures err { OnErr result (IsRoomUnchanged self.old self.new) }
     {
         let mut parts = message.parts(self.alloc, &self.address)?;
@@ -67,13 +79,19 @@ impl Room {
             start: component.start.instant(),
             end: component.end,
         };
-        self.take_part(&part, span, now)
+        let answer = self.take_part(&part, span, now)?;
+        Ok(answer)
     }
 
     /// Takes a part that asks for this span.
     fn take_part(&mut self, part: &Part, span: Span, now: Stamp) -> Result<Answer, AllocError>
+        requires whole { (part_of part.now).slot ≡ revisions.Whole }
+        requires set { is_set (part_of part.now) ≡ true }
+        ensures steps { IfOk result (λ answer. (book : Book) → Stands self.old.meetings.entries book
+            → StepsTo self.new.meetings.entries book (claim_of (part_of part.now) span ∷ []) now (kind_view answer.kind)) }
         ensures err { OnErr result (IsRoomUnchanged self.old self.new) }
     {
+        keys_differ(&self.meetings);
         let key = MeetingKey::of(&part.organiser, &part.uid)?;
         let asked = Asked {
             key: &key,
@@ -94,6 +112,16 @@ impl Room {
 }
 
 /// Whether a part says that the whole of its meeting is to take place.
-fn is_request(part: &Part) -> bool {
+fn is_request(part: &Part) -> bool
+    ensures whole { result ≡ true → (part_of part.now).slot ≡ revisions.Whole }
+    ensures set { result ≡ true → is_set (part_of part.now) ≡ true }
+{
     part.slot == Slot::Whole && matches!(part.body, Body::Set(_))
+}
+
+/// What a map says of its keys: no two are of one meeting.
+fn keys_differ(meetings: &Meetings)
+    ensures { IsDistinct same_key (keys meetings.now) }
+{
+    let _ = meetings.len();
 }

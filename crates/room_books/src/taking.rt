@@ -36,7 +36,9 @@ pub fn meeting_after(
     alloc: Global,
     meetings: &Meetings,
     asked: &Asked<'_>,
-) -> Result<Taken, AllocError> {
+) -> Result<Taken, AllocError>
+    ensures { IfOk result (IsMeetingAfter (get_by (same_key asked.now.key.now) meetings.now) meetings.now.entries asked.now) }
+{
     let before = meetings.get(asked.key);
     let mut held = held_of(alloc, before)?;
     let freshness = held.take(asked.part.clone()?)?;

@@ -60,7 +60,7 @@ fn no_memory<R: Runtime + AllocGlobal>(rt: &R) -> u8 {
 
 /// Prints what clap says: help and version on standard output, a usage fault on standard error.
 fn print_usage<R: Runtime + AllocGlobal>(rt: &R, error: &clap::Error) -> u8 {
-    if error.kind() == clap::ErrorKind::OutOfMemory {
+    if error.kind() == clap::error::ErrorKind::OutOfMemory {
         return no_memory(rt);
     }
     match error.print(rt) {

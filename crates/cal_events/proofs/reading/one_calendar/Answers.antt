@@ -1,6 +1,4 @@
 use Rattle.cal_events.proofs.OneCalendar.{one_calendar, no_fault}
-use Rattle.cal_events.proofs.NoOctetFault.{no_octet_fault}
-use Rattle.cal_events.proofs.OneTree.{one_text}
 use Rattle.cal_events.proofs.reading.one_calendar.Goals as goal
 
 pub returns-clause-one : goal.returns-clause-one
@@ -8,9 +6,3 @@ returns-clause-one c = one_calendar c.one_event.ensures.one
 
 pub returns-clause-or_a_fault : goal.returns-clause-or_a_fault
 returns-clause-or_a_fault c = no_fault c.one_event.ensures.one c.one_event.ensures.or_a_fault
-
-pub returns-clause-of_octets : goal.returns-clause-of_octets
-returns-clause-of_octets c = one_text c.one_event.ensures.one
-
-pub returns-clause-octets_or_a_fault : goal.returns-clause-octets_or_a_fault
-returns-clause-octets_or_a_fault c = no_octet_fault c.one_event.ensures.one c.one_event.ensures.or_a_fault

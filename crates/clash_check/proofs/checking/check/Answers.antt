@@ -1,0 +1,12 @@
+use Rattle.ical_values.specs.Octets.{address_octets}
+use Rattle.clash_check.proofs.VerdictLemmas.{holds_iff, refused_iff}
+use Rattle.clash_check.proofs.checking.check.Goals as goal
+
+pub returns-in-Ok-clause-yes : goal.returns-in-Ok-clause-yes
+returns-in-Ok-clause-yes c =
+    holds_iff c.one_calendar_text.ensures.one (address_octets c.args.room.now) c.args.calendar.now c.args.certificate.now _ c.judge_read.result c.in-Ok.ensures.spells c.judge_read.ensures.yes
+
+pub returns-in-Err-Refused-clause-yes : goal.returns-in-Err-Refused-clause-yes
+returns-in-Err-Refused-clause-yes c =
+    refused_iff c.one_calendar_text.ensures.or_a_fault (address_octets c.args.room.now) c.args.calendar.now c.args.certificate.now c.in-Err-Refused.field-0-0.number c.no.result.verdict
+    (rw c.in-Err-Refused.field-0-is at c.in-Err-Refused.ensures.stands) c.no.ensures.no

@@ -1,0 +1,76 @@
+-- Worked examples of the definitions of messages and replies, computed.
+use Rattle.std.proofs.Common.{◌≡◌, ℕ, pos, true, false, List, [], ◌∷◌, Some, None, refl, codes}
+use Rattle.profile.specs.Events.{Event, NeedsAction}
+use Rattle.profile.specs.Messages.{word, object_lines, is_method, is_unread_method, are_one_meeting, names_room}
+
+-- ---- words of a status
+
+an_address_stands_for_itself : word (codes "mailto:ann@example.com") ≡ codes "mailto:ann@example.com"
+an_address_stands_for_itself = refl
+
+a_space_is_written : word (codes "a b") ≡ codes "a%20b"
+a_space_is_written = refl
+
+digits_are_in_upper_case : word (codes "a/b;c") ≡ codes "a%2Fb%3Bc"
+digits_are_in_upper_case = refl
+
+-- the two octets of `ü` in UTF-8
+an_octet_past_ascii_is_written : word (0xC3 ∷ 0xBC ∷ []) ≡ codes "%C3%BC"
+an_octet_past_ascii_is_written = refl
+
+a_percent_is_written : word (codes "100%") ≡ codes "100%25"
+a_percent_is_written = refl
+
+-- ---- the lines of an object
+
+a_reply : object_lines (Some (codes "REPLY")) (codes "BEGIN:VEVENT" ∷ codes "END:VEVENT" ∷ [])
+    ≡ codes "BEGIN:VCALENDAR" ∷ codes "VERSION:2.0" ∷ codes "PRODID:-//iTIP room box//EN" ∷ codes "METHOD:REPLY" ∷ codes "BEGIN:VEVENT" ∷ codes "END:VEVENT" ∷ codes "END:VCALENDAR" ∷ []
+a_reply = refl
+
+a_kept_calendar : object_lines None []
+    ≡ codes "BEGIN:VCALENDAR" ∷ codes "VERSION:2.0" ∷ codes "PRODID:-//iTIP room box//EN" ∷ codes "END:VCALENDAR" ∷ []
+a_kept_calendar = refl
+
+-- ---- methods
+
+a_word_of_method_is_caseless : is_method (codes "request") ≡ true
+a_word_of_method_is_caseless = refl
+
+a_request_is_read : is_unread_method (codes "REQUEST") ≡ false
+a_request_is_read = refl
+
+a_cancel_is_not_read_yet : is_unread_method (codes "CANCEL") ≡ true
+a_cancel_is_not_read_yet = refl
+
+publish_asks_for_nothing : is_method (codes "PUBLISH") ≡ false
+publish_asks_for_nothing = refl
+
+-- ---- meetings
+
+-- an hour on 2025-03-10 that Ann asks of one room
+meeting : List ℕ → List ℕ → Event
+meeting uid organiser = record {
+  uid = uid;
+  organiser = Some organiser;
+  stamp = Some (pos 1_740_830_400);
+  sequence = 0;
+  start = pos 1_741_597_200;
+  length = record { days = 0; seconds = 3600 };
+  attendees = record { address = codes "mailto:r1@example.com"; participation = NeedsAction } ∷ [];
+}
+
+two_uids_are_two_meetings : are_one_meeting (meeting (codes "a") (codes "mailto:ann@example.com") ∷ meeting (codes "b") (codes "mailto:ann@example.com") ∷ []) ≡ false
+unfolding meeting
+two_uids_are_two_meetings = refl
+
+two_organisers_are_two_meetings : are_one_meeting (meeting (codes "a") (codes "mailto:ann@example.com") ∷ meeting (codes "a") (codes "mailto:bob@example.com") ∷ []) ≡ false
+unfolding meeting
+two_organisers_are_two_meetings = refl
+
+its_room_is_named : names_room (codes "mailto:r1@example.com") (meeting (codes "a") (codes "mailto:ann@example.com")) ≡ true
+unfolding meeting
+its_room_is_named = refl
+
+another_room_is_not : names_room (codes "mailto:r2@example.com") (meeting (codes "a") (codes "mailto:ann@example.com")) ≡ false
+unfolding meeting
+another_room_is_not = refl

@@ -1,0 +1,69 @@
+-- What the meetings of a room stand for: the parts that were taken, and the answers to them.
+use Rattle.std.specs.Prelude.{◌≡◌, ℕ, ℤ, ◌≤◌, Bool, true, ◌&&◌, List, [], ◌∷◌, length, filter, Contains, Option, Some, None}
+use Rattle.std.specs.Str.{bytes_eq}
+use Rattle.std.specs.Map.{lookup}
+use Rattle.ical_values.specs.Octets.{address_octets, text_octets}
+use Rattle.itip_order.specs.Registers.{StandsFor}
+use Rattle.profile.specs.Instances.{Booked, IsClear}
+use Rattle.profile.specs.Revisions.{Part, Whole}
+use Rattle.profile.specs.Messages.{Outcome}
+use Rattle.profile.specs.Rooms.{Claim, Answer, Book, Kind, confirmed, confirmed_in, most_singles, IsStep, kind_of}
+use Rattle.room_books.specs.declared.meeting.MeetingKey.{MeetingKey}
+use Rattle.room_books.specs.declared.meeting.Meeting.{Meeting}
+use Rattle.room_books.specs.declared.meeting.Span.{Span}
+use Rattle.room_books.specs.Views.{same_key, booked_list, confirmed_span}
+
+-- the part is of the meeting
+abbrev pub is_of : MeetingKey → Part → Bool
+is_of key part = bytes_eq (address_octets key.organiser) part.organiser && bytes_eq (text_octets key.uid) part.uid
+
+abbrev pub of_meeting : MeetingKey → List Part → List Part
+of_meeting key parts = filter (is_of key) parts
+
+abbrev pub answers_of : MeetingKey → List Answer → List Answer
+answers_of key answers = filter (λ a. is_of key a.claim.part) answers
+
+-- the meeting holds the parts taken of it, and confirms what the answers to them do
+pub record Meets (book : Book) (key : MeetingKey) (meeting : Meeting) : Type 0 where
+  pub held : StandsFor meeting.held (of_meeting key book.taken)
+  pub confirmed : confirmed_in book.taken (answers_of key book.answers) ≡ booked_list key (confirmed_span meeting.decided)
+
+-- of a meeting that isn't there nothing was taken
+abbrev pub MeetsAt : Book → MeetingKey → Option Meeting → Type 0
+MeetsAt book key None = of_meeting key book.taken ≡ []
+MeetsAt book key (Some meeting) = Meets book key meeting
+
+-- the meeting of the part is there
+pub record Covers (entries : List (MeetingKey × Meeting)) (part : Part) : Type 0 where
+  pub key : MeetingKey
+  pub meeting : Meeting
+  pub found : lookup (same_key key) entries ≡ Some meeting
+  pub is : is_of key part ≡ true
+
+-- the meetings stand for the book, whose confirmed instances are clear and within the limit
+pub record Stands (entries : List (MeetingKey × Meeting)) (book : Book) : Type 0 where
+  pub whole : (part : Part) → Contains book.taken part → part.slot ≡ Whole
+  pub covered : (part : Part) → Contains book.taken part → Covers entries part
+  pub known : (answer : Answer) → Contains book.answers answer → Contains book.taken answer.claim.part
+  pub clear : IsClear (confirmed book)
+  pub few : length (confirmed book) ≤ most_singles
+  pub meets : (key : MeetingKey) → MeetsAt book key (lookup (same_key key) entries)
+
+-- what a part asks for: the instance of its meeting in that span
+abbrev pub claim_of : Part → Span → Claim
+claim_of part span = record {
+  part = part;
+  books = record {
+    key = record { organiser = part.organiser; uid = part.uid; slot = span.start };
+    start = span.start;
+    end = span.end;
+  } ∷ [];
+}
+
+-- from the book a step with these parts leads to a book that the meetings stand for
+pub record StepsTo (entries : List (MeetingKey × Meeting)) (book : Book) (claims : List Claim) (moment : ℤ) (kind : Kind) : Type 0 where
+  pub outcome : Outcome
+  pub after : Book
+  pub step : IsStep book claims moment outcome after
+  pub stands : Stands entries after
+  pub kind_is : kind ≡ kind_of book.taken after.taken claims outcome
