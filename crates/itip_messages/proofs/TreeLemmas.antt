@@ -1,24 +1,22 @@
 -- A component that lines spell, as a tree that they spell.
-use Rattle.std.proofs.Common.{◌≡◌, ℕ, Bool, true, false, nat_lt, cond, List, [], ◌∷◌, ◌++◌, ◌+◌, fold, map, filter, codes, subst, sym, refl, ap, ◌∙◌, arith}
+use Rattle.std.proofs.Common.{◌≡◌, ℕ, Bool, true, false, nat_lt, cond, List, [], ◌∷◌, ◌++◌, ◌+◌, fold, map, filter, codes, subst, sym, refl, ap, inl, inr, ◌∙◌}
 use Rattle.std.specs.Prelude.{Result, Ok, Err, IfOk, IfErr, count_by}
 use Rattle.std.specs.Result.{IsErrAnd}
-use Rattle.std.proofs.lemmas.Bool.Decides.{nat_tests}
 use Rattle.std.specs.List.{AllZip}
 use Rattle.ical_lines.specs.declared.fault.Fault.{Fault}
 use Rattle.ical_lines.specs.declared.fault.Fault.TheVariants.{Refused, Memory}
-use Rattle.ical_lines.specs.Fault.{RefusesOnly}
-use Rattle.profile.specs.Faults.{is_object_fault}
 use Rattle.ical_tree.specs.Tree.{component_name, component_lines, component_children, IsObjectOf}
 use Rattle.ical_tree.specs.declared.component.Component.{Component}
 use Rattle.profile.specs.Lines.{is_same_name, logical_lines}
 use Rattle.profile.specs.Objects.{Body, nothing, property, component, IsObject}
 use Rattle.profile.specs.Trees.{Tree, Trees, tree, none, more, trees_list, tree_name, tree_own, tree_inside, vevents}
-use Rattle.profile.specs.Messages.{SaysRequest, MessageFault, RequestFault}
+use Rattle.profile.specs.Messages.{SaysRequest, MessageFault}
 use Rattle.cal_events.specs.Events.{is_vevent, vevents_of, StandsIn}
-use Rattle.cal_events.proofs.EventLemmas.{push_zip, fault_exit}
+use Rattle.cal_events.proofs.EventLemmas.{push_zip}
 use Rattle.cal_events.proofs.ReadingLemmas.{events_in}
 use Rattle.itip_messages.specs.declared.message.Message.{Message}
-use Rattle.itip_messages.specs.Messages.{IsMessageOf, IsSpelled}
+use Rattle.itip_messages.specs.Messages.{IsMessageOf, IsSpelled, ReadFault}
+use Rattle.ical_tree.specs.Reading.{Stands}
 
 abbrev Lines : Type 0
 Lines = List (List ℕ)
@@ -128,18 +126,14 @@ message_spelled (Err e) octets c object says = tt
 
 -- the fault that stands in them
 pub faults_there : (r : Result Message Fault) (octets : List ℕ) (c : Component) → IsObjectOf true c (logical_lines octets)
-    → IfErr r (StandsIn (MessageFault (component_lines c) (vevents_of c))) → IfErr r (StandsIn (λ n. is_object_fault n ≡ false → RequestFault octets n))
+    → IfErr r (StandsIn (MessageFault (component_lines c) (vevents_of c))) → IfErr r (ReadFault octets)
 faults_there (Ok message) octets c object h = tt
-faults_there (Err Memory) octets c object h = tt
+faults_there (Err Memory) octets c object h = inr tt
 faults_there (Err (Refused x)) octets c object h =
     let f = found c (logical_lines octets) object in
     let own : MessageFault (tree_own f.tree) (vevents_of c) x.number = subst (λ (ls : Lines). MessageFault ls (vevents_of c) x.number) (sym f.own) h in
-    λ _. record { tree = f.tree; object = f.object; fault = subst (λ (vs : List Lines). MessageFault (tree_own f.tree) vs x.number) (sym f.events) own }
+    inr (record { tree = f.tree; object = f.object; fault = subst (λ (vs : List Lines). MessageFault (tree_own f.tree) vs x.number) (sym f.events) own })
 
-pub object_refused : (r : Result Message Fault) (octets : List ℕ) (f : Fault) → IsErrAnd r (λ e. e ≡ f) → RefusesOnly is_object_fault f
-    → IfErr r (StandsIn (λ n. is_object_fault n ≡ false → RequestFault octets n))
-object_refused r octets f e h = fault_exit r (λ n. is_object_fault n ≡ false → RequestFault octets n) f e (no_events f h)
-  where
-    no_events : (g : Fault) → RefusesOnly is_object_fault g → StandsIn (λ n. is_object_fault n ≡ false → RequestFault octets n) g
-    no_events Memory t = tt
-    no_events (Refused x) t = λ no. absurd (grind (arith, nat_tests, t, no))
+pub object_refused : (r : Result Message Fault) (octets : List ℕ) (f : Fault) → IsErrAnd r (λ e. e ≡ f) → Stands true octets f → IfErr r (ReadFault octets)
+object_refused (Ok message) octets f e h = tt
+object_refused (Err g) octets f e h = subst (ReadFault octets) (sym e) (inl h)

@@ -4,10 +4,12 @@ use Rattle.std.specs.List.{list_any}
 use Rattle.std.specs.Str.{bytes_eq}
 use Rattle.profile.specs.Lines.{line_value, is_same_name}
 use Rattle.profile.specs.Events.{Event, booked_by, lines_named}
-use Rattle.profile.specs.Messages.{IsCanonical, SaysRequest, SpellsRequest, is_method, is_unread_method, are_one_meeting}
+use Rattle.profile.specs.Messages.{IsCanonical, SaysRequest, SpellsRequest, RequestFault, is_method, is_unread_method, are_one_meeting}
 use Rattle.profile.specs.Revisions as revisions
 use Rattle.ical_values.specs.Octets.{text_octets, address_octets}
-use Rattle.cal_events.specs.Events.{attendee_of}
+use Rattle.cal_events.specs.Events.{attendee_of, StandsIn}
+use Rattle.ical_lines.specs.declared.fault.Fault.{Fault}
+use Rattle.ical_tree.specs.Reading.{Stands}
 use Rattle.itip_order.specs.declared.part.Slot.TheVariants.{Whole}
 use Rattle.itip_order.specs.Parts.{slot_of, revision_of}
 use Rattle.itip_messages.specs.declared.message.MessageComponent.{MessageComponent}
@@ -38,6 +40,10 @@ IsMessageOf own vevents message = (event : Event) × SaysRequest own vevents eve
 -- the octets spell a REQUEST, and the message is that
 abbrev pub IsSpelled : List ℕ → Message → Type 0
 IsSpelled octets message = (event : Event) × SpellsRequest octets event × StandsFor message event
+
+-- want of memory, or a fault of the object or of what it says stands in the octets
+abbrev pub ReadFault : List ℕ → Fault → Type 0
+ReadFault octets fault = Stands true octets fault ⊎ StandsIn (RequestFault octets) fault
 
 -- METHOD stands once, and is REQUEST
 abbrev pub NamesRequest : List (List ℕ) → Type 0

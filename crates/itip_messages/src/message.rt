@@ -1,18 +1,18 @@
 //! A message, read: its method, its meeting, and what each VEVENT says (RFC 5546 1.4, 3.2).
 //! By now REQUEST alone is read.
-ghost use Rattle.std.specs.Prelude.{◌≡◌, ◌++◌, [], true, false, codes, length, map, option_map, unwrap_or, IsTrue, IsSome, IfOk, IfErr, OnOk};
+ghost use Rattle.std.specs.Prelude.{◌≡◌, ◌++◌, [], true, codes, length, map, option_map, unwrap_or, IsTrue, IsSome, IfOk, IfErr, OnOk};
 ghost use Rattle.std.specs.List.{list_all, AllZip};
 ghost use Rattle.ical_lines.specs.Fault.{RefusesOnly};
 ghost use Rattle.ical_lines.specs.Text.{line_text};
 ghost use Rattle.ical_tree.specs.Tree.{component_lines};
 ghost use Rattle.ical_values.specs.Octets.{address_octets};
-ghost use Rattle.profile.specs.Faults.{is_message_fault, is_object_fault};
+ghost use Rattle.profile.specs.Faults.{is_message_fault};
 ghost use Rattle.profile.specs.Lines.{line_value, is_same_name};
 ghost use Rattle.profile.specs.Values.{duration_text};
 ghost use Rattle.profile.specs.Events.{SaysEvent, StandsAtMostOnce, StandsTwice};
-ghost use Rattle.profile.specs.Messages.{IsCanonical, MethodFault, MessageFault, RequestFault, is_same_meeting, is_unread_method};
+ghost use Rattle.profile.specs.Messages.{IsCanonical, MethodFault, MessageFault, is_same_meeting, is_unread_method};
 ghost use Rattle.cal_events.specs.Events.{event_of, vevents_of, StandsIn};
-ghost use Rattle.itip_messages.specs.Messages.{IsMessageOf, IsSpelled, MeetingFault, NamesRequest, StandsFor, WordFault, component_names};
+ghost use Rattle.itip_messages.specs.Messages.{IsMessageOf, IsSpelled, MeetingFault, NamesRequest, ReadFault, StandsFor, WordFault, component_names};
 
 use cal_events::{Attendee, EventComponent, Purpose, refuse_unread_events};
 use ical_lines::{Fault, Limits, Line, Refusal};
@@ -73,7 +73,7 @@ impl Message {
     pub fn read(alloc: Global, bytes: &[u8]) -> Result<Message, Fault>
         ensures spells { IfOk result (IsSpelled bytes.now) }
         ensures refuses { IfErr result (RefusesOnly is_message_fault) }
-        ensures stands { IfErr result (StandsIn (λ n. is_object_fault n ≡ false → RequestFault bytes.now n)) }
+        ensures stands { IfErr result (ReadFault bytes.now) }
     {
         let object = read_object(alloc, bytes, Limits::Message)?;
         Message::of_object(alloc, &object)

@@ -3,7 +3,7 @@ use Rattle.itip_messages.proofs.message.Message.read.Goals as goal
 
 pub returns-in_err-object-clause-stands : goal.returns-in_err-object-clause-stands
 returns-in_err-object-clause-stands c =
-    object_refused c.from_residual.result c.args.bytes.now c.in_err-object.field-0.0 c.from_residual.ensures.1 c.in_err-object.ensures.refuses
+    object_refused c.from_residual.result c.args.bytes.now c.in_err-object.field-0.0 c.from_residual.ensures.1 c.in_err-object.ensures.stands
 
 pub returns-clause-spells : goal.returns-clause-spells
 returns-clause-spells c =
