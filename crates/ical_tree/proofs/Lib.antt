@@ -2,4 +2,5 @@ mod Samples
 pub mod BuiltLemmas
 pub mod StandsLemmas
 pub mod WriteLemmas
+pub mod PairLemmas
 pub mod OneTree

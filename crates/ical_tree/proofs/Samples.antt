@@ -23,6 +23,16 @@ outside = refl
 no_lines : lines_have 23 [] ≡ true
 no_lines = refl
 
+-- after an END with nothing open no more is said of the lines
+nothing_after : lines_have 20 (codes "END:VEVENT" ∷ codes "VERSION:2.0" ∷ codes "BEGIN:VCALENDAR" ∷ []) ≡ true
+nothing_after = refl
+
+not_outside : lines_have 23 (codes "END:VEVENT" ∷ codes "VERSION:2.0" ∷ codes "BEGIN:VCALENDAR" ∷ []) ≡ false
+not_outside = refl
+
+not_open : lines_have 21 (codes "END:VEVENT" ∷ codes "VERSION:2.0" ∷ codes "BEGIN:VCALENDAR" ∷ []) ≡ false
+not_open = refl
+
 innermost_first : opened (codes "BEGIN:VCALENDAR" ∷ codes "BEGIN:VEVENT" ∷ []) ≡ codes "VEVENT" ∷ codes "VCALENDAR" ∷ []
 innermost_first = refl
 

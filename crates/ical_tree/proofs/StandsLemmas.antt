@@ -1,14 +1,15 @@
 -- Which faults stand in the lines so far.
-use Rattle.std.proofs.Common.{◌≡◌, inl, inr, ℕ, Bool, true, false, not, ◌&&◌, ◌||◌, eqb, Option, None, Some, is_some, List, [], ◌∷◌, ◌++◌, length, reverse, refl, ap, sym, subst, ◌∙◌}
-use Rattle.std.proofs.Math.Bool.{or-true}
-use Rattle.std.proofs.lemmas.List.{append_assoc, append-nil, nil_from_length}
+use Rattle.std.proofs.Common.{◌≡◌, inl, inr, ℕ, ◌+◌, ◌-◌, ◌<◌, ◌≤◌, arith, Bool, true, false, not, ◌&&◌, ◌||◌, eqb, Option, None, Some, is_some, List, [], ◌∷◌, ◌++◌, length, reverse, refl, ap, sym, subst, ◌∙◌}
+use Rattle.std.proofs.lemmas.List.{append_assoc, append-nil, nil_from_length, length-map}
 use Rattle.profile.specs.Lines.{logical_lines}
-use Rattle.profile.specs.Objects.{is_none, now_open, opened_from, opened, misplaced, some_misplaced, lines_have}
+use Rattle.profile.specs.Objects.{Opens, is_none, now_open, opened_from, opened, misplaced, fits, some_misplaced, all_fit, lines_have}
 use Rattle.ical_lines.specs.Fault.{RefusesOnly}
 use Rattle.ical_lines.specs.declared.fault.Fault.{Fault}
 use Rattle.ical_lines.specs.declared.fault.Fault.TheVariants.{Refused, Memory}
 use Rattle.ical_tree.specs.declared.component.Component.{Component}
-use Rattle.ical_tree.specs.Reading.{Built, Stands, SpellsOf, IsCalendar, names_of}
+use Rattle.ical_tree.specs.Tree.{component_name}
+use Rattle.ical_tree.specs.Reading.{Built, Stands, SpellsOf, IsCalendar, IsOuter, names_of}
+use Rattle.ical_tree.proofs.PairLemmas.{or_none, opened-append, any_misplaced, after, after_first, none-append, all_fit_from, found_later, now_begin, fine_begin, fine_first, stays_whole, stays, fine_whole, fine}
 
 -- ---- BEGIN of an outermost component
 
@@ -31,17 +32,51 @@ is_none-push : (lines : List (List ℕ)) (line : List ℕ) → is_none (lines ++
 is_none-push [] line = refl
 is_none-push (l ∷ lines) line = refl
 
-later : (a b : Bool) → b ≡ true → (a || b) ≡ true
-later a b h = ap (λ x. a || x) h ∙ or-true a
+-- ---- what is built pairs up
 
--- what the lines so far have built, and that a fault of the lines to come is one of all lines
+pub built_opened : (cs : List Component) (closed : Option Component) (done : List (List ℕ)) → Built cs closed done → opened done ≡ names_of cs
+built_opened [] None done b = ap opened b
+built_opened [] (Some c) done b = ap opened b.0.are ∙ stays_whole (component_name c) b.0.begin b.0.end b.0.body b.0.opens b.0.closes (stays b.0.holds) []
+built_opened (c ∷ around) closed done b =
+    let o = b.1 in
+    ap opened o.are
+    ∙ (opened-append [] b.0 (o.begin ∷ o.body)
+    ∙ (ap (λ s. opened_from s (o.begin ∷ o.body)) (built_opened around closed b.0 b.2)
+    ∙ (ap (λ s. opened_from s o.body) (now_begin (names_of around) o.begin (component_name c) o.opens)
+    ∙ stays o.holds (component_name c ∷ names_of around))))
+
+begin_fits : (n : ℕ) (c : Component) (around : List Component) (closed : Option Component) (before : List (List ℕ)) (begin : List ℕ) → Opens begin (component_name c) → length around ≤ 7 → IsOuter c around closed → Built around closed before → misplaced n (names_of around) (after false before) begin ≡ false
+begin_fits n c [] None before begin o l h b = ap (λ ls. misplaced n [] (after false ls) begin) b ∙ fine_first n begin (component_name c) o h.1
+begin_fits n c [] (Some d) before begin o l h b = let e = h.0 in cc
+begin_fits n c (x ∷ xs) closed before begin o l h b =
+    let m : length (names_of xs) < 7 = omega (arith, length-map xs component_name) in
+    fine_begin n (component_name x) (names_of xs) (after false before) begin (component_name c) o m
+
+built_none : (n : ℕ) (cs : List Component) (closed : Option Component) (done : List (List ℕ)) → Built cs closed done → any_misplaced n [] false done ≡ false
+built_none n [] None done b = ap (any_misplaced n [] false) b
+built_none n [] (Some c) done b =
+    let s = b.0 in
+    ap (any_misplaced n [] false) s.are ∙ fine_whole n [] false (component_name c) s.begin s.end s.body s.opens s.closes (stays s.holds) (fine_first n s.begin (component_name c) s.opens b.1) (fine s.holds n (component_name c) [] (omega arith))
+built_none n (c ∷ around) closed done b =
+    let o = b.1 in
+    let l = b.3 in
+    let deep : length (names_of around) + (7 - length around) ≤ 7 = omega (arith, length-map around component_name) in
+    let inner : any_misplaced n (now_open (names_of around) o.begin) true o.body ≡ false = ap (λ s. any_misplaced n s true o.body) (now_begin (names_of around) o.begin (component_name c) o.opens) ∙ fine o.holds n (component_name c) (names_of around) deep in
+    let here : any_misplaced n (names_of around) (after false b.0) (o.begin ∷ o.body) ≡ false = or_none (misplaced n (names_of around) (after false b.0) o.begin) (any_misplaced n (now_open (names_of around) o.begin) true o.body) (begin_fits n c around closed b.0 o.begin o.opens l b.4 b.2) inner in
+    ap (any_misplaced n [] false) o.are
+    ∙ none-append n [] false b.0 (o.begin ∷ o.body) (built_none n around closed b.0 b.2) (ap (λ s. any_misplaced n s (after false b.0) (o.begin ∷ o.body)) (built_opened around closed b.0 b.2) ∙ here)
+
+pub built_fits : (cs : List Component) (closed : Option Component) (done : List (List ℕ)) → Built cs closed done → all_fit [] false done ≡ true
+built_fits cs closed done b = all_fit_from [] false done (built_none 20 cs closed done b) (built_none 22 cs closed done b) (built_none 23 cs closed done b)
+
+-- what the lines so far have built
 abbrev pub State : List Component → Option Component → List (List ℕ) → List (List ℕ) → Type 0
 State cs closed left all =
-    (done : List (List ℕ)) × Built cs closed done × (done ++ left ≡ all) × (names_of cs ≡ opened done) × ((n : ℕ) → some_misplaced n (opened done) (not (is_none done)) left ≡ true → some_misplaced n [] false all ≡ true)
+    (done : List (List ℕ)) × Built cs closed done × (done ++ left ≡ all) × (names_of cs ≡ opened done)
 
 pub state_first : (items : List Component) (closed : Option Component) (left all : List (List ℕ)) → items ≡ [] → closed ≡ None → left ≡ all → State (reverse items) closed left all
 state_first items closed left all i c e =
-    rw (i, c) ([], refl, e, refl, λ n h. ap (some_misplaced n [] false) (sym e) ∙ h)
+    rw (i, c) ([], refl, e, refl)
 
 pub state_spelled : (cs : List Component) (closed : Option Component) (left all : List (List ℕ)) (c : Component) → State cs closed left all → left ≡ [] → ((done : List (List ℕ)) → Built cs closed done → SpellsOf 7 c done × IsCalendar c) → SpellsOf 7 c all × IsCalendar c
 state_spelled cs closed left all c s e h =
@@ -56,7 +91,6 @@ state_next cs ds closed after left rest all line s e b n =
       b done s.1,
       append_assoc done (line ∷ []) rest ∙ (ap (λ z. done ++ z) (sym e) ∙ s.2),
       n ∙ (ap (λ z. now_open z line) s.3 ∙ sym more),
-      λ k h. s.4 k (ap (some_misplaced k (opened done) (not (is_none done))) e ∙ later (misplaced k (opened done) (not (is_none done)) line) (some_misplaced k (now_open (opened done) line) true rest) (ap (λ z. some_misplaced k z true rest) (sym more) ∙ (ap (λ z. some_misplaced k (opened (done ++ line ∷ [])) (not z) rest) (sym (is_none-push done line)) ∙ h))),
     )
 
 -- ---- a refusal at a line
@@ -74,8 +108,10 @@ take_stands bounded octets cs closed left rest line Memory s e h = tt
 take_stands bounded octets cs closed left rest line (Refused r) s e h =
     let n = r.number in
     let here : misplaced n (opened s.0) (not (is_none s.0)) line ≡ true = ap (λ z. misplaced n z (not (is_none s.0)) line) (sym s.3) ∙ (sym (same_started cs closed s.0 n line s.1) ∙ h) in
-    let found = s.4 n (ap (some_misplaced n (opened s.0) (not (is_none s.0))) e ∙ ap (λ x. x || some_misplaced n (now_open (opened s.0) line) true rest) here) in
-    inr (inl (or_first (some_misplaced n [] false (logical_lines octets)) (eqb n 21 && not (is_none (opened (logical_lines octets)))) (eqb n 23 && is_none (logical_lines octets)) found))
+    let next : some_misplaced n (opened s.0) (not (is_none s.0)) left ≡ true = ap (some_misplaced n (opened s.0) (not (is_none s.0))) e ∙ ap (λ x. x || (fits (opened s.0) (not (is_none s.0)) line && some_misplaced n (now_open (opened s.0) line) true rest)) here in
+    let later : some_misplaced n [] false (s.0 ++ left) ≡ true = found_later n [] false s.0 left (built_fits cs closed s.0 s.1) (ap (λ b. some_misplaced n (opened s.0) b left) (after_first s.0) ∙ next) in
+    let found : some_misplaced n [] false (logical_lines octets) ≡ true = ap (some_misplaced n [] false) (sym s.2) ∙ later in
+    inr (inl (or_first (some_misplaced n [] false (logical_lines octets)) (eqb n 21 && (all_fit [] false (logical_lines octets) && not (is_none (opened (logical_lines octets))))) (eqb n 23 && is_none (logical_lines octets)) found))
 
 -- ---- a refusal after the last line
 
@@ -103,4 +139,7 @@ end_by a (c ∷ cs) closed done n b e h = ap (λ z. a || (eqb n 21 && not (is_no
 pub finish_stands : (bounded : Bool) (octets : List ℕ) (cs : List Component) (closed : Option Component) (left : List (List ℕ)) (n : ℕ) → State cs closed left (logical_lines octets) → left ≡ [] → ((eqb n 21 && not (is_none (names_of cs))) || (eqb n 23 && (is_none (names_of cs) && not (is_some closed)))) ≡ true → lines_have n (logical_lines octets) ≡ true
 finish_stands bounded octets cs closed left n s e h =
     let all : s.0 ≡ logical_lines octets = sym (append-nil s.0) ∙ (ap (λ z. s.0 ++ z) (sym e) ∙ s.2) in
-    subst (λ ls. (some_misplaced n [] false (logical_lines octets) || (eqb n 21 && not (is_none (opened ls))) || (eqb n 23 && is_none ls)) ≡ true) all (end_by (some_misplaced n [] false (logical_lines octets)) cs closed s.0 n s.1 s.3 h)
+    let a = some_misplaced n [] false (logical_lines octets) in
+    let fitting : all_fit [] false s.0 ≡ true = built_fits cs closed s.0 s.1 in
+    subst (λ ls. (a || (eqb n 21 && (all_fit [] false ls && not (is_none (opened ls)))) || (eqb n 23 && is_none ls)) ≡ true) all
+    (ap (λ f. a || (eqb n 21 && (f && not (is_none (opened s.0)))) || (eqb n 23 && is_none s.0)) fitting ∙ end_by a cs closed s.0 n s.1 s.3 h)

@@ -78,15 +78,25 @@ misplaced number stack started line =
     if is_begin line then misplaced_begin number stack started (line_value line)
     else (if is_end line then misplaced_end number stack (line_value line) else misplaced_property number stack)
 
+-- none of these faults stands at this line
+abbrev pub fits : List (List ℕ) → Bool → List ℕ → Bool
+fits stack started line = not (misplaced 20 stack started line || misplaced 22 stack started line || misplaced 23 stack started line)
+
+-- the fault of this number stands at the first line that doesn't fit
 abbrev pub some_misplaced : ℕ → List (List ℕ) → Bool → List (List ℕ) → Bool
 some_misplaced number stack started [] = false
 some_misplaced number stack started (line ∷ lines) =
-    misplaced number stack started line || some_misplaced number (now_open stack line) true lines
+    misplaced number stack started line || (fits stack started line && some_misplaced number (now_open stack line) true lines)
 
--- the fault of this number, 20 to 23, stands in the lines: one is misplaced, a component is open at the end (21), or there is none (23)
+abbrev pub all_fit : List (List ℕ) → Bool → List (List ℕ) → Bool
+all_fit stack started [] = true
+all_fit stack started (line ∷ lines) = fits stack started line && all_fit (now_open stack line) true lines
+
+-- the fault of this number, 20 to 23, stands in the lines: at the first that doesn't fit; or all fit and a component is open at
+-- the end (21); or there is no line (23)
 abbrev pub lines_have : ℕ → List (List ℕ) → Bool
 lines_have number lines =
-    some_misplaced number [] false lines || (number == 21 && not (is_none (opened lines))) || (number == 23 && is_none lines)
+    some_misplaced number [] false lines || (number == 21 && (all_fit [] false lines && not (is_none (opened lines)))) || (number == 23 && is_none lines)
 
 module _ {T : Type 0} (name : T → List ℕ) (own : T → List (List ℕ)) (inside : T → List T) where
   -- `body` spells these properties and these components, each in their order, with components at most `depth` deep
