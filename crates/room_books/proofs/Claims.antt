@@ -1,17 +1,14 @@
 -- The claims of a message: at most one, of the part and the instance of its event.
-use Rattle.std.proofs.Common.{◌≡◌, ℕ, ℤ, ◌+◌, true, false, List, [], ◌∷◌, ◌++◌, Option, None, Some, MatchOption, refl, sym, ap, ◌∙◌, subst, length, map, arith}
-use Rattle.std.specs.Prelude.{slice_get, unwrap_or, IsTrue}
+use Rattle.std.proofs.Common.{◌≡◌, ℕ, ℤ, ◌+◌, true, List, [], ◌∷◌, ◌++◌, Option, None, Some, MatchOption, refl, sym, ap, ◌∙◌, subst, length, arith}
+use Rattle.std.specs.Prelude.{slice_get, unwrap_or}
 use Rattle.std.specs.Option.{option_to_list}
 use Rattle.std.specs.Prelude.{Vec, vec_len}
 use Rattle.std.proofs.lemmas.Grind.{common_steps}
-use Rattle.std.proofs.lemmas.Bool.{both_ways}
-use Rattle.ical_values.specs.Octets.{address_octets}
 use Rattle.profile.specs.Events.{Event, booked_by}
-use Rattle.profile.specs.Instances.{Booked}
-use Rattle.profile.specs.Messages.{AreParts, IsPart}
-use Rattle.profile.specs.Revisions.{Part, Body, Whole, Set}
+use Rattle.profile.specs.Messages.{AreParts}
+use Rattle.profile.specs.Revisions.{Part, Whole}
 use Rattle.profile.specs.Rooms.{Claim, Book, is_set, is_set_body}
-use Rattle.itip_order.specs.Parts.{part_of, parts_of}
+use Rattle.itip_order.specs.Parts.{parts_of}
 use Rattle.itip_order.specs.declared.part.Part.{Part as HeldPart}
 use Rattle.itip_messages.specs.declared.message.Message.{Message}
 use Rattle.itip_messages.specs.declared.message.MessageComponent.{MessageComponent}
@@ -22,8 +19,10 @@ use Rattle.room_books.specs.declared.meeting.Span.{Span}
 use Rattle.room_books.specs.declared.answer.Answer.{Answer}
 use Rattle.room_books.specs.declared.answer.Kind.{Kind}
 use Rattle.room_books.specs.declared.answer.Kind.TheVariants.{NotAddressed}
-use Rattle.room_books.specs.Takings.{kind_view}
-use Rattle.room_books.specs.Standing.{Stands, StepsTo, claim_of, part_list, span_said, AreClaims}
+use Rattle.room_books.specs.Takings.{kind_view, reply_octets}
+use Rattle.profile.specs.Kept.{IsReply}
+use Rattle.std.specs.Option.{IfSome}
+use Rattle.room_books.specs.Standing.{Stands, StepsTo, StepsWith, claim_of, part_list, span_said, AreClaims}
 use Rattle.room_books.proofs.Steps.{none_steps}
 
 -- where a list with at most one part loses its last, that is the one
@@ -74,8 +73,13 @@ claims_are room event p span h is =
       books = λ i. record { part = p; books = record { key = record { organiser = organiser i; uid = h.1.uid i; slot = start i }; start = start i; end = end i } ∷ [] } ∷ [];
     }
 
+no_reply : (reply : Option (List ℕ)) → reply ≡ None → (P : List ℕ → Type 0) → IfSome reply P
+no_reply None e P = tt
+no_reply (Some v) e P = absurd (cc)
+
 -- a message with no part for the room
-pub none_claimed : (room : List ℕ) (event : Event) (entries : List (MeetingKey × Meeting)) (moment : ℤ) (answer : Answer) (book : Book) → AreParts room event [] → answer.kind ≡ NotAddressed → Stands entries book
-    → (claims : List Claim) × AreClaims room event claims × StepsTo entries book claims moment (kind_view answer.kind)
-none_claimed room event entries moment answer book h e st =
-    ([], record { parts = []; are = h; books = refl }, subst (λ (x : Kind). StepsTo entries book [] moment (kind_view x)) (sym e) (none_steps entries moment book st))
+pub none_claimed : (room : List ℕ) (event : Event) (entries : List (MeetingKey × Meeting)) (moment : ℤ) (answer : Answer) (book : Book) → AreParts room event [] → answer.kind ≡ NotAddressed → reply_octets answer ≡ None → Stands entries book
+    → (claims : List Claim) × AreClaims room event claims × StepsWith room entries book claims moment (kind_view answer.kind) (reply_octets answer)
+none_claimed room event entries moment answer book h e n st =
+    let s = subst (λ (x : Kind). StepsTo entries book [] moment (kind_view x)) (sym e) (none_steps entries moment book st) in
+    ([], record { parts = []; are = h; books = refl }, record { steps = s; replies = no_reply (reply_octets answer) n (IsReply room s.after []) })

@@ -8,3 +8,4 @@ pub mod Partition
 pub mod Stepping
 pub mod Steps
 pub mod Claims
+pub mod Replying

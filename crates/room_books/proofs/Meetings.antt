@@ -1,26 +1,26 @@
 -- Parts of one meeting, and what one part more does to the view of them.
-use Rattle.std.proofs.Common.{◌≡◌, ℕ, Bool, true, false, not, ◌&&◌, ◌||◌, cond, List, [], ◌∷◌, ◌++◌, ◌⊎◌, inl, inr, refl, sym, ap, ◌∙◌, subst}
-use Rattle.std.specs.Ordering.{is_eq, is_le, nat_cmp, ordering_then}
+use Rattle.std.proofs.Common.{◌≡◌, Bool, true, false, ◌&&◌, cond, List, [], ◌∷◌, ◌++◌, inl, inr, refl, sym, ap, ◌∙◌, subst}
+use Rattle.std.specs.Ordering.{is_eq, is_le, ordering_then}
 use Rattle.std.specs.Str.{bytes_eq}
 use Rattle.std.specs.List.{Contains, filter, flat_map, list_all}
 use Rattle.std.specs.Cmp.{both_ways as same_tests}
 use Rattle.std.specs.FinMap.{nat_cmp-IsAntisymmetric, slice_cmp-IsAntisymmetric}
-use Rattle.std.proofs.lemmas.Bool.{true≢false, and_parts, and_from, and_right, both_ways, cases_Bool, false_from_ne_true}
+use Rattle.std.proofs.lemmas.Bool.{and_parts, and_from, and_right, both_ways, cases_Bool}
 use Rattle.std.proofs.Math.Bool.{and-true}
 use Rattle.std.proofs.lemmas.List.{append-nil}
 use Rattle.std.proofs.lemmas.List.Elements.{filter-append, Contains-append_left, Contains-push, Contains-push_cases}
 use Rattle.std.proofs.lemmas.Slice.Eq.{bytes_eq-Decides}
 use Rattle.ical_values.specs.Octets.{address_octets, text_octets}
 use Rattle.profile.specs.Instances.{Booked}
-use Rattle.profile.specs.Revisions.{Part, Whole, Slot, octets_cmp, slot_cmp, meeting_cmp, place_cmp, part_cmp, same_place, is_whole, is_greatest, implies, allows, in_view, same_meeting, stands_beside}
+use Rattle.profile.specs.Revisions.{Part, Whole, Slot, octets_cmp, slot_cmp, meeting_cmp, part_cmp, same_place, is_whole, is_greatest, implies, allows, in_view, same_meeting, stands_beside}
 use Rattle.profile.specs.Rooms.{Answer, is_accept, is_confirmed, confirmed_in}
 use Rattle.itip_order.proofs.Lists.{all_from, in_head, in_tail, filter_at, filter_from}
 use Rattle.itip_order.proofs.Order.{is_eq_true, then_equal}
-use Rattle.itip_order.proofs.Registers.{Greatest, greatest_at, greatest_from, greatest_unique, eq_refl, place_sym, place_trans, part_le_trans, implies_from}
+use Rattle.itip_order.proofs.Registers.{greatest_at, greatest_from, greatest_unique, eq_refl, place_sym, place_trans, part_le_trans, implies_from}
 use Rattle.room_books.specs.declared.meeting.MeetingKey.{MeetingKey}
 use Rattle.room_books.specs.declared.meeting.Span.{Span}
 use Rattle.room_books.specs.Views.{same_key, booked_of}
-use Rattle.room_books.specs.Standing.{is_of, of_meeting, answers_of}
+use Rattle.room_books.specs.Standing.{is_of, of_meeting}
 use Rattle.room_books.proofs.Views.{le_unless, part_le_refl, or_first, view_back}
 
 pub is_of_parts : (k : MeetingKey) (p : Part) → is_of k p ≡ true → (address_octets k.organiser ≡ p.organiser) × (text_octets k.uid ≡ p.uid)
@@ -59,7 +59,7 @@ whole_is : (p : Part) → p.slot ≡ Whole → is_whole p ≡ true
 whole_is p e = ap (λ (s : Slot). is_eq (slot_cmp s Whole)) e
 
 -- a Whole is in the view where it is the greatest
-view_whole : (h : List Part) (p : Part) → p.slot ≡ Whole → in_view h p ≡ is_greatest h p
+pub view_whole : (h : List Part) (p : Part) → p.slot ≡ Whole → in_view h p ≡ is_greatest h p
 view_whole h p e =
     let all : list_all (λ whole. implies (is_greatest h whole) (allows whole p)) h ≡ true = all_from (λ whole. implies (is_greatest h whole) (allows whole p)) h (λ w c. implies_from (is_greatest h w) (allows w p) (λ g. or_first (is_whole p) (implies (is_whole w && same_meeting w p) (stands_beside w p)) (whole_is p e))) in
     ap (λ b. is_greatest h p && b) all ∙ and-true (is_greatest h p)
@@ -98,7 +98,7 @@ of_more_other k h q e = filter-append (is_of k) h (q ∷ []) ∙ ap (λ b. of_me
 pub view_other : (k : MeetingKey) (h : List Part) (q p : Part) → p.slot ≡ Whole → is_of k p ≡ true → is_of k q ≡ false → in_view (h ++ q ∷ []) p ≡ in_view h p
 view_other k h q p w e f = sym (view_of k (h ++ q ∷ []) p w e) ∙ ap (λ (l : List Part). in_view l p) (of_more_other k h q f) ∙ view_of k h p w e
 
-place_whole : (k : MeetingKey) (p q : Part) → is_of k p ≡ true → is_of k q ≡ true → p.slot ≡ Whole → q.slot ≡ Whole → same_place p q ≡ true
+pub place_whole : (k : MeetingKey) (p q : Part) → is_of k p ≡ true → is_of k q ≡ true → p.slot ≡ Whole → q.slot ≡ Whole → same_place p q ≡ true
 place_whole k p q e f w v =
     let a = is_of_parts k p e in
     let b = is_of_parts k q f in

@@ -1,33 +1,32 @@
 -- A part that is taken is a step of the room machine: what was decided, and what the meetings stand for afterwards.
-use Rattle.std.proofs.Common.{◌≡◌, ◌≢◌, ℕ, ℤ, ◌+◌, ◌<◌, ◌≤◌, Bool, true, false, not, ◌&&◌, cond, List, [], ◌∷◌, ◌++◌, ◌⊎◌, inl, inr, Option, None, Some, refl, sym, ap, ◌∙◌, subst, length, map, arith, length-append, append-nil}
+use Rattle.std.proofs.Common.{◌≡◌, ◌≢◌, ℤ, ◌<◌, ◌≤◌, Bool, true, false, not, cond, List, [], ◌∷◌, ◌++◌, inl, inr, Option, None, Some, refl, sym, ap, ◌∙◌, subst, length, arith, length-append}
 use Rattle.std.proofs.lemmas.Int.{ints}
-use Rattle.std.specs.Prelude.{◌≤ℤ◌, MatchBool, nat_lt, IsTrue}
+use Rattle.std.specs.Prelude.{◌≤ℤ◌}
 use Rattle.std.specs.Cmp.{IsEquivalence, both_ways as same_tests}
 use Rattle.std.specs.declared.cmp.Ordering.{Ordering}
 use Rattle.std.specs.declared.cmp.Ordering.TheVariants.{Less, Equal, Greater}
-use Rattle.std.specs.Ordering.{int_cmp, ordering_then, is_lt, MatchOrdering}
+use Rattle.std.specs.Ordering.{int_cmp, ordering_then, is_lt}
 use Rattle.std.specs.List.{Contains, filter, flat_map, IsDistinct}
 use Rattle.std.specs.Map.{keys_of, lookup}
 use Rattle.std.proofs.lemmas.Cmp.{int_ranked}
 use Rattle.std.proofs.lemmas.Bool.{true≢false, cases_Bool, both_ways, not-true, false_from_ne_true, and_parts, MatchBool-at_true, MatchBool-at_false}
-use Rattle.std.proofs.lemmas.List.Elements.{filter-append, Contains-append_left, Contains-append_right, Contains-append_cases, Contains-push, Contains-push_cases}
+use Rattle.std.proofs.lemmas.List.Elements.{Contains-append_left, Contains-append_cases, Contains-push, Contains-push_cases}
 use Rattle.std.proofs.lemmas.Map.Made.{IsDistinct-keys_filter}
 use Rattle.std.proofs.lemmas.Map.Views.{lookup-from_Contains}
-use Rattle.ical_values.specs.Octets.{address_octets, text_octets}
 use Rattle.clash_cert.specs.declared.making.Clash.{Clash}
-use Rattle.clash_cert.specs.Makings.{key_of, HasKeys, AreNamed}
+use Rattle.clash_cert.specs.Makings.{key_of, HasKeys}
 use Rattle.itip_order.proofs.Lists.{in_cons, in_head, in_tail, none_in_nil, filter_at, filter_from}
-use Rattle.profile.specs.Instances.{Key, Booked, IsClash, IsClear, IsWithin, key_cmp, booked_cmp}
+use Rattle.profile.specs.Instances.{Key, Booked, IsClear, IsWithin, key_cmp, booked_cmp}
 use Rattle.profile.specs.Revisions.{Part, Whole, in_view}
-use Rattle.profile.specs.Rooms.{Claim, Answer, Book, Decides, NamesClash, most_singles, confirmed, confirmed_in, is_confirmed}
+use Rattle.profile.specs.Rooms.{Answer, Book, Decides, NamesClash, most_singles, confirmed_in}
 use Rattle.room_books.specs.declared.meeting.MeetingKey.{MeetingKey}
 use Rattle.room_books.specs.declared.meeting.Meeting.{Meeting}
 use Rattle.room_books.specs.declared.meeting.Span.{Span}
 use Rattle.room_books.specs.declared.meeting.Outcome.{Outcome}
 use Rattle.room_books.specs.declared.meeting.Outcome.TheVariants.{Accepted, Declined, Limit}
 use Rattle.room_books.specs.declared.answer.LimitKind.TheVariants.{Series, Singles}
-use Rattle.room_books.specs.Views.{same_key, is_other, booked_of, booked_list, confirmed_of, confirmed_span, outcome_of, others, span_of, HaveInstant, IsLater, IsFree, IsClashWith, IsDecision}
-use Rattle.room_books.specs.Standing.{is_of, of_meeting, answers_of, Meets, MeetsAt, Covers, Stands}
+use Rattle.room_books.specs.Views.{same_key, is_other, booked_of, booked_list, confirmed_of, confirmed_span, outcome_of, others, span_of, IsLater, IsFree, IsClashWith, IsDecision}
+use Rattle.room_books.specs.Standing.{is_of, answers_of, MeetsAt, Stands}
 use Rattle.room_books.proofs.Keys.{key_congr}
 use Rattle.room_books.proofs.Meetings.{key_parts, key_from, is_of_same, one_meeting, view_other, view_stays, view_goes, confirmed_same, confirmed_none}
 use Rattle.room_books.proofs.Partition.{AreSame, partition}

@@ -1,11 +1,10 @@
 -- The room after a part stands for the book after the step.
-use Rattle.std.proofs.Common.{◌≡◌, ℕ, ℤ, Bool, true, false, not, ◌&&◌, ◌||◌, cond, List, [], ◌∷◌, ◌++◌, ◌⊎◌, inl, inr, Option, None, Some, refl, sym, ap, ◌∙◌, subst, length, append-nil, arith}
-use Rattle.std.specs.Prelude.{nat_lt, IsTrue, if◌then◌else◌}
+use Rattle.std.proofs.Common.{◌≡◌, ℕ, ℤ, Bool, true, false, not, ◌&&◌, ◌||◌, cond, List, [], ◌∷◌, ◌++◌, inl, inr, Option, None, Some, refl, sym, ap, ◌∙◌, subst, length, append-nil, arith, codes}
+use Rattle.std.specs.Prelude.{nat_lt, IsTrue, if◌then◌else◌, unwrap_or, IfSome, option_map}
 use Rattle.std.specs.List.{Contains, filter, flat_map, IsDistinct}
 use Rattle.std.specs.Map.{keys_of, lookup}
-use Rattle.std.proofs.lemmas.Bool.{true≢false, cases_Bool, both_ways, false_from_ne_true}
-use Rattle.std.proofs.lemmas.List.Elements.{filter-append, Contains-push_cases}
-use Rattle.ical_values.specs.Octets.{address_octets, text_octets}
+use Rattle.std.proofs.lemmas.Bool.{true≢false, cases_Bool, false_from_ne_true, and_from}
+use Rattle.std.proofs.lemmas.List.Elements.{filter-append, Contains-append_left, Contains-push, Contains-push_cases}
 use Rattle.itip_order.specs.Registers.{StandsFor}
 use Rattle.itip_order.specs.Parts.{part_of}
 use Rattle.itip_order.specs.Freshness.{IsFreshness}
@@ -13,10 +12,19 @@ use Rattle.itip_order.specs.declared.held.Freshness.{Freshness}
 use Rattle.itip_order.specs.declared.held.Freshness.TheVariants.{Fresh, Same, Stale}
 use Rattle.itip_order.proofs.Lists.{none_in_nil, filter_at, filter_from}
 use Rattle.profile.specs.Instances.{Booked}
-use Rattle.profile.specs.Revisions.{Part, Whole, in_view}
+use Rattle.profile.specs.Revisions.{Part, Whole, in_view, same_part}
 use Rattle.profile.specs.Messages as messages
 use Rattle.profile.specs.Rooms.{Claim, Answer, Book, empty_book, Decides, confirmed, confirmed_in, is_accept, is_set, asked, answered, IsStep, kind_of, kind_of_outcome, Kind, Withdrawn, Repeated}
 use Rattle.profile.specs.Rooms as rooms
+use Rattle.profile.specs.Rooms.{shown}
+use Rattle.profile.specs.Kept.{IsReply, ShowsAnswer, written}
+use Rattle.profile.specs.Messages.{IsReplyEvent, object_lines}
+use Rattle.std.specs.Ordering.{is_eq}
+use Rattle.std.specs.List.{AllZip}
+use Rattle.std.proofs.lemmas.Cmp.{tied_itself}
+use Rattle.itip_order.proofs.Order.{part_total}
+use Rattle.itip_order.proofs.Registers.{greatest_at, greatest_unique, eq_refl}
+use Rattle.room_books.specs.Replying.{IsReplyOf, TellsDecided}
 use Rattle.room_books.specs.declared.meeting.MeetingKey.{MeetingKey}
 use Rattle.room_books.specs.declared.meeting.Meeting.{Meeting}
 use Rattle.room_books.specs.declared.meeting.Decided.{Decided}
@@ -24,16 +32,13 @@ use Rattle.room_books.specs.declared.meeting.Span.{Span}
 use Rattle.room_books.specs.declared.meeting.Outcome.{Outcome}
 use Rattle.room_books.specs.declared.meeting.Outcome.TheVariants.{Accepted, Declined, Limit}
 use Rattle.room_books.specs.declared.answer.LimitKind.TheVariants.{Series, Singles}
-use Rattle.room_books.specs.declared.answer.Answer.{Answer as Replied}
-use Rattle.room_books.specs.declared.answer.Kind.{Kind as ToldKind}
-use Rattle.room_books.specs.declared.answer.Kind.TheVariants.{NotAddressed}
 use Rattle.room_books.specs.declared.taking.Asked.{Asked}
 use Rattle.room_books.specs.declared.taking.Taken.{Taken}
-use Rattle.room_books.specs.Views.{IsKeyOf, same_key, booked_of, booked_list, confirmed_span, accepted_span, span_where, outcome_of, others, IsDecision}
-use Rattle.room_books.specs.Takings.{StandsAt, Told, told_in, told_by, DecidedAfter, IsMeetingAfter, kind_after, kind_view}
-use Rattle.room_books.specs.Standing.{is_of, of_meeting, answers_of, Meets, MeetsAt, Covers, Stands, claim_of, StepsTo}
-use Rattle.room_books.proofs.Runs.{IsSound, within_good, confirmed_back, confirmed_split, step_sound}
-use Rattle.room_books.proofs.Meetings.{key_from, is_of_parts, is_of_from, is_of_same, booked_same, view_of, of_more_own, of_more_other, confirmed_none}
+use Rattle.room_books.specs.Views.{IsKeyOf, same_key, booked_of, booked_list, confirmed_span, span_where, outcome_of, others, IsDecision}
+use Rattle.room_books.specs.Takings.{StandsAt, Told, told, told_in, told_by, DecidedAfter, IsMeetingAfter, kind_after}
+use Rattle.room_books.specs.Standing.{is_of, of_meeting, answers_of, Meets, MeetsAt, Covers, Stands, HasTold, claim_of, StepsTo, StepsWith}
+use Rattle.room_books.proofs.Runs.{within_good, confirmed_back, confirmed_split, step_sound}
+use Rattle.room_books.proofs.Meetings.{key_from, is_of_parts, is_of_from, is_of_same, booked_same, view_of, of_more_own, of_more_other, confirmed_none, view_other, view_stays, place_whole, view_whole}
 use Rattle.room_books.proofs.Stepping.{decides, others_differ, other_of, others_stay, own_stays, own_goes, others_same}
 
 -- what an answer confirms can be told from the answer
@@ -79,11 +84,15 @@ module _ (entries entries' : List (MeetingKey × Meeting)) (book : Book) (k : Me
   -- where the new answers are of the part's own meeting, and the meeting confirms what they do, the room stands for the book
   module _ (new : List Answer) (outcome : messages.Outcome) (step : IsStep book (own_claim ∷ []) moment outcome (after new))
       (new_of : (q : MeetingKey) → is_of q p ≡ false → answers_of q new ≡ [])
-      (own : confirmed_in (book.taken ++ p ∷ []) (answers_of k (book.answers ++ new)) ≡ booked_list k (confirmed_span m.decided)) where
+      (own : confirmed_in (book.taken ++ p ∷ []) (answers_of k (book.answers ++ new)) ≡ booked_list k (confirmed_span m.decided))
+      (own_told : (t : Told) → told_in m.decided ≡ Some t → HasTold (after new) k t) where
     here : (q : MeetingKey) → same_key k q ≡ true → Meets (after new) q m
     here q e = record {
       held = subst (StandsFor m.held) (sym (of_same k q (book.taken ++ p ∷ []) e ∙ of_more_own k book.taken p of_k)) held;
       confirmed = ap (confirmed_in (book.taken ++ p ∷ [])) (answers_same k q (book.answers ++ new) e) ∙ own ∙ list_same k q (confirmed_span m.decided) e;
+      answered = λ t h.
+          let o = own_told t h in
+          record { given = o.given; kept = o.kept; of_it = sym (is_of_same k q o.given.claim.part e) ∙ o.of_it; seen = o.seen; moment = o.moment; outcome = o.outcome };
     }
 
     there : (q : MeetingKey) → same_key k q ≡ false → (o : Option Meeting) → MeetsAt book q o → MeetsAt (after new) q o
@@ -95,6 +104,16 @@ module _ (entries entries' : List (MeetingKey × Meeting)) (book : Book) (k : Me
           confirmed =
               ap (confirmed_in (book.taken ++ p ∷ [])) (filter-append (λ a. is_of q a.claim.part) book.answers new ∙ ap (λ l. answers_of q book.answers ++ l) (new_of q not_of) ∙ append-nil (answers_of q book.answers))
               ∙ others_stay entries book k p st distinct of_k w q d ∙ h.confirmed;
+          answered = λ t g.
+              let o = h.answered t g in
+              record {
+                given = o.given;
+                kept = Contains-append_left book.answers new o.given o.kept;
+                of_it = o.of_it;
+                seen = view_other q book.taken p o.given.claim.part (st.whole o.given.claim.part (st.known o.given o.kept)) o.of_it not_of ∙ o.seen;
+                moment = o.moment;
+                outcome = o.outcome;
+              };
         }
 
     covers : (part : Part) → Covers entries part → Covers entries' part
@@ -190,13 +209,25 @@ module _ (entries entries' : List (MeetingKey × Meeting)) (book : Book) (k : Me
         ∙ ap (λ s. booked_list k (span_where s d.outcome)) (sym same_span)
         ∙ ap (λ o. booked_list k (confirmed_span o)) (sym is_decided)
 
+    fresh_told : (t : Told) → told_in m.decided ≡ Some t → HasTold (after (new_answer ∷ [])) k t
+    fresh_told t h =
+        let e : told d ≡ t = ap (λ o. unwrap_or o t) (sym (ap told_in is_decided) ∙ h) in
+        record {
+          given = new_answer;
+          kept = Contains-push book.answers new_answer;
+          of_it = of_k;
+          seen = fresh;
+          moment = sym at ∙ ap (λ (x : Told). x.moment) e;
+          outcome = ap (λ (x : Told). x.outcome) e;
+        }
+
     pub fresh_steps : StepsTo entries' book (own_claim ∷ []) moment (kind_after Fresh (Some d))
     unfolding asked_at kind_at kind_is_at
     fresh_steps = record {
       outcome = outcome_of d.outcome;
       after = after (new_answer ∷ []);
       step = fresh_step;
-      stands = stands_after (new_answer ∷ []) (outcome_of d.outcome) fresh_step (λ q n. ap (λ b. cond b (new_answer ∷ []) []) n) fresh_own;
+      stands = stands_after (new_answer ∷ []) (outcome_of d.outcome) fresh_step (λ q n. ap (λ b. cond b (new_answer ∷ []) []) n) fresh_own fresh_told;
       kind_is = sym (kind_is_at (outcome_of d.outcome) ∙ (λ i. kind_at (set i) (fresh i) (before i) (outcome_of d.outcome)));
     }
 
@@ -237,13 +268,30 @@ module _ (entries entries' : List (MeetingKey × Meeting)) (book : Book) (k : Me
         ∙ ap (λ t. booked_list k (told_span t)) (sym kept)
         ∙ ap (booked_list k) (sym (span_told m.decided))
 
+    told_before : (o : Option Meeting) → MeetsAt book k o → (t : Told) → told_by o ≡ Some t → HasTold (after []) k t
+    told_before None h t e = absurd (cc)
+    told_before (Some x) h t e =
+        let o = h.answered t e in
+        let taken = st.known o.given o.kept in
+        record {
+          given = o.given;
+          kept = Contains-append_left book.answers [] o.given o.kept;
+          of_it = o.of_it;
+          seen = view_stays k book.taken p o.given.claim.part taken (st.whole o.given.claim.part taken) w o.of_it of_k (λ n. seen_before ∙ was_seen a b not_fresh (sym seen_after ∙ n)) ∙ o.seen;
+          moment = o.moment;
+          outcome = o.outcome;
+        }
+
+    old_told : (t : Told) → told_in m.decided ≡ Some t → HasTold (after []) k t
+    old_told t h = told_before (lookup (same_key k) entries) (st.meets k) t (sym kept ∙ h)
+
     old_steps : (kind : Kind) → kind ≡ kind_at true a b messages.Accept → StepsTo entries' book (own_claim ∷ []) moment kind
     unfolding kind_is_at
     old_steps kind is = record {
       outcome = messages.Accept;
       after = after [];
       step = old_step;
-      stands = stands_after [] messages.Accept old_step (λ q n. refl) old_own;
+      stands = stands_after [] messages.Accept old_step (λ q n. refl) old_own old_told;
       kind_is = is ∙ sym (kind_is_at messages.Accept ∙ (λ i. kind_at (set i) (seen_after i) (seen_before i) messages.Accept));
     }
 
@@ -287,6 +335,84 @@ part_steps entries entries' asks taken kind distinct key whole set after updates
     (steps_by entries entries' book k p asks.span asks.moment taken.meeting st distinct of_k whole set (after.held (of_meeting k book.taken) before) updates asks refl refl refl
     taken.freshness taken.meeting.decided refl (after.fresh (of_meeting k book.taken) before) after.decided)
 
+-- what a reply tells of a part that is in the view is what the book after has
+view_unique : (k : MeetingKey) (h : List Part) (p q : Part) → p.slot ≡ Whole → q.slot ≡ Whole → is_of k p ≡ true → is_of k q ≡ true → in_view h p ≡ true → in_view h q ≡ true → p ≡ q
+view_unique k h p q w v e f x y = greatest_unique h p q (greatest_at h p (sym (view_whole h p w) ∙ x)) (greatest_at h q (sym (view_whole h q v) ∙ y)) (place_whole k p q e f w v)
+
+same_part_itself : (p : Part) → same_part p p ≡ true
+same_part_itself p = and_from _ _ (eq_refl p) (ap is_eq (tied_itself part_total p))
+
+if_some_more : (o : Option (List ℕ)) (P Q : List ℕ → Type 0) → ((x : List ℕ) → P x → Q x) → IfSome o P → IfSome o Q
+if_some_more None P Q f h = h
+if_some_more (Some x) P Q f h = f x h
+
+-- a part that is fresh or the same is in the view of the book after
+seen_now : (entries' : List (MeetingKey × Meeting)) (asks : Asked) (kind : Kind) (book : Book) → (part_of asks.part.now).slot ≡ Whole → is_of asks.key.now (part_of asks.part.now) ≡ true
+    → (s : StepsTo entries' book (claim_of (part_of asks.part.now) asks.span ∷ []) asks.moment kind) → in_view (of_meeting asks.key.now book.taken ++ part_of asks.part.now ∷ []) (part_of asks.part.now) ≡ true → in_view s.after.taken (part_of asks.part.now) ≡ true
+seen_now entries' asks kind book whole of_k s seen =
+    let p = part_of asks.part.now in
+    let k = asks.key.now in
+    ap (λ (l : List Part). in_view l p) s.step.taken ∙ sym (view_of k (book.taken ++ p ∷ []) p whole of_k) ∙ ap (λ (l : List Part). in_view l p) (of_more_own k book.taken p of_k) ∙ seen
+
+reply_shows : (room : List ℕ) (entries entries' : List (MeetingKey × Meeting)) (asks : Asked) (taken : Taken) (kind : Kind) (book : Book) (octets : List ℕ) (d : Decided) (whole : (part_of asks.part.now).slot ≡ Whole) (set : is_set (part_of asks.part.now) ≡ true)
+    → (of_k : is_of asks.key.now (part_of asks.part.now) ≡ true) (found : lookup (same_key asks.key.now) entries' ≡ Some taken.meeting) → taken.meeting.decided ≡ Some d
+    → (s : StepsTo entries' book (claim_of (part_of asks.part.now) asks.span ∷ []) asks.moment kind) → in_view s.after.taken (part_of asks.part.now) ≡ true
+    → IsReplyOf room (part_of asks.part.now) (told d) octets → IsReply room s.after (claim_of (part_of asks.part.now) asks.span ∷ []) octets
+reply_shows room entries entries' asks taken kind book octets d whole set of_k found decided s seen reply =
+    let p = part_of asks.part.now in
+    let k = asks.key.now in
+    let meets = subst (MeetsAt s.after k) found (s.stands.meets k) in
+    let o = meets.answered (told d) (ap told_in decided) in
+    let w = s.stands.whole o.given.claim.part (s.stands.known o.given o.kept) in
+    let same : o.given.claim.part ≡ p = view_unique k s.after.taken o.given.claim.part p w whole o.of_it of_k o.seen seen in
+    let c : Claim = claim_of p asks.span in
+    let shows : ShowsAnswer room s.after c reply.lines = record {
+      answer = o.given;
+      kept = o.kept;
+      of_part = ap (λ (x : Part). same_part x p) same ∙ same_part_itself p;
+      shows = subst (λ (m : ℤ). IsReplyEvent room p m o.given.outcome reply.lines) (sym o.moment) (subst (λ (x : messages.Outcome). IsReplyEvent room p d.moment x reply.lines) (sym o.outcome) reply.event);
+    } in
+    let is_shown : c ∷ [] ≡ shown s.after.taken (c ∷ []) = λ i. cond (sym set i && sym seen i) (c ∷ []) [] in
+    record {
+      events = reply.lines ∷ [];
+      each = subst (λ (l : List Claim). AllZip (ShowsAnswer room s.after) l (reply.lines ∷ [])) is_shown (shows, tt);
+      is = reply.is ∙ ap (λ l. written (object_lines (Some (codes "REPLY")) l)) (sym (append-nil reply.lines));
+    }
+
+told_shows : (room : List ℕ) (entries entries' : List (MeetingKey × Meeting)) (asks : Asked) (taken : Taken) (kind : Kind) (book : Book) (octets : List ℕ) (f : Freshness) (dec : Option Decided) (whole : (part_of asks.part.now).slot ≡ Whole) (set : is_set (part_of asks.part.now) ≡ true)
+    → (of_k : is_of asks.key.now (part_of asks.part.now) ≡ true) (found : lookup (same_key asks.key.now) entries' ≡ Some taken.meeting) → taken.meeting.decided ≡ dec
+    → (s : StepsTo entries' book (claim_of (part_of asks.part.now) asks.span ∷ []) asks.moment kind) → IsFreshness f (of_meeting asks.key.now book.taken) (part_of asks.part.now)
+    → TellsDecided room (part_of asks.part.now) f dec octets → IsReply room s.after (claim_of (part_of asks.part.now) asks.span ∷ []) octets
+told_shows room entries entries' asks taken kind book octets Fresh None whole set of_k found e s f h = absurd h
+told_shows room entries entries' asks taken kind book octets Fresh (Some d) whole set of_k found e s f h = reply_shows room entries entries' asks taken kind book octets d whole set of_k found e s (seen_now entries' asks kind book whole of_k s f.0) h
+told_shows room entries entries' asks taken kind book octets Same None whole set of_k found e s f h = absurd h
+told_shows room entries entries' asks taken kind book octets Same (Some d) whole set of_k found e s f h = reply_shows room entries entries' asks taken kind book octets d whole set of_k found e s (seen_now entries' asks kind book whole of_k s f.0) h
+told_shows room entries entries' asks taken kind book octets Stale dec whole set of_k found e s f h = absurd h
+
+pub part_steps_with : (room : List ℕ) (entries entries' : List (MeetingKey × Meeting)) (asks : Asked) (taken : Taken) (kind : Kind) (reply : Option (List ℕ)) → IsDistinct same_key (keys_of entries)
+    → IsKeyOf (part_of asks.part.now).organiser (part_of asks.part.now).uid asks.key.now → (part_of asks.part.now).slot ≡ Whole → is_set (part_of asks.part.now) ≡ true
+    → IsMeetingAfter (lookup (same_key asks.key.now) entries) entries asks taken
+    → ((q : MeetingKey) → lookup (same_key q) entries' ≡ cond (same_key asks.key.now q) (Some taken.meeting) (lookup (same_key q) entries))
+    → kind ≡ kind_after taken.freshness taken.meeting.decided
+    → IfSome reply (TellsDecided room (part_of asks.part.now) taken.freshness taken.meeting.decided)
+    → (book : Book) → Stands entries book → StepsWith room entries' book (claim_of (part_of asks.part.now) asks.span ∷ []) asks.moment kind reply
+part_steps_with room entries entries' asks taken kind reply distinct key whole set after updates kind_is tells book st =
+    let k = asks.key.now in
+    let s = part_steps entries entries' asks taken kind distinct key whole set after updates kind_is book st in
+    let of_k : is_of k (part_of asks.part.now) ≡ true = is_of_from k (part_of asks.part.now) key.organiser_is key.uid_is in
+    let found : lookup (same_key k) entries' ≡ Some taken.meeting = updates k ∙ ap (λ b. cond b (Some taken.meeting) (lookup (same_key k) entries)) (key_from k k refl refl) in
+    let fresh = after.fresh (of_meeting k book.taken) (stands_at book k (lookup (same_key k) entries) (st.meets k)) in
+    record {
+      steps = s;
+      replies = if_some_more reply (TellsDecided room (part_of asks.part.now) taken.freshness taken.meeting.decided) (IsReply room s.after (claim_of (part_of asks.part.now) asks.span ∷ []))
+          (λ octets h. told_shows room entries entries' asks taken kind book octets taken.freshness taken.meeting.decided whole set of_k found refl s fresh h) tells;
+    }
+
+-- a fact of what is in an option, of the octets of that
+pub if_some_map : {V : Type 0} (octets : V → List ℕ) (o : Option V) (P : List ℕ → Type 0) → IfSome o (λ v. P (octets v)) → IfSome (option_map octets o) P
+if_some_map octets None P h = h
+if_some_map octets (Some v) P h = h
+
 -- a message with no part is a step that changes nothing
 pub none_steps : (entries : List (MeetingKey × Meeting)) (moment : ℤ) (book : Book) → Stands entries book → StepsTo entries book [] moment rooms.NotAddressed
 none_steps entries moment book st = record {
@@ -311,6 +437,3 @@ empty_stands entries e = subst (λ (l : List (MeetingKey × Meeting)). Stands l 
   few = omega arith;
   meets = λ k. refl;
 }
-
-pub not_addressed : (entries : List (MeetingKey × Meeting)) (moment : ℤ) (reply : Replied) → reply.kind ≡ NotAddressed → (book : Book) → Stands entries book → (claims : List Claim) × StepsTo entries book claims moment (kind_view reply.kind)
-not_addressed entries moment reply e book st = ([], subst (λ (x : ToldKind). StepsTo entries book [] moment (kind_view x)) (sym e) (none_steps entries moment book st))

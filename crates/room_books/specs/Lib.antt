@@ -1,3 +1,4 @@
 pub mod Views
 pub mod Takings
 pub mod Standing
+pub mod Replying

@@ -1,11 +1,11 @@
 -- What the meetings of a room stand for: the parts that were taken, and the answers to them.
-use Rattle.std.specs.Prelude.{◌≡◌, ℕ, ℤ, ◌≤◌, Bool, true, ◌&&◌, List, [], ◌∷◌, length, map, filter, Contains, Option, Some, None}
+use Rattle.std.specs.Prelude.{◌≡◌, ℕ, ℤ, ◌≤◌, Bool, true, ◌&&◌, List, [], ◌∷◌, length, map, filter, Contains, Option, Some, None, IfSome}
 use Rattle.std.specs.Str.{bytes_eq}
 use Rattle.std.specs.Map.{lookup}
 use Rattle.ical_values.specs.Octets.{address_octets, text_octets}
 use Rattle.itip_order.specs.Registers.{StandsFor}
-use Rattle.profile.specs.Instances.{Booked, IsClear}
-use Rattle.profile.specs.Revisions.{Part, Whole}
+use Rattle.profile.specs.Instances.{IsClear}
+use Rattle.profile.specs.Revisions.{Part, Whole, in_view}
 use Rattle.profile.specs.Messages.{Outcome, AreParts}
 use Rattle.profile.specs.Events.{Event, booked_by}
 use Rattle.itip_order.specs.Parts.{part_of}
@@ -14,6 +14,8 @@ use Rattle.profile.specs.Rooms.{Claim, Answer, Book, Kind, confirmed, confirmed_
 use Rattle.room_books.specs.declared.meeting.MeetingKey.{MeetingKey}
 use Rattle.room_books.specs.declared.meeting.Meeting.{Meeting}
 use Rattle.room_books.specs.declared.meeting.Span.{Span}
+use Rattle.room_books.specs.Takings.{Told, told_in}
+use Rattle.profile.specs.Kept.{IsReply}
 use Rattle.room_books.specs.Views.{same_key, booked_list, confirmed_span}
 
 -- the part is of the meeting
@@ -26,10 +28,20 @@ of_meeting key parts = filter (is_of key) parts
 abbrev pub answers_of : MeetingKey → List Answer → List Answer
 answers_of key answers = filter (λ a. is_of key a.claim.part) answers
 
--- the meeting holds the parts taken of it, and confirms what the answers to them do
+-- the book has such an answer to the part of the meeting that is in the view
+pub record HasTold (book : Book) (key : MeetingKey) (answer : Told) : Type 0 where
+  pub given : Answer
+  pub kept : Contains book.answers given
+  pub of_it : is_of key given.claim.part ≡ true
+  pub seen : in_view book.taken given.claim.part ≡ true
+  pub moment : given.moment ≡ answer.moment
+  pub outcome : given.outcome ≡ answer.outcome
+
+-- the meeting holds the parts taken of it, confirms what the answers to them do, and has the answer to the one in the view
 pub record Meets (book : Book) (key : MeetingKey) (meeting : Meeting) : Type 0 where
   pub held : StandsFor meeting.held (of_meeting key book.taken)
   pub confirmed : confirmed_in book.taken (answers_of key book.answers) ≡ booked_list key (confirmed_span meeting.decided)
+  pub answered : (answer : Told) → told_in meeting.decided ≡ Some answer → HasTold book key answer
 
 -- of a meeting that isn't there nothing was taken
 abbrev pub MeetsAt : Book → MeetingKey → Option Meeting → Type 0
@@ -85,3 +97,8 @@ pub record AreClaims (room : List ℕ) (event : Event) (claims : List Claim) : T
   pub parts : List Part
   pub are : AreParts room event parts
   pub books : claims ≡ map (λ part. record { part = part; books = booked_by event ∷ [] }) parts
+
+-- and where a reply comes, it shows the answers that the book after it has
+pub record StepsWith (room : List ℕ) (entries : List (MeetingKey × Meeting)) (book : Book) (claims : List Claim) (moment : ℤ) (kind : Kind) (reply : Option (List ℕ)) : Type 0 where
+  pub steps : StepsTo entries book claims moment kind
+  pub replies : IfSome reply (IsReply room steps.after claims)

@@ -1,5 +1,5 @@
 -- What a part does to its meeting.
-use Rattle.std.specs.Prelude.{◌≡◌, ℤ, Bool, true, false, List, [], ◌∷◌, ◌++◌, Option, Some, None, option_map}
+use Rattle.std.specs.Prelude.{◌≡◌, ℕ, ℤ, List, [], ◌∷◌, ◌++◌, Option, Some, None, option_map}
 use Rattle.indexmap.specs.IndexMap.{IsUnchanged}
 use Rattle.clash_cert.specs.Makings.{key_of}
 use Rattle.itip_order.specs.Registers.{StandsFor}
@@ -10,6 +10,7 @@ use Rattle.itip_order.specs.declared.held.Freshness.TheVariants.{Fresh, Same, St
 use Rattle.profile.specs.Revisions as revisions
 use Rattle.profile.specs.Messages as messages
 use Rattle.profile.specs.Rooms as rooms
+use Rattle.room_books.specs.declared.answer.Answer.{Answer}
 use Rattle.room_books.specs.declared.answer.Kind.{Kind}
 use Rattle.room_books.specs.declared.answer.Kind.TheVariants as kind
 use Rattle.room_books.specs.declared.meeting.MeetingKey.{MeetingKey}
@@ -19,7 +20,7 @@ use Rattle.room_books.specs.declared.meeting.Span.{Span}
 use Rattle.room_books.specs.declared.room.Room.{Room}
 use Rattle.room_books.specs.declared.taking.Asked.{Asked}
 use Rattle.room_books.specs.declared.taking.Taken.{Taken}
-use Rattle.room_books.specs.Views.{booked_of, outcome_of, others, same_key, IsDecision}
+use Rattle.room_books.specs.Views.{booked_of, outcome_of, others, IsDecision}
 
 -- the address and the meetings are as they were
 pub record IsRoomUnchanged (old new : Room) : Type 0 where
@@ -79,3 +80,7 @@ kind_after Fresh None = rooms.Withdrawn
 kind_after Fresh (Some decided) = rooms.kind_of_outcome (outcome_of decided.outcome)
 kind_after Same decided = rooms.Repeated
 kind_after Stale decided = rooms.Stale
+
+-- the octets that an answer sends as its reply
+abbrev pub reply_octets : Answer → Option (List ℕ)
+reply_octets answer = option_map (λ octets. octets.items) answer.reply

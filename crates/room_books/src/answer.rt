@@ -1,6 +1,6 @@
 //! What a room answers to a message.
 
-ghost use Rattle.std.specs.Prelude.{◌≡◌};
+ghost use Rattle.std.specs.Prelude.{◌≡◌, None};
 
 use clash_cert::Clash;
 
@@ -43,9 +43,12 @@ pub struct Answer {
 }
 
 impl Answer {
+    ghost use Rattle.room_books.specs.Takings.{reply_octets};
+
     /// An answer that sends nothing.
     pub fn silent(kind: Kind) -> Answer
-        ensures { result.kind ≡ kind }
+        ensures kind { result.kind ≡ kind }
+        ensures reply { reply_octets result ≡ None }
     {
         Answer {
             kind,

@@ -1,13 +1,24 @@
 //! The reply to a message: a VEVENT for its part, where that is to take place and is in the view.
 
+ghost use Rattle.std.specs.Prelude.{◌≡◌, IfOk, IfSome};
+ghost use Rattle.ical_values.specs.Octets.{address_octets};
+ghost use Rattle.cal_events.specs.Calendars.{key_of as instance_key};
+ghost use Rattle.clash_cert.specs.Makings.{key_of as owned_key};
+ghost use Rattle.itip_order.specs.Parts.{part_of};
+ghost use Rattle.itip_messages.specs.Replies.{outcome_of as decision_outcome};
+ghost use Rattle.profile.specs.Revisions as revisions;
+ghost use Rattle.room_books.specs.Views.{outcome_of};
+ghost use Rattle.room_books.specs.Takings.{told};
+ghost use Rattle.room_books.specs.Replying.{IsEventFor, IsReplyOf, TellsDecided};
+
 use crate::answer::LimitKind;
 use crate::meeting::{Decided, Outcome};
 use crate::taking::Taken;
 use cal_events::InstanceKey;
 use clash_cert::{Clash, OwnedKey};
-use ical_values::{Address, Stamp};
+use ical_values::Address;
 use itip_messages::{Conflict, Decision, ReplyEvent, write_reply};
-use itip_order::{Freshness, Part, Slot};
+use itip_order::{Freshness, Part};
 use std::alloc::{AllocError, Global};
 
 /// The REPLY's octets, None where the part isn't in the view.
@@ -16,7 +27,11 @@ pub fn reply_to(
     room: &Address,
     part: &Part,
     taken: &Taken,
-) -> Result<Option<Vec<u8>>, AllocError> {
+) -> Result<Option<Vec<u8>>, AllocError>
+    requires { (part_of part.now).slot ≡ revisions.Whole }
+    ensures { IfOk result (λ reply. IfSome reply (λ octets.
+        TellsDecided (address_octets room.now) (part_of part.now) taken.now.freshness taken.now.meeting.decided octets.items)) }
+{
     match (&taken.meeting.decided, taken.freshness) {
         (Some(decided), Freshness::Fresh | Freshness::Same) => reply_of(alloc, room, part, decided),
         _ => Ok(None),
@@ -29,7 +44,11 @@ fn reply_of<'a>(
     room: &'a Address,
     part: &'a Part,
     decided: &'a Decided,
-) -> Result<Option<Vec<u8>>, AllocError> {
+) -> Result<Option<Vec<u8>>, AllocError>
+    requires { (part_of part.now).slot ≡ revisions.Whole }
+    ensures { IfOk result (λ reply. IfSome reply (λ octets.
+        IsReplyOf (address_octets room.now) (part_of part.now) (told decided.now) octets.items)) }
+{
     let Some(event) = event_of(room, part, decided) else {
         return Ok(None);
     };
@@ -38,13 +57,16 @@ fn reply_of<'a>(
     Ok(Some(octets))
 }
 
-fn event_of<'a>(room: &'a Address, part: &'a Part, decided: &'a Decided) -> Option<ReplyEvent<'a>> {
+fn event_of<'a>(room: &'a Address, part: &'a Part, decided: &'a Decided) -> Option<ReplyEvent<'a>>
+    requires { (part_of part.now).slot ≡ revisions.Whole }
+    ensures { IfSome result (IsEventFor (address_octets room.now) (part_of part.now) (told decided.now)) }
+{
     let Some(decision) = decision_of(&decided.outcome) else {
         return None;
     };
     Some(ReplyEvent {
         uid: &part.uid,
-        recurrence: recurrence_of(part.slot),
+        recurrence: None,
         sequence: part.revision.sequence,
         moment: decided.moment,
         organiser: &part.organiser,
@@ -53,15 +75,10 @@ fn event_of<'a>(room: &'a Address, part: &'a Part, decided: &'a Decided) -> Opti
     })
 }
 
-fn recurrence_of(slot: Slot) -> Option<Stamp> {
-    match slot {
-        Slot::Whole => None,
-        Slot::At(instant) => Stamp::of_instant(instant),
-    }
-}
-
 /// The decision, None where a clash has an instant that no stamp can write.
-fn decision_of(outcome: &Outcome) -> Option<Decision<'_>> {
+fn decision_of(outcome: &Outcome) -> Option<Decision<'_>>
+    ensures { IfSome result (λ decision. decision_outcome decision ≡ outcome_of outcome.now) }
+{
     match outcome {
         Outcome::Accepted => Some(Decision::Accepted),
         Outcome::Limit(LimitKind::Series) => Some(Decision::SeriesLimit),
@@ -70,7 +87,9 @@ fn decision_of(outcome: &Outcome) -> Option<Decision<'_>> {
     }
 }
 
-fn busy(clash: &Clash) -> Option<Decision<'_>> {
+fn busy(clash: &Clash) -> Option<Decision<'_>>
+    ensures { IfSome result (λ decision. decision_outcome decision ≡ outcome_of (Outcome.Declined clash.now)) }
+{
     let first = borrowed_key(&clash.first);
     let second = borrowed_key(&clash.second);
     match Conflict::of(clash.instant, first, second) {
@@ -79,7 +98,9 @@ fn busy(clash: &Clash) -> Option<Decision<'_>> {
     }
 }
 
-fn borrowed_key(key: &OwnedKey) -> InstanceKey<'_> {
+fn borrowed_key(key: &OwnedKey) -> InstanceKey<'_>
+    ensures { instance_key result ≡ owned_key key.now }
+{
     InstanceKey {
         organiser: key.organiser.as_str(),
         uid: key.uid.as_str(),

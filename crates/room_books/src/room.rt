@@ -12,8 +12,8 @@ ghost use Rattle.profile.specs.Messages.{AreParts};
 ghost use Rattle.profile.specs.Revisions as revisions;
 ghost use Rattle.profile.specs.Rooms.{Claim, Book, empty_book, is_set};
 ghost use Rattle.room_books.specs.Views.{same_key};
-ghost use Rattle.room_books.specs.Takings.{IsRoomUnchanged, kind_view};
-ghost use Rattle.room_books.specs.Standing.{Stands, StepsTo, claim_of, part_list, span_said, AreClaims};
+ghost use Rattle.room_books.specs.Takings.{IsRoomUnchanged, kind_view, reply_octets};
+ghost use Rattle.room_books.specs.Standing.{Stands, StepsWith, claim_of, part_list, span_said, AreClaims};
 
 use crate::answer::{Answer, Kind};
 use crate::decide::Meetings;
@@ -70,7 +70,7 @@ impl Room {
         // From each book that the room stands for it makes a step of the room machine, with the claims of the message's event.
         ensures steps { IfOk result (λ answer. (event : Event) → StandsFor message.now event → (book : Book) → Stands self.old.meetings.entries book
             → (claims : List Claim) × AreClaims (address_octets self.old.address) event claims
-            × StepsTo self.new.meetings.entries book claims now (kind_view answer.kind)) }
+            × StepsWith (address_octets self.old.address) self.new.meetings.entries book claims now (kind_view answer.kind) (reply_octets answer)) }
         ensures err { OnErr result (IsRoomUnchanged self.old self.new) }
     {
         let found = self.part_for(message)?;
@@ -102,7 +102,7 @@ impl Room {
         requires whole { (part_of part.now).slot ≡ revisions.Whole }
         requires set { is_set (part_of part.now) ≡ true }
         ensures steps { IfOk result (λ answer. (book : Book) → Stands self.old.meetings.entries book
-            → StepsTo self.new.meetings.entries book (claim_of (part_of part.now) span ∷ []) now (kind_view answer.kind)) }
+            → StepsWith (address_octets self.old.address) self.new.meetings.entries book (claim_of (part_of part.now) span ∷ []) now (kind_view answer.kind) (reply_octets answer)) }
         ensures err { OnErr result (IsRoomUnchanged self.old self.new) }
     {
         keys_differ(&self.meetings);

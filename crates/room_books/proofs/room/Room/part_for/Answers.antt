@@ -1,5 +1,4 @@
 -- The last of at most one part.
-use Rattle.std.proofs.Common.{◌≡◌}
 use Rattle.ical_values.specs.Octets.{address_octets}
 use Rattle.room_books.proofs.Claims.{only_one, empty_from}
 use Rattle.room_books.proofs.room.Room.part_for.Goals as goal
