@@ -1,5 +1,5 @@
 -- Which of two clashing instances is named first.
-use Rattle.std.proofs.Common.{◌≡◌, ℕ, ◌<◌, ℤ, ◌≤ℤ◌, List, map, length, get_or, subst, sym, refl, ap, ◌∙◌, arith, Ordering}
+use Rattle.std.proofs.Common.{◌≡◌, ℕ, true, false, ◌<◌, ℤ, ◌≤ℤ◌, List, map, length, get_or, subst, sym, refl, ap, ◌∙◌, arith, Ordering}
 use Rattle.std.specs.Prelude.{◌↔◌, Result, Ok, Err, IfOk, MatchBool}
 use Rattle.std.specs.declared.cmp.Ordering.TheVariants.{Less, Equal, Greater}
 use Rattle.std.specs.Ordering.{is_lt, nat_cmp, int_cmp, ordering_then, ordering_reverse}
@@ -67,6 +67,24 @@ named all a b t clash keys is less later = record {
   less = less;
   later = keys.instant ∙ later;
 }
+
+before_or_not : (r : Ordering) → is_lt r ≡ true → r ≡ Less
+before_or_not Less h = refl
+before_or_not Equal h = cc
+before_or_not Greater h = cc
+
+-- what comes before is less
+pub less_from_before : (a b : Booked) → is_lt (booked_cmp a b) ≡ true → booked_cmp a b ≡ Less
+less_from_before a b h = before_or_not (booked_cmp a b) h
+
+turned_less : (a b : Booked) → (a.key ≡ b.key → ⊥) → (r : Ordering) → booked_cmp b a ≡ r → is_lt r ≡ false → booked_cmp a b ≡ Less
+turned_less a b differ Less e h = cc
+turned_less a b differ Equal e h = absurd (differ (sym (key_exact b.key a.key (then_equal (int_cmp b.start a.start) (key_cmp b.key a.key) e))))
+turned_less a b differ Greater e h = booked_total.antisymm a b ∙ ap ordering_reverse e
+
+-- of two keys that differ, what doesn't come after is less
+pub less_from_not_before : (a b : Booked) → (a.key ≡ b.key → ⊥) → is_lt (booked_cmp b a) ≡ false → booked_cmp a b ≡ Less
+less_from_not_before a b differ h = turned_less a b differ (booked_cmp b a) refl h
 
 by_order : (all : List Booked) (a b : Booked) (t : ℤ) (clash : Clash) (r : Ordering) → booked_cmp b a ≡ r → IsClash all a b t → t ≡ b.start → a.start ≤ℤ t
     → MatchBool (is_lt r) (HasKeys b a t clash) (HasKeys a b t clash) → IsNamedClash all clash

@@ -1,7 +1,8 @@
 -- The room machine: what a room keeps, and one step of it. A step is a relation, as a decline may name any clash.
 use Rattle.std.specs.Prelude.{◌≡◌, ℕ, ◌<◌, ◌≤◌, Bool, true, false, not, ◌&&◌, IsTrue, if◌then◌else◌, nat_lt, List, [], ◌∷◌, ◌++◌, length, map, filter, ℤ, ◌≤ℤ◌}
 use Rattle.std.specs.List.{flat_map, list_any}
-use Rattle.profile.specs.Instances.{Key, Booked, IsClash, IsClear}
+use Rattle.std.specs.declared.cmp.Ordering.TheVariants.{Less}
+use Rattle.profile.specs.Instances.{Key, Booked, IsClash, IsClear, booked_cmp}
 use Rattle.profile.specs.Revisions.{Part, Body, Set, Absent, Cancelled, in_view, same_part}
 use Rattle.profile.specs.Messages.{Outcome, Accept, Busy, SeriesLimit, SinglesLimit}
 
@@ -74,18 +75,14 @@ asked before after claims = filter (λ c. is_set c.part && is_fresh before after
 abbrev pub most_singles : ℕ
 most_singles = 10_000
 
--- a is less than b by start, organiser, UID and slot, or the same
-abbrev pub StartsFirst : Booked → Booked → Type 0
-StartsFirst a b = a.start ≤ℤ b.start
-
--- the two keys are those of a clash, at the later start
+-- the two keys are those of a clash, at the later start; the lesser by start, organiser, UID and slot comes first
 pub record NamesClash (all : List Booked) (first second : Key) (t : ℤ) : Type 0 where
   pub a : Booked
   pub b : Booked
   pub clash : IsClash all a b t
   pub first_is : a.key ≡ first
   pub second_is : b.key ≡ second
-  pub ordered : StartsFirst a b
+  pub ordered : booked_cmp a b ≡ Less
   pub later : t ≡ b.start
 
 -- what is decided where these would be the confirmed instances: the limit is looked at first, then whether any

@@ -15,6 +15,7 @@ use Rattle.std.proofs.lemmas.Map.Made.{IsDistinct-keys_filter}
 use Rattle.std.proofs.lemmas.Map.Views.{lookup-from_Contains}
 use Rattle.clash_cert.specs.declared.making.Clash.{Clash}
 use Rattle.clash_cert.specs.Makings.{key_of, HasKeys}
+use Rattle.clash_cert.proofs.MakingLemmas.{less_from_before, less_from_not_before}
 use Rattle.itip_order.proofs.Lists.{in_cons, in_head, in_tail, none_in_nil, filter_at, filter_from}
 use Rattle.profile.specs.Instances.{Key, Booked, IsClear, IsWithin, key_cmp, booked_cmp}
 use Rattle.profile.specs.Revisions.{Part, Whole, in_view}
@@ -88,7 +89,7 @@ module _ (all kept : List Booked) (x : Booked) (same : AreSame all kept) (clear 
           };
           first_is = sym h.first;
           second_is = sym h.second;
-          ordered = order;
+          ordered = less_from_before w.other x before;
           later = later_is_first (span_of x) (span_of w.other) clash.instant w.later order;
         }
     | inr after ↦
@@ -107,7 +108,7 @@ module _ (all kept : List Booked) (x : Booked) (same : AreSame all kept) (clear 
           };
           first_is = sym h.first;
           second_is = sym h.second;
-          ordered = order;
+          ordered = less_from_not_before x w.other (λ e. differ w.other w.among (sym e)) after;
           later = later_is (span_of x) (span_of w.other) clash.instant w.later order;
         }
   ]
