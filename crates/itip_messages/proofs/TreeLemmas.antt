@@ -7,7 +7,7 @@ use Rattle.ical_lines.specs.declared.fault.Fault.{Fault}
 use Rattle.ical_lines.specs.declared.fault.Fault.TheVariants.{Refused, Memory}
 use Rattle.ical_tree.specs.Tree.{component_name, component_lines, component_children, IsObjectOf}
 use Rattle.ical_tree.specs.declared.component.Component.{Component}
-use Rattle.profile.specs.Lines.{is_same_name, logical_lines}
+use Rattle.profile.specs.Lines.{is_same_name, logical_lines, reads_as_lines}
 use Rattle.profile.specs.Objects.{Body, nothing, property, component, IsObject}
 use Rattle.profile.specs.Trees.{Tree, Trees, tree, none, more, trees_list, tree_name, tree_own, tree_inside, vevents}
 use Rattle.profile.specs.Messages.{SaysRequest, MessageFault}
@@ -115,14 +115,14 @@ found c lines object =
     }
 
 -- the message that the octets spell
-pub message_spelled : (r : Result Message Fault) (octets : List ℕ) (c : Component) → IsObjectOf true c (logical_lines octets)
-    → IfOk r (IsMessageOf (component_lines c) (vevents_of c)) → IfOk r (IsSpelled octets)
-message_spelled (Ok message) octets c object says =
+pub message_spelled : (r : Result Message Fault) (octets : List ℕ) (c : Component) → reads_as_lines true octets ≡ true
+    → IsObjectOf true c (logical_lines octets) → IfOk r (IsMessageOf (component_lines c) (vevents_of c)) → IfOk r (IsSpelled octets)
+message_spelled (Ok message) octets c lines object says =
     let f = found c (logical_lines octets) object in
     let own : SaysRequest (tree_own f.tree) (vevents_of c) says.0 = subst (λ (ls : Lines). SaysRequest ls (vevents_of c) says.0) (sym f.own) says.1 in
     let both : SaysRequest (tree_own f.tree) (vevents f.tree) says.0 = subst (λ (vs : List Lines). SaysRequest (tree_own f.tree) vs says.0) (sym f.events) own in
-    (says.0, record { tree = f.tree; object = f.object; says = both }, says.2)
-message_spelled (Err e) octets c object says = tt
+    (says.0, record { lines = lines; tree = f.tree; object = f.object; says = both }, says.2)
+message_spelled (Err e) octets c lines object says = tt
 
 -- the fault that stands in them
 pub faults_there : (r : Result Message Fault) (octets : List ℕ) (c : Component) → IsObjectOf true c (logical_lines octets)

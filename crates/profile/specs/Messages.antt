@@ -3,7 +3,7 @@ use Rattle.std.specs.Prelude.{◌≡◌, ℕ, ◌/◌, ◌%◌, ◌+◌, ◌<◌
 use Rattle.std.specs.List.{flat_map, list_any, list_all, AllZip}
 use Rattle.std.specs.Str.{bytes_eq}
 use Rattle.std.specs.Char.{is_ascii_alphabetic, is_ascii_digit}
-use Rattle.profile.specs.Lines.{line_value, is_same_name, logical_lines}
+use Rattle.profile.specs.Lines.{line_value, is_same_name, logical_lines, reads_as_lines}
 use Rattle.profile.specs.Objects.{IsObject}
 use Rattle.profile.specs.Trees.{Tree, tree_name, tree_own, tree_inside, vevents}
 use Rattle.profile.specs.Values.{WritesStamp, duration_text, escaped}
@@ -26,6 +26,7 @@ pub record SaysRequest (own : List (List ℕ)) (events : List (List (List ℕ)))
 
 -- the octets are one VCALENDAR, within the limits of a message, and say a REQUEST for this event
 pub record SpellsRequest (octets : List ℕ) (event : Event) : Type 0 where
+  pub lines : reads_as_lines true octets ≡ true
   pub tree : Tree
   pub object : IsObject tree_name tree_own tree_inside true tree (logical_lines octets)
   pub says : SaysRequest (tree_own tree) (vevents tree) event

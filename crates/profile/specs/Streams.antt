@@ -2,7 +2,7 @@
 use Rattle.std.specs.Prelude.{◌≡◌, ◌≢◌, ℕ, ◌+◌, ◌<◌, ◌≤◌, ◌⊎◌, Bool, true, false, IsTrue, List, [], ◌∷◌, ◌++◌, length, map, codes, decimal, Option, ℤ, AllPairs}
 use Rattle.std.specs.Option.{option_to_list}
 use Rattle.std.specs.List.{flat_map}
-use Rattle.profile.specs.Lines.{logical_lines, text_has, reads_as_lines}
+use Rattle.profile.specs.Lines.{logical_lines, text_has}
 use Rattle.profile.specs.Objects.{Spells, count_inside, has_version, lines_have, is_begun, after_object}
 use Rattle.profile.specs.Trees.{Tree, tree_name, tree_own, tree_inside}
 use Rattle.profile.specs.Events.{Event, booked_by}
@@ -71,10 +71,6 @@ pub record IsStream (stream : List ℕ) (moment : ℤ) (addresses : List (List �
 
 -- ---- what is answered to an object
 
--- the octets are a REQUEST for this event, and no line of them has a fault
-abbrev pub IsRequest : List ℕ → Event → Type 0
-IsRequest octets event = IsTrue (reads_as_lines true octets) × SpellsRequest octets event
-
 -- ---- what can be wrong with an object, by the number of its refusal
 
 -- the fault of this number, 24 or 25, stands in the tree that the lines spell
@@ -122,7 +118,7 @@ refused_line k n = codes "REFUSED;OBJECT=" ++ decimal k ++ codes ":" ++ decimal 
 -- these octets answer object k: what the rooms answer to it, or the line for a refusal, which changes no book
 abbrev pub Answers : ℤ → List (List ℕ) → ℕ → List ℕ → List Book → List Book → List ℕ → Type 0
 Answers moment rooms k object befores afters octets =
-    ((event : Event) × IsRequest object event × AllTake moment event rooms befores afters octets)
+    ((event : Event) × SpellsRequest object event × AllTake moment event rooms befores afters octets)
     ⊎ ((n : ℕ) × ObjectFault n object × (afters ≡ befores) × (octets ≡ refused_line k n))
 
 -- the answers to objects from number k on, one behind another

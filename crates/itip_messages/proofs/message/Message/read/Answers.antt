@@ -7,7 +7,7 @@ returns-in_err-object-clause-stands c =
 
 pub returns-clause-spells : goal.returns-clause-spells
 returns-clause-spells c =
-    message_spelled _ c.args.bytes.now c.in_ok-object.object c.in_ok-object.ensures.spelled c.of_object.ensures.says
+    message_spelled _ c.args.bytes.now c.in_ok-object.object c.in_ok-object.ensures.reads c.in_ok-object.ensures.spelled c.of_object.ensures.says
 
 pub returns-clause-stands : goal.returns-clause-stands
 returns-clause-stands c = faults_there _ c.args.bytes.now c.in_ok-object.object c.in_ok-object.ensures.spelled c.of_object.ensures.stands
