@@ -25,9 +25,9 @@ try:
 test:
 	$(RT) ci
 
-# One table: serving, reading and checking, with sizes, times, peak memory and growth. LARGE=--large checks 1,000,000.
+# One table: serving, reading and checking, with sizes, times, peak memory and growth. It takes about half a minute.
 bench: bin/roombox
-	python3 bench/bench.py bin/roombox $(LARGE)
+	python3 bench/bench.py bin/roombox
 
 clean:
 	rm -rf bin out crates/*/out

@@ -1,5 +1,6 @@
 """Measures roombox and prints one table. Each line names the work, its size, the time, the rate, the peak memory, and the
-growth of the time from a tenth of the size.
+growth of the time from a tenth of the size. The peak counts the moment before the program begins too, so it is never less than
+this script's own, about 15 MiB.
 
     python3 bench/bench.py bin/roombox
 """
@@ -112,13 +113,26 @@ def check(program, count):
     return seconds, peak, size
 
 
+def quickly(program, calendar_text, certificate_text):
+    """Input that is no calendar, or no certificate: an answer of `no`."""
+    with tempfile.TemporaryDirectory() as folder:
+        kept, certificate = os.path.join(folder, "kept.ics"), os.path.join(folder, "kept.cert")
+        with open(kept, "wb") as file:
+            file.write(calendar_text)
+        with open(certificate, "wb") as file:
+            file.write(certificate_text)
+        seconds, peak, status, output = run([program, "check", kept, certificate, ROOM.format(0)], None)
+    if status != 1 or not output.startswith(b"no "):
+        sys.exit(f"check: status {status}, {output!r}")
+    return seconds, peak, len(calendar_text) + len(certificate_text)
+
+
 def line(work, count, seconds, rate, peak, growth=""):
     print(f"{work:<38}{count:>9}{seconds:>9.2f}{rate:>16}{peak / 2**20:>10.1f}{growth:>8}")
 
 
 def main():
     program = sys.argv[1]
-    largest = 1_000_000 if "--large" in sys.argv else 100_000
     print(f"{'work':<38}{'objects':>9}{'seconds':>9}{'rate':>16}{'peak MiB':>10}{'growth':>8}")
     before = None
     for count in (1_000, 10_000):
@@ -132,11 +146,16 @@ def main():
     seconds, peak, size = serve(program, large_objects(20), 20)
     line("objects of 1 MB with folded lines", 20, seconds, f"{size / seconds / 1e6:.0f} MB/s", peak)
     before = None
-    for count in (largest // 10, largest):
+    for count in (100_000, 1_000_000):
         seconds, peak, size = check(program, count)
         growth = f"{seconds / before:.1f}" if before else ""
         line("singles checked", count, seconds, f"{size / seconds / 1e6:.0f} MB/s", peak, growth)
         before = seconds
+    empty = b"BEGIN:VCALENDAR\r\nVERSION:2.0\r\nEND:VCALENDAR\r\n"
+    odd = (("a calendar of 10 MB of A", b"A" * 10_000_000, b""), ("a certificate of 10 MB of digits", empty, b"7" * 10_000_000))
+    for work, calendar_text, certificate_text in odd:
+        seconds, peak, size = quickly(program, calendar_text, certificate_text)
+        line(work, 1, seconds, f"{size / seconds / 1e6:.0f} MB/s", peak)
 
 
 main()

@@ -1,6 +1,6 @@
 -- Worked dates, by the definitions alone.
-use Rattle.std.proofs.Common.{◌≡◌, refl, pos, negsuc}
-use Rattle.profile.specs.Days.{days_before_year, days_of_months, days_before, days_before_1970, number_of_date}
+use Rattle.std.proofs.Common.{◌≡◌, refl, pos, negsuc, arith}
+use Rattle.profile.specs.Days.{days_before_year, days_of_months, days_before, days_before_1970, number_of_date, IsDate}
 
 epoch : days_before 1970 1 1 ≡ days_before_1970
 unfolding days_before_year days_of_months
@@ -23,3 +23,7 @@ leap_day = refl
 first : number_of_date 1 1 1 ≡ negsuc 719_161
 unfolding days_before_year days_of_months
 first = refl
+
+-- 2025 has no leap day
+no_leap_day : IsDate 2025 2 29 → ⊥
+no_leap_day (from_first, to_last, positive, within) = omega (within, arith)

@@ -1,8 +1,8 @@
 -- Worked values, by the definitions alone.
-use Rattle.std.proofs.Common.{◌≡◌, [], inl, inr, codes, refl, arith, pos, negsuc}
+use Rattle.std.proofs.Common.{◌≡◌, [], false, inl, inr, codes, refl, arith, pos, negsuc}
 use Rattle.std.specs.Fmt.{digits}
 use Rattle.profile.specs.Days.{days_before_year, days_of_months}
-use Rattle.profile.specs.Values.{SpellsStamp, WritesStamp, SpellsSequence, SpellsOffset, SpellsDuration, SpellsExact, IsAddress, lower_case, escaped, unescaped, duration_text}
+use Rattle.profile.specs.Values.{SpellsStamp, WritesStamp, SpellsSequence, SpellsOffset, SpellsDuration, SpellsExact, IsAddress, is_scheme, is_path, lower_case, escaped, unescaped, duration_text}
 
 -- second 60 is read as 59
 leap_second : SpellsStamp (codes "20161231T235960Z") (pos 1_483_228_799)
@@ -81,3 +81,7 @@ escapes_written = refl
 
 mail : IsAddress (codes "MAILTO:Ann@Example.COM") × (lower_case (codes "MAILTO:Ann@Example.COM") ≡ codes "mailto:ann@example.com")
 mail = ((codes "MAILTO", codes "Ann@Example.COM", refl, refl, refl, omega arith), refl)
+
+-- no scheme begins with a digit, and what follows it has no space
+not_an_address : (is_scheme (codes "1st") ≡ false) × (is_path (codes "ann lee") ≡ false)
+not_an_address = (refl, refl)

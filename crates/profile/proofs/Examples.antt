@@ -5,6 +5,7 @@ use Rattle.std.proofs.Common.{◌≡◌, ℕ, pos, true, false, List, [], ◌∷
 use Rattle.std.proofs.lemmas.Fmt.{decimal_digit}
 use Rattle.profile.specs.Faults.{is_event_fault, is_calendar_fault, is_message_fault}
 use Rattle.profile.specs.Lines.{line_param}
+use Rattle.profile.specs.Calendars.{CalendarTextFault, in_lines, in_tree}
 use Rattle.profile.specs.Trees.{Tree, tree, none, more, vevents}
 use Rattle.profile.specs.Events.{Event, Participation, Accepted, Declined, NeedsAction, lines_named, is_unread_line, has_unread, answer_named, booked_by, confirmed}
 use Rattle.profile.specs.Revisions.{Part, Whole, Set}
@@ -40,6 +41,21 @@ its_events = refl
 
 no_events : vevents (tree (codes "VCALENDAR") (codes "VERSION:2.0" ∷ []) none) ≡ []
 no_events = refl
+
+-- a component inside a VEVENT isn't one of the calendar's
+no_events_deeper : vevents (tree (codes "VCALENDAR") [] (more (tree (codes "VTODO") [] (more (tree (codes "VEVENT") [] none) none)) none)) ≡ []
+no_events_deeper = refl
+
+-- ---- what can be wrong with a calendar's octets
+
+a_line_without_a_colon : CalendarTextFault (codes "hello") 1
+a_line_without_a_colon = in_lines refl
+
+a_calendar_that_ends_too_early : CalendarTextFault (codes "BEGIN:VCALENDAR") 21
+a_calendar_that_ends_too_early = in_tree refl
+
+no_octets_are_no_calendar : CalendarTextFault [] 23
+no_octets_are_no_calendar = in_tree refl
 
 -- ---- events
 

@@ -105,7 +105,8 @@ pub record Says {V : Type 0} (name : List ℕ) (needed : Bool) (IsValue : List �
 abbrev pub IsUidLine : List ℕ → List ℕ → Type 0
 IsUidLine line uid = (uid ≡ unescaped (line_value line)) × IsUid uid
 
--- the length that DTEND gives, in exact seconds; DTEND isn't before DTSTART (RFC 5545 3.8.2.2)
+-- the length that DTEND gives, in exact seconds; DTEND isn't before DTSTART (RFC 5545 3.8.2.2 wants it later; that it may be
+-- DTSTART itself is this profile's choice)
 abbrev pub LastsUntil : ℤ → List ℕ → Length → Type 0
 LastsUntil start line length = (length.days ≡ 0) × IsTime line (start +ℤ pos length.seconds)
 

@@ -139,7 +139,7 @@ is_item text = not (list_any is_quote (unquoted text))
 abbrev pub is_control : ℕ → Bool
 is_control c = (nat_lt c 32 && not (c == 9)) || c == 127
 
--- 1: no colon, or none but inside closed quotes
+-- 1: no colon outside quotes. Where a quote stays open and a colon stands in the line, it is 3 instead
 abbrev pub lacks_colon : List ℕ → Bool
 lacks_colon line =
     not (has_stop 58 line) && (not (count_by is_quote line % 2 == 1) || not (list_any (λ c. c == 58) line))

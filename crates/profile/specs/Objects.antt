@@ -120,7 +120,8 @@ module _ {T : Type 0} (name : T → List ℕ) (own : T → List (List ℕ)) (ins
   count_inside kind whole = count_by (λ part. is_same_name (name part) kind) (inside whole)
 
   -- the lines spell one VCALENDAR, with components nested at most 8 deep, and one VERSION, which is `2.0`
-  -- (RFC 5545 3.4, 3.7.4); the depth, and for a message at most 200 VEVENTs, are this profile's choice
+  -- (RFC 5545 3.4, 3.7.4); 8 deep is the whole and 7 inside it. The depth, and for a message at most 200 VEVENTs, are this
+  -- profile's choice
   pub record IsObject (bounded : Bool) (whole : T) (lines : List (List ℕ)) : Type 0 where
     pub spelled : Spells 7 whole lines
     pub calendar : is_same_name (name whole) (codes "VCALENDAR") ≡ true

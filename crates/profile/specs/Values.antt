@@ -148,7 +148,8 @@ abbrev pub SpellsPart : ℕ → List ℕ → ℕ → Type 0
 SpellsPart letter text n =
     ((text ≡ []) × (n ≡ 0)) ⊎ ((digits : List ℕ) × IsNumber digits n × (text ≡ digits ++ letter ∷ []))
 
--- `T` and hours, minutes, seconds in this order, at least one of them (RFC 5545 3.3.6)
+-- `T` and hours, minutes, seconds in this order, at least one of them (RFC 5545 3.3.6). That minutes may be missing between
+-- hours and seconds is this profile's choice
 pub record SpellsExact (text : List ℕ) (total : ℕ) : Type 0 where
   pub hour_part : List ℕ
   pub minute_part : List ℕ
