@@ -6,6 +6,7 @@ this script's own, about 15 MiB.
 """
 
 import os
+import random
 import subprocess
 import sys
 import tempfile
@@ -152,7 +153,12 @@ def main():
         line("singles checked", count, seconds, f"{size / seconds / 1e6:.0f} MB/s", peak, growth)
         before = seconds
     empty = b"BEGIN:VCALENDAR\r\nVERSION:2.0\r\nEND:VCALENDAR\r\n"
-    odd = (("a calendar of 10 MB of A", b"A" * 10_000_000, b""), ("a certificate of 10 MB of digits", empty, b"7" * 10_000_000))
+    odd = (
+        ("a calendar of 0 octets", b"", b""),
+        ("a calendar of 10 MB of A", b"A" * 10_000_000, b""),
+        ("a calendar of 10 MB of random octets", random.Random(7).randbytes(10_000_000), b""),
+        ("a certificate of 10 MB of digits", empty, b"7" * 10_000_000),
+    )
     for work, calendar_text, certificate_text in odd:
         seconds, peak, size = quickly(program, calendar_text, certificate_text)
         line(work, 1, seconds, f"{size / seconds / 1e6:.0f} MB/s", peak)
