@@ -1,5 +1,9 @@
 //! What each command does, and the status that it ends with.
 
+ghost use Rattle.std.specs.Prelude.{◌≡◌, ◌↔◌};
+ghost use Rattle.profile.specs.Calendars.{CertificateHolds};
+ghost use Rattle.ical_values.specs.Octets.{address_octets};
+
 use crate::status::{DONE, NO, report_device, report_memory, report_stream};
 use clash_check::{Checked, Verdict, Why, check};
 use ical_values::Address;
@@ -73,7 +77,10 @@ pub fn run_check<W: Write, E: Write>(
     room: &Address,
     writer: &mut W,
     errors: &mut E,
-) -> u8 {
+) -> u8
+    ensures yes { result ≡ 0 → CertificateHolds (address_octets room.now) calendar.now certificate.now }
+    ensures no { result ≡ 1 → CertificateHolds (address_octets room.now) calendar.now certificate.now → ⊥ }
+{
     let Ok(checked) = check(alloc, calendar, certificate, room) else {
         return report_memory(errors);
     };
@@ -83,7 +90,10 @@ pub fn run_check<W: Write, E: Write>(
     }
 }
 
-fn status_of(checked: Checked) -> u8 {
+fn status_of(checked: Checked) -> u8
+    ensures yes { result ≡ 0 → checked.verdict ≡ Verdict.Yes }
+    ensures no { result ≡ 1 → checked.verdict ≡ Verdict.Yes → ⊥ }
+{
     match checked.verdict {
         Verdict::Yes => DONE,
         Verdict::No(_) => NO,

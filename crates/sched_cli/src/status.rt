@@ -1,5 +1,7 @@
 //! The exit statuses of `roombox`, and what it says on standard error.
 
+ghost use Rattle.std.specs.Prelude.{◌≡◌};
+
 use ical_lines::Refusal;
 use sched_box::{ServeFault, StreamFault};
 use std::io::Write;
@@ -41,13 +43,17 @@ pub fn report_too_long<E: Write>(errors: &mut E) -> u8 {
 }
 
 /// Says that a device failed.
-pub fn report_device<E: Write>(errors: &mut E) -> u8 {
+pub fn report_device<E: Write>(errors: &mut E) -> u8
+    ensures { result ≡ 4 }
+{
     let _ = writeln!(errors, "roombox: device");
     DEVICE
 }
 
 /// Says that memory ran out.
-pub fn report_memory<E: Write>(errors: &mut E) -> u8 {
+pub fn report_memory<E: Write>(errors: &mut E) -> u8
+    ensures { result ≡ 5 }
+{
     let _ = writeln!(errors, "roombox: memory");
     MEMORY
 }
