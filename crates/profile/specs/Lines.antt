@@ -171,6 +171,10 @@ line_has number line =
 abbrev pub is_faulty : List ℕ → Bool
 is_faulty line = lacks_colon line || has_bad_name line || has_bad_quote line || has_control line
 
+-- a content line: none of those faults stands in it, and it is UTF-8
+abbrev pub is_content : List ℕ → Bool
+is_content line = not (is_faulty line) && is_utf8 line
+
 -- the fault of this number, 1 to 6, stands in the octets; with `bounded` a message has at most 1,048,576 octets and 65,536 lines
 abbrev pub text_has : Bool → ℕ → List ℕ → Bool
 text_has bounded number octets =

@@ -123,7 +123,8 @@ Runs before (d ∷ ds) after = (mid : Book) × (outcome : Outcome) × IsStep bef
 pub data Kind : Type 0 where
   Accepted : Kind
   Declined : Key → Key → ℤ → Kind
-  Limit : Kind
+  SeriesSpent : Kind
+  SinglesSpent : Kind
   Withdrawn : Kind
   Repeated : Kind
   Stale : Kind
@@ -132,8 +133,8 @@ pub data Kind : Type 0 where
 abbrev pub kind_of_outcome : Outcome → Kind
 kind_of_outcome Accept = Accepted
 kind_of_outcome (Busy a b t) = Declined a b t
-kind_of_outcome SeriesLimit = Limit
-kind_of_outcome SinglesLimit = Limit
+kind_of_outcome SeriesLimit = SeriesSpent
+kind_of_outcome SinglesLimit = SinglesSpent
 
 -- decided where a part was asked; else withdrawn where a part is fresh, repeated where one is the same, stale where none is
 abbrev pub kind_of : List Part → List Part → List Claim → Outcome → Kind

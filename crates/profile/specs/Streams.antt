@@ -8,7 +8,7 @@ use Rattle.profile.specs.Trees.{Tree, tree_name, tree_own, tree_inside}
 use Rattle.profile.specs.Events.{Event, booked_by}
 use Rattle.profile.specs.Messages.{SpellsRequest, RequestFault, AreParts, Outcome}
 use Rattle.profile.specs.Revisions.{Part}
-use Rattle.profile.specs.Rooms.{Claim, Book, IsStep}
+use Rattle.profile.specs.Rooms.{Claim, Book, Delivery, IsStep}
 use Rattle.profile.specs.Kept.{Replies}
 use Rattle.profile.specs.Values.{SpellsStamp, IsAddress, lower_case}
 
@@ -93,6 +93,15 @@ ObjectFault n octets =
 -- the claim that a part makes: it books the event's one instance
 abbrev pub claim : Event → Part → Claim
 claim event part = record { part = part; books = booked_by event ∷ [] }
+
+-- the delivery hands to a room what octets that spell a REQUEST claim of it
+pub record IsDelivered (room : List ℕ) (delivery : Delivery) : Type 0 where
+  pub octets : List ℕ
+  pub event : Event
+  pub spells : SpellsRequest octets event
+  pub parts : List Part
+  pub are : AreParts room event parts
+  pub claims : delivery.claims ≡ map (claim event) parts
 
 -- a room that has this address and this book takes the event, and answers these octets
 pub record Takes (moment : ℤ) (event : Event) (room : List ℕ) (before after : Book) (octets : List ℕ) : Type 0 where

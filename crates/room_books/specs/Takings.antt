@@ -13,6 +13,7 @@ use Rattle.profile.specs.Rooms as rooms
 use Rattle.room_books.specs.declared.answer.Answer.{Answer}
 use Rattle.room_books.specs.declared.answer.Kind.{Kind}
 use Rattle.room_books.specs.declared.answer.Kind.TheVariants as kind
+use Rattle.room_books.specs.declared.answer.LimitKind.TheVariants.{Series, Singles}
 use Rattle.room_books.specs.declared.meeting.MeetingKey.{MeetingKey}
 use Rattle.room_books.specs.declared.meeting.Meeting.{Meeting}
 use Rattle.room_books.specs.declared.meeting.Decided.{Decided}
@@ -68,7 +69,8 @@ pub record IsMeetingAfter (before : Option Meeting) (entries : List (MeetingKey 
 abbrev pub kind_view : Kind → rooms.Kind
 kind_view kind.Accepted = rooms.Accepted
 kind_view (kind.Declined clash) = rooms.Declined (key_of clash.first) (key_of clash.second) clash.instant
-kind_view (kind.Limit limit) = rooms.Limit
+kind_view (kind.Limit Series) = rooms.SeriesSpent
+kind_view (kind.Limit Singles) = rooms.SinglesSpent
 kind_view kind.Cancelled = rooms.Withdrawn
 kind_view kind.Repeated = rooms.Repeated
 kind_view kind.Stale = rooms.Stale
