@@ -5,6 +5,8 @@ pub mod Deciding
 pub mod Keys
 pub mod Meetings
 pub mod Partition
+pub mod Arrivals
+pub mod Dates
 pub mod Stepping
 pub mod Steps
 pub mod Claims
