@@ -1,5 +1,5 @@
 -- The instants of what was decided can be written as stamps: they are starts of what was asked for.
-use Rattle.std.proofs.Common.{◌≡◌, ℕ, ℤ, Bool, true, false, cond, List, [], ◌∷◌, ◌++◌, inl, inr, Option, None, Some, refl, sym, ap, ◌∙◌, subst}
+use Rattle.std.proofs.Common.{◌≡◌, Bool, true, false, cond, List, [], ◌∷◌, inl, inr, Option, None, Some, refl, sym, subst}
 use Rattle.std.specs.List.{Contains, filter, flat_map, IsDistinct}
 use Rattle.std.specs.Map.{keys_of, lookup}
 use Rattle.std.specs.Ordering.{is_lt}
@@ -10,7 +10,6 @@ use Rattle.clash_cert.specs.Makings.{HasKeys}
 use Rattle.itip_order.proofs.Lists.{in_cons, in_head, in_tail, none_in_nil, filter_at}
 use Rattle.profile.specs.Instances.{Key, Booked, booked_cmp}
 use Rattle.profile.specs.Values.{IsClockSeconds}
-use Rattle.profile.specs.Messages as messages
 use Rattle.profile.specs.Rooms.{Book, is_accept}
 use Rattle.room_books.specs.declared.meeting.MeetingKey.{MeetingKey}
 use Rattle.room_books.specs.declared.meeting.Meeting.{Meeting}
@@ -20,7 +19,7 @@ use Rattle.room_books.specs.declared.meeting.Outcome.{Outcome}
 use Rattle.room_books.specs.declared.meeting.Outcome.TheVariants.{Accepted, Declined, Limit}
 use Rattle.room_books.specs.declared.answer.LimitKind.TheVariants.{Series, Singles}
 use Rattle.room_books.specs.Views.{same_key, is_other, booked_of, booked_list, confirmed_of, confirmed_span, span_where, outcome_of, others, IsDecision}
-use Rattle.room_books.specs.Takings.{Told, told, told_in, AreDated, OutcomeDated}
+use Rattle.room_books.specs.Takings.{Told, told_in, AreDated, OutcomeDated}
 use Rattle.room_books.specs.Standing.{MeetsAt, Stands}
 use Rattle.room_books.proofs.Stepping.{key_laws}
 

@@ -37,7 +37,7 @@ use Rattle.room_books.specs.declared.answer.LimitKind.TheVariants.{Series, Singl
 use Rattle.room_books.specs.declared.taking.Asked.{Asked}
 use Rattle.room_books.specs.declared.taking.Taken.{Taken}
 use Rattle.room_books.specs.Views.{IsKeyOf, same_key, booked_of, booked_list, confirmed_span, span_where, outcome_of, others, IsDecision}
-use Rattle.room_books.specs.Takings.{StandsAt, Told, told, told_in, told_by, DecidedAfter, IsMeetingAfter, AreDated, OutcomeDated, kind_after}
+use Rattle.room_books.specs.Takings.{StandsAt, Told, told, told_in, told_by, DecidedAfter, IsMeetingAfter, AreDated, kind_after}
 use Rattle.room_books.specs.Standing.{is_of, of_meeting, answers_of, Meets, MeetsAt, Covers, Stands, HasTold, IsOfEvent, AreKeysOf, claim_of, StepsTo, StepsWith}
 use Rattle.room_books.proofs.Runs.{within_good, confirmed_back, confirmed_split, step_sound}
 use Rattle.room_books.proofs.Meetings.{key_from, is_of_parts, is_of_from, is_of_same, booked_same, view_of, of_more_own, of_more_other, confirmed_none, view_other, view_stays, place_whole, view_whole}
@@ -443,6 +443,7 @@ told_shows room entries entries' asks taken kind book reply f dec whole set of_k
     decided_some none =
         let meets = subst (MeetsAt s.after asks.key.now) found (s.stands.meets asks.key.now) in
         true≢false (sym meets.some ∙ ap (λ o. is_some (told_in o)) none)
+
     by_kinds : (f : Freshness) (dec : Option Decided) → taken.meeting.decided ≡ dec → IsFreshness f (of_meeting asks.key.now book.taken) (part_of asks.part.now)
         → TellsDecided room (part_of asks.part.now) f dec reply → Replies room s.after (claim_of (part_of asks.part.now) asks.span ∷ []) reply
     by_kinds Fresh None e f h = absurd (decided_some e)

@@ -1,5 +1,5 @@
 -- What the meetings of a room stand for: the parts that were taken, and the answers to them.
-use Rattle.std.specs.Prelude.{◌≡◌, ℕ, ℤ, ◌≤◌, Bool, true, ◌&&◌, List, [], ◌∷◌, length, map, filter, Contains, Option, Some, None, is_some}
+use Rattle.std.specs.Prelude.{◌≡◌, ℕ, ℤ, ◌^◌, ◌<◌, ◌≤◌, Bool, true, ◌&&◌, List, [], ◌∷◌, length, map, filter, Contains, Option, Some, None, is_some}
 use Rattle.std.specs.Str.{bytes_eq}
 use Rattle.std.specs.List.{AllZip}
 use Rattle.std.specs.Map.{lookup, keys_of}
@@ -8,7 +8,7 @@ use Rattle.itip_order.specs.Registers.{StandsFor}
 use Rattle.profile.specs.Instances.{IsClear}
 use Rattle.profile.specs.Revisions.{Part, Whole, in_view}
 use Rattle.profile.specs.Messages.{Outcome, AreParts, IsPart}
-use Rattle.profile.specs.Events.{Event, booked_by}
+use Rattle.profile.specs.Events.{Event, booked_by, length_seconds}
 use Rattle.itip_order.specs.Parts.{part_of}
 use Rattle.itip_order.specs.declared.part.Part.{Part as HeldPart}
 use Rattle.profile.specs.Rooms.{Claim, Answer, Book, Kind, confirmed, confirmed_in, most_singles, IsStep, kind_of}
@@ -58,9 +58,9 @@ pub record Covers (entries : List (MeetingKey × Meeting)) (part : Part) : Type 
   pub found : lookup (same_key key) entries ≡ Some meeting
   pub is : is_of key part ≡ true
 
--- the part is that of some event
+-- the part is that of some event, of no more seconds than 64 bits count
 abbrev pub IsOfEvent : Part → Type 0
-IsOfEvent part = (event : Event) × IsPart event part
+IsOfEvent part = (event : Event) × IsPart event part × (length_seconds event.length < 2 ^ 64)
 
 -- the keys are those of these parts' meetings, in order
 abbrev pub AreKeysOf : List MeetingKey → List Part → Type 0

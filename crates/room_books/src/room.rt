@@ -1,13 +1,13 @@
 //! A room takes messages one after another. A message is taken whole or not at all: everything is computed
 //! beside the room, and put into it by the last step.
 
-ghost use Rattle.std.specs.Prelude.{◌≡◌, true, false, Some, List, [], ◌∷◌, None, IfOk, IfSome, OnErr};
+ghost use Rattle.std.specs.Prelude.{◌≡◌, true, false, Some, List, [], ◌∷◌, ◌<◌, ◌^◌, None, IfOk, IfSome, OnErr};
 ghost use Rattle.std.specs.List.{IsDistinct};
 ghost use Rattle.indexmap.specs.IndexMap.{keys};
 ghost use Rattle.itip_order.specs.Parts.{part_of};
 ghost use Rattle.ical_values.specs.Octets.{address_octets};
 ghost use Rattle.itip_messages.specs.Messages.{StandsFor};
-ghost use Rattle.profile.specs.Events.{Event};
+ghost use Rattle.profile.specs.Events.{Event, length_seconds};
 ghost use Rattle.profile.specs.Messages.{AreParts};
 ghost use Rattle.profile.specs.Revisions as revisions;
 ghost use Rattle.profile.specs.Values.{IsClockSeconds};
@@ -145,6 +145,7 @@ fn is_request(part: &Part) -> bool
 fn span_of(message: &Message) -> Option<Span>
     ensures said { (event : Event) → StandsFor message.now event → result ≡ Some (span_said event) }
     ensures dated { IfSome result (λ span. IsClockSeconds span.start) }
+    ensures short { (event : Event) → StandsFor message.now event → length_seconds event.length < 2 ^ 64 }
 {
     match message.components().first() {
         Some(component) => Some(Span {
@@ -156,7 +157,7 @@ fn span_of(message: &Message) -> Option<Span>
 }
 
 /// What a map says of its keys: no two are of one meeting.
-fn keys_differ(meetings: &Meetings)
+pub(crate) fn keys_differ(meetings: &Meetings)
     ensures { IsDistinct same_key (keys meetings.now) }
 {
     let _ = meetings.len();
