@@ -11,9 +11,21 @@ const NINE: &str = "20260302T090000Z";
 const TEN: &str = "20260302T100000Z";
 
 fn part(alloc: Global, slot: Slot, sequence: &str, stamp: &str, body: Body) -> Result<Part, Fail> {
+    part_of(alloc, "meeting-1", slot, sequence, stamp, body)
+}
+
+/// A part of the meeting with this UID.
+fn part_of(
+    alloc: Global,
+    uid: &str,
+    slot: Slot,
+    sequence: &str,
+    stamp: &str,
+    body: Body,
+) -> Result<Part, Fail> {
     Ok(Part {
         organiser: Address::read(alloc, "mailto:Ada@example.org")?,
-        uid: Text::read_uid(alloc, "meeting-1")?,
+        uid: Text::read_uid(alloc, uid)?,
         slot,
         revision: Revision {
             sequence: Sequence::read(sequence)?,
@@ -121,6 +133,30 @@ fn six_orders_give_one_view(rt: HostRuntime) -> Result<(), Fail> {
         let mut view = held.view();
         assert_eq!(rt; view.next(), Some(&absent));
         assert_eq!(rt; view.next(), Some(&instance));
+        assert_eq!(rt; view.next(), None);
+    }
+    Ok(())
+}
+
+#[test]
+fn six_orders_of_two_meetings_give_one_view(rt: HostRuntime) -> Result<(), Fail> {
+    let alloc = rt.alloc();
+    let first = part(alloc, Slot::Whole, "0", NINE, set(alloc, b"a")?)?;
+    let moved = part(alloc, Slot::Whole, "1", NINE, set(alloc, b"b")?)?;
+    let other = part_of(
+        alloc,
+        "meeting-2",
+        Slot::Whole,
+        "0",
+        NINE,
+        set(alloc, b"c")?,
+    )?;
+    let parts = [first, moved.clone()?, other.clone()?];
+    for order in ORDERS {
+        let held = taken(alloc, &parts, order)?;
+        let mut view = held.view();
+        assert_eq!(rt; view.next(), Some(&moved));
+        assert_eq!(rt; view.next(), Some(&other));
         assert_eq!(rt; view.next(), None);
     }
     Ok(())
