@@ -1,13 +1,15 @@
 -- Content lines that are written one behind another read back as those lines.
-use Rattle.std.proofs.Common.{◌≡◌, filter, ℕ, zero, suc, ◌+◌, ◌≤◌, ◌<◌, Bool, true, false, not, ◌&&◌, ◌||◌, ◌==◌, eqb, ltb, List, [], ◌∷◌, ◌++◌, length, take, get_or, refl, ap, sym, ◌∙◌, arith}
+use Rattle.std.proofs.Common.{◌≡◌, filter, ℕ, zero, suc, ◌+◌, ◌≤◌, ◌<◌, Bool, true, false, not, ◌&&◌, ◌||◌, ◌==◌, eqb, ltb, List, [], ◌∷◌, ◌++◌, length, take, drop, get_or, refl, ap, sym, subst, ◌∙◌, arith}
 use Rattle.std.specs.Char.{encode_utf8}
 use Rattle.std.specs.Str.{IsUtf8, is_utf8, chars, encode_utf8_all}
 use Rattle.std.specs.List.{flat_map, list_any, list_all}
-use Rattle.std.proofs.lemmas.List.{append_assoc}
+use Rattle.std.proofs.lemmas.List.{append_assoc, get_or_at, take_at, drop_at, length-append, length_push}
+use Rattle.std.proofs.Math.Bool.{and-false}
+use Rattle.std.proofs.lemmas.Bool.{true≢false}
 use Rattle.std.proofs.lemmas.Bool.Decides.{nat_tests, eqb_tells}
-use Rattle.std.proofs.lemmas.Str.{encodes-chars, length-encode, len_utf8_bounds, IsUtf8-append, IsUtf8-nil, IsUtf8-from_ascii, IsUtf8-from_is_utf8, is_utf8-from_IsUtf8}
+use Rattle.std.proofs.lemmas.Str.{encodes-chars, length-encode, len_utf8_bounds, IsUtf8-append, IsUtf8-nil, IsUtf8-take, IsUtf8-drop, IsCharBoundary-before_ascii, IsCharBoundary-after_ascii, IsUtf8-from_ascii, IsUtf8-from_is_utf8, is_utf8-from_IsUtf8}
 use Rattle.std.proofs.lemmas.Str.Ascii.{IsAscii-cons, IsAscii-nil}
-use Rattle.profile.specs.Lines.{fold_break, fold_from, next_column, folded, without_mark, physical_lines, is_continuation, unfolded, is_filled, logical_lines, ended, outside, line_name, is_name, is_name_octet, is_control, has_control, lacks_colon, has_bad_name, has_bad_quote, is_faulty, is_content, reads_as_lines}
+use Rattle.profile.specs.Lines.{fold_break, fold_from, next_column, folded, without_mark, physical_lines, is_continuation, unfolded, is_filled, logical_lines, ended, outside, line_name, is_name, is_name_octet, is_control, has_control, lacks_colon, has_bad_name, has_bad_quote, line_has, is_faulty, is_content, text_has, reads_as_lines}
 use Rattle.ical_lines.specs.Breaks.{is_break, is_one_line}
 use Rattle.ical_lines.proofs.BreakLemmas.{both, was_false, neither_first, neither_second}
 use Rattle.ical_lines.proofs.ReadBackLemmas.{reads_back}
@@ -158,3 +160,64 @@ lines_fine lines h =
     let none = none_faulty lines h in
     let utf8 = is_utf8-from_IsUtf8 (ended lines) (ended_utf8 lines h) in
     rw (back, none, utf8) refl
+
+-- ---- the lines of octets that read as lines
+
+cut_at_end : (line rest : List ℕ) → IsUtf8 ((line ++ 10 ∷ []) ++ rest) → IsUtf8 line × IsUtf8 rest
+cut_at_end line rest u =
+    let text = line ++ 10 ∷ rest in
+    let v : IsUtf8 text = subst IsUtf8 (append_assoc line (10 ∷ []) rest) u in
+    let at : get_or text (length line) 0 ≡ 10 = get_or_at line 10 rest 0 (length line) refl in
+    let inside : length line < length text = omega (arith, length-append line (10 ∷ rest)) in
+    let low : get_or text (length line) 0 < 128 = omega arith in
+    let size : length (line ++ 10 ∷ []) ≡ length line + 1 = length_push line 10 in
+    let front = IsUtf8-take text (length line) v (IsCharBoundary-before_ascii text (length line) inside low) in
+    let back = IsUtf8-drop text (length line + 1) v (IsCharBoundary-after_ascii text (length line) v inside low) in
+    (subst IsUtf8 (take_at line (10 ∷ rest) (length line) refl) front, subst IsUtf8 (ap (drop (length line + 1)) (sym (append_assoc line (10 ∷ []) rest)) ∙ drop_at (line ++ 10 ∷ []) rest (length line + 1) size) back)
+
+all_content : (lines : List (List ℕ)) → list_any is_faulty lines ≡ false → IsUtf8 (ended lines) → list_all is_content lines ≡ true
+all_content [] f u = refl
+all_content (x ∷ ls) f u =
+    let cut = cut_at_end x (ended ls) u in
+    let first : is_faulty x ≡ false = neither_first (is_faulty x) (list_any is_faulty ls) f in
+    let utf8 : is_utf8 x ≡ true = is_utf8-from_IsUtf8 x cut.0 in
+    rw (first, utf8, all_content ls (neither_second (is_faulty x) (list_any is_faulty ls) f) cut.1) refl
+
+-- what it says of octets that they read as lines
+pub record Reads (bounded : Bool) (octets : List ℕ) : Type 0 where
+  pub faultless : list_any is_faulty (logical_lines octets) ≡ false
+  pub utf8 : is_utf8 (ended (logical_lines octets)) ≡ true
+  pub small : (bounded && (ltb 1048576 (length octets) || ltb 65536 (length (logical_lines octets)))) ≡ false
+
+reads_parts : (bounded : Bool) (octets : List ℕ) → reads_as_lines bounded octets ≡ true → Reads bounded octets
+reads_parts bounded octets h =
+    let faulty = list_any is_faulty (logical_lines octets) in
+    let utf8 = is_utf8 (ended (logical_lines octets)) in
+    let large = bounded && (ltb 1048576 (length octets) || ltb 65536 (length (logical_lines octets))) in
+    let outer = both (not faulty && utf8) (not large) h in
+    let inner = both (not faulty) utf8 outer.0 in
+    record { faultless = was_false faulty inner.0; utf8 = inner.1; small = was_false large outer.1 }
+
+pub read_content : (bounded : Bool) (octets : List ℕ) → reads_as_lines bounded octets ≡ true → list_all is_content (logical_lines octets) ≡ true
+read_content bounded octets h =
+    let r = reads_parts bounded octets h in
+    all_content (logical_lines octets) r.faultless (IsUtf8-from_is_utf8 (ended (logical_lines octets)) r.utf8)
+
+no_fault_by : (i j k l a b q c : Bool) → (a || b || q || c) ≡ false → ((i && a) || (j && b) || (k && q) || (l && c)) ≡ false
+no_fault_by i j k l true b q c h = absurd (true≢false h)
+no_fault_by i j k l false true q c h = absurd (true≢false h)
+no_fault_by i j k l false false true c h = absurd (true≢false h)
+no_fault_by i j k l false false false true h = absurd (true≢false h)
+no_fault_by i j k l false false false false h = rw (and-false i, and-false j, and-false k, and-false l) refl
+
+none_has : (number : ℕ) (lines : List (List ℕ)) → list_any is_faulty lines ≡ false → list_any (line_has number) lines ≡ false
+none_has number [] h = refl
+none_has number (x ∷ ls) h =
+    let first : line_has number x ≡ false = no_fault_by (eqb number 1) (eqb number 2) (eqb number 3) (eqb number 4) (lacks_colon x) (has_bad_name x) (has_bad_quote x) (has_control x) (neither_first (is_faulty x) (list_any is_faulty ls) h) in
+    rw (first, none_has number ls (neither_second (is_faulty x) (list_any is_faulty ls) h)) refl
+
+pub read_fine : (bounded : Bool) (octets : List ℕ) (number : ℕ) → reads_as_lines bounded octets ≡ true → text_has bounded number octets ≡ false
+read_fine bounded octets number h =
+    let r = reads_parts bounded octets h in
+    let none = none_has number (logical_lines octets) r.faultless in
+    rw (none, r.utf8, r.small, and-false (eqb number 5), and-false (eqb number 6)) refl
