@@ -16,7 +16,7 @@ use Rattle.ical_lines.proofs.ReadBackLemmas.{reads_back}
 
 -- ---- what a content line has
 
--- an octet that may begin a line that isn't the first
+-- an octet that neither continues the line before it nor begins a byte order mark
 abbrev pub is_starter : ℕ → Bool
 is_starter c = not (c == 32) && not (c == 9) && not (c == 0xEF)
 
