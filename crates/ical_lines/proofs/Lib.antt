@@ -1,6 +1,7 @@
 mod Samples
 pub mod BegunLemmas
 pub mod BreakLemmas
+pub mod ContentLemmas
 pub mod CutLemmas
 pub mod FoldLemmas
 pub mod PieceLemmas

@@ -1,7 +1,9 @@
 -- The definitions on worked examples. In `codes` a text stands for its octets; 13 is CR, 10 LF.
 use Rattle.std.proofs.Common.{◌≡◌, true, false, [], ◌∷◌, ◌++◌, replicate, codes, refl}
 use lib.Utf8.{encode}
-use Rattle.profile.specs.Lines.{logical_lines, line_name, line_value, lacks_colon, has_bad_name, has_bad_quote, has_control, fold_from}
+use Rattle.std.specs.Str.{chars}
+use Rattle.std.specs.List.{flat_map}
+use Rattle.profile.specs.Lines.{logical_lines, line_name, line_value, lacks_colon, has_bad_name, has_bad_quote, has_control, is_content, fold_from, folded}
 use Rattle.profile.specs.Objects.{after_object, is_begun}
 
 -- a continuation is joined without its blank
@@ -47,6 +49,14 @@ three_left = refl
 not_split : fold_from 0 (replicate 74 97 ++ 0xE4 ∷ []) ≡ replicate 74 97 ++ 13 ∷ 10 ∷ 32 ∷ 0xC3 ∷ 0xA4 ∷ []
 unfolding encode
 not_split = refl
+
+two_read_back : logical_lines (flat_map folded (codes "A:x" ∷ codes "B;C=d: y" ∷ [])) ≡ codes "A:x" ∷ codes "B;C=d: y" ∷ []
+unfolding chars encode
+two_read_back = refl
+
+-- an empty line is no content line, nor is one that a blank begins
+no_content : (is_content [] ≡ false) × (is_content (codes " A:x") ≡ false)
+no_content = (refl, refl)
 
 ended_here : after_object (codes "END:VCALENDAR" ++ 13 ∷ 10 ∷ codes "X") ≡ codes "X"
 ended_here = refl

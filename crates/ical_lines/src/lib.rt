@@ -5,6 +5,7 @@
 pub mod fault;
 pub mod fold;
 mod judge;
+pub mod law;
 pub mod limits;
 pub mod line;
 pub mod object_end;
@@ -15,6 +16,7 @@ mod unfold;
 
 pub use fault::{Fault, Refusal};
 pub use fold::{write_line, write_property};
+pub use law::{lines_read_back, read_lines_are_content};
 pub use limits::Limits;
 pub use line::{Line, Param, Params};
 pub use object_end::{Cutter, cut};

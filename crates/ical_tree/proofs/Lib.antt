@@ -4,3 +4,5 @@ pub mod StandsLemmas
 pub mod WriteLemmas
 pub mod PairLemmas
 pub mod OneTree
+pub mod ReadsBackLemmas
+pub mod TreeOfLemmas

@@ -1,14 +1,12 @@
 -- Lines spell at most one tree, and none where a fault stands in how they pair up.
-use Rattle.std.proofs.Common.{◌≡◌, ℕ, ◌+◌, ◌<◌, ◌≤◌, Bool, true, false, not, ◌&&◌, ◌||◌, eqb, cond, List, [], ◌∷◌, ◌++◌, length, drop, codes, refl, ap, sym, ◌∙◌, arith}
-use Rattle.std.specs.Prelude.{nat_le}
-use Rattle.std.specs.Str.{bytes_eq, str_to_ascii_lowercase}
-use Rattle.std.proofs.lemmas.Bool.{true≢false, lt-leb}
-use Rattle.std.proofs.lemmas.Slice.Eq.{bytes_eq-Decides}
+use Rattle.std.proofs.Common.{◌≡◌, ℕ, Bool, true, false, not, ◌&&◌, ◌||◌, eqb, cond, List, [], ◌∷◌, ◌++◌, refl, ap, sym, ◌∙◌, arith}
+use Rattle.std.proofs.lemmas.Bool.{true≢false}
 use Rattle.std.proofs.lemmas.List.{append_assoc, append-nil}
 use Rattle.std.proofs.Math.Bool.{and-false}
-use Rattle.profile.specs.Lines.{line_name, line_value, is_same_name}
-use Rattle.profile.specs.Objects.{is_begin, is_end, is_property, Opens, Closes, Body, Spells, IsObject, is_none, now_open, opened_from, misplaced, misplaced_begin, misplaced_end, misplaced_property, some_misplaced, all_fit, lines_have}
+use Rattle.profile.specs.Lines.{line_name, line_value}
+use Rattle.profile.specs.Objects.{is_begin, is_end, is_property, Opens, Closes, Body, Spells, IsObject, is_none, opened_from, some_misplaced, all_fit, lines_have}
 use Rattle.profile.specs.Objects.Body.{nothing, property, component}
+use Rattle.ical_tree.specs.Tree.{trees_of}
 use Rattle.ical_tree.proofs.PairLemmas.{not_both, no_begin, no_end, or_none, any_misplaced, first_none, fine_first, stays_whole, stays, fine_whole, fine}
 use Rattle.profile.specs.Trees.{Tree, Trees, tree, none, more, trees_list, tree_name, tree_own, tree_inside}
 
@@ -28,12 +26,7 @@ record Frame : Type 0 where
   own : Lines
   parts : List Tree
 
-trees_of : List Tree → Trees
-trees_of [] = none
-trees_of (t ∷ ts) = more t (trees_of ts)
-
 trees_there : (ts : Trees) → trees_of (trees_list ts) ≡ ts
-unfolding trees_of
 trees_there none = refl
 trees_there (more t ts) = ap (λ l. more t l) (trees_there ts)
 

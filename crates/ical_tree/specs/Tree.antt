@@ -4,6 +4,7 @@ use Rattle.std.specs.List.{flat_map}
 use Rattle.std.specs.String.{string_bytes}
 use Rattle.profile.specs.Lines.{folded}
 use Rattle.profile.specs.Objects.{IsObject}
+use Rattle.profile.specs.Trees.{Tree, Trees, tree, none, more}
 use Rattle.ical_tree.specs.declared.component.Component.{Component, out-Component}
 use Rattle.ical_tree.specs.declared.component.Component.TheOpen.{Component-F}
 use Rattle.ical_tree.specs.declared.component.Component.TheFolds.{fold-Component}
@@ -36,3 +37,16 @@ written_lines = fold-Component (List (List ℕ)) written_step
 -- the octets that a component is written with
 abbrev pub written : Component → List ℕ
 written c = flat_map folded (written_lines c)
+
+-- ---- a component as a tree: its name, its own lines, and the components inside, each as a tree
+
+abbrev pub trees_of : List Tree → Trees
+trees_of [] = none
+trees_of (t ∷ ts) = more t (trees_of ts)
+
+-- one level as a tree, given those of the components inside
+abbrev pub tree_step : Component-F Tree → Tree
+tree_step c = tree (string_bytes c.name) c.lines (trees_of c.children.items)
+
+abbrev pub tree_of : Component → Tree
+tree_of = fold-Component Tree tree_step

@@ -56,6 +56,10 @@ fn an_object_reads_and_is_written(rt: HostRuntime) -> Result<(), Fail> {
     let written =
         b"BEGIN:vcalendar\r\nVERSION:2.0\r\nPRODID:p\r\nBEGIN:VEVENT\r\nUID:a\r\nEND:VEVENT\r\nEND:vcalendar\r\n";
     assert_eq!(rt; out.as_slice(), written.as_slice());
+    let again = read_object(rt.alloc(), out.as_slice(), Limits::Open)?;
+    let mut out_again = Vec::new(rt.alloc());
+    write_object(&again, &mut out_again)?;
+    assert_eq!(rt; out_again.as_slice(), written.as_slice());
     Ok(())
 }
 

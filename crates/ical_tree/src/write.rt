@@ -1,18 +1,24 @@
 //! Writing an object: BEGIN, the component's own lines, the components inside, END, each line folded.
 
-ghost use Rattle.std.specs.Prelude.{◌≡◌, take, length, OnErr, OnOk, ◌++◌};
+ghost use Rattle.std.specs.Prelude.{◌≡◌, ℕ, Bool, true, List, take, length, OnErr, OnOk, ◌++◌};
 ghost use Rattle.std.specs.List.{flat_map};
-ghost use Rattle.profile.specs.Lines.{folded};
-ghost use Rattle.ical_tree.specs.Tree.{written, component_lines};
+ghost use Rattle.profile.specs.Lines.{folded, logical_lines, reads_as_lines};
+ghost use Rattle.ical_tree.specs.ReadsBack.{ReadsBack};
+ghost use Rattle.ical_tree.specs.Tree.{IsObjectOf, written, component_lines};
 
 use crate::component::Component;
 use ical_lines::{write_line, write_property};
 use std::alloc::AllocError;
 
-/// Writes a component with all that stands inside. Where memory is refused, `out` is unchanged.
+/// Writes a component with all that stands inside. Where it was read from octets, what is written reads back as the same tree.
+/// Where memory is refused, `out` is unchanged.
 pub fn write_object(component: &Component, out: &mut Vec<u8>) -> Result<(), AllocError>
     ensures written { OnOk result (out.new.items ≡ out.old.items ++ written component.now) }
     ensures unchanged { OnErr result (out.new.items ≡ out.old.items) }
+    ensures reads_back { (bounded : Bool) (octets : List ℕ)
+        → reads_as_lines bounded octets ≡ true
+        → IsObjectOf bounded component.now (logical_lines octets)
+        → ReadsBack component.now (written component.now) }
 {
     let kept = out.len();
     match write_component(component, out) {

@@ -1,0 +1,16 @@
+//! What octets that read as lines hold, and what lines that are written read back as (RFC 5545 3.1).
+ghost use Rattle.std.specs.Prelude.{ℕ, Bool, List, ◌≡◌, true, false};
+ghost use Rattle.std.specs.List.{flat_map, list_all};
+ghost use Rattle.profile.specs.Lines.{is_content, folded, logical_lines, reads_as_lines, text_has};
+
+/// Lines that were written one behind another read back as those lines, and nothing is wrong with them (RFC 5545 3.1).
+pub fn lines_read_back()
+    ensures lines { (lines : List (List ℕ)) → list_all is_content lines ≡ true → logical_lines (flat_map folded lines) ≡ lines }
+    ensures reads { (lines : List (List ℕ)) → list_all is_content lines ≡ true → reads_as_lines false (flat_map folded lines) ≡ true }
+{}
+
+/// The lines of octets that read as lines are content lines, and none of the faults 1 to 6 stands in the octets.
+pub fn read_lines_are_content()
+    ensures content { (bounded : Bool) (octets : List ℕ) → reads_as_lines bounded octets ≡ true → list_all is_content (logical_lines octets) ≡ true }
+    ensures fine { (bounded : Bool) (octets : List ℕ) (number : ℕ) → reads_as_lines bounded octets ≡ true → text_has bounded number octets ≡ false }
+{}
