@@ -9,3 +9,11 @@ pub mod Stepping
 pub mod Steps
 pub mod Claims
 pub mod Replying
+pub mod KeptEvents
+pub mod KeptTree
+pub mod KeptText
+pub mod KeptUids
+pub mod KeptRequests
+pub mod KeptLines
+pub mod KeptBodies
+pub mod KeptAnswers
