@@ -1,5 +1,5 @@
 -- The lines of the VEVENT of a message: they stand among its logical lines, which read as lines.
-use Rattle.std.proofs.Common.{◌≡◌, ◌∙◌, ℕ, suc, ◌+◌, ◌<◌, Bool, true, false, not, ◌&&◌, cond, eqb, List, [], ◌∷◌, ◌++◌, length, get_or, take, drop, map, refl, sym, ap, subst, arith, inl, inr, append_assoc, length-append}
+use Rattle.std.proofs.Common.{◌≡◌, ◌∙◌, ℕ, suc, ◌+◌, ◌<◌, Bool, true, false, not, ◌&&◌, cond, eqb, List, [], ◌∷◌, ◌++◌, length, get_or, take, drop, refl, sym, ap, subst, arith, inl, inr, append_assoc, length-append}
 use Rattle.std.specs.List.{list_any, Contains}
 use Rattle.std.specs.Str.{IsUtf8}
 use Rattle.std.proofs.lemmas.Bool.{and_parts, or_parts, not-true, cases_lt}
@@ -12,9 +12,10 @@ use Rattle.profile.specs.Lines.{outside_from, outside, line_value, is_control, i
 use Rattle.profile.specs.Trees.{Tree, tree_name, tree_own, tree_inside, vevents}
 use Rattle.profile.specs.Objects.{Body, IsObject}
 use Rattle.profile.specs.Objects.Body.{nothing, property, component}
-use Rattle.itip_order.proofs.Lists.{in_cons, in_head, in_tail, none_in_nil, filter_at}
+use Rattle.itip_order.proofs.Lists.{in_cons, in_tail, none_in_nil, filter_at}
 use Rattle.room_books.proofs.KeptText.{IsClean}
 use Rattle.room_books.proofs.KeptTree.{Lines}
+use Rattle.room_books.proofs.Pairs.{map_at}
 
 -- ---- the value of a line
 
@@ -61,8 +62,7 @@ utf8_parts line rest u =
     let first : take (length line) all ≡ line = take_at line (10 ∷ rest) (length line) refl in
     let whole : (line ++ 10 ∷ []) ++ rest ≡ all = append_assoc line (10 ∷ []) rest in
     let size : length (line ++ 10 ∷ []) ≡ length line + 1 = length-append line (10 ∷ []) in
-    let last : drop (length line + 1) all ≡ rest = ap (λ l. drop (length line + 1) l) (sym whole) ∙ drop_at (line ++ 10 ∷ []) rest (length line + 1) size in
-    (
+    let last : drop (length line + 1) all ≡ rest = ap (λ l. drop (length line + 1) l) (sym whole) ∙ drop_at (line ++ 10 ∷ []) rest (length line + 1) size in (
       subst IsUtf8 first (IsUtf8-take all (length line) u (IsCharBoundary-before_ascii all (length line) long low)),
       subst IsUtf8 last (IsUtf8-drop all (length line + 1) u (IsCharBoundary-after_ascii all (length line) u long low)),
     )
@@ -128,7 +128,7 @@ holds_component own parts body part begin end inner i h = record {
       elim (Contains-push_cases parts part p c) [
         | inl old ↦ in_front body (begin ∷ (inner ++ end ∷ [])) (tree_own p) (h.of_part p old)
         | inr same ↦ subst (λ (x : Tree). HasLine (body ++ begin ∷ (inner ++ end ∷ [])) (tree_own x)) same
-          (λ line k. Contains-append_right body (begin ∷ (inner ++ end ∷ [])) line (in_tail begin (inner ++ end ∷ []) line (Contains-append_left inner (end ∷ []) line (i line k))))
+            (λ line k. Contains-append_right body (begin ∷ (inner ++ end ∷ [])) line (in_tail begin (inner ++ end ∷ []) line (Contains-append_left inner (end ∷ []) line (i line k))))
       ];
 }
 
@@ -136,14 +136,6 @@ holds : {depth : ℕ} {own : Lines} {parts : List Tree} {body : Lines} → Body 
 holds nothing = holds_none
 holds (property {lines = own} {parts = parts} {body = body} line p b) = holds_property own parts body line (holds b)
 holds (component {lines = own} {parts = parts} {body = body} part begin end inner o e b rest) = holds_component own parts body part begin end inner (holds b).of_own (holds rest)
-
-map_at : {A B : Type 0} (f : A → B) (xs : List A) (y : B) → Contains (map f xs) y → (x : A) × Contains xs x × (f x ≡ y)
-map_at f [] y c = absurd (none_in_nil y c)
-map_at f (x ∷ xs) y c =
-    elim (in_cons (f x) (map f xs) y c) [
-      | inl here ↦ (x, in_head x xs, here)
-      | inr there ↦ let rest = map_at f xs y there in (rest.0, in_tail x xs rest.0 rest.1, rest.2)
-    ]
 
 -- the lines of a VEVENT are among the lines of its object
 pub vevent_among : (bounded : Bool) (whole : Tree) (lines own : Lines) → IsObject tree_name tree_own tree_inside bounded whole lines → Contains (vevents whole) own → HasLine lines own

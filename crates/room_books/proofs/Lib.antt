@@ -17,3 +17,7 @@ pub mod KeptRequests
 pub mod KeptLines
 pub mod KeptBodies
 pub mod KeptAnswers
+pub mod Pairs
+pub mod KeptMeetings
+pub mod KeptRuns
+pub mod KeptCalendars
