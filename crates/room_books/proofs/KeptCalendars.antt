@@ -129,11 +129,9 @@ kept_well room book k =
       long = same;
     }
 
--- whatever messages come, what is kept after them passes
-pub kept_passes : LinesBack → ReadsLines → (room : List ℕ) → (deliveries : List Delivery) → ((d : Delivery) → Contains deliveries d → IsDelivered room d)
-    → (book : Book) → Runs empty_book deliveries book → (calendar : List ℕ) → IsKeptCalendar room book calendar → CertificateHolds room calendar (kept_certificate book)
-kept_passes back reads room deliveries f book runs calendar k =
-    let keeps = runs_keep room deliveries book f runs in
+-- what is kept passes
+pub keeps_pass : LinesBack → ReadsLines → (room : List ℕ) (book : Book) → KeepsAll room book → (calendar : List ℕ) → IsKeptCalendar room book calendar → CertificateHolds room calendar (kept_certificate book)
+keeps_pass back reads room book keeps calendar k =
     let well = kept_well room book keeps in
     let few = keeps.sound.good.few in
     record {
@@ -146,3 +144,8 @@ kept_passes back reads room deliveries f book runs calendar k =
         clear = well.good.clear;
       };
     }
+
+-- whatever messages come, what is kept after them passes
+pub kept_passes : LinesBack → ReadsLines → (room : List ℕ) (deliveries : List Delivery) → ((d : Delivery) → Contains deliveries d → IsDelivered room d)
+    → (book : Book) → Runs empty_book deliveries book → (calendar : List ℕ) → IsKeptCalendar room book calendar → CertificateHolds room calendar (kept_certificate book)
+kept_passes back reads room deliveries f book runs = keeps_pass back reads room book (runs_keep room deliveries book f runs)

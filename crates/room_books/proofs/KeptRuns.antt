@@ -22,11 +22,11 @@ use Rattle.room_books.proofs.KeptMeetings.{AnswersApart}
 -- ---- what a delivery claims
 
 -- a delivery's claims: at most one, which its octets ask for
-record OneAsked (room : List ℕ) (claims : List Claim) : Type 0 where
+pub record OneAsked (room : List ℕ) (claims : List Claim) : Type 0 where
   few : length claims ≤ 1
   each : (c : Claim) → Contains claims c → IsAsked room c
 
-one_asked : (room octets : List ℕ) (event : Event) (parts : List Part) → SpellsRequest octets event → AreParts room event parts → OneAsked room (map (claim event) parts)
+pub one_asked : (room octets : List ℕ) (event : Event) (parts : List Part) → SpellsRequest octets event → AreParts room event parts → OneAsked room (map (claim event) parts)
 one_asked room octets event [] s h = record { few = omega arith; each = λ c k. absurd (none_in_nil c k) }
 one_asked room octets event (part ∷ []) s h = record {
   few = omega arith;
@@ -74,20 +74,20 @@ new_answer before after moment outcome claims a c =
       gone = subst (λ (x : Claim). in_view before x.part ≡ false) is (not-true _ fresh.1);
     }
 
-keeps_step : (room : List ℕ) (before : Book) (d : Delivery) (outcome : Outcome) (after : Book) → IsDelivered room d → IsStep before d.claims d.moment outcome after → KeepsAll room before → KeepsAll room after
-keeps_step room before d outcome after delivered s k =
-    let one = delivered_asked room d delivered in
-    let now = asked before.taken after.taken d.claims in
-    let new : List Answer = answered d.moment outcome now in
-    let sound = step_sound before d.claims d.moment outcome after s k.sound in
+-- a step with claims that octets ask for
+pub keeps_step : (room : List ℕ) (before : Book) (claims : List Claim) (moment : ℤ) (outcome : Outcome) (after : Book) → OneAsked room claims → IsStep before claims moment outcome after → KeepsAll room before → KeepsAll room after
+keeps_step room before claims moment outcome after one s k =
+    let now = asked before.taken after.taken claims in
+    let new : List Answer = answered moment outcome now in
+    let sound = step_sound before claims moment outcome after s k.sound in
     let test : Answer → Bool = is_confirmed after.taken in
-    let is_new = λ (a : Answer) (c : Contains new a). new_answer before.taken after.taken d.moment outcome d.claims a c in
+    let is_new = λ (a : Answer) (c : Contains new a). new_answer before.taken after.taken moment outcome claims a c in
     let known : (a : Answer) → Contains before.answers a → in_view after.taken a.claim.part ≡ true → in_view before.taken a.claim.part ≡ true = λ a c v.
-    view_back before.taken (parts_of d.claims) a.claim.part (k.sound.known a c) (subst (λ (t : List Part). in_view t a.claim.part ≡ true) s.taken v) in
+    view_back before.taken (parts_of claims) a.claim.part (k.sound.known a c) (subst (λ (t : List Part). in_view t a.claim.part ≡ true) s.taken v) in
     let old_apart : Pairwise AnswersApart (filter test before.answers) = pairs_stronger AnswersApart test (is_confirmed before.taken) before.answers
     (λ a c e. let both = and_parts (is_accept a.outcome) (in_view after.taken a.claim.part) e in and_from _ _ both.0 (known a c both.1)) k.apart in
-    let make : Claim → Answer = λ c. record { claim = c; moment = d.moment; outcome = outcome } in
-    let few : length (filter test new) ≤ 1 = omega (arith, filter_no_longer test new, length-map now make, filter_no_longer (λ (c : Claim). is_set c.part && is_fresh before.taken after.taken c.part) d.claims, one.few) in
+    let make : Claim → Answer = λ c. record { claim = c; moment = moment; outcome = outcome } in
+    let few : length (filter test new) ≤ 1 = omega (arith, filter_no_longer test new, length-map now make, filter_no_longer (λ (c : Claim). is_set c.part && is_fresh before.taken after.taken c.part) claims, one.few) in
     let cross : (x y : Answer) → Contains (filter test before.answers) x → Contains (filter test new) y → AnswersApart x y = λ x y c h.
     let old = filter_at test before.answers x c in
     let fresh = filter_at test new y h in
@@ -109,7 +109,7 @@ keeps_step room before d outcome after delivered s k =
       apart = subst (Pairwise AnswersApart) (sym (ap (filter test) s.answers ∙ filter-append test before.answers new)) (pairs_append AnswersApart (filter test before.answers) (filter test new) old_apart (pairs_short AnswersApart (filter test new) few) cross);
     }
 
-keeps_none : (room : List ℕ) → KeepsAll room empty_book
+pub keeps_none : (room : List ℕ) → KeepsAll room empty_book
 keeps_none room = record {
   sound = record {
     known = λ a c. absurd (none_in_nil a c);
@@ -122,7 +122,7 @@ keeps_none room = record {
 keeps_run : (room : List ℕ) (before : Book) (ds : List Delivery) (after : Book) → ((d : Delivery) → Contains ds d → IsDelivered room d) → Runs before ds after → KeepsAll room before → KeepsAll room after
 keeps_run room before [] after f r k = subst (KeepsAll room) (sym r) k
 keeps_run room before (d ∷ ds) after f r k =
-    keeps_run room r.0 ds after (λ x c. f x (in_tail d ds x c)) r.3 (keeps_step room before d r.1 r.0 (f d (in_head d ds)) r.2 k)
+    keeps_run room r.0 ds after (λ x c. f x (in_tail d ds x c)) r.3 (keeps_step room before d.claims d.moment r.1 r.0 (delivered_asked room d (f d (in_head d ds))) r.2 k)
 
 pub runs_keep : (room : List ℕ) (ds : List Delivery) (book : Book) → ((d : Delivery) → Contains ds d → IsDelivered room d) → Runs empty_book ds book → KeepsAll room book
 runs_keep room ds book f r = keeps_run room empty_book ds book f r (keeps_none room)
