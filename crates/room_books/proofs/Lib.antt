@@ -26,3 +26,4 @@ pub mod Pairs
 pub mod KeptMeetings
 pub mod KeptRuns
 pub mod KeptCalendars
+pub mod KeptStreams

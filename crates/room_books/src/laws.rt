@@ -1,9 +1,9 @@
 //! What holds of each room, whatever it takes: laws, with nothing to do.
 
-ghost use Rattle.std.specs.Prelude.{◌≤◌, ℕ, List, length, Contains};
+ghost use Rattle.std.specs.Prelude.{◌≤◌, ℕ, ℤ, List, length, Contains};
 ghost use Rattle.profile.specs.Instances.{IsClear};
 ghost use Rattle.profile.specs.Rooms.{Book, Delivery, Runs, empty_book, confirmed, most_singles};
-ghost use Rattle.profile.specs.Streams.{IsDelivered};
+ghost use Rattle.profile.specs.Streams.{IsDelivered, AllAnswers, HasBook, empty_books};
 ghost use Rattle.profile.specs.Kept.{IsKeptCalendar, kept_certificate};
 ghost use Rattle.profile.specs.Calendars.{CertificateHolds};
 
@@ -20,6 +20,17 @@ pub fn kept_texts_pass()
     ensures { (room : List ℕ) (deliveries : List Delivery) → ((delivery : Delivery) → Contains deliveries delivery → IsDelivered room delivery)
         → (book : Book) → Runs empty_book deliveries book
         → (calendar : List ℕ) → IsKeptCalendar room book calendar → CertificateHolds room calendar (kept_certificate book) }
+{
+    ical_lines::lines_read_back();
+}
+
+/// Whatever objects a stream has, taken or refused, one after another from the first: what each of the rooms keeps after
+/// them passes likewise.
+pub fn served_texts_pass()
+    ensures { (moment : ℤ) (rooms : List (List ℕ)) (first : ℕ) (objects : List (List ℕ)) (books : List Book) (replies : List ℕ) (refused : ℕ)
+        → AllAnswers moment rooms first objects (empty_books rooms) books replies refused
+        → (room : List ℕ) (book : Book) → HasBook rooms books room book
+        → (kept : List ℕ) → IsKeptCalendar room book kept → CertificateHolds room kept (kept_certificate book) }
 {
     ical_lines::lines_read_back();
 }
