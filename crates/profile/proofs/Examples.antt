@@ -12,7 +12,7 @@ use Rattle.profile.specs.Revisions.{Part, Whole, Set}
 use Rattle.profile.specs.Messages.{Accept, SinglesLimit, MethodFault, no_method, object_lines, word}
 use Rattle.profile.specs.Rooms.{Book, Claim, empty_book}
 use Rattle.profile.specs.Kept.{kept, kept_certificate, first_parts}
-use Rattle.profile.specs.Streams.{Now, Room, moments, rooms, refused_line, AreObjects, no_more, one_more}
+use Rattle.profile.specs.Streams.{Now, Room, moments, rooms, refused_line, AreObjects}
 
 -- ---- lists of refusals
 
@@ -155,11 +155,11 @@ the_rooms : rooms (Room (codes "r:1") ∷ Now (pos 5) ∷ Room (codes "r:2") ∷
 the_rooms = refl
 
 empty_lines_are_no_object : AreObjects (codes "\r\n\n") []
-empty_lines_are_no_object = no_more refl
+empty_lines_are_no_object = (_, refl, refl)
 
 -- the second object begins after the first one's line break; a line that goes on isn't the last
 two_objects : AreObjects (codes "A:1\nEND:VCALENDAR\n\nEND:\n VCALENDAR") (codes "A:1\nEND:VCALENDAR\n" ∷ codes "\nEND:\n VCALENDAR" ∷ [])
-two_objects = one_more _ refl refl (one_more _ refl refl (no_more refl))
+two_objects = (_, (refl, refl, (refl, refl, refl)), refl)
 
 no_method_is_unread : MethodFault [] 99
 no_method_is_unread = no_method refl

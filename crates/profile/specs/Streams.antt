@@ -8,7 +8,7 @@ use Rattle.profile.specs.Trees.{Tree, tree_name, tree_own, tree_inside}
 use Rattle.profile.specs.Events.{Event, booked_by}
 use Rattle.profile.specs.Messages.{SpellsRequest, RequestFault, AreParts, Outcome}
 use Rattle.profile.specs.Revisions.{Part}
-use Rattle.profile.specs.Rooms.{Claim, Book, Delivery, IsStep}
+use Rattle.profile.specs.Rooms.{Claim, Book, Delivery, IsStep, empty_book}
 use Rattle.profile.specs.Kept.{Replies}
 use Rattle.profile.specs.Values.{SpellsStamp, IsAddress, lower_case}
 
@@ -52,12 +52,27 @@ pub record IsPreamble (closed : Bool) (octets : List ℕ) (moment : ℤ) (addres
   pub some : 0 < length addresses
   pub differ : AllPairs ◌≢◌ addresses
 
+-- the octets of a configuration give these rooms: a preamble's lines, without a moment
+pub record IsConfiguration (closed : Bool) (octets : List ℕ) (addresses : List (List ℕ)) : Type 0 where
+  pub settings : List Setting
+  pub says : SaysSettings closed octets settings
+  pub short : length octets ≤ 65_536
+  pub timeless : moments settings ≡ []
+  pub rooms_are : rooms settings ≡ addresses
+  pub some : 0 < length addresses
+  pub differ : AllPairs ◌≢◌ addresses
+
 -- ---- the objects of a stream
 
--- the objects of a stream, in order: each is what stands before the rest after it; a rest of empty lines is none
-pub data AreObjects : List ℕ → List (List ℕ) → Type 0 where
-  no_more : {rest : List ℕ} → is_begun rest ≡ false → AreObjects rest []
-  one_more : {stream : List ℕ} {objects : List (List ℕ)} (object : List ℕ) → is_begun stream ≡ true → stream ≡ object ++ after_object stream → AreObjects (after_object stream) objects → AreObjects stream (object ∷ objects)
+-- the stream begins with these objects, in order, and this rest follows them: each object is what stands before the rest after it
+abbrev pub BeginsWith : List ℕ → List (List ℕ) → List ℕ → Type 0
+BeginsWith stream [] rest = rest ≡ stream
+BeginsWith stream (object ∷ objects) rest =
+    (is_begun stream ≡ true) × (stream ≡ object ++ after_object stream) × BeginsWith (after_object stream) objects rest
+
+-- the objects of a stream, in order; a rest of empty lines is none
+abbrev pub AreObjects : List ℕ → List (List ℕ) → Type 0
+AreObjects stream objects = (rest : List ℕ) × BeginsWith stream objects rest × (is_begun rest ≡ false)
 
 -- the stream is a preamble with this moment and these rooms, and then these objects; a preamble without an empty line is all there is
 pub record IsStream (stream : List ℕ) (moment : ℤ) (addresses : List (List ℕ)) (objects : List (List ℕ)) : Type 0 where
@@ -124,15 +139,24 @@ AllTake moment event _ _ _ octets = ⊥
 abbrev pub refused_line : ℕ → ℕ → List ℕ
 refused_line k n = codes "REFUSED;OBJECT=" ++ decimal k ++ codes ":" ++ decimal n ++ codes "\r\n"
 
--- these octets answer object k: what the rooms answer to it, or the line for a refusal, which changes no book
-abbrev pub Answers : ℤ → List (List ℕ) → ℕ → List ℕ → List Book → List Book → List ℕ → Type 0
-Answers moment rooms k object befores afters octets =
-    ((event : Event) × SpellsRequest object event × AllTake moment event rooms befores afters octets)
-    ⊎ ((n : ℕ) × ObjectFault n object × (afters ≡ befores) × (octets ≡ refused_line k n))
+-- these octets answer object k: what the rooms answer to it, or the line for a refusal, which changes no book; so many refusals it is
+abbrev pub Answers : ℤ → List (List ℕ) → ℕ → List ℕ → List Book → List Book → List ℕ → ℕ → Type 0
+Answers moment rooms k object befores afters octets refused =
+    ((event : Event) × SpellsRequest object event × AllTake moment event rooms befores afters octets × (refused ≡ 0))
+    ⊎ ((n : ℕ) × ObjectFault n object × (afters ≡ befores) × (octets ≡ refused_line k n) × (refused ≡ 1))
 
--- the answers to objects from number k on, one behind another
-abbrev pub AllAnswers : ℤ → List (List ℕ) → ℕ → List (List ℕ) → List Book → List Book → List ℕ → Type 0
-AllAnswers moment rooms k [] befores afters octets = (afters ≡ befores) × (octets ≡ [])
-AllAnswers moment rooms k (object ∷ objects) befores afters octets =
-    (mids : List Book) × (first : List ℕ) × (rest : List ℕ) × (octets ≡ first ++ rest)
-    × Answers moment rooms k object befores mids first × AllAnswers moment rooms (k + 1) objects mids afters rest
+-- the answers to objects from number k on, one behind another, and how many objects are refused
+abbrev pub AllAnswers : ℤ → List (List ℕ) → ℕ → List (List ℕ) → List Book → List Book → List ℕ → ℕ → Type 0
+AllAnswers moment rooms k [] befores afters octets refused = (afters ≡ befores) × (octets ≡ []) × (refused ≡ 0)
+AllAnswers moment rooms k (object ∷ objects) befores afters octets refused =
+    (mids : List Book) × (first : List ℕ) × (rest : List ℕ) × (one : ℕ) × (others : ℕ) × (octets ≡ first ++ rest) × (refused ≡ one + others)
+    × Answers moment rooms k object befores mids first one × AllAnswers moment rooms (k + 1) objects mids afters rest others
+
+-- no room has taken anything
+abbrev pub empty_books : List (List ℕ) → List Book
+empty_books rooms = map (λ room. empty_book) rooms
+
+-- of these rooms, with these books, one has this address and this book
+abbrev pub HasBook : List (List ℕ) → List Book → List ℕ → Book → Type 0
+HasBook (address ∷ addresses) (kept ∷ books) room book = ((address ≡ room) × (kept ≡ book)) ⊎ HasBook addresses books room book
+HasBook _ _ room book = ⊥

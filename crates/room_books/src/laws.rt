@@ -1,8 +1,11 @@
 //! What holds of each room, whatever it takes: laws, with nothing to do.
 
-ghost use Rattle.std.specs.Prelude.{◌≤◌, List, length};
+ghost use Rattle.std.specs.Prelude.{◌≤◌, ℕ, ℤ, List, length, Contains};
 ghost use Rattle.profile.specs.Instances.{IsClear};
 ghost use Rattle.profile.specs.Rooms.{Book, Delivery, Runs, empty_book, confirmed, most_singles};
+ghost use Rattle.profile.specs.Streams.{IsDelivered, AllAnswers, HasBook, empty_books};
+ghost use Rattle.profile.specs.Kept.{IsKeptCalendar, kept_certificate};
+ghost use Rattle.profile.specs.Calendars.{CertificateHolds};
 
 /// Whatever messages a room took, one after another from the first: no two of its confirmed instances hold the room in
 /// the same second, and there are no more of them than the limit.
@@ -10,3 +13,24 @@ pub fn runs_stay_clear()
     ensures clear { (deliveries : List Delivery) (book : Book) → Runs empty_book deliveries book → IsClear (confirmed book) }
     ensures few { (deliveries : List Delivery) (book : Book) → Runs empty_book deliveries book → length (confirmed book) ≤ most_singles }
 {}
+
+/// Whatever messages come, in any order and repeated: the calendar that a room keeps after them spells what it has
+/// confirmed, and the certificate beside it holds for that calendar.
+pub fn kept_texts_pass()
+    ensures { (room : List ℕ) (deliveries : List Delivery) → ((delivery : Delivery) → Contains deliveries delivery → IsDelivered room delivery)
+        → (book : Book) → Runs empty_book deliveries book
+        → (calendar : List ℕ) → IsKeptCalendar room book calendar → CertificateHolds room calendar (kept_certificate book) }
+{
+    ical_lines::lines_read_back();
+}
+
+/// Whatever objects a stream has, taken or refused, one after another from the first: what each of the rooms keeps after
+/// them passes likewise.
+pub fn served_texts_pass()
+    ensures { (moment : ℤ) (rooms : List (List ℕ)) (first : ℕ) (objects : List (List ℕ)) (books : List Book) (replies : List ℕ) (refused : ℕ)
+        → AllAnswers moment rooms first objects (empty_books rooms) books replies refused
+        → (room : List ℕ) (book : Book) → HasBook rooms books room book
+        → (kept : List ℕ) → IsKeptCalendar room book kept → CertificateHolds room kept (kept_certificate book) }
+{
+    ical_lines::lines_read_back();
+}

@@ -1,0 +1,151 @@
+-- The kept calendar spells the confirmed instances, and the kept certificate stands for them.
+use Rattle.std.proofs.Common.{◌≡◌, ◌≢◌, ◌∙◌, ℕ, true, false, List, [], ◌∷◌, ◌++◌, length, map, None, refl, sym, ap, ap₂, subst, arith, cond, suc}
+use Rattle.std.specs.List.{filter, flat_map, list_all, list_any, Contains, AllPairs, AllZip}
+use Rattle.std.proofs.lemmas.Bool.{and_from, or_from}
+use Rattle.profile.specs.Lines.{is_content, folded, logical_lines, reads_as_lines}
+use Rattle.profile.specs.Objects.{is_property, IsObject}
+use Rattle.profile.specs.Trees.{tree_name, tree_own, tree_inside}
+use Rattle.profile.specs.Events as events
+use Rattle.profile.specs.Events.{Event, SaysEvent, SaysCalendar, has_unread, booked_by, meeting_said}
+use Rattle.profile.specs.Calendars.{SpellsCalendar, CertificateHolds}
+use Rattle.profile.specs.Instances.{Booked}
+use Rattle.profile.specs.Messages.{object_lines}
+use Rattle.profile.specs.Rooms.{Answer, Book, Delivery, Runs, empty_book, confirmed, is_confirmed}
+use Rattle.profile.specs.Kept.{written, kept, IsKeptEvent, IsKeptCalendar, kept_certificate, first_parts}
+use Rattle.profile.specs.Streams.{IsDelivered}
+use Rattle.itip_order.proofs.Lists.{in_head, in_tail, filter_at}
+use Rattle.room_books.proofs.Runs.{Good, IsWithin, within_good}
+use Rattle.room_books.proofs.KeptTree.{Lines, vevent_lines, calendar_tree, calendar_vevents, object_spelled}
+use Rattle.room_books.proofs.KeptLines.{object_content}
+use Rattle.room_books.proofs.KeptAnswers.{IsAsked, ReadsBack, reads_back}
+use Rattle.room_books.proofs.Pairs.{Pairwise, flat_at, flat_from}
+use Rattle.room_books.proofs.KeptMeetings.{meeting_of, AnswersApart, meetings_differ, kept_is, firsts_apart, firsts_cover, grouped_long, grouped_among, grouped_apart}
+use Rattle.room_books.proofs.KeptRuns.{KeepsAll, runs_keep}
+
+abbrev books : Answer → List Booked
+books a = a.claim.books
+
+-- ---- the VEVENTs
+
+-- all VEVENTs read back
+record AllBack (room : List ℕ) (answers : List Answer) (each : List Lines) : Type 0 where
+  owns : List Lines
+  saids : List Event
+  are : flat_map (λ lines. lines) each ≡ flat_map vevent_lines owns
+  properties : list_all (list_all is_property) owns ≡ true
+  content : list_all (list_all is_content) owns ≡ true
+  says : AllZip (SaysEvent false) owns saids
+  read : list_any has_unread owns ≡ false
+  confirmed : events.confirmed room saids ≡ flat_map books answers
+  meetings : map meeting_said saids ≡ map meeting_of answers
+
+one_confirmed : (room : List ℕ) (said : Event) (saids : List Event) → events.is_confirmed room said ≡ true → events.confirmed room (said ∷ saids) ≡ booked_by said ∷ events.confirmed room saids
+one_confirmed room said saids h = ap (λ b. map booked_by (cond b (said ∷ filter (events.is_confirmed room) saids) (filter (events.is_confirmed room) saids))) h
+
+all_back : (room : List ℕ) (answers : List Answer) (each : List Lines) → ((a : Answer) → Contains answers a → IsAsked room a.claim) → AllZip (IsKeptEvent room) answers each → AllBack room answers each
+all_back room [] [] f z = record { owns = []; saids = []; are = refl; properties = refl; content = refl; says = tt; read = refl; confirmed = refl; meetings = refl }
+all_back room [] (lines ∷ each) f z = absurd z
+all_back room (a ∷ answers) [] f z = absurd z
+all_back room (a ∷ answers) (lines ∷ each) f z =
+    let one : ReadsBack room a lines = reads_back room a lines (f a (in_head a answers)) z.0 in
+    let rest = all_back room answers each (λ x c. f x (in_tail a answers x c)) z.1 in
+    record {
+      owns = one.own ∷ rest.owns;
+      saids = one.said ∷ rest.saids;
+      are = ap₂ (λ x y. x ++ y) one.are rest.are;
+      properties = and_from _ _ one.properties rest.properties;
+      content = and_from _ _ one.content rest.content;
+      says = (one.says, rest.says);
+      read = or_from _ _ one.read rest.read;
+      confirmed = one_confirmed room one.said rest.saids one.confirmed ∙ ap₂ (λ x y. x ++ y) (sym one.books) rest.confirmed;
+      meetings = ap₂ (λ x y. x ∷ y) one.meeting rest.meetings;
+    }
+
+-- ---- the calendar
+
+-- what lines read back as that were written one behind another
+abbrev pub LinesBack : Type 0
+LinesBack = (lines : Lines) → list_all is_content lines ≡ true → logical_lines (flat_map folded lines) ≡ lines
+
+abbrev pub ReadsLines : Type 0
+ReadsLines = (lines : Lines) → list_all is_content lines ≡ true → reads_as_lines false (flat_map folded lines) ≡ true
+
+calendar_spelled : LinesBack → ReadsLines → (room octets : List ℕ) (answers : List Answer) (each : List Lines) → AllBack room answers each → Pairwise AnswersApart answers
+    → octets ≡ written (object_lines None (flat_map (λ lines. lines) each)) → SpellsCalendar room octets (flat_map books answers)
+calendar_spelled back reads room octets answers each b apart is =
+    let lines = object_lines None (flat_map vevent_lines b.owns) in
+    let content = object_content b.owns b.content in
+    let whole : octets ≡ written lines = is ∙ ap (λ l. written (object_lines None l)) b.are in
+    let logical : logical_lines octets ≡ lines = ap logical_lines whole ∙ back lines content in
+    let says : SaysCalendar room b.owns (flat_map books answers) = record {
+      events = b.saids;
+      says = b.says;
+      read = b.read;
+      differ = subst (AllPairs ◌≢◌) (sym b.meetings) (meetings_differ answers apart);
+      is = sym b.confirmed;
+    } in
+    record {
+      lines = ap (reads_as_lines false) whole ∙ reads lines content;
+      tree = calendar_tree b.owns;
+      object = subst (λ (l : Lines). IsObject tree_name tree_own tree_inside false (calendar_tree b.owns) l) (sym logical) (object_spelled b.owns b.properties);
+      says = subst (λ (v : List Lines). SaysCalendar room v (flat_map books answers)) (sym (calendar_vevents b.owns)) says;
+    }
+
+-- ---- the certificate
+
+one_each : (room : List ℕ) (answers : List Answer) → ((a : Answer) → Contains answers a → IsAsked room a.claim) → length (flat_map books answers) ≡ length answers
+one_each room [] f = refl
+one_each room (a ∷ answers) f =
+    let one = f a (in_head a answers) in
+    let rest = one_each room answers (λ x c. f x (in_tail a answers x c)) in
+    ap (λ l. length (l ++ flat_map books answers)) one.books ∙ ap suc rest
+
+-- what is kept: what was confirmed, apart
+record KeptWell (room : List ℕ) (book : Book) : Type 0 where
+  each : (a : Answer) → Contains (kept book) a → IsAsked room a.claim
+  apart : Pairwise AnswersApart (kept book)
+  good : Good (flat_map books (kept book))
+  long : length (confirmed book) ≡ length (flat_map books (kept book))
+
+kept_well : (room : List ℕ) (book : Book) → KeepsAll room book → KeptWell room book
+kept_well room book k =
+    let xs = filter (is_confirmed book.taken) book.answers in
+    let parts = first_parts book.taken in
+    let P : List Answer → Type 0 = λ l. (a : Answer) → Contains l a → Contains xs a in
+    let among : P (kept book) = subst P (sym (kept_is book)) (grouped_among parts xs) in
+    let asked : (a : Answer) → Contains xs a → IsAsked room a.claim = λ a c. k.each a (filter_at (is_confirmed book.taken) book.answers a c).0 in
+    let covered = λ (a : Answer) (c : Contains xs a). firsts_cover book.taken a.claim.part (k.sound.known a (filter_at (is_confirmed book.taken) book.answers a c).0) in
+    let long : length (kept book) ≡ length xs = ap length (kept_is book) ∙ grouped_long parts xs (firsts_apart book.taken) covered in
+    let each = λ (a : Answer) (c : Contains (kept book) a). asked a (among a c) in
+    let same : length (confirmed book) ≡ length (flat_map books (kept book)) = one_each room xs asked ∙ sym long ∙ sym (one_each room (kept book) each) in
+    let within : IsWithin (flat_map books (kept book)) (confirmed book) = record {
+      among = λ b c. let found = flat_at books (kept book) b c in flat_from books xs found.0 b (among found.0 found.1) found.2;
+      shorter = omega (arith, same);
+    } in
+    record {
+      each = each;
+      apart = subst (Pairwise AnswersApart) (sym (kept_is book)) (grouped_apart parts xs (firsts_apart book.taken) k.apart);
+      good = within_good (flat_map books (kept book)) (confirmed book) within k.sound.good;
+      long = same;
+    }
+
+-- what is kept passes
+pub keeps_pass : LinesBack → ReadsLines → (room : List ℕ) (book : Book) → KeepsAll room book → (calendar : List ℕ) → IsKeptCalendar room book calendar → CertificateHolds room calendar (kept_certificate book)
+keeps_pass back reads room book keeps calendar k =
+    let well = kept_well room book keeps in
+    let few = keeps.sound.good.few in
+    record {
+      all = flat_map books (kept book);
+      spells = calendar_spelled back reads room calendar (kept book) k.events (all_back room (kept book) k.events well.each k.each) well.apart k.is;
+      stands = record {
+        c = record { singles = length (confirmed book) };
+        spells = record { claims = omega (arith, few); is = refl };
+        singles = well.long;
+        clear = well.good.clear;
+      };
+    }
+
+-- whatever messages come, what is kept after them passes
+pub kept_passes : LinesBack → ReadsLines → (room : List ℕ) (deliveries : List Delivery) → ((d : Delivery) → Contains deliveries d → IsDelivered room d)
+    → (book : Book) → Runs empty_book deliveries book → (calendar : List ℕ) → IsKeptCalendar room book calendar → CertificateHolds room calendar (kept_certificate book)
+kept_passes back reads room deliveries f book runs = keeps_pass back reads room book (runs_keep room deliveries book f runs)

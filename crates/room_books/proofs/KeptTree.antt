@@ -1,0 +1,83 @@
+-- The lines of an object round some VEVENTs spell one VCALENDAR with those VEVENTs in it.
+use Rattle.std.proofs.Common.{◌≡◌, ℕ, suc, true, false, List, [], ◌∷◌, ◌++◌, codes, None, refl, sym, ap, subst, append_assoc, append-nil}
+use Rattle.std.specs.List.{flat_map, list_all, filter}
+use Rattle.std.specs.Prelude.{map}
+use Rattle.std.proofs.lemmas.Bool.{and_parts}
+use Rattle.profile.specs.Lines.{is_same_name}
+use Rattle.profile.specs.Trees.{Tree, Trees, tree, none, more, trees_list, tree_name, tree_own, tree_inside, vevents}
+use Rattle.profile.specs.Objects.{is_property, Opens, Closes, Body, IsObject}
+use Rattle.profile.specs.Objects.Body.{nothing, property, component}
+use Rattle.profile.specs.Messages.{object_lines}
+
+abbrev pub Lines : Type 0
+Lines = List (List ℕ)
+
+abbrev BodyT : ℕ → Lines → List Tree → Lines → Type 0
+BodyT = Body tree_name tree_own tree_inside
+
+-- a VEVENT with these own lines
+abbrev pub vevent_lines : Lines → Lines
+vevent_lines own = codes "BEGIN:VEVENT" ∷ (own ++ codes "END:VEVENT" ∷ [])
+
+abbrev pub vevent_tree : Lines → Tree
+vevent_tree own = tree (codes "VEVENT") own none
+
+abbrev pub vevent_trees : List Lines → Trees
+vevent_trees [] = none
+vevent_trees (own ∷ owns) = more (vevent_tree own) (vevent_trees owns)
+
+-- the calendar with these VEVENTs
+abbrev pub calendar_tree : List Lines → Tree
+calendar_tree owns = tree (codes "VCALENDAR") (codes "VERSION:2.0" ∷ codes "PRODID:-//iTIP room box//EN" ∷ []) (vevent_trees owns)
+
+vevents_are : (owns : List Lines) → map tree_own (filter (λ part. is_same_name (tree_name part) (codes "VEVENT")) (trees_list (vevent_trees owns))) ≡ owns
+vevents_are [] = refl
+vevents_are (own ∷ owns) = ap (λ x. own ∷ x) (vevents_are owns)
+
+pub calendar_vevents : (owns : List Lines) → vevents (calendar_tree owns) ≡ owns
+calendar_vevents owns = vevents_are owns
+
+-- properties, one after another
+own_more : (depth : ℕ) (before own : Lines) → BodyT depth before [] before → list_all is_property own ≡ true → BodyT depth (before ++ own) [] (before ++ own)
+own_more depth before [] b h = subst (λ (l : Lines). BodyT depth l [] l) (sym (append-nil before)) b
+own_more depth before (line ∷ own) b h =
+    let both = and_parts (is_property line) (list_all is_property own) h in
+    subst (λ (l : Lines). BodyT depth l [] l) (append_assoc before (line ∷ []) own) (own_more depth (before ++ line ∷ []) own (property line both.0 b) both.1)
+
+own_body : (depth : ℕ) (own : Lines) → list_all is_property own ≡ true → BodyT depth own [] own
+own_body depth own h = own_more depth [] own nothing h
+
+opens : Opens (codes "BEGIN:VEVENT") (codes "VEVENT")
+opens = record { begins = refl; names = refl }
+
+closes : Closes (codes "END:VEVENT") (codes "VEVENT")
+closes = record { ends = refl; names = refl }
+
+-- VEVENTs, one after another
+parts_more : (depth : ℕ) (own : Lines) (parts : List Tree) (body : Lines) (owns : List Lines) → BodyT (suc depth) own parts body → list_all (list_all is_property) owns ≡ true
+    → BodyT (suc depth) own (parts ++ trees_list (vevent_trees owns)) (body ++ flat_map vevent_lines owns)
+parts_more depth own parts body [] b h =
+    subst (λ (l : List Tree). BodyT (suc depth) own l (body ++ [])) (sym (append-nil parts)) (subst (λ (l : Lines). BodyT (suc depth) own parts l) (sym (append-nil body)) b)
+parts_more depth own parts body (v ∷ owns) b h =
+    let both = and_parts (list_all is_property v) (list_all (list_all is_property) owns) h in
+    let here : BodyT (suc depth) own (parts ++ vevent_tree v ∷ []) (body ++ vevent_lines v) = component (vevent_tree v) (codes "BEGIN:VEVENT") (codes "END:VEVENT") v opens closes (own_body depth v both.0) b in
+    let all = parts_more depth own (parts ++ vevent_tree v ∷ []) (body ++ vevent_lines v) owns here both.1 in
+    subst (λ (l : List Tree). BodyT (suc depth) own l (body ++ flat_map vevent_lines (v ∷ owns))) (append_assoc parts (vevent_tree v ∷ []) (trees_list (vevent_trees owns)))
+    (subst (λ (l : Lines). BodyT (suc depth) own ((parts ++ vevent_tree v ∷ []) ++ trees_list (vevent_trees owns)) l) (append_assoc body (vevent_lines v) (flat_map vevent_lines owns)) all)
+
+-- the whole object
+pub object_spelled : (owns : List Lines) → list_all (list_all is_property) owns ≡ true → IsObject tree_name tree_own tree_inside false (calendar_tree owns) (object_lines None (flat_map vevent_lines owns))
+object_spelled owns h = record {
+  spelled = record {
+    begin = codes "BEGIN:VCALENDAR";
+    end = codes "END:VCALENDAR";
+    body = codes "VERSION:2.0" ∷ codes "PRODID:-//iTIP room box//EN" ∷ flat_map vevent_lines owns;
+    are = refl;
+    opens = record { begins = refl; names = refl };
+    closes = record { ends = refl; names = refl };
+    holds = parts_more 6 (codes "VERSION:2.0" ∷ codes "PRODID:-//iTIP room box//EN" ∷ []) [] (codes "VERSION:2.0" ∷ codes "PRODID:-//iTIP room box//EN" ∷ []) owns (own_body 7 (codes "VERSION:2.0" ∷ codes "PRODID:-//iTIP room box//EN" ∷ []) refl) h;
+  };
+  calendar = refl;
+  version = refl;
+  events = refl;
+}
