@@ -13,13 +13,14 @@ use Rattle.profile.specs.Messages.{object_lines}
 use Rattle.profile.specs.Rooms.{Answer, Book, Delivery, Runs, empty_book, confirmed, is_confirmed}
 use Rattle.profile.specs.Kept.{written, kept, IsKeptEvent, IsKeptCalendar, kept_certificate, first_parts}
 use Rattle.profile.specs.Streams.{IsDelivered}
-use Rattle.itip_order.proofs.Lists.{in_head, in_tail, filter_at}
+use Rattle.std.specs.Prelude.{◌↔◌}
+use Rattle.itip_order.proofs.Lists.{in_head, in_tail, filter_at, filter_from}
 use Rattle.room_books.proofs.Runs.{Good, IsWithin, within_good}
 use Rattle.room_books.proofs.KeptTree.{Lines, vevent_lines, calendar_tree, calendar_vevents, object_spelled}
 use Rattle.room_books.proofs.KeptLines.{object_content}
 use Rattle.room_books.proofs.KeptAnswers.{IsAsked, ReadsBack, reads_back}
 use Rattle.room_books.proofs.Pairs.{Pairwise, flat_at, flat_from}
-use Rattle.room_books.proofs.KeptMeetings.{meeting_of, AnswersApart, meetings_differ, kept_is, firsts_apart, firsts_cover, grouped_long, grouped_among, grouped_apart}
+use Rattle.room_books.proofs.KeptMeetings.{meeting_of, AnswersApart, meetings_differ, kept_is, firsts_apart, firsts_cover, of_part, grouped, grouped_long, grouped_among, grouped_apart}
 use Rattle.room_books.proofs.KeptRuns.{KeepsAll, runs_keep}
 
 abbrev books : Answer → List Booked
@@ -106,6 +107,7 @@ record KeptWell (room : List ℕ) (book : Book) : Type 0 where
   apart : Pairwise AnswersApart (kept book)
   good : Good (flat_map books (kept book))
   long : length (confirmed book) ≡ length (flat_map books (kept book))
+  within : IsWithin (flat_map books (kept book)) (confirmed book)
 
 kept_well : (room : List ℕ) (book : Book) → KeepsAll room book → KeptWell room book
 kept_well room book k =
@@ -127,6 +129,7 @@ kept_well room book k =
       apart = subst (Pairwise AnswersApart) (sym (kept_is book)) (grouped_apart parts xs (firsts_apart book.taken) k.apart);
       good = within_good (flat_map books (kept book)) (confirmed book) within k.sound.good;
       long = same;
+      within = within;
     }
 
 -- what is kept passes
@@ -144,6 +147,34 @@ keeps_pass back reads room book keeps calendar k =
         clear = well.good.clear;
       };
     }
+
+-- and what is confirmed is kept
+kept_back : (room : List ℕ) (book : Book) → KeepsAll room book → (b : Booked) → Contains (confirmed book) b → Contains (flat_map books (kept book)) b
+kept_back room book k b c =
+    let xs = filter (is_confirmed book.taken) book.answers in
+    let found = flat_at books xs b c in
+    let a = found.0 in
+    let answered = (filter_at (is_confirmed book.taken) book.answers a found.1).0 in
+    let first = firsts_cover book.taken a.claim.part (k.sound.known a answered) in
+    let own : Contains (grouped (first_parts book.taken) xs) a = flat_from (λ p. filter (of_part p) xs) (first_parts book.taken) first.0 a first.1 (filter_from (of_part first.0) xs a found.1 first.2) in
+    flat_from books (kept book) a b (subst (λ (l : List Answer). Contains l a) (sym (kept_is book)) own) found.2
+
+-- the calendar spells what is confirmed, and nothing else
+abbrev pub SpellsConfirmed : List ℕ → Book → List ℕ → Type 0
+SpellsConfirmed room book calendar = (all : List Booked) × SpellsCalendar room calendar all × (length all ≡ length (confirmed book)) × ((b : Booked) → Contains all b ↔ Contains (confirmed book) b)
+
+keeps_same : LinesBack → ReadsLines → (room : List ℕ) (book : Book) → KeepsAll room book → (calendar : List ℕ) → IsKeptCalendar room book calendar → SpellsConfirmed room book calendar
+keeps_same back reads room book keeps calendar k =
+    let well = kept_well room book keeps in (
+      flat_map books (kept book),
+      calendar_spelled back reads room calendar (kept book) k.events (all_back room (kept book) k.events well.each k.each) well.apart k.is,
+      sym well.long,
+      λ b. ((λ c. well.within.among b c), kept_back room book keeps b),
+    )
+
+pub kept_same : LinesBack → ReadsLines → (room : List ℕ) (deliveries : List Delivery) → ((d : Delivery) → Contains deliveries d → IsDelivered room d)
+    → (book : Book) → Runs empty_book deliveries book → (calendar : List ℕ) → IsKeptCalendar room book calendar → SpellsConfirmed room book calendar
+kept_same back reads room deliveries f book runs = keeps_same back reads room book (runs_keep room deliveries book f runs)
 
 -- whatever messages come, what is kept after them passes
 pub kept_passes : LinesBack → ReadsLines → (room : List ℕ) (deliveries : List Delivery) → ((d : Delivery) → Contains deliveries d → IsDelivered room d)

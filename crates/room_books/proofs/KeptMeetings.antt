@@ -68,10 +68,10 @@ firsts_cover (p ∷ ps) r c =
 
 -- ---- answers by meetings
 
-abbrev of_part : Part → Answer → Bool
+abbrev pub of_part : Part → Answer → Bool
 of_part p a = same_meeting p a.claim.part
 
-abbrev grouped : List Part → List Answer → List Answer
+abbrev pub grouped : List Part → List Answer → List Answer
 grouped ps xs = flat_map (λ p. filter (of_part p) xs) ps
 
 none_left : (xs : List Answer) → ((a : Answer) → Contains xs a → ⊥) → 0 ≡ length xs

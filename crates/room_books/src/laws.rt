@@ -1,11 +1,11 @@
 //! What holds of each room, whatever it takes: laws, with nothing to do.
 
-ghost use Rattle.std.specs.Prelude.{◌≤◌, ℕ, ℤ, List, length, Contains};
-ghost use Rattle.profile.specs.Instances.{IsClear};
+ghost use Rattle.std.specs.Prelude.{◌≡◌, ◌≤◌, ◌↔◌, ℕ, ℤ, List, length, Contains};
+ghost use Rattle.profile.specs.Instances.{Booked, IsClear};
 ghost use Rattle.profile.specs.Rooms.{Book, Delivery, Runs, empty_book, confirmed, most_singles};
 ghost use Rattle.profile.specs.Streams.{IsDelivered, AllAnswers, HasBook, empty_books};
 ghost use Rattle.profile.specs.Kept.{IsKeptCalendar, kept_certificate};
-ghost use Rattle.profile.specs.Calendars.{CertificateHolds};
+ghost use Rattle.profile.specs.Calendars.{CertificateHolds, SpellsCalendar};
 
 /// Whatever messages a room took, one after another from the first: no two of its confirmed instances hold the room in
 /// the same second, and there are no more of them than the limit.
@@ -20,6 +20,16 @@ pub fn kept_texts_pass()
     ensures { (room : List ℕ) (deliveries : List Delivery) → ((delivery : Delivery) → Contains deliveries delivery → IsDelivered room delivery)
         → (book : Book) → Runs empty_book deliveries book
         → (calendar : List ℕ) → IsKeptCalendar room book calendar → CertificateHolds room calendar (kept_certificate book) }
+{
+    ical_lines::lines_read_back();
+}
+
+/// And that calendar spells exactly what the room has confirmed: the same instances, and as many.
+pub fn kept_texts_spell()
+    ensures { (room : List ℕ) (deliveries : List Delivery) (book : Book) (text : List ℕ)
+        → ((taken : Delivery) → Contains deliveries taken → IsDelivered room taken) → Runs empty_book deliveries book → IsKeptCalendar room book text
+        → (all : List Booked) × SpellsCalendar room text all × (length all ≡ length (confirmed book))
+        × ((booked : Booked) → Contains all booked ↔ Contains (confirmed book) booked) }
 {
     ical_lines::lines_read_back();
 }

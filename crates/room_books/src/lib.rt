@@ -11,5 +11,5 @@ mod taking;
 mod texts;
 
 pub use answer::{Answer, Kind, LimitKind};
-pub use laws::{kept_texts_pass, runs_stay_clear, served_texts_pass};
+pub use laws::{kept_texts_pass, kept_texts_spell, runs_stay_clear, served_texts_pass};
 pub use room::Room;
