@@ -44,7 +44,7 @@ own_more depth before (line ∷ own) b h =
     let both = and_parts (is_property line) (list_all is_property own) h in
     subst (λ (l : Lines). BodyT depth l [] l) (append_assoc before (line ∷ []) own) (own_more depth (before ++ line ∷ []) own (property line both.0 b) both.1)
 
-own_body : (depth : ℕ) (own : Lines) → list_all is_property own ≡ true → BodyT depth own [] own
+pub own_body : (depth : ℕ) (own : Lines) → list_all is_property own ≡ true → BodyT depth own [] own
 own_body depth own h = own_more depth [] own nothing h
 
 opens : Opens (codes "BEGIN:VEVENT") (codes "VEVENT")
@@ -54,7 +54,7 @@ closes : Closes (codes "END:VEVENT") (codes "VEVENT")
 closes = record { ends = refl; names = refl }
 
 -- VEVENTs, one after another
-parts_more : (depth : ℕ) (own : Lines) (parts : List Tree) (body : Lines) (owns : List Lines) → BodyT (suc depth) own parts body → list_all (list_all is_property) owns ≡ true
+pub parts_more : (depth : ℕ) (own : Lines) (parts : List Tree) (body : Lines) (owns : List Lines) → BodyT (suc depth) own parts body → list_all (list_all is_property) owns ≡ true
     → BodyT (suc depth) own (parts ++ trees_list (vevent_trees owns)) (body ++ flat_map vevent_lines owns)
 parts_more depth own parts body [] b h =
     subst (λ (l : List Tree). BodyT (suc depth) own l (body ++ [])) (sym (append-nil parts)) (subst (λ (l : Lines). BodyT (suc depth) own parts l) (sym (append-nil body)) b)

@@ -27,3 +27,4 @@ pub mod KeptMeetings
 pub mod KeptRuns
 pub mod KeptCalendars
 pub mod KeptStreams
+pub mod KeptExamples

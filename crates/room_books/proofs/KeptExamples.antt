@@ -1,0 +1,238 @@
+-- A worked run: the octets of one REQUEST are delivered, the room accepts it, and keeps it.
+use Rattle.std.proofs.Common.{◌≡◌, ℕ, pos, true, List, [], ◌∷◌, ◌++◌, codes, Some, None, inl, inr, refl, sym, ap, subst, arith, ◌∙◌}
+use Rattle.std.specs.List.{Contains}
+use Rattle.std.specs.Str.{is_utf8, chars}
+use Rattle.profile.specs.Lines.{logical_lines, reads_as_lines}
+use Rattle.profile.specs.Days.{days_before_year, days_of_months}
+use Rattle.profile.specs.Values.{WritesStamp, SpellsDuration, IsAddress, unescaped}
+use Rattle.std.specs.Fmt.{digits}
+use Rattle.std.proofs.lemmas.Int.{ints}
+use Rattle.std.proofs.lemmas.Bool.{false≢true}
+use lib.Utf8.{encode}
+use Rattle.profile.specs.Trees.{Tree, tree, none, more, tree_name, tree_own, tree_inside}
+use Rattle.profile.specs.Objects.{IsObject}
+use Rattle.profile.specs.Instances.{Booked, IsClear}
+use Rattle.profile.specs.Events.{Event, NeedsAction, SaysEvent, booked_by}
+use Rattle.profile.specs.Messages.{SpellsRequest, IsPart, Accept, object_lines}
+use Rattle.profile.specs.Revisions.{Part, Whole, Set}
+use Rattle.profile.specs.Rooms.{Book, Delivery, Runs, empty_book, confirmed, answered}
+use Rattle.profile.specs.Streams.{IsDelivered, claim}
+use Rattle.profile.specs.Kept.{IsKeptCalendar, written}
+use Rattle.itip_order.proofs.Lists.{in_cons, none_in_nil}
+use Rattle.ical_values.proofs.Readings.{stamp_written}
+use Rattle.room_books.proofs.KeptBodies.{with_ends}
+use Rattle.room_books.proofs.KeptTree.{Lines, vevent_lines, own_body, parts_more}
+
+-- ---- the message
+
+abbrev room : List ℕ
+room = codes "mailto:r1@example.com"
+
+abbrev head_lines : Lines
+head_lines = codes "VERSION:2.0" ∷ codes "PRODID:-//Ann//EN" ∷ codes "METHOD:REQUEST" ∷ []
+
+abbrev own_lines : Lines
+own_lines =
+    codes "UID:a" ∷ codes "DTSTAMP:20250301T120000Z" ∷ codes "DTSTART:20250310T090000Z" ∷ codes "DURATION:PT1H" ∷ codes "ORGANIZER:mailto:ann@example.com" ∷ codes "ATTENDEE:mailto:r1@example.com" ∷ []
+
+abbrev lines : Lines
+lines = codes "BEGIN:VCALENDAR" ∷ (head_lines ++ (vevent_lines own_lines ++ codes "END:VCALENDAR" ∷ []))
+
+abbrev octets : List ℕ
+octets = with_ends lines
+
+stamp : WritesStamp (codes "20250301T120000Z") (pos 1_740_830_400)
+unfolding days_before_year days_of_months
+stamp = (
+  codes "20250301T120000",
+  record {
+    date = codes "20250301";
+    time = codes "120000";
+    number = pos 20_148;
+    second = 43_200;
+    on = record { year = 2025; month = 3; day = 1; first = omega arith; last = omega arith; date = (omega arith, omega arith, omega arith, omega arith); spelled = refl; counted = refl };
+    at_second = record { hour = 12; minute = 0; second = 0; hours = omega arith; minutes = omega arith; seconds = omega arith; spelled = refl; counted = refl };
+    spelled = refl;
+    counted = refl;
+  },
+  refl,
+)
+
+start : WritesStamp (codes "20250310T090000Z") (pos 1_741_597_200)
+unfolding days_before_year days_of_months
+start = (
+  codes "20250310T090000",
+  record {
+    date = codes "20250310";
+    time = codes "090000";
+    number = pos 20_157;
+    second = 32_400;
+    on = record { year = 2025; month = 3; day = 10; first = omega arith; last = omega arith; date = (omega arith, omega arith, omega arith, omega arith); spelled = refl; counted = refl };
+    at_second = record { hour = 9; minute = 0; second = 0; hours = omega arith; minutes = omega arith; seconds = omega arith; spelled = refl; counted = refl };
+    spelled = refl;
+    counted = refl;
+  },
+  refl,
+)
+
+abbrev event : Event
+event = record {
+  uid = codes "a";
+  organiser = Some (codes "mailto:ann@example.com");
+  stamp = Some (pos 1_740_830_400);
+  sequence = 0;
+  start = pos 1_741_597_200;
+  length = record { days = 0; seconds = 3600 };
+  attendees = record { address = codes "mailto:r1@example.com"; participation = NeedsAction } ∷ [];
+}
+
+an_hour : SpellsDuration (codes "PT1H") 0 3600
+an_hour = (
+  codes "PT1H",
+  (
+    codes "T1H",
+    inr (inr (inl (
+      record {
+        hour_part = codes "1H";
+        minute_part = [];
+        second_part = [];
+        hours = 1;
+        minutes = 0;
+        seconds = 0;
+        hour = inr (codes "1", (omega arith, (omega arith, tt), refl), refl);
+        minute = inl (refl, refl);
+        second = inl (refl, refl);
+        some = omega arith;
+        spelled = refl;
+        counted = refl;
+      },
+      refl,
+    ))),
+    refl,
+  ),
+  inl refl,
+)
+
+ann : IsAddress (codes "mailto:ann@example.com")
+ann = (codes "mailto", codes "ann@example.com", refl, refl, refl, omega arith)
+
+the_room : IsAddress room
+the_room = (codes "mailto", codes "r1@example.com", refl, refl, refl, omega arith)
+
+says : SaysEvent true own_lines event
+unfolding unescaped
+says = record {
+  uid = record { line = Some (codes "UID:a"); once = refl; stands = λ _. refl; is = (refl, (omega arith, omega arith)) };
+  organiser = record { line = Some (codes "ORGANIZER:mailto:ann@example.com"); once = refl; stands = λ _. refl; is = (ann, refl) };
+  stamp = record { line = Some (codes "DTSTAMP:20250301T120000Z"); once = refl; stands = λ _. refl; is = stamp_written _ _ stamp };
+  sequence = (None, record { line = None; once = refl; stands = λ h. absurd (false≢true h); is = tt }, refl);
+  status = (None, refl);
+  start = record { line = Some (codes "DTSTART:20250310T090000Z"); once = refl; stands = λ _. refl; is = (refl, stamp_written _ _ start) };
+  length = record { end_line = None; duration_line = Some (codes "DURATION:PT1H"); end_once = refl; duration_once = refl; is = an_hour; most = omega arith };
+  attendees = (((the_room, refl), refl), tt);
+  from_1970 = omega (arith, ints);
+}
+
+abbrev message : Tree
+message = tree (codes "VCALENDAR") head_lines (more (tree (codes "VEVENT") own_lines none) none)
+
+are_lines : logical_lines octets ≡ lines
+are_lines = refl
+
+read : reads_as_lines true octets ≡ true
+unfolding is_utf8 chars encode
+read = refl
+
+object : IsObject tree_name tree_own tree_inside true message lines
+object = record {
+  spelled = record {
+    begin = codes "BEGIN:VCALENDAR";
+    end = codes "END:VCALENDAR";
+    body = head_lines ++ vevent_lines own_lines;
+    are = refl;
+    opens = record { begins = refl; names = refl };
+    closes = record { ends = refl; names = refl };
+    holds = parts_more 6 head_lines [] head_lines (own_lines ∷ []) (own_body 7 head_lines refl) refl;
+  };
+  calendar = refl;
+  version = refl;
+  events = refl;
+}
+
+spells : SpellsRequest octets event
+spells = record {
+  lines = read;
+  tree = message;
+  object = subst (λ (l : Lines). IsObject tree_name tree_own tree_inside true message l) (sym are_lines) object;
+  says = record { method_line = codes "METHOD:REQUEST"; method = refl; request = refl; lines = own_lines; one = refl; read = refl; says = says };
+}
+
+-- ---- the run: the message comes, and comes again
+
+abbrev canonical : List ℕ
+canonical = codes "DTSTART:20250310T090000Z\r\nDURATION:PT3600S\r\n"
+
+abbrev part : Part
+part = record {
+  organiser = codes "mailto:ann@example.com";
+  uid = codes "a";
+  slot = Whole;
+  revision = record { sequence = 0; stamp = pos 1_740_830_400 };
+  body = Set canonical;
+}
+
+is_part : IsPart event part
+unfolding digits
+is_part = record { octets = canonical; organiser = refl; uid = refl; slot = refl; sequence = refl; stamp = refl; canonical = record { start = codes "20250310T090000Z"; written = start; is = refl }; body = refl }
+
+abbrev delivery : Delivery
+delivery = record { claims = claim event part ∷ []; moment = pos 1_740_830_500 }
+
+delivered : IsDelivered room delivery
+delivered = record { octets = octets; event = event; spells = spells; parts = part ∷ []; are = (refl, is_part); claims = refl }
+
+abbrev once_taken : Book
+once_taken = record { taken = part ∷ []; answers = answered (pos 1_740_830_500) Accept (claim event part ∷ []) }
+
+abbrev taken_again : Book
+taken_again = record { taken = part ∷ part ∷ []; answers = answered (pos 1_740_830_500) Accept (claim event part ∷ []) }
+
+alone : (b : Booked) → IsClear (b ∷ [])
+alone b x y t c = c.differ (ap (λ (z : Booked). z.key) (only x c.first) ∙ sym (ap (λ (z : Booked). z.key) (only y c.second)))
+  where
+    only : (x : Booked) → Contains (b ∷ []) x → x ≡ b
+    only x c = elim (in_cons b [] x c) [ inl e ↦ sym e | inr nowhere ↦ absurd (none_in_nil x nowhere) ]
+
+a_run : Runs empty_book (delivery ∷ delivery ∷ []) taken_again
+a_run = (
+  once_taken,
+  Accept,
+  record { taken = refl; answers = refl; decided = λ _. (omega arith, alone (booked_by event)) },
+  (taken_again, Accept, record { taken = refl; answers = refl; decided = λ h. absurd (false≢true h) }, refl),
+)
+
+one_confirmed : confirmed taken_again ≡ booked_by event ∷ []
+one_confirmed = refl
+
+-- ---- what is kept
+
+abbrev kept_lines : Lines
+kept_lines = vevent_lines (codes "UID:a" ∷ codes "SEQUENCE:0" ∷ codes "DTSTAMP:20250301T120000Z" ∷ codes "DTSTART:20250310T090000Z" ∷ codes "DURATION:PT3600S" ∷ codes "ORGANIZER:mailto:ann@example.com" ∷ codes "ATTENDEE;PARTSTAT=ACCEPTED:mailto:r1@example.com" ∷ [])
+
+a_kept_calendar : IsKeptCalendar room taken_again (written (object_lines None kept_lines))
+unfolding digits
+a_kept_calendar = record {
+  events = kept_lines ∷ [];
+  each = (
+    record {
+      stamp = codes "20250301T120000Z";
+      body = codes "DTSTART:20250310T090000Z" ∷ codes "DURATION:PT3600S" ∷ [];
+      written_stamp = stamp;
+      body_is = refl;
+      whole_lines = refl;
+      is = refl;
+    },
+    tt,
+  );
+  is = refl;
+}
