@@ -1,1 +1,3 @@
+pub mod Config
 pub mod Faults
+pub mod Settings
