@@ -1,2 +1,4 @@
 pub mod Lines
+pub mod ObjectLemmas
+pub mod PreambleLemmas
 pub mod SettingLemmas
