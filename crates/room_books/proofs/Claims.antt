@@ -20,8 +20,7 @@ use Rattle.room_books.specs.declared.answer.Answer.{Answer}
 use Rattle.room_books.specs.declared.answer.Kind.{Kind}
 use Rattle.room_books.specs.declared.answer.Kind.TheVariants.{NotAddressed}
 use Rattle.room_books.specs.Takings.{kind_view, reply_octets}
-use Rattle.profile.specs.Kept.{IsReply}
-use Rattle.std.specs.Option.{IfSome}
+use Rattle.profile.specs.Kept.{Replies}
 use Rattle.room_books.specs.Standing.{Stands, StepsTo, StepsWith, claim_of, part_list, span_said, AreClaims}
 use Rattle.room_books.proofs.Steps.{none_steps}
 
@@ -73,13 +72,9 @@ claims_are room event p span h is =
       books = λ i. record { part = p; books = record { key = record { organiser = organiser i; uid = h.1.uid i; slot = start i }; start = start i; end = end i } ∷ [] } ∷ [];
     }
 
-no_reply : (reply : Option (List ℕ)) → reply ≡ None → (P : List ℕ → Type 0) → IfSome reply P
-no_reply None e P = tt
-no_reply (Some v) e P = absurd (cc)
-
 -- a message with no part for the room
 pub none_claimed : (room : List ℕ) (event : Event) (entries : List (MeetingKey × Meeting)) (moment : ℤ) (answer : Answer) (book : Book) → AreParts room event [] → answer.kind ≡ NotAddressed → reply_octets answer ≡ None → Stands entries book
     → (claims : List Claim) × AreClaims room event claims × StepsWith room entries book claims moment (kind_view answer.kind) (reply_octets answer)
 none_claimed room event entries moment answer book h e n st =
     let s = subst (λ (x : Kind). StepsTo entries book [] moment (kind_view x)) (sym e) (none_steps entries moment book st) in
-    ([], record { parts = []; are = h; books = refl }, record { steps = s; replies = no_reply (reply_octets answer) n (IsReply room s.after []) })
+    ([], record { parts = []; are = h; books = refl }, record { steps = s; replies = subst (Replies room s.after []) (sym n) refl })

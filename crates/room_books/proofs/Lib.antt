@@ -5,7 +5,12 @@ pub mod Deciding
 pub mod Keys
 pub mod Meetings
 pub mod Partition
+pub mod Arrivals
+pub mod Dates
+pub mod Bodies
+pub mod Writing
 pub mod Stepping
 pub mod Steps
+pub mod Keeping
 pub mod Claims
 pub mod Replying

@@ -1,30 +1,32 @@
 -- The room after a part stands for the book after the step.
 use Rattle.std.proofs.Common.{◌≡◌, ℕ, ℤ, Bool, true, false, not, ◌&&◌, ◌||◌, cond, List, [], ◌∷◌, ◌++◌, inl, inr, Option, None, Some, refl, sym, ap, ◌∙◌, subst, length, append-nil, arith, codes}
-use Rattle.std.specs.Prelude.{nat_lt, IsTrue, if◌then◌else◌, unwrap_or, IfSome, option_map}
+use Rattle.std.specs.Prelude.{◌==◌, nat_lt, IsTrue, if◌then◌else◌, unwrap_or, is_some}
+use Rattle.profile.specs.Values.{IsClockSeconds}
+use Rattle.indexmap.specs.IndexMap.{insert_entry}
 use Rattle.std.specs.List.{Contains, filter, flat_map, IsDistinct}
 use Rattle.std.specs.Map.{keys_of, lookup}
 use Rattle.std.proofs.lemmas.Bool.{true≢false, cases_Bool, false_from_ne_true, and_from}
-use Rattle.std.proofs.lemmas.List.Elements.{filter-append, Contains-append_left, Contains-push, Contains-push_cases}
+use Rattle.std.proofs.lemmas.List.Elements.{filter-append, Contains-append_left, Contains-append_cases, Contains-push, Contains-push_cases}
 use Rattle.itip_order.specs.Registers.{StandsFor}
 use Rattle.itip_order.specs.Parts.{part_of}
 use Rattle.itip_order.specs.Freshness.{IsFreshness}
 use Rattle.itip_order.specs.declared.held.Freshness.{Freshness}
 use Rattle.itip_order.specs.declared.held.Freshness.TheVariants.{Fresh, Same, Stale}
-use Rattle.itip_order.proofs.Lists.{none_in_nil, filter_at, filter_from}
+use Rattle.itip_order.proofs.Lists.{none_in_nil, in_cons, in_head, filter_at, filter_from}
 use Rattle.profile.specs.Instances.{Booked}
-use Rattle.profile.specs.Revisions.{Part, Whole, in_view, same_part}
+use Rattle.profile.specs.Revisions.{Part, Whole, in_view, same_part, part_cmp}
 use Rattle.profile.specs.Messages as messages
 use Rattle.profile.specs.Rooms.{Claim, Answer, Book, empty_book, Decides, confirmed, confirmed_in, is_accept, is_set, asked, answered, IsStep, kind_of, kind_of_outcome, Kind, Withdrawn, Repeated}
 use Rattle.profile.specs.Rooms as rooms
 use Rattle.profile.specs.Rooms.{shown}
-use Rattle.profile.specs.Kept.{IsReply, ShowsAnswer, written}
+use Rattle.profile.specs.Kept.{IsReply, Replies, ShowsAnswer, written, first_parts}
 use Rattle.profile.specs.Messages.{IsReplyEvent, object_lines}
-use Rattle.std.specs.Ordering.{is_eq}
+use Rattle.std.specs.Ordering.{is_eq, is_le}
 use Rattle.std.specs.List.{AllZip}
 use Rattle.std.proofs.lemmas.Cmp.{tied_itself}
 use Rattle.itip_order.proofs.Order.{part_total}
-use Rattle.itip_order.proofs.Registers.{greatest_at, greatest_unique, eq_refl}
-use Rattle.room_books.specs.Replying.{IsReplyOf, TellsDecided}
+use Rattle.itip_order.proofs.Registers.{greatest_at, greatest_from, greatest_unique, eq_refl}
+use Rattle.room_books.specs.Replying.{IsReplyOf, Tells, TellsDecided}
 use Rattle.room_books.specs.declared.meeting.MeetingKey.{MeetingKey}
 use Rattle.room_books.specs.declared.meeting.Meeting.{Meeting}
 use Rattle.room_books.specs.declared.meeting.Decided.{Decided}
@@ -35,27 +37,14 @@ use Rattle.room_books.specs.declared.answer.LimitKind.TheVariants.{Series, Singl
 use Rattle.room_books.specs.declared.taking.Asked.{Asked}
 use Rattle.room_books.specs.declared.taking.Taken.{Taken}
 use Rattle.room_books.specs.Views.{IsKeyOf, same_key, booked_of, booked_list, confirmed_span, span_where, outcome_of, others, IsDecision}
-use Rattle.room_books.specs.Takings.{StandsAt, Told, told, told_in, told_by, DecidedAfter, IsMeetingAfter, kind_after}
-use Rattle.room_books.specs.Standing.{is_of, of_meeting, answers_of, Meets, MeetsAt, Covers, Stands, HasTold, claim_of, StepsTo, StepsWith}
+use Rattle.room_books.specs.Takings.{StandsAt, Told, told, told_in, told_by, DecidedAfter, IsMeetingAfter, AreDated, kind_after}
+use Rattle.room_books.specs.Standing.{is_of, of_meeting, answers_of, Meets, MeetsAt, Covers, Stands, HasTold, IsOfEvent, AreKeysOf, claim_of, StepsTo, StepsWith}
 use Rattle.room_books.proofs.Runs.{within_good, confirmed_back, confirmed_split, step_sound}
 use Rattle.room_books.proofs.Meetings.{key_from, is_of_parts, is_of_from, is_of_same, booked_same, view_of, of_more_own, of_more_other, confirmed_none, view_other, view_stays, place_whole, view_whole}
 use Rattle.room_books.proofs.Stepping.{decides, others_differ, other_of, others_stay, own_stays, own_goes, others_same}
-
--- what an answer confirms can be told from the answer
-told_span : Option Told → Option Span
-told_span None = None
-told_span (Some t) = cond (is_accept t.outcome) (Some t.span) None
-
-span_outcome : (s : Span) (o : Outcome) → span_where s o ≡ cond (is_accept (outcome_of o)) (Some s) None
-span_outcome s Accepted = refl
-span_outcome s (Declined clash) = refl
-span_outcome s (Limit Series) = refl
-span_outcome s (Limit Singles) = refl
-
-span_told : (d : Option Decided) → confirmed_span d ≡ told_span (told_in d)
-unfolding told_span
-span_told None = refl
-span_told (Some d) = span_outcome d.span d.outcome
+use Rattle.room_books.proofs.Arrivals.{arrives}
+use Rattle.room_books.proofs.Dates.{told_span, span_told, others_dated, decision_dated}
+use Rattle.room_books.proofs.Views.{part_le_refl}
 
 list_same : (k q : MeetingKey) (o : Option Span) → same_key k q ≡ true → booked_list k o ≡ booked_list q o
 list_same k q None e = refl
@@ -73,6 +62,7 @@ stands_at book k (Some m) h = h.held
 
 module _ (entries entries' : List (MeetingKey × Meeting)) (book : Book) (k : MeetingKey) (p : Part) (span : Span) (moment : ℤ) (m : Meeting)
     (st : Stands entries book) (distinct : IsDistinct same_key (keys_of entries)) (of_k : is_of k p ≡ true) (w : p.slot ≡ Whole) (set : is_set p ≡ true)
+    (event : IsOfEvent p) (order : AreKeysOf (keys_of entries') (first_parts (book.taken ++ p ∷ []))) (start : IsClockSeconds span.start)
     (held : StandsFor m.held (of_meeting k book.taken ++ p ∷ []))
     (updates : (q : MeetingKey) → lookup (same_key q) entries' ≡ cond (same_key k q) (Some m) (lookup (same_key q) entries)) where
   abbrev after : List Answer → Book
@@ -85,7 +75,9 @@ module _ (entries entries' : List (MeetingKey × Meeting)) (book : Book) (k : Me
   module _ (new : List Answer) (outcome : messages.Outcome) (step : IsStep book (own_claim ∷ []) moment outcome (after new))
       (new_of : (q : MeetingKey) → is_of q p ≡ false → answers_of q new ≡ [])
       (own : confirmed_in (book.taken ++ p ∷ []) (answers_of k (book.answers ++ new)) ≡ booked_list k (confirmed_span m.decided))
-      (own_told : (t : Told) → told_in m.decided ≡ Some t → HasTold (after new) k t) where
+      (own_told : (t : Told) → told_in m.decided ≡ Some t → HasTold (after new) k t)
+      (own_some : is_some (told_in m.decided) ≡ true) (own_dated : AreDated (told_in m.decided))
+      (new_single : (a : Answer) → Contains new a → length a.claim.books ≡ 1) where
     here : (q : MeetingKey) → same_key k q ≡ true → Meets (after new) q m
     here q e = record {
       held = subst (StandsFor m.held) (sym (of_same k q (book.taken ++ p ∷ []) e ∙ of_more_own k book.taken p of_k)) held;
@@ -93,6 +85,8 @@ module _ (entries entries' : List (MeetingKey × Meeting)) (book : Book) (k : Me
       answered = λ t h.
           let o = own_told t h in
           record { given = o.given; kept = o.kept; of_it = sym (is_of_same k q o.given.claim.part e) ∙ o.of_it; seen = o.seen; moment = o.moment; outcome = o.outcome };
+      some = own_some;
+      dated = own_dated;
     }
 
     there : (q : MeetingKey) → same_key k q ≡ false → (o : Option Meeting) → MeetsAt book q o → MeetsAt (after new) q o
@@ -114,6 +108,8 @@ module _ (entries entries' : List (MeetingKey × Meeting)) (book : Book) (k : Me
                 moment = o.moment;
                 outcome = o.outcome;
               };
+          some = h.some;
+          dated = h.dated;
         }
 
     covers : (part : Part) → Covers entries part → Covers entries' part
@@ -128,6 +124,8 @@ module _ (entries entries' : List (MeetingKey × Meeting)) (book : Book) (k : Me
         let sound = step_sound book (own_claim ∷ []) moment outcome (after new) step record { known = st.known; good = record { clear = st.clear; few = st.few } } in
         record {
           whole = λ part c. elim (Contains-push_cases book.taken p part c) [ inl old ↦ st.whole part old | inr new_one ↦ subst (λ (z : Part). z.slot ≡ Whole) new_one w ];
+          events = λ part c. elim (Contains-push_cases book.taken p part c) [ inl old ↦ st.events part old | inr new_one ↦ subst IsOfEvent new_one event ];
+          order = order;
           covered = λ part c. elim (Contains-push_cases book.taken p part c) [
             | inl old ↦ covers part (st.covered part old)
             | inr new_one ↦ subst (Covers entries') new_one (record {
@@ -138,6 +136,7 @@ module _ (entries entries' : List (MeetingKey × Meeting)) (book : Book) (k : Me
             })
           ];
           known = sound.known;
+          single = λ a c. elim (Contains-append_cases book.answers new a c) [ inl old ↦ st.single a old | inr new_one ↦ new_single a new_one ];
           clear = sound.good.clear;
           few = sound.good.few;
           meets = λ q. elim (cases_Bool (same_key k q)) [
@@ -221,13 +220,23 @@ module _ (entries entries' : List (MeetingKey × Meeting)) (book : Book) (k : Me
           outcome = ap (λ (x : Told). x.outcome) e;
         }
 
+    fresh_some : is_some (told_in m.decided) ≡ true
+    fresh_some = ap (λ o. is_some (told_in o)) is_decided
+
+    fresh_dated : AreDated (told_in m.decided)
+    fresh_dated = subst (λ (o : Option Decided). AreDated (told_in o)) (sym is_decided)
+        (subst (λ (s : Span). IsClockSeconds s.start) (sym same_span) start, decision_dated (others k entries) k span (others_dated k entries book st distinct) start d.outcome decision)
+
+    fresh_single : (a : Answer) → Contains (new_answer ∷ []) a → length a.claim.books ≡ 1
+    fresh_single a c = elim (in_cons new_answer [] a c) [ inl here ↦ subst (λ (x : Answer). length x.claim.books ≡ 1) here refl | inr none ↦ absurd (none_in_nil a none) ]
+
     pub fresh_steps : StepsTo entries' book (own_claim ∷ []) moment (kind_after Fresh (Some d))
     unfolding asked_at kind_at kind_is_at
     fresh_steps = record {
       outcome = outcome_of d.outcome;
       after = after (new_answer ∷ []);
       step = fresh_step;
-      stands = stands_after (new_answer ∷ []) (outcome_of d.outcome) fresh_step (λ q n. ap (λ b. cond b (new_answer ∷ []) []) n) fresh_own fresh_told;
+      stands = stands_after (new_answer ∷ []) (outcome_of d.outcome) fresh_step (λ q n. ap (λ b. cond b (new_answer ∷ []) []) n) fresh_own fresh_told fresh_some fresh_dated fresh_single;
       kind_is = sym (kind_is_at (outcome_of d.outcome) ∙ (λ i. kind_at (set i) (fresh i) (before i) (outcome_of d.outcome)));
     }
 
@@ -285,13 +294,40 @@ module _ (entries entries' : List (MeetingKey × Meeting)) (book : Book) (k : Me
     old_told : (t : Told) → told_in m.decided ≡ Some t → HasTold (after []) k t
     old_told t h = told_before (lookup (same_key k) entries) (st.meets k) t (sym kept ∙ h)
 
+    -- a part that isn't fresh is of a meeting that was heard of
+    alone_seen : in_view (p ∷ []) p ≡ true
+    alone_seen = view_whole (p ∷ []) p w ∙ greatest_from (p ∷ []) p record {
+      taken = in_head p [];
+      top = λ y c s. elim (in_cons p [] y c) [ inl here ↦ subst (λ (z : Part). is_le (part_cmp z p) ≡ true) here (part_le_refl p) | inr none ↦ absurd (none_in_nil y none) ];
+    }
+
+    heard : of_meeting k book.taken ≡ [] → ⊥
+    heard none =
+        let now : a ≡ true = sym seen_after ∙ sym (view_of k (book.taken ++ p ∷ []) p w of_k) ∙ ap (λ (l : List Part). in_view l p) (of_more_own k book.taken p of_k ∙ ap (λ l. l ++ p ∷ []) none) ∙ alone_seen in
+        let before : b ≡ false = sym seen_before ∙ sym (view_of k book.taken p w of_k) ∙ ap (λ (l : List Part). in_view l p) none in
+        true≢false (sym (λ i. now i && not (before i)) ∙ not_fresh)
+
+    some_before : (o : Option Meeting) → MeetsAt book k o → is_some (told_by o) ≡ true
+    some_before None h = absurd (heard h)
+    some_before (Some x) h = h.some
+
+    dated_before : (o : Option Meeting) → MeetsAt book k o → AreDated (told_by o)
+    dated_before None h = tt
+    dated_before (Some x) h = h.dated
+
+    old_some : is_some (told_in m.decided) ≡ true
+    old_some = ap is_some kept ∙ some_before (lookup (same_key k) entries) (st.meets k)
+
+    old_dated : AreDated (told_in m.decided)
+    old_dated = subst AreDated (sym kept) (dated_before (lookup (same_key k) entries) (st.meets k))
+
     old_steps : (kind : Kind) → kind ≡ kind_at true a b messages.Accept → StepsTo entries' book (own_claim ∷ []) moment kind
     unfolding kind_is_at
     old_steps kind is = record {
       outcome = messages.Accept;
       after = after [];
       step = old_step;
-      stands = stands_after [] messages.Accept old_step (λ q n. refl) old_own old_told;
+      stands = stands_after [] messages.Accept old_step (λ q n. refl) old_own old_told old_some old_dated (λ a c. absurd (none_in_nil a c));
       kind_is = is ∙ sym (kind_is_at messages.Accept ∙ (λ i. kind_at (set i) (seen_after i) (seen_before i) messages.Accept));
     }
 
@@ -324,15 +360,17 @@ pub part_steps : (entries entries' : List (MeetingKey × Meeting)) (asks : Asked
     → IsKeyOf (part_of asks.part.now).organiser (part_of asks.part.now).uid asks.key.now → (part_of asks.part.now).slot ≡ Whole → is_set (part_of asks.part.now) ≡ true
     → IsMeetingAfter (lookup (same_key asks.key.now) entries) entries asks taken
     → ((q : MeetingKey) → lookup (same_key q) entries' ≡ cond (same_key asks.key.now q) (Some taken.meeting) (lookup (same_key q) entries))
+    → entries' ≡ insert_entry same_key entries asks.key.now taken.meeting → IsClockSeconds asks.span.start → IsOfEvent (part_of asks.part.now)
     → kind ≡ kind_after taken.freshness taken.meeting.decided
     → (book : Book) → Stands entries book → StepsTo entries' book (claim_of (part_of asks.part.now) asks.span ∷ []) asks.moment kind
-part_steps entries entries' asks taken kind distinct key whole set after updates kind_is book st =
+part_steps entries entries' asks taken kind distinct key whole set after updates inserted start event kind_is book st =
     let k = asks.key.now in
     let p = part_of asks.part.now in
     let of_k : is_of k p ≡ true = is_of_from k p key.organiser_is key.uid_is in
     let before = stands_at book k (lookup (same_key k) entries) (st.meets k) in
+    let order : AreKeysOf (keys_of entries') (first_parts (book.taken ++ p ∷ [])) = subst (λ (l : List (MeetingKey × Meeting)). AreKeysOf (keys_of l) (first_parts (book.taken ++ p ∷ []))) (sym inserted) (arrives entries book.taken k taken.meeting p of_k st.order) in
     subst (StepsTo entries' book (claim_of p asks.span ∷ []) asks.moment) (sym kind_is)
-    (steps_by entries entries' book k p asks.span asks.moment taken.meeting st distinct of_k whole set (after.held (of_meeting k book.taken) before) updates asks refl refl refl
+    (steps_by entries entries' book k p asks.span asks.moment taken.meeting st distinct of_k whole set event order start (after.held (of_meeting k book.taken) before) updates asks refl refl refl
     taken.freshness taken.meeting.decided refl (after.fresh (of_meeting k book.taken) before) after.decided)
 
 -- what a reply tells of a part that is in the view is what the book after has
@@ -342,17 +380,13 @@ view_unique k h p q w v e f x y = greatest_unique h p q (greatest_at h p (sym (v
 same_part_itself : (p : Part) → same_part p p ≡ true
 same_part_itself p = and_from _ _ (eq_refl p) (ap is_eq (tied_itself part_total p))
 
-if_some_more : (o : Option (List ℕ)) (P Q : List ℕ → Type 0) → ((x : List ℕ) → P x → Q x) → IfSome o P → IfSome o Q
-if_some_more None P Q f h = h
-if_some_more (Some x) P Q f h = f x h
-
--- a part that is fresh or the same is in the view of the book after
-seen_now : (entries' : List (MeetingKey × Meeting)) (asks : Asked) (kind : Kind) (book : Book) → (part_of asks.part.now).slot ≡ Whole → is_of asks.key.now (part_of asks.part.now) ≡ true
-    → (s : StepsTo entries' book (claim_of (part_of asks.part.now) asks.span ∷ []) asks.moment kind) → in_view (of_meeting asks.key.now book.taken ++ part_of asks.part.now ∷ []) (part_of asks.part.now) ≡ true → in_view s.after.taken (part_of asks.part.now) ≡ true
-seen_now entries' asks kind book whole of_k s seen =
+-- the part is in the view of the book after as it is in that of its own meeting
+view_now : (entries' : List (MeetingKey × Meeting)) (asks : Asked) (kind : Kind) (book : Book) → (part_of asks.part.now).slot ≡ Whole → is_of asks.key.now (part_of asks.part.now) ≡ true
+    → (s : StepsTo entries' book (claim_of (part_of asks.part.now) asks.span ∷ []) asks.moment kind) → in_view s.after.taken (part_of asks.part.now) ≡ in_view (of_meeting asks.key.now book.taken ++ part_of asks.part.now ∷ []) (part_of asks.part.now)
+view_now entries' asks kind book whole of_k s =
     let p = part_of asks.part.now in
     let k = asks.key.now in
-    ap (λ (l : List Part). in_view l p) s.step.taken ∙ sym (view_of k (book.taken ++ p ∷ []) p whole of_k) ∙ ap (λ (l : List Part). in_view l p) (of_more_own k book.taken p of_k) ∙ seen
+    ap (λ (l : List Part). in_view l p) s.step.taken ∙ sym (view_of k (book.taken ++ p ∷ []) p whole of_k) ∙ ap (λ (l : List Part). in_view l p) (of_more_own k book.taken p of_k)
 
 reply_shows : (room : List ℕ) (entries entries' : List (MeetingKey × Meeting)) (asks : Asked) (taken : Taken) (kind : Kind) (book : Book) (octets : List ℕ) (d : Decided) (whole : (part_of asks.part.now).slot ≡ Whole) (set : is_set (part_of asks.part.now) ≡ true)
     → (of_k : is_of asks.key.now (part_of asks.part.now) ≡ true) (found : lookup (same_key asks.key.now) entries' ≡ Some taken.meeting) → taken.meeting.decided ≡ Some d
@@ -379,39 +413,60 @@ reply_shows room entries entries' asks taken kind book octets d whole set of_k f
       is = reply.is ∙ ap (λ l. written (object_lines (Some (codes "REPLY")) l)) (sym (append-nil reply.lines));
     }
 
-told_shows : (room : List ℕ) (entries entries' : List (MeetingKey × Meeting)) (asks : Asked) (taken : Taken) (kind : Kind) (book : Book) (octets : List ℕ) (f : Freshness) (dec : Option Decided) (whole : (part_of asks.part.now).slot ≡ Whole) (set : is_set (part_of asks.part.now) ≡ true)
+-- what comes as the reply to a part that is in the view, of which this was decided
+replies_by : (room : List ℕ) (entries entries' : List (MeetingKey × Meeting)) (asks : Asked) (taken : Taken) (kind : Kind) (book : Book) (reply : Option (List ℕ)) (d : Decided) (whole : (part_of asks.part.now).slot ≡ Whole) (set : is_set (part_of asks.part.now) ≡ true)
+    → (of_k : is_of asks.key.now (part_of asks.part.now) ≡ true) (found : lookup (same_key asks.key.now) entries' ≡ Some taken.meeting) → taken.meeting.decided ≡ Some d
+    → (s : StepsTo entries' book (claim_of (part_of asks.part.now) asks.span ∷ []) asks.moment kind) → in_view s.after.taken (part_of asks.part.now) ≡ true
+    → Tells room (part_of asks.part.now) (told d) reply → Replies room s.after (claim_of (part_of asks.part.now) asks.span ∷ []) reply
+replies_by room entries entries' asks taken kind book None d whole set of_k found e s seen h =
+    let meets = subst (MeetsAt s.after asks.key.now) found (s.stands.meets asks.key.now) in
+    let dated : AreDated (Some (told d)) = subst (λ (o : Option Decided). AreDated (told_in o)) e meets.dated in
+    absurd (h dated.1)
+replies_by room entries entries' asks taken kind book (Some octets) d whole set of_k found e s seen h =
+    let c : Claim = claim_of (part_of asks.part.now) asks.span in
+    let is_shown : shown s.after.taken (c ∷ []) ≡ c ∷ [] = λ i. cond (set i && seen i) (c ∷ []) [] in
+    (ap (λ (l : List Claim). not (length l == 0)) is_shown, reply_shows room entries entries' asks taken kind book octets d whole set of_k found e s seen h)
+
+-- nothing is shown of a part that isn't in the view
+none_shown : (room : List ℕ) (book : Book) (c : Claim) (reply : Option (List ℕ)) → is_set c.part ≡ true → in_view book.taken c.part ≡ false → reply ≡ None → Replies room book (c ∷ []) reply
+none_shown room book c reply set gone e =
+    let none : shown book.taken (c ∷ []) ≡ [] = λ i. cond (set i && gone i) (c ∷ []) [] in
+    subst (Replies room book (c ∷ [])) (sym e) none
+
+told_shows : (room : List ℕ) (entries entries' : List (MeetingKey × Meeting)) (asks : Asked) (taken : Taken) (kind : Kind) (book : Book) (reply : Option (List ℕ)) (f : Freshness) (dec : Option Decided) (whole : (part_of asks.part.now).slot ≡ Whole) (set : is_set (part_of asks.part.now) ≡ true)
     → (of_k : is_of asks.key.now (part_of asks.part.now) ≡ true) (found : lookup (same_key asks.key.now) entries' ≡ Some taken.meeting) → taken.meeting.decided ≡ dec
     → (s : StepsTo entries' book (claim_of (part_of asks.part.now) asks.span ∷ []) asks.moment kind) → IsFreshness f (of_meeting asks.key.now book.taken) (part_of asks.part.now)
-    → TellsDecided room (part_of asks.part.now) f dec octets → IsReply room s.after (claim_of (part_of asks.part.now) asks.span ∷ []) octets
-told_shows room entries entries' asks taken kind book octets Fresh None whole set of_k found e s f h = absurd h
-told_shows room entries entries' asks taken kind book octets Fresh (Some d) whole set of_k found e s f h = reply_shows room entries entries' asks taken kind book octets d whole set of_k found e s (seen_now entries' asks kind book whole of_k s f.0) h
-told_shows room entries entries' asks taken kind book octets Same None whole set of_k found e s f h = absurd h
-told_shows room entries entries' asks taken kind book octets Same (Some d) whole set of_k found e s f h = reply_shows room entries entries' asks taken kind book octets d whole set of_k found e s (seen_now entries' asks kind book whole of_k s f.0) h
-told_shows room entries entries' asks taken kind book octets Stale dec whole set of_k found e s f h = absurd h
+    → TellsDecided room (part_of asks.part.now) f dec reply → Replies room s.after (claim_of (part_of asks.part.now) asks.span ∷ []) reply
+told_shows room entries entries' asks taken kind book reply f dec whole set of_k found e s = by_kinds f dec e
+  where
+    decided_some : taken.meeting.decided ≡ None → ⊥
+    decided_some none =
+        let meets = subst (MeetsAt s.after asks.key.now) found (s.stands.meets asks.key.now) in
+        true≢false (sym meets.some ∙ ap (λ o. is_some (told_in o)) none)
+
+    by_kinds : (f : Freshness) (dec : Option Decided) → taken.meeting.decided ≡ dec → IsFreshness f (of_meeting asks.key.now book.taken) (part_of asks.part.now)
+        → TellsDecided room (part_of asks.part.now) f dec reply → Replies room s.after (claim_of (part_of asks.part.now) asks.span ∷ []) reply
+    by_kinds Fresh None e f h = absurd (decided_some e)
+    by_kinds Fresh (Some d) e f h = replies_by room entries entries' asks taken kind book reply d whole set of_k found e s (view_now entries' asks kind book whole of_k s ∙ f.0) h
+    by_kinds Same None e f h = absurd (decided_some e)
+    by_kinds Same (Some d) e f h = replies_by room entries entries' asks taken kind book reply d whole set of_k found e s (view_now entries' asks kind book whole of_k s ∙ f.0) h
+    by_kinds Stale dec e f h = none_shown room s.after (claim_of (part_of asks.part.now) asks.span) reply set (view_now entries' asks kind book whole of_k s ∙ false_from_ne_true _ f) h
 
 pub part_steps_with : (room : List ℕ) (entries entries' : List (MeetingKey × Meeting)) (asks : Asked) (taken : Taken) (kind : Kind) (reply : Option (List ℕ)) → IsDistinct same_key (keys_of entries)
     → IsKeyOf (part_of asks.part.now).organiser (part_of asks.part.now).uid asks.key.now → (part_of asks.part.now).slot ≡ Whole → is_set (part_of asks.part.now) ≡ true
     → IsMeetingAfter (lookup (same_key asks.key.now) entries) entries asks taken
     → ((q : MeetingKey) → lookup (same_key q) entries' ≡ cond (same_key asks.key.now q) (Some taken.meeting) (lookup (same_key q) entries))
+    → entries' ≡ insert_entry same_key entries asks.key.now taken.meeting → IsClockSeconds asks.span.start
     → kind ≡ kind_after taken.freshness taken.meeting.decided
-    → IfSome reply (TellsDecided room (part_of asks.part.now) taken.freshness taken.meeting.decided)
-    → (book : Book) → Stands entries book → StepsWith room entries' book (claim_of (part_of asks.part.now) asks.span ∷ []) asks.moment kind reply
-part_steps_with room entries entries' asks taken kind reply distinct key whole set after updates kind_is tells book st =
+    → TellsDecided room (part_of asks.part.now) taken.freshness taken.meeting.decided reply
+    → IsOfEvent (part_of asks.part.now) → (book : Book) → Stands entries book → StepsWith room entries' book (claim_of (part_of asks.part.now) asks.span ∷ []) asks.moment kind reply
+part_steps_with room entries entries' asks taken kind reply distinct key whole set after updates inserted start kind_is tells event book st =
     let k = asks.key.now in
-    let s = part_steps entries entries' asks taken kind distinct key whole set after updates kind_is book st in
+    let s = part_steps entries entries' asks taken kind distinct key whole set after updates inserted start event kind_is book st in
     let of_k : is_of k (part_of asks.part.now) ≡ true = is_of_from k (part_of asks.part.now) key.organiser_is key.uid_is in
     let found : lookup (same_key k) entries' ≡ Some taken.meeting = updates k ∙ ap (λ b. cond b (Some taken.meeting) (lookup (same_key k) entries)) (key_from k k refl refl) in
     let fresh = after.fresh (of_meeting k book.taken) (stands_at book k (lookup (same_key k) entries) (st.meets k)) in
-    record {
-      steps = s;
-      replies = if_some_more reply (TellsDecided room (part_of asks.part.now) taken.freshness taken.meeting.decided) (IsReply room s.after (claim_of (part_of asks.part.now) asks.span ∷ []))
-          (λ octets h. told_shows room entries entries' asks taken kind book octets taken.freshness taken.meeting.decided whole set of_k found refl s fresh h) tells;
-    }
-
--- a fact of what is in an option, of the octets of that
-pub if_some_map : {V : Type 0} (octets : V → List ℕ) (o : Option V) (P : List ℕ → Type 0) → IfSome o (λ v. P (octets v)) → IfSome (option_map octets o) P
-if_some_map octets None P h = h
-if_some_map octets (Some v) P h = h
+    record { steps = s; replies = told_shows room entries entries' asks taken kind book reply taken.freshness taken.meeting.decided whole set of_k found refl s fresh tells }
 
 -- a message with no part is a step that changes nothing
 pub none_steps : (entries : List (MeetingKey × Meeting)) (moment : ℤ) (book : Book) → Stands entries book → StepsTo entries book [] moment rooms.NotAddressed
@@ -431,8 +486,11 @@ none_steps entries moment book st = record {
 pub empty_stands : (entries : List (MeetingKey × Meeting)) → entries ≡ [] → Stands entries empty_book
 empty_stands entries e = subst (λ (l : List (MeetingKey × Meeting)). Stands l empty_book) (sym e) record {
   whole = λ p c. absurd (none_in_nil p c);
+  events = λ p c. absurd (none_in_nil p c);
+  order = tt;
   covered = λ p c. absurd (none_in_nil p c);
   known = λ a c. absurd (none_in_nil a c);
+  single = λ a c. absurd (none_in_nil a c);
   clear = λ a b t c. none_in_nil a c.first;
   few = omega arith;
   meets = λ k. refl;

@@ -9,7 +9,7 @@ use Rattle.itip_messages.specs.declared.reply.ReplyEvent.{ReplyEvent}
 use Rattle.itip_order.specs.declared.held.Freshness.{Freshness}
 use Rattle.itip_order.specs.declared.held.Freshness.TheVariants.{Fresh, Same, Stale}
 use Rattle.room_books.specs.declared.meeting.Decided.{Decided}
-use Rattle.room_books.specs.Takings.{Told, told}
+use Rattle.room_books.specs.Takings.{Told, told, OutcomeDated}
 
 -- the event answers the part so, for this room
 pub record IsEventFor (room : List ℕ) (part : Part) (answer : Told) (event : ReplyEvent) : Type 0 where
@@ -24,10 +24,15 @@ pub record IsReplyOf (room : List ℕ) (part : Part) (answer : Told) (octets : L
   pub event : IsReplyEvent room part answer.moment answer.outcome lines
   pub is : octets ≡ written (object_lines (Some (codes "REPLY")) lines)
 
--- the octets tell what was decided about a part that is in the view; nothing is told of another
-abbrev pub TellsDecided : List ℕ → Part → Freshness → Option Decided → List ℕ → Type 0
-TellsDecided room part Fresh (Some decided) octets = IsReplyOf room part (told decided) octets
-TellsDecided room part Fresh None octets = ⊥
-TellsDecided room part Same (Some decided) octets = IsReplyOf room part (told decided) octets
-TellsDecided room part Same None octets = ⊥
-TellsDecided room part Stale decided octets = ⊥
+-- the answer to a part is told, unless it names an instant that no stamp can write
+abbrev pub Tells : List ℕ → Part → Told → Option (List ℕ) → Type 0
+Tells room part answer None = OutcomeDated answer.outcome → ⊥
+Tells room part answer (Some octets) = IsReplyOf room part answer octets
+
+-- what was decided about a part that is in the view is told, and nothing of another
+abbrev pub TellsDecided : List ℕ → Part → Freshness → Option Decided → Option (List ℕ) → Type 0
+TellsDecided room part Fresh (Some decided) reply = Tells room part (told decided) reply
+TellsDecided room part Fresh None reply = reply ≡ None
+TellsDecided room part Same (Some decided) reply = Tells room part (told decided) reply
+TellsDecided room part Same None reply = reply ≡ None
+TellsDecided room part Stale decided reply = reply ≡ None

@@ -1,21 +1,22 @@
 -- What the meetings of a room stand for: the parts that were taken, and the answers to them.
-use Rattle.std.specs.Prelude.{◌≡◌, ℕ, ℤ, ◌≤◌, Bool, true, ◌&&◌, List, [], ◌∷◌, length, map, filter, Contains, Option, Some, None, IfSome}
+use Rattle.std.specs.Prelude.{◌≡◌, ℕ, ℤ, ◌^◌, ◌<◌, ◌≤◌, Bool, true, ◌&&◌, List, [], ◌∷◌, length, map, filter, Contains, Option, Some, None, is_some}
 use Rattle.std.specs.Str.{bytes_eq}
-use Rattle.std.specs.Map.{lookup}
+use Rattle.std.specs.List.{AllZip}
+use Rattle.std.specs.Map.{lookup, keys_of}
 use Rattle.ical_values.specs.Octets.{address_octets, text_octets}
 use Rattle.itip_order.specs.Registers.{StandsFor}
 use Rattle.profile.specs.Instances.{IsClear}
 use Rattle.profile.specs.Revisions.{Part, Whole, in_view}
-use Rattle.profile.specs.Messages.{Outcome, AreParts}
-use Rattle.profile.specs.Events.{Event, booked_by}
+use Rattle.profile.specs.Messages.{Outcome, AreParts, IsPart}
+use Rattle.profile.specs.Events.{Event, booked_by, length_seconds}
 use Rattle.itip_order.specs.Parts.{part_of}
 use Rattle.itip_order.specs.declared.part.Part.{Part as HeldPart}
 use Rattle.profile.specs.Rooms.{Claim, Answer, Book, Kind, confirmed, confirmed_in, most_singles, IsStep, kind_of}
 use Rattle.room_books.specs.declared.meeting.MeetingKey.{MeetingKey}
 use Rattle.room_books.specs.declared.meeting.Meeting.{Meeting}
 use Rattle.room_books.specs.declared.meeting.Span.{Span}
-use Rattle.room_books.specs.Takings.{Told, told_in}
-use Rattle.profile.specs.Kept.{IsReply}
+use Rattle.room_books.specs.Takings.{Told, told_in, AreDated}
+use Rattle.profile.specs.Kept.{Replies, first_parts}
 use Rattle.room_books.specs.Views.{same_key, booked_list, confirmed_span}
 
 -- the part is of the meeting
@@ -42,6 +43,8 @@ pub record Meets (book : Book) (key : MeetingKey) (meeting : Meeting) : Type 0 w
   pub held : StandsFor meeting.held (of_meeting key book.taken)
   pub confirmed : confirmed_in book.taken (answers_of key book.answers) ≡ booked_list key (confirmed_span meeting.decided)
   pub answered : (answer : Told) → told_in meeting.decided ≡ Some answer → HasTold book key answer
+  pub some : is_some (told_in meeting.decided) ≡ true
+  pub dated : AreDated (told_in meeting.decided)
 
 -- of a meeting that isn't there nothing was taken
 abbrev pub MeetsAt : Book → MeetingKey → Option Meeting → Type 0
@@ -55,11 +58,22 @@ pub record Covers (entries : List (MeetingKey × Meeting)) (part : Part) : Type 
   pub found : lookup (same_key key) entries ≡ Some meeting
   pub is : is_of key part ≡ true
 
--- the meetings stand for the book, whose confirmed instances are clear and within the limit
+-- the part is that of some event, of no more seconds than 64 bits count
+abbrev pub IsOfEvent : Part → Type 0
+IsOfEvent part = (event : Event) × IsPart event part × (length_seconds event.length < 2 ^ 64)
+
+-- the keys are those of these parts' meetings, in order
+abbrev pub AreKeysOf : List MeetingKey → List Part → Type 0
+AreKeysOf keys parts = AllZip (λ key part. is_of key part ≡ true) keys parts
+
+-- the meetings, in order of first arrival, stand for the book, whose confirmed instances are clear and within the limit
 pub record Stands (entries : List (MeetingKey × Meeting)) (book : Book) : Type 0 where
   pub whole : (part : Part) → Contains book.taken part → part.slot ≡ Whole
+  pub events : (part : Part) → Contains book.taken part → IsOfEvent part
+  pub order : AreKeysOf (keys_of entries) (first_parts book.taken)
   pub covered : (part : Part) → Contains book.taken part → Covers entries part
   pub known : (answer : Answer) → Contains book.answers answer → Contains book.taken answer.claim.part
+  pub single : (answer : Answer) → Contains book.answers answer → length answer.claim.books ≡ 1
   pub clear : IsClear (confirmed book)
   pub few : length (confirmed book) ≤ most_singles
   pub meets : (key : MeetingKey) → MeetsAt book key (lookup (same_key key) entries)
@@ -98,7 +112,7 @@ pub record AreClaims (room : List ℕ) (event : Event) (claims : List Claim) : T
   pub are : AreParts room event parts
   pub books : claims ≡ map (λ part. record { part = part; books = booked_by event ∷ [] }) parts
 
--- and where a reply comes, it shows the answers that the book after it has
+-- and a reply comes exactly where a part is shown: it shows the answers that the book after it has
 pub record StepsWith (room : List ℕ) (entries : List (MeetingKey × Meeting)) (book : Book) (claims : List Claim) (moment : ℤ) (kind : Kind) (reply : Option (List ℕ)) : Type 0 where
   pub steps : StepsTo entries book claims moment kind
-  pub replies : IfSome reply (IsReply room steps.after claims)
+  pub replies : Replies room steps.after claims reply

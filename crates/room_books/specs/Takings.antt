@@ -1,5 +1,6 @@
 -- What a part does to its meeting.
-use Rattle.std.specs.Prelude.{◌≡◌, ℕ, ℤ, List, [], ◌∷◌, ◌++◌, Option, Some, None, option_map}
+use Rattle.std.specs.Prelude.{◌≡◌, ℕ, ℤ, List, [], ◌∷◌, ◌++◌, Option, Some, None, option_map, Vec}
+use Rattle.profile.specs.Values.{IsClockSeconds}
 use Rattle.indexmap.specs.IndexMap.{IsUnchanged}
 use Rattle.clash_cert.specs.Makings.{key_of}
 use Rattle.itip_order.specs.Registers.{StandsFor}
@@ -46,6 +47,18 @@ abbrev pub told_in : Option Decided → Option Told
 told_in None = None
 told_in (Some decided) = Some (told decided)
 
+-- the instants that an outcome names can be written as stamps
+abbrev pub OutcomeDated : messages.Outcome → Type 0
+OutcomeDated messages.Accept = Unit {0}
+OutcomeDated (messages.Busy a b t) = IsClockSeconds t × IsClockSeconds a.slot × IsClockSeconds b.slot
+OutcomeDated messages.SeriesLimit = Unit {0}
+OutcomeDated messages.SinglesLimit = Unit {0}
+
+-- and so can the start of what was asked for
+abbrev pub AreDated : Option Told → Type 0
+AreDated None = Unit {0}
+AreDated (Some answer) = IsClockSeconds answer.span.start × OutcomeDated answer.outcome
+
 -- the answer that a meeting has
 abbrev pub told_by : Option Meeting → Option Told
 told_by None = None
@@ -83,6 +96,10 @@ kind_after Fresh (Some decided) = rooms.kind_of_outcome (outcome_of decided.outc
 kind_after Same decided = rooms.Repeated
 kind_after Stale decided = rooms.Stale
 
+-- the octets of a text, where there is one
+abbrev pub octets_in : {Z : Type 0} → Option (Vec ℕ Z) → Option (List ℕ)
+octets_in octets = option_map (λ octets. octets.items) octets
+
 -- the octets that an answer sends as its reply
 abbrev pub reply_octets : Answer → Option (List ℕ)
-reply_octets answer = option_map (λ octets. octets.items) answer.reply
+reply_octets answer = octets_in answer.reply

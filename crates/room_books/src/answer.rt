@@ -49,6 +49,7 @@ impl Answer {
     pub fn silent(kind: Kind) -> Answer
         ensures kind { result.kind ≡ kind }
         ensures reply { reply_octets result ≡ None }
+        ensures refresh { result.refresh ≡ None }
     {
         Answer {
             kind,

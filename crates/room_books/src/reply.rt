@@ -1,6 +1,6 @@
 //! The reply to a message: a VEVENT for its part, where that is to take place and is in the view.
 
-ghost use Rattle.std.specs.Prelude.{◌≡◌, IfOk, IfSome};
+ghost use Rattle.std.specs.Prelude.{◌≡◌, IfOk, IfSome, None};
 ghost use Rattle.ical_values.specs.Octets.{address_octets};
 ghost use Rattle.cal_events.specs.Calendars.{key_of as instance_key};
 ghost use Rattle.clash_cert.specs.Makings.{key_of as owned_key};
@@ -8,8 +8,8 @@ ghost use Rattle.itip_order.specs.Parts.{part_of};
 ghost use Rattle.itip_messages.specs.Replies.{outcome_of as decision_outcome};
 ghost use Rattle.profile.specs.Revisions as revisions;
 ghost use Rattle.room_books.specs.Views.{outcome_of};
-ghost use Rattle.room_books.specs.Takings.{told};
-ghost use Rattle.room_books.specs.Replying.{IsEventFor, IsReplyOf, TellsDecided};
+ghost use Rattle.room_books.specs.Takings.{told, octets_in, OutcomeDated};
+ghost use Rattle.room_books.specs.Replying.{IsEventFor, Tells, TellsDecided};
 
 use crate::answer::LimitKind;
 use crate::meeting::{Decided, Outcome};
@@ -29,8 +29,7 @@ pub fn reply_to(
     taken: &Taken,
 ) -> Result<Option<Vec<u8>>, AllocError>
     requires { (part_of part.now).slot ≡ revisions.Whole }
-    ensures { IfOk result (λ reply. IfSome reply (λ octets.
-        TellsDecided (address_octets room.now) (part_of part.now) taken.now.freshness taken.now.meeting.decided octets.items)) }
+    ensures { IfOk result (λ reply. TellsDecided (address_octets room.now) (part_of part.now) taken.now.freshness taken.now.meeting.decided (octets_in reply)) }
 {
     match (&taken.meeting.decided, taken.freshness) {
         (Some(decided), Freshness::Fresh | Freshness::Same) => reply_of(alloc, room, part, decided),
@@ -46,8 +45,7 @@ fn reply_of<'a>(
     decided: &'a Decided,
 ) -> Result<Option<Vec<u8>>, AllocError>
     requires { (part_of part.now).slot ≡ revisions.Whole }
-    ensures { IfOk result (λ reply. IfSome reply (λ octets.
-        IsReplyOf (address_octets room.now) (part_of part.now) (told decided.now) octets.items)) }
+    ensures { IfOk result (λ reply. Tells (address_octets room.now) (part_of part.now) (told decided.now) (octets_in reply)) }
 {
     let Some(event) = event_of(room, part, decided) else {
         return Ok(None);
@@ -59,7 +57,8 @@ fn reply_of<'a>(
 
 fn event_of<'a>(room: &'a Address, part: &'a Part, decided: &'a Decided) -> Option<ReplyEvent<'a>>
     requires { (part_of part.now).slot ≡ revisions.Whole }
-    ensures { IfSome result (IsEventFor (address_octets room.now) (part_of part.now) (told decided.now)) }
+    ensures event { IfSome result (IsEventFor (address_octets room.now) (part_of part.now) (told decided.now)) }
+    ensures none { result ≡ None → OutcomeDated (outcome_of decided.now.outcome) → ⊥ }
 {
     let Some(decision) = decision_of(&decided.outcome) else {
         return None;
@@ -77,7 +76,8 @@ fn event_of<'a>(room: &'a Address, part: &'a Part, decided: &'a Decided) -> Opti
 
 /// The decision, None where a clash has an instant that no stamp can write.
 fn decision_of(outcome: &Outcome) -> Option<Decision<'_>>
-    ensures { IfSome result (λ decision. decision_outcome decision ≡ outcome_of outcome.now) }
+    ensures decision { IfSome result (λ decision. decision_outcome decision ≡ outcome_of outcome.now) }
+    ensures none { result ≡ None → OutcomeDated (outcome_of outcome.now) → ⊥ }
 {
     match outcome {
         Outcome::Accepted => Some(Decision::Accepted),
@@ -88,7 +88,8 @@ fn decision_of(outcome: &Outcome) -> Option<Decision<'_>>
 }
 
 fn busy(clash: &Clash) -> Option<Decision<'_>>
-    ensures { IfSome result (λ decision. decision_outcome decision ≡ outcome_of (Outcome.Declined clash.now)) }
+    ensures decision { IfSome result (λ decision. decision_outcome decision ≡ outcome_of (Outcome.Declined clash.now)) }
+    ensures none { result ≡ None → OutcomeDated (outcome_of (Outcome.Declined clash.now)) → ⊥ }
 {
     let first = borrowed_key(&clash.first);
     let second = borrowed_key(&clash.second);

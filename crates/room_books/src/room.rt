@@ -1,19 +1,20 @@
 //! A room takes messages one after another. A message is taken whole or not at all: everything is computed
 //! beside the room, and put into it by the last step.
 
-ghost use Rattle.std.specs.Prelude.{◌≡◌, true, false, Some, List, [], ◌∷◌, IfOk, OnErr};
+ghost use Rattle.std.specs.Prelude.{◌≡◌, true, false, Some, List, [], ◌∷◌, ◌<◌, ◌^◌, None, IfOk, IfSome, OnErr};
 ghost use Rattle.std.specs.List.{IsDistinct};
 ghost use Rattle.indexmap.specs.IndexMap.{keys};
 ghost use Rattle.itip_order.specs.Parts.{part_of};
 ghost use Rattle.ical_values.specs.Octets.{address_octets};
 ghost use Rattle.itip_messages.specs.Messages.{StandsFor};
-ghost use Rattle.profile.specs.Events.{Event};
+ghost use Rattle.profile.specs.Events.{Event, length_seconds};
 ghost use Rattle.profile.specs.Messages.{AreParts};
 ghost use Rattle.profile.specs.Revisions as revisions;
+ghost use Rattle.profile.specs.Values.{IsClockSeconds};
 ghost use Rattle.profile.specs.Rooms.{Claim, Book, empty_book, is_set};
 ghost use Rattle.room_books.specs.Views.{same_key};
 ghost use Rattle.room_books.specs.Takings.{IsRoomUnchanged, kind_view, reply_octets};
-ghost use Rattle.room_books.specs.Standing.{Stands, StepsWith, claim_of, part_list, span_said, AreClaims};
+ghost use Rattle.room_books.specs.Standing.{Stands, StepsWith, IsOfEvent, claim_of, part_list, span_said, AreClaims};
 
 use crate::answer::{Answer, Kind};
 use crate::decide::Meetings;
@@ -37,7 +38,8 @@ pub struct Room {
 impl Room {
     /// A room that has taken nothing.
     pub fn new(alloc: Global, address: Address) -> Room
-        ensures { Stands result.meetings.entries empty_book }
+        ensures empty { Stands result.meetings.entries empty_book }
+        ensures address { result.address ≡ address }
     {
         Room {
             alloc,
@@ -71,6 +73,8 @@ impl Room {
         ensures steps { IfOk result (λ answer. (event : Event) → StandsFor message.now event → (book : Book) → Stands self.old.meetings.entries book
             → (claims : List Claim) × AreClaims (address_octets self.old.address) event claims
             × StepsWith (address_octets self.old.address) self.new.meetings.entries book claims now (kind_view answer.kind) (reply_octets answer)) }
+        ensures address { self.new.address ≡ self.old.address }
+        ensures refresh { IfOk result (λ answer. answer.refresh ≡ None) }
         ensures err { OnErr result (IsRoomUnchanged self.old self.new) }
     {
         let found = self.part_for(message)?;
@@ -101,8 +105,11 @@ impl Room {
     fn take_part(&mut self, part: &Part, span: Span, now: Stamp) -> Result<Answer, AllocError>
         requires whole { (part_of part.now).slot ≡ revisions.Whole }
         requires set { is_set (part_of part.now) ≡ true }
-        ensures steps { IfOk result (λ answer. (book : Book) → Stands self.old.meetings.entries book
+        requires dated { IsClockSeconds span.start }
+        ensures steps { IfOk result (λ answer. IsOfEvent (part_of part.now) → (book : Book) → Stands self.old.meetings.entries book
             → StepsWith (address_octets self.old.address) self.new.meetings.entries book (claim_of (part_of part.now) span ∷ []) now (kind_view answer.kind) (reply_octets answer)) }
+        ensures address { self.new.address ≡ self.old.address }
+        ensures refresh { IfOk result (λ answer. answer.refresh ≡ None) }
         ensures err { OnErr result (IsRoomUnchanged self.old self.new) }
     {
         keys_differ(&self.meetings);
@@ -136,7 +143,9 @@ fn is_request(part: &Part) -> bool
 
 /// The span that a message asks for: that of its one component.
 fn span_of(message: &Message) -> Option<Span>
-    ensures { (event : Event) → StandsFor message.now event → result ≡ Some (span_said event) }
+    ensures said { (event : Event) → StandsFor message.now event → result ≡ Some (span_said event) }
+    ensures dated { IfSome result (λ span. IsClockSeconds span.start) }
+    ensures short { (event : Event) → StandsFor message.now event → length_seconds event.length < 2 ^ 64 }
 {
     match message.components().first() {
         Some(component) => Some(Span {
@@ -148,7 +157,7 @@ fn span_of(message: &Message) -> Option<Span>
 }
 
 /// What a map says of its keys: no two are of one meeting.
-fn keys_differ(meetings: &Meetings)
+pub(crate) fn keys_differ(meetings: &Meetings)
     ensures { IsDistinct same_key (keys meetings.now) }
 {
     let _ = meetings.len();
