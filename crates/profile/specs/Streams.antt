@@ -43,7 +43,8 @@ pub data SaysSettings : Bool → List ℕ → List Setting → Type 0 where
   with_lf : {closed : Bool} {rest : List ℕ} {settings : List Setting} (line : List ℕ) (setting : Setting) → IsSetting line setting → SaysSettings closed rest settings → SaysSettings closed (line ++ 10 ∷ rest) (setting ∷ settings)
   with_crlf : {closed : Bool} {rest : List ℕ} {settings : List Setting} (line : List ℕ) (setting : Setting) → IsSetting line setting → SaysSettings closed rest settings → SaysSettings closed (line ++ 13 ∷ 10 ∷ rest) (setting ∷ settings)
 
--- the octets of a preamble, which are UTF-8, give this moment and these rooms: the moment once, a room at least, and no room twice
+-- the octets of a preamble, which are UTF-8, give this moment and these rooms: the moment once, a room at least, and no room twice.
+-- At most 65,536 octets and 64 rooms are this profile's choice
 pub record IsPreamble (closed : Bool) (octets : List ℕ) (moment : ℤ) (addresses : List (List ℕ)) : Type 0 where
   pub settings : List Setting
   pub says : SaysSettings closed octets settings
@@ -52,6 +53,7 @@ pub record IsPreamble (closed : Bool) (octets : List ℕ) (moment : ℤ) (addres
   pub moment_is : moments settings ≡ moment ∷ []
   pub rooms_are : rooms settings ≡ addresses
   pub some : 0 < length addresses
+  pub few : length addresses ≤ 64
   pub differ : AllPairs ◌≢◌ addresses
 
 -- the octets of a configuration give these rooms: a preamble's lines, without a moment
@@ -63,6 +65,7 @@ pub record IsConfiguration (closed : Bool) (octets : List ℕ) (addresses : List
   pub timeless : moments settings ≡ []
   pub rooms_are : rooms settings ≡ addresses
   pub some : 0 < length addresses
+  pub few : length addresses ≤ 64
   pub differ : AllPairs ◌≢◌ addresses
 
 -- ---- the objects of a stream

@@ -330,11 +330,19 @@ not_nil xs h e = let none : length xs ≡ 0 = ap length e in omega arith
 
 -- text without a room is neither
 pub no_room : (s : Settings) (octets : List ℕ) → Reads s octets → length s.rooms.items ≡ 0 → ReadsNone octets
-no_room s octets r none closed list says utf8 short some differ few =
+no_room s octets r none closed list says utf8 short some most differ few =
     let P : List Setting → Type 0 = λ z. 0 < length (rooms z) in
     let here : 0 < length (rooms r.list) = subst P (r.only closed list says) some in
     let empty : length (rooms r.list) ≡ 0 = ap length r.holds.rooms_are ∙ simp length-map none in
     omega arith
+
+-- nor is one with too many
+pub many_rooms : (s : Settings) (octets : List ℕ) → Reads s octets → 64 < length s.rooms.items → ReadsNone octets
+many_rooms s octets r many closed list says utf8 short some most differ few =
+    let P : List Setting → Type 0 = λ z. length (rooms z) ≤ 64 in
+    let here : length (rooms r.list) ≤ 64 = subst P (r.only closed list says) most in
+    let all : length (rooms r.list) ≡ length s.rooms.items = ap length r.holds.rooms_are ∙ length-map s.rooms.items address_octets in
+    omega (arith, here, all, many)
 
 pub has_moment : (s : Settings) (octets : List ℕ) (t : ℤ) → ReadsSettings s octets → s.moment ≡ Some t
     → (closed : Bool) (addresses : List (List ℕ)) → IsConfiguration closed octets addresses → ⊥
@@ -349,7 +357,7 @@ no_moment s octets r is closed moment addresses p =
     cc
 
 pub not_utf8 : (octets : List ℕ) → (IsUtf8 octets → ⊥) → ReadsNone octets
-not_utf8 octets bad closed list says utf8 short some differ few = bad (IsUtf8-from_is_utf8 octets utf8)
+not_utf8 octets bad closed list says utf8 short some most differ few = bad (IsUtf8-from_is_utf8 octets utf8)
 
-pub is_read : (s : Settings) (octets : List ℕ) → Reads s octets → IsUtf8 octets → length octets ≤ 65_536 → 0 < length s.rooms.items → ReadsSettings s octets
-is_read s octets r utf8 short some = record { reads = r; text = is_utf8-from_IsUtf8 octets utf8; short = short; some = simp length-map some }
+pub is_read : (s : Settings) (octets : List ℕ) → Reads s octets → IsUtf8 octets → length octets ≤ 65_536 → 0 < length s.rooms.items → length s.rooms.items ≤ 64 → ReadsSettings s octets
+is_read s octets r utf8 short some few = record { reads = r; text = is_utf8-from_IsUtf8 octets utf8; short = short; some = simp length-map some; few = simp length-map few }

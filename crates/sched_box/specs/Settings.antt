@@ -58,15 +58,16 @@ abbrev pub SaysNone : List ℕ → Type 0
 SaysNone octets =
     (closed : Bool) (list : List Setting) → SaysSettings closed octets list → AllPairs ◌≢◌ (rooms list) → length (moments list) ≤ 1 → ⊥
 
--- the octets are short UTF-8 that says them, and a room stands
+-- the octets are short UTF-8 that says them, and one to 64 rooms stand
 pub record ReadsSettings (s : Settings) (octets : List ℕ) : Type 0 where
   pub reads : Reads s octets
   pub text : is_utf8 octets ≡ true
   pub short : length octets ≤ 65_536
   pub some : 0 < length (rooms_of s)
+  pub few : length (rooms_of s) ≤ 64
 
 -- the octets say no such settings
 abbrev pub ReadsNone : List ℕ → Type 0
 ReadsNone octets =
     (closed : Bool) (list : List Setting) → SaysSettings closed octets list → is_utf8 octets ≡ true → length octets ≤ 65_536
-    → 0 < length (rooms list) → AllPairs ◌≢◌ (rooms list) → length (moments list) ≤ 1 → ⊥
+    → 0 < length (rooms list) → length (rooms list) ≤ 64 → AllPairs ◌≢◌ (rooms list) → length (moments list) ≤ 1 → ⊥

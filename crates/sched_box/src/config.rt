@@ -19,6 +19,9 @@ use std::str;
 /// The most octets of a preamble or a configuration, the empty line at its end included.
 pub const LONGEST: usize = 65_536;
 
+/// How many rooms a box may host; this profile's choice.
+const MOST_ROOMS: usize = 64;
+
 /// The rooms and organisers that a box hosts.
 #[derive(Debug, Drop)]
 pub struct Config {
@@ -83,7 +86,7 @@ impl Config {
     }
 }
 
-/// The settings of a preamble or a configuration: at least one room, in at most 65,536 octets of UTF-8.
+/// The settings of a preamble or a configuration: one to 64 rooms, in at most 65,536 octets of UTF-8.
 /// Refused: 90.
 fn read_settings(alloc: Global, bytes: &[u8]) -> Result<Settings, Fault>
     ensures reads { IfOk result (λ settings. ReadsSettings settings bytes.now) }
@@ -98,6 +101,9 @@ fn read_settings(alloc: Global, bytes: &[u8]) -> Result<Settings, Fault>
     };
     let settings = Settings::read(alloc, text)?;
     if settings.rooms.is_empty() {
+        return Err(refused());
+    }
+    if settings.rooms.len() > MOST_ROOMS {
         return Err(refused());
     }
     Ok(settings)
