@@ -2,6 +2,7 @@
 use Rattle.std.specs.Prelude.{◌≡◌, ◌≢◌, ℕ, ◌+◌, ◌<◌, ◌≤◌, ◌⊎◌, Bool, true, false, IsTrue, List, [], ◌∷◌, ◌++◌, length, map, codes, decimal, Option, ℤ, AllPairs}
 use Rattle.std.specs.Option.{option_to_list}
 use Rattle.std.specs.List.{flat_map}
+use Rattle.std.specs.Str.{is_utf8}
 use Rattle.profile.specs.Lines.{logical_lines, text_has}
 use Rattle.profile.specs.Objects.{Spells, count_inside, has_version, lines_have, is_begun, after_object}
 use Rattle.profile.specs.Trees.{Tree, tree_name, tree_own, tree_inside}
@@ -42,24 +43,29 @@ pub data SaysSettings : Bool → List ℕ → List Setting → Type 0 where
   with_lf : {closed : Bool} {rest : List ℕ} {settings : List Setting} (line : List ℕ) (setting : Setting) → IsSetting line setting → SaysSettings closed rest settings → SaysSettings closed (line ++ 10 ∷ rest) (setting ∷ settings)
   with_crlf : {closed : Bool} {rest : List ℕ} {settings : List Setting} (line : List ℕ) (setting : Setting) → IsSetting line setting → SaysSettings closed rest settings → SaysSettings closed (line ++ 13 ∷ 10 ∷ rest) (setting ∷ settings)
 
--- the octets of a preamble give this moment and these rooms: the moment once, a room at least, and no room twice
+-- the octets of a preamble, which are UTF-8, give this moment and these rooms: the moment once, a room at least, and no room twice.
+-- At most 65,536 octets and 64 rooms are this profile's choice
 pub record IsPreamble (closed : Bool) (octets : List ℕ) (moment : ℤ) (addresses : List (List ℕ)) : Type 0 where
   pub settings : List Setting
   pub says : SaysSettings closed octets settings
+  pub text : is_utf8 octets ≡ true
   pub short : length octets ≤ 65_536
   pub moment_is : moments settings ≡ moment ∷ []
   pub rooms_are : rooms settings ≡ addresses
   pub some : 0 < length addresses
+  pub few : length addresses ≤ 64
   pub differ : AllPairs ◌≢◌ addresses
 
 -- the octets of a configuration give these rooms: a preamble's lines, without a moment
 pub record IsConfiguration (closed : Bool) (octets : List ℕ) (addresses : List (List ℕ)) : Type 0 where
   pub settings : List Setting
   pub says : SaysSettings closed octets settings
+  pub text : is_utf8 octets ≡ true
   pub short : length octets ≤ 65_536
   pub timeless : moments settings ≡ []
   pub rooms_are : rooms settings ≡ addresses
   pub some : 0 < length addresses
+  pub few : length addresses ≤ 64
   pub differ : AllPairs ◌≢◌ addresses
 
 -- ---- the objects of a stream

@@ -7,3 +7,8 @@ use Rattle.sched_box.specs.declared.fault.StreamFault.TheVariants.{Refused, Serv
 abbrev pub RefusesPreamble : StreamFault → Type 0
 RefusesPreamble (Refused r) = r.number ≡ 90
 RefusesPreamble (Serve fault) = Unit {0}
+
+-- the fact holds where it is refused
+abbrev pub IfRefusedStream : Type 0 → StreamFault → Type 0
+IfRefusedStream P (Refused r) = P
+IfRefusedStream P (Serve fault) = Unit {0}

@@ -6,6 +6,7 @@ mod fault;
 pub mod objects;
 pub mod preamble;
 pub mod serving;
+mod settings;
 
 pub use config::Config;
 pub use fault::{ServeFault, StreamFault};

@@ -1,17 +1,20 @@
 //! The objects of a stream, one after another: never more than one of them is in memory.
 
-ghost use Rattle.std.specs.Prelude.{◌≤◌, length};
+ghost use Rattle.std.specs.Prelude.{◌≡◌, ◌≤◌, ◌<◌, ◌+◌, ◌-◌, ◌++◌, [], true, false, length, take, nat_lt, slice_index, if◌then◌else◌, IfOk, IfErr, OnOk, OnErr};
+ghost use Rattle.std.specs.Io.KnownBytes.{Keeps};
+ghost use Rattle.ical_lines.specs.Cut.{ends_before};
+ghost use Rattle.sched_box.specs.Objects.{Cuts, IsPieceFault, ReadsObject, StopsReading, TakesPiece, piece_of};
 
 use crate::fault::ServeFault;
 use ical_lines::Cutter;
-use std::alloc::Global;
+use std::alloc::{AllocError, Global};
 use std::io::BufRead;
 
 /// The most octets that are read of a stream; this profile's choice.
 pub const MOST_OCTETS: u64 = 1_073_741_824;
 
-/// The most octets of one object that are kept, with one more by which it is seen to be too long.
-const KEPT: usize = 1_048_577;
+/// The most octets of an object that are kept: one more than it may have, by which it is seen to be too long.
+pub const KEPT: usize = 1_048_577;
 
 /// A stream that is read object by object.
 #[derive(Drop)]
@@ -33,56 +36,62 @@ enum Piece {
 }
 
 impl Objects {
-    pub fn new(alloc: Global) -> Objects {
+    /// Nothing is read yet.
+    pub fn new(alloc: Global) -> Objects
+        ensures { result.left ≡ MOST_OCTETS }
+    {
         Objects {
             left: MOST_OCTETS,
             octets: Vec::new(alloc),
         }
     }
 
-    /// The octets of the next object, at most 1,048,577 of them; None where only empty lines are left.
-    /// A reader that fails gives `Read`, and the 1,073,741,824th octet `TooLong`.
-    pub fn next_object<R: BufRead>(&mut self, reader: &mut R) -> Result<Option<&[u8]>, ServeFault> {
-        self.octets.clear();
-        let mut cutter = Cutter::new();
-        for _ in 0..MOST_OCTETS {
-            match self.take_piece(reader, &mut cutter)? {
-                Piece::Goes => {}
-                Piece::Ended => return Ok(Some(self.octets.as_slice())),
-                Piece::End => break,
-            }
-        }
-        if cutter.has_begun() {
-            Ok(Some(self.octets.as_slice()))
-        } else {
-            Ok(None)
-        }
+    /// The octets of the object that was read last, at most 1,048,577 of them.
+    pub fn octets(&self) -> &[u8]
+        ensures { result.now ≡ self.now.octets.items }
+    {
+        self.octets.as_slice()
     }
 
+    /// Reads the next object; false where only empty lines are left.
+    /// A reader that fails gives `Read`, and the 1,073,741,824th octet `TooLong`.
+    pub fn next_object<R: BufRead>(&mut self, reader: &mut R) -> Result<bool, ServeFault>
+        ensures reads { IfOk result (ReadsObject (R.remaining reader.old) (R.remaining reader.new) self.old self.new) }
+        ensures stops { IfErr result (StopsReading (R.remaining reader.old) (R.remaining reader.new) self.old self.new) }
+    {
+        self.octets.clear();
+        let mut cutter = Cutter::new();
+        while self.left > 0 {
+            match self.take_piece(reader, &mut cutter)? {
+                Piece::Goes => {}
+                Piece::Ended => return Ok(true),
+                Piece::End => return Ok(cutter.has_begun()),
+            }
+        }
+        Err(ServeFault::TooLong)
+    }
+
+    /// Takes octets up to the object's end, or all that the reader lends at once and that may still be read.
     fn take_piece<R: BufRead>(
         &mut self,
         reader: &mut R,
         cutter: &mut Cutter,
-    ) -> Result<Piece, ServeFault> {
+    ) -> Result<Piece, ServeFault>
+        requires { 0 < self.old.left }
+        ensures takes { IfOk result (TakesPiece (R.remaining reader.old) (R.remaining reader.new) self.old self.new cutter.old cutter.new) }
+        ensures left { OnErr result (self.new.left ≡ self.old.left) }
+        ensures keeps { OnErr result (Keeps (R.remaining reader.old) (R.remaining reader.new)) }
+        ensures faults { IfErr result IsPieceFault }
+    {
         let Ok(lent) = reader.fill_buf() else {
             return Err(ServeFault::Read);
         };
-        if lent.is_empty() {
-            return Ok(Piece::End);
-        }
-        let most = usize::try_from(self.left).unwrap_or(usize::MAX);
-        let lent = &lent[..lent.len().min(most)];
+        let lent = &lent[..lent.len().min(self.left as usize)];
         let scanned = scan(cutter, lent);
-        keep(&mut self.octets, &lent[..scanned.count])?;
+        keep_front(&mut self.octets, &lent[..scanned.count])?;
         reader.consume(scanned.count);
-        self.left = self.left.saturating_sub(scanned.count as u64);
-        if scanned.ended {
-            return Ok(Piece::Ended);
-        }
-        if self.left == 0 {
-            return Err(ServeFault::TooLong);
-        }
-        Ok(Piece::Goes)
+        self.left -= scanned.count as u64;
+        Ok(scanned.piece())
     }
 }
 
@@ -93,8 +102,26 @@ struct Scanned {
     ended: bool,
 }
 
+impl Scanned {
+    fn piece(self) -> Piece
+        ensures { result ≡ piece_of self.count self.ended }
+    {
+        if self.ended {
+            Piece::Ended
+        } else if self.count > 0 {
+            Piece::Goes
+        } else {
+            Piece::End
+        }
+    }
+}
+
 fn scan(cutter: &mut Cutter, lent: &[u8]) -> Scanned
-    ensures { result.count ≤ length lent.now }
+    ensures within { result.count ≤ length lent.now }
+    ensures cuts { Cuts cutter.old (take result.count lent.now) cutter.new }
+    ensures before { result.ended ≡ true → result.count < length lent.now }
+    ensures ended { result.ended ≡ true → ends_before cutter.new (slice_index lent.now result.count) ≡ true }
+    ensures all { result.ended ≡ false → result.count ≡ length lent.now }
 {
     for (place, octet) in lent.iter().enumerate() {
         if cutter.feed(*octet) {
@@ -111,9 +138,9 @@ fn scan(cutter: &mut Cutter, lent: &[u8]) -> Scanned
 }
 
 /// Keeps octets of an object, as many as are still wanted.
-fn keep(octets: &mut Vec<u8>, piece: &[u8]) -> Result<(), ServeFault> {
+fn keep_front(octets: &mut Vec<u8>, piece: &[u8]) -> Result<(), AllocError>
+    ensures { OnOk result (octets.new.items ≡ octets.old.items ++ take (KEPT - length octets.old.items) piece.now) }
+{
     let room = KEPT.saturating_sub(octets.len());
-    let wanted = &piece[..piece.len().min(room)];
-    octets.extend_from_slice(wanted)?;
-    Ok(())
+    octets.extend_from_slice(&piece[..piece.len().min(room)])
 }

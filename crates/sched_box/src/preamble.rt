@@ -1,13 +1,14 @@
 //! The preamble of a stream: its lines are taken from the reader up to the empty one, and nothing after it.
 
-ghost use Rattle.std.specs.Prelude.{IfErr};
-ghost use Rattle.sched_box.specs.Faults.{RefusesPreamble};
+ghost use Rattle.std.specs.Prelude.{◌≡◌, ◌≤◌, ◌<◌, ◌++◌, ℕ, List, length, nat_lt, ◌&&◌, not, take, true, false, IfOk, IfErr, IfSome};
+ghost use Rattle.sched_box.specs.Config.{config_rooms};
+ghost use Rattle.sched_box.specs.Faults.{IfRefusedStream, RefusesPreamble};
+ghost use Rattle.sched_box.specs.Preamble.{IsLong, Leads, Opens, OpensNot, TakesPiece, TakesPreamble, is_closed, next_place};
 
 use crate::config::{Config, LONGEST};
 use crate::fault::{ServeFault, StreamFault};
 use ical_lines::{Fault, Refusal};
 use ical_values::Stamp;
-use memchr::memchr;
 use std::alloc::Global;
 use std::io::BufRead;
 
@@ -17,7 +18,9 @@ pub fn read_preamble<R: BufRead>(
     alloc: Global,
     reader: &mut R,
 ) -> Result<(Config, Stamp), StreamFault>
+    ensures opens { IfOk result (λ read. Opens (R.remaining reader.old) (R.remaining reader.new) read.1 (config_rooms read.0)) }
     ensures refuses { IfErr result RefusesPreamble }
+    ensures none { IfErr result (IfRefusedStream (IfSome (R.remaining reader.old) OpensNot)) }
 {
     let octets = take_preamble(alloc, reader)?;
     match Config::read_with_now(alloc, octets.as_slice()) {
@@ -27,52 +30,118 @@ pub fn read_preamble<R: BufRead>(
     }
 }
 
-/// The octets of a preamble, its empty line included. Each turn takes an octet at least, so there are at most
-/// as many turns as a preamble may have octets, and one.
+/// The octets of a preamble, its empty line included.
+/// Refused: 90 where they are more than 65,536.
 fn take_preamble<R: BufRead>(alloc: Global, reader: &mut R) -> Result<Vec<u8>, StreamFault>
+    ensures takes { IfOk result (λ octets. TakesPreamble (R.remaining reader.old) (R.remaining reader.new) octets.items) }
     ensures refuses { IfErr result RefusesPreamble }
+    ensures none { IfErr result (IfRefusedStream (IfSome (R.remaining reader.old) IsLong)) }
 {
     let mut octets = Vec::new(alloc);
-    for _ in 0..LONGEST + 1 {
-        let more = take_piece(reader, &mut octets)?;
-        if octets.len() > LONGEST {
-            return Err(StreamFault::Refused(Refusal::BAD_PREAMBLE));
-        }
-        if !more || ends_in_empty_line(octets.as_slice()) {
+    let mut place = Place::Start;
+    while octets.len() <= LONGEST {
+        if !take_piece(reader, &mut place, &mut octets)? {
             return Ok(octets);
         }
     }
     Err(StreamFault::Refused(Refusal::BAD_PREAMBLE))
 }
 
-/// Takes octets up to a line break, or all that the reader lends at once; false at the end of the input.
-fn take_piece<R: BufRead>(reader: &mut R, octets: &mut Vec<u8>) -> Result<bool, StreamFault>
-    ensures refuses { IfErr result RefusesPreamble }
+/// Takes octets up to the end of the empty line, or all that the reader lends at once, at most one more than a preamble may
+/// have; false after the empty line, and at the end of the input.
+fn take_piece<R: BufRead>(
+    reader: &mut R,
+    place: &mut Place,
+    octets: &mut Vec<u8>,
+) -> Result<bool, ServeFault>
+    ensures takes { IfOk result (λ goes. (taken : List ℕ) × (octets.new.items ≡ octets.old.items ++ taken)
+        × TakesPiece (R.remaining reader.old) (R.remaining reader.new) place.old place.new taken goes) }
 {
     let Ok(lent) = reader.fill_buf() else {
-        return Err(StreamFault::Serve(ServeFault::Read));
+        return Err(ServeFault::Read);
     };
-    if lent.is_empty() {
-        return Ok(false);
-    }
-    let count = match memchr(b'\n', lent) {
-        Some(place) => place + 1,
-        None => lent.len(),
-    };
-    let count = count.min(LONGEST + 1);
-    octets.extend_from_slice(&lent[..count])?;
-    reader.consume(count);
-    Ok(true)
+    let lent = &lent[..lent.len().min(LONGEST + 1)];
+    let scanned = scan(*place, lent);
+    octets.extend_from_slice(&lent[..scanned.count])?;
+    reader.consume(scanned.count);
+    *place = scanned.place;
+    Ok(scanned.goes_on())
 }
 
-/// Whether the last line is there whole, and empty: an LF or CRLF at the start or behind an LF.
-fn ends_in_empty_line(octets: &[u8]) -> bool {
-    let Some(line) = octets.strip_suffix(b"\n") else {
-        return false;
-    };
-    let line = line.strip_suffix(b"\r").unwrap_or(line);
-    match line.last() {
-        None => true,
-        Some(last) => *last == b'\n',
+/// Where the octets of a preamble have come to.
+#[derive(Clone, Copy, Debug, PartialEq, Eq)]
+enum Place {
+    /// At the start of a line.
+    Start,
+    /// After a CR at the start of a line.
+    Return,
+    /// Inside a line that isn't empty.
+    Inside,
+    /// After the empty line.
+    Closed,
+}
+
+impl Place {
+    /// The place after one octet more.
+    fn after(self, octet: u8) -> Place
+        ensures { result ≡ next_place self octet }
+    {
+        match self {
+            Place::Start if octet == b'\n' => Place::Closed,
+            Place::Start if octet == b'\r' => Place::Return,
+            Place::Start => Place::Inside,
+            Place::Return if octet == b'\n' => Place::Closed,
+            Place::Return => Place::Inside,
+            Place::Inside if octet == b'\n' => Place::Start,
+            Place::Inside => Place::Inside,
+            Place::Closed => Place::Closed,
+        }
+    }
+
+    /// Whether the empty line has ended.
+    fn is_closed(self) -> bool
+        ensures { result ≡ is_closed self }
+    {
+        match self {
+            Place::Closed => true,
+            _ => false,
+        }
+    }
+}
+
+/// How many octets stand before the end of the empty line, and where they lead.
+#[derive(Clone, Copy)]
+struct Scanned {
+    count: usize,
+    place: Place,
+}
+
+impl Scanned {
+    /// Whether there were octets, and the empty line hasn't ended.
+    fn goes_on(self) -> bool
+        ensures { result ≡ (nat_lt 0 self.count && not (is_closed self.place)) }
+    {
+        self.count > 0 && !self.place.is_closed()
+    }
+}
+
+fn scan(place: Place, lent: &[u8]) -> Scanned
+    ensures within { result.count ≤ length lent.now }
+    ensures leads { Leads place (take result.count lent.now) result.place }
+    ensures some { is_closed place ≡ false → 0 < length lent.now → 0 < result.count }
+{
+    let mut reached = place;
+    for (count, octet) in lent.iter().enumerate() {
+        if reached.is_closed() {
+            return Scanned {
+                count,
+                place: reached,
+            };
+        }
+        reached = reached.after(*octet);
+    }
+    Scanned {
+        count: lent.len(),
+        place: reached,
     }
 }

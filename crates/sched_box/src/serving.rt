@@ -108,11 +108,11 @@ fn serve_rooms<R: BufRead, W: Write>(
     let mut objects = Objects::new(alloc);
     let mut answers = Vec::new(alloc);
     for number in 1..u64::MAX {
-        let Some(octets) = objects.next_object(reader)? else {
+        if !objects.next_object(reader)? {
             break;
-        };
+        }
         answers.clear();
-        if !answer(alloc, rooms, octets, number, now, &mut answers)? {
+        if !answer(alloc, rooms, objects.octets(), number, now, &mut answers)? {
             report.refused = report.refused.saturating_add(1);
         }
         report.objects = number;

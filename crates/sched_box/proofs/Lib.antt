@@ -1,0 +1,4 @@
+pub mod Lines
+pub mod ObjectLemmas
+pub mod PreambleLemmas
+pub mod SettingLemmas

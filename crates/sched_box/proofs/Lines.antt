@@ -1,0 +1,183 @@
+-- What stands in the lines of a preamble: no octet below a space; and where the first line of some octets ends.
+use Rattle.std.proofs.Common.{◌≡◌, ◌≢◌, ℕ, zero, suc, ◌+◌, ◌*◌, ◌/◌, ◌%◌, ◌<◌, ◌≤◌, Bool, true, false, List, [], ◌∷◌, ◌++◌, length, get_or, refl, sym, ap, subst, ◌∙◌, arith, codes, inl, inr, ◌⊎◌, ℤ}
+use Rattle.std.proofs.lemmas.Bool.Decides.{nat_tests}
+use Rattle.std.proofs.lemmas.List.{append_cancel_right, append_assoc}
+use Rattle.std.specs.List.{list_all}
+use Rattle.profile.specs.Values.{two_digits, four_digits, SpellsDate, SpellsTime, SpellsClock, SpellsStamp, IsAddress, is_scheme, is_scheme_octet, is_path, is_path_octet}
+use Rattle.profile.specs.Streams.{Setting, Now, Room, IsSetting, SaysSettings, by_end, by_lf, by_crlf, last, with_lf, with_crlf}
+use Rattle.sched_box.specs.Settings.{IsUnbroken, Breaks}
+
+-- ---- no octet is below a space
+
+abbrev pub Above : List ℕ → Type 0
+Above [] = Unit {0}
+Above (c ∷ cs) = (32 ≤ c) × Above cs
+
+pub above_append : (xs ys : List ℕ) → Above xs → Above ys → Above (xs ++ ys)
+above_append [] ys a b = b
+above_append (x ∷ xs) ys a b = (a.0, above_append xs ys a.1 b)
+
+above_two : (n : ℕ) → Above (two_digits n)
+above_two n = (omega arith, (omega arith, tt))
+
+above_date : (text : List ℕ) (n : ℤ) → SpellsDate text n → Above text
+above_date text n s =
+    let P : List ℕ → Type 0 = Above in
+    let four = above_append (two_digits (s.year / 100)) (two_digits (s.year % 100)) (above_two (s.year / 100)) (above_two (s.year % 100)) in
+    subst P (sym s.spelled) (above_append (four_digits s.year ++ two_digits s.month) (two_digits s.day) (above_append (four_digits s.year) (two_digits s.month) four (above_two s.month)) (above_two s.day))
+
+above_time : (limit : ℕ) (text : List ℕ) (n : ℕ) → SpellsTime limit text n → Above text
+above_time limit text n s =
+    let P : List ℕ → Type 0 = Above in
+    subst P (sym s.spelled) (above_append (two_digits s.hour ++ two_digits s.minute) (two_digits s.second) (above_append (two_digits s.hour) (two_digits s.minute) (above_two s.hour) (above_two s.minute)) (above_two s.second))
+
+above_clock : (limit : ℕ) (text : List ℕ) (n : ℤ) → SpellsClock limit text n → Above text
+above_clock limit text n s =
+    let P : List ℕ → Type 0 = Above in
+    subst P (sym s.spelled) (above_append (s.date ++ codes "T") s.time (above_append s.date (codes "T") (above_date s.date s.number s.on) (omega arith, tt)) (above_time limit s.time s.second s.at_second))
+
+above_stamp : (text : List ℕ) (t : ℤ) → SpellsStamp text t → Above text
+above_stamp text t s =
+    let P : List ℕ → Type 0 = Above in
+    subst P (sym s.2) (above_append s.0 (codes "Z") (above_clock 60 s.0 t s.1) (omega arith, tt))
+
+scheme_octets : (cs : List ℕ) → list_all is_scheme_octet cs ≡ true → Above cs
+scheme_octets [] h = tt
+scheme_octets (c ∷ cs) h =
+    let rest : list_all is_scheme_octet cs ≡ true = grind (arith, nat_tests) in
+    let first : 32 ≤ c = grind (arith, nat_tests) in
+    (first, scheme_octets cs rest)
+
+above_scheme : (cs : List ℕ) → is_scheme cs ≡ true → Above cs
+above_scheme [] h = tt
+above_scheme (c ∷ cs) h =
+    let rest : list_all is_scheme_octet cs ≡ true = grind (arith, nat_tests) in
+    let first : 32 ≤ c = grind (arith, nat_tests) in
+    (first, scheme_octets cs rest)
+
+path_octets : (cs : List ℕ) → list_all is_path_octet cs ≡ true → Above cs
+path_octets [] h = tt
+path_octets (c ∷ cs) h =
+    let rest : list_all is_path_octet cs ≡ true = grind (arith, nat_tests) in
+    let first : 32 ≤ c = grind (arith, nat_tests) in
+    (first, path_octets cs rest)
+
+path_all : (cs : List ℕ) → is_path cs ≡ true → list_all is_path_octet cs ≡ true
+path_all cs h = grind (arith, nat_tests)
+
+above_address : (text : List ℕ) → IsAddress text → Above text
+above_address text a =
+    let P : List ℕ → Type 0 = Above in
+    subst P (sym a.2) (above_append a.0 (codes ":" ++ a.1) (above_scheme a.0 a.3) (omega arith, path_octets a.1 (path_all a.1 a.4)))
+
+pub setting_above : (line : List ℕ) (setting : Setting) → IsSetting line setting → Above line
+setting_above line (Now t) (stamp, is, spelled) =
+    let P : List ℕ → Type 0 = Above in
+    subst P (sym is) (above_append (codes "now ") stamp (omega arith, (omega arith, (omega arith, (omega arith, tt)))) (above_stamp stamp t spelled))
+setting_above line (Room a) (text, is, address, lower) =
+    let P : List ℕ → Type 0 = Above in
+    subst P (sym is) (above_append (codes "room ") text (omega arith, (omega arith, (omega arith, (omega arith, (omega arith, tt))))) (above_address text address))
+
+pub setting_some : (line : List ℕ) (setting : Setting) → IsSetting line setting → 0 < length line
+setting_some line (Now t) (stamp, is, spelled) = subst (λ (l : List ℕ). 0 < length l) (sym is) (omega arith)
+setting_some line (Room a) (text, is, address, lower) = subst (λ (l : List ℕ). 0 < length l) (sym is) (omega arith)
+
+-- ---- no LF
+
+above_at : (xs : List ℕ) → Above xs → (i : ℕ) → i < length xs → 32 ≤ get_or xs i 0
+above_at [] a i l = absurd (omega arith)
+above_at (x ∷ xs) a zero l = a.0
+above_at (x ∷ xs) a (suc i) l = above_at xs a.1 i (omega arith)
+
+pub above_unbroken : (xs : List ℕ) → Above xs → IsUnbroken xs
+above_unbroken xs a i l = let h = above_at xs a i l in λ e. omega arith
+
+pub tail_unbroken : (x : ℕ) (xs : List ℕ) → IsUnbroken (x ∷ xs) → IsUnbroken xs
+tail_unbroken x xs u i l = u (suc i) (omega arith)
+
+return_unbroken : (xs : List ℕ) → IsUnbroken xs → IsUnbroken (xs ++ 13 ∷ [])
+return_unbroken [] u zero l = λ e. omega arith
+return_unbroken [] u (suc i) l = absurd (omega arith)
+return_unbroken (x ∷ xs) u zero l = u 0 (omega arith)
+return_unbroken (x ∷ xs) u (suc i) l = return_unbroken xs (tail_unbroken x xs u) i (omega arith)
+
+pub no_break : (xs ys : List ℕ) → IsUnbroken (xs ++ 10 ∷ ys) → ⊥
+no_break [] ys u = u 0 (omega arith) refl
+no_break (x ∷ xs) ys u = no_break xs ys (tail_unbroken x (xs ++ 10 ∷ ys) u)
+
+-- the first LF stands at one place
+cut : (a b x y : List ℕ) → IsUnbroken a → IsUnbroken b → a ++ 10 ∷ x ≡ b ++ 10 ∷ y → (a ≡ b) × (x ≡ y)
+cut [] [] x y u v e = (refl, cc)
+cut [] (d ∷ b) x y u v e = absurd (v 0 (omega arith) (cc))
+cut (c ∷ a) [] x y u v e = absurd (u 0 (omega arith) (cc))
+cut (c ∷ a) (d ∷ b) x y u v e =
+    let head : c ≡ d = cc in
+    let rest : a ++ 10 ∷ x ≡ b ++ 10 ∷ y = cc in
+    let both = cut a b x y (tail_unbroken c a u) (tail_unbroken d b v) rest in
+    (ap (λ z. z ∷ a) head ∙ ap (λ z. d ∷ z) both.0, both.1)
+
+pub nil_no : (xs ys : List ℕ) → [] ≡ xs ++ 10 ∷ ys → ⊥
+nil_no [] ys e = cc
+nil_no (x ∷ xs) ys e = cc
+
+-- ---- the first line of some settings
+
+-- an empty line, which ends them
+pub record Ends (whole after : List ℕ) (closed : Bool) (list : List Setting) : Type 0 where
+  pub whole_is : (whole ≡ []) ⊎ (whole ≡ 13 ∷ [])
+  pub after_is : after ≡ []
+  pub list_is : list ≡ []
+
+-- a line that says a setting
+pub record Goes (whole after : List ℕ) (closed : Bool) (list : List Setting) : Type 0 where
+  pub bare : List ℕ
+  pub setting : Setting
+  pub more : List Setting
+  pub is : IsSetting bare setting
+  pub whole_is : (whole ≡ bare) ⊎ (whole ≡ bare ++ 13 ∷ [])
+  pub says : SaysSettings closed after more
+  pub list_is : list ≡ setting ∷ more
+
+pub first_line : {closed : Bool} {octets : List ℕ} {list : List Setting} → SaysSettings closed octets list → (whole after : List ℕ) → octets ≡ whole ++ 10 ∷ after → IsUnbroken whole → Ends whole after closed list ⊎ Goes whole after closed list
+first_line by_end whole after e u = absurd (nil_no whole after e)
+first_line by_lf whole after e u =
+    let both = cut [] whole [] after (λ i l. absurd (omega arith)) u e in
+    inl (record { whole_is = inl (sym both.0); after_is = sym both.1; list_is = refl })
+first_line by_crlf whole after e u =
+    let both = cut (13 ∷ []) whole [] after (return_unbroken [] (λ i l. absurd (omega arith))) u e in
+    inl (record { whole_is = inr (sym both.0); after_is = sym both.1; list_is = refl })
+first_line (last line setting is) whole after e u = absurd (no_break whole after (subst IsUnbroken e (above_unbroken line (setting_above line setting is))))
+first_line (with_lf {closed} {rest} {settings} line setting is says) whole after e u =
+    let both = cut line whole rest after (above_unbroken line (setting_above line setting is)) u e in
+    inr (record { bare = line; setting = setting; more = settings; is = is; whole_is = inl (sym both.0); says = subst (λ (o : List ℕ). SaysSettings closed o settings) both.1 says; list_is = refl })
+first_line (with_crlf {closed} {rest} {settings} line setting is says) whole after e u =
+    let both = cut (line ++ 13 ∷ []) whole rest after (return_unbroken line (above_unbroken line (setting_above line setting is))) u (append_assoc line (13 ∷ []) (10 ∷ rest) ∙ e) in
+    inr (record { bare = line; setting = setting; more = settings; is = is; whole_is = inr (sym both.0); says = subst (λ (o : List ℕ). SaysSettings closed o settings) both.1 says; list_is = refl })
+
+above_no_return : (xs : List ℕ) → Above (xs ++ 13 ∷ []) → ⊥
+above_no_return [] a = let h : 32 ≤ 13 = a.0 in omega arith
+above_no_return (x ∷ xs) a = above_no_return xs a.1
+
+-- the line without its break is the line of the setting
+pub same_line : (octets line after : List ℕ) (b : Breaks octets line after) (bare : List ℕ) (setting : Setting) → IsSetting bare setting → (b.whole ≡ bare) ⊎ (b.whole ≡ bare ++ 13 ∷ []) → bare ≡ line
+same_line octets line after b bare setting is w = at b.bare w
+  where
+    at : (b.whole ≡ line ++ 13 ∷ []) ⊎ ((b.whole ≡ line) × ((front : List ℕ) → b.whole ≢ front ++ 13 ∷ [])) → (b.whole ≡ bare) ⊎ (b.whole ≡ bare ++ 13 ∷ []) → bare ≡ line
+    at (inl cr) (inl plain) = absurd (above_no_return line (subst Above (sym plain ∙ cr) (setting_above bare setting is)))
+    at (inl cr) (inr other) = append_cancel_right bare line (13 ∷ []) (sym other ∙ cr)
+    at (inr none) (inl plain) = sym plain ∙ none.0
+    at (inr none) (inr other) = absurd (none.1 bare other)
+
+-- an empty line is bare
+pub empty_line : (octets line after : List ℕ) (b : Breaks octets line after) → (b.whole ≡ []) ⊎ (b.whole ≡ 13 ∷ []) → length line ≡ 0
+empty_line octets line after b w = at b.bare w
+  where
+    at : (b.whole ≡ line ++ 13 ∷ []) ⊎ ((b.whole ≡ line) × ((front : List ℕ) → b.whole ≢ front ++ 13 ∷ [])) → (b.whole ≡ []) ⊎ (b.whole ≡ 13 ∷ []) → length line ≡ 0
+    at (inl cr) (inl plain) = absurd (short line (sym plain ∙ cr))
+      where
+        short : (xs : List ℕ) → [] ≡ xs ++ 13 ∷ [] → ⊥
+        short [] e = cc
+        short (x ∷ xs) e = cc
+    at (inl cr) (inr other) = ap length (append_cancel_right line [] (13 ∷ []) (sym cr ∙ other))
+    at (inr none) (inl plain) = ap length (sym none.0 ∙ plain)
+    at (inr none) (inr other) = absurd (none.1 [] other)

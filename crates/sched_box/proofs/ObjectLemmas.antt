@@ -1,0 +1,226 @@
+-- Where the octets of an object lead, and what follows it.
+use Rattle.std.proofs.Common.{◌≡◌, ◌≢◌, ◌⊎◌, inl, inr, ℕ, zero, suc, ◌+◌, ◌-◌, ◌<◌, ◌≤◌, min, Bool, true, false, cond, nat_lt, List, [], ◌∷◌, ◌++◌, length, take, drop, get_or, Option, Some, None, IfSome, OnSome, refl, sym, ap, subst, ◌∙◌, arith, length-append, length-take, length-take-le, take-take, true≢false, take_all, take-append-drop, get_or-take}
+use Rattle.std.proofs.lemmas.Bool.Decides.{nat_tests}
+use Rattle.std.proofs.lemmas.List.{append_assoc, append-nil, append_cancel_left, drop_more, take_more}
+use Rattle.std.specs.Io.{StartsWith}
+use Rattle.std.specs.Io.KnownBytes.{Consumes, Keeps, IsAtEnd}
+use Rattle.std.proofs.KnownBytes.{Consumes-trans, Consumes-kept}
+use Rattle.profile.specs.Objects.{is_begun, after_object}
+use Rattle.ical_lines.specs.Cut.{rest_after, begun_after, ends_before, step, fresh}
+use Rattle.ical_lines.specs.declared.object_end.Cutter.{Cutter}
+use Rattle.ical_lines.proofs.CutLemmas.{cutter_ends}
+use Rattle.ical_lines.proofs.BegunLemmas.{cutter_begins}
+use Rattle.sched_box.specs.declared.fault.ServeFault.{ServeFault}
+use Rattle.sched_box.specs.declared.fault.ServeFault.TheVariants.{Read, Write, TooLong, Memory}
+use Rattle.sched_box.specs.declared.objects.Objects.{Objects}
+use Rattle.sched_box.specs.declared.objects.Piece.{Piece}
+use Rattle.sched_box.specs.declared.objects.Piece.TheVariants.{Ended, Goes, End}
+use Rattle.sched_box.specs.Objects.{kept_of, Cuts, IsPieceEnd, IsPieceFault, piece_of, TakesPiece, TakesObject, ReadsObject, StopsReading}
+
+-- ---- leading on
+
+pub cuts_none : (c : Cutter) → Cuts c [] c
+cuts_none c = record { rest = λ more. refl; begun = λ more. refl; none = λ e. refl }
+
+nil_left : (xs ys : List ℕ) → xs ++ ys ≡ [] → xs ≡ []
+nil_left [] ys e = refl
+nil_left (x ∷ xs) ys e = absurd (cc)
+
+nil_right : (xs ys : List ℕ) → xs ++ ys ≡ [] → ys ≡ []
+nil_right [] ys e = e
+nil_right (x ∷ xs) ys e = absurd (cc)
+
+pub cuts_trans : (a b c : Cutter) (xs ys : List ℕ) → Cuts a xs b → Cuts b ys c → Cuts a (xs ++ ys) c
+cuts_trans a b c xs ys l m = record {
+  rest = λ more. ap (rest_after a) (append_assoc xs ys more) ∙ l.rest (ys ++ more) ∙ m.rest more;
+  begun = λ more. ap (begun_after a) (append_assoc xs ys more) ∙ l.begun (ys ++ more) ∙ m.begun more;
+  none = λ e. m.none (nil_right xs ys e) ∙ l.none (nil_left xs ys e);
+}
+
+pub cuts_step : (c : Cutter) (x : ℕ) → ends_before c x ≡ false → Cuts c (x ∷ []) (step c x)
+cuts_step c x goes = record {
+  rest = λ more. ap (λ b. cond b (x ∷ more) (rest_after (step c x) more)) goes;
+  begun = λ more. ap (λ b. cond b true (begun_after (step c x) more)) goes;
+  none = λ e. absurd (cc);
+}
+
+-- one octet more, as `feed` tells it
+pub cuts_more : (a b c : Cutter) (lent : List ℕ) (i : ℕ) → i < length lent → Cuts a (take i lent) b → ends_before b (get_or lent i 0) ≡ false
+    → c ≡ cond (ends_before b (get_or lent i 0)) b (step b (get_or lent i 0)) → Cuts a (take (i + 1) lent) c
+cuts_more a b c lent i l cuts goes is =
+    let x = get_or lent i 0 in
+    let P : Cutter → Type 0 = Cuts b (x ∷ []) in
+    let Q : List ℕ → Type 0 = λ z. Cuts a z c in
+    subst Q (sym (take_more lent i 0 l)) (cuts_trans a b c (take i lent) (x ∷ []) cuts (subst P (sym (is ∙ ap (λ t. cond t b (step b x)) goes)) (cuts_step b x goes)))
+
+cond_short : (b : Bool) (y : ℕ) (ys zs : List ℕ) → length zs ≤ length ys → length (cond b (y ∷ ys) zs) ≤ length (y ∷ ys)
+cond_short true y ys zs h = omega arith
+cond_short false y ys zs h = omega arith
+
+rest_short : (c : Cutter) (ys : List ℕ) → length (rest_after c ys) ≤ length ys
+rest_short c [] = omega arith
+rest_short c (y ∷ ys) = cond_short (ends_before c y) y ys (rest_after (step c y) ys) (rest_short (step c y) ys)
+
+ends_rest : (c : Cutter) (x : ℕ) (more : List ℕ) → ends_before c x ≡ true → rest_after c (x ∷ more) ≡ x ∷ more
+ends_rest c x more e = ap (λ b. cond b (x ∷ more) (rest_after (step c x) more)) e
+
+ends_begun : (c : Cutter) (x : ℕ) (more : List ℕ) → ends_before c x ≡ true → begun_after c (x ∷ more) ≡ true
+ends_begun c x more e = ap (λ b. cond b true (begun_after (step c x) more)) e
+
+-- ---- what is kept
+
+pub kept_more : (k : ℕ) (old new taken more : List ℕ) → old ≡ take k taken → new ≡ old ++ take (k - length old) more → new ≡ take k (taken ++ more)
+kept_more k old new taken more is e = e ∙ ap (λ z. z ++ take (k - length z) more) is ∙ sym (front k taken more)
+  where
+    front : (k : ℕ) (xs ys : List ℕ) → take k (xs ++ ys) ≡ take k xs ++ take (k - length (take k xs)) ys
+    front zero xs ys = refl
+    front (suc k) [] ys = let none : suc k ≡ suc k - 0 = omega arith in ap (λ n. take n ys) none
+    front (suc k) (x ∷ xs) ys =
+        let less : k - length (take k xs) ≡ suc k - suc (length (take k xs)) = omega arith in
+        ap (λ z. x ∷ z) (front k xs ys) ∙ ap (λ n. x ∷ (take k xs ++ take n ys)) less
+
+-- ---- a piece
+
+-- the octet that a reader lent after those that were taken comes next
+next_lent : (a c : Option (List ℕ)) (lent : List ℕ) (count : ℕ) → count < length lent → IfSome a (λ xs. StartsWith xs lent) → Consumes a c (take count lent)
+    → IfSome a (λ _. IfSome c (λ ys. (more : List ℕ) × (ys ≡ get_or lent count 0 ∷ more)))
+next_lent None c lent count l front h = tt
+next_lent (Some xs) None lent count l front h = absurd h
+next_lent (Some xs) (Some ys) lent count l front h = (drop (count + 1) lent ++ drop (length lent) xs, append_cancel_left (take count lent) ys _ (sym h ∙ whole))
+  where
+    whole : xs ≡ take count lent ++ (get_or lent count 0 ∷ (drop (count + 1) lent ++ drop (length lent) xs))
+    whole =
+        sym (take-append-drop (length lent) xs) ∙ ap (λ z. z ++ drop (length lent) xs) front
+        ∙ ap (λ z. z ++ drop (length lent) xs) (sym (take-append-drop count lent) ∙ ap (λ z. take count lent ++ z) (drop_more lent count 0 l))
+        ∙ append_assoc (take count lent) (get_or lent count 0 ∷ drop (count + 1) lent) (drop (length lent) xs)
+
+pub piece_end : (a c : Option (List ℕ)) (lent : List ℕ) (most count left : ℕ) (ended : Bool) (cutter : Cutter) → most ≡ min (length lent) left → 0 < left
+    → count ≤ length (take most lent) → (ended ≡ true → count < length (take most lent)) → (ended ≡ true → ends_before cutter (get_or (take most lent) count 0) ≡ true)
+    → (ended ≡ false → count ≡ length (take most lent)) → IfSome a (λ xs. StartsWith xs lent)
+    → Consumes a c (take count lent) × (length lent ≡ 0 → OnSome a (IsAtEnd c)) → IsPieceEnd a c cutter (take count (take most lent)) (piece_of count ended)
+piece_end a c lent most count left true cutter most_is some within before ends all front moved =
+    let l = before refl in
+    let long : length (take most lent) ≡ most = length-take-le most lent (omega arith) in
+    let same : get_or (take most lent) count 0 ≡ get_or lent count 0 = get_or-take most lent count 0 (omega arith) in
+    (get_or lent count 0, ap (ends_before cutter) (sym same) ∙ ends refl, next_lent a c lent count (omega arith) front moved.0)
+piece_end a c lent most count left false cutter most_is some within before ends all front moved = at (nat_lt 0 count) refl
+  where
+    P : Bool → Type 0
+    P b = IsPieceEnd a c cutter (take count (take most lent)) (cond b Goes End)
+
+    nothing : (n m : ℕ) → 0 < m → min n m ≡ 0 → n ≡ 0
+    nothing n m h e = omega arith
+
+    at : (b : Bool) → nat_lt 0 count ≡ b → P b
+    at true e =
+        let h : 0 < count = grind (arith, nat_tests) in
+        let long = length-take-le count (take most lent) within in
+        omega arith
+    at false e =
+        let h : count ≡ 0 = grind (arith, nat_tests) in
+        let long : length (take most lent) ≡ most = length-take-le most lent (omega arith) in
+        let same = all refl in
+        moved.1 (nothing (length lent) left some (sym most_is ∙ sym long ∙ sym same ∙ h))
+
+pub same_piece : (lent : List ℕ) (most count : ℕ) → count ≤ length (take most lent) → take count (take most lent) ≡ take count lent
+same_piece lent most count within = take-take count most lent (omega (arith, length-take most lent))
+
+pub left_over : (lent : List ℕ) (most count left : ℕ) → most ≡ min (length lent) left → count ≤ length (take most lent) → left - count + length (take count (take most lent)) ≡ left
+left_over lent most count left is within =
+    let long = length-take-le count (take most lent) within in
+    omega (arith, length-take most lent)
+
+-- what comes next comes next of the whole, too
+pub ends_from : (a b c : Option (List ℕ)) (taken more : List ℕ) (cutter : Cutter) → Consumes a b taken → IsPieceEnd b c cutter more Ended → IsPieceEnd a c cutter [] Ended
+ends_from None b c taken more cutter h (next, ends, comes) = (next, ends, tt)
+ends_from (Some xs) None c taken more cutter h n = absurd h
+ends_from (Some xs) (Some ys) c taken more cutter h n = n
+
+pub end_from : (a b c : Option (List ℕ)) (taken : List ℕ) → Consumes a b taken → OnSome b (IsAtEnd c) → OnSome a (IsAtEnd c)
+end_from None b c taken h e = tt
+end_from (Some xs) None c taken h e = absurd h
+end_from (Some xs) (Some ys) c taken h e = e
+
+pub not_long : (f : ServeFault) → IsPieceFault f → f ≡ TooLong → ⊥
+not_long Read h e = cc
+not_long Write h e = h
+not_long TooLong h e = h
+not_long Memory h e = cc
+
+pub not_written : (f : ServeFault) → IsPieceFault f → f ≡ Write → ⊥
+not_written Read h e = cc
+not_written Write h e = h
+not_written TooLong h e = h
+not_written Memory h e = cc
+
+-- ---- an object
+
+module _ (a b : Option (List ℕ)) (taken : List ℕ) (cutter : Cutter) (consumed : Consumes a b taken) (cuts : Cuts fresh taken cutter) where
+  after_is : (rest : List ℕ) → after_object (taken ++ rest) ≡ rest_after cutter rest
+  after_is rest = sym (cutter_ends (taken ++ rest)) ∙ cuts.rest rest
+
+  begun_is : (rest : List ℕ) → is_begun (taken ++ rest) ≡ begun_after cutter rest
+  begun_is rest = sym (cutter_begins (taken ++ rest)) ∙ cuts.begun rest
+
+  fresh_not : cutter.begun ≡ true → taken ≡ [] → ⊥
+  fresh_not e none = true≢false (sym e ∙ ap (λ c. c.begun) (cuts.none none))
+
+  not_nil : (taken ≡ [] → ⊥) → 0 < length taken
+  not_nil h = at taken h
+    where
+      at : (xs : List ℕ) → (xs ≡ [] → ⊥) → 0 < length xs
+      at [] h = absurd (h refl)
+      at (x ∷ xs) h = omega arith
+
+  -- the object ended before an octet
+  pub whole_object : (kept : List ℕ) → kept ≡ kept_of taken → IsPieceEnd a b cutter [] Ended → TakesObject a b kept true taken
+  whole_object kept kept_is (next, ends, comes) = record {
+    consumed = consumed;
+    kept_is = kept_is;
+    begun = begins a b consumed comes;
+    rest = rests a b consumed comes;
+    end = λ e. absurd (true≢false e);
+    some = λ e. not_nil (λ none. true≢false (sym ends ∙ ap (λ c. ends_before c next) (cuts.none none)));
+  }
+    where
+      begins : (a b : Option (List ℕ)) → Consumes a b taken → IfSome a (λ _. IfSome b (λ rest. (more : List ℕ) × (rest ≡ next ∷ more))) → IfSome a (λ octets. is_begun octets ≡ true)
+      begins None b h n = tt
+      begins (Some xs) None h n = absurd h
+      begins (Some xs) (Some ys) h (more, is) = ap is_begun h ∙ begun_is ys ∙ ap (begun_after cutter) is ∙ ends_begun cutter next more ends
+
+      rests : (a b : Option (List ℕ)) → Consumes a b taken → IfSome a (λ _. IfSome b (λ rest. (more : List ℕ) × (rest ≡ next ∷ more))) → IfSome a (λ octets. IfSome b (λ rest. rest ≡ after_object octets))
+      rests None b h n = tt
+      rests (Some xs) None h n = absurd h
+      rests (Some xs) (Some ys) h (more, is) = is ∙ sym (ends_rest cutter next more ends) ∙ sym (ap (rest_after cutter) is) ∙ sym (after_is ys) ∙ sym (ap after_object h)
+
+  -- the input ended
+  pub last_object : (kept : List ℕ) (found : Bool) → kept ≡ kept_of taken → OnSome a (IsAtEnd b) → found ≡ cutter.begun → TakesObject a b kept found taken
+  last_object kept found kept_is end found_is = record {
+    consumed = consumed;
+    kept_is = kept_is;
+    begun = begins a b consumed end;
+    rest = rests a b consumed end;
+    end = λ e. end;
+    some = λ e. not_nil (fresh_not (sym found_is ∙ e));
+  }
+    where
+      begins : (a b : Option (List ℕ)) → Consumes a b taken → OnSome a (IsAtEnd b) → IfSome a (λ octets. is_begun octets ≡ found)
+      begins None b h e = tt
+      begins (Some xs) None h e = absurd h
+      begins (Some xs) (Some ys) h e = ap is_begun h ∙ begun_is ys ∙ ap (begun_after cutter) e ∙ sym found_is
+
+      rests : (a b : Option (List ℕ)) → Consumes a b taken → OnSome a (IsAtEnd b) → IfSome a (λ octets. IfSome b (λ rest. rest ≡ after_object octets))
+      rests None b h e = tt
+      rests (Some xs) None h e = absurd h
+      rests (Some xs) (Some ys) h e = e ∙ sym (ap (rest_after cutter) e) ∙ sym (after_is ys) ∙ sym (ap after_object h)
+
+  within_object : (a b : Option (List ℕ)) → Consumes a b taken → IfSome a (λ octets. IfSome b (λ rest. length (after_object octets) ≤ length rest))
+  within_object None b h = tt
+  within_object (Some xs) None h = absurd h
+  within_object (Some xs) (Some ys) h =
+      let e : length (after_object xs) ≡ length (rest_after cutter ys) = ap length (ap after_object h ∙ after_is ys) in
+      let k = rest_short cutter ys in
+      omega arith
+
+  pub stops_in : (before after : Objects) (fault : ServeFault) → after.left + length taken ≡ before.left → (fault ≡ TooLong → after.left ≡ 0) → (fault ≡ Write → ⊥) → StopsReading a b before after fault
+  stops_in before after fault left spent reading = record { taken = taken; consumed = consumed; within = within_object a b consumed; left = left; spent = spent; reading = reading }

@@ -1,0 +1,13 @@
+use Rattle.std.proofs.Common.{◌≡◌, ℕ, List, ◌+◌, length}
+use Rattle.std.specs.Io.KnownBytes.{Consumes}
+use Rattle.ical_lines.specs.Cut.{fresh}
+use Rattle.sched_box.specs.Objects.{Cuts, kept_of}
+use Rattle.sched_box.proofs.objects.Objects.next_object.Given as goal
+
+abbrev pub invariant-loop-self : goal.invariant-loop-self
+invariant-loop-self g l =
+    (taken : List ℕ) × Consumes (g.R.Read.remaining l.fn.reader) (g.R.Read.remaining l.reader) taken
+    × (l.self.octets.items ≡ kept_of taken) × Cuts fresh taken l.cutter × (l.self.left + length taken ≡ l.fn.self.left)
+
+abbrev pub decreases-loop-self : goal.decreases-loop-self
+decreases-loop-self g l = l.self.left

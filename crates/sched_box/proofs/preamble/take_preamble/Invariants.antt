@@ -1,0 +1,12 @@
+use Rattle.std.proofs.Common.{◌-◌, length}
+use Rattle.std.specs.Io.KnownBytes.{Consumes}
+use Rattle.sched_box.specs.Preamble.{Leads}
+use Rattle.sched_box.specs.declared.preamble.Place.TheVariants.{Start}
+use Rattle.sched_box.proofs.preamble.take_preamble.Given as goal
+
+abbrev pub invariant-loop-place : goal.invariant-loop-place
+invariant-loop-place g l =
+    Consumes (g.R.Read.remaining l.fn.reader) (g.R.Read.remaining l.reader) l.octets.items × Leads Start l.octets.items l.place
+
+abbrev pub decreases-loop-place : goal.decreases-loop-place
+decreases-loop-place g l = 65_537 - length l.octets.items

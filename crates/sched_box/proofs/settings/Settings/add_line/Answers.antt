@@ -1,0 +1,23 @@
+use Rattle.std.proofs.Common.{◌++◌, ◌∙◌, ap, sym, codes}
+use Rattle.sched_box.proofs.SettingLemmas.{set_line, set_none, add_line, add_none}
+use Rattle.sched_box.proofs.settings.Settings.add_line.Goals as goal
+
+pub returns-in-Some-clause-added : goal.returns-in-Some-clause-added
+returns-in-Some-clause-added c =
+    let found = c.in-Some.ensures.cases in
+    set_line _ _ _ _ _ (found.1.1 ∙ ap (λ z. codes "now " ++ z) (sym found.2)) c.one_stamp.ensures.reading c.set_moment.ensures.set
+
+pub returns-in-Some-clause-none : goal.returns-in-Some-clause-none
+returns-in-Some-clause-none c =
+    let found = c.in-Some.ensures.cases in
+    set_none _ c.args.self.now _ _ (found.1.1 ∙ ap (λ z. codes "now " ++ z) (sym found.2)) c.set_moment.ensures.none
+
+pub returns-in-Some-strip_prefix-clause-added : goal.returns-in-Some-strip_prefix-clause-added
+returns-in-Some-strip_prefix-clause-added c =
+    let found = c.in-Some-strip_prefix.ensures.cases in
+    add_line _ _ _ _ _ (found.1.1 ∙ ap (λ z. codes "room " ++ z) (sym found.2)) c.add_room.ensures.address c.add_room.ensures.added
+
+pub returns-in-Some-strip_prefix-clause-none : goal.returns-in-Some-strip_prefix-clause-none
+returns-in-Some-strip_prefix-clause-none c =
+    let found = c.in-Some-strip_prefix.ensures.cases in
+    add_none _ c.args.self.now _ _ (found.1.1 ∙ ap (λ z. codes "room " ++ z) (sym found.2)) c.add_room.ensures.none

@@ -1,0 +1,74 @@
+-- How the objects of a stream are taken from a reader, octet by octet.
+use Rattle.std.specs.Prelude.{◌≡◌, ◌≤◌, ◌<◌, ◌+◌, ◌-◌, ℕ, Bool, true, false, List, [], ◌∷◌, ◌++◌, length, take, nat_lt, if◌then◌else◌, Option, IfSome, OnSome}
+use Rattle.std.specs.Io.KnownBytes.{Consumes, Keeps, IsAtEnd}
+use Rattle.profile.specs.Objects.{is_begun, after_object}
+use Rattle.ical_lines.specs.Cut.{rest_after, begun_after, ends_before}
+use Rattle.ical_lines.specs.declared.object_end.Cutter.{Cutter}
+use Rattle.sched_box.specs.declared.fault.ServeFault.{ServeFault}
+use Rattle.sched_box.specs.declared.fault.ServeFault.TheVariants.{Read, Write, TooLong, Memory}
+use Rattle.sched_box.specs.declared.objects.Objects.{Objects}
+use Rattle.sched_box.specs.declared.objects.Piece.{Piece}
+use Rattle.sched_box.specs.declared.objects.Piece.TheVariants.{Ended, Goes, End}
+
+-- what is kept of an object: at most one octet more than it may have
+abbrev pub kept_of : List ℕ → List ℕ
+kept_of object = take 1_048_577 object
+
+-- ---- a piece of what a reader lends
+
+-- the octets, none of which is past the object's end, lead from one cutter to the other
+pub record Cuts (old : Cutter) (octets : List ℕ) (new : Cutter) : Type 0 where
+  pub rest : (more : List ℕ) → rest_after old (octets ++ more) ≡ rest_after new more
+  pub begun : (more : List ℕ) → begun_after old (octets ++ more) ≡ begun_after new more
+  pub none : octets ≡ [] → new ≡ old
+
+-- what a piece did: the object ended before an octet that comes next; the input has ended; or it goes on
+abbrev pub IsPieceEnd : Option (List ℕ) → Option (List ℕ) → Cutter → List ℕ → Piece → Type 0
+IsPieceEnd old new cutter taken Ended =
+    (next : ℕ) × (ends_before cutter next ≡ true) × IfSome old (λ _. IfSome new (λ rest. (more : List ℕ) × (rest ≡ next ∷ more)))
+IsPieceEnd old new cutter taken End = OnSome old (IsAtEnd new)
+IsPieceEnd old new cutter taken Goes = 0 < length taken
+
+abbrev pub piece_of : ℕ → Bool → Piece
+piece_of count ended = if ended then Ended else (if nat_lt 0 count then Goes else End)
+
+-- a piece isn't taken where the reader fails or memory is refused
+abbrev pub IsPieceFault : ServeFault → Type 0
+IsPieceFault Read = Unit {0}
+IsPieceFault Memory = Unit {0}
+IsPieceFault TooLong = ⊥
+IsPieceFault Write = ⊥
+
+-- the octets were taken and, as far as they are kept, added
+pub record TakesPiece (old new : Option (List ℕ)) (before after : Objects) (from to : Cutter) (piece : Piece) : Type 0 where
+  pub taken : List ℕ
+  pub consumed : Consumes old new taken
+  pub kept : after.octets.items ≡ before.octets.items ++ take (1_048_577 - length before.octets.items) taken
+  pub left : after.left + length taken ≡ before.left
+  pub cuts : Cuts from taken to
+  pub ends : IsPieceEnd old new to taken piece
+
+-- ---- an object
+
+-- the next object was taken, whole, or only empty lines were left
+pub record TakesObject (old new : Option (List ℕ)) (kept : List ℕ) (found : Bool) (taken : List ℕ) : Type 0 where
+  pub consumed : Consumes old new taken
+  pub kept_is : kept ≡ kept_of taken
+  pub begun : IfSome old (λ octets. is_begun octets ≡ found)
+  pub rest : IfSome old (λ octets. IfSome new (λ rest. rest ≡ after_object octets))
+  pub end : found ≡ false → OnSome old (IsAtEnd new)
+  pub some : found ≡ true → 0 < length taken
+
+-- and so many octets may still be read
+abbrev pub ReadsObject : Option (List ℕ) → Option (List ℕ) → Objects → Objects → Bool → Type 0
+ReadsObject old new before after found =
+    (taken : List ℕ) × TakesObject old new after.octets.items found taken × (after.left + length taken ≡ before.left)
+
+-- octets were taken, and none past the next object; the stream is too long where no more may be read
+pub record StopsReading (old new : Option (List ℕ)) (before after : Objects) (fault : ServeFault) : Type 0 where
+  pub taken : List ℕ
+  pub consumed : Consumes old new taken
+  pub within : IfSome old (λ octets. IfSome new (λ rest. length (after_object octets) ≤ length rest))
+  pub left : after.left + length taken ≡ before.left
+  pub spent : fault ≡ TooLong → after.left ≡ 0
+  pub reading : fault ≡ Write → ⊥

@@ -1,0 +1,142 @@
+//! The lines of a preamble or a configuration: LF or CRLF ends each, an empty one ends them all.
+
+ghost use Rattle.std.specs.Prelude.{◌≡◌, ◌↔◌, ◌<◌, ℤ, List, ℕ, length, map, Contains, IfOk, IfSome, OnOk, IfErr, OnErr, IsTrue, MatchOption};
+ghost use Rattle.std.specs.List.{list_any};
+ghost use Rattle.std.specs.Str.{bytes_eq};
+ghost use Rattle.profile.specs.Faults.{is_preamble_fault};
+ghost use Rattle.profile.specs.Streams.{Setting, Now, Room, IsSetting};
+ghost use Rattle.profile.specs.Values.{SpellsStamp, IsAddress, lower_case};
+ghost use Rattle.ical_lines.specs.Fault.{RefusesOnly};
+ghost use Rattle.ical_values.specs.Refused.{IfRefused};
+ghost use Rattle.ical_values.specs.Octets.{address_octets};
+ghost use Rattle.sched_box.specs.Settings.{Adds, AddsLine, Breaks, CanAdd, IsUnbroken, Reads, SaysNone, rooms_of};
+
+use ical_lines::{Fault, Refusal};
+use ical_values::stamp::one_stamp;
+use ical_values::{Address, Stamp};
+use std::alloc::Global;
+
+/// What the lines so far have set.
+#[derive(Drop)]
+pub(crate) struct Settings {
+    /// The rooms, in the order of the lines.
+    pub(crate) rooms: Vec<Address>,
+    /// The moment of every decision.
+    pub(crate) moment: Option<Stamp>,
+}
+
+impl Settings {
+    /// Reads the lines up to the empty one, after which nothing may stand.
+    /// Refused: 90.
+    pub(crate) fn read(alloc: Global, text: &str) -> Result<Settings, Fault>
+        ensures reads { IfOk result (λ settings. Reads settings text.now) }
+        ensures refuses { IfErr result (RefusesOnly is_preamble_fault) }
+        ensures none { IfErr result (IfRefused (SaysNone text.now)) }
+    {
+        let mut settings = Settings {
+            rooms: Vec::new(alloc),
+            moment: None,
+        };
+        let mut rest = text;
+        while let Some((line, after)) = next_line(rest) {
+            if line.is_empty() {
+                return if after.is_empty() {
+                    Ok(settings)
+                } else {
+                    Err(refused())
+                };
+            }
+            settings.add_line(alloc, line)?;
+            rest = after;
+        }
+        if !rest.is_empty() {
+            settings.add_line(alloc, rest)?;
+        }
+        Ok(settings)
+    }
+
+    /// Adds what a line says: the moment, or a room.
+    fn add_line(&mut self, alloc: Global, line: &str) -> Result<(), Fault>
+        ensures added { OnOk result (AddsLine self.old self.new line.now) }
+        ensures refuses { IfErr result (RefusesOnly is_preamble_fault) }
+        ensures none { IfErr result (IfRefused ((setting : Setting) → IsSetting line.now setting → CanAdd self.old setting → ⊥)) }
+    {
+        one_stamp();
+        if let Some(stamp) = line.strip_prefix("now ") {
+            return self.set_moment(stamp);
+        }
+        if let Some(address) = line.strip_prefix("room ") {
+            return self.add_room(alloc, address);
+        }
+        Err(refused())
+    }
+
+    /// Sets the moment; a second one is refused.
+    fn set_moment(&mut self, text: &str) -> Result<(), Fault>
+        ensures set { OnOk result ((t : ℤ) × SpellsStamp text.now t × Adds self.old self.new (Now t)) }
+        ensures refuses { IfErr result (RefusesOnly is_preamble_fault) }
+        ensures none { OnErr result ((t : ℤ) → SpellsStamp text.now t → CanAdd self.old (Now t) → ⊥) }
+    {
+        if self.moment.is_some() {
+            return Err(refused());
+        }
+        let Ok(moment) = Stamp::read(text) else {
+            return Err(refused());
+        };
+        self.moment = Some(moment);
+        Ok(())
+    }
+
+    /// Adds a room; one that is there is refused.
+    fn add_room(&mut self, alloc: Global, text: &str) -> Result<(), Fault>
+        ensures address { OnOk result (IsAddress text.now) }
+        ensures added { OnOk result (Adds self.old self.new (Room (lower_case text.now))) }
+        ensures refuses { IfErr result (RefusesOnly is_preamble_fault) }
+        ensures none { IfErr result (IfRefused (IsAddress text.now → CanAdd self.old (Room (lower_case text.now)) → ⊥)) }
+    {
+        let room = match Address::read(alloc, text) {
+            Ok(room) => room,
+            Err(Fault::Memory) => return Err(Fault::Memory),
+            Err(Fault::Refused(_)) => return Err(refused()),
+        };
+        if contains(self.rooms.as_slice(), &room) {
+            return Err(refused());
+        }
+        self.rooms.push(room)?;
+        Ok(())
+    }
+}
+
+/// Whether one of the rooms has this address.
+pub(crate) fn contains(rooms: &[Address], room: &Address) -> bool
+    ensures { IsTrue result ↔ Contains (map address_octets rooms.now) (address_octets room.now) }
+{
+    has_address(rooms, room)
+}
+
+fn has_address(rooms: &[Address], room: &Address) -> bool
+    ensures { result ≡ list_any (λ hosted. bytes_eq (address_octets hosted) (address_octets room.now)) rooms.now }
+{
+    rooms.iter().any(|hosted| *hosted == *room)
+}
+
+/// What every fault of a preamble or a configuration is: 90.
+pub(crate) fn refused() -> Fault
+    ensures refuses { RefusesOnly is_preamble_fault result }
+{
+    Fault::Refused(Refusal::BAD_PREAMBLE)
+}
+
+/// The first line without its LF or CRLF, and what follows it; None where no LF stands.
+fn next_line(text: &str) -> Option<(&str, &str)>
+    ensures split { MatchOption result (IsUnbroken text.now) (λ found. Breaks text.now found.0.now found.1.now) }
+    ensures shorter { IfSome result (λ found. length found.1.now < length text.now) }
+{
+    let Some((whole, after)) = text.split_once('\n') else {
+        return None;
+    };
+    match whole.strip_suffix('\r') {
+        Some(line) => Some((line, after)),
+        None => Some((whole, after)),
+    }
+}
