@@ -1,2 +1,3 @@
 pub mod VerdictLemmas
 pub mod ClashLemmas
+pub mod FreeLemmas

@@ -3,7 +3,9 @@
 #![tactic(auto)]
 
 pub mod checking;
+pub mod law;
 pub mod verdict;
 
 pub use checking::{check, check_clash, judge_read};
+pub use law::yes_means_free;
 pub use verdict::{Checked, Verdict, Why};

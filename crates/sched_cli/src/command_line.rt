@@ -34,6 +34,13 @@ const CHECK: &str =
     "Prints yes where the certificate shows that no two confirmed instances of the room share an \
     instant, else no and why.\nExample: roombox check kept.ics kept.cert mailto:r1@example.com";
 
+const ROOM_HELP: &str = "The room's address, as mailto:r1@example.com";
+
+const CALENDAR_HELP: &str = "A file: an iCalendar object, as `roombox keep` prints it";
+
+const CERTIFICATE_HELP: &str =
+    "A file: the certificate for it, as `roombox keep --certificate` prints it";
+
 /// Reads the words; the first is the program's name.
 pub fn read_words<'a>(alloc: Global, words: &'a [String]) -> Result<Invocation<'a>, Error> {
     let matches = program(alloc)?.try_get_matches_from(words)?;
@@ -58,19 +65,19 @@ fn keep_command<'a>(alloc: Global) -> Result<Command<'a>, AllocError> {
     Command::new(alloc, "keep")
         .about(KEEP)
         .arg(certificate)?
-        .arg(required(alloc, "ROOM"))
+        .arg(required(alloc, "ROOM", ROOM_HELP))
 }
 
 fn check_command<'a>(alloc: Global) -> Result<Command<'a>, AllocError> {
     Command::new(alloc, "check")
         .about(CHECK)
-        .arg(required(alloc, "CALENDAR"))?
-        .arg(required(alloc, "CERTIFICATE"))?
-        .arg(required(alloc, "ROOM"))
+        .arg(required(alloc, "CALENDAR", CALENDAR_HELP))?
+        .arg(required(alloc, "CERTIFICATE", CERTIFICATE_HELP))?
+        .arg(required(alloc, "ROOM", ROOM_HELP))
 }
 
-fn required<'a>(alloc: Global, name: &'a str) -> Arg<'a> {
-    Arg::new(alloc, name).required(true)
+fn required<'a>(alloc: Global, name: &'a str, help: &'a str) -> Arg<'a> {
+    Arg::new(alloc, name).required(true).help(help)
 }
 
 fn invocation_of<'a>(matches: &ArgMatches<'a>) -> Invocation<'a> {
