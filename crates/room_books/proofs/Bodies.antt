@@ -18,7 +18,7 @@ use Rattle.profile.specs.Events.{Event, length_seconds}
 use Rattle.profile.specs.Kept.{is_unbroken}
 use Rattle.profile.specs.Messages.{IsCanonical}
 use Rattle.profile.specs.Values.{SpellsDate, SpellsTime, WritesStamp, duration_text, two_digits, four_digits}
-use Rattle.itip_messages.proofs.TextLemmas.{utf8_stamp}
+use Rattle.itip_messages.proofs.CleanText.{utf8_stamp}
 
 abbrev pub ended : List (List ℕ) → List ℕ
 ended body = flat_map (λ line. line ++ codes "\r\n") body

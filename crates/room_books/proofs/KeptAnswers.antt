@@ -17,9 +17,9 @@ use Rattle.ical_values.proofs.Addresses.{lower_address, lower_twice}
 use Rattle.ical_values.proofs.Escapes.{read_back}
 use Rattle.ical_values.proofs.Readings.{stamp_written, sequence_written}
 use Rattle.ical_values.proofs.Spans.{duration_written}
-use Rattle.room_books.proofs.KeptText.{IsClean, clean_shown, clean_address, shown_decimal, shown_duration, shown_stamp, utf8_lower}
-use Rattle.room_books.proofs.KeptUids.{clean_uid}
-use Rattle.room_books.proofs.KeptTree.{Lines, vevent_lines}
+use Rattle.itip_messages.proofs.CleanText.{IsClean, clean_shown, clean_address, shown_decimal, shown_duration, shown_stamp, utf8_lower}
+use Rattle.itip_messages.proofs.CleanUids.{clean_uid}
+use Rattle.itip_messages.proofs.ObjectTree.{Lines, vevent_lines}
 use Rattle.room_books.proofs.KeptEvents.{kept_own, kept_event, Spell, kept_says, kept_read, kept_confirmed, kept_booked}
 use Rattle.room_books.proofs.KeptLines.{kept_content, kept_properties}
 use Rattle.room_books.proofs.KeptRequests.{clean_value, vevent_among}

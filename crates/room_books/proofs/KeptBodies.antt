@@ -10,8 +10,8 @@ use Rattle.profile.specs.Revisions.{Body, Set, Absent, Cancelled}
 use Rattle.profile.specs.Kept.{is_unbroken}
 use Rattle.ical_lines.specs.Breaks.{is_break, is_one_line, lines_of}
 use Rattle.ical_lines.proofs.BreakLemmas.{lines_of-ended}
-use Rattle.room_books.proofs.KeptText.{is_shown}
-use Rattle.room_books.proofs.KeptTree.{Lines}
+use Rattle.itip_messages.proofs.CleanText.{is_shown}
+use Rattle.itip_messages.proofs.ObjectTree.{Lines}
 
 -- lines with a CRLF behind each
 abbrev pub with_ends : Lines → List ℕ

@@ -15,9 +15,6 @@ pub mod Keeping
 pub mod Claims
 pub mod Replying
 pub mod KeptEvents
-pub mod KeptTree
-pub mod KeptText
-pub mod KeptUids
 pub mod KeptRequests
 pub mod KeptLines
 pub mod KeptBodies

@@ -1,0 +1,69 @@
+-- What octets of a reply read back as, and which texts can stand in it.
+use Rattle.std.specs.Prelude.{◌≡◌, ℕ, ◌<◌, ◌^◌, not, ◌||◌, ◌==◌, true, false, List, [], ◌∷◌, ◌++◌, codes, Some, ℤ}
+use Rattle.std.specs.List.{flat_map, list_all, AllZip}
+use Rattle.std.specs.Str.{IsUtf8}
+use Rattle.profile.specs.Lines.{is_control, logical_lines, reads_as_lines}
+use Rattle.profile.specs.Objects.{IsObject}
+use Rattle.profile.specs.Trees.{Tree, tree_name, tree_own, tree_inside, vevents}
+use Rattle.profile.specs.Values.{IsAddress}
+use Rattle.profile.specs.Events.{lines_named}
+use Rattle.profile.specs.Instances.{Key}
+use Rattle.profile.specs.Revisions.{Part}
+use Rattle.profile.specs.Messages.{Outcome, Accept, Busy, SeriesLimit, SinglesLimit, IsReplyEvent, object_lines}
+
+-- ---- texts
+
+-- a text that a TEXT value can stand for: UTF-8, with no control octet but TAB and LF (RFC 5545 3.3.11)
+pub record IsTextValue (text : List ℕ) : Type 0 where
+  pub calm : list_all (λ c. (c == 10) || not (is_control c)) text ≡ true
+  pub utf8 : IsUtf8 text
+
+-- an address, in UTF-8 (RFC 5545 3.3.3)
+pub record IsTextAddress (text : List ℕ) : Type 0 where
+  pub address : IsAddress text
+  pub utf8 : IsUtf8 text
+
+-- the names of an instance's meeting are UTF-8; a status writes them as words
+pub record IsTextKey (key : Key) : Type 0 where
+  pub organiser : IsUtf8 key.organiser
+  pub uid : IsUtf8 key.uid
+
+-- the instances that an outcome names have such keys
+abbrev pub IsTextOutcome : Outcome → Type 0
+IsTextOutcome Accept = Unit {0}
+IsTextOutcome (Busy a b t) = IsTextKey a × IsTextKey b
+IsTextOutcome SeriesLimit = Unit {0}
+IsTextOutcome SinglesLimit = Unit {0}
+
+-- ---- what is written
+
+-- the texts of an answer to this part can stand in lines
+pub record IsWritable (part : Part) (outcome : Outcome) : Type 0 where
+  pub organiser : IsTextAddress part.organiser
+  pub uid : IsTextValue part.uid
+  pub sequence : part.revision.sequence < 2 ^ 31
+  pub keys : IsTextOutcome outcome
+
+-- the lines are the VEVENT of such an answer
+pub record IsAnswer (room : List ℕ) (lines : List (List ℕ)) : Type 0 where
+  pub part : Part
+  pub moment : ℤ
+  pub outcome : Outcome
+  pub shows : IsReplyEvent room part moment outcome lines
+  pub writable : IsWritable part outcome
+
+-- ---- what it reads back as
+
+-- the lines of a VEVENT with these lines of its own, and no component in it
+abbrev pub IsVevent : List (List ℕ) → List (List ℕ) → Type 0
+IsVevent own lines = lines ≡ codes "BEGIN:VEVENT" ∷ (own ++ codes "END:VEVENT" ∷ [])
+
+-- the octets read as the lines of one VCALENDAR whose METHOD is REPLY, round these VEVENTs, each with its own lines
+-- (RFC 5545 3.4, RFC 5546 3.2.3)
+pub record ReadsAsReply (octets : List ℕ) (events : List (List (List ℕ))) : Type 0 where
+  pub reads : reads_as_lines false octets ≡ true
+  pub lines : logical_lines octets ≡ object_lines (Some (codes "REPLY")) (flat_map (λ lines. lines) events)
+  pub tree : Tree
+  pub object : IsObject tree_name tree_own tree_inside false tree (logical_lines octets)
+  pub method : lines_named (codes "METHOD") (tree_own tree) ≡ codes "METHOD:REPLY" ∷ []
+  pub each : AllZip IsVevent (vevents tree) events
