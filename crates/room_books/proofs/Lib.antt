@@ -17,7 +17,6 @@ pub mod Replying
 pub mod KeptEvents
 pub mod KeptRequests
 pub mod KeptLines
-pub mod KeptBodies
 pub mod KeptAnswers
 pub mod Pairs
 pub mod KeptMeetings
