@@ -6,6 +6,7 @@ pub mod ContentLines
 pub mod WordText
 pub mod ReplyLines
 pub mod ReplyReads
+pub mod AnswerReads
 pub mod LineLemmas
 pub mod MessageLemmas
 pub mod TreeLemmas

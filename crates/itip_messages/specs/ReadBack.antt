@@ -1,14 +1,14 @@
 -- What octets of a reply read back as, and which texts can stand in it.
-use Rattle.std.specs.Prelude.{◌≡◌, ℕ, ◌<◌, ◌^◌, not, ◌||◌, ◌==◌, true, false, List, [], ◌∷◌, ◌++◌, codes, Some, ℤ}
+use Rattle.std.specs.Prelude.{◌≡◌, ℕ, ◌<◌, ◌^◌, not, ◌||◌, ◌==◌, true, false, List, [], ◌∷◌, ◌++◌, codes, Option, None, Some, ℤ}
 use Rattle.std.specs.List.{flat_map, list_all, AllZip}
 use Rattle.std.specs.Str.{IsUtf8}
 use Rattle.profile.specs.Lines.{is_control, logical_lines, reads_as_lines}
 use Rattle.profile.specs.Objects.{IsObject}
 use Rattle.profile.specs.Trees.{Tree, tree_name, tree_own, tree_inside, vevents}
-use Rattle.profile.specs.Values.{IsAddress}
-use Rattle.profile.specs.Events.{lines_named}
+use Rattle.profile.specs.Values.{IsAddress, lower_case}
+use Rattle.profile.specs.Events.{Says, IsUidLine, IsAddressLine, IsSequenceLine, IsStampLine, IsAttendee, Participation, Accepted, Declined, lines_named}
 use Rattle.profile.specs.Instances.{Key}
-use Rattle.profile.specs.Revisions.{Part}
+use Rattle.profile.specs.Revisions.{Part, Slot, Whole, At}
 use Rattle.profile.specs.Messages.{Outcome, Accept, Busy, SeriesLimit, SinglesLimit, IsReplyEvent, object_lines}
 
 -- ---- texts
@@ -67,3 +67,31 @@ pub record ReadsAsReply (octets : List ℕ) (events : List (List (List ℕ))) : 
   pub object : IsObject tree_name tree_own tree_inside false tree (logical_lines octets)
   pub method : lines_named (codes "METHOD") (tree_own tree) ≡ codes "METHOD:REPLY" ∷ []
   pub each : AllZip IsVevent (vevents tree) events
+
+-- ---- what each VEVENT says
+
+-- an address as it is read, in lower case
+pub record IsReadAddress (text : List ℕ) : Type 0 where
+  pub address : IsAddress text
+  pub lower : lower_case text ≡ text
+
+-- what an outcome answers (RFC 5545 3.2.12)
+abbrev pub participation_of : Outcome → Participation
+participation_of Accept = Accepted
+participation_of (Busy a b t) = Declined
+participation_of SeriesLimit = Declined
+participation_of SinglesLimit = Declined
+
+-- the start that RECURRENCE-ID names, where one instance is answered
+abbrev pub instance_of : Slot → Option ℤ
+instance_of Whole = None
+instance_of (At t) = Some t
+
+-- the own lines of a VEVENT say a room's answer to a part: each property once, and the room as the one attendee (RFC 5546 3.2.3)
+pub record SaysAnswer (room : List ℕ) (part : Part) (moment : ℤ) (outcome : Outcome) (own : List (List ℕ)) : Type 0 where
+  pub uid : Says (codes "UID") true IsUidLine own (Some part.uid)
+  pub organiser : Says (codes "ORGANIZER") true IsAddressLine own (Some part.organiser)
+  pub sequence : Says (codes "SEQUENCE") true IsSequenceLine own (Some part.revision.sequence)
+  pub stamp : Says (codes "DTSTAMP") true IsStampLine own (Some moment)
+  pub instance : Says (codes "RECURRENCE-ID") false IsStampLine own (instance_of part.slot)
+  pub attendees : AllZip IsAttendee (lines_named (codes "ATTENDEE") own) (record { address = room; participation = participation_of outcome } ∷ [])
