@@ -1,4 +1,12 @@
 pub mod TextLemmas
+pub mod CleanText
+pub mod CleanUids
+pub mod ObjectTree
+pub mod ContentLines
+pub mod WordText
+pub mod ReplyLines
+pub mod ReplyReads
+pub mod AnswerReads
 pub mod LineLemmas
 pub mod MessageLemmas
 pub mod TreeLemmas

@@ -1,12 +1,14 @@
 //! iTIP messages: their parts, and replies (RFC 5546 3.2).
 #![tactic(auto)]
 
+pub mod law;
 pub mod message;
 mod parts;
 pub mod reply;
 mod values;
 pub mod writer;
 
+pub use law::{answers_read_back, replies_read_back};
 pub use message::{Message, MessageComponent, Method};
 pub use reply::{Conflict, ConflictKey, Decision, ReplyEvent, write_reply};
 pub use writer::ObjectWriter;

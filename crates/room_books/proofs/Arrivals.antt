@@ -3,6 +3,7 @@ use Rattle.std.proofs.Common.{◌≡◌, Bool, true, false, not, ◌&&◌, cond,
 use Rattle.std.specs.List.{filter}
 use Rattle.std.specs.Map.{keys_of}
 use Rattle.std.specs.Cmp.{both_ways as same_tests, tied_then}
+use Rattle.std.specs.Ordering.{is_eq}
 use Rattle.std.specs.Str.{bytes_eq}
 use Rattle.std.proofs.lemmas.Bool.{and_parts, and_from, true≢false}
 use Rattle.std.proofs.lemmas.Map.Text.{is_eq-slice_cmp}
@@ -15,6 +16,7 @@ use Rattle.room_books.specs.declared.meeting.MeetingKey.{MeetingKey}
 use Rattle.room_books.specs.declared.meeting.Meeting.{Meeting}
 use Rattle.room_books.specs.Views.{same_key}
 use Rattle.room_books.specs.Standing.{is_of, AreKeysOf}
+use Rattle.itip_order.proofs.Order.{meeting_total, is_eq_true}
 use Rattle.room_books.proofs.Meetings.{is_of_parts}
 
 -- ---- meetings of parts
@@ -35,9 +37,7 @@ meeting_parts a b e =
 
 -- meetings that are one are alike to every other
 pub meeting_congr : (a b c : Part) → same_meeting a b ≡ true → same_meeting a c ≡ same_meeting b c
-meeting_congr a b c e =
-    let s = meeting_parts a b e in
-    meeting_is a c ∙ (λ i. bytes_eq (s.0 i) c.organiser && bytes_eq (s.1 i) c.uid) ∙ sym (meeting_is b c)
+meeting_congr a b c e = ap is_eq (meeting_total.congr a b c (is_eq_true _ e))
 
 -- ---- one part more
 

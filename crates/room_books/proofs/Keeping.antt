@@ -17,7 +17,7 @@ use Rattle.itip_order.proofs.Lists.{in_head, in_tail, filter_at}
 use Rattle.itip_order.proofs.Registers.{greatest_at, greatest_unique}
 use Rattle.profile.specs.Kept.{written, first_parts, kept_of, IsKeptEvent}
 use Rattle.profile.specs.Lines.{folded}
-use Rattle.profile.specs.Revisions.{Part, Body, Set, Absent, Cancelled, Whole, in_view}
+use Rattle.profile.specs.Revisions.{Part, Set, Whole, in_view}
 use Rattle.profile.specs.Rooms.{Answer, Book, is_confirmed, confirmed}
 use Rattle.profile.specs.Values.{WritesStamp, escaped}
 use Rattle.room_books.specs.declared.meeting.MeetingKey.{MeetingKey}
@@ -27,7 +27,7 @@ use Rattle.room_books.specs.Views.{same_key, booked_list, confirmed_span, all_co
 use Rattle.room_books.specs.Standing.{is_of, of_meeting, answers_of, Meets, MeetsAt, Stands, IsOfEvent}
 use Rattle.room_books.specs.Keeping.{WritesAnswers, WritesEvent, kept_parts}
 use Rattle.room_books.proofs.Arrivals.{key_meeting}
-use Rattle.room_books.proofs.Bodies.{BodyLines, body_lines, lines_ended}
+use Rattle.room_books.proofs.Bodies.{BodyLines, body_lines, lines_ended, same_octets}
 use Rattle.room_books.proofs.Meetings.{is_of_same, place_whole, view_of, view_whole}
 use Rattle.room_books.proofs.Partition.{partition}
 use Rattle.room_books.proofs.Stepping.{key_laws, found_entry}
@@ -111,19 +111,10 @@ module _ (entries : List (MeetingKey × Meeting)) (book : Book) (key : MeetingKe
 
 -- ---- the VEVENT of a part
 
-set_octets : Body → List ℕ
-set_octets (Set octets) = octets
-set_octets Absent = []
-set_octets Cancelled = []
-
-set_is : (a b : List ℕ) → Set a ≡ Set b → a ≡ b
-unfolding set_octets
-set_is a b e = ap set_octets e
-
 module _ (room : List ℕ) (part : Part) (octets : List ℕ) (of_event : IsOfEvent part) (set : part.body ≡ Set octets) where
   own : BodyLines octets
   own =
-      let is : of_event.1.octets ≡ octets = set_is of_event.1.octets octets (sym of_event.1.body ∙ set) in
+      let is : of_event.1.octets ≡ octets = same_octets of_event.1.octets octets (sym of_event.1.body ∙ set) in
       subst BodyLines is (body_lines of_event.1.octets of_event.0 of_event.1.canonical of_event.2)
 
   pub own_utf8 : IsUtf8 octets

@@ -17,13 +17,13 @@ use Rattle.ical_values.proofs.Addresses.{lower_address, lower_twice}
 use Rattle.ical_values.proofs.Escapes.{read_back}
 use Rattle.ical_values.proofs.Readings.{stamp_written, sequence_written}
 use Rattle.ical_values.proofs.Spans.{duration_written}
-use Rattle.room_books.proofs.KeptText.{IsClean, clean_shown, clean_address, shown_decimal, shown_duration, shown_stamp, utf8_lower}
-use Rattle.room_books.proofs.KeptUids.{clean_uid}
-use Rattle.room_books.proofs.KeptTree.{Lines, vevent_lines}
+use Rattle.itip_messages.proofs.CleanText.{IsClean, clean_shown, clean_address, shown_decimal, shown_duration, shown_stamp, utf8_lower}
+use Rattle.itip_messages.proofs.CleanUids.{clean_uid}
+use Rattle.itip_messages.proofs.ObjectTree.{Lines, vevent_lines}
 use Rattle.room_books.proofs.KeptEvents.{kept_own, kept_event, Spell, kept_says, kept_read, kept_confirmed, kept_booked}
 use Rattle.room_books.proofs.KeptLines.{kept_content, kept_properties}
 use Rattle.room_books.proofs.KeptRequests.{clean_value, vevent_among}
-use Rattle.room_books.proofs.KeptBodies.{body_lines, body_is}
+use Rattle.room_books.proofs.Bodies.{two_lines, body_is}
 
 -- octets ask the room for the claim: the part is that of their event, and books its one instance
 pub record IsAsked (room : List ℕ) (claim : Claim) : Type 0 where
@@ -152,7 +152,7 @@ reads_back room answer lines a k =
     let duration = duration_text event.length.days event.length.seconds in
     let shown_start = shown_stamp c.start event.start c.written in
     let long = shown_duration event.length.days event.length.seconds (omega (arith, most)) (omega (arith, most)) in
-    let two : k.body ≡ body_lines c.start duration = body_is k.body a.part.octets c.start duration shown_start long k.whole_lines c.is (sym k.body_is ∙ a.part.body) in
+    let two : k.body ≡ two_lines c.start duration = body_is k.body a.part.octets c.start duration shown_start long k.whole_lines c.is (sym k.body_is ∙ a.part.body) in
     let small : part.revision.sequence < 2 ^ 31 = omega (arith, small_sequence m.lines event.sequence m.says.sequence, a.part.sequence) in
     let uid = escaped part.uid in
     let sequence = decimal part.revision.sequence in

@@ -2,7 +2,7 @@
 use Rattle.std.proofs.Common.{◌≡◌, ◌≢◌, ◌∙◌, ℕ, true, false, List, [], ◌∷◌, ◌++◌, length, map, None, refl, sym, ap, ap₂, subst, arith, cond, suc}
 use Rattle.std.specs.List.{filter, flat_map, list_all, list_any, Contains, AllPairs, AllZip}
 use Rattle.std.proofs.lemmas.Bool.{and_from, or_from}
-use Rattle.profile.specs.Lines.{is_content, folded, logical_lines, reads_as_lines}
+use Rattle.profile.specs.Lines.{is_content, logical_lines, reads_as_lines}
 use Rattle.profile.specs.Objects.{is_property, IsObject}
 use Rattle.profile.specs.Trees.{tree_name, tree_own, tree_inside}
 use Rattle.profile.specs.Events as events
@@ -16,8 +16,8 @@ use Rattle.profile.specs.Streams.{IsDelivered}
 use Rattle.std.specs.Prelude.{◌↔◌}
 use Rattle.itip_order.proofs.Lists.{in_head, in_tail, filter_at, filter_from}
 use Rattle.room_books.proofs.Runs.{Good, IsWithin, within_good}
-use Rattle.room_books.proofs.KeptTree.{Lines, vevent_lines, calendar_tree, calendar_vevents, object_spelled}
-use Rattle.room_books.proofs.KeptLines.{object_content}
+use Rattle.itip_messages.proofs.ObjectTree.{Lines, vevent_lines, calendar_tree, calendar_vevents, object_spelled}
+use Rattle.itip_messages.proofs.ContentLines.{LinesBack, ReadsLines, no_method, object_content}
 use Rattle.room_books.proofs.KeptAnswers.{IsAsked, ReadsBack, reads_back}
 use Rattle.room_books.proofs.Pairs.{Pairwise, flat_at, flat_from}
 use Rattle.room_books.proofs.KeptMeetings.{meeting_of, AnswersApart, meetings_differ, kept_is, firsts_apart, firsts_cover, of_part, grouped, grouped_long, grouped_among, grouped_apart}
@@ -64,18 +64,11 @@ all_back room (a ∷ answers) (lines ∷ each) f z =
 
 -- ---- the calendar
 
--- what lines read back as that were written one behind another
-abbrev pub LinesBack : Type 0
-LinesBack = (lines : Lines) → list_all is_content lines ≡ true → logical_lines (flat_map folded lines) ≡ lines
-
-abbrev pub ReadsLines : Type 0
-ReadsLines = (lines : Lines) → list_all is_content lines ≡ true → reads_as_lines false (flat_map folded lines) ≡ true
-
 calendar_spelled : LinesBack → ReadsLines → (room octets : List ℕ) (answers : List Answer) (each : List Lines) → AllBack room answers each → Pairwise AnswersApart answers
     → octets ≡ written (object_lines None (flat_map (λ lines. lines) each)) → SpellsCalendar room octets (flat_map books answers)
 calendar_spelled back reads room octets answers each b apart is =
     let lines = object_lines None (flat_map vevent_lines b.owns) in
-    let content = object_content b.owns b.content in
+    let content = object_content None b.owns no_method b.content in
     let whole : octets ≡ written lines = is ∙ ap (λ l. written (object_lines None l)) b.are in
     let logical : logical_lines octets ≡ lines = ap logical_lines whole ∙ back lines content in
     let says : SaysCalendar room b.owns (flat_map books answers) = record {
@@ -87,9 +80,9 @@ calendar_spelled back reads room octets answers each b apart is =
     } in
     record {
       lines = ap (reads_as_lines false) whole ∙ reads lines content;
-      tree = calendar_tree b.owns;
-      object = subst (λ (l : Lines). IsObject tree_name tree_own tree_inside false (calendar_tree b.owns) l) (sym logical) (object_spelled b.owns b.properties);
-      says = subst (λ (v : List Lines). SaysCalendar room v (flat_map books answers)) (sym (calendar_vevents b.owns)) says;
+      tree = calendar_tree None b.owns;
+      object = subst (λ (l : Lines). IsObject tree_name tree_own tree_inside false (calendar_tree None b.owns) l) (sym logical) (object_spelled None b.owns b.properties);
+      says = subst (λ (v : List Lines). SaysCalendar room v (flat_map books answers)) (sym (calendar_vevents None b.owns)) says;
     }
 
 -- ---- the certificate

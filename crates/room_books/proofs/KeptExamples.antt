@@ -20,8 +20,8 @@ use Rattle.profile.specs.Streams.{IsDelivered, claim}
 use Rattle.profile.specs.Kept.{IsKeptCalendar, written}
 use Rattle.itip_order.proofs.Lists.{in_cons, none_in_nil}
 use Rattle.ical_values.proofs.Readings.{stamp_written}
-use Rattle.room_books.proofs.KeptBodies.{with_ends}
-use Rattle.room_books.proofs.KeptTree.{Lines, vevent_lines, own_body, parts_more}
+use Rattle.room_books.proofs.Bodies.{with_ends}
+use Rattle.itip_messages.proofs.ObjectTree.{Lines, vevent_lines, own_body, parts_more}
 
 -- ---- the message
 

@@ -10,6 +10,7 @@ use Rattle.profile.specs.Rooms.{Answer, Book, is_confirmed}
 use Rattle.profile.specs.Kept.{first_parts, kept}
 use Rattle.itip_order.proofs.Lists.{in_cons, in_head, in_tail, none_in_nil, filter_at, filter_from}
 use Rattle.itip_order.proofs.Order.{meeting_total, is_eq_true}
+use Rattle.room_books.proofs.Arrivals.{meeting_congr}
 use Rattle.room_books.proofs.Pairs.{Pairwise, pairs_from, pairs_append, pairs_filter, filter_through, filter_and, flat_at, flat_same, pairs_map}
 
 -- ---- meetings
@@ -21,7 +22,7 @@ pub meeting_sym : (p q : Part) → same_meeting p q ≡ true → same_meeting q 
 meeting_sym p q e = ap is_eq (tied_back meeting_total p q (is_eq_true _ e))
 
 pub meeting_trans : (p q r : Part) → same_meeting p q ≡ true → same_meeting q r ≡ true → same_meeting p r ≡ true
-meeting_trans p q r e f = ap is_eq (meeting_total.congr p q r (is_eq_true _ e)) ∙ f
+meeting_trans p q r e f = meeting_congr p q r e ∙ f
 
 abbrev pub meeting_of : Answer → List ℕ × List ℕ
 meeting_of a = (a.claim.part.organiser, a.claim.part.uid)

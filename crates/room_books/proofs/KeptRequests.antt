@@ -13,8 +13,8 @@ use Rattle.profile.specs.Trees.{Tree, tree_name, tree_own, tree_inside, vevents}
 use Rattle.profile.specs.Objects.{Body, IsObject}
 use Rattle.profile.specs.Objects.Body.{nothing, property, component}
 use Rattle.itip_order.proofs.Lists.{in_cons, in_tail, none_in_nil, filter_at}
-use Rattle.room_books.proofs.KeptText.{IsClean}
-use Rattle.room_books.proofs.KeptTree.{Lines}
+use Rattle.itip_messages.proofs.CleanText.{IsClean}
+use Rattle.itip_messages.proofs.ObjectTree.{Lines}
 use Rattle.room_books.proofs.Pairs.{map_at}
 
 -- ---- the value of a line

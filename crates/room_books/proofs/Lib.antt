@@ -15,12 +15,8 @@ pub mod Keeping
 pub mod Claims
 pub mod Replying
 pub mod KeptEvents
-pub mod KeptTree
-pub mod KeptText
-pub mod KeptUids
 pub mod KeptRequests
 pub mod KeptLines
-pub mod KeptBodies
 pub mod KeptAnswers
 pub mod Pairs
 pub mod KeptMeetings

@@ -10,14 +10,14 @@ use Rattle.std.proofs.lemmas.Str.{IsUtf8-append, IsUtf8-nil, IsUtf8-encode, enco
 use Rattle.profile.specs.Lines.{is_control}
 use Rattle.profile.specs.Values.{escaped, escaped_octet, unescaped, is_escape, meant}
 use Rattle.ical_values.proofs.Escapes.{unescaped_front, unescaped_pair, unescaped_lone}
-use Rattle.itip_messages.proofs.TextLemmas.{utf8_escaped}
+use Rattle.itip_messages.proofs.TextLemmas.{utf8_escaped, utf8_one}
 use lib.Utf8.{encode, encodes, scalars}
-use Rattle.room_books.proofs.KeptText.{IsClean}
+use Rattle.itip_messages.proofs.CleanText.{IsClean}
 
 -- ---- control octets
 
 -- an octet of a text that was read: LF, or no control octet
-abbrev is_read : ℕ → Bool
+abbrev pub is_read : ℕ → Bool
 is_read c = eqb c 10 || not (is_control c)
 
 read_octet : (c : ℕ) → is_control c ≡ false → is_read c ≡ true
@@ -44,7 +44,7 @@ read_all (c ∷ d ∷ cs) h =
 octet_calm : (c : ℕ) → is_read c ≡ true → list_any is_control (escaped_octet c) ≡ false
 octet_calm c h = grind (arith, nat_tests)
 
-escaped_calm : (text : List ℕ) → list_all is_read text ≡ true → list_any is_control (escaped text) ≡ false
+pub escaped_calm : (text : List ℕ) → list_all is_read text ≡ true → list_any is_control (escaped text) ≡ false
 escaped_calm [] h = refl
 escaped_calm (c ∷ cs) h =
     let both = and_parts (is_read c) (list_all is_read cs) h in
@@ -63,9 +63,6 @@ escape_ascii d h = grind (arith, nat_tests)
 
 meant_ascii : (d : ℕ) → is_escape d ≡ true → meant d < 128
 meant_ascii d h = grind (arith, nat_tests)
-
-utf8_one : (c : ℕ) → c < 128 → IsUtf8 (c ∷ [])
-utf8_one c h = let scalar_c : IsScalar c = grind (arith, nat_tests) in rw (← (encode_ascii c h)) (IsUtf8-encode c scalar_c)
 
 -- after a character that makes no escape
 lone : (d : ℕ) (ds : List ℕ) → is_escape d ≡ false → unescaped (92 ∷ (encode d ++ encodes ds)) ≡ 92 ∷ unescaped (encode d ++ encodes ds)

@@ -1,13 +1,13 @@
 -- The lines of an object round some VEVENTs spell one VCALENDAR with those VEVENTs in it.
-use Rattle.std.proofs.Common.{◌≡◌, ℕ, suc, true, false, List, [], ◌∷◌, ◌++◌, codes, None, refl, sym, ap, subst, append_assoc, append-nil}
+use Rattle.std.proofs.Common.{◌≡◌, ℕ, suc, true, false, List, [], ◌∷◌, ◌++◌, codes, Option, None, Some, refl, sym, ap, subst, append_assoc, append-nil}
 use Rattle.std.specs.List.{flat_map, list_all, filter}
 use Rattle.std.specs.Prelude.{map}
 use Rattle.std.proofs.lemmas.Bool.{and_parts}
 use Rattle.profile.specs.Lines.{is_same_name}
 use Rattle.profile.specs.Trees.{Tree, Trees, tree, none, more, trees_list, tree_name, tree_own, tree_inside, vevents}
-use Rattle.profile.specs.Objects.{is_property, Opens, Closes, Body, IsObject}
+use Rattle.profile.specs.Objects.{is_property, has_version, Opens, Closes, Body, IsObject}
 use Rattle.profile.specs.Objects.Body.{nothing, property, component}
-use Rattle.profile.specs.Messages.{object_lines}
+use Rattle.profile.specs.Messages.{method_lines, object_lines}
 
 abbrev pub Lines : Type 0
 Lines = List (List ℕ)
@@ -26,16 +26,20 @@ abbrev pub vevent_trees : List Lines → Trees
 vevent_trees [] = none
 vevent_trees (own ∷ owns) = more (vevent_tree own) (vevent_trees owns)
 
--- the calendar with these VEVENTs
-abbrev pub calendar_tree : List Lines → Tree
-calendar_tree owns = tree (codes "VCALENDAR") (codes "VERSION:2.0" ∷ codes "PRODID:-//iTIP room box//EN" ∷ []) (vevent_trees owns)
+-- the own lines of the calendar
+abbrev pub calendar_own : Option (List ℕ) → Lines
+calendar_own method = codes "VERSION:2.0" ∷ codes "PRODID:-//iTIP room box//EN" ∷ method_lines method
+
+-- the calendar of this METHOD, or of none, with these VEVENTs
+abbrev pub calendar_tree : Option (List ℕ) → List Lines → Tree
+calendar_tree method owns = tree (codes "VCALENDAR") (calendar_own method) (vevent_trees owns)
 
 vevents_are : (owns : List Lines) → map tree_own (filter (λ part. is_same_name (tree_name part) (codes "VEVENT")) (trees_list (vevent_trees owns))) ≡ owns
 vevents_are [] = refl
 vevents_are (own ∷ owns) = ap (λ x. own ∷ x) (vevents_are owns)
 
-pub calendar_vevents : (owns : List Lines) → vevents (calendar_tree owns) ≡ owns
-calendar_vevents owns = vevents_are owns
+pub calendar_vevents : (method : Option (List ℕ)) (owns : List Lines) → vevents (calendar_tree method owns) ≡ owns
+calendar_vevents method owns = vevents_are owns
 
 -- properties, one after another
 own_more : (depth : ℕ) (before own : Lines) → BodyT depth before [] before → list_all is_property own ≡ true → BodyT depth (before ++ own) [] (before ++ own)
@@ -65,19 +69,27 @@ parts_more depth own parts body (v ∷ owns) b h =
     subst (λ (l : List Tree). BodyT (suc depth) own l (body ++ flat_map vevent_lines (v ∷ owns))) (append_assoc parts (vevent_tree v ∷ []) (trees_list (vevent_trees owns)))
     (subst (λ (l : Lines). BodyT (suc depth) own ((parts ++ vevent_tree v ∷ []) ++ trees_list (vevent_trees owns)) l) (append_assoc body (vevent_lines v) (flat_map vevent_lines owns)) all)
 
+own_properties : (method : Option (List ℕ)) → list_all is_property (calendar_own method) ≡ true
+own_properties None = refl
+own_properties (Some name) = refl
+
+own_version : (method : Option (List ℕ)) → has_version (calendar_own method) ≡ true
+own_version None = refl
+own_version (Some name) = refl
+
 -- the whole object
-pub object_spelled : (owns : List Lines) → list_all (list_all is_property) owns ≡ true → IsObject tree_name tree_own tree_inside false (calendar_tree owns) (object_lines None (flat_map vevent_lines owns))
-object_spelled owns h = record {
+pub object_spelled : (method : Option (List ℕ)) (owns : List Lines) → list_all (list_all is_property) owns ≡ true → IsObject tree_name tree_own tree_inside false (calendar_tree method owns) (object_lines method (flat_map vevent_lines owns))
+object_spelled method owns h = record {
   spelled = record {
     begin = codes "BEGIN:VCALENDAR";
     end = codes "END:VCALENDAR";
-    body = codes "VERSION:2.0" ∷ codes "PRODID:-//iTIP room box//EN" ∷ flat_map vevent_lines owns;
+    body = calendar_own method ++ flat_map vevent_lines owns;
     are = refl;
     opens = record { begins = refl; names = refl };
     closes = record { ends = refl; names = refl };
-    holds = parts_more 6 (codes "VERSION:2.0" ∷ codes "PRODID:-//iTIP room box//EN" ∷ []) [] (codes "VERSION:2.0" ∷ codes "PRODID:-//iTIP room box//EN" ∷ []) owns (own_body 7 (codes "VERSION:2.0" ∷ codes "PRODID:-//iTIP room box//EN" ∷ []) refl) h;
+    holds = parts_more 6 (calendar_own method) [] (calendar_own method) owns (own_body 7 (calendar_own method) (own_properties method)) h;
   };
   calendar = refl;
-  version = refl;
+  version = own_version method;
   events = refl;
 }

@@ -33,21 +33,21 @@ clean_append a b p q = record {
 abbrev pub is_shown : ℕ → Bool
 is_shown c = nat_le 32 c && nat_lt c 127
 
-shown_octet : (c : ℕ) → is_shown c ≡ true → (is_control c ≡ false) × (c < 128)
+pub shown_octet : (c : ℕ) → is_shown c ≡ true → (is_control c ≡ false) × (c < 128)
 shown_octet c h = grind (arith, nat_tests)
 
 shown_ascii : (text : List ℕ) → list_all is_shown text ≡ true → IsAscii text
 shown_ascii [] h = IsAscii-nil
 shown_ascii (c ∷ cs) h = let both = and_parts (is_shown c) (list_all is_shown cs) h in IsAscii-cons c cs (shown_octet c both.0).1 (shown_ascii cs both.1)
 
-shown_calm : (text : List ℕ) → list_all is_shown text ≡ true → list_any is_control text ≡ false
+pub shown_calm : (text : List ℕ) → list_all is_shown text ≡ true → list_any is_control text ≡ false
 shown_calm [] h = refl
 shown_calm (c ∷ cs) h = let both = and_parts (is_shown c) (list_all is_shown cs) h in or_from _ _ (shown_octet c both.0).0 (shown_calm cs both.1)
 
 pub clean_shown : (text : List ℕ) → list_all is_shown text ≡ true → IsClean text
 clean_shown text h = record { calm = shown_calm text h; utf8 = IsUtf8-from_ascii text (shown_ascii text h) }
 
-shown_append : (a b : List ℕ) → list_all is_shown a ≡ true → list_all is_shown b ≡ true → list_all is_shown (a ++ b) ≡ true
+pub shown_append : (a b : List ℕ) → list_all is_shown a ≡ true → list_all is_shown b ≡ true → list_all is_shown (a ++ b) ≡ true
 shown_append a b p q = list_all-append is_shown a b ∙ and_from _ _ p q
 
 -- ---- numbers
@@ -55,7 +55,7 @@ shown_append a b p q = list_all-append is_shown a b ∙ and_from _ _ p q
 shown_digit : (c : ℕ) → (48 ≤ c) × (c ≤ 57) → is_shown c ≡ true
 shown_digit c h = grind (arith, nat_tests)
 
-shown_digits : (text : List ℕ) → AllDigits 10 text → list_all is_shown text ≡ true
+pub shown_digits : (text : List ℕ) → AllDigits 10 text → list_all is_shown text ≡ true
 shown_digits [] h = refl
 shown_digits (c ∷ cs) h = and_from _ _ (shown_digit c (digit_from_value c h.0)) (shown_digits cs h.1)
 
@@ -103,6 +103,10 @@ shown_stamp text instant w =
     let clock = w.1 in
     let local : list_all is_shown w.0 ≡ true = rw clock.spelled (shown_append (clock.date ++ codes "T") clock.time (shown_append clock.date (codes "T") (shown_date clock.date clock.number clock.on) refl) (shown_time clock.time clock.second clock.at_second)) in
     rw w.2 (shown_append w.0 (codes "Z") local refl)
+
+-- a stamp as it is written is text
+pub utf8_stamp : (text : List ℕ) (instant : ℤ) → WritesStamp text instant → IsUtf8 text
+utf8_stamp text instant w = (clean_shown text (shown_stamp text instant w)).utf8
 
 -- ---- addresses
 

@@ -1,0 +1,31 @@
+-- A reply that was written reads back as one object, with its VEVENTs in it.
+use Rattle.std.proofs.Common.{◌≡◌, ◌∙◌, ℕ, false, List, codes, Some, refl, sym, ap, subst}
+use Rattle.std.specs.List.{flat_map, Contains, AllZip}
+use Rattle.profile.specs.Lines.{logical_lines, reads_as_lines}
+use Rattle.profile.specs.Objects.{IsObject}
+use Rattle.profile.specs.Trees.{tree_name, tree_own, tree_inside}
+use Rattle.profile.specs.Kept.{written}
+use Rattle.profile.specs.Messages.{object_lines}
+use Rattle.itip_messages.specs.ReadBack.{IsTextAddress, IsAnswer, IsVevent, ReadsAsReply}
+use Rattle.itip_messages.proofs.ObjectTree.{Lines, vevent_lines, calendar_tree, calendar_vevents, object_spelled}
+use Rattle.itip_messages.proofs.ContentLines.{LinesBack, ReadsLines, object_content, reply_method}
+use Rattle.itip_messages.proofs.ReplyLines.{all_read}
+
+pub reply_reads : LinesBack → ReadsLines → (room : List ℕ) (events : List Lines) (octets : List ℕ) → IsTextAddress room → ((lines : Lines) → Contains events lines → IsAnswer room lines)
+    → octets ≡ written (object_lines (Some (codes "REPLY")) (flat_map (λ lines. lines) events)) → ReadsAsReply octets events
+reply_reads back reads room events octets r f is =
+    let all = all_read room events r f in
+    let method = Some (codes "REPLY") in
+    let lines = object_lines method (flat_map vevent_lines all.owns) in
+    let content = object_content method all.owns reply_method all.content in
+    let whole : octets ≡ written lines = is ∙ ap (λ l. written (object_lines method l)) all.are in
+    let logical : logical_lines octets ≡ lines = ap logical_lines whole ∙ back lines content in
+    let P : Lines → Type 0 = IsObject tree_name tree_own tree_inside false (calendar_tree method all.owns) in
+    record {
+      reads = ap (reads_as_lines false) whole ∙ reads lines content;
+      lines = logical ∙ ap (object_lines method) (sym all.are);
+      tree = calendar_tree method all.owns;
+      object = subst P (sym logical) (object_spelled method all.owns all.properties);
+      method = refl;
+      each = subst (λ (owns : List Lines). AllZip IsVevent owns events) (sym (calendar_vevents method all.owns)) all.each;
+    }

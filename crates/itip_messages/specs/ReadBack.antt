@@ -1,0 +1,97 @@
+-- What octets of a reply read back as, and which texts can stand in it.
+use Rattle.std.specs.Prelude.{◌≡◌, ℕ, ◌<◌, ◌^◌, not, ◌||◌, ◌==◌, true, false, List, [], ◌∷◌, ◌++◌, codes, Option, None, Some, ℤ}
+use Rattle.std.specs.List.{flat_map, list_all, AllZip}
+use Rattle.std.specs.Str.{IsUtf8}
+use Rattle.profile.specs.Lines.{is_control, logical_lines, reads_as_lines}
+use Rattle.profile.specs.Objects.{IsObject}
+use Rattle.profile.specs.Trees.{Tree, tree_name, tree_own, tree_inside, vevents}
+use Rattle.profile.specs.Values.{IsAddress, lower_case}
+use Rattle.profile.specs.Events.{Says, IsUidLine, IsAddressLine, IsSequenceLine, IsStampLine, IsAttendee, Participation, Accepted, Declined, lines_named}
+use Rattle.profile.specs.Instances.{Key}
+use Rattle.profile.specs.Revisions.{Part, Slot, Whole, At}
+use Rattle.profile.specs.Messages.{Outcome, Accept, Busy, SeriesLimit, SinglesLimit, IsReplyEvent, object_lines}
+
+-- ---- texts
+
+-- a text that a TEXT value can stand for: UTF-8, with no control octet but TAB and LF (RFC 5545 3.3.11)
+pub record IsTextValue (text : List ℕ) : Type 0 where
+  pub calm : list_all (λ c. (c == 10) || not (is_control c)) text ≡ true
+  pub utf8 : IsUtf8 text
+
+-- an address, in UTF-8 (RFC 5545 3.3.3)
+pub record IsTextAddress (text : List ℕ) : Type 0 where
+  pub address : IsAddress text
+  pub utf8 : IsUtf8 text
+
+-- the names of an instance's meeting are UTF-8; a status writes them as words
+pub record IsTextKey (key : Key) : Type 0 where
+  pub organiser : IsUtf8 key.organiser
+  pub uid : IsUtf8 key.uid
+
+-- the instances that an outcome names have such keys
+abbrev pub IsTextOutcome : Outcome → Type 0
+IsTextOutcome Accept = Unit {0}
+IsTextOutcome (Busy a b t) = IsTextKey a × IsTextKey b
+IsTextOutcome SeriesLimit = Unit {0}
+IsTextOutcome SinglesLimit = Unit {0}
+
+-- ---- what is written
+
+-- the texts of an answer to this part can stand in lines
+pub record IsWritable (part : Part) (outcome : Outcome) : Type 0 where
+  pub organiser : IsTextAddress part.organiser
+  pub uid : IsTextValue part.uid
+  pub sequence : part.revision.sequence < 2 ^ 31
+  pub keys : IsTextOutcome outcome
+
+-- the lines are the VEVENT of such an answer
+pub record IsAnswer (room : List ℕ) (lines : List (List ℕ)) : Type 0 where
+  pub part : Part
+  pub moment : ℤ
+  pub outcome : Outcome
+  pub shows : IsReplyEvent room part moment outcome lines
+  pub writable : IsWritable part outcome
+
+-- ---- what it reads back as
+
+-- the lines of a VEVENT with these lines of its own, and no component in it
+abbrev pub IsVevent : List (List ℕ) → List (List ℕ) → Type 0
+IsVevent own lines = lines ≡ codes "BEGIN:VEVENT" ∷ (own ++ codes "END:VEVENT" ∷ [])
+
+-- the octets read as the lines of one VCALENDAR whose METHOD is REPLY, round these VEVENTs, each with its own lines
+-- (RFC 5545 3.4, RFC 5546 3.2.3)
+pub record ReadsAsReply (octets : List ℕ) (events : List (List (List ℕ))) : Type 0 where
+  pub reads : reads_as_lines false octets ≡ true
+  pub lines : logical_lines octets ≡ object_lines (Some (codes "REPLY")) (flat_map (λ lines. lines) events)
+  pub tree : Tree
+  pub object : IsObject tree_name tree_own tree_inside false tree (logical_lines octets)
+  pub method : lines_named (codes "METHOD") (tree_own tree) ≡ codes "METHOD:REPLY" ∷ []
+  pub each : AllZip IsVevent (vevents tree) events
+
+-- ---- what each VEVENT says
+
+-- an address as it is read, in lower case
+pub record IsReadAddress (text : List ℕ) : Type 0 where
+  pub address : IsAddress text
+  pub lower : lower_case text ≡ text
+
+-- what an outcome answers (RFC 5545 3.2.12)
+abbrev pub participation_of : Outcome → Participation
+participation_of Accept = Accepted
+participation_of (Busy a b t) = Declined
+participation_of SeriesLimit = Declined
+participation_of SinglesLimit = Declined
+
+-- the start that RECURRENCE-ID names, where one instance is answered
+abbrev pub instance_of : Slot → Option ℤ
+instance_of Whole = None
+instance_of (At t) = Some t
+
+-- the own lines of a VEVENT say a room's answer to a part: each property once, and the room as the one attendee (RFC 5546 3.2.3)
+pub record SaysAnswer (room : List ℕ) (part : Part) (moment : ℤ) (outcome : Outcome) (own : List (List ℕ)) : Type 0 where
+  pub uid : Says (codes "UID") true IsUidLine own (Some part.uid)
+  pub organiser : Says (codes "ORGANIZER") true IsAddressLine own (Some part.organiser)
+  pub sequence : Says (codes "SEQUENCE") true IsSequenceLine own (Some part.revision.sequence)
+  pub stamp : Says (codes "DTSTAMP") true IsStampLine own (Some moment)
+  pub instance : Says (codes "RECURRENCE-ID") false IsStampLine own (instance_of part.slot)
+  pub attendees : AllZip IsAttendee (lines_named (codes "ATTENDEE") own) (record { address = room; participation = participation_of outcome } ∷ [])
