@@ -7,9 +7,12 @@ use Rattle.std.proofs.lemmas.Bool.Decides.{Decides-eqb}
 use Rattle.std.proofs.lemmas.Str.{IsUtf8-from_is_utf8, is_utf8-from_IsUtf8}
 use Rattle.std.specs.Str.{IsUtf8, is_utf8}
 use Rattle.ical_lines.specs.Breaks.{lines_of}
-use Rattle.ical_lines.proofs.BreakLemmas.{not_true, lines_of-logical}
-use Rattle.profile.specs.Lines.{ended, logical_lines, line_has, is_faulty, lacks_colon, has_bad_name, has_bad_quote, has_control}
-use Rattle.profile.specs.First.{least_fault, judged, fault_of, lines_fault, text_fault, is_number}
+use Rattle.ical_lines.proofs.BreakLemmas.{not_true, was_false, both, neither_first, neither_second, lines_of-logical}
+use Rattle.profile.specs.Lines.{ended, logical_lines, reads_as_lines, line_has, is_faulty, lacks_colon, has_bad_name, has_bad_quote, has_control}
+use Rattle.profile.specs.First.{least_fault, judged, fault_of, lines_fault, text_fault, is_number, comes_after}
+use Rattle.ical_lines.specs.Fault.{RefusesOnly}
+use Rattle.ical_lines.specs.declared.fault.Fault.{Fault}
+use Rattle.ical_lines.specs.declared.fault.Fault.TheVariants.{Refused, Memory}
 
 -- the lines that are judged, after so many
 abbrev pub judged_after : Bool → ℕ → List (List ℕ) → List (List ℕ)
@@ -73,3 +76,39 @@ lines_first b n octets bs e u o h =
     let v : is_utf8 (ended (logical_lines octets)) ≡ true = is_utf8-from_IsUtf8 (ended (logical_lines octets)) (subst IsUtf8 e u) in
     let k : is_number (lines_fault b (logical_lines octets)) n ≡ true = (let P : List (List ℕ) → Type 0 = λ ls. is_number (lines_fault b ls) n ≡ true in subst P (lines_of-logical bs octets e) h) in
     rw (o, v) k
+
+-- ---- octets that read as lines are refused with no number of lines
+
+none_found : (n : ℕ) (lines : List (List ℕ)) → list_any is_faulty lines ≡ false → find is_faulty (take n lines) ≡ None
+none_found zero lines h = refl
+none_found (suc n) [] h = refl
+none_found (suc n) (line ∷ lines) h =
+    let f = neither_first (is_faulty line) (list_any is_faulty lines) h in
+    rw f (none_found n lines (neither_second (is_faulty line) (list_any is_faulty lines) h))
+
+none_at_all : (lines : List (List ℕ)) → list_any is_faulty lines ≡ false → find is_faulty lines ≡ None
+none_at_all [] h = refl
+none_at_all (line ∷ lines) h =
+    let f = neither_first (is_faulty line) (list_any is_faulty lines) h in
+    rw f (none_at_all lines (neither_second (is_faulty line) (list_any is_faulty lines) h))
+
+none_judged : (b : Bool) (lines : List (List ℕ)) → list_any is_faulty lines ≡ false → find is_faulty (judged b lines) ≡ None
+none_judged true lines h = none_found 65536 lines h
+none_judged false lines h = none_at_all lines h
+
+neither_bound : (b x y : Bool) → (b && (x || y)) ≡ false → ((b && x) ≡ false) × ((b && y) ≡ false)
+neither_bound true x y h = (neither_first x y h, neither_second x y h)
+neither_bound false x y h = (refl, refl)
+
+reads_fine : (b : Bool) (octets : List ℕ) → reads_as_lines b octets ≡ true → text_fault b octets ≡ None
+reads_fine b octets h =
+    let lines = logical_lines octets in
+    let bound = b && (ltb 1048576 (length octets) || ltb 65536 (length lines)) in
+    let p = both (not (list_any is_faulty lines) && is_utf8 (ended lines)) (not bound) h in
+    let q = both (not (list_any is_faulty lines)) (is_utf8 (ended lines)) p.0 in
+    let k = neither_bound b (ltb 1048576 (length octets)) (ltb 65536 (length lines)) (was_false bound p.1) in
+    rw (k.0, q.1, none_judged b lines (was_false (list_any is_faulty lines) q.0), k.1) refl
+
+pub comes_after_lines : (b : Bool) (octets : List ℕ) (fault : Fault) → reads_as_lines b octets ≡ true → RefusesOnly (comes_after (text_fault b octets)) fault
+comes_after_lines b octets Memory h = tt
+comes_after_lines b octets (Refused r) h = rw (reads_fine b octets h) refl

@@ -1,5 +1,5 @@
 -- With which number octets are refused where several faults stand in their lines (RFC 5545 3.1); the order is this profile's choice.
-use Rattle.std.specs.Prelude.{ℕ, Bool, false, ◌&&◌, ◌==◌, nat_lt, List, [], ◌∷◌, length, take, Option, None, Some, if◌then◌else◌}
+use Rattle.std.specs.Prelude.{ℕ, Bool, true, false, ◌&&◌, ◌==◌, nat_lt, List, [], ◌∷◌, length, take, Option, None, Some, if◌then◌else◌}
 use Rattle.std.specs.List.{find}
 use Rattle.std.specs.Str.{is_utf8}
 use Rattle.profile.specs.Lines.{logical_lines, ended, line_has, is_faulty}
@@ -31,3 +31,8 @@ text_fault bounded octets =
 abbrev pub is_number : Option ℕ → ℕ → Bool
 is_number None number = false
 is_number (Some first) number = first == number
+
+-- if the lines are refused, this is their number: what else is wrong comes after
+abbrev pub comes_after : Option ℕ → ℕ → Bool
+comes_after None number = true
+comes_after (Some first) number = first == number
