@@ -1,5 +1,5 @@
 -- What the checker's answers say.
-use Rattle.std.specs.Prelude.{ℕ, ℤ, false, IsTrue, List, ◌≡◌, ◌≤◌, ◌<ℤ◌, ◌⊎◌, length}
+use Rattle.std.specs.Prelude.{ℕ, ℤ, false, IsTrue, List, ◌≡◌, ◌≤◌, ◌<◌, ◌<ℤ◌, ◌⊎◌, length}
 use Rattle.profile.specs.Instances.{Booked, horizon, IsWithin}
 use Rattle.profile.specs.Faults.{is_calendar_fault, is_object_fault}
 use Rattle.profile.specs.Calendars.{SpellsCalendar, CalendarTextFault}
@@ -23,10 +23,10 @@ abbrev pub IsNo : ℕ → ℕ → Verdict → Type 0
 IsNo number line Yes = ⊥
 IsNo number line (No why) = (why.number ≡ number) × (why.first ≡ line) × (why.second ≡ 0)
 
--- at most one instance for each single; none for a text or a count that is wrong
+-- one instance for each single; none for a text or a count that is wrong
 abbrev pub MakesFewFor : List Booked → ℕ → Verdict → Type 0
-MakesFewFor all made Yes = made ≤ length all
-MakesFewFor all made (No why) = (made ≤ length all) × (why.number ≤ 82 → made ≡ 0)
+MakesFewFor all made Yes = made ≡ length all
+MakesFewFor all made (No why) = (why.number ≤ 82 → made ≡ 0) × (82 < why.number → made ≡ length all)
 
 abbrev pub MakesFew : List Booked → Checked → Type 0
 MakesFew all checked = MakesFewFor all checked.made checked.verdict

@@ -27,6 +27,7 @@ impl<'a> Line<'a> {
     ghost use Rattle.std.specs.Prelude.{◌≡◌, true, false, map, option_map, MatchOption, IfSome, IsTrue};
     ghost use Rattle.profile.specs.Lines.{line_name, line_value, line_params, line_param, is_same_name, is_faulty, line_has};
     ghost use Rattle.profile.specs.Faults.{is_line_fault};
+    ghost use Rattle.profile.specs.First.{least_fault};
     ghost use Rattle.ical_lines.specs.Breaks.{is_one_line};
     ghost use Rattle.ical_lines.specs.Text.{line_text, params_left, param_of};
 
@@ -93,6 +94,7 @@ impl<'a> Line<'a> {
     pub(crate) fn fault(&self) -> Option<Refusal>
         ensures stands { MatchOption result (is_faulty (line_text self.now) ≡ false)
             (λ refusal. IsTrue (line_has refusal.number (line_text self.now))) }
+        ensures least { option_map (λ refusal. refusal.number) result ≡ least_fault (line_text self.now) }
         ensures refuses { IfSome result (λ refusal. IsTrue (is_line_fault refusal.number)) }
     {
         if lacks_colon(self.text) {

@@ -20,6 +20,7 @@ ghost use Rattle.std.specs.Prelude.{
 ghost use Rattle.std.specs.List.{list_any};
 ghost use Rattle.std.specs.String.{string_bytes};
 ghost use Rattle.profile.specs.Faults.{is_line_fault};
+ghost use Rattle.profile.specs.First.{lines_fault, is_number};
 ghost use Rattle.profile.specs.Lines.{is_faulty, line_has};
 ghost use Rattle.ical_lines.specs.Breaks.{lines_of};
 ghost use Rattle.ical_lines.specs.Limits.{is_bounded};
@@ -54,6 +55,7 @@ impl Model for Unfolded {
 impl Unfolded {
     ghost use Rattle.std.specs.Prelude.{◌≡◌, ◌++◌, [], ◌∷◌, true, IfOk, OnOk, OnErr, IfErr};
     ghost use Rattle.profile.specs.Faults.{is_line_fault};
+    ghost use Rattle.profile.specs.First.{text_fault, is_number};
     ghost use Rattle.profile.specs.Lines.{logical_lines, text_has, reads_as_lines};
     ghost use Rattle.ical_lines.specs.Fault.{RefusesOnly};
     ghost use Rattle.ical_lines.specs.Limits.{is_bounded};
@@ -76,6 +78,7 @@ impl Unfolded {
         ensures reads { OnOk result (reads_as_lines (is_bounded limits) bytes.now ≡ true) }
         ensures refuses { IfErr result (RefusesOnly is_line_fault) }
         ensures stands { IfErr result (RefusesOnly (λ n. text_has (is_bounded limits) n bytes.now)) }
+        ensures first { IfErr result (RefusesOnly (is_number (text_fault (is_bounded limits) bytes.now))) }
     {
         if limits.exceeds_octets(bytes.len()) {
             return Err(Fault::Refused(Refusal::TOO_LONG));
@@ -119,6 +122,7 @@ fn push_line(text: &mut String, line: &str) -> Result<(), AllocError>
 /// The first line with a fault, or past the limits' number of lines, is refused.
 fn check_lines(text: &str, limits: Limits) -> Result<(), Refusal>
     ensures refuses { IfErr result (λ r. IsTrue (is_line_fault r.number)) }
+    ensures first { IfErr result (λ r. IsTrue (is_number (lines_fault (is_bounded limits) (lines_of text.now)) r.number)) }
     ensures stands { MatchResult result
         (λ _. (list_any is_faulty (lines_of text.now) ≡ false)
         × ((is_bounded limits && nat_lt 65536 (length (lines_of text.now))) ≡ false))

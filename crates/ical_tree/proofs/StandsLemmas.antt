@@ -1,6 +1,7 @@
 -- Which faults stand in the lines so far.
 use Rattle.std.proofs.Common.{◌≡◌, inl, inr, ℕ, ◌+◌, ◌-◌, ◌<◌, ◌≤◌, arith, Bool, true, false, not, ◌&&◌, ◌||◌, eqb, Option, None, Some, is_some, List, [], ◌∷◌, ◌++◌, length, reverse, refl, ap, sym, subst, ◌∙◌}
 use Rattle.std.proofs.lemmas.List.{append_assoc, append-nil, nil_from_length, length-map}
+use Rattle.profile.specs.First.{is_number, comes_after}
 use Rattle.profile.specs.Lines.{logical_lines}
 use Rattle.profile.specs.Objects.{Opens, is_none, now_open, opened_from, opened, misplaced, fits, some_misplaced, all_fit, lines_have}
 use Rattle.ical_lines.specs.Fault.{RefusesOnly}
@@ -143,3 +144,10 @@ finish_stands bounded octets cs closed left n s e h =
     let fitting : all_fit [] false s.0 ≡ true = built_fits cs closed s.0 s.1 in
     subst (λ ls. (a || (eqb n 21 && (all_fit [] false ls && not (is_none (opened ls)))) || (eqb n 23 && is_none ls)) ≡ true) all
     (ap (λ f. a || (eqb n 21 && (f && not (is_none (opened s.0)))) || (eqb n 23 && is_none s.0)) fitting ∙ end_by a cs closed s.0 n s.1 s.3 h)
+
+-- ---- the number of the lines comes first
+
+pub number_comes : (first : Option ℕ) (fault : Fault) → RefusesOnly (is_number first) fault → RefusesOnly (comes_after first) fault
+number_comes first Memory h = tt
+number_comes None (Refused r) h = refl
+number_comes (Some n) (Refused r) h = h

@@ -24,6 +24,7 @@ ghost use Rattle.std.specs.Prelude.{
   IsTrue,
 };
 ghost use Rattle.profile.specs.Faults.{is_object_fault};
+ghost use Rattle.profile.specs.First.{text_fault, comes_after};
 ghost use Rattle.profile.specs.Lines.{logical_lines, line_value, is_same_name, reads_as_lines};
 ghost use Rattle.profile.specs.Objects.{is_end, is_property, has_version, count_inside, Opens, is_none, now_open, misplaced, misplaced_begin, misplaced_end, misplaced_property};
 ghost use Rattle.ical_lines.specs.Fault.{RefusesOnly};
@@ -53,6 +54,7 @@ pub fn read_object(alloc: Global, bytes: &[u8], limits: Limits) -> Result<Compon
     ensures spelled { IfOk result (λ c. IsObjectOf (is_bounded limits) c (logical_lines bytes.now)) }
     ensures reads { OnOk result (reads_as_lines (is_bounded limits) bytes.now ≡ true) }
     ensures stands { IfErr result (Stands (is_bounded limits) bytes.now) }
+    ensures first { IfErr result (RefusesOnly (comes_after (text_fault (is_bounded limits) bytes.now))) }
     ensures refuses { IfErr result (RefusesOnly is_object_fault) }
 {
     let text = Unfolded::read(alloc, bytes, limits)?;

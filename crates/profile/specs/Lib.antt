@@ -1,5 +1,6 @@
 pub mod Faults
 pub mod Lines
+pub mod First
 pub mod Objects
 pub mod Days
 pub mod Values

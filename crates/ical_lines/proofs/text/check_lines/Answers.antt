@@ -5,6 +5,7 @@ use Rattle.ical_lines.specs.Breaks.{lines_of}
 use Rattle.ical_lines.specs.Limits.{is_bounded}
 use Rattle.ical_lines.specs.Text.{lines_left}
 use Rattle.ical_lines.proofs.BreakLemmas.{and_false, any_later, any_here, lines_of-le}
+use Rattle.ical_lines.proofs.FirstLemmas.{next_judged, first_found, too_many, bound_stands}
 use Rattle.ical_lines.proofs.text.check_lines.Goals as goal
 
 pub loop-line-init : goal.loop-line-init
@@ -16,6 +17,7 @@ loop-line-init c =
       fits = rw e (omega (arith, lines_of-le c.args.text.now));
       within = and_false (is_bounded c.args.limits);
       same = rw e refl;
+      first = rw e refl;
       among = λ n h. rw e at h;
     }
 
@@ -28,6 +30,7 @@ loop-line-preserved c =
       fits = omega (arith, c.loop-line.invariant.fits, ap length s);
       within = sym c.exceeds_lines.ensures ∙ c.if-exceeds_lines.false;
       same = c.loop-line.invariant.same ∙ (ap (list_any is_faulty) s ∙ ap (λ b. b || list_any is_faulty (lines_left c.next.new.self)) c.in_default.ensures.stands);
+      first = c.loop-line.invariant.first ∙ next_judged (is_bounded c.args.limits) c.loop-line.count _ _ _ s (sym c.exceeds_lines.ensures ∙ c.if-exceeds_lines.false) c.in_default.ensures.stands;
       among = λ n h. c.loop-line.invariant.among n (any_later (line_has n) _ _ _ s h);
     }
 
@@ -43,3 +46,15 @@ returns-clause-stands c =
       c.loop-line.invariant.same ∙ ap (list_any is_faulty) s.0,
       ap (λ n. is_bounded c.args.limits && ltb 65536 n) e ∙ c.loop-line.invariant.within,
     )
+
+pub returns-in-Some-fault-clause-first : goal.returns-in-Some-fault-clause-first
+returns-in-Some-fault-clause-first c =
+    first_found (is_bounded c.args.limits) c.loop-line.count c.in-Some-fault.refusal.number _ _ _ (lines_of c.args.text.now) c.in-Some.ensures.steps (sym c.exceeds_lines.ensures ∙ c.if-exceeds_lines.false) (sym c.in-Some-fault.ensures.least) c.loop-line.invariant.first
+
+pub returns-then-exceeds_lines-clause-first : goal.returns-then-exceeds_lines-clause-first
+returns-then-exceeds_lines-clause-first c =
+    too_many (is_bounded c.args.limits) c.loop-line.count _ _ _ (lines_of c.args.text.now) c.in-Some.ensures.steps c.loop-line.invariant.within (sym c.exceeds_lines.ensures ∙ c.if-exceeds_lines.true) c.loop-line.invariant.counted c.loop-line.invariant.first
+
+pub returns-then-exceeds_lines-clause-stands : goal.returns-then-exceeds_lines-clause-stands
+returns-then-exceeds_lines-clause-stands c =
+    bound_stands (is_bounded c.args.limits) c.loop-line.count _ _ _ (lines_of c.args.text.now) c.in-Some.ensures.steps (sym c.exceeds_lines.ensures ∙ c.if-exceeds_lines.true) c.loop-line.invariant.counted

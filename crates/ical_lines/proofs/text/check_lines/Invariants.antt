@@ -1,9 +1,11 @@
 use Rattle.std.proofs.Common.{◌≡◌, ◌+◌, ◌≤◌, ◌&&◌, ℕ, nat_lt, length, true, false}
-use Rattle.std.specs.List.{list_any}
+use Rattle.std.specs.List.{list_any, find}
+use Rattle.profile.specs.First.{judged}
 use Rattle.profile.specs.Lines.{is_faulty, line_has}
 use Rattle.ical_lines.specs.Breaks.{lines_of}
 use Rattle.ical_lines.specs.Limits.{is_bounded}
 use Rattle.ical_lines.specs.Text.{lines_left}
+use Rattle.ical_lines.proofs.FirstLemmas.{judged_after}
 use Rattle.ical_lines.proofs.text.check_lines.Given as goal
 
 abbrev pub invariant-loop-line : goal.invariant-loop-line
@@ -14,5 +16,6 @@ invariant-loop-line l = record {
   fits : l.count + length (lines_left l.line-iterator) ≤ length l.text;
   within : (is_bounded l.limits && nat_lt 65536 l.count) ≡ false;
   same : list_any is_faulty (lines_of l.text) ≡ list_any is_faulty (lines_left l.line-iterator);
+  first : find is_faulty (judged (is_bounded l.limits) (lines_of l.text)) ≡ find is_faulty (judged_after (is_bounded l.limits) l.count (lines_left l.line-iterator));
   among : (n : ℕ) → list_any (line_has n) (lines_left l.line-iterator) ≡ true → list_any (line_has n) (lines_of l.text) ≡ true;
 }

@@ -1,0 +1,114 @@
+-- Which number lines are refused with.
+use Rattle.std.proofs.Common.{◌≡◌, ℕ, suc, zero, ◌+◌, ◌-◌, ◌<◌, ◌≤◌, Bool, true, false, not, ◌&&◌, ◌||◌, cond, eqb, ltb, Option, None, Some, List, [], ◌∷◌, length, take, refl, ap, sym, subst, ◌∙◌, arith}
+use Rattle.std.specs.List.{find, list_any}
+use Rattle.std.proofs.Math.Bool.{or-true}
+use Rattle.std.proofs.lemmas.Bool.{ltb-false, ltb-true, lt-ltb}
+use Rattle.std.proofs.lemmas.Bool.Decides.{Decides-eqb}
+use Rattle.std.proofs.lemmas.Str.{IsUtf8-from_is_utf8, is_utf8-from_IsUtf8}
+use Rattle.std.specs.Str.{IsUtf8, is_utf8}
+use Rattle.ical_lines.specs.Breaks.{lines_of}
+use Rattle.ical_lines.proofs.BreakLemmas.{not_true, was_false, both, neither_first, neither_second, lines_of-logical}
+use Rattle.profile.specs.Lines.{ended, logical_lines, reads_as_lines, line_has, is_faulty, lacks_colon, has_bad_name, has_bad_quote, has_control}
+use Rattle.profile.specs.First.{least_fault, judged, fault_of, lines_fault, text_fault, is_number, comes_after}
+use Rattle.ical_lines.specs.Fault.{RefusesOnly}
+use Rattle.ical_lines.specs.declared.fault.Fault.{Fault}
+use Rattle.ical_lines.specs.declared.fault.Fault.TheVariants.{Refused, Memory}
+
+-- the lines that are judged, after so many
+abbrev pub judged_after : Bool → ℕ → List (List ℕ) → List (List ℕ)
+judged_after bounded count lines = cond bounded (take (65536 - count) lines) lines
+
+some_by : (a b c d : Bool) (n : ℕ) → find (λ k. (eqb k 1 && a) || (eqb k 2 && b) || (eqb k 3 && c) || (eqb k 4 && d)) (1 ∷ 2 ∷ 3 ∷ 4 ∷ []) ≡ Some n → (a || b || c || d) ≡ true
+some_by true b c d n h = refl
+some_by false true c d n h = refl
+some_by false false true d n h = refl
+some_by false false false true n h = refl
+some_by false false false false n h = cc
+
+-- a line that has a least fault is faulty
+pub faulty_by : (line : List ℕ) (n : ℕ) → least_fault line ≡ Some n → is_faulty line ≡ true
+faulty_by line n h = some_by (lacks_colon line) (has_bad_name line) (has_bad_quote line) (has_control line) n h
+
+within : (count : ℕ) → ltb 65536 (count + 1) ≡ false → 65536 - count ≡ suc (65536 - (count + 1))
+within count h = omega (arith, ltb-false 65536 (count + 1) h)
+
+-- a line without a fault is passed over
+pub next_judged : (b : Bool) (count : ℕ) (line : List ℕ) (rest lines : List (List ℕ)) → lines ≡ line ∷ rest → (b && ltb 65536 (count + 1)) ≡ false → is_faulty line ≡ false → find is_faulty (judged_after b count lines) ≡ find is_faulty (judged_after b (count + 1) rest)
+next_judged false count line rest lines e w f = rw (e, f) refl
+next_judged true count line rest lines e w f = rw (e, within count w, f) refl
+
+-- a line with a fault is the first
+found_by : (b : Bool) (count : ℕ) (line : List ℕ) (rest lines : List (List ℕ)) → lines ≡ line ∷ rest → (b && ltb 65536 (count + 1)) ≡ false → is_faulty line ≡ true → find is_faulty (judged_after b count lines) ≡ Some line
+found_by false count line rest lines e w f = rw (e, f) refl
+found_by true count line rest lines e w f = rw (e, within count w, f) refl
+
+is_itself : (o : Option ℕ) (n : ℕ) → o ≡ Some n → is_number o n ≡ true
+is_itself o n e = rw e ((Decides-eqb n n).1 refl)
+
+pub first_found : (b : Bool) (count n : ℕ) (line : List ℕ) (rest lines all : List (List ℕ)) → lines ≡ line ∷ rest → (b && ltb 65536 (count + 1)) ≡ false → least_fault line ≡ Some n → find is_faulty (judged b all) ≡ find is_faulty (judged_after b count lines) → is_number (lines_fault b all) n ≡ true
+first_found b count n line rest lines all e w f s =
+    let found : find is_faulty (judged b all) ≡ Some line = s ∙ found_by b count line rest lines e w (faulty_by line n f) in
+    is_itself (lines_fault b all) n (ap (λ o. fault_of o (b && ltb 65536 (length all))) found ∙ f)
+
+-- where the line after the last that is judged stands, none before it is faulty
+pub too_many : (b : Bool) (count : ℕ) (line : List ℕ) (rest lines all : List (List ℕ)) → lines ≡ line ∷ rest → (b && ltb 65536 count) ≡ false → (b && ltb 65536 (count + 1)) ≡ true → count + length lines ≡ length all → find is_faulty (judged b all) ≡ find is_faulty (judged_after b count lines) → is_number (lines_fault b all) 6 ≡ true
+too_many false count line rest lines all e w m l s = cc
+too_many true count line rest lines all e w m l s =
+    let none : 65536 - count ≡ 0 = omega (arith, ltb-true 65536 (count + 1) m) in
+    let more : ltb 65536 (length all) ≡ true = lt-ltb 65536 (length all) (omega (arith, ltb-false 65536 count w, ltb-true 65536 (count + 1) m, ap length e, l)) in
+    let found : find is_faulty (judged true all) ≡ None = s ∙ ap (λ k. find is_faulty (take k lines)) none in
+    rw (found, more) refl
+
+-- and 6 stands in the lines
+pub bound_stands : (b : Bool) (count : ℕ) (line : List ℕ) (rest lines all : List (List ℕ)) → lines ≡ line ∷ rest → (b && ltb 65536 (count + 1)) ≡ true → count + length lines ≡ length all → (list_any (line_has 6) all || (eqb 6 6 && (b && ltb 65536 (length all)))) ≡ true
+bound_stands false count line rest lines all e m l = cc
+bound_stands true count line rest lines all e m l =
+    let more : ltb 65536 (length all) ≡ true = lt-ltb 65536 (length all) (omega (arith, ltb-true 65536 (count + 1) m, ap length e, l)) in
+    rw more (or-true (list_any (line_has 6) all))
+
+pub utf8_first : (b : Bool) (octets bs : List ℕ) → bs ≡ ended (logical_lines octets) → (IsUtf8 bs → ⊥) → (b && ltb 1048576 (length octets)) ≡ false → is_number (text_fault b octets) 5 ≡ true
+utf8_first b octets bs e h o =
+    let u : is_utf8 (ended (logical_lines octets)) ≡ false = not_true (is_utf8 (ended (logical_lines octets))) (λ t. h (subst IsUtf8 (sym e) (IsUtf8-from_is_utf8 (ended (logical_lines octets)) t))) in
+    rw (o, u) refl
+
+pub lines_first : (b : Bool) (n : ℕ) (octets bs : List ℕ) → bs ≡ ended (logical_lines octets) → IsUtf8 bs → (b && ltb 1048576 (length octets)) ≡ false → is_number (lines_fault b (lines_of bs)) n ≡ true → is_number (text_fault b octets) n ≡ true
+lines_first b n octets bs e u o h =
+    let v : is_utf8 (ended (logical_lines octets)) ≡ true = is_utf8-from_IsUtf8 (ended (logical_lines octets)) (subst IsUtf8 e u) in
+    let k : is_number (lines_fault b (logical_lines octets)) n ≡ true = (let P : List (List ℕ) → Type 0 = λ ls. is_number (lines_fault b ls) n ≡ true in subst P (lines_of-logical bs octets e) h) in
+    rw (o, v) k
+
+-- ---- octets that read as lines are refused with no number of lines
+
+none_found : (n : ℕ) (lines : List (List ℕ)) → list_any is_faulty lines ≡ false → find is_faulty (take n lines) ≡ None
+none_found zero lines h = refl
+none_found (suc n) [] h = refl
+none_found (suc n) (line ∷ lines) h =
+    let f = neither_first (is_faulty line) (list_any is_faulty lines) h in
+    rw f (none_found n lines (neither_second (is_faulty line) (list_any is_faulty lines) h))
+
+none_at_all : (lines : List (List ℕ)) → list_any is_faulty lines ≡ false → find is_faulty lines ≡ None
+none_at_all [] h = refl
+none_at_all (line ∷ lines) h =
+    let f = neither_first (is_faulty line) (list_any is_faulty lines) h in
+    rw f (none_at_all lines (neither_second (is_faulty line) (list_any is_faulty lines) h))
+
+none_judged : (b : Bool) (lines : List (List ℕ)) → list_any is_faulty lines ≡ false → find is_faulty (judged b lines) ≡ None
+none_judged true lines h = none_found 65536 lines h
+none_judged false lines h = none_at_all lines h
+
+neither_bound : (b x y : Bool) → (b && (x || y)) ≡ false → ((b && x) ≡ false) × ((b && y) ≡ false)
+neither_bound true x y h = (neither_first x y h, neither_second x y h)
+neither_bound false x y h = (refl, refl)
+
+reads_fine : (b : Bool) (octets : List ℕ) → reads_as_lines b octets ≡ true → text_fault b octets ≡ None
+reads_fine b octets h =
+    let lines = logical_lines octets in
+    let bound = b && (ltb 1048576 (length octets) || ltb 65536 (length lines)) in
+    let p = both (not (list_any is_faulty lines) && is_utf8 (ended lines)) (not bound) h in
+    let q = both (not (list_any is_faulty lines)) (is_utf8 (ended lines)) p.0 in
+    let k = neither_bound b (ltb 1048576 (length octets)) (ltb 65536 (length lines)) (was_false bound p.1) in
+    rw (k.0, q.1, none_judged b lines (was_false (list_any is_faulty lines) q.0), k.1) refl
+
+pub comes_after_lines : (b : Bool) (octets : List ℕ) (fault : Fault) → reads_as_lines b octets ≡ true → RefusesOnly (comes_after (text_fault b octets)) fault
+comes_after_lines b octets Memory h = tt
+comes_after_lines b octets (Refused r) h = rw (reads_fine b octets h) refl
