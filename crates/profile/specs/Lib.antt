@@ -2,6 +2,7 @@ pub mod Faults
 pub mod Lines
 pub mod Objects
 pub mod Days
+pub mod Rules
 pub mod Values
 pub mod Instances
 pub mod Certificates

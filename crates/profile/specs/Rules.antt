@@ -1,0 +1,187 @@
+-- Recurrence rules: which days a rule means (RFC 5545 3.3.10 and 3.8.5.3).
+-- A day goes by its index, the days from 0000-01-01 to it.
+use Rattle.std.specs.Prelude.{◌≡◌, ℕ, zero, suc, ◌+◌, ◌-◌, ◌/◌, ◌%◌, ◌≤◌, Bool, true, false, not, ◌&&◌, ◌||◌, ◌==◌, nat_le, if◌then◌else◌, Option, Some, None, List, [], ◌∷◌, filter, ℤ, pos, negsuc}
+use Rattle.std.specs.List.{list_any, range_with_len}
+use Rattle.profile.specs.Days.{Frequency, Daily, Weekly, Monthly, Yearly, period_of, month_of, month_days_before, month_days_after, year_days_before, year_days_after, weekday_of}
+
+-- THE PARTS OF A RULE
+
+-- an entry of BYDAY: a weekday, Monday 0, and the number before it, 0 where none is written
+pub record WeekdayNumber : Type 0 where
+  pub number : ℤ
+  pub weekday : ℕ
+
+-- what a rule says, apart from COUNT and UNTIL, and the day of DTSTART. An empty list is a part that isn't written
+pub record Pattern : Type 0 where
+  pub frequency : Frequency
+  pub interval : ℕ
+  pub week_start : ℕ
+  pub months : List ℕ
+  pub month_days : List ℤ
+  pub weekdays : List WeekdayNumber
+  pub positions : List ℤ
+  pub start : ℕ
+
+-- a rule: its pattern, COUNT, and the last day that UNTIL allows
+pub record Parts : Type 0 where
+  pub pattern : Pattern
+  pub count : Option ℕ
+  pub last : ℕ
+
+-- IMPLIED PARTS
+
+abbrev pub is_weekly : Frequency → Bool
+is_weekly Daily = false
+is_weekly Weekly = true
+is_weekly Monthly = false
+is_weekly Yearly = false
+
+abbrev pub is_yearly : Frequency → Bool
+is_yearly Daily = false
+is_yearly Weekly = false
+is_yearly Monthly = false
+is_yearly Yearly = true
+
+-- MONTHLY or YEARLY
+abbrev pub is_long : Frequency → Bool
+is_long Daily = false
+is_long Weekly = false
+is_long Monthly = true
+is_long Yearly = true
+
+abbrev pub is_missing : {A : Type 0} → List A → Bool
+is_missing [] = true
+is_missing (_ ∷ _) = false
+
+-- neither BYDAY nor BYMONTHDAY is written
+abbrev pub names_no_day : Pattern → Bool
+names_no_day p = is_missing p.weekdays && is_missing p.month_days
+
+-- the months that count: those written, else in a YEARLY rule that names no day that of DTSTART; none: every month
+abbrev pub months_meant : Pattern → List ℕ
+months_meant p =
+    if is_missing p.months && is_yearly p.frequency && names_no_day p then month_of p.start ∷ [] else p.months
+
+-- the month days that count: those written, else in a MONTHLY or YEARLY rule that names no day that of DTSTART; none: every day
+abbrev pub month_days_meant : Pattern → List ℤ
+month_days_meant p =
+    if is_long p.frequency && names_no_day p then pos (suc (month_days_before p.start)) ∷ [] else p.month_days
+
+-- the weekdays that count: those written, else in a WEEKLY rule that of DTSTART; none: every weekday
+abbrev pub weekdays_meant : Pattern → List WeekdayNumber
+weekdays_meant p =
+    if is_weekly p.frequency && is_missing p.weekdays then record { number = pos 0; weekday = weekday_of p.start } ∷ []
+    else p.weekdays
+
+-- BASE DAYS
+
+-- a day with so many before it and so many after it is the nth, or where n is negative the nth from the end
+abbrev pub is_nth : ℤ → ℕ → ℕ → Bool
+is_nth (pos n) before after = n == suc before
+is_nth (negsuc n) before after = n == after
+
+-- an entry of the list passes, or the list has none
+abbrev pub allows : {A : Type 0} → (A → Bool) → List A → Bool
+allows test [] = true
+allows test (x ∷ xs) = list_any test (x ∷ xs)
+
+-- the numbers of BYDAY count in the year in a YEARLY rule without BYMONTH, else in the month
+abbrev pub counts_in_year : Pattern → Bool
+counts_in_year p = is_yearly p.frequency && is_missing p.months
+
+-- the days of the day's own weekday before it, and after it, in that year or month
+abbrev pub weekdays_before : Pattern → ℕ → ℕ
+weekdays_before p n = (if counts_in_year p then year_days_before n else month_days_before n) / 7
+
+abbrev pub weekdays_after : Pattern → ℕ → ℕ
+weekdays_after p n = (if counts_in_year p then year_days_after n else month_days_after n) / 7
+
+-- no number is written
+abbrev pub is_plain : ℤ → Bool
+is_plain (pos n) = n == 0
+is_plain (negsuc _) = false
+
+-- an entry of BYDAY has this day
+abbrev pub has_weekday : Pattern → ℕ → WeekdayNumber → Bool
+has_weekday p n entry =
+    (entry.weekday == weekday_of n)
+    && (is_plain entry.number || is_nth entry.number (weekdays_before p n) (weekdays_after p n))
+
+-- the day passes each part that is written or implied
+unfoldable pub passes : Pattern → ℕ → Bool
+passes p n =
+    allows (λ month. month == month_of n) (months_meant p)
+    && allows (λ k. is_nth k (month_days_before n) (month_days_after n)) (month_days_meant p)
+    && allows (has_weekday p n) (weekdays_meant p)
+
+-- its period and that of DTSTART lie a multiple of INTERVAL apart
+unfoldable pub is_in_step : Pattern → ℕ → Bool
+is_in_step p n =
+    period_of p.frequency p.week_start n % p.interval == period_of p.frequency p.week_start p.start % p.interval
+
+-- a base day: a condition on the one day, which may also lie before DTSTART
+unfoldable pub is_base : Pattern → ℕ → Bool
+is_base p n = is_in_step p n && passes p n
+
+-- SET POSITIONS
+
+-- how many of so many days, from that one on, pass the test
+unfoldable pub count_days : (ℕ → Bool) → ℕ → ℕ → ℕ
+count_days test from zero = 0
+count_days test from (suc days) = count_days test from days + (if test (from + days) then 1 else 0)
+
+-- how far two days of one period can lie apart
+abbrev pub reach : Frequency → ℕ
+reach Daily = 0
+reach Weekly = 6
+reach Monthly = 30
+reach Yearly = 365
+
+-- m is a base day of the period of n; days begin with 0001-01-01, which is 366
+unfoldable pub is_mate : Pattern → ℕ → ℕ → Bool
+is_mate p n m =
+    nat_le 366 m && (period_of p.frequency p.week_start m == period_of p.frequency p.week_start n) && is_base p m
+
+-- the base days of its period before n, and after it, also those before DTSTART
+unfoldable pub mates_before : Pattern → ℕ → ℕ
+mates_before p n = count_days (is_mate p n) (n - reach p.frequency) (reach p.frequency)
+
+unfoldable pub mates_after : Pattern → ℕ → ℕ
+mates_after p n = count_days (is_mate p n) (n + 1) (reach p.frequency)
+
+-- a base day has one of the set positions of BYSETPOS, or none is written
+unfoldable pub is_placed : Pattern → ℕ → Bool
+is_placed p n = allows (λ k. is_nth k (mates_before p n) (mates_after p n)) p.positions
+
+-- RULE DAYS
+
+-- 9999-12-31
+abbrev pub last_rule_day : ℕ
+last_rule_day = 3_652_424
+
+-- a day from DTSTART to the last one of UNTIL and to 9999-12-31 that the pattern has: a rule day but for COUNT
+unfoldable pub is_counted : Parts → ℕ → Bool
+is_counted r n =
+    nat_le r.pattern.start n && nat_le n r.last && nat_le n last_rule_day && is_base r.pattern n && is_placed r.pattern n
+
+-- the number of the day among those, DTSTART being the first, isn't past COUNT
+unfoldable pub is_within_count : Parts → ℕ → Bool
+is_within_count r n =
+    elim r.count [
+      | None ↦ true
+      | Some count ↦ nat_le (count_days (is_counted r) r.pattern.start (n + 1 - r.pattern.start)) count
+    ]
+
+-- a rule day
+unfoldable pub is_rule_day : Parts → ℕ → Bool
+is_rule_day r n = is_counted r n && is_within_count r n
+
+-- the rule days from a day on, ascending
+unfoldable pub rule_days_from : Parts → ℕ → List ℕ
+rule_days_from r from = filter (is_rule_day r) (range_with_len from (last_rule_day + 1 - from))
+
+-- the least rule day from a day on, or that there is none
+abbrev pub IsNext : Parts → ℕ → Option ℕ → Type 0
+IsNext r from None = (n : ℕ) → from ≤ n → is_rule_day r n ≡ false
+IsNext r from (Some day) =
+    (from ≤ day) × (is_rule_day r day ≡ true) × ((n : ℕ) → from ≤ n → suc n ≤ day → is_rule_day r n ≡ false)
