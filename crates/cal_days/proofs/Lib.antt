@@ -1,3 +1,4 @@
 mod Examples
 pub mod Bridge
 pub mod Order
+pub mod Dates

@@ -112,3 +112,10 @@ period_of Daily week_start n = n
 period_of Weekly week_start n = (n + 12 - week_start) / 7
 period_of Monthly week_start n = 12 * year_of n + month_of n
 period_of Yearly week_start n = year_of n
+
+-- the periods of 400 years, which are 146,097 days
+abbrev pub periods_in_400_years : Frequency → ℕ
+periods_in_400_years Daily = 146_097
+periods_in_400_years Weekly = 20_871
+periods_in_400_years Monthly = 4800
+periods_in_400_years Yearly = 400
