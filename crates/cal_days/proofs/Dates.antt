@@ -195,3 +195,13 @@ unfolding year_days_after
 year_rest year length before n y l b =
     let same : length ≡ days_in_year (year_of n) = l ∙ ap days_in_year y in
     record { within = rw (same, b) (omega (arith, in_year n)); value = rw (same, b) refl }
+
+month_length_max : (year month : ℕ) → days_in_month year month ≤ 31
+month_length_max year month = grind (arith, nat_tests)
+
+pub month_place_max : (n : ℕ) → month_days_before n ≤ 30
+month_place_max n = omega (arith, in_month n, month_length_max (year_of n) (month_of n))
+
+pub month_rest : (length before n : ℕ) → length ≡ days_in_month (year_of n) (month_of n) → before ≡ month_days_before n → (1 ≤ length - before) × (length - before - 1 ≡ month_days_after n)
+unfolding month_days_after
+month_rest length before n l b = (rw (l, b) (omega (arith, in_month n)), rw (l, b) refl)

@@ -155,6 +155,22 @@ impl Day {
         month_length(civil.year as u32, civil.month)
     }
 
+    /// The days of its month before it, from 0 to 30.
+    pub fn month_days_before(self) -> u8
+        ensures value { result ≡ month_days_before (day_index self) }
+        ensures range { result ≤ 30 }
+    {
+        self.civil().day - 1
+    }
+
+    /// The days of its month after it, from 0 to 30.
+    pub fn month_days_after(self) -> u8
+        ensures value { result ≡ month_days_after (day_index self) }
+        ensures range { result ≤ 30 }
+    {
+        self.days_in_month() - self.month_days_before() - 1
+    }
+
     /// The days of its year before it, from 0 to 365.
     pub fn year_days_before(self) -> u16
         ensures value { result ≡ year_days_before (day_index self) }

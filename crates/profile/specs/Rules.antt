@@ -57,21 +57,30 @@ is_missing (_ ∷ _) = false
 abbrev pub names_no_day : Pattern → Bool
 names_no_day p = is_missing p.weekdays && is_missing p.month_days
 
--- the months that count: those written, else in a YEARLY rule that names no day that of DTSTART; none: every month
+-- a YEARLY rule that names no day and no month implies the month of DTSTART
+abbrev pub implies_month : Pattern → Bool
+implies_month p = is_yearly p.frequency && is_missing p.months && names_no_day p
+
+-- a MONTHLY or YEARLY rule that names no day implies the month day of DTSTART
+abbrev pub implies_month_day : Pattern → Bool
+implies_month_day p = is_long p.frequency && names_no_day p
+
+-- a WEEKLY rule without BYDAY implies the weekday of DTSTART
+abbrev pub implies_weekday : Pattern → Bool
+implies_weekday p = is_weekly p.frequency && is_missing p.weekdays
+
+-- the months that count, written or implied; none: every month
 abbrev pub months_meant : Pattern → List ℕ
-months_meant p =
-    if is_missing p.months && is_yearly p.frequency && names_no_day p then month_of p.start ∷ [] else p.months
+months_meant p = if implies_month p then month_of p.start ∷ [] else p.months
 
--- the month days that count: those written, else in a MONTHLY or YEARLY rule that names no day that of DTSTART; none: every day
+-- the month days that count; none: every day
 abbrev pub month_days_meant : Pattern → List ℤ
-month_days_meant p =
-    if is_long p.frequency && names_no_day p then pos (suc (month_days_before p.start)) ∷ [] else p.month_days
+month_days_meant p = if implies_month_day p then pos (suc (month_days_before p.start)) ∷ [] else p.month_days
 
--- the weekdays that count: those written, else in a WEEKLY rule that of DTSTART; none: every weekday
+-- the weekdays that count; none: every weekday
 abbrev pub weekdays_meant : Pattern → List WeekdayNumber
 weekdays_meant p =
-    if is_weekly p.frequency && is_missing p.weekdays then record { number = pos 0; weekday = weekday_of p.start } ∷ []
-    else p.weekdays
+    if implies_weekday p then record { number = pos 0; weekday = weekday_of p.start } ∷ [] else p.weekdays
 
 -- BASE DAYS
 
@@ -82,37 +91,44 @@ is_nth (negsuc n) before after = n == after
 
 -- an entry of the list passes, or the list has none
 abbrev pub allows : {A : Type 0} → (A → Bool) → List A → Bool
-allows test [] = true
-allows test (x ∷ xs) = list_any test (x ∷ xs)
+allows test xs = is_missing xs || list_any test xs
 
 -- the numbers of BYDAY count in the year in a YEARLY rule without BYMONTH, else in the month
 abbrev pub counts_in_year : Pattern → Bool
 counts_in_year p = is_yearly p.frequency && is_missing p.months
 
--- the days of the day's own weekday before it, and after it, in that year or month
-abbrev pub weekdays_before : Pattern → ℕ → ℕ
-weekdays_before p n = (if counts_in_year p then year_days_before n else month_days_before n) / 7
+-- the days of the day's own weekday before it, and after it, in its year or in its month
+abbrev pub same_weekdays_before : Bool → ℕ → ℕ
+same_weekdays_before in_year n = (if in_year then year_days_before n else month_days_before n) / 7
 
-abbrev pub weekdays_after : Pattern → ℕ → ℕ
-weekdays_after p n = (if counts_in_year p then year_days_after n else month_days_after n) / 7
+abbrev pub same_weekdays_after : Bool → ℕ → ℕ
+same_weekdays_after in_year n = (if in_year then year_days_after n else month_days_after n) / 7
 
 -- no number is written
 abbrev pub is_plain : ℤ → Bool
 is_plain (pos n) = n == 0
 is_plain (negsuc _) = false
 
--- an entry of BYDAY has this day
-abbrev pub has_weekday : Pattern → ℕ → WeekdayNumber → Bool
-has_weekday p n entry =
-    (entry.weekday == weekday_of n)
-    && (is_plain entry.number || is_nth entry.number (weekdays_before p n) (weekdays_after p n))
+-- an entry of BYDAY names a day of that weekday with so many of them before it and so many after it
+abbrev pub names_weekday : ℕ → ℕ → ℕ → WeekdayNumber → Bool
+names_weekday weekday before after entry =
+    (entry.weekday == weekday) && (is_plain entry.number || is_nth entry.number before after)
 
--- the day passes each part that is written or implied
+-- the day passes BYMONTH, BYMONTHDAY and BYDAY, written or implied
+unfoldable pub passes_month : Pattern → ℕ → Bool
+passes_month p n = allows (λ month. month == month_of n) (months_meant p)
+
+unfoldable pub passes_month_day : Pattern → ℕ → Bool
+passes_month_day p n = allows (λ k. is_nth k (month_days_before n) (month_days_after n)) (month_days_meant p)
+
+unfoldable pub passes_weekday : Pattern → ℕ → Bool
+passes_weekday p n =
+    allows
+    (names_weekday (weekday_of n) (same_weekdays_before (counts_in_year p) n) (same_weekdays_after (counts_in_year p) n))
+    (weekdays_meant p)
+
 unfoldable pub passes : Pattern → ℕ → Bool
-passes p n =
-    allows (λ month. month == month_of n) (months_meant p)
-    && allows (λ k. is_nth k (month_days_before n) (month_days_after n)) (month_days_meant p)
-    && allows (has_weekday p n) (weekdays_meant p)
+passes p n = passes_month p n && passes_month_day p n && passes_weekday p n
 
 -- its period and that of DTSTART lie a multiple of INTERVAL apart
 unfoldable pub is_in_step : Pattern → ℕ → Bool
@@ -137,10 +153,14 @@ reach Weekly = 6
 reach Monthly = 30
 reach Yearly = 365
 
--- m is a base day of the period of n; days begin with 0001-01-01, which is 366
+-- a day from 0001-01-01 to 10001-12-31
+abbrev pub is_day : ℕ → Bool
+is_day n = nat_le 366 n && nat_le n 3_653_155
+
+-- m is a base day of the period of n
 unfoldable pub is_mate : Pattern → ℕ → ℕ → Bool
 is_mate p n m =
-    nat_le 366 m && (period_of p.frequency p.week_start m == period_of p.frequency p.week_start n) && is_base p m
+    is_day m && (period_of p.frequency p.week_start m == period_of p.frequency p.week_start n) && is_base p m
 
 -- the base days of its period before n, and after it, also those before DTSTART
 unfoldable pub mates_before : Pattern → ℕ → ℕ

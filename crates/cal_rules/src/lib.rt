@@ -1,0 +1,8 @@
+//! Recurrence rules (RFC 5545 3.3.10, 3.8.5.3): the days that a rule means, listed, tested and jumped to
+//! exactly, to the end of the year 9999.
+#![tactic(auto)]
+
+mod base;
+mod written;
+
+pub use written::WeekdayNumber;
