@@ -3,7 +3,7 @@ use Rattle.std.specs.Prelude.{ℕ, List, map}
 use Rattle.cal_days.specs.Views.{frequency_of}
 use Rattle.cal_rules.specs.declared.written.WeekdayNumber as rust_entry
 use Rattle.cal_rules.specs.declared.written.Written as rust
-use Rattle.profile.specs.Rules.{WeekdayNumber, Pattern}
+use Rattle.profile.specs.Rules.{WeekdayNumber, Pattern, Parts}
 
 abbrev pub entry_of : rust_entry.WeekdayNumber → WeekdayNumber
 entry_of entry = record { number = entry.number; weekday = entry.weekday }
@@ -20,3 +20,7 @@ pattern_of written start = record {
   positions = written.positions.items;
   start = start;
 }
+
+-- what is written, with the days of DTSTART and of UNTIL
+abbrev pub parts_of : rust.Written → ℕ → ℕ → Parts
+parts_of written start last = record { pattern = pattern_of written start; count = written.count; last = last }

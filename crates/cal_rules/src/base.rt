@@ -12,7 +12,7 @@ use cal_days::{Day, Frequency, PeriodIndex};
 
 /// Is a day with so many before it and so many after it the `k`th, or where `k` is negative the
 /// `-k`th from the end?
-pub(crate) fn is_nth(k: i16, before: u32, after: u32) -> bool
+fn is_nth(k: i16, before: u32, after: u32) -> bool
     ensures { result ≡ is_nth k before after }
 {
     if k < 0 {
@@ -22,7 +22,7 @@ pub(crate) fn is_nth(k: i16, before: u32, after: u32) -> bool
 }
 
 /// Does one of the numbers name the day with so many before it and so many after it?
-pub(crate) fn any_nth(numbers: &[i16], before: u32, after: u32) -> bool
+fn any_nth(numbers: &[i16], before: u32, after: u32) -> bool
     ensures { result ≡ list_any (λ k. is_nth k before after) numbers.now }
 {
     numbers.iter().any(|k| is_nth(*k, before, after))

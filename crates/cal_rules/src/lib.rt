@@ -3,6 +3,7 @@
 #![tactic(auto)]
 
 mod base;
+mod place;
 mod written;
 
 pub use written::WeekdayNumber;

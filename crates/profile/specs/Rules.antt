@@ -1,6 +1,6 @@
 -- Recurrence rules: which days a rule means (RFC 5545 3.3.10 and 3.8.5.3).
 -- A day goes by its index, the days from 0000-01-01 to it.
-use Rattle.std.specs.Prelude.{◌≡◌, ℕ, zero, suc, ◌+◌, ◌-◌, ◌/◌, ◌%◌, ◌≤◌, Bool, true, false, not, ◌&&◌, ◌||◌, ◌==◌, nat_le, if◌then◌else◌, Option, Some, None, List, [], ◌∷◌, filter, ℤ, pos, negsuc}
+use Rattle.std.specs.Prelude.{◌≡◌, ℕ, zero, suc, ◌+◌, ◌-◌, ◌/◌, ◌%◌, ◌<◌, ◌≤◌, Bool, true, false, not, ◌&&◌, ◌||◌, ◌==◌, nat_le, if◌then◌else◌, Option, Some, None, List, [], ◌∷◌, filter, ℤ, pos, negsuc}
 use Rattle.std.specs.List.{list_any, range_with_len}
 use Rattle.profile.specs.Days.{Frequency, Daily, Weekly, Monthly, Yearly, period_of, month_of, month_days_before, month_days_after, year_days_before, year_days_after, weekday_of}
 
@@ -200,8 +200,12 @@ is_rule_day r n = is_counted r n && is_within_count r n
 unfoldable pub rule_days_from : Parts → ℕ → List ℕ
 rule_days_from r from = filter (is_rule_day r) (range_with_len from (last_rule_day + 1 - from))
 
--- the least rule day from a day on, or that there is none
-abbrev pub IsNext : Parts → ℕ → Option ℕ → Type 0
-IsNext r from None = (n : ℕ) → from ≤ n → is_rule_day r n ≡ false
-IsNext r from (Some day) =
-    (from ≤ day) × (is_rule_day r day ≡ true) × ((n : ℕ) → from ≤ n → suc n ≤ day → is_rule_day r n ≡ false)
+-- no rule day from a day on
+abbrev pub NoDayFrom : Parts → ℕ → Type 0
+NoDayFrom r from = (n : ℕ) → from ≤ n → is_rule_day r n ≡ false
+
+-- the least rule day from a day on
+pub record IsNextDay (r : Parts) (from day : ℕ) : Type 0 where
+  pub not_before : from ≤ day
+  pub holds : is_rule_day r day ≡ true
+  pub least : (n : ℕ) → from ≤ n → n < day → is_rule_day r n ≡ false
