@@ -4,6 +4,8 @@
 
 mod base;
 mod place;
+mod rule;
 mod written;
 
+pub use rule::Rule;
 pub use written::WeekdayNumber;

@@ -1,11 +1,11 @@
 //! Set positions (RFC 5545 3.3.10, BYSETPOS), and the days of a rule but for COUNT.
 
-ghost use Rattle.std.specs.Prelude.{◌≡◌, ◌+◌, ◌^◌, ◌<◌, ◌≤◌, false, ℕ, MatchOption};
+ghost use Rattle.std.specs.Prelude.{◌≡◌, ◌+◌, ◌^◌, ◌<◌, ◌≤◌, false, ℕ, IfSome, MatchOption};
 ghost use Rattle.cal_days.specs.Views.{frequency_of};
 ghost use Rattle.profile.specs.Days.{day_index};
 ghost use Rattle.profile.specs.Rules.{is_mate, count_days, reach, is_placed, is_counted, is_in_step};
 ghost use Rattle.cal_rules.specs.Views.{pattern_of, parts_of};
-ghost use Rattle.cal_rules.specs.Counted.{NoneFrom, IsNextCounted};
+ghost use Rattle.cal_rules.specs.Counted.{NoneFrom, IsNextCounted, EndsAt};
 
 use crate::base::allows_nth;
 use crate::written::Written;
@@ -111,8 +111,9 @@ impl Written {
     /// The index of the least rule day but for COUNT, from that index on.
     pub fn next_counted(&self, start: Day, last: Day, from: u32) -> Option<u32>
         requires { 1 ≤ self.now.interval }
-        ensures { let parts = parts_of self.now (day_index start) (day_index last) in
+        ensures least { let parts = parts_of self.now (day_index start) (day_index last) in
             MatchOption result (NoneFrom parts from) (IsNextCounted parts from) }
+        ensures range { IfSome result (λ day. (366 ≤ day) × (day ≤ 3_652_424)) }
     {
         let limit = last.index().min(LAST_RULE_DAY);
         let mut index = from.max(start.index());
@@ -126,5 +127,23 @@ impl Written {
             index += self.stride(start, day);
         }
         None
+    }
+
+    /// The last day that COUNT allows: where it is never reached, 9999-12-31.
+    pub fn find_end(&self, start: Day, last: Day) -> u32
+        requires { 1 ≤ self.now.interval }
+        ensures { EndsAt (parts_of self.now (day_index start) (day_index last)) result }
+    {
+        let Some(count) = self.count else {
+            return LAST_RULE_DAY;
+        };
+        let mut from = start.index();
+        for done in 0..count {
+            let Some(found) = self.next_counted(start, last, from) else {
+                return LAST_RULE_DAY;
+            };
+            from = found + 1;
+        }
+        from - 1
     }
 }

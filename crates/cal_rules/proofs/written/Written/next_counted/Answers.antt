@@ -9,8 +9,8 @@ pub loop-index-init : goal.loop-index-init
 loop-index-init c =
     (omega arith, omega arith, λ n f lt. counted_early (parts_of c.args.self.now (day_index c.args.start) (day_index c.args.last)) n (omega arith))
 
-pub returns-then-is_counted : goal.returns-then-is_counted
-returns-then-is_counted c =
+pub returns-then-is_counted-clause-least : goal.returns-then-is_counted-clause-least
+returns-then-is_counted-clause-least c =
     let same : is_counted (parts_of c.args.self.now (day_index c.args.start) (day_index c.args.last)) (day_index c.in-Some.day) ≡ true = sym c.is_counted.ensures ∙ c.if-is_counted.true in
     record { not_before = c.loop-index.invariant.1; counted = rw c.in-Some.ensures.value at same; least = c.loop-index.invariant.2 }
 
@@ -20,7 +20,7 @@ loop-index-preserved c =
     let same : is_counted r (day_index c.in-Some.day) ≡ false = sym c.is_counted.ensures ∙ c.if-is_counted.false in
     (omega arith, omega arith, more r c.args.from c.loop-index.index c.stride-index.result c.loop-index.invariant.2 (rw c.in-Some.ensures.value at same) (rw c.in-Some.ensures.value at c.stride-index.ensures.skips))
 
-pub returns : goal.returns
-returns c =
+pub returns-clause-least : goal.returns-clause-least
+returns-clause-least c =
     let r = parts_of c.args.self.now (day_index c.args.start) (day_index c.args.last) in
     all_passed r c.args.from c.loop-index.index c.loop-index.invariant.2 (omega arith)
