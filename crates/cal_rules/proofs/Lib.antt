@@ -1,2 +1,3 @@
 pub mod Tests
 pub mod Counting
+pub mod Lists

@@ -1,2 +1,3 @@
 pub mod Views
 pub mod Counted
+pub mod Left

@@ -4,8 +4,11 @@
 
 mod base;
 mod place;
+mod refusals;
 mod rule;
+mod text;
 mod written;
 
-pub use rule::Rule;
-pub use written::WeekdayNumber;
+pub use rule::{Days, Rule};
+pub use text::RuleText;
+pub use written::{Until, WeekdayNumber};

@@ -1,13 +1,16 @@
 //! A rule from a day on: its days, tested, jumped to and listed.
 
-ghost use Rattle.std.specs.Prelude.{◌≡◌, ◌≤◌, true, false, ℕ, MatchOption, MatchResult};
+ghost use Rattle.std.specs.Prelude.{◌≡◌, ◌≤◌, true, false, ℕ, MatchOption, IfOk, IfErr};
 ghost use Rattle.profile.specs.Days.{day_index};
-ghost use Rattle.profile.specs.Rules.{Parts, is_rule_day, rule_days_from, NoDayFrom, IsNextDay};
-ghost use Rattle.cal_rules.specs.Views.{parts_of};
-ghost use Rattle.cal_rules.specs.Counted.{EndsAt};
+ghost use Rattle.profile.specs.Rules.{rule_of, is_rule_day, rule_days_from, NoDayFrom, IsNextDay};
+ghost use Rattle.cal_rules.specs.Left.{days_left};
+ghost use Rattle.ical_lines.specs.declared.fault.Fault.TheVariants.{Refused};
 
+use crate::refusals::START_OUTSIDE;
+use crate::text::RuleText;
 use crate::written::Written;
 use cal_days::Day;
+use ical_lines::Fault;
 use std::marker::Model;
 
 /// A rule from the day of DTSTART on (RFC 5545 3.8.5.3). Its days go to 9999-12-31.
@@ -35,7 +38,66 @@ impl Model for Rule {
         × EndsAt (parts_of r.written (day_index r.start) (day_index r.last)) r.end };
 }
 
+/// The days of a rule from a day on, ascending.
+#[derive(Drop)]
+pub struct Days<'a> {
+    rule: &'a Rule,
+    from: u32,
+}
+
+impl<'a> Iterator for Days<'a> {
+    ghost use Rattle.std.specs.Iterator.{YieldsFirstBy, item_count};
+    ghost use Rattle.profile.specs.Days.{day_index};
+    ghost use Rattle.cal_rules.specs.Left.{days_left};
+
+    type Item = Day;
+
+    ghost next_gives = { YieldsFirstBy day_index days_left };
+
+    ghost remaining = { item_count days_left };
+
+    fn next(&mut self) -> Option<Day> {
+        let Some(day) = self.rule.seek_index(self.from) else {
+            return None;
+        };
+        self.from = day.index() + 1;
+        Some(day)
+    }
+}
+
 impl Rule {
+    /// The rule of that text, from the day of DTSTART to `last`, the last day that UNTIL allows. Refused
+    /// where the start isn't a day of the rule (34).
+    pub fn new(text: RuleText, start: Day, last: Day) -> Result<Rule, Fault>
+        ensures made { IfOk result (λ rule. rule ≡ rule_of text (day_index start) (day_index last)) }
+        ensures starts { IfOk result (λ _. is_rule_day (rule_of text (day_index start) (day_index last)) (day_index start) ≡ true) }
+        ensures refuses { IfErr result (λ e. (e ≡ Refused (record { number = 34 }))
+            × (is_rule_day (rule_of text (day_index start) (day_index last)) (day_index start) ≡ false)) }
+    {
+        let written = text.written;
+        let end = written.find_end(start, last);
+        let rule = Rule {
+            written,
+            start,
+            last,
+            end,
+        };
+        if !rule.holds(start) {
+            return Err(Fault::Refused(START_OUTSIDE));
+        }
+        Ok(rule)
+    }
+
+    /// The days of the rule from that day on, ascending, to 9999-12-31.
+    pub fn days(&self, from: Day) -> Days<'_>
+        ensures { days_left result ≡ rule_days_from self.now (day_index from) }
+    {
+        Days {
+            rule: self,
+            from: from.index(),
+        }
+    }
+
     /// Is this a day of the rule?
     pub fn holds(&self, day: Day) -> bool
         ensures { result ≡ is_rule_day self.now (day_index day) }

@@ -1,12 +1,21 @@
 //! The parts of a rule as they are written.
 
-use cal_days::Frequency;
+use cal_days::{Day, Frequency};
+use ical_values::{LocalTime, Stamp};
 
 /// An entry of BYDAY: a weekday, 0 for Monday, and the number before it, 0 where none is written.
 #[derive(Clone, Copy, Debug, PartialEq, Eq)]
 pub struct WeekdayNumber {
     pub number: i16,
     pub weekday: u8,
+}
+
+/// The end that UNTIL says: a date, a local time, or an instant in UTC (RFC 5545 3.3.10).
+#[derive(Clone, Copy, Debug, PartialEq, Eq)]
+pub enum Until {
+    Date(Day),
+    Local(LocalTime),
+    Utc(Stamp),
 }
 
 /// The parts of a rule. An empty list is a part that isn't written.
@@ -20,4 +29,5 @@ pub(crate) struct Written {
     pub weekdays: Vec<WeekdayNumber>,
     pub positions: Vec<i16>,
     pub count: Option<u32>,
+    pub until: Option<Until>,
 }

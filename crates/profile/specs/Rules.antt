@@ -1,7 +1,8 @@
 -- Recurrence rules: which days a rule means (RFC 5545 3.3.10 and 3.8.5.3).
 -- A day goes by its index, the days from 0000-01-01 to it.
-use Rattle.std.specs.Prelude.{◌≡◌, ℕ, zero, suc, ◌+◌, ◌-◌, ◌/◌, ◌%◌, ◌<◌, ◌≤◌, Bool, true, false, not, ◌&&◌, ◌||◌, ◌==◌, nat_le, if◌then◌else◌, Option, Some, None, List, [], ◌∷◌, filter, ℤ, pos, negsuc}
-use Rattle.std.specs.List.{list_any, range_with_len}
+use Rattle.std.specs.Prelude.{◌≡◌, ℕ, zero, suc, ◌+◌, ◌-◌, ◌/◌, ◌%◌, ◌<◌, ◌≤◌, Bool, true, false, not, ◌&&◌, ◌||◌, ◌==◌, nat_lt, nat_le, if◌then◌else◌, IsTrue, Option, Some, None, is_none, List, [], ◌∷◌, length, filter, ℤ, pos, negsuc}
+use Rattle.std.specs.List.{list_any, list_all, range_with_len}
+use Rattle.profile.specs.Faults.{is_between}
 use Rattle.profile.specs.Days.{Frequency, Daily, Weekly, Monthly, Yearly, period_of, month_of, month_days_before, month_days_after, year_days_before, year_days_after, weekday_of}
 
 -- THE PARTS OF A RULE
@@ -27,6 +28,41 @@ pub record Parts : Type 0 where
   pub pattern : Pattern
   pub count : Option ℕ
   pub last : ℕ
+
+-- what UNTIL says: the number of a day, the seconds of a local time, or an instant
+pub data Until : Type 0 where
+  UntilDay : ℤ → Until
+  UntilLocal : ℤ → Until
+  UntilInstant : ℤ → Until
+
+-- what the text of a rule says; an empty list is a part that isn't written
+pub record RuleText : Type 0 where
+  pub frequency : Frequency
+  pub interval : ℕ
+  pub week_start : ℕ
+  pub months : List ℕ
+  pub month_days : List ℤ
+  pub weekdays : List WeekdayNumber
+  pub positions : List ℤ
+  pub count : Option ℕ
+  pub until : Option Until
+
+-- the rule of a text, from the day of DTSTART to the last day that UNTIL allows
+abbrev pub rule_of : RuleText → ℕ → ℕ → Parts
+rule_of text start last = record {
+  pattern = record {
+    frequency = text.frequency;
+    interval = text.interval;
+    week_start = text.week_start;
+    months = text.months;
+    month_days = text.month_days;
+    weekdays = text.weekdays;
+    positions = text.positions;
+    start = start;
+  };
+  count = text.count;
+  last = last;
+}
 
 -- IMPLIED PARTS
 
@@ -82,6 +118,55 @@ abbrev pub weekdays_meant : Pattern → List WeekdayNumber
 weekdays_meant p =
     if implies_weekday p then record { number = pos 0; weekday = weekday_of p.start } ∷ [] else p.weekdays
 
+-- WHAT A TEXT MAY SAY
+
+-- n is 1 to the most, or -1 to minus the most
+abbrev pub is_place : ℕ → ℤ → Bool
+is_place most (pos n) = is_between 1 most n
+is_place most (negsuc n) = nat_lt n most
+
+-- no number is written
+abbrev pub is_plain : ℤ → Bool
+is_plain (pos n) = n == 0
+is_plain (negsuc _) = false
+
+abbrev pub is_entry : WeekdayNumber → Bool
+is_entry entry = nat_lt entry.weekday 7 && (is_plain entry.number || is_place 53 entry.number)
+
+-- 1 to 100,000, this profile's choice
+abbrev pub is_count : Option ℕ → Bool
+is_count None = true
+is_count (Some count) = is_between 1 100_000 count
+
+-- at most 366 entries, this profile's choice
+abbrev pub is_short : {A : Type 0} → List A → Bool
+is_short xs = nat_le (length xs) 366
+
+-- each number is in its range, and no list is too long (RFC 5545 3.3.10; the bounds of INTERVAL are this profile's)
+unfoldable pub is_in_range : RuleText → Bool
+is_in_range t =
+    is_between 1 9999 t.interval && is_count t.count && nat_lt t.week_start 7
+    && (list_all (is_between 1 12) t.months && is_short t.months)
+    && (list_all (is_place 31) t.month_days && is_short t.month_days)
+    && (list_all is_entry t.weekdays && is_short t.weekdays)
+    && (list_all (is_place 366) t.positions && is_short t.positions)
+
+-- no BYMONTHDAY in WEEKLY; numbers in BYDAY only in MONTHLY and YEARLY without BYMONTHDAY; BYSETPOS only beside another BY part
+-- (RFC 5545 3.3.10)
+unfoldable pub go_together : RuleText → Bool
+go_together t =
+    (not (is_weekly t.frequency) || is_missing t.month_days)
+    && (list_all (λ entry. is_plain entry.number) t.weekdays || (is_long t.frequency && is_missing t.month_days))
+    && (is_missing t.positions || not (is_missing t.months && is_missing t.month_days && is_missing t.weekdays))
+
+-- not both COUNT and UNTIL (RFC 5545 3.3.10)
+abbrev pub has_one_end : RuleText → Bool
+has_one_end t = is_none t.count || is_none t.until
+
+-- a text that is taken
+abbrev pub IsAllowed : RuleText → Type 0
+IsAllowed t = IsTrue (is_in_range t) × IsTrue (go_together t) × IsTrue (has_one_end t)
+
 -- BASE DAYS
 
 -- a day with so many before it and so many after it is the nth, or where n is negative the nth from the end
@@ -103,11 +188,6 @@ same_weekdays_before in_year n = (if in_year then year_days_before n else month_
 
 abbrev pub same_weekdays_after : Bool → ℕ → ℕ
 same_weekdays_after in_year n = (if in_year then year_days_after n else month_days_after n) / 7
-
--- no number is written
-abbrev pub is_plain : ℤ → Bool
-is_plain (pos n) = n == 0
-is_plain (negsuc _) = false
 
 -- an entry of BYDAY names a day of that weekday with so many of them before it and so many after it
 abbrev pub names_weekday : ℕ → ℕ → ℕ → WeekdayNumber → Bool
