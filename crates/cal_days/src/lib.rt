@@ -6,7 +6,7 @@
 
 ghost use Rattle.std.specs.Prelude.{ℕ, suc, ◌≡◌, ◌↔◌, ◌+◌, ◌<◌, ◌≤◌, ◌≤ℤ◌, ◌+ℤ◌, pos, negsuc, unsigned_abs, IsSome, IfSome};
 ghost use Rattle.profile.specs.Days.{IsDayNumber, IsDayDate, IsDate, days_before, number_of_date, number_of_day, is_leap_year, days_in_year, days_in_month, year_start, day_index, year_of, month_of, month_days_before, month_days_after, year_days_before, year_days_after, weekday_of};
-ghost use Rattle.cal_days.specs.Views.{PeriodsRepeat};
+ghost use Rattle.cal_days.specs.Views.{PeriodsRepeat, PeriodsAscend, PeriodsLast};
 
 mod period;
 
@@ -251,6 +251,12 @@ pub fn same_after_400_years()
     ensures places { (n : ℕ) → (month_days_after (n + 146_097) ≡ month_days_after n)
         × (year_days_before (n + 146_097) ≡ year_days_before n) × (year_days_after (n + 146_097) ≡ year_days_after n) }
     ensures period { PeriodsRepeat }
+{}
+
+/// Later days are in the same or in later periods, and no period is shorter than the shortest.
+pub fn periods_grow()
+    ensures ascend { PeriodsAscend }
+    ensures last { PeriodsLast }
 {}
 
 /// What the definitions give a day is the one date of its number.

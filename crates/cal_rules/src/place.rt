@@ -1,8 +1,8 @@
 //! Set positions (RFC 5545 3.3.10, BYSETPOS), and the days of a rule but for COUNT.
 
-ghost use Rattle.std.specs.Prelude.{◌≡◌, ◌+◌, ◌^◌, ◌<◌, ◌≤◌, false, ℕ, IfSome, MatchOption};
+ghost use Rattle.std.specs.Prelude.{◌≡◌, ◌+◌, ◌%◌, ◌^◌, ◌<◌, ◌≤◌, false, ℕ, IfSome, MatchOption};
 ghost use Rattle.cal_days.specs.Views.{frequency_of};
-ghost use Rattle.profile.specs.Days.{day_index};
+ghost use Rattle.profile.specs.Days.{day_index, shortest_period};
 ghost use Rattle.profile.specs.Rules.{is_mate, count_days, reach, is_placed, is_counted, is_in_step};
 ghost use Rattle.cal_rules.specs.Views.{pattern_of, parts_of};
 ghost use Rattle.cal_rules.specs.Counted.{NoneFrom, IsNextCounted, EndsAt};
@@ -13,6 +13,20 @@ use cal_days::{Day, Frequency};
 
 /// The index of 9999-12-31, the last day of every rule.
 pub(crate) const LAST_RULE_DAY: u32 = 3_652_424;
+
+/// From a period with that remainder by the interval, how many periods are to be gone on to reach the
+/// other remainder.
+fn periods_ahead(interval: u32, here: u32, there: u32) -> u32
+    requires here { here < interval }
+    requires there { there < interval }
+    ensures none_sooner { (j : ℕ) → j < result → (here + j) % interval ≡ there → ⊥ }
+    ensures range { result ≤ interval }
+{
+    if here <= there {
+        return there - here;
+    }
+    interval - (here - there)
+}
 
 impl Written {
     /// How far two days of one period can lie apart.
@@ -96,16 +110,36 @@ impl Written {
         self.is_placed(start, day)
     }
 
-    /// How many days further to look for a day that is in step.
+    /// The days of the shortest period.
+    fn shortest(&self) -> u32
+        ensures value { result ≡ shortest_period (frequency_of self.now.frequency) }
+        ensures range { result ≤ 365 }
+    {
+        match self.frequency {
+            Frequency::Daily => 1,
+            Frequency::Weekly => 7,
+            Frequency::Monthly => 28,
+            Frequency::Yearly => 365,
+        }
+    }
+
+    /// How many days further to look for a day that is in step. From a period that isn't, this passes
+    /// over whole periods.
     fn stride(&self, start: Day, day: Day) -> u32
         requires { 1 ≤ self.now.interval }
-        ensures range { (1 ≤ result) × (result ≤ 4_000_000) }
+        ensures range { (1 ≤ result) × (result ≤ 24_000_000) }
         ensures skips { (n : ℕ) → day_index day < n → n < day_index day + result
             → is_in_step (pattern_of self.now (day_index start)) n ≡ false }
     {
-        let _ = start;
-        let _ = day;
-        1
+        cal_days::periods_grow();
+        let interval = self.interval as u32;
+        let here = self.period(day).number() % interval;
+        let there = self.period(start).number() % interval;
+        let ahead = periods_ahead(interval, here, there);
+        if ahead == 0 {
+            return 1;
+        }
+        1 + self.shortest() * (ahead - 1)
     }
 
     /// The index of the least rule day but for COUNT, from that index on.

@@ -119,3 +119,10 @@ periods_in_400_years Daily = 146_097
 periods_in_400_years Weekly = 20_871
 periods_in_400_years Monthly = 4800
 periods_in_400_years Yearly = 400
+
+-- the days of the shortest period
+abbrev pub shortest_period : Frequency → ℕ
+shortest_period Daily = 1
+shortest_period Weekly = 7
+shortest_period Monthly = 28
+shortest_period Yearly = 365
