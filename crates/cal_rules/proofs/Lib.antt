@@ -2,3 +2,4 @@ pub mod Tests
 pub mod Counting
 pub mod Lists
 pub mod Strides
+pub mod Cuts

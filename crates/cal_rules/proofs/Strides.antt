@@ -18,11 +18,11 @@ none_round interval here there j high bound low e =
     elim (cases_lt (here + j) interval) [
       | inl lt ↦ omega (arith, sym (mod-eq_of_lt lt) ∙ e)
       | inr ge ↦
-        let k = here + j - interval in
-        let split : here + j ≡ interval + k = omega arith in
-        let small : k < interval = omega arith in
-        let e' : (interval + k) % interval ≡ there = rw split at e in
-        omega (arith, sym (mod-eq_of_lt small) ∙ sym (add-mod_left interval k) ∙ e')
+          let k = here + j - interval in
+          let split : here + j ≡ interval + k = omega arith in
+          let small : k < interval = omega arith in
+          let e' : (interval + k) % interval ≡ there = rw split at e in
+          omega (arith, sym (mod-eq_of_lt small) ∙ sym (add-mod_left interval k) ∙ e')
     ]
 
 -- no day of the periods passed over is in step
@@ -35,6 +35,6 @@ passed_over p day n ahead ascend last some low high none =
     let down : period ≤ here + (ahead - 1) = last p.frequency p.week_start day n (ahead - 1) high in
     let split : here + (period - here) ≡ period = omega arith in
     let same : (here % p.interval + (period - here)) % p.interval ≡ period % p.interval =
-      rw split at (mod-add-mod here p.interval (period - here)) in
+    rw split at (mod-add-mod here p.interval (period - here)) in
     ne_eqb (period % p.interval) (period_of p.frequency p.week_start p.start % p.interval)
     (λ e. none (period - here) (omega arith) (same ∙ e))

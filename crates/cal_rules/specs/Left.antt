@@ -1,4 +1,4 @@
--- What an iterator still gives.
+-- What the iterator over the days of a rule still gives.
 use Rattle.std.specs.Prelude.{ℕ, List}
 use Rattle.profile.specs.Rules.{rule_days_from}
 use Rattle.cal_rules.specs.declared.rule.Days.{Days}

@@ -3,10 +3,16 @@
 #![tactic(auto)]
 
 mod base;
+mod checks;
+mod pieces;
 mod place;
+mod read;
 mod refusals;
 mod rule;
+#[cfg(test)]
+mod tests;
 mod text;
+mod values;
 mod written;
 
 pub use rule::{Days, Rule};

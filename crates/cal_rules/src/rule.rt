@@ -1,6 +1,8 @@
 //! A rule from a day on: its days, tested, jumped to and listed.
 
-ghost use Rattle.std.specs.Prelude.{◌≡◌, ◌≤◌, true, false, ℕ, MatchOption, IfOk, IfErr};
+ghost use Rattle.std.specs.Prelude.{◌≡◌, true, false, map, MatchOption, IfOk, IfErr};
+ghost use Rattle.cal_days.specs.Views.{frequency_of};
+ghost use Rattle.cal_rules.specs.Views.{entry_of};
 ghost use Rattle.profile.specs.Days.{day_index};
 ghost use Rattle.profile.specs.Rules.{rule_of, is_rule_day, rule_days_from, NoDayFrom, IsNextDay};
 ghost use Rattle.cal_rules.specs.Left.{days_left};
@@ -8,8 +10,8 @@ ghost use Rattle.ical_lines.specs.declared.fault.Fault.TheVariants.{Refused};
 
 use crate::refusals::START_OUTSIDE;
 use crate::text::RuleText;
-use crate::written::Written;
-use cal_days::Day;
+use crate::written::{WeekdayNumber, Written};
+use cal_days::{Day, Frequency};
 use ical_lines::Fault;
 use std::marker::Model;
 
@@ -128,5 +130,75 @@ impl Rule {
             return None;
         }
         Day::at_index(found)
+    }
+
+    /// FREQ.
+    pub fn frequency(&self) -> Frequency
+        ensures { frequency_of result ≡ self.now.pattern.frequency }
+    {
+        self.written.frequency
+    }
+
+    /// INTERVAL, 1 where it isn't written.
+    pub fn interval(&self) -> u16
+        ensures { result ≡ self.now.pattern.interval }
+    {
+        self.written.interval
+    }
+
+    /// WKST, 0 for Monday, which it is where it isn't written.
+    pub fn week_start(&self) -> u8
+        ensures { result ≡ self.now.pattern.week_start }
+    {
+        self.written.week_start
+    }
+
+    /// The entries of BYMONTH, none where it isn't written.
+    pub fn months(&self) -> &[u8]
+        ensures { result.now ≡ self.now.pattern.months }
+    {
+        &self.written.months
+    }
+
+    /// The entries of BYMONTHDAY, none where it isn't written.
+    pub fn month_days(&self) -> &[i16]
+        ensures { result.now ≡ self.now.pattern.month_days }
+    {
+        &self.written.month_days
+    }
+
+    /// The entries of BYDAY, none where it isn't written.
+    pub fn weekdays(&self) -> &[WeekdayNumber]
+        ensures { map entry_of result.now ≡ self.now.pattern.weekdays }
+    {
+        &self.written.weekdays
+    }
+
+    /// The entries of BYSETPOS, none where it isn't written.
+    pub fn positions(&self) -> &[i16]
+        ensures { result.now ≡ self.now.pattern.positions }
+    {
+        &self.written.positions
+    }
+
+    /// COUNT.
+    pub fn count(&self) -> Option<u32>
+        ensures { result ≡ self.now.count }
+    {
+        self.written.count
+    }
+
+    /// The day of DTSTART, which is the first day of the rule.
+    pub fn start(&self) -> Day
+        ensures { day_index result ≡ self.now.pattern.start }
+    {
+        self.start
+    }
+
+    /// The last day that UNTIL allows.
+    pub fn last(&self) -> Day
+        ensures { day_index result ≡ self.now.last }
+    {
+        self.last
     }
 }
