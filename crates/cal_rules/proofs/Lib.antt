@@ -1,4 +1,4 @@
-pub mod Tests
+pub mod Judging
 pub mod Counting
 pub mod Lists
 pub mod Strides

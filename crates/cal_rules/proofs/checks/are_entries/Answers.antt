@@ -2,7 +2,7 @@ use Rattle.std.proofs.Common.{◌≡◌, ◌∙◌, ◌&&◌, sym, false, true, 
 use Rattle.std.proofs.lemmas.Bool.{and_left}
 use Rattle.profile.specs.Rules.{is_entry, is_short}
 use Rattle.cal_rules.specs.Views.{entry_of}
-use Rattle.cal_rules.proofs.Tests.{judged}
+use Rattle.cal_rules.proofs.Judging.{judged}
 use Rattle.cal_rules.proofs.checks.are_entries.Goals as goal
 
 pub returns-then-not-all_entries : goal.returns-then-not-all_entries
