@@ -52,11 +52,11 @@ leap_day-later : (year : ℕ) → leap_day (pos (year + 400)) ≡ leap_day (pos 
 leap_day-later year = rw (leap_year-later year) refl
 
 -- 400 years have 146,097 days
-years-later : (year : ℕ) → days_before_year (year + 400) ≡ days_before_year year + 146_097
+pub years-later : (year : ℕ) → days_before_year (year + 400) ≡ days_before_year year + 146_097
 years-later year =
     omega (arith, years_same year, years_same (year + 400), days_of_years-march_days (year + 10_000), days_of_years-march_days (year + 400 + 10_000), leap_day-shift (pos year) (year + 10_000) refl, leap_day-shift (pos (year + 400)) (year + 400 + 10_000) refl, leap_day-later year)
 
-months-later : (year months : ℕ) → days_of_months (year + 400) months ≡ days_of_months year months
+pub months-later : (year months : ℕ) → days_of_months (year + 400) months ≡ days_of_months year months
 unfolding days_of_months
 months-later year zero = refl
 months-later year (suc months) = rw (months-later year months, days_in_month-later year (suc months)) refl

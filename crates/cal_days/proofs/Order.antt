@@ -6,7 +6,7 @@ use Rattle.jiff_core.proofs.SignedLemmas.{signed_arith}
 use Rattle.profile.specs.Days.{IsDate, days_in_year, days_in_month, days_before_year, days_of_months, days_before, number_of_date}
 use Rattle.cal_days.proofs.Bridge.{months_same}
 
-years_step : (year : ℕ) → days_before_year (suc year) ≡ days_before_year year + days_in_year year
+pub years_step : (year : ℕ) → days_before_year (suc year) ≡ days_before_year year + days_in_year year
 unfolding days_before_year
 years_step year = refl
 
@@ -22,7 +22,7 @@ years_apart year late h =
     let same : (late - suc year) + suc year ≡ late = omega arith in
     omega (arith, years_step year, rw same at (years_grow (suc year) (late - suc year)))
 
-months_step : (year month : ℕ) → 1 ≤ month → days_of_months year month ≡ days_of_months year (month - 1) + days_in_month year month
+pub months_step : (year month : ℕ) → 1 ≤ month → days_of_months year month ≡ days_of_months year (month - 1) + days_in_month year month
 unfolding days_of_months
 months_step year zero h = absurd (omega arith)
 months_step year (suc month) h = let back : suc month - 1 ≡ month = omega arith in rw back refl
@@ -39,7 +39,7 @@ months_apart year month late first h =
     let same : (late - 1 - month) + month ≡ late - 1 = omega arith in
     omega (arith, months_step year month first, rw same at (months_grow year month (late - 1 - month)))
 
-year_length : (year : ℕ) → days_of_months year 12 ≡ days_in_year year
+pub year_length : (year : ℕ) → days_of_months year 12 ≡ days_in_year year
 year_length year = sym (months_same year 12) ∙ days_of_months_all (pos year)
 
 -- a date lies among the days of its year
@@ -77,7 +77,11 @@ by_years y m d z n e year h k same =
     let rest = by_months z m d n e (rw year at h) k (rw year at same) in
     (year, rest.0, rest.1)
 
+-- no two dates have so many days before them
+pub one_count : (y m d z n e : ℕ) → IsDate y m d → IsDate z n e → days_before y m d ≡ days_before z n e → (y ≡ z) × (m ≡ n) × (d ≡ e)
+one_count y m d z n e h k same = by_years y m d z n e (same_year y m d z n e h k same) h k same
+
 pub one_number : (y m d z n e : ℕ) → IsDate y m d → IsDate z n e → number_of_date y m d ≡ number_of_date z n e → (y ≡ z) × (m ≡ n) × (d ≡ e)
 one_number y m d z n e h k same =
     let count : days_before y m d ≡ days_before z n e = omega (arith, signed_arith, same) in
-    by_years y m d z n e (same_year y m d z n e h k count) h k count
+    one_count y m d z n e h k count

@@ -4,14 +4,21 @@
 //! ends at 9999-12-31: a later day is computed 400 years, which are 146,097 days, earlier.
 #![tactic(auto)]
 
-ghost use Rattle.std.specs.Prelude.{ℕ, ◌≡◌, ◌↔◌, ◌≤ℤ◌, ◌+ℤ◌, pos, negsuc, unsigned_abs, IsSome, IfSome};
-ghost use Rattle.profile.specs.Days.{IsDayNumber, IsDayDate, IsDate, number_of_date, number_of_day};
+ghost use Rattle.std.specs.Prelude.{ℕ, suc, ◌≡◌, ◌↔◌, ◌+◌, ◌<◌, ◌≤◌, ◌≤ℤ◌, ◌+ℤ◌, pos, negsuc, unsigned_abs, IsSome, IfSome};
+ghost use Rattle.profile.specs.Days.{IsDayNumber, IsDayDate, IsDate, days_before, number_of_date, number_of_day, is_leap_year, days_in_year, days_in_month, year_start, day_index, year_of, month_of, month_days_before, month_days_after, year_days_before, year_days_after, weekday_of};
+ghost use Rattle.cal_days.specs.Views.{PeriodsRepeat, PeriodsAscend, PeriodsLast};
+
+mod period;
 
 use jiff::civil;
+pub use period::{Frequency, PeriodIndex};
 use std::marker::Model;
 
 /// The days of 400 years.
 const CYCLE: i64 = 146_097;
+
+/// The days from 0000-01-01 to 1970-01-01.
+const EPOCH: i64 = 719_528;
 
 /// The number of 0001-01-01.
 const FIRST: i64 = -719_162;
@@ -90,18 +97,143 @@ impl Day {
         self.number
     }
 
+    /// Days from 0000-01-01: 366 for 0001-01-01, 719,528 for 1970-01-01.
+    pub fn index(self) -> u32
+        ensures value { result ≡ day_index self }
+        ensures range { (366 ≤ result) × (result ≤ 3_653_155) }
+    {
+        let Day { number } = self;
+        (number + EPOCH) as u32
+    }
+
+    /// The day of that index. None before 0001-01-01 and after 10001-12-31.
+    pub fn at_index(index: u32) -> Option<Day>
+        ensures found { IsSome result ↔ ((366 ≤ index) × (index ≤ 3_653_155)) }
+        ensures value { IfSome result (λ d. day_index d ≡ index) }
+    {
+        let number = index as i64 - EPOCH;
+        Day::of_number(number)
+    }
+
     /// The date of the day.
     pub fn civil(self) -> Civil
         ensures date { IsDayDate result.year result.month result.day }
         ensures number { number_of_day result.year result.month result.day ≡ self }
         ensures early { self ≤ℤ pos 2_932_896 → result.year ≤ℤ pos 9999 }
+        ensures parts { let index = day_index self in
+            (result.year ≡ pos (year_of index)) × (result.month ≡ month_of index)
+            × (result.day ≡ suc (month_days_before index)) }
     {
         let Day { number } = self;
-        if number > JIFF_LAST {
-            return later(date_of(number - CYCLE));
-        }
-        date_of(number)
+        civil_of(number)
     }
+
+    /// Its year, from 1 to 10001.
+    pub fn year(self) -> u32
+        ensures value { result ≡ year_of (day_index self) }
+        ensures range { (1 ≤ result) × (result ≤ 10_001) }
+    {
+        self.civil().year as u32
+    }
+
+    /// Its weekday, from 0 for Monday to 6 for Sunday.
+    #[tactic(auto, unfolding(profile::specs::Days::weekday_of))]
+    pub fn weekday(self) -> u8
+        ensures value { result ≡ weekday_of (day_index self) }
+        ensures range { result < 7 }
+    {
+        ((self.index() + 5) % 7) as u8
+    }
+
+    /// The days of its month, from 28 to 31.
+    pub fn days_in_month(self) -> u8
+        ensures value { let index = day_index self in
+            result ≡ days_in_month (year_of index) (month_of index) }
+        ensures range { (28 ≤ result) × (result ≤ 31) }
+    {
+        let civil = self.civil();
+        month_length(civil.year as u32, civil.month)
+    }
+
+    /// The days of its month before it, from 0 to 30.
+    pub fn month_days_before(self) -> u8
+        ensures value { result ≡ month_days_before (day_index self) }
+        ensures range { result ≤ 30 }
+    {
+        self.civil().day - 1
+    }
+
+    /// The days of its month after it, from 0 to 30.
+    pub fn month_days_after(self) -> u8
+        ensures value { result ≡ month_days_after (day_index self) }
+        ensures range { result ≤ 30 }
+    {
+        self.days_in_month() - self.month_days_before() - 1
+    }
+
+    /// The days of its year before it, from 0 to 365.
+    pub fn year_days_before(self) -> u16
+        ensures value { result ≡ year_days_before (day_index self) }
+        ensures range { result ≤ 365 }
+    {
+        (self.index() - year_start(self.year())) as u16
+    }
+
+    /// The days of its year after it, from 0 to 365.
+    pub fn year_days_after(self) -> u16
+        ensures value { result ≡ year_days_after (day_index self) }
+        ensures range { result ≤ 365 }
+    {
+        days_in_year(self.year()) - self.year_days_before() - 1
+    }
+}
+
+/// Is this a leap year?
+fn is_leap_year(year: u32) -> bool
+    ensures { result ≡ is_leap_year year }
+{
+    year % 4 == 0 && (year % 100 != 0 || year % 400 == 0)
+}
+
+/// The days of a year.
+fn days_in_year(year: u32) -> u16
+    ensures { result ≡ days_in_year year }
+{
+    if is_leap_year(year) { 366 } else { 365 }
+}
+
+/// The days of a month.
+fn month_length(year: u32, month: u8) -> u8
+    ensures value { result ≡ days_in_month year month }
+    ensures range { (28 ≤ result) × (result ≤ 31) }
+{
+    match month {
+        2 if is_leap_year(year) => 29,
+        2 => 28,
+        4 | 6 | 9 | 11 => 30,
+        _ => 31,
+    }
+}
+
+/// The days from 0000-01-01 to the first day of a year.
+fn year_start(year: u32) -> u32
+    requires { year ≤ 10_001 }
+    ensures { result ≡ year_start year }
+{
+    365 * year + (year + 3) / 4 + (year + 399) / 400 - (year + 99) / 100
+}
+
+/// The date of a number.
+fn civil_of(number: i64) -> Civil
+    requires { IsDayNumber number }
+    ensures date { IsDayDate result.year result.month result.day }
+    ensures number { number_of_day result.year result.month result.day ≡ number }
+    ensures early { number ≤ℤ pos 2_932_896 → result.year ≤ℤ pos 9999 }
+{
+    if number > JIFF_LAST {
+        return later(date_of(number - CYCLE));
+    }
+    date_of(number)
 }
 
 /// No two dates have one number.
@@ -110,6 +242,27 @@ pub fn one_date()
         → IsDate late_year late_month late_day
         → number_of_date year month day ≡ number_of_date late_year late_month late_day
         → (year ≡ late_year) × (month ≡ late_month) × (day ≡ late_day) }
+{}
+
+/// 146,097 days later is 400 years later, with the same month, day and weekday.
+pub fn same_after_400_years()
+    ensures date { (n : ℕ) → (year_of (n + 146_097) ≡ year_of n + 400) × (month_of (n + 146_097) ≡ month_of n)
+        × (month_days_before (n + 146_097) ≡ month_days_before n) × (weekday_of (n + 146_097) ≡ weekday_of n) }
+    ensures places { (n : ℕ) → (month_days_after (n + 146_097) ≡ month_days_after n)
+        × (year_days_before (n + 146_097) ≡ year_days_before n) × (year_days_after (n + 146_097) ≡ year_days_after n) }
+    ensures period { PeriodsRepeat }
+{}
+
+/// Later days are in the same or in later periods, and no period is shorter than the shortest.
+pub fn periods_grow()
+    ensures ascend { PeriodsAscend }
+    ensures last { PeriodsLast }
+{}
+
+/// What the definitions give a day is the one date of its number.
+pub fn date_of_index()
+    ensures date { (n : ℕ) → IsDate (year_of n) (month_of n) (suc (month_days_before n)) }
+    ensures count { (n : ℕ) → days_before (year_of n) (month_of n) (suc (month_days_before n)) ≡ n }
 {}
 
 /// The number of a date of the years 1 to 9999.
@@ -218,5 +371,46 @@ mod tests {
         }
         assert!(rt; Day::of_number(-719_163).is_none());
         assert!(rt; Day::of_number(2_933_628).is_none());
+    }
+
+    #[test]
+    fn parts_of_days(rt: HostRuntime) {
+        // number, weekday, days of the month, days of the year before it and after it
+        let rows = [
+            (0, 3, 31, 0, 364),
+            (20_089, 2, 31, 0, 364),
+            (19_782, 3, 29, 59, 306),
+            (2_932_897, 5, 31, 0, 365),
+            (-719_162, 0, 31, 0, 364),
+            (2_933_627, 0, 31, 364, 0),
+        ];
+        for (number, weekday, month, before, after) in rows {
+            let day = Day::of_number(number).unwrap_or(Day { number: 0 });
+            assert_eq!(rt; day.number(), number, "{number}");
+            assert_eq!(rt; day.weekday(), weekday, "{number}");
+            assert_eq!(rt; day.days_in_month(), month, "{number}");
+            assert_eq!(rt; day.year_days_before(), before, "{number}");
+            assert_eq!(rt; day.year_days_after(), after, "{number}");
+            assert_eq!(rt; Day::at_index(day.index()), Some(day), "{number}");
+        }
+    }
+
+    #[test]
+    fn periods_of_days(rt: HostRuntime) {
+        // 2025-01-05 is a Sunday: from the Monday before it six days earlier, from Sunday itself one period later
+        let sunday = Day::of_number(20_093).unwrap_or(Day { number: 0 });
+        let saturday = Day::of_number(20_092).unwrap_or(Day { number: 0 });
+        let rows = [
+            (Frequency::Daily, 0, 1),
+            (Frequency::Weekly, 0, 0),
+            (Frequency::Weekly, 6, 1),
+            (Frequency::Monthly, 0, 0),
+            (Frequency::Yearly, 0, 0),
+        ];
+        for (frequency, week_start, later) in rows {
+            let here = PeriodIndex::of(frequency, week_start, sunday).number();
+            let there = PeriodIndex::of(frequency, week_start, saturday).number();
+            assert_eq!(rt; here, there + later, "{frequency:?} {week_start}");
+        }
     }
 }

@@ -3,6 +3,7 @@ pub mod Lines
 pub mod First
 pub mod Objects
 pub mod Days
+pub mod Rules
 pub mod Values
 pub mod Instances
 pub mod Certificates

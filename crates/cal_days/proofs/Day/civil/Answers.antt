@@ -1,12 +1,12 @@
-use Rattle.std.proofs.Common.{arith, pos, ◌-ℤ◌, ◌≤ℤ◌, to_z, of_z, w64}
+use Rattle.std.proofs.Common.{◌≡◌, arith}
 use Rattle.jiff_core.proofs.SignedLemmas.{signed_arith}
-use Rattle.cal_days.proofs.Bridge.{year_high}
+use Rattle.profile.specs.Days.{number_of_day}
+use Rattle.cal_days.proofs.Dates.{civil_parts}
 use Rattle.cal_days.proofs.Day.civil.Goals as goal
 
-pub returns-then-number-gt-JIFF_LAST-clause-date : goal.returns-then-number-gt-JIFF_LAST-clause-date
-returns-then-number-gt-JIFF_LAST-clause-date c =
-    let e = c.date_of.ensures in
-    let l = c.later.ensures in
-    let bound : to_z w64 (of_z w64 (to_z w64 (of_z w64 c.self.inside.number) -ℤ pos 146_097)) ≤ℤ pos 2_787_530 = omega (arith, signed_arith, c.self.invariant) in
-    let high = year_high c.date_of.result.year c.date_of.result.month c.date_of.result.day e.low e.date (rw e.number bound) in
-    (omega (arith, signed_arith), omega (arith, signed_arith), l.date)
+pub returns-clause-parts : goal.returns-clause-parts
+returns-clause-parts c =
+    let e = c.civil_of.ensures in
+    let r = c.civil_of.result in
+    let same : number_of_day r.year r.month r.day ≡ c.args.self = omega (arith, signed_arith, e.number, c.self.view_is) in
+    civil_parts r.year c.args.self r.month r.day e.date same

@@ -1,0 +1,52 @@
+-- Tests of lists, written or implied.
+use Rattle.std.proofs.Common.{◌≡◌, ◌∙◌, ap, sym, refl, ℕ, suc, pos, Bool, true, false, ◌&&◌, ◌||◌, ◌==◌, nat_eq, nat_le, length, List, [], ◌∷◌, map, if◌then◌else◌, arith}
+use Rattle.std.proofs.lemmas.Bool.Decides.{nat_tests}
+use Rattle.std.specs.List.{list_any, list_all}
+use Rattle.profile.specs.Rules.{allows, is_missing, is_short, names_weekday, WeekdayNumber}
+
+or_false : (b : Bool) → (b || false) ≡ b
+or_false true = refl
+or_false false = refl
+
+-- a part that is implied has one entry
+pub by_implied : {A : Type 0} (test : A → Bool) (implied : Bool) (entry : A) (entries : List A) (r : Bool) → implied ≡ true → r ≡ test entry → r ≡ allows test (if implied then entry ∷ [] else entries)
+by_implied test implied entry entries r e h = rw (e, or_false (test entry)) h
+
+-- else what is written counts
+pub by_written : {A : Type 0} (test : A → Bool) (implied : Bool) (entry : A) (entries : List A) (r : Bool) → implied ≡ false → r ≡ allows test entries → r ≡ allows test (if implied then entry ∷ [] else entries)
+by_written test implied entry entries r e h = rw e h
+
+and_true : (b : Bool) → (b && true) ≡ b
+and_true true = refl
+and_true false = refl
+
+-- an implied weekday has no number
+pub plain_weekday : (weekday there before after : ℕ) (r : Bool) → r ≡ (there == weekday) → r ≡ names_weekday weekday before after (record { number = pos 0; weekday = there })
+plain_weekday weekday there before after r h = h ∙ sym (and_true (there == weekday))
+
+pub same_suc : (m n : ℕ) → nat_eq m n ≡ nat_eq (suc m) (suc n)
+same_suc m n = grind (arith, nat_tests)
+
+any_map : {A B : Type 0} (test : B → Bool) (f : A → B) (xs : List A) → list_any test (map f xs) ≡ list_any (λ x. test (f x)) xs
+any_map test f [] = refl
+any_map test f (x ∷ xs) = ap (λ b. test (f x) || b) (any_map test f xs)
+
+-- a list and its entries as others see them
+pub allows_map : {A B : Type 0} (test : B → Bool) (f : A → B) (xs : List A) → allows test (map f xs) ≡ allows (λ x. test (f x)) xs
+allows_map test f [] = refl
+allows_map test f (x ∷ xs) = any_map test f (x ∷ xs)
+
+pub all_map : {A B : Type 0} (test : B → Bool) (f : A → B) (xs : List A) → list_all test (map f xs) ≡ list_all (λ x. test (f x)) xs
+all_map test f [] = refl
+all_map test f (x ∷ xs) = ap (λ b. test (f x) && b) (all_map test f xs)
+
+length_map : {A B : Type 0} (f : A → B) (xs : List A) → length (map f xs) ≡ length xs
+length_map f [] = refl
+length_map f (x ∷ xs) = ap suc (length_map f xs)
+
+pub short_map : {A B : Type 0} (f : A → B) (xs : List A) → is_short (map f xs) ≡ is_short xs
+short_map f xs = ap (λ n. nat_le n 366) (length_map f xs)
+
+-- a list of entries that is judged as others see it
+pub judged : {A B : Type 0} (test : B → Bool) (f : A → B) (xs : List A) → (list_all test (map f xs) && is_short (map f xs)) ≡ (list_all (λ x. test (f x)) xs && is_short xs)
+judged test f xs = rw (all_map test f xs, short_map f xs) refl

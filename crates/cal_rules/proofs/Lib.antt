@@ -1,0 +1,5 @@
+pub mod Judging
+pub mod Counting
+pub mod Lists
+pub mod Strides
+pub mod Cuts

@@ -1,0 +1,6 @@
+pub mod Views
+pub mod Counted
+pub mod Left
+pub mod Refused
+pub mod Cut
+pub mod Piece

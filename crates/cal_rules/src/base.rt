@@ -1,0 +1,223 @@
+//! Base days: conditions on one day, written or implied (RFC 5545 3.3.10).
+
+ghost use Rattle.std.specs.Prelude.{◌≡◌, ◌≤◌, ◌==◌};
+ghost use Rattle.cal_days.specs.Views.{frequency_of};
+ghost use Rattle.std.specs.List.{list_any};
+ghost use Rattle.profile.specs.Days.{day_index, period_of};
+ghost use Rattle.profile.specs.Rules.{is_nth, allows, names_weekday, same_weekdays_before, same_weekdays_after, names_no_day, implies_month, implies_month_day, implies_weekday, counts_in_year, passes_month, passes_month_day, passes_weekday, passes, is_in_step, is_base};
+ghost use Rattle.cal_rules.specs.Views.{entry_of, pattern_of};
+
+use crate::written::{WeekdayNumber, Written};
+use cal_days::{Day, Frequency, PeriodIndex};
+
+/// Is a day with so many before it and so many after it the `k`th, or where `k` is negative the
+/// `-k`th from the end?
+fn is_nth(k: i16, before: u32, after: u32) -> bool
+    ensures { result ≡ is_nth k before after }
+{
+    if k < 0 {
+        return (-(k + 1)) as u32 == after;
+    }
+    k > 0 && (k - 1) as u32 == before
+}
+
+/// Does one of the numbers name the day with so many before it and so many after it?
+fn any_nth(numbers: &[i16], before: u32, after: u32) -> bool
+    ensures { result ≡ list_any (λ k. is_nth k before after) numbers.now }
+{
+    numbers.iter().any(|k| is_nth(*k, before, after))
+}
+
+/// Is the month listed?
+fn any_month(months: &[u8], month: u8) -> bool
+    ensures { result ≡ list_any (λ m. m == month) months.now }
+{
+    months.iter().any(|m| *m == month)
+}
+
+/// Is the month listed, or none?
+fn allows_month(months: &[u8], month: u8) -> bool
+    ensures { result ≡ allows (λ m. m == month) months.now }
+{
+    months.is_empty() || any_month(months, month)
+}
+
+/// Does one of the numbers name the day, or is there none?
+pub(crate) fn allows_nth(numbers: &[i16], before: u32, after: u32) -> bool
+    ensures { result ≡ allows (λ k. is_nth k before after) numbers.now }
+{
+    numbers.is_empty() || any_nth(numbers, before, after)
+}
+
+/// Does the entry of BYDAY name a day of that weekday, with so many of them before it and so many after
+/// it?
+fn names_weekday(entry: WeekdayNumber, weekday: u8, before: u32, after: u32) -> bool
+    ensures { result ≡ names_weekday weekday before after (entry_of entry) }
+{
+    if entry.weekday != weekday {
+        return false;
+    }
+    entry.number == 0 || is_nth(entry.number, before, after)
+}
+
+/// Does one of the entries of BYDAY name the day?
+fn any_weekday(entries: &[WeekdayNumber], weekday: u8, before: u32, after: u32) -> bool
+    ensures { result ≡ list_any (λ entry. names_weekday weekday before after (entry_of entry)) entries.now }
+{
+    entries
+        .iter()
+        .any(|entry| names_weekday(*entry, weekday, before, after))
+}
+
+/// Does one of the entries of BYDAY name the day, or is there none?
+fn allows_weekday(entries: &[WeekdayNumber], weekday: u8, before: u32, after: u32) -> bool
+    ensures { result ≡ allows (λ entry. names_weekday weekday before after (entry_of entry)) entries.now }
+{
+    entries.is_empty() || any_weekday(entries, weekday, before, after)
+}
+
+/// How many days of its own weekday lie before the day and after it, in its year or in its month.
+fn weekday_place(in_year: bool, day: Day) -> (u32, u32)
+    ensures before { result.0 ≡ same_weekdays_before in_year (day_index day) }
+    ensures after { result.1 ≡ same_weekdays_after in_year (day_index day) }
+{
+    if in_year {
+        return (
+            day.year_days_before() as u32 / 7,
+            day.year_days_after() as u32 / 7,
+        );
+    }
+    (
+        day.month_days_before() as u32 / 7,
+        day.month_days_after() as u32 / 7,
+    )
+}
+
+impl Written {
+    /// Neither BYDAY nor BYMONTHDAY is written.
+    fn names_no_day(&self) -> bool
+        ensures { result ≡ names_no_day (pattern_of self.now 0) }
+    {
+        self.weekdays.is_empty() && self.month_days.is_empty()
+    }
+
+    /// Does the rule take its month from DTSTART?
+    fn implies_month(&self) -> bool
+        ensures { result ≡ implies_month (pattern_of self.now 0) }
+    {
+        if self.frequency != Frequency::Yearly {
+            return false;
+        }
+        if !self.months.is_empty() {
+            return false;
+        }
+        self.names_no_day()
+    }
+
+    /// Does the rule take its month day from DTSTART?
+    fn implies_month_day(&self) -> bool
+        ensures { result ≡ implies_month_day (pattern_of self.now 0) }
+    {
+        match self.frequency {
+            Frequency::Daily | Frequency::Weekly => false,
+            Frequency::Monthly | Frequency::Yearly => self.names_no_day(),
+        }
+    }
+
+    /// Does the rule take its weekday from DTSTART?
+    fn implies_weekday(&self) -> bool
+        ensures { result ≡ implies_weekday (pattern_of self.now 0) }
+    {
+        self.frequency == Frequency::Weekly && self.weekdays.is_empty()
+    }
+
+    /// Do the numbers of BYDAY count in the year?
+    fn counts_in_year(&self) -> bool
+        ensures { result ≡ counts_in_year (pattern_of self.now 0) }
+    {
+        self.frequency == Frequency::Yearly && self.months.is_empty()
+    }
+
+    /// Is the day's month one of those that count?
+    fn passes_month(&self, start: Day, day: Day) -> bool
+        ensures { result ≡ passes_month (pattern_of self.now (day_index start)) (day_index day) }
+    {
+        let month = day.civil().month;
+        if self.implies_month() {
+            return start.civil().month == month;
+        }
+        allows_month(&self.months, month)
+    }
+
+    /// Is the day one of the month days that count?
+    fn passes_month_day(&self, start: Day, day: Day) -> bool
+        ensures { result ≡ passes_month_day (pattern_of self.now (day_index start)) (day_index day) }
+    {
+        let before = day.month_days_before();
+        if self.implies_month_day() {
+            return start.month_days_before() == before;
+        }
+        allows_nth(
+            &self.month_days,
+            before as u32,
+            day.month_days_after() as u32,
+        )
+    }
+
+    /// Is the day's weekday, with its number, one of those that count?
+    fn passes_weekday(&self, start: Day, day: Day) -> bool
+        ensures { result ≡ passes_weekday (pattern_of self.now (day_index start)) (day_index day) }
+    {
+        let weekday = day.weekday();
+        if self.implies_weekday() {
+            return start.weekday() == weekday;
+        }
+        let (before, after) = weekday_place(self.counts_in_year(), day);
+        allows_weekday(&self.weekdays, weekday, before, after)
+    }
+
+    /// Does the day pass each part that is written or implied?
+    #[tactic(auto, unfolding(profile::specs::Rules::passes))]
+    fn passes(&self, start: Day, day: Day) -> bool
+        ensures { result ≡ passes (pattern_of self.now (day_index start)) (day_index day) }
+    {
+        if !self.passes_month(start, day) {
+            return false;
+        }
+        if !self.passes_month_day(start, day) {
+            return false;
+        }
+        self.passes_weekday(start, day)
+    }
+
+    /// The period of a day.
+    pub fn period(&self, day: Day) -> PeriodIndex
+        ensures { result ≡ period_of (frequency_of self.now.frequency) self.now.week_start (day_index day) }
+    {
+        PeriodIndex::of(self.frequency, self.week_start, day)
+    }
+
+    /// Does the day's period lie a multiple of INTERVAL from that of DTSTART?
+    #[tactic(auto, unfolding(profile::specs::Rules::is_in_step))]
+    pub fn is_in_step(&self, start: Day, day: Day) -> bool
+        requires { 1 ≤ self.now.interval }
+        ensures { result ≡ is_in_step (pattern_of self.now (day_index start)) (day_index day) }
+    {
+        let interval = self.interval as u32;
+        let here = self.period(day).number() % interval;
+        let there = self.period(start).number() % interval;
+        here == there
+    }
+
+    /// Is this a base day?
+    #[tactic(auto, unfolding(profile::specs::Rules::is_base))]
+    pub fn is_base(&self, start: Day, day: Day) -> bool
+        requires { 1 ≤ self.now.interval }
+        ensures { result ≡ is_base (pattern_of self.now (day_index start)) (day_index day) }
+    {
+        if !self.is_in_step(start, day) {
+            return false;
+        }
+        self.passes(start, day)
+    }
+}

@@ -1,0 +1,20 @@
+//! Recurrence rules (RFC 5545 3.3.10, 3.8.5.3): the days that a rule means, listed, tested and jumped to
+//! exactly, to the end of the year 9999.
+#![tactic(auto)]
+
+mod base;
+mod checks;
+mod pieces;
+mod place;
+mod read;
+mod refusals;
+mod rule;
+#[cfg(test)]
+mod tests;
+mod text;
+mod values;
+mod written;
+
+pub use rule::{Days, Rule};
+pub use text::RuleText;
+pub use written::{Until, WeekdayNumber};

@@ -1,0 +1,204 @@
+//! A rule from a day on: its days, tested, jumped to and listed.
+
+ghost use Rattle.std.specs.Prelude.{◌≡◌, true, false, map, MatchOption, IfOk, IfErr};
+ghost use Rattle.cal_days.specs.Views.{frequency_of};
+ghost use Rattle.cal_rules.specs.Views.{entry_of};
+ghost use Rattle.profile.specs.Days.{day_index};
+ghost use Rattle.profile.specs.Rules.{rule_of, is_rule_day, rule_days_from, NoDayFrom, IsNextDay};
+ghost use Rattle.cal_rules.specs.Left.{days_left};
+ghost use Rattle.ical_lines.specs.declared.fault.Fault.TheVariants.{Refused};
+
+use crate::refusals::START_OUTSIDE;
+use crate::text::RuleText;
+use crate::written::{WeekdayNumber, Written};
+use cal_days::{Day, Frequency};
+use ical_lines::Fault;
+use std::marker::Model;
+
+/// A rule from the day of DTSTART on (RFC 5545 3.8.5.3). Its days go to 9999-12-31.
+#[derive(Debug, Drop)]
+pub struct Rule {
+    written: Written,
+    start: Day,
+    last: Day,
+    /// The last day that COUNT allows.
+    end: u32,
+}
+
+impl Model for Rule {
+    ghost use Rattle.std.specs.Prelude.{◌≤◌};
+    ghost use Rattle.profile.specs.Days.{day_index};
+    ghost use Rattle.profile.specs.Rules.{Parts};
+    ghost use Rattle.cal_rules.specs.Views.{parts_of};
+    ghost use Rattle.cal_rules.specs.Counted.{EndsAt};
+
+    ghost Value = { Parts };
+
+    ghost view = { λ r. parts_of r.written (day_index r.start) (day_index r.last) };
+
+    ghost invariant = { λ r. (1 ≤ r.written.interval)
+        × EndsAt (parts_of r.written (day_index r.start) (day_index r.last)) r.end };
+}
+
+/// The days of a rule from a day on, ascending.
+#[derive(Drop)]
+pub struct Days<'a> {
+    rule: &'a Rule,
+    from: u32,
+}
+
+impl<'a> Iterator for Days<'a> {
+    ghost use Rattle.std.specs.Iterator.{YieldsFirstBy, item_count};
+    ghost use Rattle.profile.specs.Days.{day_index};
+    ghost use Rattle.cal_rules.specs.Left.{days_left};
+
+    type Item = Day;
+
+    ghost next_gives = { YieldsFirstBy day_index days_left };
+
+    ghost remaining = { item_count days_left };
+
+    fn next(&mut self) -> Option<Day> {
+        let Some(day) = self.rule.seek_index(self.from) else {
+            return None;
+        };
+        self.from = day.index() + 1;
+        Some(day)
+    }
+}
+
+impl Rule {
+    /// The rule of that text, from the day of DTSTART to `last`, the last day that UNTIL allows. Refused
+    /// where the start isn't a day of the rule (34).
+    pub fn new(text: RuleText, start: Day, last: Day) -> Result<Rule, Fault>
+        ensures made { IfOk result (λ rule. rule ≡ rule_of text (day_index start) (day_index last)) }
+        ensures starts { IfOk result (λ _. is_rule_day (rule_of text (day_index start) (day_index last)) (day_index start) ≡ true) }
+        ensures refuses { IfErr result (λ e. (e ≡ Refused (record { number = 34 }))
+            × (is_rule_day (rule_of text (day_index start) (day_index last)) (day_index start) ≡ false)) }
+    {
+        let written = text.written;
+        let end = written.find_end(start, last);
+        let rule = Rule {
+            written,
+            start,
+            last,
+            end,
+        };
+        if !rule.holds(start) {
+            return Err(Fault::Refused(START_OUTSIDE));
+        }
+        Ok(rule)
+    }
+
+    /// The days of the rule from that day on, ascending, to 9999-12-31.
+    pub fn days(&self, from: Day) -> Days<'_>
+        ensures { days_left result ≡ rule_days_from self.now (day_index from) }
+    {
+        Days {
+            rule: self,
+            from: from.index(),
+        }
+    }
+
+    /// Is this a day of the rule?
+    pub fn holds(&self, day: Day) -> bool
+        ensures { result ≡ is_rule_day self.now (day_index day) }
+    {
+        if day.index() > self.end {
+            return false;
+        }
+        self.written.is_counted(self.start, self.last, day)
+    }
+
+    /// The first day of the rule that isn't before that one.
+    pub fn seek(&self, from: Day) -> Option<Day>
+        ensures { MatchOption result (NoDayFrom self.now (day_index from))
+            (λ day. IsNextDay self.now (day_index from) (day_index day)) }
+    {
+        self.seek_index(from.index())
+    }
+
+    /// The first day of the rule that isn't before that index.
+    fn seek_index(&self, from: u32) -> Option<Day>
+        ensures { MatchOption result (NoDayFrom self.now from)
+            (λ day. IsNextDay self.now from (day_index day)) }
+    {
+        let Some(found) = self.written.next_counted(self.start, self.last, from) else {
+            return None;
+        };
+        if found > self.end {
+            return None;
+        }
+        Day::at_index(found)
+    }
+
+    /// FREQ.
+    pub fn frequency(&self) -> Frequency
+        ensures { frequency_of result ≡ self.now.pattern.frequency }
+    {
+        self.written.frequency
+    }
+
+    /// INTERVAL, 1 where it isn't written.
+    pub fn interval(&self) -> u16
+        ensures { result ≡ self.now.pattern.interval }
+    {
+        self.written.interval
+    }
+
+    /// WKST, 0 for Monday, which it is where it isn't written.
+    pub fn week_start(&self) -> u8
+        ensures { result ≡ self.now.pattern.week_start }
+    {
+        self.written.week_start
+    }
+
+    /// The entries of BYMONTH, none where it isn't written.
+    pub fn months(&self) -> &[u8]
+        ensures { result.now ≡ self.now.pattern.months }
+    {
+        &self.written.months
+    }
+
+    /// The entries of BYMONTHDAY, none where it isn't written.
+    pub fn month_days(&self) -> &[i16]
+        ensures { result.now ≡ self.now.pattern.month_days }
+    {
+        &self.written.month_days
+    }
+
+    /// The entries of BYDAY, none where it isn't written.
+    pub fn weekdays(&self) -> &[WeekdayNumber]
+        ensures { map entry_of result.now ≡ self.now.pattern.weekdays }
+    {
+        &self.written.weekdays
+    }
+
+    /// The entries of BYSETPOS, none where it isn't written.
+    pub fn positions(&self) -> &[i16]
+        ensures { result.now ≡ self.now.pattern.positions }
+    {
+        &self.written.positions
+    }
+
+    /// COUNT.
+    pub fn count(&self) -> Option<u32>
+        ensures { result ≡ self.now.count }
+    {
+        self.written.count
+    }
+
+    /// The day of DTSTART, which is the first day of the rule.
+    pub fn start(&self) -> Day
+        ensures { day_index result ≡ self.now.pattern.start }
+    {
+        self.start
+    }
+
+    /// The last day that UNTIL allows.
+    pub fn last(&self) -> Day
+        ensures { day_index result ≡ self.now.last }
+    {
+        self.last
+    }
+}

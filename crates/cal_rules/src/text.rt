@@ -1,0 +1,91 @@
+//! The text of a rule (RFC 5545 3.3.10), read and written.
+
+ghost use Rattle.std.specs.Prelude.{◌≡◌, map, option_map};
+ghost use Rattle.cal_days.specs.Views.{frequency_of};
+ghost use Rattle.cal_rules.specs.Views.{entry_of, until_of};
+
+use crate::written::{Until, WeekdayNumber, Written};
+use cal_days::Frequency;
+use std::marker::Model;
+
+/// The text of a rule, as it was read.
+#[derive(Debug, Drop)]
+pub struct RuleText {
+    pub(crate) written: Written,
+}
+
+impl Model for RuleText {
+    ghost use Rattle.profile.specs.Rules as rules;
+    ghost use Rattle.cal_rules.specs.Views.{text_of};
+
+    ghost Value = { rules.RuleText };
+
+    ghost view = { λ t. text_of t.written };
+
+    ghost invariant = { λ t. rules.IsAllowed (text_of t.written) };
+}
+
+impl RuleText {
+    /// FREQ.
+    pub fn frequency(&self) -> Frequency
+        ensures { frequency_of result ≡ self.now.frequency }
+    {
+        self.written.frequency
+    }
+
+    /// INTERVAL, 1 where it isn't written.
+    pub fn interval(&self) -> u16
+        ensures { result ≡ self.now.interval }
+    {
+        self.written.interval
+    }
+
+    /// WKST, 0 for Monday, which it is where it isn't written.
+    pub fn week_start(&self) -> u8
+        ensures { result ≡ self.now.week_start }
+    {
+        self.written.week_start
+    }
+
+    /// The entries of BYMONTH, none where it isn't written.
+    pub fn months(&self) -> &[u8]
+        ensures { result.now ≡ self.now.months }
+    {
+        &self.written.months
+    }
+
+    /// The entries of BYMONTHDAY, none where it isn't written.
+    pub fn month_days(&self) -> &[i16]
+        ensures { result.now ≡ self.now.month_days }
+    {
+        &self.written.month_days
+    }
+
+    /// The entries of BYDAY, none where it isn't written.
+    pub fn weekdays(&self) -> &[WeekdayNumber]
+        ensures { map entry_of result.now ≡ self.now.weekdays }
+    {
+        &self.written.weekdays
+    }
+
+    /// The entries of BYSETPOS, none where it isn't written.
+    pub fn positions(&self) -> &[i16]
+        ensures { result.now ≡ self.now.positions }
+    {
+        &self.written.positions
+    }
+
+    /// COUNT.
+    pub fn count(&self) -> Option<u32>
+        ensures { result ≡ self.now.count }
+    {
+        self.written.count
+    }
+
+    /// UNTIL.
+    pub fn until(&self) -> Option<Until>
+        ensures { option_map until_of result ≡ self.now.until }
+    {
+        self.written.until
+    }
+}
