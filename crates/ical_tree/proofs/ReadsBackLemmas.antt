@@ -157,7 +157,7 @@ version_stays : (c other : Component) → tree_of other ≡ tree_of c → compon
 version_stays c other e = sym (tree_of-own other) ∙ (ap tree_own e ∙ tree_of-own c)
 
 no_calendar_fault : (number : ℕ) (c : Component) → has_version (component_lines c) ≡ true → calendar_has false number c ≡ false
-no_calendar_fault number c h = rw (h, and-false (eqb number 24), and-false (eqb number 25)) refl
+no_calendar_fault number c h = rw (h, and-false (eqb number 24), and-false (eqb number 25), and-false (is_same_name (component_name c) (codes "VCALENDAR"))) refl
 
 no_fault : (c : Component) (octets : List ℕ) → reads_as_lines false octets ≡ true → IsObjectOf false c (logical_lines octets) → (number : ℕ) → ObjectHas false number octets → ⊥
 no_fault c octets reads object number (inl h) = true≢false (sym h ∙ read_fine false octets number reads)

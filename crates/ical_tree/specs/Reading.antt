@@ -40,10 +40,11 @@ Built (c ∷ around) closed done =
 abbrev pub names_of : List Component → List (List ℕ)
 names_of cs = map component_name cs
 
--- the fault of this number stands in a component that the lines spell: 24, or 25 where 24 doesn't
+-- the fault of this number stands in a VCALENDAR that the lines spell: 24, or 25 where 24 doesn't
 abbrev pub calendar_has : Bool → ℕ → Component → Bool
 calendar_has bounded number c =
-    (number == 24 && not (has_version (component_lines c))) || (number == 25 && (bounded && nat_lt 200 (count_inside component_name component_lines component_children (codes "VEVENT") c) && has_version (component_lines c)))
+    is_same_name (component_name c) (codes "VCALENDAR")
+    && ((number == 24 && not (has_version (component_lines c))) || (number == 25 && (bounded && nat_lt 200 (count_inside component_name component_lines component_children (codes "VEVENT") c) && has_version (component_lines c))))
 
 -- the fault of this number stands in the octets: in the lines, in how they pair up, or in the object that they spell
 abbrev pub ObjectHas : Bool → ℕ → List ℕ → Type 0

@@ -196,6 +196,7 @@ fn may_be_outermost(closed: &Option<Component>, name: &str) -> bool
 
 /// Judges a VCALENDAR as a whole: its VERSION, and how many VEVENTs it has.
 fn check_calendar(calendar: &Component, limits: Limits) -> Result<(), Refusal>
+    requires { IsCalendar calendar.now }
     ensures version { OnOk result (has_version (component_lines calendar.now) ≡ true) }
     ensures events { OnOk result ((is_bounded limits && nat_lt 200 (count_inside component_name component_lines component_children (codes "VEVENT") calendar.now)) ≡ false) }
     ensures stands { IfErr result (λ r. IsTrue (calendar_has (is_bounded limits) r.number calendar.now)) }

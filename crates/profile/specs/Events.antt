@@ -120,6 +120,7 @@ IsLength start (Some line) None length = LastsUntil start line length
 IsLength start None (Some line) length = LastsFor line length
 IsLength start (Some line) (Some other) length = ⊥
 
+-- the length of an event; at most 366 days, which is this profile's choice
 pub record SaysLength (lines : List (List ℕ)) (start : ℤ) (length : Length) : Type 0 where
   pub end_line : Option (List ℕ)
   pub duration_line : Option (List ℕ)
@@ -133,7 +134,8 @@ abbrev pub SaysSequence : List (List ℕ) → ℕ → Type 0
 SaysSequence lines n = (given : Option ℕ) × Says (codes "SEQUENCE") false IsSequenceLine lines given × (n ≡ unwrap_or given 0)
 
 -- the lines of a VEVENT say this event. In a message ORGANIZER and DTSTAMP have to stand; UID and DTSTART always
--- (RFC 5545 3.6.1, RFC 5546 3.2). Times before 1969-12-31T00:00:00Z are none; this profile's choice
+-- (RFC 5545 3.6.1, RFC 5546 3.2). That a calendar's VEVENT may lack DTSTAMP, that a REQUEST may lack ATTENDEE, and that times before
+-- 1969-12-31T00:00:00Z are none, is this profile's choice
 pub record SaysEvent (in_message : Bool) (lines : List (List ℕ)) (event : Event) : Type 0 where
   pub uid : Says (codes "UID") true IsUidLine lines (Some event.uid)
   pub organiser : Says (codes "ORGANIZER") in_message IsAddressLine lines event.organiser

@@ -15,7 +15,7 @@ without_mark octets = if bytes_eq (take 3 octets) (0xEF ∷ 0xBB ∷ 0xBF ∷ []
 abbrev pub without_return : List ℕ → List ℕ
 without_return line = if slice_index line (length line - 1) == 13 then take (length line - 1) line else line
 
--- the physical lines: what stands between LFs; the end of the input ends one too, which is this profile's choice
+-- the physical lines: what stands between LFs; that an LF without CR ends one, and the end of the input, is this profile's choice
 abbrev pub physical_lines : List ℕ → List (List ℕ)
 physical_lines octets = map without_return (slice_split (λ x. x == 10) octets)
 
@@ -139,7 +139,7 @@ is_item text = not (list_any is_quote (unquoted text))
 abbrev pub is_control : ℕ → Bool
 is_control c = (nat_lt c 32 && not (c == 9)) || c == 127
 
--- 1: no colon outside quotes. Where a quote stays open and a colon stands in the line, it is 3 instead
+-- 1: no colon outside quotes. Where a quote stays open and a colon stands in the line, it is 2 or 3 instead
 abbrev pub lacks_colon : List ℕ → Bool
 lacks_colon line =
     not (has_stop 58 line) && (not (count_by is_quote line % 2 == 1) || not (list_any (λ c. c == 58) line))

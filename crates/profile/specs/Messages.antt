@@ -38,7 +38,7 @@ abbrev pub is_unread_method : List ℕ → Bool
 is_unread_method word =
     is_same_name word (codes "CANCEL") || is_same_name word (codes "ADD") || is_same_name word (codes "REPLY") || is_same_name word (codes "REFRESH")
 
--- the words of METHOD that are taken here (RFC 5546 1.4); the others ask for nothing that a room or an organiser answers
+-- the words of METHOD that are taken here (RFC 5546 1.4); that PUBLISH, COUNTER and DECLINECOUNTER aren't is this profile's choice
 abbrev pub is_method : List ℕ → Bool
 is_method word = is_same_name word (codes "REQUEST") || is_unread_method word
 
@@ -76,7 +76,8 @@ pub record RequestFault (octets : List ℕ) (n : ℕ) : Type 0 where
 
 -- ---- its parts
 
--- the lines of a body in their one form, unfolded, each ended by CRLF: two bodies are one where these octets are equal
+-- the lines of a body in their one form, unfolded, each ended by CRLF: two bodies are one where these octets are equal, so a day and
+-- 24 hours are two; this profile's choice
 pub record IsCanonical (octets : List ℕ) (event : Event) : Type 0 where
   pub start : List ℕ
   pub written : WritesStamp start event.start
@@ -126,7 +127,7 @@ hexadecimal n = if nat_lt n 10 then 48 + n else 55 + n
 abbrev pub word_octet : ℕ → List ℕ
 word_octet c = if is_plain c then c ∷ [] else 37 ∷ hexadecimal (c / 16) ∷ hexadecimal (c % 16) ∷ []
 
--- a word of a status
+-- a word of a status: this profile's own form
 abbrev pub word : List ℕ → List ℕ
 word = flat_map word_octet
 
@@ -136,7 +137,8 @@ pub record IsKeyText (text : List ℕ) (key : Key) : Type 0 where
   pub written : WritesStamp slot key.slot
   pub is : text ≡ slot ++ codes " " ++ word key.organiser ++ codes " " ++ word key.uid
 
--- the lines that tell an outcome (RFC 5545 3.8.8.3): a status, or for a limit a line of this profile's own
+-- the lines that tell an outcome (RFC 5545 3.8.8.3, RFC 5546 3.6): a status, or for a limit a line of this profile's own. The seven
+-- words after the status 4.1 are this profile's own too
 abbrev pub TellsOutcome : Outcome → List (List ℕ) → Type 0
 TellsOutcome Accept lines = lines ≡ codes "REQUEST-STATUS:2.0;Success" ∷ []
 TellsOutcome (Busy a b t) lines =

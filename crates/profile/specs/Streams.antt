@@ -90,8 +90,6 @@ pub record IsStream (stream : List ℕ) (moment : ℤ) (addresses : List (List �
   pub all : closed ≡ false → rest ≡ []
   pub objects_are : AreObjects rest objects
 
--- ---- what is answered to an object
-
 -- ---- what can be wrong with an object, by the number of its refusal
 
 -- the fault of this number, 24 or 25, stands in the tree that the lines spell

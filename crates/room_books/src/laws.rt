@@ -7,8 +7,8 @@ ghost use Rattle.profile.specs.Streams.{IsDelivered, AllAnswers, HasBook, empty_
 ghost use Rattle.profile.specs.Kept.{IsKeptCalendar, kept_certificate};
 ghost use Rattle.profile.specs.Calendars.{CertificateHolds, SpellsCalendar};
 
-/// Whatever messages a room took, one after another from the first: no two of its confirmed instances hold the room in
-/// the same second, and there are no more of them than the limit.
+/// Whatever messages a room took, one after another from the first: no two of its confirmed instances of
+/// different keys hold the room in the same second, and there are no more of them than the limit.
 pub fn runs_stay_clear()
     ensures clear { (deliveries : List Delivery) (book : Book) → Runs empty_book deliveries book → IsClear (confirmed book) }
     ensures few { (deliveries : List Delivery) (book : Book) → Runs empty_book deliveries book → length (confirmed book) ≤ most_singles }

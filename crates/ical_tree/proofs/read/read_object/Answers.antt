@@ -59,3 +59,7 @@ pub returns-in_err-check_calendar-clause-first : goal.returns-in_err-check_calen
 returns-in_err-check_calendar-clause-first c =
     let p = err_from_is_err_and c.from_residual-in_err-check_calendar.result c.from_residual-in_err-check_calendar.ensures.1 in
     rw (p.1, p.2) (comes_after_lines (is_bounded c.args.limits) c.args.bytes.now (Refused c.in_err-check_calendar.field-0.0) c.in_ok-text.ensures.reads)
+
+pub check_calendar-requires : goal.check_calendar-requires
+check_calendar-requires c =
+    (state_spelled _ _ _ _ c.in_ok-calendar.calendar c.loop-line.invariant.state c.in-None.ensures.steps.0 c.in_ok-calendar.ensures.spelled).1
