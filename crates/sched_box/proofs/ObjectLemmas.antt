@@ -61,6 +61,12 @@ rest_short : (c : Cutter) (ys : List ℕ) → length (rest_after c ys) ≤ lengt
 rest_short c [] = omega arith
 rest_short c (y ∷ ys) = cond_short (ends_before c y) y ys (rest_after (step c y) ys) (rest_short (step c y) ys)
 
+pub after_short : (octets : List ℕ) → length (after_object octets) ≤ length octets
+after_short octets =
+    let same : length (rest_after fresh octets) ≡ length (after_object octets) = ap length (cutter_ends octets) in
+    let short = rest_short fresh octets in
+    omega arith
+
 ends_rest : (c : Cutter) (x : ℕ) (more : List ℕ) → ends_before c x ≡ true → rest_after c (x ∷ more) ≡ x ∷ more
 ends_rest c x more e = ap (λ b. cond b (x ∷ more) (rest_after (step c x) more)) e
 

@@ -1,5 +1,7 @@
+pub mod Answering
 pub mod Config
 pub mod Faults
 pub mod Objects
 pub mod Preamble
+pub mod Serving
 pub mod Settings

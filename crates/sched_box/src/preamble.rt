@@ -2,7 +2,8 @@
 
 ghost use Rattle.std.specs.Prelude.{◌≡◌, ◌≤◌, ◌<◌, ◌++◌, ℕ, List, length, nat_lt, ◌&&◌, not, take, true, false, IfOk, IfErr, IfSome};
 ghost use Rattle.sched_box.specs.Config.{config_rooms};
-ghost use Rattle.sched_box.specs.Faults.{IfRefusedStream, RefusesPreamble};
+ghost use Rattle.sched_box.specs.Faults.{IfRefusedStream, IsReadFault, RefusesPreamble};
+ghost use Rattle.sched_box.specs.Objects.{IsPieceFault};
 ghost use Rattle.sched_box.specs.Preamble.{IsLong, Leads, Opens, OpensNot, TakesPiece, TakesPreamble, is_closed, next_place};
 
 use crate::config::{Config, LONGEST};
@@ -20,6 +21,7 @@ pub fn read_preamble<R: BufRead>(
 ) -> Result<(Config, Stamp), StreamFault>
     ensures opens { IfOk result (λ read. Opens (R.remaining reader.old) (R.remaining reader.new) read.1 (config_rooms read.0)) }
     ensures refuses { IfErr result RefusesPreamble }
+    ensures faults { IfErr result IsReadFault }
     ensures none { IfErr result (IfRefusedStream (IfSome (R.remaining reader.old) OpensNot)) }
 {
     let octets = take_preamble(alloc, reader)?;
@@ -35,6 +37,7 @@ pub fn read_preamble<R: BufRead>(
 fn take_preamble<R: BufRead>(alloc: Global, reader: &mut R) -> Result<Vec<u8>, StreamFault>
     ensures takes { IfOk result (λ octets. TakesPreamble (R.remaining reader.old) (R.remaining reader.new) octets.items) }
     ensures refuses { IfErr result RefusesPreamble }
+    ensures faults { IfErr result IsReadFault }
     ensures none { IfErr result (IfRefusedStream (IfSome (R.remaining reader.old) IsLong)) }
 {
     let mut octets = Vec::new(alloc);
@@ -56,6 +59,7 @@ fn take_piece<R: BufRead>(
 ) -> Result<bool, ServeFault>
     ensures takes { IfOk result (λ goes. (taken : List ℕ) × (octets.new.items ≡ octets.old.items ++ taken)
         × TakesPiece (R.remaining reader.old) (R.remaining reader.new) place.old place.new taken goes) }
+    ensures faults { IfErr result IsPieceFault }
 {
     let Ok(lent) = reader.fill_buf() else {
         return Err(ServeFault::Read);

@@ -1,16 +1,22 @@
 //! Serving: each object goes to the rooms that it is addressed to, and what they answer is written.
 
-ghost use Rattle.std.specs.Prelude.{◌≤◌, IfErr, IfOk};
+ghost use Rattle.std.specs.Prelude.{◌≡◌, ◌≤◌, List, ℕ, IfErr, IfOk};
+ghost use Rattle.ical_values.specs.Octets.{address_octets};
+ghost use Rattle.profile.specs.Rooms.{Book, empty_book};
+ghost use Rattle.profile.specs.Streams.{empty_books};
+ghost use Rattle.sched_box.specs.Answering.{HasBook, HaveBooks, room_addresses};
+ghost use Rattle.sched_box.specs.Config.{config_rooms};
 ghost use Rattle.sched_box.specs.Faults.{RefusesPreamble};
+ghost use Rattle.sched_box.specs.Serving.{RoomsServe, Serves, ServesStream};
 
+use crate::answering::answer;
 use crate::config::Config;
 use crate::fault::{ServeFault, StreamFault};
 use crate::objects::Objects;
+use crate::output::put;
 use crate::preamble::read_preamble;
-use ical_lines::{Fault, Refusal};
+use ical_lines::Refusal;
 use ical_values::{Address, Stamp};
-use itip_messages::Message;
-use itoa::Buffer;
 use room_books::Room;
 use std::alloc::{AllocError, Global};
 use std::io::{self, BufRead, Write};
@@ -30,9 +36,11 @@ pub fn serve_stream<R: BufRead, W: Write>(
 ) -> Result<ServeReport, StreamFault>
     ensures counts { IfOk result (λ report. report.refused ≤ report.objects) }
     ensures refuses { IfErr result RefusesPreamble }
+    ensures serves { ServesStream (record { input = R.remaining reader.old; left = R.remaining reader.new; output = W.contents writer.old; written = W.contents writer.new }) result }
 {
     let (config, now) = read_preamble(alloc, reader)?;
-    Ok(serve(alloc, &config, reader, writer, now)?)
+    let report = serve(alloc, &config, reader, writer, now)?;
+    Ok(report)
 }
 
 /// Serves the objects of a stream from empty books, and writes the answers to each object after all rooms
@@ -46,6 +54,8 @@ pub fn serve<R: BufRead, W: Write>(
     now: Stamp,
 ) -> Result<ServeReport, ServeFault>
     ensures counts { IfOk result (λ report. report.refused ≤ report.objects) }
+    ensures serves { Serves now (config_rooms config.now) (empty_books (config_rooms config.now))
+        (record { input = R.remaining reader.old; left = R.remaining reader.new; output = W.contents writer.old; written = W.contents writer.new }) result }
 {
     let mut rooms = rooms_of(alloc, config)?;
     serve_rooms(alloc, &mut rooms, reader, writer, now)
@@ -84,14 +94,28 @@ fn not_hosted() -> StreamFault
 }
 
 /// An empty room for each address, in the order of the configuration.
-fn rooms_of(alloc: Global, config: &Config) -> Result<Vec<Room>, AllocError> {
+fn rooms_of(alloc: Global, config: &Config) -> Result<Vec<Room>, AllocError>
+    ensures addresses { IfOk result (λ rooms. room_addresses rooms.items ≡ config_rooms config.now) }
+    ensures books { IfOk result (λ rooms. HaveBooks rooms.items (empty_books (config_rooms config.now))) }
+{
     let mut rooms = Vec::new(alloc);
-    for address in config.rooms() {
-        rooms.push(Room::new(alloc, address.clone()?))?;
+    let addresses = config.rooms();
+    for address in addresses {
+        let room = room_of(alloc, address)?;
+        rooms.push(room)?;
     }
     Ok(rooms)
 }
 
+/// An empty room of this address.
+fn room_of(alloc: Global, address: &Address) -> Result<Room, AllocError>
+    ensures address { IfOk result (λ room. address_octets room.address ≡ address_octets address.now) }
+    ensures book { IfOk result (λ room. HasBook room empty_book) }
+{
+    Ok(Room::new(alloc, address.clone()?))
+}
+
+/// Serves the objects from the books that the rooms stand for.
 fn serve_rooms<R: BufRead, W: Write>(
     alloc: Global,
     rooms: &mut Vec<Room>,
@@ -100,6 +124,8 @@ fn serve_rooms<R: BufRead, W: Write>(
     now: Stamp,
 ) -> Result<ServeReport, ServeFault>
     ensures counts { IfOk result (λ report. report.refused ≤ report.objects) }
+    ensures serves { (befores : List Book) → HaveBooks rooms.old.items befores → RoomsServe now (room_addresses rooms.old.items) befores rooms.new.items
+        (record { input = R.remaining reader.old; left = R.remaining reader.new; output = W.contents writer.old; written = W.contents writer.new }) result }
 {
     let mut report = ServeReport {
         objects: 0,
@@ -107,77 +133,15 @@ fn serve_rooms<R: BufRead, W: Write>(
     };
     let mut objects = Objects::new(alloc);
     let mut answers = Vec::new(alloc);
-    for number in 1..u64::MAX {
-        if !objects.next_object(reader)? {
-            break;
-        }
+    while objects.next_object(reader)? {
+        let number = report.objects + 1;
         answers.clear();
-        if !answer(alloc, rooms, objects.octets(), number, now, &mut answers)? {
-            report.refused = report.refused.saturating_add(1);
-        }
-        report.objects = number;
+        let refused = answer(alloc, rooms, objects.octets(), number, now, &mut answers)?;
         put(writer, answers.as_slice())?;
+        report = ServeReport {
+            objects: number,
+            refused: report.refused + refused,
+        };
     }
     Ok(report)
-}
-
-/// Appends the answers to one object, its number in the stream from 1; false where it is refused.
-fn answer(
-    alloc: Global,
-    rooms: &mut Vec<Room>,
-    octets: &[u8],
-    number: u64,
-    now: Stamp,
-    answers: &mut Vec<u8>,
-) -> Result<bool, ServeFault> {
-    match Message::read(alloc, octets) {
-        Ok(message) => {
-            take_all(rooms, &message, now, answers)?;
-            Ok(true)
-        }
-        Err(Fault::Refused(refusal)) => {
-            write_refusal(number, refusal, answers)?;
-            Ok(false)
-        }
-        Err(Fault::Memory) => Err(ServeFault::Memory),
-    }
-}
-
-/// Hands a message to each room in turn, and appends what it answers: its reply and then its refresh.
-fn take_all(
-    rooms: &mut Vec<Room>,
-    message: &Message,
-    now: Stamp,
-    answers: &mut Vec<u8>,
-) -> Result<(), AllocError> {
-    for room in rooms.iter_mut() {
-        let answer = room.take(message, now)?;
-        for object in [answer.reply, answer.refresh] {
-            if let Some(octets) = object {
-                answers.extend_from_slice(octets.as_slice())?;
-            }
-        }
-    }
-    Ok(())
-}
-
-/// The line that stands for a refused object: `REFUSED;OBJECT=k:n`.
-fn write_refusal(number: u64, refusal: Refusal, answers: &mut Vec<u8>) -> Result<(), AllocError> {
-    let mut digits = Buffer::new();
-    answers.extend_from_slice(b"REFUSED;OBJECT=")?;
-    answers.extend_from_slice(digits.format(number).as_bytes())?;
-    answers.extend_from_slice(b":")?;
-    answers.extend_from_slice(digits.format(refusal.number).as_bytes())?;
-    answers.extend_from_slice(b"\r\n")
-}
-
-/// Writes what was answered, and flushes it: who waits for an answer gets it now.
-fn put<W: Write>(writer: &mut W, octets: &[u8]) -> Result<(), ServeFault> {
-    if octets.is_empty() {
-        return Ok(());
-    }
-    if writer.write_all(octets).is_err() || writer.flush().is_err() {
-        return Err(ServeFault::Write);
-    }
-    Ok(())
 }

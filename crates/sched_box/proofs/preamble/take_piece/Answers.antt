@@ -4,8 +4,8 @@ use Rattle.std.proofs.BufReadLemmas.{Consumes_shown}
 use Rattle.sched_box.proofs.PreambleLemmas.{piece}
 use Rattle.sched_box.proofs.preamble.take_piece.Goals as goal
 
-pub returns : goal.returns
-returns g c =
+pub returns-clause-takes : goal.returns-clause-takes
+returns-clause-takes g c =
     let lent = c.in-Ok.lent.now in
     let scanned = c.scan-scanned in
     let count = scanned.result.count in
@@ -15,4 +15,4 @@ returns g c =
     let within : count ≤ length (take c.min.result lent) = scanned.ensures.within in
     let shown : count ≤ length lent = search rules in
     let moved = Consumes_shown _ _ _ _ lent count shown c.in-Ok.ensures.front c.in-Ok.ensures.end filled.0 filled.1 drops in
-    record { takes = (take count (take c.min.result lent), c.in_ok-extend_from_slice.ensures.items, piece _ _ lent c.min.result count _ _ _ within c.min.ensures moved scanned.ensures.leads scanned.ensures.some c.goes_on.ensures) }
+    (take count (take c.min.result lent), c.in_ok-extend_from_slice.ensures.items, piece _ _ lent c.min.result count _ _ _ within c.min.ensures moved scanned.ensures.leads scanned.ensures.some c.goes_on.ensures)

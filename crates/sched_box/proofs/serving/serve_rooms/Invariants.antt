@@ -1,6 +1,9 @@
-use Rattle.std.proofs.Common.{◌<◌, ◌≤◌}
+use Rattle.sched_box.proofs.ServingLemmas.{Sofar}
 use Rattle.sched_box.proofs.serving.serve_rooms.Given as goal
 
--- no more objects were refused than there were
-abbrev pub invariant-loop-number : goal.invariant-loop-number
-invariant-loop-number g l = (l.report.refused ≤ l.report.objects) × (l.report.objects < l.number)
+abbrev pub invariant-loop-answers : goal.invariant-loop-answers
+invariant-loop-answers g l =
+    Sofar l.now l.fn.rooms.items l.rooms.items (g.R.Read.remaining l.fn.reader) (g.R.Read.remaining l.reader) (g.W.Write.contents l.fn.writer) (g.W.Write.contents l.writer) l.objects.left l.report
+
+abbrev pub decreases-loop-answers : goal.decreases-loop-answers
+decreases-loop-answers g l = l.objects.left

@@ -1,0 +1,150 @@
+-- The rooms of a box take a message, and their answers stand one behind another.
+use Rattle.std.proofs.Common.{◌≡◌, ◌⊎◌, inl, inr, ℕ, zero, suc, ◌+◌, ◌<◌, ◌≤◌, ℤ, List, [], ◌∷◌, ◌++◌, length, take, drop, get_or, set, map, Option, Some, None, refl, sym, ap, subst, ◌∙◌, arith, take_all, length-set, codes, decimal, Result, Ok, Err, OnOk}
+use Rattle.std.specs.Option.{option_to_list}
+use Rattle.std.specs.List.{flat_map, AllZip}
+use Rattle.std.proofs.lemmas.List.{append_assoc, append-nil, take_more, take_more_set, drop_more, drop_all, drop-set-lt}
+use Rattle.ical_values.specs.Octets.{address_octets}
+use Rattle.cal_events.specs.Events.{StandsIn}
+use Rattle.itip_messages.specs.Messages.{StandsFor, IsSpelled}
+use Rattle.itip_messages.specs.declared.message.Message.{Message}
+use Rattle.profile.specs.Events.{Event}
+use Rattle.profile.specs.Rooms as machine
+use Rattle.profile.specs.Rooms.{Book, Claim, IsStep}
+use Rattle.profile.specs.Kept.{Replies}
+use Rattle.profile.specs.Streams.{Takes, AllTake, Answers, ObjectFault, refused_line}
+use Rattle.room_books.specs.Standing.{Stands, StepsWith, AreClaims}
+use Rattle.room_books.specs.declared.room.Room.{Room}
+use Rattle.sched_box.specs.Objects.{kept_of}
+use Rattle.sched_box.specs.Answering.{room_addresses, HasBook, HaveBooks, RoomTakes, RoomsTake, AnswersKept, sent_octets}
+
+-- ---- one room
+
+sent_is : (reply : Option (List ℕ)) → sent_octets reply ≡ flat_map (λ x. x) (option_to_list reply)
+sent_is None = refl
+sent_is (Some x) = sym (append-nil x)
+
+pub room_takes : (moment : ℤ) (message : Message) (old new : Room) (kind : machine.Kind) (reply : Option (List ℕ))
+    → ((event : Event) → StandsFor message event → (book : Book) → Stands old.meetings.entries book
+    → (claims : List Claim) × AreClaims (address_octets old.address) event claims × StepsWith (address_octets old.address) new.meetings.entries book claims moment kind reply)
+    → RoomTakes moment message old new (sent_octets reply)
+room_takes moment message old new kind reply steps event stands book has =
+    let (claims, are, with') = steps event stands book has in
+    let P : List Claim → Type 0 = λ cs. IsStep book cs moment with'.steps.outcome with'.steps.after in
+    let Q : List Claim → Type 0 = λ cs. Replies (address_octets old.address) with'.steps.after cs reply in (
+      with'.steps.after,
+      with'.steps.stands,
+      record {
+        parts = are.parts;
+        are = are.are;
+        outcome = with'.steps.outcome;
+        step = subst P are.books with'.steps.step;
+        reply = reply;
+        replies = subst Q are.books with'.replies;
+        is = sent_is reply;
+      },
+    )
+
+-- ---- all rooms
+
+pub rooms_push : (moment : ℤ) (message : Message) (olds news : List Room) (old new : Room) (octets first : List ℕ) → RoomsTake moment message olds news octets
+    → new.address ≡ old.address → RoomTakes moment message old new first → RoomsTake moment message (olds ++ old ∷ []) (news ++ new ∷ []) (octets ++ first)
+rooms_push moment message [] [] old new octets first r same t = (first, [], ap (λ z. z ++ first) r ∙ sym (append-nil first), same, t, refl)
+rooms_push moment message [] (n ∷ ns) old new octets first r same t = absurd r
+rooms_push moment message (o ∷ os) [] old new octets first r same t = absurd r
+rooms_push moment message (o ∷ os) (n ∷ ns) old new octets first (one, rest, is, here, takes, others) same t =
+    (one, rest ++ first, ap (λ z. z ++ first) is ∙ append_assoc one rest first, here, takes, rooms_push moment message os ns old new rest first others same t)
+
+pub same_addresses : (moment : ℤ) (message : Message) (olds news : List Room) (octets : List ℕ) → RoomsTake moment message olds news octets → room_addresses news ≡ room_addresses olds
+same_addresses moment message [] [] octets r = refl
+same_addresses moment message [] (n ∷ ns) octets r = absurd r
+same_addresses moment message (o ∷ os) [] octets r = absurd r
+same_addresses moment message (o ∷ os) (n ∷ ns) octets (one, rest, is, here, takes, others) =
+    ap (λ a. address_octets a ∷ room_addresses ns) here ∙ ap (λ z. address_octets o.address ∷ z) (same_addresses moment message os ns rest others)
+
+all_take : (moment : ℤ) (message : Message) (event : Event) → StandsFor message event → (olds news : List Room) (octets : List ℕ) → RoomsTake moment message olds news octets
+    → (befores : List Book) → HaveBooks olds befores → (afters : List Book) × HaveBooks news afters × AllTake moment event (room_addresses olds) befores afters octets
+all_take moment message event stands [] [] octets r [] h = ([], tt, r)
+all_take moment message event stands [] [] octets r (b ∷ bs) h = absurd h
+all_take moment message event stands [] (n ∷ ns) octets r befores h = absurd r
+all_take moment message event stands (o ∷ os) [] octets r befores h = absurd r
+all_take moment message event stands (o ∷ os) (n ∷ ns) octets r [] h = absurd h
+all_take moment message event stands (o ∷ os) (n ∷ ns) octets (one, rest, is, here, takes, others) (b ∷ bs) h =
+    let (after, has, first) = takes event stands b h.0 in
+    let (afters, have, more) = all_take moment message event stands os ns rest others bs h.1 in
+    (after ∷ afters, (has, have), (one, rest, is, first, more))
+
+pub answers_taken : (moment : ℤ) (k : ℕ) (kept : List ℕ) (message : Message) (olds news : List Room) (octets : List ℕ)
+    → ((object : List ℕ) → kept ≡ kept_of object → IsSpelled object message) → RoomsTake moment message olds news octets → AnswersKept moment k kept olds news octets 0
+answers_taken moment k kept message olds news octets spelled takes object is befores h =
+    let (event, spells, stands) = spelled object is in
+    let (afters, have, all) = all_take moment message event stands olds news octets takes befores h in
+    (afters, have, inl (event, spells, all, refl))
+
+pub answers_refused : (moment : ℤ) (k : ℕ) (kept : List ℕ) (n : ℕ) (rooms : List Room) (octets : List ℕ)
+    → ((object : List ℕ) → kept ≡ kept_of object → ObjectFault n object) → octets ≡ refused_line k n → AnswersKept moment k kept rooms rooms octets 1
+answers_refused moment k kept n rooms octets faulty line object is befores h = (befores, h, inr (n, faulty object is, refl, line, refl))
+
+-- ---- the loop over the rooms
+
+-- the first rooms have taken the message
+pub record TakenSofar (moment : ℤ) (message : Message) (olds news : List Room) (i : ℕ) (before after : List ℕ) : Type 0 where
+  pub octets : List ℕ
+  pub is : after ≡ before ++ octets
+  pub takes : RoomsTake moment message (take i olds) (take i news) octets
+  pub rest : drop i news ≡ drop i olds
+  pub long : length news ≡ length olds
+
+pub taken_none : (moment : ℤ) (message : Message) (rooms : List Room) (octets : List ℕ) → TakenSofar moment message rooms rooms 0 octets octets
+taken_none moment message rooms octets = record { octets = []; is = sym (append-nil octets); takes = refl; rest = refl; long = refl }
+
+pub taken_more : (moment : ℤ) (message : Message) (olds news : List Room) (i : ℕ) (before mid after : List ℕ) (d new : Room) (first : List ℕ)
+    → TakenSofar moment message olds news i before mid → i < length news → new.address ≡ (get_or news i d).address
+    → RoomTakes moment message (get_or news i d) new first → after ≡ mid ++ first → TakenSofar moment message olds (set news i new) (i + 1) before after
+taken_more moment message olds news i before mid after d new first so l same takes is =
+    let long = so.long in
+    let l' : i < length olds = omega arith in
+    let old = get_or news i d in
+    let both : old ∷ drop (i + 1) news ≡ get_or olds i d ∷ drop (i + 1) olds = sym (drop_more news i d l) ∙ so.rest ∙ drop_more olds i d l' in
+    let head : get_or olds i d ≡ old = cc in
+    let tail : drop (i + 1) news ≡ drop (i + 1) olds = cc in
+    let olds_is : take (i + 1) olds ≡ take i olds ++ old ∷ [] = take_more olds i d l' ∙ ap (λ r. take i olds ++ r ∷ []) head in
+    let P : List Room → List Room → Type 0 = λ a b. RoomsTake moment message a b (so.octets ++ first) in
+    record {
+      octets = so.octets ++ first;
+      is = is ∙ ap (λ z. z ++ first) so.is ∙ append_assoc before so.octets first;
+      takes =
+          subst (λ a. P a (take (i + 1) (set news i new))) (sym olds_is)
+          (subst (P (take i olds ++ old ∷ [])) (sym (take_more_set news i new l)) (rooms_push moment message (take i olds) (take i news) old new so.octets first so.takes same takes));
+      rest = drop-set-lt (i + 1) news i new (omega arith) ∙ tail;
+      long = length-set news i new ∙ long;
+    }
+
+pub taken_all : (moment : ℤ) (message : Message) (olds news : List Room) (i : ℕ) (before after : List ℕ) → TakenSofar moment message olds news i before after
+    → length news ≤ i → (more : List ℕ) × (after ≡ before ++ more) × RoomsTake moment message olds news more
+taken_all moment message olds news i before after so end =
+    let long = so.long in
+    let P : List Room → List Room → Type 0 = λ a b. RoomsTake moment message a b so.octets in
+    (so.octets, so.is, subst (λ a. P a news) (take_all i olds (omega arith)) (subst (P (take i olds)) (take_all i news end) so.takes))
+
+-- ---- the line for a refusal
+
+five : (o a b c d e : List ℕ) → ((((o ++ a) ++ b) ++ c) ++ d) ++ e ≡ o ++ ((((a ++ b) ++ c) ++ d) ++ e)
+five o a b c d e = simp append_assoc
+
+pub line_is : (old one two three four new first second : List ℕ) (k n : ℕ) → one ≡ old ++ codes "REFUSED;OBJECT=" → two ≡ one ++ first → first ≡ decimal k
+    → three ≡ two ++ codes ":" → four ≡ three ++ second → second ≡ decimal n → new ≡ four ++ codes "\r\n" → new ≡ old ++ refused_line k n
+line_is old one two three four new first second k n a b c d e f g =
+    let three_is : three ≡ ((old ++ codes "REFUSED;OBJECT=") ++ decimal k) ++ codes ":" = d ∙ ap (λ z. z ++ codes ":") (b ∙ ap (λ z. one ++ z) c ∙ ap (λ z. z ++ decimal k) a) in
+    let four_is : four ≡ (((old ++ codes "REFUSED;OBJECT=") ++ decimal k) ++ codes ":") ++ decimal n = e ∙ ap (λ z. three ++ z) f ∙ ap (λ z. z ++ decimal n) three_is in
+    g ∙ ap (λ z. z ++ codes "\r\n") four_is ∙ five old (codes "REFUSED;OBJECT=") (decimal k) (codes ":") (decimal n) (codes "\r\n")
+
+-- ---- the parts of a function's answer
+
+pub put_back : (len : ℕ) (xs ys : List Room) → len ≡ length ys → length xs ≡ length ys → take len (xs ++ drop (length xs) ys) ≡ xs
+put_back len xs ys len_is long =
+    ap (λ z. take len (xs ++ z)) (drop_all (length xs) ys (omega arith)) ∙ ap (take len) (append-nil xs) ∙ take_all len xs (omega arith)
+
+pub sent_all : {A E : Type 0} (r : Result A E) (P : List ℕ → Type 0) (start mid new first second : List ℕ) → mid ≡ start ++ first → second ≡ [] → P first → OnOk r (new ≡ mid ++ second)
+    → OnOk r ((x : List ℕ) × (new ≡ start ++ x) × P x)
+sent_all (Ok u) P start mid new first second is none p e = (first, e ∙ ap (λ z. mid ++ z) none ∙ append-nil mid ∙ is, p)
+sent_all (Err f) P start mid new first second is none p e = tt

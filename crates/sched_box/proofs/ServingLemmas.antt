@@ -1,0 +1,372 @@
+-- The objects and answers so far, against those of the whole stream.
+use Rattle.std.proofs.Common.{◌≡◌, ◌⊎◌, inl, inr, ℕ, ℤ, zero, suc, ◌+◌, ◌<◌, ◌≤◌, Bool, true, false, List, [], ◌∷◌, ◌++◌, length, take, map, Option, Some, None, IfSome, OnSome, Result, Ok, Err, refl, sym, ap, subst, ◌∙◌, arith, length-append}
+use Rattle.std.proofs.lemmas.List.{append_assoc, append-nil}
+use Rattle.std.specs.List.{AllZip}
+use Rattle.std.specs.Io.KnownBytes.{Appends, Consumes, Keeps, IsAtEnd}
+use Rattle.std.proofs.KnownBytes.{Appends-nil, Appends-trans}
+use Rattle.profile.specs.Objects.{is_begun, after_object}
+use Rattle.profile.specs.Rooms.{Book}
+use Rattle.profile.specs.Streams.{BeginsWith, AreObjects, Answers, AllAnswers}
+use Rattle.room_books.specs.declared.room.Room.{Room}
+use Rattle.sched_box.specs.declared.fault.ServeFault.{ServeFault}
+use Rattle.sched_box.specs.declared.fault.ServeFault.TheVariants.{Read, Write, TooLong, Memory}
+use Rattle.sched_box.specs.declared.objects.Objects.{Objects}
+use Rattle.sched_box.specs.declared.serving.ServeReport.{ServeReport}
+use Rattle.sched_box.specs.Answering.{HaveBooks, AnswersKept, room_addresses}
+use Rattle.sched_box.specs.Objects.{kept_of, TakesObject, ReadsObject, StopsReading}
+use Rattle.sched_box.specs.Serving.{Ends, Gives, GivesPart, ServesAll, ServesSome, ServesCut, HasRead, ServesUntil, Serves, RoomsServe, ServesStream}
+use Rattle.std.specs.Option.{option_to_list}
+use Rattle.std.proofs.lemmas.List.{map-append, take_more}
+use Rattle.ical_values.specs.Octets.{address_octets}
+use Rattle.ical_values.specs.declared.address.Address.{Address}
+use Rattle.profile.specs.Rooms.{empty_book}
+use Rattle.profile.specs.Streams.{empty_books}
+use Rattle.sched_box.specs.declared.fault.StreamFault.{StreamFault}
+use Rattle.sched_box.specs.declared.fault.StreamFault.TheVariants as stream
+use Rattle.sched_box.specs.Faults.{IfRefusedStream, IsReadFault}
+use Rattle.sched_box.specs.Preamble.{Opens, OpensNot}
+use Rattle.sched_box.specs.Answering.{HasBook}
+use Rattle.sched_box.proofs.ObjectLemmas.{after_short}
+use Rattle.std.proofs.Common.{get_or, take_all}
+
+-- ---- one object more
+
+begins_more : (stream : List ℕ) (objects : List (List ℕ)) (rest object : List ℕ) → BeginsWith stream objects rest → is_begun rest ≡ true → rest ≡ object ++ after_object rest
+    → BeginsWith stream (objects ++ object ∷ []) (after_object rest)
+begins_more stream [] rest object h begun is =
+    let P : List ℕ → Type 0 = λ z. (is_begun z ≡ true) × (z ≡ object ++ after_object z) × (after_object rest ≡ after_object z) in
+    subst P h (begun, is, refl)
+begins_more stream (o ∷ os) rest object (b, split, more) begun is = (b, split, begins_more (after_object stream) os rest object more begun is)
+
+pub gives_more : (a b c : Option (List ℕ)) (objects : List (List ℕ)) (kept taken : List ℕ) → Gives a b objects → TakesObject b c kept true taken → Gives a c (objects ++ taken ∷ [])
+gives_more None b c objects kept taken g t = tt
+gives_more (Some xs) None c objects kept taken g t = absurd g
+gives_more (Some xs) (Some ys) None objects kept taken g t = absurd t.consumed
+gives_more (Some xs) (Some ys) (Some zs) objects kept taken g t =
+    let P : List ℕ → Type 0 = λ z. BeginsWith xs (objects ++ taken ∷ []) z in
+    subst P (sym t.rest) (begins_more xs objects ys taken g t.begun (t.consumed ∙ ap (λ z. taken ++ z) t.rest))
+
+-- the part that was read of the next object, or the whole of it
+pub gives_whole : (a b c : Option (List ℕ)) (objects : List (List ℕ)) (kept taken : List ℕ) → Gives a b objects → TakesObject b c kept true taken → GivesPart a c objects
+gives_whole None b c objects kept taken g t = tt
+gives_whole (Some xs) None c objects kept taken g t = absurd g
+gives_whole (Some xs) (Some ys) None objects kept taken g t = absurd t.consumed
+gives_whole (Some xs) (Some ys) (Some zs) objects kept taken g t =
+    let same : length zs ≡ length (after_object ys) = ap length t.rest in
+    (ys, taken, g, t.consumed, omega arith)
+
+pub gives_stopped : (a b c : Option (List ℕ)) (objects : List (List ℕ)) (before after : Objects) (fault : ServeFault) → Gives a b objects → StopsReading b c before after fault → GivesPart a c objects
+gives_stopped None b c objects before after fault g s = tt
+gives_stopped (Some xs) None c objects before after fault g s = absurd g
+gives_stopped (Some xs) (Some ys) None objects before after fault g s = absurd s.consumed
+gives_stopped (Some xs) (Some ys) (Some zs) objects before after fault g s = (ys, s.taken, g, s.consumed, s.within)
+
+pub gives_all : (a b c : Option (List ℕ)) (objects : List (List ℕ)) (kept taken : List ℕ) → Gives a b objects → TakesObject b c kept false taken
+    → IfSome a (λ stream. AreObjects stream objects) × OnSome a (IsAtEnd c)
+gives_all None b c objects kept taken g t = (tt, tt)
+gives_all (Some xs) None c objects kept taken g t = absurd g
+gives_all (Some xs) (Some ys) c objects kept taken g t = ((ys, g, t.begun), t.end refl)
+
+pub answers_more : (moment : ℤ) (rooms : List (List ℕ)) (k : ℕ) (objects : List (List ℕ)) (object : List ℕ) (befores mids afters : List Book) (octets more : List ℕ) (refused one : ℕ)
+    → AllAnswers moment rooms k objects befores mids octets refused → Answers moment rooms (k + length objects) object mids afters more one
+    → AllAnswers moment rooms k (objects ++ object ∷ []) befores afters (octets ++ more) (refused + one)
+answers_more moment rooms k [] object befores mids afters octets more refused one (same, none, zero') a =
+    let P : List Book → Type 0 = λ bs. Answers moment rooms k object bs afters more one in
+    let Q : ℕ → Type 0 = λ n. Answers moment rooms n object mids afters more one in
+    let here : k + 0 ≡ k = omega arith in
+    let sum : refused + one ≡ one + 0 = omega arith in
+    (afters, more, [], one, 0, ap (λ z. z ++ more) none ∙ sym (append-nil more), sum, subst P same (subst Q here a), (refl, refl, refl))
+answers_more moment rooms k (o ∷ os) object befores mids afters octets more refused one (bs, first, rest, r, s, is, sum, a, others) answer =
+    let Q : ℕ → Type 0 = λ n. Answers moment rooms n object mids afters more one in
+    let place : k + length (o ∷ os) ≡ k + 1 + length os = omega arith in
+    let total : refused + one ≡ r + (s + one) = omega arith in
+    (bs, first, rest ++ more, r, s + one, ap (λ z. z ++ more) is ∙ append_assoc first rest more, total, a, answers_more moment rooms (k + 1) os object bs mids afters rest more s one others (subst Q place answer))
+
+-- ---- the loop
+
+-- the objects so far were taken, and their answers written
+pub record ServedSofar (moment : ℤ) (olds news : List Room) (input left output written : Option (List ℕ)) (befores : List Book) (report : ServeReport) : Type 0 where
+  pub objects : List (List ℕ)
+  pub afters : List Book
+  pub octets : List ℕ
+  pub books : HaveBooks news afters
+  pub gives : Gives input left objects
+  pub answers : AllAnswers moment (room_addresses olds) 1 objects befores afters octets report.refused
+  pub counted : report.objects ≡ length objects
+  pub writes : Appends output written octets
+
+-- so many octets may still be read
+abbrev pub HasLeft : Option (List ℕ) → Option (List ℕ) → ℕ → Type 0
+HasLeft None left may_read = Unit {0}
+HasLeft (Some octets) None may_read = ⊥
+HasLeft (Some octets) (Some rest) may_read = length octets + may_read ≡ length rest + 1_073_741_824
+
+-- from all books; the rooms keep their addresses, and so many octets were read
+pub record Sofar (moment : ℤ) (olds news : List Room) (input left output written : Option (List ℕ)) (may_read : ℕ) (report : ServeReport) : Type 0 where
+  pub served : (befores : List Book) → HaveBooks olds befores → ServedSofar moment olds news input left output written befores report
+  pub addresses : room_addresses news ≡ room_addresses olds
+  pub read : HasLeft input left may_read
+  pub few : report.objects + may_read ≤ 1_073_741_824
+  pub refusals : report.refused ≤ report.objects
+
+pub none_served : (moment : ℤ) (rooms : List Room) (input output : Option (List ℕ)) (report : ServeReport) (may_read : ℕ) → report.objects ≡ 0 → report.refused ≡ 0 → may_read ≡ 1_073_741_824
+    → Sofar moment rooms rooms input input output output may_read report
+none_served moment rooms input output report may_read no_objects no_refused all = record {
+  served = λ befores have. record {
+    objects = [];
+    afters = befores;
+    octets = [];
+    books = have;
+    gives = nothing input;
+    answers = (refl, refl, no_refused);
+    counted = no_objects;
+    writes = Appends-nil output;
+  };
+  addresses = refl;
+  read = unread input;
+  few = omega arith;
+  refusals = omega arith;
+}
+  where
+    nothing : (a : Option (List ℕ)) → Gives a a []
+    nothing None = tt
+    nothing (Some xs) = refl
+
+    unread : (a : Option (List ℕ)) → HasLeft a a may_read
+    unread None = tt
+    unread (Some xs) = ap (λ n. length xs + n) all
+
+read_on : (a b c : Option (List ℕ)) (taken : List ℕ) (old new : ℕ) → HasLeft a b old → Consumes b c taken → new + length taken ≡ old → HasLeft a c new
+read_on None b c taken old new h consumed left = tt
+read_on (Some xs) None c taken old new h consumed left = absurd h
+read_on (Some xs) (Some ys) None taken old new h consumed left = absurd consumed
+read_on (Some xs) (Some ys) (Some zs) taken old new h consumed left =
+    let split : length ys ≡ length taken + length zs = ap length consumed ∙ length-append taken zs in
+    omega arith
+
+all_read : (a c : Option (List ℕ)) (n : ℕ) → HasLeft a c n → n ≡ 0 → HasRead 1_073_741_824 a c
+all_read None c n h e = tt
+all_read (Some xs) None n h e = absurd h
+all_read (Some xs) (Some zs) n h e = omega arith
+
+-- the stream ended before the next object did
+pub stopped : (moment : ℤ) (olds news : List Room) (a b c output written : Option (List ℕ)) (before after : Objects) (report : ServeReport) (fault : ServeFault)
+    → Sofar moment olds news a b output written before.left report → StopsReading b c before after fault → (befores : List Book) → HaveBooks olds befores
+    → ServesUntil moment (room_addresses olds) befores (record { input = a; left = c; output = output; written = written }) fault
+stopped moment olds news a b c output written before after report fault so s befores have = at fault s
+  where
+    some : (f : ServeFault) → StopsReading b c before after f → ServesSome moment (room_addresses olds) befores (record { input = a; left = c; output = output; written = written })
+    some f s =
+        let served = so.served befores have in
+        record {
+          objects = served.objects;
+          afters = served.afters;
+          octets = served.octets;
+          refused = report.refused;
+          gives = gives_stopped a b c served.objects before after f served.gives s;
+          answers = served.answers;
+          written = served.writes;
+        }
+
+    at : (f : ServeFault) → StopsReading b c before after f → ServesUntil moment (room_addresses olds) befores (record { input = a; left = c; output = output; written = written }) f
+    at Read s = some Read s
+    at Memory s = some Memory s
+    at TooLong s = (some TooLong s, all_read a c after.left (read_on a b c s.taken before.left after.left so.read s.consumed s.left) (s.spent refl))
+    at Write s = absurd (s.reading refl)
+
+-- an object was taken, and memory was refused for the answers to it
+pub forgotten : (moment : ℤ) (olds news : List Room) (a b c output written : Option (List ℕ)) (before after : Objects) (report : ServeReport) (fault : ServeFault)
+    → Sofar moment olds news a b output written before.left report → ReadsObject b c before after true → fault ≡ Memory → (befores : List Book) → HaveBooks olds befores
+    → ServesUntil moment (room_addresses olds) befores (record { input = a; left = c; output = output; written = written }) fault
+forgotten moment olds news a b c output written before after report fault so (taken, t, left) is befores have =
+    let served = so.served befores have in
+    let P : ServeFault → Type 0 = ServesUntil moment (room_addresses olds) befores (record { input = a; left = c; output = output; written = written }) in
+    subst P (sym is)
+    (record {
+      objects = served.objects;
+      afters = served.afters;
+      octets = served.octets;
+      refused = report.refused;
+      gives = gives_whole a b c served.objects after.octets.items taken served.gives t;
+      answers = served.answers;
+      written = served.writes;
+    })
+
+-- the answers to an object from the books so far
+next_answers : (moment : ℤ) (olds news newer : List Room) (number : ℕ) (kept more taken : List ℕ) (one : ℕ) (n : ℕ) → room_addresses news ≡ room_addresses olds → number ≡ n + 1
+    → AnswersKept moment number kept news newer more one → kept ≡ kept_of taken → (mids : List Book) → HaveBooks news mids
+    → (afters : List Book) × HaveBooks newer afters × Answers moment (room_addresses olds) (n + 1) taken mids afters more one
+next_answers moment olds news newer number kept more taken one n same number_is answers kept_is mids have =
+    let (afters, books, answer) = answers taken kept_is mids have in
+    let P : List (List ℕ) → Type 0 = λ rs. Answers moment rs number taken mids afters more one in
+    let Q : ℕ → Type 0 = λ k. Answers moment (room_addresses olds) k taken mids afters more one in
+    (afters, books, subst Q number_is (subst P same answer))
+
+-- the answers to an object were made, and the writer failed
+pub cut : (moment : ℤ) (olds news newer : List Room) (a b c output written cut_at : Option (List ℕ)) (before after : Objects) (report : ServeReport) (number one : ℕ) (more : List ℕ) (fault : ServeFault)
+    → Sofar moment olds news a b output written before.left report → ReadsObject b c before after true → number ≡ report.objects + 1
+    → AnswersKept moment number after.octets.items news newer more one → 0 < length more → (n : ℕ) × Appends written cut_at (take n more) → fault ≡ Write
+    → (befores : List Book) → HaveBooks olds befores
+    → ServesUntil moment (room_addresses olds) befores (record { input = a; left = c; output = output; written = cut_at }) fault
+cut moment olds news newer a b c output written cut_at before after report number one more fault so (taken, t, left) number_is answers some (n, appended) is befores have =
+    let served = so.served befores have in
+    let same : number ≡ length served.objects + 1 = number_is ∙ ap (λ k. k + 1) served.counted in
+    let (afters, books, answer) = next_answers moment olds news newer number after.octets.items more taken one (length served.objects) so.addresses same answers t.kept_is served.afters served.books in
+    let P : ServeFault → Type 0 = ServesUntil moment (room_addresses olds) befores (record { input = a; left = c; output = output; written = cut_at }) in
+    subst P (sym is)
+    (record {
+      objects = served.objects;
+      last = taken;
+      mids = served.afters;
+      afters = afters;
+      octets = served.octets;
+      answer = more;
+      refused = report.refused;
+      one = one;
+      cut = n;
+      gives = gives_more a b c served.objects after.octets.items taken served.gives t;
+      answers = served.answers;
+      answered = answer;
+      some = some;
+      written = Appends-trans output written cut_at served.octets (take n more) served.writes appended;
+    })
+
+-- an object more
+pub served_more : (moment : ℤ) (olds news newer : List Room) (a b c output written new : Option (List ℕ)) (before after : Objects) (report next : ServeReport) (number one : ℕ) (more : List ℕ)
+    → Sofar moment olds news a b output written before.left report → ReadsObject b c before after true → number ≡ report.objects + 1
+    → AnswersKept moment number after.octets.items news newer more one → one ≤ 1 → room_addresses newer ≡ room_addresses news → Appends written new more
+    → next.objects ≡ number → next.refused ≡ report.refused + one → Sofar moment olds newer a c output new after.left next
+served_more moment olds news newer a b c output written new before after report next number one more so (taken, t, left) number_is answers small same appended objects_are refused_are =
+    let few = so.few in
+    let refusals = so.refusals in
+    let some = t.some refl in
+    record {
+      served = λ befores have.
+          let served = so.served befores have in
+          let numbered : number ≡ length served.objects + 1 = number_is ∙ ap (λ k. k + 1) served.counted in
+          let (afters, books, answer) = next_answers moment olds news newer number after.octets.items more taken one (length served.objects) so.addresses numbered answers t.kept_is served.afters served.books in
+          let first : length served.objects + 1 ≡ 1 + length served.objects = omega arith in
+          let P : ℕ → Type 0 = λ k. Answers moment (room_addresses olds) k taken served.afters afters more one in
+          let Q : ℕ → Type 0 = λ k. AllAnswers moment (room_addresses olds) 1 (served.objects ++ taken ∷ []) befores afters (served.octets ++ more) k in
+          record {
+            objects = served.objects ++ taken ∷ [];
+            afters = afters;
+            octets = served.octets ++ more;
+            books = books;
+            gives = gives_more a b c served.objects after.octets.items taken served.gives t;
+            answers = subst Q (sym refused_are) (answers_more moment (room_addresses olds) 1 served.objects taken befores served.afters afters served.octets more report.refused one served.answers (subst P first answer));
+            counted = objects_are ∙ numbered ∙ sym (length-append served.objects (taken ∷ []));
+            writes = Appends-trans output written new served.octets more served.writes appended;
+          };
+      addresses = same ∙ so.addresses;
+      read = read_on a b c taken before.left after.left so.read t.consumed left;
+      few = omega arith;
+      refusals = omega arith;
+    }
+
+-- no object is left
+pub served_all : (moment : ℤ) (olds news : List Room) (a b c output written : Option (List ℕ)) (before after : Objects) (report : ServeReport)
+    → Sofar moment olds news a b output written before.left report → ReadsObject b c before after false → (befores : List Book) → HaveBooks olds befores
+    → (afters : List Book) × HaveBooks news afters × ServesAll moment (room_addresses olds) befores afters (record { input = a; left = c; output = output; written = written }) report
+served_all moment olds news a b c output written before after report so (taken, t, left) befores have =
+    let served = so.served befores have in
+    let ended = gives_all a b c served.objects after.octets.items taken served.gives t in (
+      served.afters,
+      served.books,
+      record { objects = served.objects; octets = served.octets; are = ended.0; end = ended.1; answers = served.answers; counted = served.counted; written = served.writes },
+    )
+
+-- ---- the parts of a function's answer
+
+-- what is sent is the answer, as the octets that were there before are none
+pub answered_from : (moment : ℤ) (number : ℕ) (kept kept' : List ℕ) (olds news : List Room) (old new sent : List ℕ) (one : ℕ) → old ≡ [] → sent ≡ new → kept' ≡ kept
+    → (more : List ℕ) × (new ≡ old ++ more) × AnswersKept moment number kept' olds news more one → AnswersKept moment number kept olds news sent one
+answered_from moment number kept kept' olds news old new sent one none sent_is kept_is (more, is, answers) =
+    let same : more ≡ sent = sym (sent_is ∙ is ∙ ap (λ z. z ++ more) none) in
+    let P : List ℕ → Type 0 = λ z. AnswersKept moment number kept' olds news z one in
+    let Q : List ℕ → Type 0 = λ z. AnswersKept moment number z olds news sent one in
+    subst Q kept_is (subst P same answers)
+
+pub serves_from : (moment : ℤ) (rooms addresses : List (List ℕ)) (befores : List Book) (news : List Room) (ends : Ends) (r : Result ServeReport ServeFault) → rooms ≡ addresses
+    → RoomsServe moment rooms befores news ends r → Serves moment addresses befores ends r
+serves_from moment rooms addresses befores news ends (Ok report) same (afters, books, all) =
+    let P : List (List ℕ) → Type 0 = λ rs. ServesAll moment rs befores afters ends report in
+    (afters, subst P same all)
+serves_from moment rooms addresses befores news ends (Err fault) same h =
+    let P : List (List ℕ) → Type 0 = λ rs. ServesUntil moment rs befores ends fault in
+    subst P same h
+
+pub serves_none : (moment : ℤ) (addresses : List (List ℕ)) (befores : List Book) (input output : Option (List ℕ)) (fault : ServeFault) → fault ≡ Memory
+    → ServesUntil moment addresses befores (record { input = input; left = input; output = output; written = output }) fault
+serves_none moment addresses befores input output fault is =
+    let P : ServeFault → Type 0 = ServesUntil moment addresses befores (record { input = input; left = input; output = output; written = output }) in
+    subst P (sym is)
+    (record { objects = []; afters = befores; octets = []; refused = 0; gives = none input; answers = (refl, refl, refl); written = Appends-nil output })
+  where
+    none : (a : Option (List ℕ)) → GivesPart a a []
+    none None = tt
+    none (Some xs) = (xs, [], refl, refl, after_short xs)
+
+-- ---- empty rooms
+
+-- rooms were made for the first addresses
+pub record MadeSofar (addresses : List Address) (i : ℕ) (rooms : List Room) : Type 0 where
+  pub addresses_are : room_addresses rooms ≡ map address_octets (take i addresses)
+  pub books : HaveBooks rooms (empty_books (map address_octets (take i addresses)))
+
+have_push : (rooms : List Room) (books : List Book) (room : Room) (book : Book) → HaveBooks rooms books → HasBook room book → HaveBooks (rooms ++ room ∷ []) (books ++ book ∷ [])
+have_push [] [] room book h has = (has, tt)
+have_push [] (b ∷ bs) room book h has = absurd h
+have_push (r ∷ rs) [] room book h has = absurd h
+have_push (r ∷ rs) (b ∷ bs) room book h has = (h.0, have_push rs bs room book h.1 has)
+
+pub none_made : (addresses : List Address) (rooms : List Room) → rooms ≡ [] → MadeSofar addresses 0 rooms
+none_made addresses rooms none =
+    let P : List Room → Type 0 = MadeSofar addresses 0 in
+    subst P (sym none) (record { addresses_are = refl; books = tt })
+
+pub made_more : (addresses : List Address) (i : ℕ) (rooms newer : List Room) (room : Room) (d : Address) → MadeSofar addresses i rooms → i < length addresses → newer ≡ rooms ++ room ∷ []
+    → address_octets room.address ≡ address_octets (get_or addresses i d) → HasBook room empty_book → MadeSofar addresses (i + 1) newer
+made_more addresses i rooms newer room d so l is same has =
+    let next : map address_octets (take (i + 1) addresses) ≡ map address_octets (take i addresses) ++ address_octets (get_or addresses i d) ∷ [] = ap (map address_octets) (take_more addresses i d l) ∙ map-append address_octets (take i addresses) (get_or addresses i d ∷ []) in
+    let P : List Room → Type 0 = MadeSofar addresses (i + 1) in
+    let Q : List (List ℕ) → Type 0 = λ list. HaveBooks (rooms ++ room ∷ []) (empty_books list) in
+    let R : List Book → Type 0 = HaveBooks (rooms ++ room ∷ []) in
+    subst P (sym is)
+    (record {
+      addresses_are = map-append (λ (r : Room). address_octets r.address) rooms (room ∷ []) ∙ ap (λ z. z ++ address_octets room.address ∷ []) so.addresses_are ∙ ap (λ a. map address_octets (take i addresses) ++ a ∷ []) same ∙ sym next;
+      books = subst Q (sym next) (subst R (sym (map-append (λ (a : List ℕ). empty_book) (map address_octets (take i addresses)) (address_octets (get_or addresses i d) ∷ []))) (have_push rooms (empty_books (map address_octets (take i addresses))) room empty_book so.books has));
+    })
+
+pub all_made : (addresses : List Address) (i : ℕ) (rooms : List Room) → MadeSofar addresses i rooms → length addresses ≤ i
+    → (room_addresses rooms ≡ map address_octets addresses) × HaveBooks rooms (empty_books (map address_octets addresses))
+all_made addresses i rooms so end =
+    let all : take i addresses ≡ addresses = take_all i addresses end in
+    let P : List Address → Type 0 = λ list. HaveBooks rooms (empty_books (map address_octets list)) in
+    (so.addresses_are ∙ ap (map address_octets) all, subst P all so.books)
+
+-- ---- a stream with its preamble
+
+pub stream_refused : (a left output : Option (List ℕ)) (f : StreamFault) → IfRefusedStream (IfSome a OpensNot) f → IsReadFault f → ServesStream (record { input = a; left = left; output = output; written = output }) (Err f)
+stream_refused a left output (stream.Refused r) h reads = (h, kept output)
+  where
+    kept : (o : Option (List ℕ)) → Keeps o o
+    kept None = tt
+    kept (Some xs) = refl
+stream_refused a left output (stream.Serve f) h reads = inl (reads, kept output)
+  where
+    kept : (o : Option (List ℕ)) → Keeps o o
+    kept None = tt
+    kept (Some xs) = refl
+
+pub stream_stopped : (a mid left output written : Option (List ℕ)) (moment : ℤ) (rooms : List (List ℕ)) (fault : ServeFault) (f : StreamFault) → Opens a mid moment rooms → f ≡ stream.Serve fault
+    → Serves moment rooms (empty_books rooms) (record { input = mid; left = left; output = output; written = written }) (Err fault)
+    → ServesStream (record { input = a; left = left; output = output; written = written }) (Err f)
+stream_stopped a mid left output written moment rooms fault f opens is h =
+    let P : StreamFault → Type 0 = λ x. ServesStream (record { input = a; left = left; output = output; written = written }) (Err x) in
+    subst P (sym is) (inr (moment, rooms, mid, opens, h))
+
+pub stream_served : (a mid left output written : Option (List ℕ)) (moment : ℤ) (rooms : List (List ℕ)) (report : ServeReport) → Opens a mid moment rooms
+    → Serves moment rooms (empty_books rooms) (record { input = mid; left = left; output = output; written = written }) (Ok report)
+    → ServesStream (record { input = a; left = left; output = output; written = written }) (Ok report)
+stream_served a mid left output written moment rooms report opens (afters, all) = (moment, rooms, mid, afters, opens, all)

@@ -1,0 +1,48 @@
+-- What the rooms of a box answer to one object.
+use Rattle.std.specs.Prelude.{◌≡◌, ℕ, ℤ, Bool, List, [], ◌∷◌, ◌++◌, map, Option, Some, None}
+use Rattle.std.specs.List.{AllZip}
+use Rattle.ical_values.specs.Octets.{address_octets}
+use Rattle.itip_messages.specs.Messages.{StandsFor}
+use Rattle.itip_messages.specs.declared.message.Message.{Message}
+use Rattle.profile.specs.Events.{Event}
+use Rattle.profile.specs.Rooms.{Book}
+use Rattle.profile.specs.Streams.{Takes, Answers}
+use Rattle.room_books.specs.Standing.{Stands}
+use Rattle.room_books.specs.declared.room.Room.{Room}
+use Rattle.sched_box.specs.Objects.{kept_of}
+
+-- the addresses of the rooms, in order
+abbrev pub room_addresses : List Room → List (List ℕ)
+room_addresses rooms = map (λ room. address_octets room.address) rooms
+
+-- the room stands for the book
+abbrev pub HasBook : Room → Book → Type 0
+HasBook room book = Stands room.meetings.entries book
+
+abbrev pub HaveBooks : List Room → List Book → Type 0
+HaveBooks rooms books = AllZip HasBook rooms books
+
+-- a room takes the message and answers these octets, from each book that it stands for
+abbrev pub RoomTakes : ℤ → Message → Room → Room → List ℕ → Type 0
+RoomTakes moment message old new octets =
+    (event : Event) → StandsFor message event → (book : Book) → HasBook old book
+    → (after : Book) × HasBook new after × Takes moment event (address_octets old.address) book after octets
+
+-- each room takes it in turn; their answers stand one behind another
+abbrev pub RoomsTake : ℤ → Message → List Room → List Room → List ℕ → Type 0
+RoomsTake moment message [] [] octets = octets ≡ []
+RoomsTake moment message (old ∷ olds) (new ∷ news) octets =
+    (first : List ℕ) × (rest : List ℕ) × (octets ≡ first ++ rest) × (new.address ≡ old.address)
+    × RoomTakes moment message old new first × RoomsTake moment message olds news rest
+RoomsTake moment message _ _ octets = ⊥
+
+-- these octets answer object k, of which so much was kept, from all books that the rooms stand for
+abbrev pub AnswersKept : ℤ → ℕ → List ℕ → List Room → List Room → List ℕ → ℕ → Type 0
+AnswersKept moment k kept olds news octets refused =
+    (object : List ℕ) → kept ≡ kept_of object → (befores : List Book) → HaveBooks olds befores
+    → (afters : List Book) × HaveBooks news afters × Answers moment (room_addresses olds) k object befores afters octets refused
+
+-- what is sent of an object, if there is one
+abbrev pub sent_octets : Option (List ℕ) → List ℕ
+sent_octets None = []
+sent_octets (Some octets) = octets

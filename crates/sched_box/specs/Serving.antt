@@ -1,0 +1,104 @@
+-- What a reader gave and a writer took, once serving has ended.
+use Rattle.std.specs.Prelude.{◌≡◌, ◌⊎◌, ℕ, ℤ, ◌+◌, ◌≤◌, ◌<◌, List, [], ◌∷◌, ◌++◌, length, take, Option, Some, None, IfSome, OnSome, Result, Ok, Err}
+use Rattle.std.specs.Io.KnownBytes.{Appends, Consumes, Keeps, IsAtEnd}
+use Rattle.profile.specs.Objects.{is_begun, after_object}
+use Rattle.profile.specs.Rooms.{Book}
+use Rattle.profile.specs.Streams.{BeginsWith, AreObjects, Answers, AllAnswers, empty_books}
+use Rattle.room_books.specs.declared.room.Room.{Room}
+use Rattle.sched_box.specs.declared.fault.ServeFault.{ServeFault}
+use Rattle.sched_box.specs.declared.fault.ServeFault.TheVariants.{Read, Write, TooLong, Memory}
+use Rattle.sched_box.specs.declared.serving.ServeReport.{ServeReport}
+use Rattle.sched_box.specs.declared.fault.StreamFault.{StreamFault}
+use Rattle.sched_box.specs.declared.fault.StreamFault.TheVariants.{Refused, Serve}
+use Rattle.sched_box.specs.Answering.{HaveBooks}
+use Rattle.sched_box.specs.Objects.{IsPieceFault}
+use Rattle.sched_box.specs.Preamble.{Opens, OpensNot}
+
+-- what a reader and a writer held and have, where they tell it
+pub record Ends : Type 0 where
+  pub input : Option (List ℕ)
+  pub left : Option (List ℕ)
+  pub output : Option (List ℕ)
+  pub written : Option (List ℕ)
+
+-- a reader that tells its octets gave these objects, whole
+abbrev pub Gives : Option (List ℕ) → Option (List ℕ) → List (List ℕ) → Type 0
+Gives None left objects = Unit {0}
+Gives (Some input) None objects = ⊥
+Gives (Some input) (Some left) objects = BeginsWith input objects left
+
+-- and after them octets of the next one, none past its end
+abbrev pub GivesPart : Option (List ℕ) → Option (List ℕ) → List (List ℕ) → Type 0
+GivesPart None left objects = Unit {0}
+GivesPart (Some input) None objects = ⊥
+GivesPart (Some input) (Some left) objects =
+    (rest : List ℕ) × (part : List ℕ) × BeginsWith input objects rest × (rest ≡ part ++ left) × (length (after_object rest) ≤ length left)
+
+-- all objects were taken, and the answers to them written
+pub record ServesAll (moment : ℤ) (rooms : List (List ℕ)) (befores afters : List Book) (ends : Ends) (report : ServeReport) : Type 0 where
+  pub objects : List (List ℕ)
+  pub octets : List ℕ
+  pub are : IfSome ends.input (λ stream. AreObjects stream objects)
+  pub end : OnSome ends.input (IsAtEnd ends.left)
+  pub answers : AllAnswers moment rooms 1 objects befores afters octets report.refused
+  pub counted : report.objects ≡ length objects
+  pub written : Appends ends.output ends.written octets
+
+-- these objects were taken, and the answers to them written; of the next object a part was read
+pub record ServesSome (moment : ℤ) (rooms : List (List ℕ)) (befores : List Book) (ends : Ends) : Type 0 where
+  pub objects : List (List ℕ)
+  pub afters : List Book
+  pub octets : List ℕ
+  pub refused : ℕ
+  pub gives : GivesPart ends.input ends.left objects
+  pub answers : AllAnswers moment rooms 1 objects befores afters octets refused
+  pub written : Appends ends.output ends.written octets
+
+-- the answers to all objects but the last were written, and of the answers to that, of which there are some, a beginning
+pub record ServesCut (moment : ℤ) (rooms : List (List ℕ)) (befores : List Book) (ends : Ends) : Type 0 where
+  pub objects : List (List ℕ)
+  pub last : List ℕ
+  pub mids : List Book
+  pub afters : List Book
+  pub octets : List ℕ
+  pub answer : List ℕ
+  pub refused : ℕ
+  pub one : ℕ
+  pub cut : ℕ
+  pub gives : Gives ends.input ends.left (objects ++ last ∷ [])
+  pub answers : AllAnswers moment rooms 1 objects befores mids octets refused
+  pub answered : Answers moment rooms (length objects + 1) last mids afters answer one
+  pub some : 0 < length answer
+  pub written : Appends ends.output ends.written (octets ++ take cut answer)
+
+-- so many octets were read
+abbrev pub HasRead : ℕ → Option (List ℕ) → Option (List ℕ) → Type 0
+HasRead n input left = IfSome input (λ octets. IfSome left (λ rest. length octets ≡ length rest + n))
+
+-- how serving ends before the input does
+abbrev pub ServesUntil : ℤ → List (List ℕ) → List Book → Ends → ServeFault → Type 0
+ServesUntil moment rooms befores ends Read = ServesSome moment rooms befores ends
+ServesUntil moment rooms befores ends Memory = ServesSome moment rooms befores ends
+ServesUntil moment rooms befores ends TooLong = ServesSome moment rooms befores ends × HasRead 1_073_741_824 ends.input ends.left
+ServesUntil moment rooms befores ends Write = ServesCut moment rooms befores ends
+
+-- what comes of serving, from these books on
+abbrev pub Serves : ℤ → List (List ℕ) → List Book → Ends → Result ServeReport ServeFault → Type 0
+Serves moment rooms befores ends (Ok report) = (afters : List Book) × ServesAll moment rooms befores afters ends report
+Serves moment rooms befores ends (Err fault) = ServesUntil moment rooms befores ends fault
+
+-- and the rooms stand for the books after it
+abbrev pub RoomsServe : ℤ → List (List ℕ) → List Book → List Room → Ends → Result ServeReport ServeFault → Type 0
+RoomsServe moment rooms befores news ends (Ok report) = (afters : List Book) × HaveBooks news afters × ServesAll moment rooms befores afters ends report
+RoomsServe moment rooms befores news ends (Err fault) = ServesUntil moment rooms befores ends fault
+
+-- what comes of a stream with its preamble; where the reader fails or memory is refused before the preamble is read, nothing is written
+abbrev pub ServesStream : Ends → Result ServeReport StreamFault → Type 0
+ServesStream ends (Ok report) =
+    (moment : ℤ) × (rooms : List (List ℕ)) × (rest : Option (List ℕ)) × (afters : List Book) × Opens ends.input rest moment rooms
+    × ServesAll moment rooms (empty_books rooms) afters (record ends { input = rest }) report
+ServesStream ends (Err (Refused refusal)) = IfSome ends.input OpensNot × Keeps ends.output ends.written
+ServesStream ends (Err (Serve fault)) =
+    (IsPieceFault fault × Keeps ends.output ends.written)
+    ⊎ ((moment : ℤ) × (rooms : List (List ℕ)) × (rest : Option (List ℕ)) × Opens ends.input rest moment rooms
+    × ServesUntil moment rooms (empty_books rooms) (record ends { input = rest }) fault)
