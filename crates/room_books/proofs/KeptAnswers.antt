@@ -17,8 +17,8 @@ use Rattle.ical_values.proofs.Addresses.{lower_address, lower_twice}
 use Rattle.ical_values.proofs.Escapes.{read_back}
 use Rattle.ical_values.proofs.Readings.{stamp_written, sequence_written}
 use Rattle.ical_values.proofs.Spans.{duration_written}
-use Rattle.itip_messages.proofs.CleanText.{IsClean, clean_shown, clean_address, shown_decimal, shown_duration, shown_stamp, utf8_lower}
-use Rattle.itip_messages.proofs.CleanUids.{clean_uid}
+use Rattle.itip_messages.proofs.CleanText.{IsClean, clean_shown, clean_address, text_address, shown_decimal, shown_duration, shown_stamp}
+use Rattle.itip_messages.proofs.CleanUids.{clean_text, text_value}
 use Rattle.itip_messages.proofs.ObjectTree.{Lines, vevent_lines}
 use Rattle.room_books.proofs.KeptEvents.{kept_own, kept_event, Spell, kept_says, kept_read, kept_confirmed, kept_booked}
 use Rattle.room_books.proofs.KeptLines.{kept_content, kept_properties}
@@ -102,8 +102,8 @@ named room claim a =
     record {
       organised = subst IsAddress (sym is) (lower_address (line_value o.line) o.is.0);
       lower = subst (λ (x : List ℕ). lower_case x ≡ x) (sym is) (lower_twice (line_value o.line));
-      organiser = subst IsClean (sym is) (clean_address (line_value o.line) o.is.0 (utf8_lower (line_value o.line) (m.clean o.line o.stands).utf8));
-      uid = subst IsClean (sym (ap escaped (a.part.uid ∙ u.is.0))) (clean_uid (line_value u.line) (m.clean u.line u.stands));
+      organiser = subst IsClean (sym is) (clean_address _ (text_address (line_value o.line) o.is.0 (m.clean o.line o.stands).utf8));
+      uid = subst IsClean (sym (ap escaped (a.part.uid ∙ u.is.0))) (clean_text _ (text_value (line_value u.line) (m.clean u.line u.stands)));
     }
 
 -- what is known of the room's address: an attendee of the message has it
@@ -134,7 +134,7 @@ asked_room room claim a =
     record {
       addressed = subst IsAddress (sym is) (lower_address value address);
       lower = subst (λ (x : List ℕ). lower_case x ≡ x) (sym is) (lower_twice value);
-      clean = subst IsClean (sym is) (clean_address value address (utf8_lower value (m.clean line.0 stands).utf8));
+      clean = subst IsClean (sym is) (clean_address _ (text_address value address (m.clean line.0 stands).utf8));
     }
 
 -- ---- the kept VEVENT
