@@ -17,6 +17,7 @@ use Rattle.profile.specs.Lines.{is_control}
 use Rattle.profile.specs.Days.{IsDate, is_leap_year}
 use Rattle.profile.specs.Values.{two_digits, four_digits, SpellsDate, SpellsTime, WritesStamp, duration_text, IsAddress, is_scheme, is_scheme_octet, is_path_octet, lower_case}
 use Rattle.ical_values.proofs.Addresses.{lower_text, lower_address}
+use Rattle.itip_messages.specs.ReadBack.{IsTextAddress}
 
 -- no control octet but TAB stands in the text, and it is UTF-8
 pub record IsClean (text : List ℕ) : Type 0 where
@@ -127,7 +128,7 @@ calm_scheme : (cs : List ℕ) → is_scheme cs ≡ true → list_any is_control 
 calm_scheme [] h = refl
 calm_scheme (c ∷ cs) h = let both = and_parts _ (list_all is_scheme_octet cs) h in or_from _ _ (first_letter c both.0) (calm_by is_scheme_octet scheme_octet cs both.1)
 
-pub calm_address : (text : List ℕ) → IsAddress text → list_any is_control text ≡ false
+calm_address : (text : List ℕ) → IsAddress text → list_any is_control text ≡ false
 calm_address text (scheme, path, e, s, p, short) =
     let octets = (and_parts _ (list_all is_path_octet path) p).1 in
     ap (list_any is_control) e ∙ list_any-append is_control scheme (58 ∷ path) ∙ or_from _ _ (calm_scheme scheme s) (calm_by is_path_octet path_octet path octets)
@@ -141,9 +142,12 @@ lower_scalars (c ∷ cs) h =
     let both = and_parts _ (scalars cs) h in
     and_from _ _ (lower_scalar c both.0) (lower_scalars cs both.1)
 
-pub utf8_lower : (text : List ℕ) → IsUtf8 text → IsUtf8 (lower_case text)
+utf8_lower : (text : List ℕ) → IsUtf8 text → IsUtf8 (lower_case text)
 utf8_lower text u = (map to_ascii_lowercase (chars text), (lower_scalars (chars text) (scalars-chars text u), lower_text text u))
 
--- an address in lower case
-pub clean_address : (text : List ℕ) → IsAddress text → IsUtf8 (lower_case text) → IsClean (lower_case text)
-clean_address text a u = record { calm = calm_address (lower_case text) (lower_address text a); utf8 = u }
+-- an address that was read, in lower case
+pub text_address : (text : List ℕ) → IsAddress text → IsUtf8 text → IsTextAddress (lower_case text)
+text_address text a u = record { address = lower_address text a; utf8 = utf8_lower text u }
+
+pub clean_address : (text : List ℕ) → IsTextAddress text → IsClean text
+clean_address text t = record { calm = calm_address text t.address; utf8 = t.utf8 }

@@ -12,12 +12,13 @@ use Rattle.profile.specs.Values.{escaped, escaped_octet, unescaped, is_escape, m
 use Rattle.ical_values.proofs.Escapes.{unescaped_front, unescaped_pair, unescaped_lone}
 use Rattle.itip_messages.proofs.TextLemmas.{utf8_escaped, utf8_one}
 use lib.Utf8.{encode, encodes, scalars}
+use Rattle.itip_messages.specs.ReadBack.{IsTextValue}
 use Rattle.itip_messages.proofs.CleanText.{IsClean}
 
 -- ---- control octets
 
 -- an octet of a text that was read: LF, or no control octet
-abbrev pub is_read : ℕ → Bool
+abbrev is_read : ℕ → Bool
 is_read c = eqb c 10 || not (is_control c)
 
 read_octet : (c : ℕ) → is_control c ≡ false → is_read c ≡ true
@@ -44,7 +45,7 @@ read_all (c ∷ d ∷ cs) h =
 octet_calm : (c : ℕ) → is_read c ≡ true → list_any is_control (escaped_octet c) ≡ false
 octet_calm c h = grind (arith, nat_tests)
 
-pub escaped_calm : (text : List ℕ) → list_all is_read text ≡ true → list_any is_control (escaped text) ≡ false
+escaped_calm : (text : List ℕ) → list_all is_read text ≡ true → list_any is_control (escaped text) ≡ false
 escaped_calm [] h = refl
 escaped_calm (c ∷ cs) h =
     let both = and_parts (is_read c) (list_all is_read cs) h in
@@ -122,9 +123,10 @@ utf8_characters (c ∷ d ∷ cs) h =
 pub utf8_unescaped : (text : List ℕ) → IsUtf8 text → IsUtf8 (unescaped text)
 utf8_unescaped text u = rw (← u.1.1) (utf8_characters u.0 u.1.0)
 
--- a UID as it is written again
-pub clean_uid : (text : List ℕ) → IsClean text → IsClean (escaped (unescaped text))
-clean_uid text c = record {
-  calm = escaped_calm (unescaped text) (read_all text c.calm);
-  utf8 = utf8_escaped (unescaped text) (utf8_unescaped text c.utf8);
-}
+-- a text that was read from a clean value
+pub text_value : (text : List ℕ) → IsClean text → IsTextValue (unescaped text)
+text_value text c = record { calm = read_all text c.calm; utf8 = utf8_unescaped text c.utf8 }
+
+-- such a text as it is written
+pub clean_text : (text : List ℕ) → IsTextValue text → IsClean (escaped text)
+clean_text text t = record { calm = escaped_calm text t.calm; utf8 = utf8_escaped text t.utf8 }

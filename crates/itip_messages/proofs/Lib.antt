@@ -11,3 +11,4 @@ pub mod LineLemmas
 pub mod MessageLemmas
 pub mod TreeLemmas
 mod Examples
+pub mod ReplyExamples

@@ -9,10 +9,9 @@ use Rattle.profile.specs.Revisions.{Slot, Whole, At}
 use Rattle.profile.specs.Values.{escaped}
 use Rattle.profile.specs.Messages.{Outcome, Accept, Busy, SeriesLimit, SinglesLimit, TellsSlot, TellsOutcome, partstat}
 use Rattle.itip_order.proofs.Lists.{in_head, in_tail}
-use Rattle.itip_messages.specs.ReadBack.{IsTextValue, IsTextAddress, IsTextOutcome, IsAnswer, IsVevent}
-use Rattle.itip_messages.proofs.TextLemmas.{utf8_escaped}
-use Rattle.itip_messages.proofs.CleanText.{IsClean, is_shown, shown_append, clean_shown, shown_stamp, shown_decimal, calm_address}
-use Rattle.itip_messages.proofs.CleanUids.{escaped_calm}
+use Rattle.itip_messages.specs.ReadBack.{IsTextAddress, IsTextOutcome, IsAnswer, IsVevent}
+use Rattle.itip_messages.proofs.CleanText.{IsClean, is_shown, shown_append, clean_shown, shown_stamp, shown_decimal, clean_address}
+use Rattle.itip_messages.proofs.CleanUids.{clean_text}
 use Rattle.itip_messages.proofs.ObjectTree.{Lines, vevent_lines}
 use Rattle.itip_messages.proofs.ContentLines.{valued, fixed, uid_line, sequence_line, stamp_line, organiser_line, accepted_line}
 use Rattle.itip_messages.proofs.WordText.{shown_key}
@@ -33,14 +32,6 @@ own_both a b p q = record {
   content = list_all-append is_content a b ∙ and_from _ _ p.content q.content;
   properties = list_all-append is_property a b ∙ and_from _ _ p.properties q.properties;
 }
-
--- ---- texts
-
-clean_text : (text : List ℕ) → IsTextValue text → IsClean (escaped text)
-clean_text text t = record { calm = escaped_calm text t.calm; utf8 = utf8_escaped text t.utf8 }
-
-clean_name : (text : List ℕ) → IsTextAddress text → IsClean text
-clean_name text t = record { calm = calm_address text t.address; utf8 = t.utf8 }
 
 -- ---- lines
 
@@ -94,8 +85,8 @@ one_read room lines r a =
     let s = a.shows in
     let w = a.writable in
     let sequence = decimal a.part.revision.sequence in
-    let after = room_own a.outcome room s.status (clean_name room r) (status_own a.outcome s.status s.tells_outcome w.keys) in
-    let organised = own_more (codes "ORGANIZER:" ++ a.part.organiser) _ (organiser_line a.part.organiser (clean_name a.part.organiser w.organiser)) refl after in
+    let after = room_own a.outcome room s.status (clean_address room r) (status_own a.outcome s.status s.tells_outcome w.keys) in
+    let organised = own_more (codes "ORGANIZER:" ++ a.part.organiser) _ (organiser_line a.part.organiser (clean_address a.part.organiser w.organiser)) refl after in
     let stamped = own_more (codes "DTSTAMP:" ++ s.stamp) _ (stamp_line s.stamp (clean_shown s.stamp (shown_stamp s.stamp a.moment s.tells_moment))) refl organised in
     let numbered = own_more (codes "SEQUENCE:" ++ sequence) _ (sequence_line sequence (clean_shown sequence (shown_decimal a.part.revision.sequence (omega (arith, w.sequence))))) refl stamped in
     let slotted = own_both s.slot _ (slot_own a.part.slot s.slot s.tells_slot) numbered in

@@ -13,12 +13,13 @@ use Rattle.profile.specs.Messages.{SpellsRequest, IsPart, names_room}
 use Rattle.profile.specs.Rooms.{Claim, Answer}
 use Rattle.profile.specs.Kept.{IsKeptEvent}
 use Rattle.itip_order.proofs.Lists.{in_cons, in_head, in_tail, none_in_nil, filter_at, any_at}
-use Rattle.ical_values.proofs.Addresses.{lower_address, lower_twice}
+use Rattle.ical_values.proofs.Addresses.{lower_twice}
 use Rattle.ical_values.proofs.Escapes.{read_back}
 use Rattle.ical_values.proofs.Readings.{stamp_written, sequence_written}
 use Rattle.ical_values.proofs.Spans.{duration_written}
-use Rattle.itip_messages.proofs.CleanText.{IsClean, clean_shown, clean_address, shown_decimal, shown_duration, shown_stamp, utf8_lower}
-use Rattle.itip_messages.proofs.CleanUids.{clean_uid}
+use Rattle.itip_messages.specs.ReadBack.{IsTextAddress, IsTextValue}
+use Rattle.itip_messages.proofs.CleanText.{IsClean, clean_shown, clean_address, text_address, shown_decimal, shown_duration, shown_stamp}
+use Rattle.itip_messages.proofs.CleanUids.{clean_text, text_value}
 use Rattle.itip_messages.proofs.ObjectTree.{Lines, vevent_lines}
 use Rattle.room_books.proofs.KeptEvents.{kept_own, kept_event, Spell, kept_says, kept_read, kept_confirmed, kept_booked}
 use Rattle.room_books.proofs.KeptLines.{kept_content, kept_properties}
@@ -88,10 +89,9 @@ message room claim a =
 
 -- what is known of the organiser and the UID of a part
 record Named (claim : Claim) : Type 0 where
-  organised : IsAddress claim.part.organiser
+  organiser : IsTextAddress claim.part.organiser
   lower : lower_case claim.part.organiser ≡ claim.part.organiser
-  organiser : IsClean claim.part.organiser
-  uid : IsClean (escaped claim.part.uid)
+  uid : IsTextValue claim.part.uid
 
 named : (room : List ℕ) (claim : Claim) → IsAsked room claim → Named claim
 named room claim a =
@@ -100,17 +100,15 @@ named room claim a =
     let u = given (codes "UID") true IsUidLine m.lines a.event.uid m.says.uid in
     let is : claim.part.organiser ≡ lower_case (line_value o.line) = o.is.1 in
     record {
-      organised = subst IsAddress (sym is) (lower_address (line_value o.line) o.is.0);
+      organiser = subst IsTextAddress (sym is) (text_address (line_value o.line) o.is.0 (m.clean o.line o.stands).utf8);
       lower = subst (λ (x : List ℕ). lower_case x ≡ x) (sym is) (lower_twice (line_value o.line));
-      organiser = subst IsClean (sym is) (clean_address (line_value o.line) o.is.0 (utf8_lower (line_value o.line) (m.clean o.line o.stands).utf8));
-      uid = subst IsClean (sym (ap escaped (a.part.uid ∙ u.is.0))) (clean_uid (line_value u.line) (m.clean u.line u.stands));
+      uid = subst IsTextValue (sym (a.part.uid ∙ u.is.0)) (text_value (line_value u.line) (m.clean u.line u.stands));
     }
 
 -- what is known of the room's address: an attendee of the message has it
 record IsRoom (room : List ℕ) : Type 0 where
-  addressed : IsAddress room
+  text : IsTextAddress room
   lower : lower_case room ≡ room
-  clean : IsClean room
 
 zip_at : {A B : Type 0} (R : A → B → Type 0) (xs : List A) (ys : List B) (y : B) → AllZip R xs ys → Contains ys y → (x : A) × Contains xs x × R x y
 zip_at R [] [] y z c = absurd (none_in_nil y c)
@@ -132,9 +130,8 @@ asked_room room claim a =
     let address : IsAddress value = line.2.0.0 in
     let is : room ≡ lower_case value = sym ((bytes_eq-Decides found.0.address room).0 found.2) ∙ line.2.0.1 in
     record {
-      addressed = subst IsAddress (sym is) (lower_address value address);
+      text = subst IsTextAddress (sym is) (text_address value address (m.clean line.0 stands).utf8);
       lower = subst (λ (x : List ℕ). lower_case x ≡ x) (sym is) (lower_twice value);
-      clean = subst IsClean (sym is) (clean_address value address (utf8_lower value (m.clean line.0 stands).utf8));
     }
 
 -- ---- the kept VEVENT
@@ -165,9 +162,9 @@ reads_back room answer lines a k =
       lasts = duration_written event.length.days event.length.seconds (omega (arith, most)) (omega (arith, most));
       most = most;
       from_1970 = m.says.from_1970;
-      organised = n.organised;
+      organised = n.organiser.address;
       lower = n.lower;
-      addressed = r.addressed;
+      addressed = r.text.address;
       room_lower = r.lower;
     } in
     record {
@@ -175,8 +172,8 @@ reads_back room answer lines a k =
       said = kept_event event part.organiser part.revision.stamp room;
       are = k.is ∙ ap (λ (b : Lines). (codes "BEGIN:VEVENT" ∷ (codes "UID:" ++ uid) ∷ (codes "SEQUENCE:" ++ sequence) ∷ (codes "DTSTAMP:" ++ k.stamp) ∷ []) ++ b ++ ((codes "ORGANIZER:" ++ part.organiser) ∷ (codes "ATTENDEE;PARTSTAT=ACCEPTED:" ++ room) ∷ codes "END:VEVENT" ∷ [])) two;
       properties = kept_properties uid sequence k.stamp c.start duration part.organiser room;
-      content = kept_content uid sequence k.stamp c.start duration part.organiser room n.uid (clean_shown sequence (shown_decimal part.revision.sequence (omega arith)))
-          (clean_shown k.stamp (shown_stamp k.stamp part.revision.stamp k.written_stamp)) (clean_shown c.start shown_start) (clean_shown duration long) n.organiser r.clean;
+      content = kept_content uid sequence k.stamp c.start duration part.organiser room (clean_text part.uid n.uid) (clean_shown sequence (shown_decimal part.revision.sequence (omega arith)))
+          (clean_shown k.stamp (shown_stamp k.stamp part.revision.stamp k.written_stamp)) (clean_shown c.start shown_start) (clean_shown duration long) (clean_address part.organiser n.organiser) (clean_address room r.text);
       says = kept_says event uid sequence k.stamp c.start duration part.organiser room part.revision.stamp spell;
       read = kept_read uid sequence k.stamp c.start duration part.organiser room;
       confirmed = kept_confirmed event part.organiser part.revision.stamp room;

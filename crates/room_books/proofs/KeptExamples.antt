@@ -3,8 +3,7 @@ use Rattle.std.proofs.Common.{◌≡◌, ℕ, pos, true, List, [], ◌∷◌, �
 use Rattle.std.specs.List.{Contains}
 use Rattle.std.specs.Str.{is_utf8, chars}
 use Rattle.profile.specs.Lines.{logical_lines, reads_as_lines}
-use Rattle.profile.specs.Days.{days_before_year, days_of_months}
-use Rattle.profile.specs.Values.{WritesStamp, SpellsDuration, IsAddress, unescaped}
+use Rattle.profile.specs.Values.{SpellsDuration, IsAddress, unescaped}
 use Rattle.std.specs.Fmt.{digits}
 use Rattle.std.proofs.lemmas.Int.{ints}
 use Rattle.std.proofs.lemmas.Bool.{false≢true}
@@ -21,6 +20,7 @@ use Rattle.profile.specs.Kept.{IsKeptCalendar, written}
 use Rattle.itip_order.proofs.Lists.{in_cons, none_in_nil}
 use Rattle.ical_values.proofs.Readings.{stamp_written}
 use Rattle.room_books.proofs.Bodies.{with_ends}
+use Rattle.itip_messages.proofs.ReplyExamples.{stamp, start}
 use Rattle.itip_messages.proofs.ObjectTree.{Lines, vevent_lines, own_body, parts_more}
 
 -- ---- the message
@@ -40,40 +40,6 @@ lines = codes "BEGIN:VCALENDAR" ∷ (head_lines ++ (vevent_lines own_lines ++ co
 
 abbrev octets : List ℕ
 octets = with_ends lines
-
-stamp : WritesStamp (codes "20250301T120000Z") (pos 1_740_830_400)
-unfolding days_before_year days_of_months
-stamp = (
-  codes "20250301T120000",
-  record {
-    date = codes "20250301";
-    time = codes "120000";
-    number = pos 20_148;
-    second = 43_200;
-    on = record { year = 2025; month = 3; day = 1; first = omega arith; last = omega arith; date = (omega arith, omega arith, omega arith, omega arith); spelled = refl; counted = refl };
-    at_second = record { hour = 12; minute = 0; second = 0; hours = omega arith; minutes = omega arith; seconds = omega arith; spelled = refl; counted = refl };
-    spelled = refl;
-    counted = refl;
-  },
-  refl,
-)
-
-start : WritesStamp (codes "20250310T090000Z") (pos 1_741_597_200)
-unfolding days_before_year days_of_months
-start = (
-  codes "20250310T090000",
-  record {
-    date = codes "20250310";
-    time = codes "090000";
-    number = pos 20_157;
-    second = 32_400;
-    on = record { year = 2025; month = 3; day = 10; first = omega arith; last = omega arith; date = (omega arith, omega arith, omega arith, omega arith); spelled = refl; counted = refl };
-    at_second = record { hour = 9; minute = 0; second = 0; hours = omega arith; minutes = omega arith; seconds = omega arith; spelled = refl; counted = refl };
-    spelled = refl;
-    counted = refl;
-  },
-  refl,
-)
 
 abbrev event : Event
 event = record {
