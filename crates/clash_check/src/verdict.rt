@@ -2,10 +2,11 @@
 ghost use Rattle.std.specs.Prelude.{◌≡◌};
 ghost use Rattle.clash_check.specs.Verdicts.{IsNo};
 
-/// The answer, and how many instances were made for it.
+/// The answer, and what it took.
 #[derive(Clone, Copy, Debug, PartialEq, Eq)]
 pub struct Checked {
     pub verdict: Verdict,
+    /// How many instances were made: one for each single, and none for a refused calendar or a wrong text or count.
     pub made: u64,
 }
 
@@ -29,14 +30,19 @@ pub struct Why {
 }
 
 impl Why {
+    /// The calendar is refused.
     pub const CALENDAR: u8 = 80;
 
+    /// The certificate's text is wrong.
     pub const TEXT: u8 = 81;
 
+    /// A count isn't the calendar's.
     pub const COUNTS: u8 = 82;
 
+    /// An entry doesn't stand; by now no certificate has entries.
     pub const ENTRY: u8 = 83;
 
+    /// A single clashes with another.
     pub const SINGLES: u8 = 84;
 }
 
