@@ -13,6 +13,7 @@ mod rule;
 mod tests;
 mod text;
 mod values;
+mod write;
 mod written;
 
 pub use rule::{Days, Rule};

@@ -355,3 +355,35 @@ fn far_days(rt: HostRuntime) -> Result<(), Fail> {
     assert_eq!(rt; rule.seek(day_of(20_250_107)), Some(day_of(20_250_120)));
     Ok(())
 }
+
+#[test]
+fn written_rules(rt: HostRuntime) -> Result<(), Fail> {
+    for (text, until, want) in [
+        ("FREQ=DAILY", "", "FREQ=DAILY"),
+        ("WKST=MO;INTERVAL=1;FREQ=WEEKLY", "", "FREQ=WEEKLY"),
+        (
+            "FREQ=WEEKLY;INTERVAL=2;COUNT=8;WKST=SU;BYDAY=TH,TU,TH",
+            "",
+            "FREQ=WEEKLY;COUNT=8;INTERVAL=2;BYDAY=TU,TH;WKST=SU",
+        ),
+        (
+            "FREQ=MONTHLY;UNTIL=19971224T000000;BYDAY=1SU,-1SU,MO;BYSETPOS=+2,-1",
+            "19971224T050000Z",
+            "FREQ=MONTHLY;UNTIL=19971224T050000Z;BYDAY=-1SU,MO,1SU;BYSETPOS=-1,2",
+        ),
+        (
+            "FREQ=YEARLY;BYMONTHDAY=031,-1,2;BYMONTH=12,1;UNTIL=20250101",
+            "20250101",
+            "FREQ=YEARLY;UNTIL=20250101;BYMONTH=1,12;BYMONTHDAY=-1,2,31",
+        ),
+    ] {
+        let handed_in = if until.is_empty() { None } else { Some(until) };
+        let mut out = Vec::new(rt.alloc());
+        RuleText::read(rt.alloc(), text)?.write(handed_in, &mut out)?;
+        assert_eq!(rt; out.as_slice(), want.as_bytes(), "{text}");
+        let mut again = Vec::new(rt.alloc());
+        RuleText::read(rt.alloc(), want)?.write(handed_in, &mut again)?;
+        assert_eq!(rt; again.as_slice(), want.as_bytes(), "{text}");
+    }
+    Ok(())
+}
