@@ -34,14 +34,14 @@ clean_append a b p q = record {
 abbrev pub is_shown : ℕ → Bool
 is_shown c = nat_le 32 c && nat_lt c 127
 
-pub shown_octet : (c : ℕ) → is_shown c ≡ true → (is_control c ≡ false) × (c < 128)
+shown_octet : (c : ℕ) → is_shown c ≡ true → (is_control c ≡ false) × (c < 128)
 shown_octet c h = grind (arith, nat_tests)
 
 shown_ascii : (text : List ℕ) → list_all is_shown text ≡ true → IsAscii text
 shown_ascii [] h = IsAscii-nil
 shown_ascii (c ∷ cs) h = let both = and_parts (is_shown c) (list_all is_shown cs) h in IsAscii-cons c cs (shown_octet c both.0).1 (shown_ascii cs both.1)
 
-pub shown_calm : (text : List ℕ) → list_all is_shown text ≡ true → list_any is_control text ≡ false
+shown_calm : (text : List ℕ) → list_all is_shown text ≡ true → list_any is_control text ≡ false
 shown_calm [] h = refl
 shown_calm (c ∷ cs) h = let both = and_parts (is_shown c) (list_all is_shown cs) h in or_from _ _ (shown_octet c both.0).0 (shown_calm cs both.1)
 
@@ -56,7 +56,7 @@ shown_append a b p q = list_all-append is_shown a b ∙ and_from _ _ p q
 shown_digit : (c : ℕ) → (48 ≤ c) × (c ≤ 57) → is_shown c ≡ true
 shown_digit c h = grind (arith, nat_tests)
 
-pub shown_digits : (text : List ℕ) → AllDigits 10 text → list_all is_shown text ≡ true
+shown_digits : (text : List ℕ) → AllDigits 10 text → list_all is_shown text ≡ true
 shown_digits [] h = refl
 shown_digits (c ∷ cs) h = and_from _ _ (shown_digit c (digit_from_value c h.0)) (shown_digits cs h.1)
 
