@@ -1,21 +1,20 @@
 -- The rooms of a box take a message, and their answers stand one behind another.
-use Rattle.std.proofs.Common.{◌≡◌, ◌⊎◌, inl, inr, ℕ, zero, suc, ◌+◌, ◌<◌, ◌≤◌, ℤ, List, [], ◌∷◌, ◌++◌, length, take, drop, get_or, set, map, Option, Some, None, refl, sym, ap, subst, ◌∙◌, arith, take_all, length-set, codes, decimal, Result, Ok, Err, OnOk}
+use Rattle.std.proofs.Common.{◌≡◌, inl, inr, ℕ, ◌+◌, ◌<◌, ◌≤◌, ℤ, List, [], ◌∷◌, ◌++◌, length, take, drop, get_or, set, Option, Some, None, refl, sym, ap, subst, ◌∙◌, arith, take_all, length-set, codes, decimal, Result, Ok, Err, OnOk}
 use Rattle.std.specs.Option.{option_to_list}
-use Rattle.std.specs.List.{flat_map, AllZip}
+use Rattle.std.specs.List.{flat_map}
 use Rattle.std.proofs.lemmas.List.{append_assoc, append-nil, take_more, take_more_set, drop_more, drop_all, drop-set-lt}
 use Rattle.ical_values.specs.Octets.{address_octets}
-use Rattle.cal_events.specs.Events.{StandsIn}
 use Rattle.itip_messages.specs.Messages.{StandsFor, IsSpelled}
 use Rattle.itip_messages.specs.declared.message.Message.{Message}
 use Rattle.profile.specs.Events.{Event}
 use Rattle.profile.specs.Rooms as machine
 use Rattle.profile.specs.Rooms.{Book, Claim, IsStep}
 use Rattle.profile.specs.Kept.{Replies}
-use Rattle.profile.specs.Streams.{Takes, AllTake, Answers, ObjectFault, refused_line}
+use Rattle.profile.specs.Streams.{AllTake, ObjectFault, refused_line}
 use Rattle.room_books.specs.Standing.{Stands, StepsWith, AreClaims}
 use Rattle.room_books.specs.declared.room.Room.{Room}
 use Rattle.sched_box.specs.Objects.{kept_of}
-use Rattle.sched_box.specs.Answering.{room_addresses, HasBook, HaveBooks, RoomTakes, RoomsTake, AnswersKept, sent_octets}
+use Rattle.sched_box.specs.Answering.{room_addresses, HaveBooks, RoomTakes, RoomsTake, AnswersKept, sent_octets}
 
 -- ---- one room
 

@@ -1,20 +1,18 @@
 -- A fault that stands in what was read of an object stands in the object.
-use Rattle.std.proofs.Common.{◌≡◌, ◌⊎◌, inl, inr, ℕ, ◌+◌, ◌<◌, ◌≤◌, Bool, true, false, not, ◌&&◌, ◌||◌, ◌==◌, nat_lt, cond, fold, List, [], ◌∷◌, ◌++◌, length, take, codes, IsTrue, refl, sym, ap, subst, ◌∙◌, arith, take_all, length-take}
+use Rattle.std.proofs.Common.{◌≡◌, inl, inr, ℕ, ◌+◌, ◌<◌, ◌≤◌, Bool, true, false, not, ◌&&◌, ◌||◌, ◌==◌, nat_lt, cond, fold, List, [], ◌∷◌, ◌++◌, length, codes, refl, sym, ap, subst, ◌∙◌, arith, take_all, length-take}
 use Rattle.std.specs.Prelude.{count_by}
 use Rattle.std.specs.List.{AllZip}
 use Rattle.std.proofs.lemmas.Bool.Decides.{nat_tests}
-use Rattle.std.proofs.lemmas.List.Elements.{AllZip-push}
 use Rattle.ical_lines.specs.declared.fault.Fault.{Fault}
 use Rattle.ical_lines.specs.declared.fault.Fault.TheVariants.{Refused, Memory}
 use Rattle.ical_tree.specs.Tree.{component_name, component_lines, component_children}
-use Rattle.ical_tree.specs.Reading.{SpellsOf, calendar_has, ObjectHas, Stands}
+use Rattle.ical_tree.specs.Reading.{SpellsOf, calendar_has, ObjectHas}
 use Rattle.ical_tree.specs.declared.component.Component.{Component}
 use Rattle.cal_events.specs.Events.{StandsIn}
 use Rattle.itip_messages.specs.Messages.{ReadFault}
-use Rattle.profile.specs.Lines.{is_same_name, logical_lines, text_has, is_faulty, line_has}
+use Rattle.profile.specs.Lines.{is_same_name, logical_lines, text_has}
 use Rattle.profile.specs.Objects.{Body, nothing, property, component, Spells, count_inside, has_version}
 use Rattle.profile.specs.Trees.{Tree, Trees, tree, none, more, trees_list, tree_name, tree_own, tree_inside}
-use Rattle.profile.specs.Messages.{RequestFault}
 use Rattle.profile.specs.Streams.{TreeFault, ObjectFault}
 use Rattle.sched_box.specs.Objects.{kept_of}
 

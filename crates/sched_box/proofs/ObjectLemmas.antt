@@ -1,10 +1,9 @@
 -- Where the octets of an object lead, and what follows it.
-use Rattle.std.proofs.Common.{◌≡◌, ◌≢◌, ◌⊎◌, inl, inr, ℕ, zero, suc, ◌+◌, ◌-◌, ◌<◌, ◌≤◌, min, Bool, true, false, cond, nat_lt, List, [], ◌∷◌, ◌++◌, length, take, drop, get_or, Option, Some, None, IfSome, OnSome, refl, sym, ap, subst, ◌∙◌, arith, length-append, length-take, length-take-le, take-take, true≢false, take_all, take-append-drop, get_or-take}
+use Rattle.std.proofs.Common.{◌≡◌, ℕ, zero, suc, ◌+◌, ◌-◌, ◌<◌, ◌≤◌, min, Bool, true, false, cond, nat_lt, List, [], ◌∷◌, ◌++◌, length, take, drop, get_or, Option, Some, None, IfSome, OnSome, refl, sym, ap, subst, ◌∙◌, arith, length-take, length-take-le, take-take, true≢false, take-append-drop, get_or-take}
 use Rattle.std.proofs.lemmas.Bool.Decides.{nat_tests}
-use Rattle.std.proofs.lemmas.List.{append_assoc, append-nil, append_cancel_left, drop_more, take_more}
+use Rattle.std.proofs.lemmas.List.{append_assoc, append_cancel_left, drop_more, take_more}
 use Rattle.std.specs.Io.{StartsWith}
-use Rattle.std.specs.Io.KnownBytes.{Consumes, Keeps, IsAtEnd}
-use Rattle.std.proofs.KnownBytes.{Consumes-trans, Consumes-kept}
+use Rattle.std.specs.Io.KnownBytes.{Consumes, IsAtEnd}
 use Rattle.profile.specs.Objects.{is_begun, after_object}
 use Rattle.ical_lines.specs.Cut.{rest_after, begun_after, ends_before, step, fresh}
 use Rattle.ical_lines.specs.declared.object_end.Cutter.{Cutter}
@@ -13,9 +12,8 @@ use Rattle.ical_lines.proofs.BegunLemmas.{cutter_begins}
 use Rattle.sched_box.specs.declared.fault.ServeFault.{ServeFault}
 use Rattle.sched_box.specs.declared.fault.ServeFault.TheVariants.{Read, Write, TooLong, Memory}
 use Rattle.sched_box.specs.declared.objects.Objects.{Objects}
-use Rattle.sched_box.specs.declared.objects.Piece.{Piece}
 use Rattle.sched_box.specs.declared.objects.Piece.TheVariants.{Ended, Goes, End}
-use Rattle.sched_box.specs.Objects.{kept_of, Cuts, IsPieceEnd, IsPieceFault, piece_of, TakesPiece, TakesObject, ReadsObject, StopsReading}
+use Rattle.sched_box.specs.Objects.{kept_of, Cuts, IsPieceEnd, IsPieceFault, piece_of, TakesObject, StopsReading}
 
 -- ---- leading on
 

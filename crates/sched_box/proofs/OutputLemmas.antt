@@ -1,9 +1,9 @@
 -- What a writer that fails has taken.
-use Rattle.std.proofs.Common.{◌≡◌, ℕ, zero, ◌<◌, ◌≤◌, ◌-◌, List, [], ◌∷◌, ◌++◌, length, take, drop, Option, Some, None, Result, Ok, Err, OnOk, OnErr, IfErr, refl, sym, ap, subst, ◌∙◌, arith, take_all, take-append-drop}
+use Rattle.std.proofs.Common.{◌≡◌, ℕ, ◌-◌, List, [], ◌∷◌, ◌++◌, length, take, drop, Option, Some, None, Result, Ok, Err, OnOk, OnErr, refl, sym, ap, subst, ◌∙◌, arith, take-append-drop}
 use Rattle.std.proofs.lemmas.List.{append_assoc, append-nil, take_rest}
 use lib.Seq.{take-append_seam}
 use Rattle.std.specs.Io.KnownBytes.{Appends, Keeps}
-use Rattle.std.proofs.KnownBytes.{Appends-nil, Appends-trans, Appends-kept}
+use Rattle.std.proofs.KnownBytes.{Appends-kept}
 
 pub keeps_none : (a b : Option (List ℕ)) (octets : List ℕ) → Appends a b (take 0 octets) → Keeps a b
 keeps_none None b octets h = tt

@@ -1,10 +1,10 @@
 -- Where the octets of a preamble lead, and where it ends.
-use Rattle.std.proofs.Common.{◌≡◌, ◌≢◌, ◌⊎◌, inl, inr, ℕ, ℤ, ◌+◌, ◌<◌, ◌≤◌, Bool, true, false, cond, eqb, List, [], ◌∷◌, ◌++◌, length, Option, Some, None, IfSome, OnSome, zero, suc, min, take, nat_lt, ◌&&◌, not, length-take, length-take-le, take-take, refl, sym, ap, subst, ◌∙◌, arith, length-append, true≢false}
+use Rattle.std.proofs.Common.{◌≡◌, ◌⊎◌, inl, inr, ℕ, ℤ, ◌+◌, ◌<◌, ◌≤◌, Bool, true, false, cond, eqb, List, [], ◌∷◌, ◌++◌, length, Option, Some, None, IfSome, OnSome, zero, suc, min, take, nat_lt, ◌&&◌, not, length-take, length-take-le, take-take, refl, sym, ap, subst, ◌∙◌, arith, length-append, true≢false}
 use Rattle.std.proofs.lemmas.Bool.Decides.{nat_tests}
-use Rattle.std.proofs.lemmas.List.{append_assoc, append-nil, append_cancel_right}
+use Rattle.std.proofs.lemmas.List.{append_assoc, append_cancel_right}
 use Rattle.std.specs.Io.KnownBytes.{Consumes, IsAtEnd}
 use Rattle.std.proofs.KnownBytes.{Consumes-trans}
-use Rattle.profile.specs.Streams.{Setting, IsSetting, SaysSettings, by_end, by_lf, by_crlf, last, with_lf, with_crlf, IsPreamble}
+use Rattle.profile.specs.Streams.{Setting, SaysSettings, by_end, by_lf, by_crlf, last, with_lf, with_crlf, IsPreamble}
 use Rattle.sched_box.specs.declared.preamble.Place.{Place}
 use Rattle.sched_box.specs.declared.preamble.Place.TheVariants.{Start, Return, Inside, Closed}
 use Rattle.sched_box.specs.Preamble.{is_closed, next_place, place_after, rest_of, Leads, TakesPiece, TakesPreamble, IsLong, Opens, OpensNot}

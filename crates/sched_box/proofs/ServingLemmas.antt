@@ -1,7 +1,6 @@
 -- The objects and answers so far, against those of the whole stream.
-use Rattle.std.proofs.Common.{◌≡◌, ◌⊎◌, inl, inr, ℕ, ℤ, zero, suc, ◌+◌, ◌<◌, ◌≤◌, Bool, true, false, List, [], ◌∷◌, ◌++◌, length, take, map, Option, Some, None, IfSome, OnSome, Result, Ok, Err, refl, sym, ap, subst, ◌∙◌, arith, length-append}
+use Rattle.std.proofs.Common.{◌≡◌, inl, inr, ℕ, ℤ, zero, suc, ◌+◌, ◌<◌, ◌≤◌, true, false, List, [], ◌∷◌, ◌++◌, length, take, map, Option, Some, None, IfSome, OnSome, Result, Ok, Err, refl, sym, ap, subst, ◌∙◌, arith, length-append}
 use Rattle.std.proofs.lemmas.List.{append_assoc, append-nil}
-use Rattle.std.specs.List.{AllZip}
 use Rattle.std.specs.Io.KnownBytes.{Appends, Consumes, Keeps, IsAtEnd}
 use Rattle.std.proofs.KnownBytes.{Appends-nil, Appends-trans}
 use Rattle.profile.specs.Objects.{is_begun, after_object}
@@ -14,8 +13,13 @@ use Rattle.sched_box.specs.declared.objects.Objects.{Objects}
 use Rattle.sched_box.specs.declared.serving.ServeReport.{ServeReport}
 use Rattle.sched_box.specs.Answering.{HaveBooks, AnswersKept, room_addresses}
 use Rattle.sched_box.specs.Objects.{kept_of, TakesObject, ReadsObject, StopsReading}
-use Rattle.sched_box.specs.Serving.{Ends, Gives, GivesPart, ServesAll, ServesSome, ServesCut, HasRead, ServesUntil, Serves, RoomsServe, ServesStream}
-use Rattle.std.specs.Option.{option_to_list}
+use Rattle.sched_box.specs.Serving.{Ends, Gives, GivesPart, ServesAll, ServesSome, HasRead, ServesUntil, Serves, RoomsServe, ServesStream, KeepsTexts}
+use Rattle.std.proofs.Common.{◌≢◌, Contains, true≢false}
+use Rattle.std.specs.Str.{bytes_eq}
+use Rattle.std.proofs.lemmas.Slice.Eq.{bytes_eq-Decides}
+use Rattle.std.proofs.lemmas.Bool.{cases_lt}
+use Rattle.profile.specs.Streams as streams
+use Rattle.profile.specs.Kept.{IsKeptCalendar, kept_certificate}
 use Rattle.std.proofs.lemmas.List.{map-append, take_more}
 use Rattle.ical_values.specs.Octets.{address_octets}
 use Rattle.ical_values.specs.declared.address.Address.{Address}
@@ -370,3 +374,70 @@ pub stream_served : (a mid left output written : Option (List ℕ)) (moment : �
     → Serves moment rooms (empty_books rooms) (record { input = mid; left = left; output = output; written = written }) (Ok report)
     → ServesStream (record { input = a; left = left; output = output; written = written }) (Ok report)
 stream_served a mid left output written moment rooms report opens (afters, all) = (moment, rooms, mid, afters, opens, all)
+
+-- ---- the book of one room
+
+pub book_of : (rooms : List Room) (books : List Book) → HaveBooks rooms books → (room : Room) → Contains rooms room
+    → (book : Book) × HasBook room book × streams.HasBook (room_addresses rooms) books (address_octets room.address) book
+book_of [] books h room (k, l, is) = absurd (omega arith)
+book_of (r ∷ rs) [] h room among = absurd h
+book_of (r ∷ rs) (b ∷ bs) h room (zero, l, is) =
+    let P : Room → Type 0 = λ x. HasBook x b in
+    (b, subst P is h.0, inl (ap (λ (x : Room). address_octets x.address) is, refl))
+book_of (r ∷ rs) (b ∷ bs) h room (suc k, l, is) =
+    let (book, stands, has) = book_of rs bs h.1 room (k, omega arith, is) in
+    (book, stands, inr has)
+
+-- no room so far has this address
+pub none_more : (rooms : List Room) (i : ℕ) (a : List ℕ) (d : Room) → ((k : ℕ) (e : Room) → k < i → k < length rooms → address_octets (get_or rooms k e).address ≢ a) → bytes_eq (address_octets (get_or rooms i d).address) a ≡ false
+    → (k : ℕ) (e : Room) → k < i + 1 → k < length rooms → address_octets (get_or rooms k e).address ≢ a
+none_more rooms i a d h no' k e less within same =
+    elim (cases_lt k i) [
+      | inl lt ↦ h k e lt within same
+      | inr ge ↦
+          let is : k ≡ i = omega arith in
+          let P : ℕ → Type 0 = λ n. address_octets (get_or rooms n e).address ≡ a in
+          let there : address_octets (get_or rooms i e).address ≡ a = subst P is same in
+          let Q : ℕ → Type 0 = λ n. n < length rooms in
+          let moved : address_octets (get_or rooms i d).address ≡ a = ap (λ (x : Room). address_octets x.address) (other rooms i (subst Q is within)) ∙ there in
+          true≢false (sym ((bytes_eq-Decides (address_octets (get_or rooms i d).address) a).1 moved) ∙ no')
+    ]
+  where
+    other : (rs : List Room) (i : ℕ) → i < length rs → get_or rs i d ≡ get_or rs i e
+    other [] i l = absurd (omega arith)
+    other (r ∷ rs) zero l = refl
+    other (r ∷ rs) (suc i) l = other rs i (omega arith)
+
+pub none_at : (rooms : List Room) (i : ℕ) (a : List ℕ) → length rooms ≤ i → ((k : ℕ) (e : Room) → k < i → k < length rooms → address_octets (get_or rooms k e).address ≢ a)
+    → Contains (room_addresses rooms) a → ⊥
+none_at rooms i a end h (k, l, is) = look rooms (λ n e lt. h n e (omega arith) lt) k l is
+  where
+    look : (rs : List Room) → ((n : ℕ) (e : Room) → n < length rs → address_octets (get_or rs n e).address ≢ a) → (k : ℕ) → k < length (room_addresses rs) → get_or (room_addresses rs) k a ≡ a → ⊥
+    look [] g k l is = omega arith
+    look (r ∷ rs) g zero l is = g 0 r (omega arith) is
+    look (r ∷ rs) g (suc k) l is = look rs (λ n e lt. g (suc n) e (omega arith)) k (omega arith) is
+
+-- what is kept of a room is the texts of its book
+pub keeps_texts : (moment : ℤ) (rooms addresses : List (List ℕ)) (news : List Room) (ends : Ends) (report : ServeReport) (room : Room) (address calendar certificate : List ℕ)
+    → rooms ≡ addresses → room_addresses news ≡ rooms → RoomsServe moment rooms (empty_books addresses) news ends (Ok report) → Contains news room → address_octets room.address ≡ address
+    → ((book : Book) → HasBook room book → IsKeptCalendar (address_octets room.address) book calendar) → ((book : Book) → HasBook room book → certificate ≡ kept_certificate book)
+    → KeepsTexts moment addresses ends.input ends.left address calendar certificate
+keeps_texts moment rooms addresses news ends report room address calendar certificate same newer (afters, books, all) among is text proof' =
+    let (book, stands, has) = book_of news afters books room among in
+    let P : List (List ℕ) → Type 0 = λ rs. streams.HasBook rs afters (address_octets room.address) book in
+    let Q : List ℕ → Type 0 = λ a. streams.HasBook addresses afters a book in
+    let R : List (List ℕ) → Type 0 = λ rs. AllAnswers moment rs 1 all.objects (empty_books addresses) afters all.octets report.refused in
+    let S : List ℕ → Type 0 = λ a. IsKeptCalendar a book calendar in
+    record {
+      objects = all.objects;
+      afters = afters;
+      octets = all.octets;
+      refused = report.refused;
+      book = book;
+      are = all.are;
+      end = all.end;
+      answers = subst R same all.answers;
+      has = subst Q is (subst P (newer ∙ same) has);
+      calendar_is = subst S is (text book stands);
+      certificate_is = proof' book stands;
+    }

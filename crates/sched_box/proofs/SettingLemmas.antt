@@ -1,5 +1,5 @@
 -- The settings so far, against the settings of the whole text.
-use Rattle.std.proofs.Common.{◌≡◌, ◌≢◌, ℕ, zero, suc, ◌+◌, ◌<◌, ◌≤◌, Bool, true, false, List, [], ◌∷◌, ◌++◌, length, get_or, map, refl, sym, ap, subst, ◌∙◌, arith, codes, inl, inr, ◌⊎◌, ℤ, Option, Some, None, Result, Ok, Err, OnOk, OnErr, IfErr, Contains, AllPairs, length-append}
+use Rattle.std.proofs.Common.{◌≡◌, ◌≢◌, ℕ, zero, suc, ◌<◌, ◌≤◌, Bool, true, false, List, [], ◌∷◌, ◌++◌, length, get_or, map, refl, sym, ap, subst, ◌∙◌, arith, codes, inl, inr, ◌⊎◌, ℤ, Option, Some, None, Result, Ok, Err, OnOk, OnErr, IfErr, Contains, AllPairs, length-append}
 use Rattle.std.proofs.Common.{◌==◌, true≢false}
 use Rattle.std.proofs.lemmas.Bool.Decides.{nat_tests}
 use Rattle.std.specs.Option.{option_to_list}
@@ -11,14 +11,12 @@ use Rattle.profile.specs.Streams.{Setting, Now, Room, IsSetting, SaysSettings, b
 use Rattle.std.specs.Str.{IsUtf8}
 use Rattle.std.proofs.lemmas.Str.{IsUtf8-from_is_utf8, is_utf8-from_IsUtf8}
 use Rattle.std.proofs.lemmas.List.{length-map}
-use Rattle.ical_values.specs.Octets.{address_octets}
-use Rattle.ical_values.specs.declared.address.Address.{Address}
 use Rattle.ical_lines.specs.declared.fault.Fault.{Fault}
 use Rattle.ical_lines.specs.declared.fault.Fault.TheVariants.{Refused, Memory}
 use Rattle.ical_values.specs.Refused.{IfRefused}
 use Rattle.sched_box.specs.declared.settings.Settings.{Settings}
 use Rattle.sched_box.specs.Settings.{rooms_of, CanAdd, Adds, AddsLine, IsUnbroken, Breaks, Holds, Reads, ReadsSettings, ReadsNone, SaysNone}
-use Rattle.sched_box.proofs.Lines.{first_line, same_line, empty_line, setting_some, setting_above, above_unbroken, no_break, nil_no, Ends, Goes}
+use Rattle.sched_box.proofs.Lines.{first_line, same_line, empty_line, setting_some, no_break, nil_no, Ends, Goes}
 
 -- ---- one line
 

@@ -1,5 +1,5 @@
 -- What a clause says of the end of a stream.
-use Rattle.std.specs.Prelude.{◌≡◌, ℕ}
+use Rattle.std.specs.Prelude.{◌≡◌}
 use Rattle.sched_box.specs.Objects.{IsPieceFault}
 use Rattle.sched_box.specs.declared.fault.StreamFault.{StreamFault}
 use Rattle.sched_box.specs.declared.fault.StreamFault.TheVariants.{Refused, Serve}

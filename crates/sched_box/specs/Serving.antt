@@ -1,9 +1,10 @@
 -- What a reader gave and a writer took, once serving has ended.
 use Rattle.std.specs.Prelude.{◌≡◌, ◌⊎◌, ℕ, ℤ, ◌+◌, ◌≤◌, ◌<◌, List, [], ◌∷◌, ◌++◌, length, take, Option, Some, None, IfSome, OnSome, Result, Ok, Err}
-use Rattle.std.specs.Io.KnownBytes.{Appends, Consumes, Keeps, IsAtEnd}
-use Rattle.profile.specs.Objects.{is_begun, after_object}
+use Rattle.std.specs.Io.KnownBytes.{Appends, Keeps, IsAtEnd}
+use Rattle.profile.specs.Objects.{after_object}
 use Rattle.profile.specs.Rooms.{Book}
-use Rattle.profile.specs.Streams.{BeginsWith, AreObjects, Answers, AllAnswers, empty_books}
+use Rattle.profile.specs.Kept.{IsKeptCalendar, kept_certificate}
+use Rattle.profile.specs.Streams.{BeginsWith, AreObjects, Answers, AllAnswers, empty_books, HasBook}
 use Rattle.room_books.specs.declared.room.Room.{Room}
 use Rattle.sched_box.specs.declared.fault.ServeFault.{ServeFault}
 use Rattle.sched_box.specs.declared.fault.ServeFault.TheVariants.{Read, Write, TooLong, Memory}
@@ -102,3 +103,17 @@ ServesStream ends (Err (Serve fault)) =
     (IsPieceFault fault × Keeps ends.output ends.written)
     ⊎ ((moment : ℤ) × (rooms : List (List ℕ)) × (rest : Option (List ℕ)) × Opens ends.input rest moment rooms
     × ServesUntil moment rooms (empty_books rooms) (record ends { input = rest }) fault)
+
+-- what a room keeps after all objects of a stream: the calendar and the certificate of its book
+pub record KeepsTexts (moment : ℤ) (rooms : List (List ℕ)) (input left : Option (List ℕ)) (room calendar certificate : List ℕ) : Type 0 where
+  pub objects : List (List ℕ)
+  pub afters : List Book
+  pub octets : List ℕ
+  pub refused : ℕ
+  pub book : Book
+  pub are : IfSome input (λ stream. AreObjects stream objects)
+  pub end : OnSome input (IsAtEnd left)
+  pub answers : AllAnswers moment rooms 1 objects (empty_books rooms) afters octets refused
+  pub has : HasBook rooms afters room book
+  pub calendar_is : IsKeptCalendar room book calendar
+  pub certificate_is : certificate ≡ kept_certificate book

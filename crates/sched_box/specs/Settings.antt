@@ -1,5 +1,5 @@
 -- What the lines of a preamble or a configuration have set.
-use Rattle.std.specs.Prelude.{◌≡◌, ◌≢◌, ◌⊎◌, ◌≤◌, ◌<◌, ℕ, Bool, true, List, [], ◌∷◌, ◌++◌, length, map, Contains, Option, None, Some, AllPairs, slice_index}
+use Rattle.std.specs.Prelude.{◌≡◌, ◌≢◌, ◌⊎◌, ◌≤◌, ◌<◌, ℕ, Bool, true, List, [], ◌∷◌, ◌++◌, length, map, Contains, None, Some, AllPairs, slice_index}
 use Rattle.std.specs.Option.{option_to_list}
 use Rattle.std.specs.Str.{is_utf8}
 use Rattle.ical_values.specs.Octets.{address_octets}

@@ -1,13 +1,14 @@
 //! Serving: each object goes to the rooms that it is addressed to, and what they answer is written.
 
-ghost use Rattle.std.specs.Prelude.{◌≡◌, ◌≤◌, List, ℕ, IfErr, IfOk};
+ghost use Rattle.std.specs.Prelude.{◌≡◌, ◌≤◌, List, ℕ, Contains, IfErr, IfOk, IfSome, IsNone, OnOk};
+ghost use Rattle.std.specs.Str.{bytes_eq};
 ghost use Rattle.ical_values.specs.Octets.{address_octets};
 ghost use Rattle.profile.specs.Rooms.{Book, empty_book};
 ghost use Rattle.profile.specs.Streams.{empty_books};
 ghost use Rattle.sched_box.specs.Answering.{HasBook, HaveBooks, room_addresses};
 ghost use Rattle.sched_box.specs.Config.{config_rooms};
-ghost use Rattle.sched_box.specs.Faults.{RefusesPreamble};
-ghost use Rattle.sched_box.specs.Serving.{RoomsServe, Serves, ServesStream};
+ghost use Rattle.sched_box.specs.Faults.{IfRefusedStream, RefusesPreamble};
+ghost use Rattle.sched_box.specs.Serving.{KeepsTexts, RoomsServe, Serves, ServesStream};
 
 use crate::answering::answer;
 use crate::config::Config;
@@ -70,20 +71,43 @@ pub fn keep<R: BufRead>(
     now: Stamp,
     room: &Address,
 ) -> Result<(Vec<u8>, Vec<u8>), StreamFault>
+    ensures keeps { IfOk result (λ kept. KeepsTexts now (config_rooms config.now) (R.remaining reader.old) (R.remaining reader.new) (address_octets room.now) kept.0.items kept.1.items) }
     ensures refuses { IfErr result RefusesPreamble }
+    ensures none { IfErr result (IfRefusedStream (Contains (config_rooms config.now) (address_octets room.now) → ⊥)) }
 {
-    let mut rooms = rooms_of(alloc, config)?;
-    let Some(place) = rooms.iter().position(|hosted| *hosted.address() == *room) else {
+    if !config.has_room(room) {
         return Err(not_hosted());
-    };
+    }
+    let mut rooms = rooms_of(alloc, config)?;
     let mut nowhere = io::sink();
     serve_rooms(alloc, &mut rooms, reader, &mut nowhere, now)?;
-    let Some(kept) = rooms.get(place) else {
+    let Some(kept) = room_at(rooms.as_slice(), room) else {
         return Err(not_hosted());
     };
     let calendar = kept.calendar_text()?;
     let certificate = kept.certificate_text()?;
     Ok((calendar, certificate))
+}
+
+/// The room of an address, if there is one.
+fn room_at<'a>(rooms: &'a [Room], address: &Address) -> Option<&'a Room>
+    ensures found { IfSome result (λ room. Contains rooms.now room.now) }
+    ensures address { IfSome result (λ room. address_octets room.now.address ≡ address_octets address.now) }
+    ensures none { IsNone result → Contains (room_addresses rooms.now) (address_octets address.now) → ⊥ }
+{
+    for room in rooms {
+        if is_at(room, address) {
+            return Some(room);
+        }
+    }
+    None
+}
+
+/// Whether a room has this address.
+fn is_at(room: &Room, address: &Address) -> bool
+    ensures { result ≡ bytes_eq (address_octets room.now.address) (address_octets address.now) }
+{
+    *room.address() == *address
 }
 
 /// What a room gets that the box doesn't host: 90.
@@ -124,6 +148,7 @@ fn serve_rooms<R: BufRead, W: Write>(
     now: Stamp,
 ) -> Result<ServeReport, ServeFault>
     ensures counts { IfOk result (λ report. report.refused ≤ report.objects) }
+    ensures addresses { OnOk result (room_addresses rooms.new.items ≡ room_addresses rooms.old.items) }
     ensures serves { (befores : List Book) → HaveBooks rooms.old.items befores → RoomsServe now (room_addresses rooms.old.items) befores rooms.new.items
         (record { input = R.remaining reader.old; left = R.remaining reader.new; output = W.contents writer.old; written = W.contents writer.new }) result }
 {

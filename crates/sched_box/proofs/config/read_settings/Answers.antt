@@ -1,5 +1,5 @@
 use Rattle.std.proofs.Common.{arith, rules, subst}
-use Rattle.sched_box.specs.Settings.{Reads, ReadsNone, ReadsSettings}
+use Rattle.sched_box.specs.Settings.{Reads, ReadsNone}
 use Rattle.sched_box.proofs.SettingLemmas.{if_refused, no_room, many_rooms, not_utf8, is_read}
 use Rattle.sched_box.proofs.config.read_settings.Goals as goal
 

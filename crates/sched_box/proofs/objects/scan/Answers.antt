@@ -1,4 +1,4 @@
-use Rattle.std.proofs.Common.{◌∙◌, sym, arith, rules}
+use Rattle.std.proofs.Common.{◌∙◌, sym, arith}
 use Rattle.sched_box.proofs.ObjectLemmas.{cuts_more}
 use Rattle.sched_box.proofs.objects.scan.Goals as goal
 

@@ -1,4 +1,4 @@
-use Rattle.std.proofs.Common.{◌++◌, take, rules, arith}
+use Rattle.std.proofs.Common.{◌++◌, take, rules}
 use Rattle.std.proofs.lemmas.Result.{err_from_is_err_and}
 use Rattle.std.proofs.KnownBytes.{Appends-trans}
 use Rattle.sched_box.proofs.OutputLemmas.{moves_front, any_ok, any_err, all_written, some_written, keeps_same}

@@ -1,5 +1,5 @@
-use Rattle.std.proofs.Common.{◌≡◌, ◌≤◌, take, length, sym, subst, rules, arith}
-use Rattle.std.specs.Io.BufRead.{FillKeeps, DropsConsumable}
+use Rattle.std.proofs.Common.{◌≤◌, take, length, subst, rules}
+use Rattle.std.specs.Io.BufRead.{FillKeeps}
 use Rattle.std.proofs.BufReadLemmas.{Consumes_shown}
 use Rattle.sched_box.proofs.PreambleLemmas.{piece}
 use Rattle.sched_box.proofs.preamble.take_piece.Goals as goal

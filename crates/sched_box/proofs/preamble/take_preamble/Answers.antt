@@ -1,4 +1,4 @@
-use Rattle.std.proofs.Common.{◌≡◌, ◌++◌, sym, subst, arith, rules, [], refl, length-append, ap, length}
+use Rattle.std.proofs.Common.{sym, subst, arith, length-append, ap, length}
 use Rattle.std.proofs.KnownBytes.{Consumes-nil, Consumes-trans}
 use Rattle.std.specs.Io.KnownBytes.{Consumes}
 use Rattle.sched_box.specs.declared.preamble.Place.TheVariants.{Start}

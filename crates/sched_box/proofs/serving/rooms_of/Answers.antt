@@ -1,4 +1,4 @@
-use Rattle.std.proofs.Common.{◌≡◌, ◌∙◌, ap, map, sym, subst, arith, rules}
+use Rattle.std.proofs.Common.{◌∙◌, ap, map, subst, arith}
 use Rattle.ical_values.specs.Octets.{address_octets}
 use Rattle.profile.specs.Streams.{empty_books}
 use Rattle.sched_box.specs.Answering.{HaveBooks}

@@ -1,4 +1,4 @@
-use Rattle.std.proofs.Common.{◌+◌, ◌∙◌, refl, subst}
+use Rattle.std.proofs.Common.{◌+◌, refl, subst}
 use Rattle.std.proofs.lemmas.Result.{err_from_is_err_and}
 use Rattle.sched_box.specs.Objects.{ReadsObject}
 use Rattle.sched_box.proofs.ServingLemmas.{forgotten, cut, served_more, served_all, answered_from}

@@ -1,4 +1,3 @@
-use Rattle.std.proofs.Common.{arith, rules}
 use Rattle.sched_box.proofs.SettingLemmas.{if_refused, has_moment}
 use Rattle.sched_box.proofs.config.Config.read.Goals as goal
 

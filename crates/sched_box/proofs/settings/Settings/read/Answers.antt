@@ -1,4 +1,4 @@
-use Rattle.std.proofs.Common.{◌≡◌, ◌<◌, [], arith, rules, length, refl, sym, subst, Some, None}
+use Rattle.std.proofs.Common.{rules, refl, sym, subst}
 use Rattle.std.proofs.lemmas.Result.{err_from_is_err_and}
 use Rattle.sched_box.specs.Settings.{Reads, SaysNone}
 use Rattle.sched_box.proofs.SettingLemmas.{none_yet, line_more, line_none, ended, ended_none, last_more, last_none, all_read, is_none, is_some, if_refused, if_refused_map, not_nil}

@@ -1,0 +1,18 @@
+use Rattle.std.proofs.Common.{Contains, subst}
+use Rattle.ical_values.specs.Octets.{address_octets}
+use Rattle.profile.specs.Streams.{empty_books}
+use Rattle.sched_box.specs.Config.{config_rooms}
+use Rattle.sched_box.specs.Answering.{room_addresses}
+use Rattle.sched_box.proofs.ServingLemmas.{keeps_texts}
+use Rattle.sched_box.proofs.serving.keep.Goals as goal
+
+pub returns-clause-keeps : goal.returns-clause-keeps
+returns-clause-keeps g c =
+    let rooms = c.in_ok-rooms.rooms.items in
+    let addresses = config_rooms c.args.config.now in
+    let news = c.serve_rooms.new.rooms.items in
+    let kept = c.in-Some.kept.now in
+    let serves = c.in_ok-serve_rooms.ensures.serves (empty_books addresses) c.in_ok-rooms.ensures.books in
+    let among = subst (λ rs. Contains rs kept) c.as_slice.ensures.value c.in-Some.ensures.found in
+    keeps_texts c.args.now (room_addresses rooms) addresses news _ c.in_ok-serve_rooms.field-0 kept (address_octets c.args.room.now) _ _ c.in_ok-rooms.ensures.addresses c.in_ok-serve_rooms.ensures.addresses serves among
+    c.in-Some.ensures.address c.in_ok-calendar.ensures c.in_ok-certificate.ensures
