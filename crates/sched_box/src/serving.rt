@@ -3,6 +3,7 @@
 ghost use Rattle.std.specs.Prelude.{◌≡◌, ◌≤◌, List, ℕ, Contains, IfErr, IfOk, IfSome, IsNone, OnOk};
 ghost use Rattle.std.specs.Str.{bytes_eq};
 ghost use Rattle.ical_values.specs.Octets.{address_octets};
+ghost use Rattle.profile.specs.Calendars.{CertificateHolds};
 ghost use Rattle.profile.specs.Rooms.{Book, empty_book};
 ghost use Rattle.profile.specs.Streams.{empty_books};
 ghost use Rattle.sched_box.specs.Answering.{HasBook, HaveBooks, room_addresses};
@@ -18,7 +19,7 @@ use crate::output::put;
 use crate::preamble::read_preamble;
 use ical_lines::Refusal;
 use ical_values::{Address, Stamp};
-use room_books::Room;
+use room_books::{Room, served_texts_pass};
 use std::alloc::{AllocError, Global};
 use std::io::{self, BufRead, Write};
 
@@ -62,7 +63,7 @@ pub fn serve<R: BufRead, W: Write>(
     serve_rooms(alloc, &mut rooms, reader, writer, now)
 }
 
-/// What a room keeps after the same objects: its calendar and its certificate.
+/// What a room keeps after the same objects: its calendar and its certificate, for which the checker says yes.
 /// Refused: 90 where the box doesn't host the room.
 pub fn keep<R: BufRead>(
     alloc: Global,
@@ -72,6 +73,7 @@ pub fn keep<R: BufRead>(
     room: &Address,
 ) -> Result<(Vec<u8>, Vec<u8>), StreamFault>
     ensures keeps { IfOk result (λ kept. KeepsTexts now (config_rooms config.now) (R.remaining reader.old) (R.remaining reader.new) (address_octets room.now) kept.0.items kept.1.items) }
+    ensures passes { IfOk result (λ kept. CertificateHolds (address_octets room.now) kept.0.items kept.1.items) }
     ensures refuses { IfErr result RefusesPreamble }
     ensures none { IfErr result (IfRefusedStream (Contains (config_rooms config.now) (address_octets room.now) → ⊥)) }
 {
@@ -86,6 +88,7 @@ pub fn keep<R: BufRead>(
     };
     let calendar = kept.calendar_text()?;
     let certificate = kept.certificate_text()?;
+    served_texts_pass();
     Ok((calendar, certificate))
 }
 

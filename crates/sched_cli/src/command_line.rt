@@ -17,6 +17,9 @@ pub enum Invocation<'a> {
         certificate: &'a str,
         room: &'a str,
     },
+    Expand {
+        limit: &'a str,
+    },
 }
 
 const ABOUT: &str =
@@ -33,6 +36,13 @@ const KEEP: &str =
 const CHECK: &str =
     "Prints yes where the certificate shows that no two confirmed instances of the room share an \
     instant, else no and why.\nExample: roombox check kept.ics kept.cert mailto:r1@example.com";
+
+const EXPAND: &str =
+    "Reads one iCalendar object with one VEVENT, and prints its first instances: a line with original start, start and seconds each.\n\
+    Example: roombox expand --limit 5 < examples/every-second-tuesday.ics";
+
+/// How many instances are printed where no limit is given.
+const LIMIT: &str = "100";
 
 const ROOM_HELP: &str = "The room's address, as mailto:r1@example.com";
 
@@ -54,7 +64,8 @@ fn program<'a>(alloc: Global) -> Result<Command<'a>, AllocError> {
         .disable_help_subcommand(true)
         .subcommand(Command::new(alloc, "serve").about(SERVE))?
         .subcommand(keep_command(alloc)?)?
-        .subcommand(check_command(alloc)?)
+        .subcommand(check_command(alloc)?)?
+        .subcommand(expand_command(alloc)?)
 }
 
 fn keep_command<'a>(alloc: Global) -> Result<Command<'a>, AllocError> {
@@ -76,6 +87,14 @@ fn check_command<'a>(alloc: Global) -> Result<Command<'a>, AllocError> {
         .arg(required(alloc, "ROOM", ROOM_HELP))
 }
 
+fn expand_command<'a>(alloc: Global) -> Result<Command<'a>, AllocError> {
+    let limit = Arg::new(alloc, "limit")
+        .long("limit")
+        .value_name("N")
+        .help("How many instances at most, from 1 to 100,000 (else 100)");
+    Command::new(alloc, "expand").about(EXPAND).arg(limit)
+}
+
 fn required<'a>(alloc: Global, name: &'a str, help: &'a str) -> Arg<'a> {
     Arg::new(alloc, name).required(true).help(help)
 }
@@ -90,6 +109,9 @@ fn invocation_of<'a>(matches: &ArgMatches<'a>) -> Invocation<'a> {
             calendar: words.get_str("CALENDAR").unwrap_or(""),
             certificate: words.get_str("CERTIFICATE").unwrap_or(""),
             room: words.get_str("ROOM").unwrap_or(""),
+        },
+        Some(("expand", words)) => Invocation::Expand {
+            limit: words.get_str("limit").unwrap_or(LIMIT),
         },
         _ => Invocation::Serve,
     }

@@ -2,6 +2,7 @@
 
 use crate::command_line::{Invocation, read_words};
 use crate::commands::{Kept, run_check, run_keep, run_serve};
+use crate::expand::run_expand;
 use crate::status::{DEVICE, USAGE, report_device, report_memory, report_too_long};
 use ical_lines::Fault;
 use ical_values::Address;
@@ -13,6 +14,12 @@ use std::{env, str};
 
 /// The most octets of a file; this profile's choice.
 const MOST_OCTETS: u64 = 1_073_741_824;
+
+/// How many instances `expand` prints at most; this profile's choice.
+const MOST_INSTANCES: usize = 100_000;
+
+/// The octets that `expand` reads: one more than an object may have.
+const OBJECT_OCTETS: u64 = 1_048_577;
 
 /// Standard error, as a writer of text.
 #[derive(Drop)]
@@ -88,6 +95,13 @@ fn invoke<R: Runtime + AllocGlobal>(rt: &R, alloc: Global, invocation: Invocatio
             Ok(room) => invoke_check(rt, alloc, calendar, certificate, &room),
             Err(status) => status,
         },
+        Invocation::Expand { limit } => match limit_of(limit) {
+            Some(limit) => invoke_expand(rt, alloc, limit),
+            None => {
+                let _ = eprintln!(rt; "roombox: N is no number from 1 to 100,000: {limit:?}");
+                USAGE
+            }
+        },
     }
 }
 
@@ -150,6 +164,32 @@ fn invoke_check<R: Runtime + AllocGlobal>(
         &mut writer,
         &mut errors,
     )
+}
+
+/// The number that the word of `--limit` names: decimal digits, 1 to 100,000.
+fn limit_of(word: &str) -> Option<usize> {
+    if word.starts_with('+') {
+        return None;
+    }
+    match word.parse::<usize>() {
+        Ok(limit) if limit >= 1 && limit <= MOST_INSTANCES => Some(limit),
+        _ => None,
+    }
+}
+
+fn invoke_expand<R: Runtime + AllocGlobal>(rt: &R, alloc: Global, limit: usize) -> u8 {
+    let mut errors = ErrorPrinter { to: rt };
+    let mut octets = Vec::new(alloc);
+    if let Err(error) = rt.reader().take(OBJECT_OCTETS).read_to_end(&mut octets) {
+        return match error.kind() {
+            ErrorKind::OutOfMemory => report_memory(&mut errors),
+            _ => report_device(&mut errors),
+        };
+    }
+    let Ok(mut writer) = BufWriter::new(alloc, io::writer(rt)) else {
+        return no_memory(rt);
+    };
+    run_expand(alloc, octets.as_slice(), limit, &mut writer, &mut errors)
 }
 
 fn report_file<E: Write>(errors: &mut E, fault: FileFault) -> u8 {

@@ -7,6 +7,7 @@ mod case;
 use case::{Case, Outcome};
 use ical_values::Address;
 use sched_cli::commands::{Kept, run_check, run_keep, run_serve};
+use sched_cli::run_expand;
 use std::alloc::Global;
 use std::rt::Files;
 use std::{fs, io};
@@ -64,6 +65,7 @@ fn run<R: Files + AllocGlobal>(rt: &R, alloc: Global, case: &Case<'_>) -> io::Re
             &mut output,
             &mut errors,
         ),
+        "expand" => run_expand(alloc, input.as_slice(), 100, &mut output, &mut errors),
         _ => {
             let certificate = read_all(rt, alloc, case.certificate)?;
             run_check(

@@ -1,5 +1,6 @@
-use Rattle.std.proofs.Common.{Contains, subst}
+use Rattle.std.proofs.Common.{Contains, subst, sym}
 use Rattle.ical_values.specs.Octets.{address_octets}
+use Rattle.profile.specs.Calendars.{CertificateHolds}
 use Rattle.profile.specs.Streams.{empty_books}
 use Rattle.sched_box.specs.Config.{config_rooms}
 use Rattle.sched_box.specs.Answering.{room_addresses}
@@ -16,3 +17,10 @@ returns-clause-keeps g c =
     let among = subst (λ rs. Contains rs kept) c.as_slice.ensures.value c.in-Some.ensures.found in
     keeps_texts c.args.now (room_addresses rooms) addresses news _ c.in_ok-serve_rooms.field-0 kept (address_octets c.args.room.now) _ _ c.in_ok-rooms.ensures.addresses c.in_ok-serve_rooms.ensures.addresses serves among
     c.in-Some.ensures.address c.in_ok-calendar.ensures c.in_ok-certificate.ensures
+
+pub returns-clause-passes : goal.returns-clause-passes
+returns-clause-passes g c =
+    let k = returns-clause-keeps g c in
+    let room = address_octets c.args.room.now in
+    subst (λ text. CertificateHolds room c.in_ok-calendar.calendar.items text) (sym k.certificate_is)
+    (c.served_texts_pass.ensures c.args.now (config_rooms c.args.config.now) 1 k.objects k.afters k.octets k.refused k.answers room k.book k.has c.in_ok-calendar.calendar.items k.calendar_is)
