@@ -1,5 +1,5 @@
 -- The words and numbers of a rule's values (RFC 5545 3.3.10).
-use Rattle.std.specs.Prelude.{◌≡◌, ℕ, List, [], ◌++◌, ◌⊎◌, ◌==◌, if◌then◌else◌, codes}
+use Rattle.std.specs.Prelude.{◌≡◌, ℕ, List, ◌++◌, ◌⊎◌, ◌==◌, if◌then◌else◌, codes}
 use Rattle.profile.specs.Days.{Frequency, Daily, Weekly, Monthly, Yearly}
 use Rattle.profile.specs.Values.{IsNumber}
 
