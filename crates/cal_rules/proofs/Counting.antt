@@ -1,8 +1,8 @@
 -- Days of a rule but for COUNT, counted.
-use Rattle.std.proofs.Common.{◌≡◌, ◌∙◌, ap, sym, refl, inl, inr, ℕ, zero, suc, ◌+◌, ◌-◌, ◌<◌, ◌≤◌, min, Bool, true, false, ◌&&◌, nat_le, Option, Some, None, IsSome, IfSome, MatchOption, ℤ, arith}
+use Rattle.std.proofs.Common.{◌≡◌, ◌∙◌, sym, refl, inl, inr, ℕ, zero, suc, ◌+◌, ◌-◌, ◌<◌, ◌≤◌, min, Bool, true, false, ◌&&◌, nat_le, Option, Some, None, IsSome, IfSome, MatchOption, ℤ, arith}
 use Rattle.std.proofs.lemmas.Bool.{cases_order, cases_lt, false≢true}
 use Rattle.std.proofs.lemmas.Bool.Decides.{nat_tests}
-use Rattle.profile.specs.Rules.{Parts, count_days, is_rule_day, is_within_count, is_counted, is_in_step, is_base, is_placed, last_rule_day, NoDayFrom, IsNextDay}
+use Rattle.profile.specs.Rules.{Parts, count_days, is_rule_day, is_within_count, is_counted, is_in_step, is_base, last_rule_day, NoDayFrom, IsNextDay}
 use Rattle.profile.specs.Days.{day_index}
 use Rattle.cal_rules.specs.Counted.{NoneFrom, NoneBetween, IsNextCounted, EndsAt}
 

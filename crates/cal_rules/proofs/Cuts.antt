@@ -1,5 +1,5 @@
 -- The pieces of a text, one after the other.
-use Rattle.std.proofs.Common.{◌≡◌, ◌∙◌, ap, sym, refl, ℕ, suc, ◌+◌, ◌<◌, Bool, true, false, cond, not, ◌==◌, List, [], ◌∷◌, length, Option, None, Some, option_map, arith}
+use Rattle.std.proofs.Common.{◌≡◌, refl, ℕ, suc, ◌+◌, ◌<◌, Bool, true, false, cond, not, ◌==◌, List, [], ◌∷◌, length, Option, None, Some, option_map, arith}
 use denote.Ref.{Bor}
 use Rattle.std.specs.List.{slice_split, onto_first, position_or_len}
 use Rattle.cal_rules.specs.Piece.{pieces_of, IsFirstPiece}

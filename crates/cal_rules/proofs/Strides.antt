@@ -1,9 +1,9 @@
 -- Whole periods passed over.
-use Rattle.std.proofs.Common.{◌≡◌, ◌∙◌, ap, sym, refl, inl, inr, ℕ, zero, suc, ◌+◌, ◌-◌, ◌*◌, ◌%◌, ◌<◌, ◌≤◌, Bool, true, false, ◌==◌, arith}
+use Rattle.std.proofs.Common.{◌≡◌, ◌∙◌, sym, inl, inr, ℕ, ◌+◌, ◌-◌, ◌*◌, ◌%◌, ◌<◌, ◌≤◌, false, arith}
 use Rattle.std.proofs.Math.Nat.{mod-add-mod, mod-eq_of_lt, add-mod_left}
 use Rattle.std.proofs.lemmas.Bool.{cases_lt, ne_eqb}
 use Rattle.cal_days.specs.Views.{PeriodsAscend, PeriodsLast}
-use Rattle.profile.specs.Days.{Frequency, period_of, shortest_period}
+use Rattle.profile.specs.Days.{period_of, shortest_period}
 use Rattle.profile.specs.Rules.{Pattern, is_in_step}
 
 -- below the remainder that is looked for

@@ -1,5 +1,5 @@
 -- What the types stand for.
-use Rattle.std.specs.Prelude.{ℕ, List, map, Option, option_map}
+use Rattle.std.specs.Prelude.{ℕ, map, option_map}
 use Rattle.cal_days.specs.Views.{frequency_of}
 use Rattle.cal_rules.specs.declared.written.WeekdayNumber as rust_entry
 use Rattle.cal_rules.specs.declared.written.Written as rust

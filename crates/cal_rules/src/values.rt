@@ -1,12 +1,19 @@
 //! The values of a rule's parts: words, numbers, weekdays, dates (RFC 5545 3.3.10).
 
+ghost use Rattle.std.specs.Prelude.{◌≡◌, ◌<◌, ◌^◌, ℕ, IfSome, IfNone};
+ghost use Rattle.profile.specs.Values.{IsNumber};
+ghost use Rattle.cal_days.specs.Views.{frequency_of};
+ghost use Rattle.cal_rules.specs.Words.{frequency_word, weekday_word, SpellsSize};
+
 use crate::written::{Until, WeekdayNumber};
 use cal_days::{Day, Frequency};
 use ical_values::{LocalTime, Stamp};
 use std::alloc::{AllocError, Global};
 
 /// The frequency of a word; those of less than a day are left out here.
-pub(crate) fn read_frequency(value: &str) -> Option<Frequency> {
+pub(crate) fn read_frequency(value: &str) -> Option<Frequency>
+    ensures { IfSome result (λ f. value.now ≡ frequency_word (frequency_of f)) }
+{
     match value {
         "DAILY" => Some(Frequency::Daily),
         "WEEKLY" => Some(Frequency::Weekly),
@@ -17,7 +24,10 @@ pub(crate) fn read_frequency(value: &str) -> Option<Frequency> {
 }
 
 /// The weekday of its two letters, 0 for Monday.
-pub(crate) fn read_weekday(value: &str) -> Option<u8> {
+pub(crate) fn read_weekday(value: &str) -> Option<u8>
+    ensures reads { IfSome result (λ n. value.now ≡ weekday_word n) }
+    ensures range { IfSome result (λ n. n < 7) }
+{
     match value {
         "MO" => Some(0),
         "TU" => Some(1),
@@ -31,8 +41,11 @@ pub(crate) fn read_weekday(value: &str) -> Option<u8> {
 }
 
 /// A number in decimal digits, without a sign.
-pub(crate) fn read_number(value: &str) -> Option<u32> {
-    if value.starts_with('+') {
+pub(crate) fn read_number(value: &str) -> Option<u32>
+    ensures reads { IfSome result (SpellsSize value.now) }
+    ensures none { IfNone result ((n : ℕ) → n < 2 ^ 32 → IsNumber value.now n → ⊥) }
+{
+    if value.strip_prefix('+').is_some() {
         return None;
     }
     match value.parse::<u32>() {

@@ -1,6 +1,6 @@
-use Rattle.std.proofs.Common.{◌≡◌, ◌∙◌, ◌&&◌, sym, false, true, length, nat_le, refl, rules}
+use Rattle.std.proofs.Common.{◌≡◌, ◌∙◌, sym, false, true, refl, rules}
 use Rattle.std.proofs.lemmas.Bool.{and_left}
-use Rattle.profile.specs.Rules.{is_entry, is_short}
+use Rattle.profile.specs.Rules.{is_entry}
 use Rattle.cal_rules.specs.Views.{entry_of}
 use Rattle.cal_rules.proofs.Judging.{judged}
 use Rattle.cal_rules.proofs.checks.are_entries.Goals as goal

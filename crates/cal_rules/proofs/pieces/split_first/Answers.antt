@@ -1,5 +1,4 @@
-use Rattle.std.proofs.Common.{◌∙◌, ap, sym, None, Some, ◌==◌, ◌∷◌, arith}
-use Rattle.std.specs.List.{slice_split}
+use Rattle.std.proofs.Common.{None, Some, ◌==◌}
 use Rattle.std.proofs.lemmas.Str.Pattern.{split_once_first}
 use Rattle.std.proofs.lemmas.List.Splits.{slice_split_first}
 use Rattle.cal_rules.proofs.Cuts.{one_piece}

@@ -1,6 +1,5 @@
-use Rattle.std.proofs.Common.{◌≡◌, ◌≤◌, arith}
+use Rattle.std.proofs.Common.{arith}
 use Rattle.profile.specs.Days.{day_index}
-use Rattle.profile.specs.Rules.{Parts, IsNextDay}
 use Rattle.cal_rules.specs.Views.{parts_of}
 use Rattle.cal_rules.specs.Counted.{IsNextCounted}
 use Rattle.cal_rules.proofs.Counting.{next_day, found_day}

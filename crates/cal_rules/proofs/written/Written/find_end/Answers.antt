@@ -1,8 +1,8 @@
-use Rattle.std.proofs.Common.{◌≡◌, ◌∙◌, ◌+◌, ◌-◌, ◌^◌, ◌<◌, refl, arith}
+use Rattle.std.proofs.Common.{◌≡◌, ◌∙◌, ◌-◌, refl, arith}
 use Rattle.profile.specs.Days.{day_index}
 use Rattle.profile.specs.Rules.{count_days}
 use Rattle.cal_rules.specs.Views.{parts_of}
-use Rattle.cal_rules.proofs.Counting.{counted_bound, count_next, ends_never, ends_early, ends_at}
+use Rattle.cal_rules.proofs.Counting.{count_next, ends_never, ends_early, ends_at}
 use Rattle.cal_rules.proofs.written.Written.find_end.Goals as goal
 
 pub returns-in_default : goal.returns-in_default

@@ -1,4 +1,4 @@
-use Rattle.std.proofs.Common.{◌≡◌, ◌≤◌, ◌+◌, ◌-◌}
+use Rattle.std.proofs.Common.{◌≤◌, ◌-◌}
 use Rattle.profile.specs.Days.{day_index}
 use Rattle.cal_rules.specs.Views.{parts_of}
 use Rattle.cal_rules.specs.Counted.{NoneBetween}

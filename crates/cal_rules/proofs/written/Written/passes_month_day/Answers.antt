@@ -1,5 +1,5 @@
-use Rattle.std.proofs.Common.{◌∙◌, sym, refl, pos, suc, ◌==◌}
-use Rattle.profile.specs.Days.{day_index, month_of, month_days_before, month_days_after, weekday_of}
+use Rattle.std.proofs.Common.{◌∙◌, sym, pos, suc}
+use Rattle.profile.specs.Days.{day_index, month_days_before, month_days_after}
 use Rattle.profile.specs.Rules.{implies_month_day, is_nth, passes_month_day}
 use Rattle.cal_rules.specs.Views.{pattern_of}
 use Rattle.cal_rules.proofs.Judging.{by_implied, by_written, same_suc}

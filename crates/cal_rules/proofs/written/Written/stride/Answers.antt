@@ -1,4 +1,4 @@
-use Rattle.std.proofs.Common.{◌+◌, ◌-◌, ◌*◌, ◌<◌, ◌≤◌, arith}
+use Rattle.std.proofs.Common.{◌+◌, ◌-◌, ◌*◌, ◌≤◌, arith}
 use Rattle.profile.specs.Days.{day_index, shortest_period}
 use Rattle.cal_days.specs.Views.{frequency_of}
 use Rattle.cal_rules.specs.Views.{pattern_of}
