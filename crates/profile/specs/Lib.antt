@@ -3,6 +3,7 @@ pub mod Lines
 pub mod Objects
 pub mod Days
 pub mod Rules
+pub mod Zones
 pub mod Values
 pub mod Instances
 pub mod Certificates
