@@ -1,0 +1,10 @@
+//! Zones (RFC 5545 3.6.5): the offset in force at an instant, and the instant that a local time means,
+//! in gaps and folds too, by the VTIMEZONE that an object itself carries, for all years to come.
+//!
+//! No rule is walked from year to year: of each observance two years are looked at.
+#![tactic(auto)]
+
+mod shape;
+mod yearly;
+
+pub use shape::MonthDays;
