@@ -1,1 +1,7 @@
 pub mod OneDay
+pub mod Bases
+pub mod Force
+pub mod Onsets
+pub mod Zones
+pub mod Casts
+pub mod Once

@@ -1,2 +1,6 @@
 pub mod Shapes
 pub mod Yearly
+pub mod Bases
+pub mod Onsets
+pub mod Apart
+pub mod Kinds

@@ -4,7 +4,11 @@
 //! No rule is walked from year to year: of each observance two years are looked at.
 #![tactic(auto)]
 
+mod kinds;
+mod observance;
 mod shape;
 mod yearly;
+mod zone;
 
-pub use shape::MonthDays;
+pub use kinds::Zone;
+pub use shape::{MonthDays, Observance};
