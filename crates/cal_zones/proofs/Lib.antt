@@ -5,3 +5,4 @@ pub mod Onsets
 pub mod Zones
 pub mod Casts
 pub mod Once
+pub mod Spacing

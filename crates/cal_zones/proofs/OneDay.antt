@@ -58,7 +58,7 @@ placed r year index length before first f i l place =
     placed_in r year index length before count (l ∙ ap (λ y. days_in_month y (month_of index)) k.year ∙ ap (days_in_month year) k.month) place
 
 -- a later year begins later
-year_start_grows : (year late : ℕ) → year ≤ late → year_start year ≤ year_start late
+pub year_start_grows : (year late : ℕ) → year ≤ late → year_start year ≤ year_start late
 year_start_grows year late h = omega arith
 
 pub year_earlier : (n k : ℕ) → year_of n < year_of k → n < k
@@ -140,9 +140,9 @@ latest_cycles_later r n day cycles h = record {
       elim (cases_lt other (146_097 * cycles)) [
         | inl lt ↦ omega arith
         | inr ge ↦
-          let e : other ≡ (other - 146_097 * cycles) + 146_097 * cycles = omega arith in
-          let early = on_cycles_earlier r (other - 146_097 * cycles) cycles (rw (sym e) o) in
-          omega (arith, h.latest (other - 146_097 * cycles) early (omega arith))
+            let e : other ≡ (other - 146_097 * cycles) + 146_097 * cycles = omega arith in
+            let early = on_cycles_earlier r (other - 146_097 * cycles) cycles (rw (sym e) o) in
+            omega (arith, h.latest (other - 146_097 * cycles) early (omega arith))
       ];
 }
 
@@ -167,11 +167,11 @@ latest_year_before r n late day l after h positive = record {
       elim (cases_order (year_of other) (year_of n)) [
         | inl e ↦ absurd (omega (arith, one_a_year r other late o l.on (e ∙ sym l.in_year)))
         | inr (inl lt) ↦
-          elim (cases_order (year_of other) (year_of n - 1)) [
-            | inl e ↦ omega (arith, one_a_year r other day o h.on (e ∙ sym h.in_year))
-            | inr (inl less) ↦ omega (arith, year_earlier other day (rw h.in_year less))
-            | inr (inr more) ↦ absurd (omega arith)
-          ]
+            elim (cases_order (year_of other) (year_of n - 1)) [
+              | inl e ↦ omega (arith, one_a_year r other day o h.on (e ∙ sym h.in_year))
+              | inr (inl less) ↦ omega (arith, year_earlier other day (rw h.in_year less))
+              | inr (inr more) ↦ absurd (omega arith)
+            ]
         | inr (inr gt) ↦ absurd (omega (arith, year_earlier n other gt))
       ];
 }
@@ -198,11 +198,11 @@ first_year_after r n early day l before h = record {
         | inl e ↦ absurd (omega (arith, one_a_year r other early o l.on (e ∙ sym l.in_year)))
         | inr (inl lt) ↦ absurd (omega (arith, year_earlier other n lt))
         | inr (inr gt) ↦
-          elim (cases_order (year_of other) (year_of n + 1)) [
-            | inl e ↦ omega (arith, one_a_year r other day o h.on (e ∙ sym h.in_year))
-            | inr (inl less) ↦ absurd (omega arith)
-            | inr (inr more) ↦ omega (arith, year_earlier day other (rw h.in_year more))
-          ]
+            elim (cases_order (year_of other) (year_of n + 1)) [
+              | inl e ↦ omega (arith, one_a_year r other day o h.on (e ∙ sym h.in_year))
+              | inr (inl less) ↦ absurd (omega arith)
+              | inr (inr more) ↦ omega (arith, year_earlier day other (rw h.in_year more))
+            ]
       ];
 }
 
@@ -224,13 +224,13 @@ second_year r n late (inl h) l after =
 second_year r n late (inr (day, first, within, on)) l after =
     elim (cases_lt (year_of n) 2) [
       | inl lt ↦
-        let from : 1 ≤ year_of day =
+          let from : 1 ≤ year_of day =
           elim (cases_lt (year_of day) 1) [
             | inl none ↦ absurd (omega (arith, year_ends day, year_start_grows (suc (year_of day)) 1 (omega arith)))
             | inr some ↦ some
           ] in
-        let same : year_of day ≡ year_of late = omega (arith, year_monotone day n within, l.in_year) in
-        absurd (omega (arith, one_a_year r day late on l.on same))
+          let same : year_of day ≡ year_of late = omega (arith, year_monotone day n within, l.in_year) in
+          absurd (omega (arith, one_a_year r day late on l.on same))
       | inr ge ↦ ge
     ]
 

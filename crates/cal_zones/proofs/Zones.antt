@@ -149,13 +149,13 @@ skipped z least greatest local early late p u b e f h differ j =
     let order : early ≤ℤ late = omega (arith, signed_arith, b.ordered) in
     let set = changes z early late p greatest u order h j differ in
     let before : set.onset.before ≡ least =
-      elim (b.sides set.onset set.listed) [ inl x ↦ x.0 | inr x ↦ absurd (apart (sym x.1 ∙ sym set.sets)) ] in
+    elim (b.sides set.onset set.listed) [ inl x ↦ x.0 | inr x ↦ absurd (apart (sym x.1 ∙ sym set.sets)) ] in
     record {
       never = λ other s.
           elim (b.one other s.0 s.1) [
             | inl x ↦
-              let same : other ≡ late = omega (arith, signed_arith, s.2) in
-              apart (unique z late least greatest u (rw (same, x) at s.1) j)
+                let same : other ≡ late = omega (arith, signed_arith, s.2) in
+                apart (unique z late least greatest u (rw (same, x) at s.1) j)
             | inr x ↦ never_early z greatest local early p other s.0 u e h differ s.1 s.2 x
           ];
       onset = set.onset;

@@ -4,3 +4,5 @@ pub mod Bases
 pub mod Onsets
 pub mod Apart
 pub mod Kinds
+pub mod Spaced
+pub mod Made

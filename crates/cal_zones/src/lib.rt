@@ -5,10 +5,15 @@
 #![tactic(auto)]
 
 mod kinds;
+mod make;
 mod observance;
 mod shape;
+mod spaced;
 mod yearly;
 mod zone;
 
 pub use kinds::Zone;
-pub use shape::{MonthDays, Observance};
+pub use shape::{MonthDays, Observance, Yearly};
+
+#[cfg(test)]
+mod tests;

@@ -52,7 +52,7 @@ impl Yearly {
     }
 
     /// The index of the day in a year.
-    fn day_in(self, year: u32) -> u32
+    pub fn day_in(self, year: u32) -> u32
         requires { (1 ≤ year) × (year ≤ 10_001) }
         ensures { IsDayOfYear self year result }
     {
