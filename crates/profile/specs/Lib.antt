@@ -4,6 +4,7 @@ pub mod First
 pub mod Objects
 pub mod Days
 pub mod Rules
+pub mod Zones
 pub mod Values
 pub mod Instances
 pub mod Certificates

@@ -1,0 +1,173 @@
+-- The offset of a zone, and what a local time means in it.
+use Rattle.std.proofs.Common.{◌≡◌, ◌∙◌, ap, sym, refl, inl, inr, ◌⊎◌, arith, ℤ, pos, ◌+ℤ◌, ◌≤ℤ◌}
+use Rattle.std.specs.Int.Signed.{◌<ℤ◌}
+use Rattle.jiff_core.proofs.SignedLemmas.{signed_arith}
+use Rattle.profile.specs.Zones.{Observance, Zone, Constant, Single, Pair, Onset, IsOnset, IsZoneOnset, IsLatest, IsFirstAfter, InForce, Since, Until, IsOffsetAt, Shows, IsShownFirst, IsSkipped, Means}
+use Rattle.cal_zones.specs.Onsets.{onset_at, IsFirstOf, NoneBegun}
+use Rattle.cal_zones.specs.Kinds.{IsOrdered, IsBounds}
+use Rattle.cal_zones.proofs.Force.{OneAtOnce, one_offset, Between, between}
+
+-- of two observances the one with the later onset
+pub latest_left : (a b : Observance) (t x : ℤ) → IsLatest (IsOnset a) t (onset_at a x) → ((other : Onset) → IsOnset b other → other.instant ≤ℤ t → other.instant ≤ℤ x) → IsOffsetAt (Pair a b) t a.offset_to
+latest_left a b t x h k =
+    Since (onset_at a x) (record { listed = inl h.listed; begun = h.begun; latest = λ other l w. elim l [ inl p ↦ h.latest other p w | inr q ↦ k other q w ] }) refl
+
+pub latest_right : (a b : Observance) (t x : ℤ) → IsLatest (IsOnset b) t (onset_at b x) → ((other : Onset) → IsOnset a other → other.instant ≤ℤ t → other.instant ≤ℤ x) → IsOffsetAt (Pair a b) t b.offset_to
+latest_right a b t x h k =
+    Since (onset_at b x) (record { listed = inr h.listed; begun = h.begun; latest = λ other l w. elim l [ inl p ↦ k other p w | inr q ↦ h.latest other q w ] }) refl
+
+none_later : (b : Observance) (t x : ℤ) → NoneBegun b t → (other : Onset) → IsOnset b other → other.instant ≤ℤ t → other.instant ≤ℤ x
+none_later b t x none other l w = absurd (omega (arith, signed_arith, none.2, none.1.least other l))
+
+pub left_alone : (a b : Observance) (t x : ℤ) → IsLatest (IsOnset a) t (onset_at a x) → NoneBegun b t → IsOffsetAt (Pair a b) t a.offset_to
+left_alone a b t x h none = latest_left a b t x h (none_later b t x none)
+
+pub right_alone : (a b : Observance) (t x : ℤ) → IsLatest (IsOnset b) t (onset_at b x) → NoneBegun a t → IsOffsetAt (Pair a b) t b.offset_to
+right_alone a b t x h none = latest_right a b t x h (none_later a t x none)
+
+pub left_later : (a b : Observance) (t x y : ℤ) → IsLatest (IsOnset a) t (onset_at a x) → IsLatest (IsOnset b) t (onset_at b y) → y ≤ℤ x → IsOffsetAt (Pair a b) t a.offset_to
+left_later a b t x y h k le = latest_left a b t x h (λ other l w. omega (arith, signed_arith, k.latest other l w))
+
+pub right_later : (a b : Observance) (t x y : ℤ) → IsLatest (IsOnset a) t (onset_at a x) → IsLatest (IsOnset b) t (onset_at b y) → x ≤ℤ y → IsOffsetAt (Pair a b) t b.offset_to
+right_later a b t x y h k le = latest_right a b t y k (λ other l w. omega (arith, signed_arith, h.latest other l w))
+
+-- before all onsets the one with the first
+pub left_first : (a b : Observance) (t x y : ℤ) → IsFirstOf a x → IsFirstOf b y → NoneBegun a t → x ≤ℤ y → IsOffsetAt (Pair a b) t a.offset_from
+left_first a b t x y h k none le =
+    Until (onset_at a x) (record { listed = inl h.listed; ahead = omega (arith, signed_arith, none.2, none.1.least (onset_at a x) h.listed); least = λ other l. elim l [ inl p ↦ h.least other p | inr q ↦ omega (arith, signed_arith, k.least other q) ] }) refl
+
+pub right_first : (a b : Observance) (t x y : ℤ) → IsFirstOf a x → IsFirstOf b y → NoneBegun b t → y ≤ℤ x → IsOffsetAt (Pair a b) t b.offset_from
+right_first a b t x y h k none le =
+    Until (onset_at b y) (record { listed = inr k.listed; ahead = omega (arith, signed_arith, none.2, none.1.least (onset_at b y) k.listed); least = λ other l. elim l [ inl p ↦ omega (arith, signed_arith, h.least other p) | inr q ↦ k.least other q ] }) refl
+
+-- one observance
+pub single_since : (a : Observance) (t x : ℤ) → IsLatest (IsOnset a) t (onset_at a x) → IsOffsetAt (Single a) t a.offset_to
+single_since a t x h = Since (onset_at a x) (record { listed = h.listed; begun = h.begun; latest = h.latest }) refl
+
+pub single_until : (a : Observance) (t : ℤ) → NoneBegun a t → IsOffsetAt (Single a) t a.offset_from
+single_until a t (x, h, ahead) =
+    Until (onset_at a x) (record { listed = h.listed; ahead = ahead; least = h.least }) refl
+
+-- at one instant one offset is in force
+pub unique : (z : Zone) (t p q : ℤ) → OneAtOnce (IsZoneOnset z) → IsOffsetAt z t p → IsOffsetAt z t q → p ≡ q
+unique (Constant k) t p q u h j = h ∙ sym j
+unique (Single a) t p q u h j = one_offset (IsZoneOnset (Single a)) t p q u h j
+unique (Pair a b) t p q u h j = one_offset (IsZoneOnset (Pair a b)) t p q u h j
+
+changes : (z : Zone) (early late p q : ℤ) → OneAtOnce (IsZoneOnset z) → early ≤ℤ late → IsOffsetAt z early p → IsOffsetAt z late q → (p ≡ q → ⊥) → Between (IsZoneOnset z) early late q
+changes (Constant k) early late p q u o h j differ = absurd (differ (h ∙ sym j))
+changes (Single a) early late p q u o h j differ = between (IsZoneOnset (Single a)) early late p q u o h j differ
+changes (Pair a b) early late p q u o h j differ = between (IsZoneOnset (Pair a b)) early late p q u o h j differ
+
+-- the two offsets of a zone
+abbrev Sides : (Onset → Type 0) → ℤ → ℤ → Type 0
+Sides Is p q = (x : Onset) → Is x → ((x.before ≡ p) × (x.after ≡ q)) ⊎ ((x.before ≡ q) × (x.after ≡ p))
+
+one_side : (Is : Onset → Type 0) (p q t o : ℤ) → Sides Is p q → InForce Is t o → (o ≡ p) ⊎ (o ≡ q)
+one_side Is p q t o s (Since x h e) = elim (s x h.listed) [ inl k ↦ inr (e ∙ k.1) | inr k ↦ inl (e ∙ k.1) ]
+one_side Is p q t o s (Until x h e) = elim (s x h.listed) [ inl k ↦ inl (e ∙ k.0) | inr k ↦ inr (e ∙ k.0) ]
+
+swap : (Is : Onset → Type 0) (p q : ℤ) → Sides Is p q → Sides Is q p
+swap Is p q s x h = elim (s x h) [ inl k ↦ inr k | inr k ↦ inl k ]
+
+sides_single : (a : Observance) → Sides (IsZoneOnset (Single a)) a.offset_from a.offset_to
+sides_single a x h = inl (h.before, h.after)
+
+sides_pair : (a b : Observance) → a.offset_to ≡ b.offset_from → b.offset_to ≡ a.offset_from → Sides (IsZoneOnset (Pair a b)) a.offset_from a.offset_to
+sides_pair a b there back x (inl h) = inl (h.before, h.after)
+sides_pair a b there back x (inr h) = inr (h.before ∙ sym there, h.after ∙ back)
+
+pub bounds_constant : (k l g : ℤ) → l ≡ k → g ≡ k → IsBounds (Constant k) l g
+bounds_constant k l g e f = record {
+  ordered = omega (arith, signed_arith);
+  sides = λ x h. absurd h;
+  one = λ t o h. inl (h ∙ sym e);
+}
+
+single_ordered : (a : Observance) (l g : ℤ) → Sides (IsZoneOnset (Single a)) l g → l ≤ℤ g → IsBounds (Single a) l g
+single_ordered a l g s le = record { ordered = le; sides = s; one = λ t o h. one_side (IsZoneOnset (Single a)) l g t o s h }
+
+pub bounds_single : (a : Observance) (l g : ℤ) → IsOrdered a.offset_from a.offset_to l g → IsBounds (Single a) l g
+bounds_single a l g (inl (e, f, le)) = rw (e, f) (single_ordered a a.offset_from a.offset_to (sides_single a) le)
+bounds_single a l g (inr (e, f, le)) = rw (e, f) (single_ordered a a.offset_to a.offset_from (swap (IsZoneOnset (Single a)) a.offset_from a.offset_to (sides_single a)) le)
+
+pair_ordered : (a b : Observance) (l g : ℤ) → Sides (IsZoneOnset (Pair a b)) l g → l ≤ℤ g → IsBounds (Pair a b) l g
+pair_ordered a b l g s le = record { ordered = le; sides = s; one = λ t o h. one_side (IsZoneOnset (Pair a b)) l g t o s h }
+
+pub bounds_pair : (a b : Observance) (l g : ℤ) → a.offset_to ≡ b.offset_from → b.offset_to ≡ a.offset_from → IsOrdered a.offset_from a.offset_to l g → IsBounds (Pair a b) l g
+bounds_pair a b l g there back (inl (e, f, le)) = rw (e, f) (pair_ordered a b a.offset_from a.offset_to (sides_pair a b there back) le)
+bounds_pair a b l g there back (inr (e, f, le)) = rw (e, f) (pair_ordered a b a.offset_to a.offset_from (swap (IsZoneOnset (Pair a b)) a.offset_from a.offset_to (sides_pair a b there back)) le)
+
+-- two onsets of a zone at one instant are alike
+pub once_constant : (k : ℤ) → OneAtOnce (IsZoneOnset (Constant k))
+once_constant k = record { alike = λ x y h j e. absurd h }
+
+pub once_single : (a : Observance) → OneAtOnce (IsZoneOnset (Single a))
+once_single a = record { alike = λ x y h j e. (h.before ∙ sym j.before, h.after ∙ sym j.after) }
+
+alike_pair : (a b : Observance) → ((x y : Onset) → IsOnset a x → IsOnset b y → x.instant ≡ y.instant → ⊥) → (x y : Onset) → IsZoneOnset (Pair a b) x → IsZoneOnset (Pair a b) y → x.instant ≡ y.instant → (x.before ≡ y.before) × (x.after ≡ y.after)
+alike_pair a b apart x y (inl h) (inl j) e = (h.before ∙ sym j.before, h.after ∙ sym j.after)
+alike_pair a b apart x y (inl h) (inr j) e = absurd (apart x y h j e)
+alike_pair a b apart x y (inr h) (inl j) e = absurd (apart y x j h (sym e))
+alike_pair a b apart x y (inr h) (inr j) e = (h.before ∙ sym j.before, h.after ∙ sym j.after)
+
+pub once_pair : (a b : Observance) → ((x y : Onset) → IsOnset a x → IsOnset b y → x.instant ≡ y.instant → ⊥) → OneAtOnce (IsZoneOnset (Pair a b))
+once_pair a b apart = record { alike = alike_pair a b apart }
+
+-- with the greatest offset a local time is read earliest
+pub means_early : (z : Zone) (least greatest local early : ℤ) → IsBounds z least greatest → early +ℤ greatest ≡ local → IsOffsetAt z early greatest → Means z local early
+means_early z least greatest local early b e h =
+    inl (record {
+      shown = (greatest, h, e);
+      least = λ other s.
+          elim (b.one other s.0 s.1) [
+            | inl low ↦ omega (arith, signed_arith, s.2, b.ordered)
+            | inr high ↦ omega (arith, signed_arith, s.2)
+          ];
+    })
+
+-- where that offset isn't in force then, with the least offset
+never_early : (z : Zone) (greatest local early p other offset : ℤ) → OneAtOnce (IsZoneOnset z) → early +ℤ greatest ≡ local → IsOffsetAt z early p → (p ≡ greatest → ⊥) → IsOffsetAt z other offset → other +ℤ offset ≡ local → offset ≡ greatest → ⊥
+never_early z greatest local early p other offset u e h differ j s high =
+    let same : other ≡ early = omega (arith, signed_arith) in
+    differ (unique z early p greatest u h (rw (same, high) at j))
+
+shown_late : (z : Zone) (least greatest local early late p : ℤ) → OneAtOnce (IsZoneOnset z) → IsBounds z least greatest → early +ℤ greatest ≡ local → late +ℤ least ≡ local → IsOffsetAt z early p → (p ≡ greatest → ⊥) → IsOffsetAt z late least → IsShownFirst z local late
+shown_late z least greatest local early late p u b e f h differ j = record {
+  shown = (least, j, f);
+  least = λ other s.
+      elim (b.one other s.0 s.1) [
+        | inl low ↦ omega (arith, signed_arith, s.2)
+        | inr high ↦ absurd (never_early z greatest local early p other s.0 u e h differ s.1 s.2 high)
+      ];
+}
+
+skipped : (z : Zone) (least greatest local early late p : ℤ) → OneAtOnce (IsZoneOnset z) → IsBounds z least greatest → early +ℤ greatest ≡ local → late +ℤ least ≡ local → IsOffsetAt z early p → (p ≡ greatest → ⊥) → IsOffsetAt z late greatest → IsSkipped z local late
+skipped z least greatest local early late p u b e f h differ j =
+    let low : p ≡ least = elim (b.one early p h) [ inl x ↦ x | inr x ↦ absurd (differ x) ] in
+    let apart : least ≡ greatest → ⊥ = λ x. differ (low ∙ x) in
+    let order : early ≤ℤ late = omega (arith, signed_arith, b.ordered) in
+    let set = changes z early late p greatest u order h j differ in
+    let before : set.onset.before ≡ least =
+    elim (b.sides set.onset set.listed) [ inl x ↦ x.0 | inr x ↦ absurd (apart (sym x.1 ∙ sym set.sets)) ] in
+    record {
+      never = λ other s.
+          elim (b.one other s.0 s.1) [
+            | inl x ↦
+                let same : other ≡ late = omega (arith, signed_arith, s.2) in
+                apart (unique z late least greatest u (rw (same, x) at s.1) j)
+            | inr x ↦ never_early z greatest local early p other s.0 u e h differ s.1 s.2 x
+          ];
+      onset = set.onset;
+      listed = set.listed;
+      set_from = omega (arith, signed_arith, set.begun, before);
+      set_past = omega (arith, signed_arith, set.past, set.sets);
+      read = rw before f;
+    }
+
+pub means_late : (z : Zone) (least greatest local early late p q : ℤ) → OneAtOnce (IsZoneOnset z) → IsBounds z least greatest → early +ℤ greatest ≡ local → late +ℤ least ≡ local → IsOffsetAt z early p → (p ≡ greatest → ⊥) → IsOffsetAt z late q → Means z local late
+means_late z least greatest local early late p q u b e f h differ j =
+    elim (b.one late q j) [
+      | inl x ↦ inl (shown_late z least greatest local early late p u b e f h differ (rw x at j))
+      | inr x ↦ inr (skipped z least greatest local early late p u b e f h differ (rw x at j))
+    ]

@@ -1,0 +1,19 @@
+use Rattle.std.proofs.Common.{◌≡◌, ◌∙◌, arith, to_z, of_z, w32, w64, to_z-of_z, ◌≤ℤ◌}
+use Rattle.jiff_core.proofs.SignedLemmas.{signed_arith}
+use Rattle.cal_zones.specs.Onsets.{observance_of, NoneBegun}
+use Rattle.cal_zones.proofs.Casts.{narrow}
+use Rattle.cal_zones.proofs.Zones.{right_alone}
+use Rattle.cal_zones.proofs.zone.offset_before.Goals as goal
+
+pub offset_before_both-requires-clause-b : goal.offset_before_both-requires-clause-b
+offset_before_both-requires-clause-b c = c.in-None.ensures.latest
+
+pub returns-in-None-clause-offset : goal.returns-in-None-clause-offset
+returns-in-None-clause-offset c =
+    let e = c.offset_before_both.ensures in
+    rw (narrow c.offset_before_both.result e.range) (rw (to_z-of_z c.ranges.instant) at e.offset)
+
+pub returns-in-Some-clause-offset : goal.returns-in-Some-clause-offset
+returns-in-Some-clause-offset c =
+    let b = c.args.b.now in
+    rw (narrow b.offset_to b.to) (right_alone (observance_of c.args.a.now) (observance_of b) c.args.instant c.in-Some.field-0 (rw (to_z-of_z c.ranges.instant) at c.in-Some.ensures.latest) c.requires)

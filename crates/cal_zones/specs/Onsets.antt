@@ -1,0 +1,51 @@
+-- The onsets of one observance.
+use Rattle.std.specs.Prelude.{◌≡◌, ℕ, ◌+◌, ◌*◌, ◌≤◌, true, Option, Some, None, ℤ, pos, ◌+ℤ◌, ◌≤ℤ◌}
+use Rattle.std.specs.Int.Signed.{◌<ℤ◌}
+use Rattle.profile.specs.Rules.{Pattern}
+use Rattle.profile.specs.Zones.{Observance, Onset, IsOnset, begins_on}
+use Rattle.cal_zones.specs.Shapes.{pattern_of}
+use Rattle.cal_zones.specs.Yearly.{IsOn}
+use Rattle.cal_zones.specs.declared.shape.Yearly.{Yearly}
+use Rattle.cal_zones.specs.declared.shape.Observance as rust
+
+-- the parts of its rule, as they are written
+abbrev pub rule_of : ℕ → Option Yearly → Option Pattern
+rule_of day None = None
+rule_of day (Some r) = Some (pattern_of r.month r.days day)
+
+-- what it stands for
+abbrev pub observance_of : rust.Observance → Observance
+observance_of o = record {
+  day = o.day;
+  second = o.second;
+  rule = rule_of o.day o.rule;
+  offset_from = o.offset_from;
+  offset_to = o.offset_to;
+}
+
+-- its onset at an instant
+abbrev pub onset_at : Observance → ℤ → Onset
+onset_at o instant = record { instant = instant; before = o.offset_from; after = o.offset_to }
+
+-- the first day on which it begins
+pub record IsFirstDayOf (o : Observance) (day : ℕ) : Type 0 where
+  pub begins : begins_on o day ≡ true
+  pub least : (other : ℕ) → begins_on o other ≡ true → day ≤ other
+
+-- its first onset
+pub record IsFirstOf (o : Observance) (instant : ℤ) : Type 0 where
+  pub listed : IsOnset o (onset_at o instant)
+  pub least : (other : Onset) → IsOnset o other → instant ≤ℤ other.instant
+
+-- none of its onsets has come
+abbrev pub NoneBegun : Observance → ℤ → Type 0
+NoneBegun o instant = (first : ℤ) × IsFirstOf o first × (instant <ℤ first)
+
+-- of the days of a rule, one onset a day, so many days after the first onset, the latest up to an instant
+pub record IsLatestAfter (r : Yearly) (first_day : ℕ) (first instant result : ℤ) : Type 0 where
+  pub day : ℕ
+  pub on : IsOn r day
+  pub from : first_day ≤ day
+  pub place : result +ℤ pos (86_400 * first_day) ≡ first +ℤ pos (86_400 * day)
+  pub begun : result ≤ℤ instant
+  pub latest : (other : ℕ) → IsOn r other → (first +ℤ pos (86_400 * other)) ≤ℤ (instant +ℤ pos (86_400 * first_day)) → other ≤ day

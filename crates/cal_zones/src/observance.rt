@@ -1,0 +1,78 @@
+//! The onsets of one observance.
+
+ghost use Rattle.std.specs.Prelude.{◌≡◌, ℕ, ◌+◌, ◌*◌, ◌<◌, ◌≤◌, true, IfSome, MatchOption, pos, negsuc, ◌+ℤ◌, ◌≤ℤ◌};
+ghost use Rattle.profile.specs.Zones.{IsOnset, IsLatest, begins_on, local_time};
+ghost use Rattle.cal_zones.specs.Yearly.{IsOn};
+ghost use Rattle.cal_zones.specs.Onsets.{observance_of, onset_at, IsFirstDayOf, IsFirstOf, NoneBegun, IsLatestAfter};
+
+use crate::shape::{Observance, Yearly};
+
+/// The seconds of a day.
+const DAY: i64 = 86_400;
+
+/// The seconds from 0000-01-01T00:00:00 to 1970-01-01T00:00:00.
+const EPOCH: i64 = 62_167_219_200;
+
+/// The latest onset of a rule up to an instant that isn't before its first onset.
+fn latest_by_rule(rule: Yearly, first_day: u32, first: i64, instant: i64) -> i64
+    requires day { (366 ≤ first_day) × (first_day ≤ 3_653_155) }
+    requires on { IsOn rule first_day }
+    requires low { negsuc 100_000_000_000 ≤ℤ first }
+    requires begun { first ≤ℤ instant }
+    ensures latest { IsLatestAfter rule first_day first instant result }
+    ensures low { first ≤ℤ result }
+{
+    let since = instant.abs_diff(first);
+    let day = first_day as u64 + since / 86_400;
+    let back = since % 86_400 + 86_400 * (day - rule.latest(day));
+    instant - back as i64
+}
+
+impl Observance {
+    /// The day of the first onset, by its index.
+    fn first_day(&self) -> u32
+        ensures first { IsFirstDayOf (observance_of self.now) result }
+        ensures range { (366 ≤ result) × (result ≤ 3_653_155) }
+    {
+        match self.rule {
+            None => self.day,
+            Some(rule) => rule.first_from(self.day),
+        }
+    }
+
+    /// The onset on a day, by its index: the time of DTSTART there, read with TZOFFSETFROM.
+    pub fn onset_on(&self, day: u32) -> i64
+        requires range { day ≤ 3_653_155 }
+        ensures read { result +ℤ self.now.offset_from ≡ local_time day self.now.second }
+        ensures low { negsuc 100_000_000_000 ≤ℤ result }
+        ensures high { result ≤ℤ pos 1_000_000_000_000 }
+    {
+        DAY * day as i64 + self.second as i64 - EPOCH - self.offset_from as i64
+    }
+
+    /// The first onset.
+    pub fn first_onset(&self) -> i64
+        ensures first { IsFirstOf (observance_of self.now) result }
+        ensures low { negsuc 100_000_000_000 ≤ℤ result }
+        ensures high { result ≤ℤ pos 1_000_000_000_000 }
+    {
+        self.onset_on(self.first_day())
+    }
+
+    /// The latest onset up to an instant. None before the first one.
+    pub fn latest_onset(&self, instant: i64) -> Option<i64>
+        ensures low { IfSome result (λ onset. negsuc 100_000_000_000 ≤ℤ onset) }
+        ensures latest { let o = observance_of self.now in
+            MatchOption result (NoneBegun o instant) (λ onset. IsLatest (IsOnset o) instant (onset_at o onset)) }
+    {
+        let first_day = self.first_day();
+        let first = self.onset_on(first_day);
+        if instant < first {
+            return None;
+        }
+        match self.rule {
+            None => Some(first),
+            Some(rule) => Some(latest_by_rule(rule, first_day, first, instant)),
+        }
+    }
+}

@@ -1,0 +1,281 @@
+//! Worked zones: the rows of a few real ones, as another program (Python's zoneinfo) gives them.
+
+use crate::{MonthDays, Observance, Yearly, Zone};
+use ical_values::{LocalTime, UtcOffset};
+
+/// One part of a zone, as it is written.
+#[derive(Clone, Copy)]
+struct Part<'a> {
+    start: &'a str,
+    month: u8,
+    days: MonthDays,
+    from: &'a str,
+    to: &'a str,
+}
+
+/// The observance of a part.
+fn observance(part: Part<'_>) -> Option<Observance> {
+    let Ok(start) = LocalTime::read(part.start) else {
+        return None;
+    };
+    let Ok(from) = UtcOffset::read(part.from) else {
+        return None;
+    };
+    let Ok(to) = UtcOffset::read(part.to) else {
+        return None;
+    };
+    let Some(rule) = Yearly::new(part.month, part.days) else {
+        return None;
+    };
+    Some(Observance::new(start, Some(rule), from, to))
+}
+
+/// The number of the refusal of two parts, or 0.
+fn refusal(standard: Part<'_>, daylight: Part<'_>) -> u8 {
+    let Some(a) = observance(standard) else {
+        return 99;
+    };
+    let Some(b) = observance(daylight) else {
+        return 99;
+    };
+    match Zone::pair(a, b) {
+        Ok(_) => 0,
+        Err(refusal) => refusal.number,
+    }
+}
+
+/// What a local time means in the zone of two parts, 0 where they make none.
+fn resolved(standard: Part<'_>, daylight: Part<'_>, local: &str) -> i64 {
+    let Some(a) = observance(standard) else {
+        return 0;
+    };
+    let Some(b) = observance(daylight) else {
+        return 0;
+    };
+    let Ok(zone) = Zone::pair(a, b) else {
+        return 0;
+    };
+    let Ok(local) = LocalTime::read(local) else {
+        return 0;
+    };
+    zone.resolve(local)
+}
+
+/// The offset at an instant in the zone of two parts, 1 where they make none.
+fn offset(standard: Part<'_>, daylight: Part<'_>, instant: i64) -> i32 {
+    let Some(a) = observance(standard) else {
+        return 1;
+    };
+    let Some(b) = observance(daylight) else {
+        return 1;
+    };
+    let Ok(zone) = Zone::pair(a, b) else {
+        return 1;
+    };
+    zone.offset(instant)
+}
+
+const SUNDAY: u8 = 6;
+
+const NEW_YORK: [Part<'static>; 2] = [
+    Part {
+        start: "20071104T020000",
+        month: 11,
+        days: MonthDays::FromStart {
+            number: 1,
+            weekday: SUNDAY,
+        },
+        from: "-0400",
+        to: "-0500",
+    },
+    Part {
+        start: "20070311T020000",
+        month: 3,
+        days: MonthDays::Week {
+            first: 8,
+            weekday: SUNDAY,
+        },
+        from: "-0500",
+        to: "-0400",
+    },
+];
+
+const LONDON: [Part<'static>; 2] = [
+    Part {
+        start: "16010101T020000",
+        month: 10,
+        days: MonthDays::FromEnd {
+            number: 1,
+            weekday: SUNDAY,
+        },
+        from: "+0100",
+        to: "+0000",
+    },
+    Part {
+        start: "16010101T010000",
+        month: 3,
+        days: MonthDays::FromEnd {
+            number: 1,
+            weekday: SUNDAY,
+        },
+        from: "+0000",
+        to: "+0100",
+    },
+];
+
+const SYDNEY: [Part<'static>; 2] = [
+    Part {
+        start: "20080406T030000",
+        month: 4,
+        days: MonthDays::FromStart {
+            number: 1,
+            weekday: SUNDAY,
+        },
+        from: "+1100",
+        to: "+1000",
+    },
+    Part {
+        start: "20081005T020000",
+        month: 10,
+        days: MonthDays::FromStart {
+            number: 1,
+            weekday: SUNDAY,
+        },
+        from: "+1000",
+        to: "+1100",
+    },
+];
+
+#[test]
+fn gaps_and_folds(rt: HostRuntime) {
+    let rows = [
+        ("before New York's gap", 0, "20250309T013000", 1_741_501_800),
+        ("in New York's gap", 0, "20250309T023000", 1_741_505_400),
+        ("after New York's gap", 0, "20250309T033000", 1_741_505_400),
+        (
+            "before New York's fold",
+            0,
+            "20251102T003000",
+            1_762_057_800,
+        ),
+        ("in New York's fold", 0, "20251102T013000", 1_762_061_400),
+        ("after New York's fold", 0, "20251102T023000", 1_762_068_600),
+        (
+            "a leap day in New York",
+            0,
+            "20360229T120000",
+            2_087_917_200,
+        ),
+        (
+            "in London's gap, on the last day of a month",
+            1,
+            "20250330T013000",
+            1_743_298_200,
+        ),
+        (
+            "the end of London's gap",
+            1,
+            "20250330T020000",
+            1_743_296_400,
+        ),
+        ("in London's fold", 1, "20251026T013000", 1_761_438_600),
+        ("London's summer", 1, "20310601T000000", 1_938_034_800),
+        ("London's fold of 2031", 1, "20311026T013000", 1_950_741_000),
+        ("in Sydney's gap", 2, "20251005T023000", 1_759_595_400),
+        ("in Sydney's fold", 2, "20250406T023000", 1_743_867_000),
+        ("before Sydney's fold", 2, "20250406T013000", 1_743_863_400),
+        ("Sydney's summer", 2, "20250101T120000", 1_735_693_200),
+        ("Sydney's winter", 2, "20250701T120000", 1_751_335_200),
+    ];
+    let zones = [NEW_YORK, LONDON, SYDNEY];
+    for (name, zone, local, want) in rows {
+        let [standard, daylight] = zones[zone];
+        assert_eq!(rt; resolved(standard, daylight, local), want, "{name}");
+    }
+}
+
+#[test]
+fn offsets_at_onsets(rt: HostRuntime) {
+    let [standard, daylight] = NEW_YORK;
+    let rows = [
+        ("long before all", i64::MIN, -18_000),
+        ("before the first onset", 1_173_596_399, -18_000),
+        ("at the first onset", 1_173_596_400, -14_400),
+        ("before 20250309T070000Z", 1_741_503_599, -18_000),
+        ("at 20250309T070000Z", 1_741_503_600, -14_400),
+        ("before 20251102T060000Z", 1_762_063_199, -14_400),
+        ("at 20251102T060000Z", 1_762_063_200, -18_000),
+    ];
+    for (name, instant, want) in rows {
+        assert_eq!(rt; offset(standard, daylight, instant), want, "{name}");
+    }
+    let late = offset(standard, daylight, i64::MAX);
+    assert!(rt;
+        late == -18_000 || late == -14_400,
+        "the last instant of all"
+    );
+}
+
+#[test]
+fn no_zones(rt: HostRuntime) {
+    let [standard, daylight] = NEW_YORK;
+    assert_eq!(rt; refusal(standard, daylight), 0, "New York");
+    assert_eq!(rt;
+        refusal(
+            standard,
+            Part {
+                to: "-0300",
+                ..daylight
+            }
+        ),
+        41,
+        "offsets that don't match"
+    );
+    let same = Part {
+        days: daylight.days,
+        month: daylight.month,
+        ..standard
+    };
+    assert_eq!(rt; refusal(same, daylight), 42, "both on one day");
+    assert!(rt;
+        Yearly::new(
+            2,
+            MonthDays::Week {
+                first: 23,
+                weekday: 6
+            }
+        )
+        .is_none(),
+        "past February"
+    );
+    assert!(rt;
+        Yearly::new(
+            2,
+            MonthDays::Week {
+                first: 22,
+                weekday: 6
+            }
+        )
+        .is_some(),
+        "in February"
+    );
+    assert!(rt; Yearly::new(4, MonthDays::Day(29)).is_none(), "a 29th");
+}
+
+#[test]
+fn one_observance(rt: HostRuntime) {
+    let Ok(start) = LocalTime::read("20250701T000000") else {
+        return;
+    };
+    let (Ok(from), Ok(to)) = (UtcOffset::read("+0200"), UtcOffset::read("+0300")) else {
+        return;
+    };
+    let Ok(zone) = Zone::single(Observance::new(start, None, from, to)) else {
+        assert!(rt; false, "one observance is a zone");
+        return;
+    };
+    assert_eq!(rt; zone.offset(1_751_320_799), 7200, "before its onset");
+    assert_eq!(rt; zone.offset(1_751_320_800), 10_800, "at its onset");
+    assert_eq!(rt; zone.offsets(), (7200, 10_800), "its offsets");
+    assert_eq!(rt; Zone::utc().offset(1_751_320_800), 0, "UTC");
+}

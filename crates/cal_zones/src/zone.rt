@@ -1,0 +1,124 @@
+//! The offset in force, and what a local time means.
+
+ghost use Rattle.std.specs.Prelude.{◌≡◌};
+ghost use Rattle.profile.specs.Values.{IsOffset};
+ghost use Rattle.profile.specs.Zones.{IsOffsetAt, IsOnset, IsLatest, Means, Single};
+ghost use Rattle.cal_zones.specs.Onsets.{observance_of, onset_at, NoneBegun};
+ghost use Rattle.cal_zones.specs.Kinds.{zone_of, pair_of, IsOrdered, IsBounds};
+
+use crate::kinds::{Kind, Zone};
+use crate::shape::Observance;
+use ical_values::LocalTime;
+
+/// The offset of two observances, where neither has begun.
+fn offset_before_both(a: &Observance, b: &Observance, instant: i64) -> i32
+    requires a { NoneBegun (observance_of a.now) instant }
+    requires b { NoneBegun (observance_of b.now) instant }
+    ensures offset { IsOffsetAt (pair_of a.now b.now) instant result }
+    ensures range { IsOffset result }
+{
+    if a.first_onset() <= b.first_onset() {
+        a.offset_from
+    } else {
+        b.offset_from
+    }
+}
+
+/// The offset of two observances, where the first hasn't begun.
+fn offset_before(a: &Observance, b: &Observance, instant: i64) -> i32
+    requires { NoneBegun (observance_of a.now) instant }
+    ensures offset { IsOffsetAt (pair_of a.now b.now) instant result }
+    ensures range { IsOffset result }
+{
+    match b.latest_onset(instant) {
+        None => offset_before_both(a, b, instant),
+        Some(_) => b.offset_to,
+    }
+}
+
+/// The offset of two observances, where the first has begun, last at `x`.
+fn offset_after(a: &Observance, b: &Observance, x: i64, instant: i64) -> i32
+    requires { IsLatest (IsOnset (observance_of a.now)) instant (onset_at (observance_of a.now) x) }
+    ensures offset { IsOffsetAt (pair_of a.now b.now) instant result }
+    ensures range { IsOffset result }
+{
+    match b.latest_onset(instant) {
+        None => a.offset_to,
+        Some(y) if x >= y => a.offset_to,
+        Some(_) => b.offset_to,
+    }
+}
+
+/// The offset of two observances: what the later of their latest onsets sets, and before all onsets
+/// what the first one ends.
+fn offset_of_pair(a: &Observance, b: &Observance, instant: i64) -> i32
+    ensures offset { IsOffsetAt (pair_of a.now b.now) instant result }
+    ensures range { IsOffset result }
+{
+    match a.latest_onset(instant) {
+        None => offset_before(a, b, instant),
+        Some(x) => offset_after(a, b, x, instant),
+    }
+}
+
+/// The offset of one observance.
+fn offset_of_single(a: &Observance, instant: i64) -> i32
+    ensures offset { IsOffsetAt (Single (observance_of a.now)) instant result }
+    ensures range { IsOffset result }
+{
+    match a.latest_onset(instant) {
+        None => a.offset_from,
+        Some(_) => a.offset_to,
+    }
+}
+
+/// The two offsets, the lesser first.
+fn ordered(from: i32, to: i32) -> (i32, i32)
+    ensures { IsOrdered from to result.0 result.1 }
+{
+    if from <= to { (from, to) } else { (to, from) }
+}
+
+impl Zone {
+    /// The offset in force at an instant, in seconds (RFC 5545 3.6.5). Instants are seconds from
+    /// 1970-01-01T00:00:00Z.
+    pub fn offset(&self, instant: i64) -> i32
+        ensures offset { IsOffsetAt (zone_of self.now) instant result }
+        ensures range { IsOffset result }
+    {
+        match &self.kind {
+            Kind::Constant(fixed) => fixed.offset,
+            Kind::Single(observance) => offset_of_single(observance, instant),
+            Kind::Pair(pair) => offset_of_pair(&pair.standard, &pair.daylight, instant),
+        }
+    }
+
+    /// The least and the greatest offset, in seconds.
+    pub fn offsets(&self) -> (i32, i32)
+        ensures bounds { IsBounds (zone_of self.now) result.0 result.1 }
+        ensures range { IsOffset result.0 × IsOffset result.1 }
+    {
+        match &self.kind {
+            Kind::Constant(fixed) => (fixed.offset, fixed.offset),
+            Kind::Single(observance) => ordered(observance.offset_from, observance.offset_to),
+            Kind::Pair(pair) => ordered(pair.standard.offset_from, pair.standard.offset_to),
+        }
+    }
+
+    /// The instant that a local time means (RFC 5545 3.3.5): the first of two where the clocks show it
+    /// twice; where they skip it, what it means with the offset before they were set.
+    pub fn resolve(&self, local: LocalTime) -> i64
+        ensures { Means (zone_of self.now) local result }
+    {
+        let (least, greatest) = self.offsets();
+        let seconds = local.seconds();
+        let early = seconds - greatest as i64;
+        if self.offset(early) == greatest {
+            return early;
+        }
+        let late = seconds - least as i64;
+        // The clocks show it then or skip it. It is read with the least offset in both cases.
+        let _ = self.offset(late);
+        late
+    }
+}
