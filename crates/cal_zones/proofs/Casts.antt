@@ -9,7 +9,7 @@ narrow z h = omega (arith, signed_arith, h)
 wide_offset : (z : ℤ) → IsOffset z → to_z w64 (of_z w64 z) ≡ z
 wide_offset z h = omega (arith, signed_arith, h)
 
-wide_clock : (z : ℤ) → IsClockSeconds z → to_z w64 (of_z w64 z) ≡ z
+pub wide_clock : (z : ℤ) → IsClockSeconds z → to_z w64 (of_z w64 z) ≡ z
 wide_clock z h = omega (arith, signed_arith, h)
 
 difference : (s o : ℤ) → IsClockSeconds s → IsOffset o → to_z w64 (of_z w64 (s -ℤ o)) ≡ s -ℤ o

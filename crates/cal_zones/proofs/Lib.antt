@@ -6,3 +6,4 @@ pub mod Zones
 pub mod Casts
 pub mod Once
 pub mod Spacing
+pub mod Lasts

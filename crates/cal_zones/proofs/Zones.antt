@@ -171,3 +171,19 @@ means_late z least greatest local early late p q u b e f h differ j =
       | inl x ↦ inl (shown_late z least greatest local early late p u b e f h differ (rw x at j))
       | inr x ↦ inr (skipped z least greatest local early late p u b e f h differ (rw x at j))
     ]
+
+-- a gap lies between the two offsets, so what it skips is read with the least
+skipped_low : (z : Zone) (least greatest local t : ℤ) → IsBounds z least greatest → IsSkipped z local t → t +ℤ least ≡ local
+skipped_low z least greatest local t b s =
+    elim (b.sides s.onset s.listed) [
+      | inl x ↦ omega (arith, signed_arith, s.read)
+      | inr x ↦ absurd (omega (arith, signed_arith, s.set_from, s.set_past, b.ordered))
+    ]
+
+-- a local time means one instant
+pub one_meaning : (z : Zone) (least greatest local t u : ℤ) → IsBounds z least greatest → Means z local t → Means z local u → t ≡ u
+one_meaning z least greatest local t u b (inl x) (inl y) = omega (arith, signed_arith, x.least u y.shown, y.least t x.shown)
+one_meaning z least greatest local t u b (inl x) (inr y) = absurd (y.never t x.shown)
+one_meaning z least greatest local t u b (inr x) (inl y) = absurd (x.never u y.shown)
+one_meaning z least greatest local t u b (inr x) (inr y) =
+    omega (arith, signed_arith, skipped_low z least greatest local t b x, skipped_low z least greatest local u b y)

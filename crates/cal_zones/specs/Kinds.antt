@@ -1,6 +1,6 @@
 -- What a zone stands for, and its least and greatest offset.
 use Rattle.std.specs.Prelude.{◌≡◌, ◌⊎◌, ℤ, ◌≤ℤ◌}
-use Rattle.profile.specs.Zones.{Zone, Constant, Single, Pair, Onset, IsZoneOnset, IsOffsetAt}
+use Rattle.profile.specs.Zones.{Zone, Constant, Single, Pair, Onset, IsZoneOnset, IsOffsetAt, Means}
 use Rattle.cal_zones.specs.Onsets.{observance_of}
 use Rattle.cal_zones.specs.declared.shape.Observance.{Observance}
 use Rattle.cal_zones.specs.declared.kinds.Kind as rust
@@ -28,3 +28,10 @@ pub record IsBounds (z : Zone) (least greatest : ℤ) : Type 0 where
   pub ordered : least ≤ℤ greatest
   pub sides : (x : Onset) → IsZoneOnset z x → ((x.before ≡ least) × (x.after ≡ greatest)) ⊎ ((x.before ≡ greatest) × (x.after ≡ least))
   pub one : (instant offset : ℤ) → IsOffsetAt z instant offset → (offset ≡ least) ⊎ (offset ≡ greatest)
+
+-- one offset is in force at an instant, and a local time means one instant
+abbrev pub IsOneOffset : Zone → Type 0
+IsOneOffset z = (instant p q : ℤ) → IsOffsetAt z instant p → IsOffsetAt z instant q → p ≡ q
+
+abbrev pub IsOneMeaning : Zone → Type 0
+IsOneMeaning z = (local t u : ℤ) → Means z local t → Means z local u → t ≡ u

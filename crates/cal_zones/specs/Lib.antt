@@ -6,3 +6,4 @@ pub mod Apart
 pub mod Kinds
 pub mod Spaced
 pub mod Made
+pub mod LastDay

@@ -5,6 +5,7 @@
 #![tactic(auto)]
 
 mod kinds;
+mod last;
 mod make;
 mod observance;
 mod shape;

@@ -279,3 +279,25 @@ fn one_observance(rt: HostRuntime) {
     assert_eq!(rt; zone.offsets(), (7200, 10_800), "its offsets");
     assert_eq!(rt; Zone::utc().offset(1_751_320_800), 0, "UTC");
 }
+
+#[test]
+fn last_days(rt: HostRuntime) {
+    let [standard, daylight] = NEW_YORK;
+    let (Some(a), Some(b)) = (observance(standard), observance(daylight)) else {
+        return;
+    };
+    let Ok(zone) = Zone::pair(a, b) else {
+        return;
+    };
+    // 02:30 on 2025-03-09, in the gap, means 1,741,505,400
+    let rows = [
+        ("at the start in the gap", 9000, 1_741_505_400, Some(20_156)),
+        ("a second before it", 9000, 1_741_505_399, Some(20_155)),
+        ("before all days", 0, -99_999_999_999, None),
+        ("after all days", 0, 999_999_999_999, Some(2_932_896)),
+    ];
+    for (name, second, until, want) in rows {
+        let day = zone.last_day(second, until).map(|d| d.number());
+        assert_eq!(rt; day, want, "{name}");
+    }
+}

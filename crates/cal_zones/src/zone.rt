@@ -4,7 +4,8 @@ ghost use Rattle.std.specs.Prelude.{◌≡◌};
 ghost use Rattle.profile.specs.Values.{IsOffset};
 ghost use Rattle.profile.specs.Zones.{IsOffsetAt, IsOnset, IsLatest, Means, Single};
 ghost use Rattle.cal_zones.specs.Onsets.{observance_of, onset_at, NoneBegun};
-ghost use Rattle.cal_zones.specs.Kinds.{zone_of, pair_of, IsOrdered, IsBounds};
+ghost use Rattle.cal_zones.specs.Kinds.{zone_of, pair_of, IsOrdered, IsBounds, IsOneOffset, IsOneMeaning};
+ghost use Rattle.cal_zones.specs.LastDay.{IsNearEpoch};
 
 use crate::kinds::{Kind, Zone};
 use crate::shape::Observance;
@@ -108,7 +109,8 @@ impl Zone {
     /// The instant that a local time means (RFC 5545 3.3.5): the first of two where the clocks show it
     /// twice; where they skip it, what it means with the offset before they were set.
     pub fn resolve(&self, local: LocalTime) -> i64
-        ensures { Means (zone_of self.now) local result }
+        ensures meaning { Means (zone_of self.now) local result }
+        ensures range { IsNearEpoch result }
     {
         let (least, greatest) = self.offsets();
         let seconds = local.seconds();
@@ -120,5 +122,13 @@ impl Zone {
         // The clocks show it then or skip it. It is read with the least offset in both cases.
         let _ = self.offset(late);
         late
+    }
+
+    /// One offset is in force at an instant, and a local time means one instant.
+    pub fn one_meaning(&self)
+        ensures offset { IsOneOffset (zone_of self.now) }
+        ensures meaning { IsOneMeaning (zone_of self.now) }
+    {
+        let _ = self.offsets();
     }
 }

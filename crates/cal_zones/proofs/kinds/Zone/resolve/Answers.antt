@@ -6,8 +6,8 @@ use Rattle.cal_zones.proofs.Once.{once}
 use Rattle.cal_zones.proofs.Zones.{means_early, means_late}
 use Rattle.cal_zones.proofs.kinds.Zone.resolve.Goals as goal
 
-pub returns-then-offset-greatest : goal.returns-then-offset-greatest
-returns-then-offset-greatest c =
+pub returns-then-offset-greatest-clause-meaning : goal.returns-then-offset-greatest-clause-meaning
+returns-then-offset-greatest-clause-meaning c =
     let z = zone_of c.args.self.now in
     let least = c.offsets-least.result.0 in
     let greatest = c.offsets-least.result.1 in
@@ -19,8 +19,8 @@ returns-then-offset-greatest c =
     let sum : (s -ℤ greatest) +ℤ greatest ≡ c.args.local = omega (arith, signed_arith, c.seconds-seconds.ensures.value) in
     rw cast (means_early z least greatest c.args.local (s -ℤ greatest) o.bounds sum (rw same at shown))
 
-pub returns : goal.returns
-returns c =
+pub returns-clause-meaning : goal.returns-clause-meaning
+returns-clause-meaning c =
     let z = zone_of c.args.self.now in
     let least = c.offsets-least.result.0 in
     let greatest = c.offsets-least.result.1 in

@@ -1,0 +1,11 @@
+use Rattle.cal_zones.specs.Kinds.{zone_of}
+use Rattle.cal_zones.proofs.Once.{once}
+use Rattle.cal_zones.proofs.Zones.{unique, one_meaning}
+use Rattle.cal_zones.proofs.kinds.Zone.one_meaning.Goals as goal
+
+pub returns-clause-offset : goal.returns-clause-offset
+returns-clause-offset c t p q h k = unique (zone_of c.args.self.now) t p q (once c.args.self.now) h k
+
+pub returns-clause-meaning : goal.returns-clause-meaning
+returns-clause-meaning c local t u h k =
+    one_meaning (zone_of c.args.self.now) c.offsets.result.0 c.offsets.result.1 local t u c.offsets.ensures.bounds h k

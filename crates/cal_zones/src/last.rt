@@ -1,0 +1,90 @@
+//! The last day of a rule that has an UNTIL.
+
+ghost use Rattle.std.specs.Prelude.{◌≡◌, ℕ, ◌<◌, ◌≤◌, ◌≤ℤ◌, ◌+ℤ◌, MatchOption};
+ghost use Rattle.std.specs.Int.Signed.{◌<ℤ◌};
+ghost use Rattle.profile.specs.Days.{day_index};
+ghost use Rattle.profile.specs.Values.{IsOffset, IsClockSeconds};
+ghost use Rattle.profile.specs.Zones.{Means, local_time};
+ghost use Rattle.cal_zones.specs.Kinds.{zone_of};
+ghost use Rattle.cal_zones.specs.LastDay.{IsLastDay, NoneFrom, IsNearEpoch};
+
+use crate::kinds::Zone;
+use cal_days::Day;
+use ical_values::LocalTime;
+
+/// The seconds of a day.
+const DAY: i64 = 86_400;
+
+/// The seconds from 0000-01-01T00:00:00 to 1970-01-01T00:00:00.
+const EPOCH: i64 = 62_167_219_200;
+
+/// The index of 0001-01-01.
+const FIRST_INDEX: u32 = 366;
+
+/// The index of 9999-12-31.
+const LAST_INDEX: u32 = 3_652_424;
+
+/// An instant before all local times, and one after them.
+const EARLY: i64 = -62_166_900_000;
+
+const LATE: i64 = 260_000_000_000;
+
+/// The last day, by its index, on which that second of the day isn't past an instant with that offset.
+fn latest_day(second: u32, offset: i32, until: i64) -> u32
+    requires second { second < 86_400 }
+    requires offset { IsOffset offset }
+    ensures range { result ≤ 3_652_424 }
+    ensures past { (other : ℕ) → result < other → other ≤ 3_652_424 → (until +ℤ offset) <ℤ local_time other second }
+{
+    if until < EARLY {
+        return FIRST_INDEX - 1;
+    }
+    if until > LATE {
+        return LAST_INDEX;
+    }
+    let seconds = (until + offset as i64 + EPOCH - second as i64) as u64;
+    ((seconds / 86_400) as u32).min(LAST_INDEX)
+}
+
+/// The local time at a second of a day, by its index.
+fn local_seconds(index: u32, second: u32) -> i64
+    requires index { (366 ≤ index) × (index ≤ 3_652_424) }
+    requires second { second < 86_400 }
+    ensures value { result ≡ local_time index second }
+    ensures range { IsClockSeconds result }
+{
+    DAY * index as i64 + second as i64 - EPOCH
+}
+
+impl Zone {
+    /// The instant that a second of a day means.
+    fn start_on(&self, day: Day, second: u32) -> i64
+        requires range { day_index day ≤ 3_652_424 }
+        requires second { second < 86_400 }
+        ensures meaning { Means (zone_of self.now) (local_time (day_index day) second) result }
+        ensures range { IsNearEpoch result }
+    {
+        let seconds = local_seconds(day.index(), second);
+        self.resolve(LocalTime::of_seconds(seconds).unwrap())
+    }
+
+    /// The last day up to 9999-12-31 on which a time of day, in seconds, isn't past an instant. None where
+    /// it is past it on each from 0001-01-01 on. The offsets decide between the three days that are looked
+    /// at.
+    pub fn last_day(&self, second: u32, until: i64) -> Option<Day>
+        requires { second < 86_400 }
+        ensures { let z = zone_of self.now in
+            MatchOption result (NoneFrom z second until 366) (λ day. IsLastDay z second until (day_index day)) }
+    {
+        let (_, greatest) = self.offsets();
+        let mut index = latest_day(second, greatest, until);
+        while index >= FIRST_INDEX {
+            let day = Day::at_index(index).unwrap();
+            if self.start_on(day, second) <= until {
+                return Some(day);
+            }
+            index -= 1;
+        }
+        None
+    }
+}
