@@ -201,10 +201,16 @@ fn rule_from(text: RuleText, start: Stamp) -> Result<Rule, Fault> {
 /// The last day whose start isn't past UNTIL, at this second of the day; None where that is before the year 1.
 fn last_day(until: Option<Until>, second: i64) -> Option<Day> {
     match until {
+        Some(until) => day_until(&until, second),
         None => Day::of(9999, 12, 31),
-        Some(Until::Date(day)) => Some(day),
-        Some(Until::Local(local)) => day_of(local.seconds().saturating_sub(second)),
-        Some(Until::Utc(stamp)) => day_of(stamp.instant().saturating_sub(second)),
+    }
+}
+
+fn day_until(until: &Until, second: i64) -> Option<Day> {
+    match until {
+        Until::Date(day) => Some(*day),
+        Until::Local(local) => day_of(local.seconds().saturating_sub(second)),
+        Until::Utc(stamp) => day_of(stamp.instant().saturating_sub(second)),
     }
 }
 
