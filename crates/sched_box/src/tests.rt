@@ -1,8 +1,10 @@
-//! Readers and writers that fail, and reads of one octet. What comes out of a whole stream is shown by the crate
+//! Readers and writers that fail, reads of one octet, and requests in every order. What comes out of a whole stream is shown by the crate
 //! `worked_examples`.
 
+use crate::config::Config;
 use crate::fault::{ServeFault, StreamFault};
-use crate::serving::{ServeReport, serve_stream};
+use crate::serving::{ServeReport, keep, serve_stream};
+use ical_values::{Address, Stamp};
 use std::alloc::Global;
 use std::io::{self, BufReader, ErrorKind, Read, Write};
 use std::test::Fail;
@@ -173,6 +175,73 @@ fn an_object_that_is_too_long_is_refused_and_the_next_is_answered(
         let text = std::str::from_utf8(written.as_slice()).map_err(|_| "text")?;
         assert!(rt; text.starts_with(expected), "{text}");
         assert!(rt; text.ends_with("REFUSED;OBJECT=2:66\r\n"), "{text}");
+    }
+    Ok(())
+}
+
+const FIRST: &str =
+    "BEGIN:VCALENDAR\r\nVERSION:2.0\r\nMETHOD:REQUEST\r\nBEGIN:VEVENT\r\nUID:a\r\nDTSTAMP:20250101T000000Z\r\n\
+    ORGANIZER:mailto:ann@example.com\r\nATTENDEE:mailto:r1@example.com\r\nDTSTART:20250310T090000Z\r\nDURATION:PT1H\r\n\
+    END:VEVENT\r\nEND:VCALENDAR\r\n";
+
+const SECOND: &str =
+    "BEGIN:VCALENDAR\r\nVERSION:2.0\r\nMETHOD:REQUEST\r\nBEGIN:VEVENT\r\nUID:a\r\nSEQUENCE:1\r\nDTSTAMP:20250101T000000Z\r\n\
+    ORGANIZER:mailto:ann@example.com\r\nATTENDEE:mailto:r1@example.com\r\nDTSTART:20250311T090000Z\r\nDURATION:PT1H\r\n\
+    END:VEVENT\r\nEND:VCALENDAR\r\n";
+
+const OTHER: &str =
+    "BEGIN:VCALENDAR\r\nVERSION:2.0\r\nMETHOD:REQUEST\r\nBEGIN:VEVENT\r\nUID:b\r\nDTSTAMP:20250101T000000Z\r\n\
+    ORGANIZER:mailto:ann@example.com\r\nATTENDEE:mailto:r1@example.com\r\nDTSTART:20250312T090000Z\r\nDURATION:PT1H\r\n\
+    END:VEVENT\r\nEND:VCALENDAR\r\n";
+
+const KEPT_FROM_A: &str = "BEGIN:VCALENDAR\r\nVERSION:2.0\r\nPRODID:-//iTIP room box//EN\r\n\
+    BEGIN:VEVENT\r\nUID:a\r\nSEQUENCE:1\r\nDTSTAMP:20250101T000000Z\r\nDTSTART:20250311T090000Z\r\nDURATION:PT3600S\r\n\
+    ORGANIZER:mailto:ann@example.com\r\nATTENDEE;PARTSTAT=ACCEPTED:mailto:r1@example.com\r\nEND:VEVENT\r\n\
+    BEGIN:VEVENT\r\nUID:b\r\nSEQUENCE:0\r\nDTSTAMP:20250101T000000Z\r\nDTSTART:20250312T090000Z\r\nDURATION:PT3600S\r\n\
+    ORGANIZER:mailto:ann@example.com\r\nATTENDEE;PARTSTAT=ACCEPTED:mailto:r1@example.com\r\nEND:VEVENT\r\nEND:VCALENDAR\r\n";
+
+const KEPT_FROM_B: &str = "BEGIN:VCALENDAR\r\nVERSION:2.0\r\nPRODID:-//iTIP room box//EN\r\n\
+    BEGIN:VEVENT\r\nUID:b\r\nSEQUENCE:0\r\nDTSTAMP:20250101T000000Z\r\nDTSTART:20250312T090000Z\r\nDURATION:PT3600S\r\n\
+    ORGANIZER:mailto:ann@example.com\r\nATTENDEE;PARTSTAT=ACCEPTED:mailto:r1@example.com\r\nEND:VEVENT\r\n\
+    BEGIN:VEVENT\r\nUID:a\r\nSEQUENCE:1\r\nDTSTAMP:20250101T000000Z\r\nDTSTART:20250311T090000Z\r\nDURATION:PT3600S\r\n\
+    ORGANIZER:mailto:ann@example.com\r\nATTENDEE;PARTSTAT=ACCEPTED:mailto:r1@example.com\r\nEND:VEVENT\r\nEND:VCALENDAR\r\n";
+
+/// What the room keeps after three requests, and the same again.
+fn kept_after(
+    alloc: Global,
+    one: &str,
+    two: &str,
+    three: &str,
+) -> Result<(Vec<u8>, Vec<u8>), Fail> {
+    let config = Config::read(alloc, b"room mailto:r1@example.com\n")?;
+    let room = Address::read(alloc, "mailto:r1@example.com")?;
+    let now = Stamp::read("20250102T000000Z")?;
+    let mut stream = Vec::new(alloc);
+    for _ in 0..2u8 {
+        stream.extend_from_slice(one.as_bytes())?;
+        stream.extend_from_slice(two.as_bytes())?;
+        stream.extend_from_slice(three.as_bytes())?;
+    }
+    Ok(keep(alloc, &config, &mut stream.as_slice(), now, &room)?)
+}
+
+/// The meetings stand in the order in which they first came; in all else the order makes no difference.
+#[test]
+fn every_order_of_requests_keeps_the_same(rt: HostRuntime) -> Result<(), Fail> {
+    for (one, two, three, expected) in [
+        (FIRST, SECOND, OTHER, KEPT_FROM_A),
+        (FIRST, OTHER, SECOND, KEPT_FROM_A),
+        (SECOND, FIRST, OTHER, KEPT_FROM_A),
+        (SECOND, OTHER, FIRST, KEPT_FROM_A),
+        (OTHER, FIRST, SECOND, KEPT_FROM_B),
+        (OTHER, SECOND, FIRST, KEPT_FROM_B),
+    ] {
+        let (calendar, certificate) = kept_after(rt.alloc(), one, two, three)?;
+        assert_eq!(rt; calendar.as_slice(), expected.as_bytes());
+        assert_eq!(rt;
+            certificate.as_slice(),
+            b"ROOMCERT 1\nSINGLES 2\nSERIES 0\nDONE\n".as_slice()
+        );
     }
     Ok(())
 }
