@@ -1,9 +1,9 @@
 -- The offset in force and the meaning of a local time, for any set of onsets.
-use Rattle.std.proofs.Common.{◌≡◌, ◌∙◌, ap, sym, refl, inl, inr, ◌⊎◌, arith, ℤ, pos, ◌+ℤ◌, ◌≤ℤ◌}
+use Rattle.std.proofs.Common.{◌≡◌, ◌∙◌, sym, arith, ℤ, ◌≤ℤ◌}
 use Rattle.std.proofs.lemmas.Int.{by_lt_z}
 use Rattle.std.specs.Int.Signed.{◌<ℤ◌}
 use Rattle.jiff_core.proofs.SignedLemmas.{signed_arith}
-use Rattle.profile.specs.Zones.{Onset, IsLatest, IsFirstAfter, InForce, Since, Until}
+use Rattle.profile.specs.Zones.{Onset, IsLatest, InForce, Since, Until}
 
 -- two onsets at one instant are alike
 pub record OneAtOnce (Is : Onset → Type 0) : Type 0 where

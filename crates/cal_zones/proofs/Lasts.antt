@@ -1,9 +1,9 @@
 -- The search for the last day on which a time of day isn't past an instant.
-use Rattle.std.proofs.Common.{◌≡◌, inl, inr, ℕ, ◌+◌, ◌<◌, ◌≤◌, arith, ℤ, ◌+ℤ◌, ◌≤ℤ◌}
+use Rattle.std.proofs.Common.{inl, inr, ℕ, ◌+◌, ◌<◌, ◌≤◌, arith, ℤ, ◌+ℤ◌, ◌≤ℤ◌}
 use Rattle.std.specs.Int.Signed.{◌<ℤ◌}
 use Rattle.std.proofs.lemmas.Bool.{cases_order}
 use Rattle.jiff_core.proofs.SignedLemmas.{signed_arith}
-use Rattle.profile.specs.Zones.{Zone, Means, Shows, local_time}
+use Rattle.profile.specs.Zones.{Zone, Means, local_time}
 use Rattle.cal_zones.specs.Kinds.{IsBounds}
 use Rattle.cal_zones.specs.LastDay.{NoneFrom}
 use Rattle.cal_zones.proofs.Zones.{one_meaning}

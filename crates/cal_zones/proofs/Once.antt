@@ -1,5 +1,4 @@
 -- What a zone's invariants say of what it stands for.
-use Rattle.std.proofs.Common.{◌≡◌}
 use Rattle.profile.specs.Zones.{IsZoneOnset}
 use Rattle.cal_zones.specs.Onsets.{observance_of}
 use Rattle.cal_zones.specs.Kinds.{kind_of, zone_of}

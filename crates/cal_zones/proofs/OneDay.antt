@@ -1,10 +1,10 @@
 -- The one day a year of a rule: where it lies, and how it repeats.
-use Rattle.std.proofs.Common.{◌≡◌, ◌∙◌, ap, sym, refl, inl, inr, ℕ, zero, suc, ◌+◌, ◌-◌, ◌*◌, ◌/◌, ◌%◌, ◌<◌, ◌≤◌, ◌⊎◌, Bool, true, false, arith, ℤ, pos, unsigned_abs, ◌+ℤ◌, ◌-ℤ◌}
+use Rattle.std.proofs.Common.{◌≡◌, ◌∙◌, ap, sym, inl, inr, ℕ, zero, suc, ◌+◌, ◌-◌, ◌*◌, ◌/◌, ◌<◌, ◌≤◌, true, arith, ℤ, pos, ◌+ℤ◌, ◌-ℤ◌}
 use Rattle.std.proofs.lemmas.Bool.Decides.{nat_tests}
 use Rattle.std.proofs.lemmas.Bool.{cases_order, cases_lt}
 use Rattle.jiff_core.proofs.SignedLemmas.{signed_arith, one_part}
-use Rattle.profile.specs.Days.{days_before, days_before_year, days_of_months, days_in_month, year_start, year_of, month_of, month_days_before, IsDate, day_index, number_of_day}
-use Rattle.cal_days.proofs.Dates.{Named, named, named_later, month_days_before_later, date_counts, date_is, year_begins, year_ends}
+use Rattle.profile.specs.Days.{days_before, days_in_month, year_start, year_of, month_of, month_days_before, IsDate, day_index, number_of_day}
+use Rattle.cal_days.proofs.Dates.{named, named_later, month_days_before_later, date_counts, year_begins, year_ends}
 use Rattle.cal_days.proofs.Bridge.{days_in_month-later}
 use Rattle.cal_zones.specs.Shapes.{is_yearly, IsPlace}
 use Rattle.cal_zones.specs.Yearly.{IsOn, IsDayOfYear, IsLatestDay, IsFirstDay, HasEarlier}

@@ -1,12 +1,12 @@
 -- The first onset of an observance, and the latest up to an instant.
-use Rattle.std.proofs.Common.{◌≡◌, ◌∙◌, ap, sym, refl, ℕ, suc, ◌+◌, ◌-◌, ◌*◌, ◌/◌, ◌%◌, ◌<◌, ◌≤◌, true, ◌&&◌, nat_le, Option, Some, None, arith, ℤ, pos, unsigned_abs, ◌+ℤ◌, ◌-ℤ◌, ◌≤ℤ◌}
+use Rattle.std.proofs.Common.{◌≡◌, refl, ℕ, ◌+◌, ◌-◌, ◌*◌, ◌/◌, ◌%◌, ◌≤◌, true, ◌&&◌, nat_le, Some, arith, ℤ, pos, unsigned_abs, ◌+ℤ◌, ◌-ℤ◌, ◌≤ℤ◌}
 use Rattle.std.proofs.lemmas.Bool.Decides.{nat_tests}
 use Rattle.jiff_core.proofs.SignedLemmas.{signed_arith, one_part}
 use Rattle.profile.specs.Rules.{is_base}
-use Rattle.profile.specs.Zones.{Onset, IsOnset, IsLatest, begins_on, local_time}
+use Rattle.profile.specs.Zones.{IsOnset, IsLatest, begins_on, local_time}
 use Rattle.cal_zones.specs.Shapes.{pattern_of}
 use Rattle.cal_zones.specs.Yearly.{IsOn, IsLatestDay, IsFirstDay}
-use Rattle.cal_zones.specs.Onsets.{rule_of, observance_of, onset_at, IsFirstDayOf, IsFirstOf, NoneBegun, IsLatestAfter}
+use Rattle.cal_zones.specs.Onsets.{observance_of, onset_at, IsFirstDayOf, IsFirstOf, IsLatestAfter}
 use Rattle.cal_zones.proofs.Bases.{base_is}
 use Rattle.cal_zones.specs.declared.shape.Yearly.{Yearly}
 use Rattle.cal_zones.specs.declared.shape.Observance.{Observance}

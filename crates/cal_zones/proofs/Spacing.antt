@@ -1,14 +1,13 @@
 -- Onsets that keep apart through 400 years never come at once.
-use Rattle.std.proofs.Common.{◌≡◌, ◌∙◌, ap, sym, refl, inl, inr, ℕ, zero, suc, ◌+◌, ◌-◌, ◌*◌, ◌/◌, ◌<◌, ◌≤◌, ◌⊎◌, arith, ℤ, pos, unsigned_abs, ◌+ℤ◌, ◌-ℤ◌, ◌≤ℤ◌, Some}
+use Rattle.std.proofs.Common.{◌≡◌, ◌∙◌, ap, sym, refl, inl, inr, ℕ, zero, suc, ◌+◌, ◌-◌, ◌*◌, ◌/◌, ◌<◌, ◌≤◌, arith, ℤ, unsigned_abs, ◌+ℤ◌, ◌-ℤ◌, Some}
 use Rattle.std.proofs.lemmas.Int.{by_lt_z}
 use Rattle.std.proofs.lemmas.Bool.{cases_order, cases_lt}
 use Rattle.jiff_core.proofs.SignedLemmas.{signed_arith, one_part}
 use Rattle.profile.specs.Days.{year_of, year_start}
 use Rattle.profile.specs.Values.{IsOffset}
-use Rattle.profile.specs.Zones.{Onset, IsOnset, local_time}
+use Rattle.profile.specs.Zones.{local_time}
 use Rattle.cal_days.proofs.Dates.{named_later, year_begins, year_ends}
 use Rattle.cal_zones.specs.Yearly.{IsOn, IsDayOfYear}
-use Rattle.cal_zones.specs.Onsets.{observance_of}
 use Rattle.cal_zones.specs.Spaced.{IsApart, IsYearSpaced, IsSpaced}
 use Rattle.cal_zones.specs.Apart.{NeverAtOnce}
 use Rattle.cal_zones.proofs.OneDay.{one_a_year, on_later, on_cycles_earlier, year_start_grows}

@@ -1,5 +1,4 @@
-use Rattle.std.proofs.Common.{◌≡◌, true, arith}
-use Rattle.cal_zones.specs.Spaced.{IsSpaced}
+use Rattle.std.proofs.Common.{◌≡◌, arith}
 use Rattle.cal_zones.proofs.Spacing.{more_spaced}
 use Rattle.cal_zones.proofs.spaced.is_spaced.Goals as goal
 

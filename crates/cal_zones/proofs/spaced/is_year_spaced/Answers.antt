@@ -1,4 +1,4 @@
-use Rattle.std.proofs.Common.{◌≡◌, ◌≤◌, arith}
+use Rattle.std.proofs.Common.{arith}
 use Rattle.cal_zones.proofs.OneDay.{day_range}
 use Rattle.cal_zones.proofs.Spacing.{year_spaced}
 use Rattle.cal_zones.proofs.spaced.is_year_spaced.Goals as goal

@@ -1,6 +1,6 @@
-use Rattle.std.proofs.Common.{◌≡◌, ◌∙◌, arith, to_z, of_z, w32, w64, to_z-of_z, ◌≤ℤ◌}
+use Rattle.std.proofs.Common.{◌≡◌, arith, to_z, of_z, w64, to_z-of_z, ◌≤ℤ◌}
 use Rattle.jiff_core.proofs.SignedLemmas.{signed_arith}
-use Rattle.cal_zones.specs.Onsets.{observance_of, NoneBegun}
+use Rattle.cal_zones.specs.Onsets.{observance_of}
 use Rattle.cal_zones.proofs.Casts.{narrow}
 use Rattle.cal_zones.proofs.Zones.{left_alone, left_later, right_later}
 use Rattle.cal_zones.proofs.zone.offset_after.Goals as goal

@@ -1,6 +1,5 @@
-use Rattle.std.proofs.Common.{◌≡◌, ◌∙◌, arith, to_z, of_z, w32, w64, to_z-of_z, ◌≤ℤ◌}
-use Rattle.jiff_core.proofs.SignedLemmas.{signed_arith}
-use Rattle.cal_zones.specs.Onsets.{observance_of, NoneBegun}
+use Rattle.std.proofs.Common.{to_z-of_z}
+use Rattle.cal_zones.specs.Onsets.{observance_of}
 use Rattle.cal_zones.proofs.Casts.{narrow}
 use Rattle.cal_zones.proofs.Zones.{right_alone}
 use Rattle.cal_zones.proofs.zone.offset_before.Goals as goal

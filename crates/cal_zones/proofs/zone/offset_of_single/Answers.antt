@@ -1,4 +1,4 @@
-use Rattle.std.proofs.Common.{◌≡◌, ◌∙◌, arith, to_z, of_z, w32, w64, to_z-of_z}
+use Rattle.std.proofs.Common.{to_z-of_z}
 use Rattle.cal_zones.specs.Onsets.{observance_of}
 use Rattle.cal_zones.proofs.Zones.{single_since, single_until}
 use Rattle.cal_zones.proofs.Casts.{narrow}

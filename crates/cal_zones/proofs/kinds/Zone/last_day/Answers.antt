@@ -1,4 +1,4 @@
-use Rattle.std.proofs.Common.{◌≡◌, ◌∙◌, ◌+◌, ◌-◌, ◌≤ℤ◌, arith, sym, to_z, of_z, w64, to_z-of_z}
+use Rattle.std.proofs.Common.{◌≡◌, ◌+◌, ◌-◌, ◌≤ℤ◌, arith, to_z, of_z, w64, to_z-of_z}
 use Rattle.std.specs.Int.Signed.{◌<ℤ◌}
 use Rattle.jiff_core.proofs.SignedLemmas.{signed_arith}
 use Rattle.profile.specs.Days.{day_index}

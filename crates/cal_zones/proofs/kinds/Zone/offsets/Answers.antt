@@ -1,4 +1,3 @@
-use Rattle.std.proofs.Common.{◌≡◌}
 use Rattle.cal_zones.specs.Onsets.{observance_of}
 use Rattle.cal_zones.proofs.Casts.{narrow}
 use Rattle.cal_zones.proofs.Zones.{bounds_pair}

@@ -1,7 +1,6 @@
 use Rattle.std.proofs.Common.{◌≡◌, ◌<ℤ◌, arith, to_z, of_z, w64, to_z-of_z}
 use Rattle.jiff_core.proofs.SignedLemmas.{signed_arith}
 use Rattle.cal_zones.proofs.Onsets.{begins_is, latest_of, first_of}
-use Rattle.cal_zones.specs.Onsets.{observance_of}
 use Rattle.cal_zones.proofs.shape.Observance.latest_onset.Goals as goal
 
 pub latest_by_rule-requires-clause-on : goal.latest_by_rule-requires-clause-on

@@ -1,6 +1,5 @@
-use Rattle.std.proofs.Common.{◌≡◌, ◌∙◌, ◌+◌, ◌-◌, ◌≤◌, ap, arith}
-use Rattle.profile.specs.Days.{year_of, day_index}
-use Rattle.cal_zones.specs.Yearly.{IsDayOfYear}
+use Rattle.std.proofs.Common.{◌≡◌, ◌∙◌, ◌-◌, ap, arith}
+use Rattle.profile.specs.Days.{year_of}
 use Rattle.cal_zones.proofs.OneDay.{day_near, second_year, latest_same_year, latest_year_before}
 use Rattle.cal_zones.proofs.shape.Yearly.latest_early.Goals as goal
 
