@@ -68,8 +68,18 @@ not_true : (b : Bool) → not b ≡ true → b ≡ false
 not_true true e = sym e
 not_true false e = refl
 
+-- 25 is told only where 24 doesn't stand
+weaker : (k a b d v : Bool) → (k && (a || (b && (d && v)))) ≡ true → (a || (b && d)) ≡ true
+weaker false a b d v h = absurd (cc)
+weaker true true b d v h = refl
+weaker true false false d v h = h
+weaker true false true false v h = h
+weaker true false true true v h = refl
+
 tree_fault : (n : ℕ) (lines : Lines) (c : Component) → SpellsOf 7 c lines → calendar_has true n c ≡ true → TreeFault n lines
-tree_fault n lines c s h = at ((n == 24) && not (has_version (component_lines c))) ((n == 25) && nat_lt 200 count) refl refl h
+tree_fault n lines c s h =
+    at ((n == 24) && not (has_version (component_lines c))) ((n == 25) && nat_lt 200 count) refl refl
+    (weaker (is_same_name (component_name c) (codes "VCALENDAR")) ((n == 24) && not (has_version (component_lines c))) (n == 25) (nat_lt 200 count) (has_version (component_lines c)) h)
   where
     count : ℕ
     count = count_inside component_name component_lines component_children (codes "VEVENT") c
