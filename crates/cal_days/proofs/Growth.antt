@@ -22,8 +22,8 @@ module _ (starts : ℕ → ℕ) (short : ℕ) (grow : (period : ℕ) → starts 
   ascends n later a b h k order =
       elim (cases_lt b a) [
         | inl lt ↦
-          let e : suc b + (a - suc b) ≡ a = omega arith in
-          absurd (omega (arith, h.begins, k.ends, rw e at (apart (suc b) (a - suc b))))
+            let e : suc b + (a - suc b) ≡ a = omega arith in
+            absurd (omega (arith, h.begins, k.ends, rw e at (apart (suc b) (a - suc b))))
         | inr ge ↦ ge
       ]
 
@@ -31,8 +31,8 @@ module _ (starts : ℕ → ℕ) (short : ℕ) (grow : (period : ℕ) → starts 
   lasts n later a b periods h k order =
       elim (cases_lt (a + periods) b) [
         | inl lt ↦
-          let e : suc a + (periods + (b - suc a - periods)) ≡ b = omega arith in
-          absurd (omega (arith, h.ends, k.begins, rw e at (apart (suc a) (periods + (b - suc a - periods)))))
+            let e : suc a + (periods + (b - suc a - periods)) ≡ b = omega arith in
+            absurd (omega (arith, h.ends, k.begins, rw e at (apart (suc a) (periods + (b - suc a - periods)))))
         | inr ge ↦ ge
       ]
 
@@ -67,14 +67,14 @@ month_next month =
     let step : days_of_months y (suc (month % 12)) ≡ days_of_months y (month % 12) + days_in_month y (suc (month % 12)) = months_step_suc y (month % 12) in
     elim (cases_lt (month % 12) 11) [
       | inl lt ↦
-        let a : suc month / 12 ≡ y = omega arith in
-        let b : suc month % 12 ≡ suc (month % 12) = omega arith in
-        rw (a, b) (omega (arith, step))
+          let a : suc month / 12 ≡ y = omega arith in
+          let b : suc month % 12 ≡ suc (month % 12) = omega arith in
+          rw (a, b) (omega (arith, step))
       | inr ge ↦
-        let a : suc month / 12 ≡ suc y = omega arith in
-        let b : suc month % 12 ≡ 0 = omega arith in
-        let last : month % 12 ≡ 11 = omega arith in
-        rw (a, b, last) (omega (arith, rw last at step, year_length y, year_start-step y, none (suc y)))
+          let a : suc month / 12 ≡ suc y = omega arith in
+          let b : suc month % 12 ≡ 0 = omega arith in
+          let last : month % 12 ≡ 11 = omega arith in
+          rw (a, b, last) (omega (arith, rw last at step, year_length y, year_start-step y, none (suc y)))
     ]
 
 month_short : (month : ℕ) → month_start month + 28 ≤ month_start (suc month)
