@@ -410,7 +410,11 @@ mod tests {
         for (frequency, week_start, later) in rows {
             let here = PeriodIndex::of(frequency, week_start, sunday).number();
             let there = PeriodIndex::of(frequency, week_start, saturday).number();
-            assert_eq!(rt; here.saturating_sub(there), later, "{frequency:?} {week_start}");
+            assert_eq!(rt;
+                here.saturating_sub(there),
+                later,
+                "{frequency:?} {week_start}"
+            );
         }
     }
 }
