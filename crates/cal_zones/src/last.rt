@@ -69,9 +69,20 @@ impl Zone {
     }
 
     /// The last day up to 9999-12-31 on which a time of day, in seconds, isn't past an instant. None where
-    /// it is past it on each from 0001-01-01 on. The offsets decide between the three days that are looked
-    /// at.
+    /// it is past it on each from 0001-01-01 on, and for a second that no day has.
     pub fn last_day(&self, second: u32, until: i64) -> Option<Day>
+        ensures day { second < 86_400 → let z = zone_of self.now in
+            MatchOption result (NoneFrom z second until 366) (λ day. IsLastDay z second until (day_index day)) }
+        ensures none { 86_400 ≤ second → result ≡ None }
+    {
+        if second >= 86_400 {
+            return None;
+        }
+        self.last_day_at(second, until)
+    }
+
+    /// The same for a second of a day. The offsets decide between the three days that are looked at.
+    fn last_day_at(&self, second: u32, until: i64) -> Option<Day>
         requires { second < 86_400 }
         ensures { let z = zone_of self.now in
             MatchOption result (NoneFrom z second until 366) (λ day. IsLastDay z second until (day_index day)) }

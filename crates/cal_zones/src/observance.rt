@@ -41,7 +41,7 @@ impl Observance {
     }
 
     /// The onset on a day, by its index: the time of DTSTART there, read with TZOFFSETFROM.
-    pub fn onset_on(&self, day: u32) -> i64
+    pub(crate) fn onset_on(&self, day: u32) -> i64
         requires range { day ≤ 3_653_155 }
         ensures read { result +ℤ self.now.offset_from ≡ local_time day self.now.second }
         ensures low { negsuc 100_000_000_000 ≤ℤ result }

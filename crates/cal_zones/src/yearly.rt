@@ -52,7 +52,7 @@ impl Yearly {
     }
 
     /// The index of the day in a year.
-    pub fn day_in(self, year: u32) -> u32
+    pub(crate) fn day_in(self, year: u32) -> u32
         requires { (1 ≤ year) × (year ≤ 10_001) }
         ensures { IsDayOfYear self year result }
     {
@@ -78,7 +78,7 @@ impl Yearly {
 
     /// The index of the latest of its days up to that of index `n`. The days repeat after 400 years, so two
     /// years are looked at, among the first 800.
-    pub fn latest(self, n: u64) -> u64
+    pub(crate) fn latest(self, n: u64) -> u64
         requires first { 366 ≤ n }
         requires earlier { HasEarlier self n }
         ensures latest { IsLatestDay self n result }
@@ -90,7 +90,7 @@ impl Yearly {
     }
 
     /// The index of the first of its days from that of index `n` on.
-    pub fn first_from(self, n: u32) -> u32
+    pub(crate) fn first_from(self, n: u32) -> u32
         requires range { (366 ≤ n) × (n ≤ 3_652_424) }
         ensures first { IsFirstDay self n result }
         ensures range { result ≤ 3_653_155 }
