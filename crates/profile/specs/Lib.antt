@@ -6,6 +6,7 @@ pub mod Days
 pub mod Rules
 pub mod Zones
 pub mod Values
+pub mod RuleTexts
 pub mod Instances
 pub mod Certificates
 pub mod Revisions
