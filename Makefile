@@ -10,6 +10,7 @@ run: bin/roombox
 
 bin/roombox: FORCE
 	@mkdir -p bin out
+	@test -f bin/roombox || echo "proving and building: about a quarter of an hour the first time; out/build.log tells how far" >&2
 	@cd crates/roombox && $(RT) run < ../../$(EXAMPLE) > ../../out/first-reply 2> ../../out/build.log \
 		|| { cat ../../out/build.log; exit 1; }
 	@cp crates/roombox/out/roombox bin/roombox
