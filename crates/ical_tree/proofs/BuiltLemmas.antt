@@ -1,34 +1,33 @@
 -- One line more, and what the open components are then.
-use Rattle.std.proofs.Common.{◌≡◌, ℕ, suc, ◌-◌, ◌≤◌, true, Option, None, Some, List, [], ◌∷◌, ◌++◌, length, reverse, refl, ap, sym, subst, ◌∙◌, arith}
+use Rattle.std.proofs.Common.{◌≡◌, ℕ, suc, ◌-◌, ◌≤◌, Bool, true, false, not, ◌&&◌, Option, None, Some, is_some, List, [], ◌∷◌, ◌++◌, length, reverse, refl, ap, sym, subst, ◌∙◌, arith}
 use Rattle.std.proofs.lemmas.List.{append_assoc, reverse-append, length-reverse, nil_from_length}
 use Rattle.profile.specs.Lines.{line_value, is_same_name}
-use Rattle.profile.specs.Objects.{Opens, Closes, is_property, is_end}
+use Rattle.profile.specs.Objects.{Opens, Closes, is_property, is_end, is_calendar_name, may_begin}
 use Rattle.profile.specs.Objects.Body.{nothing, property, component}
+use Rattle.ical_lines.proofs.BreakLemmas.{was_false}
 use Rattle.ical_tree.specs.declared.component.Component.{Component}
 use Rattle.ical_tree.specs.Tree.{component_name, component_lines, component_children}
-use Rattle.ical_tree.specs.Reading.{BodyOf, IsCalendar, IsOuter, Built, names_of}
+use Rattle.ical_tree.specs.Reading.{BodyOf, Built, names_of}
 
 pub reverse-push : (xs : List Component) (x : Component) → reverse (xs ++ x ∷ []) ≡ x ∷ reverse xs
 reverse-push xs x = reverse-append xs (x ∷ [])
 
 -- ---- BEGIN
 
-outer_from : (c : Component) (around : List Component) (closed : Option Component) → (length around ≡ 0 → (closed ≡ None) × IsCalendar c) → IsOuter c around closed
-outer_from c [] closed h = h refl
-outer_from c (x ∷ xs) closed h = tt
+pub outermost : (closed : Option Component) (same : Bool) → (same && not (is_some closed)) ≡ true → (closed ≡ None) × (same ≡ true)
+outermost None true h = (refl, refl)
+outermost None false h = cc
+outermost (Some c) true h = cc
+outermost (Some c) false h = cc
 
-pub begun : (old : List Component) (c : Component) (closed : Option Component) (done : List (List ℕ)) (line : List ℕ) → Opens line (component_name c) → component_lines c ≡ [] → component_children c ≡ [] → (length old ≡ 0 → (closed ≡ None) × IsCalendar c) → length old ≤ 7 → Built (reverse old) closed done → Built (reverse (old ++ c ∷ [])) closed (done ++ line ∷ [])
+pub begun : (old : List Component) (c : Component) (closed : Option Component) (done : List (List ℕ)) (line : List ℕ) → Opens line (component_name c) → component_lines c ≡ [] → component_children c ≡ [] → may_begin (names_of (reverse old)) (is_some closed) (component_name c) ≡ true → length old ≤ 7 → Built (reverse old) closed done → Built (reverse (old ++ c ∷ [])) closed (done ++ line ∷ [])
 begun old c closed done line o l k h n b =
     let lines = λ (xs : List Component). Built xs closed (done ++ line ∷ []) in
     let size : length (reverse old) ≡ length old = length-reverse old in
     let empty : BodyOf (7 - length (reverse old)) c [] = rw (l, k) nothing in
-    rw (reverse-push old c) (done, record { begin = line; body = []; are = refl; opens = o; holds = empty }, b, omega arith, outer_from c (reverse old) closed (λ e. h (omega arith)))
+    rw (reverse-push old c) (done, record { begin = line; body = []; are = refl; opens = o; holds = empty }, b, omega arith, h)
 
 -- ---- a property
-
-outer_like : (c d : Component) (around : List Component) (closed : Option Component) → component_name d ≡ component_name c → IsOuter c around closed → IsOuter d around closed
-outer_like c d [] closed e o = (o.0, rw e o.1)
-outer_like c d (x ∷ xs) closed e o = tt
 
 pub added : (rest : List Component) (c d : Component) (closed : Option Component) (done : List (List ℕ)) (line : List ℕ) → component_name d ≡ component_name c → component_children d ≡ component_children c → component_lines d ≡ component_lines c ++ line ∷ [] → is_property line ≡ true → Built (reverse (rest ++ c ∷ [])) closed done → Built (reverse (rest ++ d ∷ [])) closed (done ++ line ∷ [])
 added rest c d closed done line n k l p b =
@@ -44,7 +43,7 @@ added rest c d closed done line n k l p b =
       },
       h.2,
       h.3,
-      outer_like c d (reverse rest) closed n h.4,
+      rw n h.4,
     )
 
 -- ---- END
@@ -65,16 +64,17 @@ ended_child rest p q c closed done line e s n l k b =
         body = g.1.body ++ h.1.begin ∷ (h.1.body ++ line ∷ []);
         are = all;
         opens = rw n g.1.opens;
-        holds = rw (deep, l, k) (component c h.1.begin line h.1.body h.1.opens closes h.1.holds outer);
+        holds = rw (deep, l, k) (component c h.1.begin line h.1.body (was_false (is_calendar_name (component_name c)) h.4) h.1.opens closes h.1.holds outer);
       },
       g.2,
       g.3,
-      outer_like p q (reverse rest) closed n g.4,
+      rw n g.4,
     )
 
 pub ended_last : (c : Component) (closed : Option Component) (done : List (List ℕ)) (line : List ℕ) → is_end line ≡ true → is_same_name (component_name c) (line_value line) ≡ true → Built (c ∷ []) closed done → Built [] (Some c) (done ++ line ∷ [])
 ended_last c closed done line e s h =
-    let none : h.0 ≡ [] = subst (λ o. Built [] o h.0) h.4.0 h.2 in (
+    let outer = outermost closed (is_calendar_name (component_name c)) h.4 in
+    let none : h.0 ≡ [] = subst (λ o. Built [] o h.0) outer.0 h.2 in (
       record {
         begin = h.1.begin;
         end = line;
@@ -84,7 +84,7 @@ ended_last c closed done line e s h =
         closes = record { ends = e; names = s };
         holds = h.1.holds;
       },
-      h.4.1,
+      outer.1,
     )
 
 pub ended_only : (old rest after : List Component) (c : Component) (closed : Option Component) (done : List (List ℕ)) (line : List ℕ) → is_end line ≡ true → is_same_name (component_name c) (line_value line) ≡ true → old ≡ rest ++ c ∷ [] → length rest ≡ 0 → length after ≡ 0 → Built (reverse old) closed done → Built (reverse after) (Some c) (done ++ line ∷ [])

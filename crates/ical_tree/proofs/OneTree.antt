@@ -109,7 +109,7 @@ adds_component own parts body part begin end inner op cl i a n o p fs =
 adds : {depth : ℕ} {own : Lines} {parts : List Tree} {body : Lines} → BodyT depth own parts body → Adds own parts body
 adds nothing = adds_nothing
 adds (property {lines = own} {parts = parts} {body = body} line h b) = adds_property own parts body line h (adds b)
-adds (component {lines = own} {parts = parts} {body = body} part begin end inner o e b rest) = adds_component own parts body part begin end inner o e (adds b) (adds rest)
+adds (component {lines = own} {parts = parts} {body = body} part begin end inner v o e b rest) = adds_component own parts body part begin end inner o e (adds b) (adds rest)
 
 -- the pass over the lines of a component
 passed : (depth : ℕ) (t : Tree) (lines : Lines) → SpellsT depth t lines → run (frame [] [] [] ∷ []) lines ≡ frame [] [] (t ∷ []) ∷ []

@@ -6,7 +6,7 @@ use Rattle.std.proofs.lemmas.Bool.{true≢false, lt-leb}
 use Rattle.std.proofs.lemmas.Slice.Eq.{bytes_eq-Decides}
 use Rattle.std.proofs.Math.Bool.{and-false, or-true}
 use Rattle.profile.specs.Lines.{line_name, line_value, is_same_name}
-use Rattle.profile.specs.Objects.{is_begin, is_end, is_property, Opens, Closes, Body, is_none, now_open, opened_from, misplaced, misplaced_begin, misplaced_end, misplaced_property, fits, some_misplaced, all_fit}
+use Rattle.profile.specs.Objects.{is_begin, is_end, is_property, Opens, Closes, Body, is_none, now_open, opened_from, misplaced, misplaced_begin, misplaced_end, misplaced_property, is_calendar_name, fits, some_misplaced, all_fit}
 use Rattle.profile.specs.Objects.Body.{nothing, property, component}
 
 abbrev Lines : Type 0
@@ -156,15 +156,18 @@ at_property n stack started line h =
 never_two : (a b : Bool) → ((a && false) || (b && false)) ≡ false
 never_two a b = or_none (a && false) (b && false) (and-false a) (and-false b)
 
--- a component may begin inside another, at most seven components around it
-pub fine_begin : (n : ℕ) (x : List ℕ) (stack : Lines) (started : Bool) (line name : List ℕ) → Opens line name → length stack < 7 → misplaced n (x ∷ stack) started line ≡ false
-fine_begin n x stack started line name o h =
+-- a component that is no VCALENDAR may begin inside another, at most seven components around it
+pub fine_begin : (n : ℕ) (x : List ℕ) (stack : Lines) (started : Bool) (line name : List ℕ) → is_calendar_name name ≡ false → Opens line name → length stack < 7 → misplaced n (x ∷ stack) started line ≡ false
+fine_begin n x stack started line name v o h =
     let l : length (x ∷ stack) < 8 = omega arith in
     let e : nat_le 8 (length (x ∷ stack)) ≡ false = lt-leb 8 (length (x ∷ stack)) l in
-    at_begin n (x ∷ stack) started line name o ∙ (ap (λ b. (eqb n 22 && b) || (eqb n 23 && false)) e ∙ never_two (eqb n 22) (eqb n 23))
+    at_begin n (x ∷ stack) started line name o
+    ∙ (ap (λ b. (eqb n 22 && b) || (eqb n 23 && (not b && not (not (is_calendar_name name))))) e
+    ∙ (ap (λ b. (eqb n 22 && false) || (eqb n 23 && not (not b))) v
+    ∙ never_two (eqb n 22) (eqb n 23)))
 
 -- a VCALENDAR may be first
-pub fine_first : (n : ℕ) (line name : List ℕ) → Opens line name → is_same_name name (codes "VCALENDAR") ≡ true → misplaced n [] false line ≡ false
+pub fine_first : (n : ℕ) (line name : List ℕ) → Opens line name → is_calendar_name name ≡ true → misplaced n [] false line ≡ false
 fine_first n line name o h =
     at_begin n [] false line name o ∙ (ap (λ b. (eqb n 22 && false) || (eqb n 23 && not (b && true))) h ∙ never_two (eqb n 22) (eqb n 23))
 
@@ -188,7 +191,7 @@ pub stays : {T : Type 0} {name : T → List ℕ} {own : T → Lines} {inside : T
 stays nothing = λ stack. refl
 stays (property {body = body} line h b) = λ stack.
     opened-append stack body (line ∷ []) ∙ (ap (λ s. now_open s line) (stays b stack) ∙ now_property stack line h)
-stays {name = name} (component {body = body} part begin end inner o e b rest) = λ stack.
+stays {name = name} (component {body = body} part begin end inner v o e b rest) = λ stack.
     opened-append stack body (begin ∷ (inner ++ end ∷ [])) ∙ (ap (λ s. opened_from s (begin ∷ (inner ++ end ∷ []))) (stays rest stack) ∙ stays_whole (name part) begin end inner o e (stays b) stack)
 
 pub fine_whole : (n : ℕ) (stack : Lines) (started : Bool) (name begin end : List ℕ) (inner : Lines) → Opens begin name → Closes end name → Stays inner
@@ -203,7 +206,7 @@ fine nothing = λ n x stack h. refl
 fine (property {body = body} line p b) = λ n x stack h.
     let last : any_misplaced n (x ∷ stack) true (line ∷ []) ≡ false = or_none (misplaced n (x ∷ stack) true line) false (fine_property n x stack line p) refl in
     fine-append n (x ∷ stack) body (line ∷ []) (fine b n x stack h) (ap (λ s. any_misplaced n s true (line ∷ [])) (stays b (x ∷ stack)) ∙ last)
-fine {name = name} (component {body = body} part begin end inner o e b rest) = λ n x stack h.
+fine {name = name} (component {body = body} part begin end inner v o e b rest) = λ n x stack h.
     let within : any_misplaced n (name part ∷ x ∷ stack) true inner ≡ false = fine b n (name part) (x ∷ stack) (omega arith) in
-    let last : any_misplaced n (x ∷ stack) true (begin ∷ (inner ++ end ∷ [])) ≡ false = fine_whole n (x ∷ stack) true (name part) begin end inner o e (stays b) (fine_begin n x stack true begin (name part) o (omega arith)) within in
+    let last : any_misplaced n (x ∷ stack) true (begin ∷ (inner ++ end ∷ [])) ≡ false = fine_whole n (x ∷ stack) true (name part) begin end inner o e (stays b) (fine_begin n x stack true begin (name part) v o (omega arith)) within in
     fine-append n (x ∷ stack) body (begin ∷ (inner ++ end ∷ [])) (fine rest n x stack h) (ap (λ s. any_misplaced n s true (begin ∷ (inner ++ end ∷ []))) (stays rest (x ∷ stack)) ∙ last)

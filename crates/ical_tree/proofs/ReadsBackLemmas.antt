@@ -92,7 +92,7 @@ body_content (property {lines = own} {body = body} line p b) h =
     let parts = all_parts is_content body (line ∷ []) h in
     let rest = body_content b parts.0 in
     (all_both is_content own (line ∷ []) rest.0 parts.1, rest.1)
-body_content (component {lines = own} {parts = ps} {body = body} part begin end inner o e b rest) h =
+body_content (component {lines = own} {parts = ps} {body = body} part begin end inner v o e b rest) h =
     let outer = all_parts is_content body (begin ∷ (inner ++ end ∷ [])) h in
     let first = both (is_content begin) (list_all is_content (inner ++ end ∷ [])) outer.1 in
     let inside = body_content b (all_parts is_content inner (end ∷ []) first.1).0 in
@@ -119,7 +119,7 @@ closes_end c = record { ends = refl; names = same_name (component_name c) }
 own_properties : {depth : ℕ} {own : Lines} {parts : List Component} {body : Lines} → BodyC depth own parts body → list_all is_property own ≡ true
 own_properties nothing = refl
 own_properties (property {lines = own} line p b) = all_both is_property own (line ∷ []) (own_properties b) (all_more is_property line [] p refl)
-own_properties (component part begin end inner o e b rest) = own_properties rest
+own_properties (component part begin end inner v o e b rest) = own_properties rest
 
 own_from : (depth : ℕ) (done rest : Lines) → BodyC depth done [] done → list_all is_property rest ≡ true → BodyC depth (done ++ rest) [] (done ++ rest)
 own_from depth done [] b h = subst (λ (ls : Lines). BodyC depth ls [] ls) (sym (append-nil done)) b
@@ -131,10 +131,10 @@ own_from depth done (x ∷ xs) b h =
 in_order : {depth : ℕ} {own : Lines} {parts : List Component} {body : Lines} → BodyC depth own parts body → (lines : Lines) → list_all is_property lines ≡ true → BodyC depth lines parts (lines ++ all_written parts)
 in_order {depth = depth} nothing lines h = subst (λ (ls : Lines). BodyC depth lines [] ls) (sym (append-nil lines)) (own_from depth [] lines nothing h)
 in_order (property line p b) lines h = in_order b lines h
-in_order (component {depth = d} {parts = ps} part begin end inner o e b rest) lines h =
+in_order (component {depth = d} {parts = ps} part begin end inner v o e b rest) lines h =
     let inside = component_lines part ++ all_written (component_children part) in
     let order : (lines ++ all_written ps) ++ begin_of part ∷ (inside ++ end_of part ∷ []) ≡ lines ++ all_written (ps ++ part ∷ []) = append_assoc lines (all_written ps) (begin_of part ∷ (inside ++ end_of part ∷ [])) ∙ ap (λ z. lines ++ z) (ap (λ z. all_written ps ++ z) (sym (written_out part)) ∙ sym (pushed ps part)) in
-    subst (λ (ls : Lines). BodyC (suc d) lines (ps ++ part ∷ []) ls) order (component part (begin_of part) (end_of part) inside (opens_begin part) (closes_end part) (in_order b (component_lines part) (own_properties b)) (in_order rest lines h))
+    subst (λ (ls : Lines). BodyC (suc d) lines (ps ++ part ∷ []) ls) order (component part (begin_of part) (end_of part) inside v (opens_begin part) (closes_end part) (in_order b (component_lines part) (own_properties b)) (in_order rest lines h))
 
 written_spells : (depth : ℕ) (c : Component) (lines : Lines) → SpellsOf depth c lines → SpellsOf depth c (written_lines c)
 written_spells depth c lines s = record {

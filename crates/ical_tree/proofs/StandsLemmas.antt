@@ -1,27 +1,37 @@
 -- Which faults stand in the lines so far.
 use Rattle.std.proofs.Common.{◌≡◌, inl, inr, ℕ, ◌+◌, ◌-◌, ◌<◌, ◌≤◌, arith, Bool, true, false, not, ◌&&◌, ◌||◌, eqb, Option, None, Some, is_some, List, [], ◌∷◌, ◌++◌, length, reverse, refl, ap, sym, subst, ◌∙◌}
-use Rattle.std.proofs.lemmas.List.{append_assoc, append-nil, nil_from_length, length-map}
+use Rattle.std.proofs.lemmas.Bool.{lt-leb}
+use Rattle.std.proofs.lemmas.List.{append_assoc, append-nil, length-map, length-reverse}
 use Rattle.profile.specs.First.{is_number, comes_after}
 use Rattle.profile.specs.Lines.{logical_lines}
-use Rattle.profile.specs.Objects.{Opens, is_none, now_open, opened_from, opened, misplaced, fits, some_misplaced, all_fit, lines_have}
+use Rattle.profile.specs.Objects.{Opens, is_none, now_open, opened_from, opened, is_calendar_name, may_begin, misplaced, misplaced_begin, fits, some_misplaced, all_fit, lines_have}
+use Rattle.ical_lines.proofs.BreakLemmas.{was_false}
 use Rattle.ical_lines.specs.Fault.{RefusesOnly}
 use Rattle.ical_lines.specs.declared.fault.Fault.{Fault}
 use Rattle.ical_lines.specs.declared.fault.Fault.TheVariants.{Refused, Memory}
 use Rattle.ical_tree.specs.declared.component.Component.{Component}
 use Rattle.ical_tree.specs.Tree.{component_name}
-use Rattle.ical_tree.specs.Reading.{Built, Stands, SpellsOf, IsCalendar, IsOuter, names_of}
+use Rattle.ical_tree.specs.Reading.{Built, Stands, SpellsOf, IsCalendar, names_of}
+use Rattle.ical_tree.proofs.BuiltLemmas.{outermost}
 use Rattle.ical_tree.proofs.PairLemmas.{or_none, opened-append, any_misplaced, after, after_first, none-append, all_fit_from, found_later, now_begin, fine_begin, fine_first, stays_whole, stays, fine_whole, fine}
 
--- ---- BEGIN of an outermost component
+-- ---- BEGIN of a component that may not begin here
 
-pub outermost : (closed : Option Component) (same : Bool) → (same && not (is_some closed)) ≡ true → (closed ≡ None) × (same ≡ true)
-outermost None true h = (refl, refl)
-outermost None false h = cc
-outermost (Some c) true h = cc
-outermost (Some c) false h = cc
+is_none-length : (names : List (List ℕ)) → is_none names ≡ eqb (length names) 0
+is_none-length [] = refl
+is_none-length (name ∷ names) = refl
 
-pub outside : (items : List Component) (b : Bool) → length items ≡ 0 → b ≡ false → (is_none (names_of (reverse items)) && not b) ≡ true
-outside items b e h = ap (λ xs. is_none (names_of (reverse xs)) && not b) (nil_from_length items e) ∙ ap not h
+names-length : (items : List Component) → length (names_of (reverse items)) ≡ length items
+names-length items = length-map (reverse items) component_name ∙ length-reverse items
+
+pub outside : (items : List Component) → is_none (names_of (reverse items)) ≡ eqb (length items) 0
+outside items = is_none-length (names_of (reverse items)) ∙ ap (λ n. eqb n 0) (names-length items)
+
+pub stray : (items : List Component) (started : Bool) (name : List ℕ) → length items < 8 → may_begin (names_of (reverse items)) started name ≡ false → misplaced_begin 23 (names_of (reverse items)) started name ≡ true
+stray items started name l h =
+    let stack = names_of (reverse items) in
+    let room : length stack < 8 = omega (arith, names-length items) in
+    ap (λ b. not b && not (may_begin stack started name)) (lt-leb 8 (length stack) room) ∙ ap not h
 
 -- ---- a line more
 
@@ -46,12 +56,12 @@ built_opened (c ∷ around) closed done b =
     ∙ (ap (λ s. opened_from s o.body) (now_begin (names_of around) o.begin (component_name c) o.opens)
     ∙ stays o.holds (component_name c ∷ names_of around))))
 
-begin_fits : (n : ℕ) (c : Component) (around : List Component) (closed : Option Component) (before : List (List ℕ)) (begin : List ℕ) → Opens begin (component_name c) → length around ≤ 7 → IsOuter c around closed → Built around closed before → misplaced n (names_of around) (after false before) begin ≡ false
-begin_fits n c [] None before begin o l h b = ap (λ ls. misplaced n [] (after false ls) begin) b ∙ fine_first n begin (component_name c) o h.1
-begin_fits n c [] (Some d) before begin o l h b = let e = h.0 in cc
+begin_fits : (n : ℕ) (c : Component) (around : List Component) (closed : Option Component) (before : List (List ℕ)) (begin : List ℕ) → Opens begin (component_name c) → length around ≤ 7 → may_begin (names_of around) (is_some closed) (component_name c) ≡ true → Built around closed before → misplaced n (names_of around) (after false before) begin ≡ false
+begin_fits n c [] None before begin o l h b = ap (λ ls. misplaced n [] (after false ls) begin) b ∙ fine_first n begin (component_name c) o (outermost None (is_calendar_name (component_name c)) h).1
+begin_fits n c [] (Some d) before begin o l h b = let e = (outermost (Some d) (is_calendar_name (component_name c)) h).0 in cc
 begin_fits n c (x ∷ xs) closed before begin o l h b =
     let m : length (names_of xs) < 7 = omega (arith, length-map xs component_name) in
-    fine_begin n (component_name x) (names_of xs) (after false before) begin (component_name c) o m
+    fine_begin n (component_name x) (names_of xs) (after false before) begin (component_name c) (was_false (is_calendar_name (component_name c)) h) o m
 
 built_none : (n : ℕ) (cs : List Component) (closed : Option Component) (done : List (List ℕ)) → Built cs closed done → any_misplaced n [] false done ≡ false
 built_none n [] None done b = ap (any_misplaced n [] false) b

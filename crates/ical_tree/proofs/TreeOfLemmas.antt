@@ -3,7 +3,7 @@ use Rattle.std.proofs.Common.{◌≡◌, ℕ, ◌+◌, suc, Bool, nat_lt, ◌&&�
 use Rattle.std.specs.Prelude.{count_by}
 use Rattle.std.proofs.lemmas.List.{map-append}
 use Rattle.profile.specs.Lines.{is_same_name}
-use Rattle.profile.specs.Objects.{Body, nothing, property, component, Opens, Closes, Spells, IsObject, has_version, count_inside}
+use Rattle.profile.specs.Objects.{Body, nothing, property, component, is_calendar_name, Opens, Closes, Spells, IsObject, has_version, count_inside}
 use Rattle.profile.specs.Trees.{Tree, tree, trees_list, tree_name, tree_own, tree_inside}
 use Rattle.ical_tree.specs.declared.component.Component.{Component}
 use Rattle.ical_tree.specs.declared.component.Component.TheFolds.{fold_out-Component}
@@ -45,9 +45,9 @@ holds_tree depth c body b =
 body_tree : {depth : ℕ} {own : Lines} {parts : List Component} {body : Lines} → Body component_name component_lines component_children depth own parts body → BodyT depth own (map tree_of parts) body
 body_tree nothing = nothing
 body_tree (property line h b) = property line h (body_tree b)
-body_tree (component {depth = d} {lines = own} {parts = ps} {body = body} part begin end inner o e b rest) =
+body_tree (component {depth = d} {lines = own} {parts = ps} {body = body} part begin end inner v o e b rest) =
     subst (λ (ts : List Tree). BodyT (suc d) own ts (body ++ begin ∷ (inner ++ end ∷ []))) (sym (map-append tree_of ps (part ∷ [])))
-    (component (tree_of part) begin end inner (opens_tree begin part o) (closes_tree end part e) (holds_tree d part inner (body_tree b)) (body_tree rest))
+    (component (tree_of part) begin end inner (ap is_calendar_name (tree_of-name part) ∙ v) (opens_tree begin part o) (closes_tree end part e) (holds_tree d part inner (body_tree b)) (body_tree rest))
 
 pub spells_tree : (depth : ℕ) (c : Component) (lines : Lines) → SpellsOf depth c lines → Spells tree_name tree_own tree_inside depth (tree_of c) lines
 spells_tree depth c lines s = record {
@@ -65,7 +65,7 @@ counted kind [] n = refl
 counted kind (c ∷ cs) n =
     counted kind cs (n + cond (is_same_name (tree_name (tree_of c)) kind) 1 0) ∙ ap (λ x. fold (λ (a : ℕ) (d : Component). a + cond (is_same_name (component_name d) kind) 1 0) (n + cond (is_same_name x kind) 1 0) cs) (tree_of-name c)
 
-count_tree : (kind : List ℕ) (c : Component) → count_inside tree_name tree_own tree_inside kind (tree_of c) ≡ count_inside component_name component_lines component_children kind c
+pub count_tree : (kind : List ℕ) (c : Component) → count_inside tree_name tree_own tree_inside kind (tree_of c) ≡ count_inside component_name component_lines component_children kind c
 count_tree kind c =
     ap (λ (ts : List Tree). count_by (λ t. is_same_name (tree_name t) kind) ts) (tree_of-inside c) ∙ counted kind (component_children c) 0
 
@@ -73,7 +73,7 @@ count_tree kind c =
 pub object_tree : (bounded : Bool) (c : Component) (lines : Lines) → IsObjectOf bounded c lines → IsObject tree_name tree_own tree_inside bounded (tree_of c) lines
 object_tree bounded c lines object = record {
   spelled = spells_tree 7 c lines object.spelled;
-  calendar = ap (λ n. is_same_name n (codes "VCALENDAR")) (tree_of-name c) ∙ object.calendar;
+  calendar = ap is_calendar_name (tree_of-name c) ∙ object.calendar;
   version = ap has_version (tree_of-own c) ∙ object.version;
   events = ap (λ n. bounded && nat_lt 200 n) (count_tree (codes "VEVENT") c) ∙ object.events;
 }

@@ -1,7 +1,7 @@
 -- What the lines so far have spelled.
-use Rattle.std.specs.Prelude.{◌≡◌, ◌⊎◌, ◌&&◌, ◌||◌, ◌==◌, ℕ, ◌-◌, ◌≤◌, Bool, true, not, nat_lt, map, IsTrue, List, [], ◌∷◌, ◌++◌, Option, None, Some, length, codes}
-use Rattle.profile.specs.Lines.{is_same_name, logical_lines, text_has}
-use Rattle.profile.specs.Objects.{Body, Spells, Opens, has_version, count_inside, lines_have}
+use Rattle.std.specs.Prelude.{◌≡◌, ◌⊎◌, ◌&&◌, ◌||◌, ◌==◌, ℕ, ◌-◌, ◌≤◌, Bool, true, not, nat_lt, map, IsTrue, List, [], ◌∷◌, ◌++◌, Option, None, Some, is_some, length, codes}
+use Rattle.profile.specs.Lines.{logical_lines, text_has}
+use Rattle.profile.specs.Objects.{Body, Spells, Opens, is_calendar_name, may_begin, has_version, count_inside, lines_have}
 use Rattle.ical_lines.specs.declared.fault.Fault.{Fault}
 use Rattle.ical_lines.specs.declared.fault.Fault.TheVariants.{Refused, Memory}
 use Rattle.ical_tree.specs.declared.component.Component.{Component}
@@ -14,12 +14,11 @@ abbrev pub SpellsOf : ℕ → Component → List (List ℕ) → Type 0
 SpellsOf depth c lines = Spells component_name component_lines component_children depth c lines
 
 abbrev pub IsCalendar : Component → Type 0
-IsCalendar c = is_same_name (component_name c) (codes "VCALENDAR") ≡ true
+IsCalendar c = is_calendar_name (component_name c) ≡ true
 
--- the outermost open component is a VCALENDAR, and nothing stands before it
-abbrev pub IsOuter : Component → List Component → Option Component → Type 0
-IsOuter c [] closed = (closed ≡ None) × IsCalendar c
-IsOuter c (_ ∷ _) closed = Unit {0}
+-- the names of the open components, from the innermost on
+abbrev pub names_of : List Component → List (List ℕ)
+names_of cs = map component_name cs
 
 -- the lines of an open component, after those of the components around it
 pub record OpenLines (c : Component) (depth : ℕ) (before done : List (List ℕ)) : Type 0 where
@@ -34,16 +33,12 @@ abbrev pub Built : List Component → Option Component → List (List ℕ) → T
 Built [] None done = done ≡ []
 Built [] (Some c) done = SpellsOf 7 c done × IsCalendar c
 Built (c ∷ around) closed done =
-    (before : List (List ℕ)) × OpenLines c (7 - length around) before done × Built around closed before × (length around ≤ 7) × IsOuter c around closed
-
--- the names of the open components, from the innermost on
-abbrev pub names_of : List Component → List (List ℕ)
-names_of cs = map component_name cs
+    (before : List (List ℕ)) × OpenLines c (7 - length around) before done × Built around closed before × (length around ≤ 7) × IsTrue (may_begin (names_of around) (is_some closed) (component_name c))
 
 -- the fault of this number stands in a VCALENDAR that the lines spell: 24, or 25 where 24 doesn't
 abbrev pub calendar_has : Bool → ℕ → Component → Bool
 calendar_has bounded number c =
-    is_same_name (component_name c) (codes "VCALENDAR")
+    is_calendar_name (component_name c)
     && ((number == 24 && not (has_version (component_lines c))) || (number == 25 && (bounded && nat_lt 200 (count_inside component_name component_lines component_children (codes "VEVENT") c) && has_version (component_lines c))))
 
 -- the fault of this number stands in the octets: in the lines, in how they pair up, or in the object that they spell

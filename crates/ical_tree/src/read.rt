@@ -25,8 +25,8 @@ ghost use Rattle.std.specs.Prelude.{
 };
 ghost use Rattle.profile.specs.Faults.{is_object_fault};
 ghost use Rattle.profile.specs.First.{text_fault, comes_after};
-ghost use Rattle.profile.specs.Lines.{logical_lines, line_value, is_same_name, reads_as_lines};
-ghost use Rattle.profile.specs.Objects.{is_end, is_property, has_version, count_inside, Opens, is_none, now_open, misplaced, misplaced_begin, misplaced_end, misplaced_property};
+ghost use Rattle.profile.specs.Lines.{logical_lines, line_value, reads_as_lines};
+ghost use Rattle.profile.specs.Objects.{is_end, is_property, is_calendar_name, has_version, count_inside, may_begin, Opens, is_none, now_open, misplaced, misplaced_begin, misplaced_end, misplaced_property};
 ghost use Rattle.ical_lines.specs.Fault.{RefusesOnly};
 ghost use Rattle.ical_lines.specs.Limits.{is_bounded};
 ghost use Rattle.ical_lines.specs.Text.{line_text};
@@ -47,9 +47,9 @@ const MAX_EVENTS: usize = 200;
 ///
 /// It refuses first what `Unfolded::read` refuses (1 to 6). Then, in text order: an END with nothing open or of
 /// another name than the open component (20), a component more than 8 deep (22), a property or a component outside
-/// the one VCALENDAR (23). Then, at the end: a component that is still open (21), no VCALENDAR at all (23), a
-/// VERSION of VCALENDAR that is missing, stands twice or isn't `2.0` (24), and for `Limits::Message` more than
-/// 200 VEVENTs directly inside VCALENDAR (25).
+/// the one VCALENDAR, or a VCALENDAR inside a component (23). Then, at the end: a component that is still open (21),
+/// no VCALENDAR at all (23), a VERSION of VCALENDAR that is missing, stands twice or isn't `2.0` (24), and for
+/// `Limits::Message` more than 200 VEVENTs directly inside VCALENDAR (25).
 pub fn read_object(alloc: Global, bytes: &[u8], limits: Limits) -> Result<Component, Fault>
     ensures spelled { IfOk result (λ c. IsObjectOf (is_bounded limits) c (logical_lines bytes.now)) }
     ensures reads { OnOk result (reads_as_lines (is_bounded limits) bytes.now ≡ true) }
@@ -116,15 +116,33 @@ impl Reader {
         ensures stands { IfErr result (RefusesOnly (λ n. misplaced_begin n (names_of (reverse self.old.open.items)) (is_some self.old.closed) name.now)) }
         ensures refuses { IfErr result (RefusesOnly is_object_fault) }
     {
-        if self.open.is_empty() && !may_be_outermost(&self.closed, name) {
-            return Err(Fault::Refused(Refusal::NOT_ONE_CALENDAR));
-        }
         if self.open.len() >= MAX_DEPTH {
             return Err(Fault::Refused(Refusal::TOO_DEEP));
+        }
+        if !self.may_begin(name) {
+            return Err(Fault::Refused(Refusal::NOT_ONE_CALENDAR));
         }
         let component = Component::new(alloc, name)?;
         self.open.push(component)?;
         Ok(())
+    }
+
+    /// Whether a component of this name may begin here: a VCALENDAR first of all, any other inside another.
+    fn may_begin(&self, name: &str) -> bool
+        ensures { result ≡ may_begin (names_of (reverse self.now.open.items)) (is_some self.now.closed) name.now }
+    {
+        if self.is_outside() {
+            is_calendar(name) && self.closed.is_none()
+        } else {
+            !is_calendar(name)
+        }
+    }
+
+    /// Whether no component is open.
+    fn is_outside(&self) -> bool
+        ensures { result ≡ is_none (names_of (reverse self.now.open.items)) }
+    {
+        self.open.is_empty()
     }
 
     /// Closes the innermost component.
@@ -187,11 +205,11 @@ impl Reader {
     }
 }
 
-/// Whether a component of this name may stand alone: it is the first VCALENDAR.
-fn may_be_outermost(closed: &Option<Component>, name: &str) -> bool
-    ensures { result ≡ (is_same_name name.now (codes "VCALENDAR") && not (is_some closed.now)) }
+/// Whether this is the name of the outermost component, whatever its case.
+fn is_calendar(name: &str) -> bool
+    ensures { result ≡ is_calendar_name name.now }
 {
-    name.eq_ignore_ascii_case("VCALENDAR") && closed.is_none()
+    name.eq_ignore_ascii_case("VCALENDAR")
 }
 
 /// Judges a VCALENDAR as a whole: its VERSION, and how many VEVENTs it has.

@@ -64,7 +64,7 @@ parts_more depth own parts body [] b h =
     subst (λ (l : List Tree). BodyT (suc depth) own l (body ++ [])) (sym (append-nil parts)) (subst (λ (l : Lines). BodyT (suc depth) own parts l) (sym (append-nil body)) b)
 parts_more depth own parts body (v ∷ owns) b h =
     let both = and_parts (list_all is_property v) (list_all (list_all is_property) owns) h in
-    let here : BodyT (suc depth) own (parts ++ vevent_tree v ∷ []) (body ++ vevent_lines v) = component (vevent_tree v) (codes "BEGIN:VEVENT") (codes "END:VEVENT") v opens closes (own_body depth v both.0) b in
+    let here : BodyT (suc depth) own (parts ++ vevent_tree v ∷ []) (body ++ vevent_lines v) = component (vevent_tree v) (codes "BEGIN:VEVENT") (codes "END:VEVENT") v refl opens closes (own_body depth v both.0) b in
     let all = parts_more depth own (parts ++ vevent_tree v ∷ []) (body ++ vevent_lines v) owns here both.1 in
     subst (λ (l : List Tree). BodyT (suc depth) own l (body ++ flat_map vevent_lines (v ∷ owns))) (append_assoc parts (vevent_tree v ∷ []) (trees_list (vevent_trees owns)))
     (subst (λ (l : Lines). BodyT (suc depth) own ((parts ++ vevent_tree v ∷ []) ++ trees_list (vevent_trees owns)) l) (append_assoc body (vevent_lines v) (flat_map vevent_lines owns)) all)

@@ -59,10 +59,18 @@ abbrev pub closes_innermost : List (List ℕ) → List ℕ → Bool
 closes_innermost [] name = false
 closes_innermost (innermost ∷ _) name = is_same_name innermost name
 
--- 22: a ninth component inside the others; 23: a component outside that isn't the first, a VCALENDAR
+-- the name of the outermost component, whatever its case
+abbrev pub is_calendar_name : List ℕ → Bool
+is_calendar_name name = is_same_name name (codes "VCALENDAR")
+
+-- a VCALENDAR may begin first of all, and nowhere else; every other component inside another
+abbrev pub may_begin : List (List ℕ) → Bool → List ℕ → Bool
+may_begin stack started name = if is_none stack then is_calendar_name name && not started else not (is_calendar_name name)
+
+-- 22: a ninth component inside the others; 23: fewer are open, and this one may not begin here
 abbrev pub misplaced_begin : ℕ → List (List ℕ) → Bool → List ℕ → Bool
 misplaced_begin number stack started name =
-    (number == 22 && nat_le 8 (length stack)) || (number == 23 && (is_none stack && not (is_same_name name (codes "VCALENDAR") && not started)))
+    (number == 22 && nat_le 8 (length stack)) || (number == 23 && (not (nat_le 8 (length stack)) && not (may_begin stack started name)))
 
 -- 20: an END with nothing open, or of another name than the innermost open component
 abbrev pub misplaced_end : ℕ → List (List ℕ) → List ℕ → Bool
@@ -99,11 +107,12 @@ lines_have number lines =
     some_misplaced number [] false lines || (number == 21 && (all_fit [] false lines && not (is_none (opened lines)))) || (number == 23 && is_none lines)
 
 module _ {T : Type 0} (name : T → List ℕ) (own : T → List (List ℕ)) (inside : T → List T) where
-  -- `body` spells these properties and these components, each in their order, with components at most `depth` deep
+  -- `body` spells these properties and these components, each in their order, with components at most `depth` deep and none
+  -- of them a VCALENDAR
   pub data Body : ℕ → List (List ℕ) → List T → List (List ℕ) → Type 0 where
     nothing : {depth : ℕ} → Body depth [] [] []
     property : {depth : ℕ} {lines : List (List ℕ)} {parts : List T} {body : List (List ℕ)} (line : List ℕ) → is_property line ≡ true → Body depth lines parts body → Body depth (lines ++ line ∷ []) parts (body ++ line ∷ [])
-    component : {depth : ℕ} {lines : List (List ℕ)} {parts : List T} {body : List (List ℕ)} (part : T) (begin end : List ℕ) (inner : List (List ℕ)) → Opens begin (name part) → Closes end (name part) → Body depth (own part) (inside part) inner → Body (suc depth) lines parts body → Body (suc depth) lines (parts ++ part ∷ []) (body ++ begin ∷ (inner ++ end ∷ []))
+    component : {depth : ℕ} {lines : List (List ℕ)} {parts : List T} {body : List (List ℕ)} (part : T) (begin end : List ℕ) (inner : List (List ℕ)) → is_calendar_name (name part) ≡ false → Opens begin (name part) → Closes end (name part) → Body depth (own part) (inside part) inner → Body (suc depth) lines parts body → Body (suc depth) lines (parts ++ part ∷ []) (body ++ begin ∷ (inner ++ end ∷ []))
 
   -- the lines spell the component: its BEGIN, its body, its END
   pub record Spells (depth : ℕ) (whole : T) (lines : List (List ℕ)) : Type 0 where
@@ -124,7 +133,7 @@ module _ {T : Type 0} (name : T → List ℕ) (own : T → List (List ℕ)) (ins
   -- profile's choice
   pub record IsObject (bounded : Bool) (whole : T) (lines : List (List ℕ)) : Type 0 where
     pub spelled : Spells 7 whole lines
-    pub calendar : is_same_name (name whole) (codes "VCALENDAR") ≡ true
+    pub calendar : is_calendar_name (name whole) ≡ true
     pub version : has_version (own whole) ≡ true
     pub events : (bounded && nat_lt 200 (count_inside (codes "VEVENT") whole)) ≡ false
 

@@ -135,7 +135,7 @@ holds_component own parts body part begin end inner i h = record {
 holds : {depth : ℕ} {own : Lines} {parts : List Tree} {body : Lines} → Body tree_name tree_own tree_inside depth own parts body → Holds own parts body
 holds nothing = holds_none
 holds (property {lines = own} {parts = parts} {body = body} line p b) = holds_property own parts body line (holds b)
-holds (component {lines = own} {parts = parts} {body = body} part begin end inner o e b rest) = holds_component own parts body part begin end inner (holds b).of_own (holds rest)
+holds (component {lines = own} {parts = parts} {body = body} part begin end inner v o e b rest) = holds_component own parts body part begin end inner (holds b).of_own (holds rest)
 
 -- the lines of a VEVENT are among the lines of its object
 pub vevent_among : (bounded : Bool) (whole : Tree) (lines own : Lines) → IsObject tree_name tree_own tree_inside bounded whole lines → Contains (vevents whole) own → HasLine lines own

@@ -1,72 +1,24 @@
 -- A fault that stands in what was read of an object stands in the object.
-use Rattle.std.proofs.Common.{◌≡◌, inl, inr, ℕ, ◌+◌, ◌<◌, ◌≤◌, Bool, true, false, not, ◌&&◌, ◌||◌, ◌==◌, nat_lt, cond, fold, List, [], ◌∷◌, ◌++◌, length, codes, refl, sym, ap, subst, ◌∙◌, arith, take_all, length-take}
-use Rattle.std.specs.Prelude.{count_by}
-use Rattle.std.specs.List.{AllZip}
+use Rattle.std.proofs.Common.{◌≡◌, inl, inr, ℕ, ◌<◌, ◌≤◌, Bool, true, false, not, ◌&&◌, ◌||◌, ◌==◌, nat_lt, List, length, codes, refl, sym, ap, subst, ◌∙◌, arith, take_all, length-take}
+use Rattle.std.proofs.lemmas.Bool.{not-true}
 use Rattle.std.proofs.lemmas.Bool.Decides.{nat_tests}
 use Rattle.ical_lines.specs.declared.fault.Fault.{Fault}
 use Rattle.ical_lines.specs.declared.fault.Fault.TheVariants.{Refused, Memory}
-use Rattle.ical_tree.specs.Tree.{component_name, component_lines, component_children}
+use Rattle.ical_tree.proofs.TreeOfLemmas.{tree_of-own, spells_tree, count_tree}
+use Rattle.ical_tree.specs.Tree.{component_name, component_lines, component_children, tree_of}
 use Rattle.ical_tree.specs.Reading.{SpellsOf, calendar_has, ObjectHas}
 use Rattle.ical_tree.specs.declared.component.Component.{Component}
 use Rattle.cal_events.specs.Events.{StandsIn}
 use Rattle.itip_messages.specs.Messages.{ReadFault}
-use Rattle.profile.specs.Lines.{is_same_name, logical_lines, text_has}
-use Rattle.profile.specs.Objects.{Body, nothing, property, component, Spells, count_inside, has_version}
-use Rattle.profile.specs.Trees.{Tree, Trees, tree, none, more, trees_list, tree_name, tree_own, tree_inside}
+use Rattle.profile.specs.Lines.{logical_lines, text_has}
+use Rattle.profile.specs.Objects.{is_calendar_name, count_inside, has_version}
 use Rattle.profile.specs.Streams.{TreeFault, ObjectFault}
 use Rattle.sched_box.specs.Objects.{kept_of}
 
--- ---- a component as a tree
+-- ---- what a tree has
 
 abbrev Lines : Type 0
 Lines = List (List ℕ)
-
-forest : List Tree → Trees
-forest [] = none
-forest (t ∷ ts) = more t (forest ts)
-
-forest_back : (ts : List Tree) → trees_list (forest ts) ≡ ts
-unfolding forest
-forest_back [] = refl
-forest_back (t ∷ ts) = ap (λ l. t ∷ l) (forest_back ts)
-
-abbrev SameName : Component → Tree → Type 0
-SameName c t = tree_name t ≡ component_name c
-
-abbrev BodyT : ℕ → Lines → List Tree → Lines → Type 0
-BodyT = Body tree_name tree_own tree_inside
-
-body_trees : {depth : ℕ} {own : Lines} {parts : List Component} {body : Lines} → Body component_name component_lines component_children depth own parts body
-    → (ts : List Tree) × BodyT depth own ts body × AllZip SameName parts ts
-body_trees nothing = ([], nothing, tt)
-body_trees (property line h b) = let r = body_trees b in (r.0, property line h r.1, r.2)
-body_trees (component {depth = d} {parts = ps} part begin end inner o e b rest) =
-    let i = body_trees b in
-    let r = body_trees rest in
-    let t : Tree = tree (component_name part) (component_lines part) (forest i.0) in (
-      r.0 ++ t ∷ [],
-      component t begin end inner o e (subst (λ (ts : List Tree). BodyT d (component_lines part) ts inner) (sym (forest_back i.0)) i.1) r.1,
-      push ps r.0 part t r.2 refl,
-    )
-  where
-    push : (ps : List Component) (ts : List Tree) (p : Component) (t : Tree) → AllZip SameName ps ts → SameName p t → AllZip SameName (ps ++ p ∷ []) (ts ++ t ∷ [])
-    push [] [] p t z s = (s, tt)
-    push [] (u ∷ us) p t z s = absurd z
-    push (q ∷ qs) [] p t z s = absurd z
-    push (q ∷ qs) (u ∷ us) p t z s = (z.0, push qs us p t z.1 s)
-
-counted : (kind : List ℕ) (ps : List Component) (ts : List Tree) (n : ℕ) → AllZip SameName ps ts
-    → fold (λ (a : ℕ) (t : Tree). a + cond (is_same_name (tree_name t) kind) 1 0) n ts ≡ fold (λ (a : ℕ) (c : Component). a + cond (is_same_name (component_name c) kind) 1 0) n ps
-counted kind [] [] n z = refl
-counted kind [] (t ∷ ts) n z = absurd z
-counted kind (p ∷ ps) [] n z = absurd z
-counted kind (p ∷ ps) (t ∷ ts) n z =
-    ap (λ x. fold (λ (a : ℕ) (u : Tree). a + cond (is_same_name (tree_name u) kind) 1 0) (n + cond (is_same_name x kind) 1 0) ts) z.0
-    ∙ counted kind ps ts (n + cond (is_same_name (component_name p) kind) 1 0) z.1
-
-not_true : (b : Bool) → not b ≡ true → b ≡ false
-not_true true e = sym e
-not_true false e = refl
 
 -- 25 is told only where 24 doesn't stand
 weaker : (k a b d v : Bool) → (k && (a || (b && (d && v)))) ≡ true → (a || (b && d)) ≡ true
@@ -79,42 +31,20 @@ weaker true false true true v h = refl
 tree_fault : (n : ℕ) (lines : Lines) (c : Component) → SpellsOf 7 c lines → calendar_has true n c ≡ true → TreeFault n lines
 tree_fault n lines c s h =
     at ((n == 24) && not (has_version (component_lines c))) ((n == 25) && nat_lt 200 count) refl refl
-    (weaker (is_same_name (component_name c) (codes "VCALENDAR")) ((n == 24) && not (has_version (component_lines c))) (n == 25) (nat_lt 200 count) (has_version (component_lines c)) h)
+    (weaker (is_calendar_name (component_name c)) ((n == 24) && not (has_version (component_lines c))) (n == 25) (nat_lt 200 count) (has_version (component_lines c)) h)
   where
     count : ℕ
     count = count_inside component_name component_lines component_children (codes "VEVENT") c
-
-    made : (ts : List Tree) × BodyT 7 (component_lines c) ts s.body × AllZip SameName (component_children c) ts
-    made = body_trees s.holds
-
-    t : Tree
-    t = tree (component_name c) (component_lines c) (forest made.0)
-
-    spelled : Spells tree_name tree_own tree_inside 7 t lines
-    spelled = record {
-      begin = s.begin;
-      end = s.end;
-      body = s.body;
-      are = s.are;
-      opens = s.opens;
-      closes = s.closes;
-      holds = subst (λ (ts : List Tree). BodyT 7 (component_lines c) ts s.body) (sym (forest_back made.0)) made.1;
-    }
-
-    same_count : count_inside tree_name tree_own tree_inside (codes "VEVENT") t ≡ count
-    same_count =
-        ap (λ (ts : List Tree). count_by (λ u. is_same_name (tree_name u) (codes "VEVENT")) ts) (forest_back made.0)
-        ∙ counted (codes "VEVENT") (component_children c) made.0 0 made.2
 
     at : (a b : Bool) → ((n == 24) && not (has_version (component_lines c))) ≡ a → ((n == 25) && nat_lt 200 count) ≡ b → (a || b) ≡ true → TreeFault n lines
     at true b e f g =
         let v : not (has_version (component_lines c)) ≡ true = grind (arith, nat_tests) in
         let is : n ≡ 24 = grind (arith, nat_tests) in
-        (t, spelled, inl (is, not_true (has_version (component_lines c)) v))
+        (tree_of c, spells_tree 7 c lines s, inl (is, ap has_version (tree_of-own c) ∙ not-true (has_version (component_lines c)) v))
     at false true e f g =
         let many : 200 < count = grind (arith, nat_tests) in
         let is : n ≡ 25 = grind (arith, nat_tests) in
-        (t, spelled, inr (is, subst (λ k. 200 < k) (sym same_count) many))
+        (tree_of c, spells_tree 7 c lines s, inr (is, subst (λ k. 200 < k) (sym (count_tree (codes "VEVENT") c)) many))
     at false false e f g = absurd (cc)
 
 object_has : (n : ℕ) (octets : List ℕ) → ObjectHas true n octets → ObjectFault n octets
