@@ -1,11 +1,11 @@
 -- What the lines of a VEVENT say, worked by the definitions alone.
-use Rattle.std.proofs.Common.{◌≡◌, true, false, List, [], ◌∷◌, codes, inl, inr, refl, arith, ℕ, pos, sym}
+use Rattle.std.proofs.Common.{◌≡◌, true, false, List, [], ◌∷◌, ◌<◌, length, codes, inl, inr, refl, ap, arith, ℕ, pos, sym}
 use Rattle.std.specs.Prelude.{Some, None}
 use Rattle.std.proofs.lemmas.Bool.{true≢false}
 use Rattle.std.proofs.lemmas.Int.{ints}
 use Rattle.profile.specs.Days.{days_before_year, days_of_months}
 use Rattle.profile.specs.Values.{SpellsStamp, SpellsDuration, unescaped}
-use Rattle.profile.specs.Events.{Event, Accepted, Declined, SaysEvent, EventFault, confirmed, has_unread, no_organiser}
+use Rattle.profile.specs.Events.{Event, Accepted, Declined, IsDateText, TimeFault, SaysEvent, EventFault, confirmed, has_unread, no_organiser}
 
 -- 2025-03-10T09:00:00Z is 1,741,597,200
 nine : SpellsStamp (codes "20250310T090000Z") (pos 1_741_597_200)
@@ -96,6 +96,29 @@ books = refl
 lacks : EventFault true lines 63
 unfolding lines
 lacks = no_organiser refl refl
+
+-- what is wrong with a start: VALUE decides first, then the text
+a_period : TimeFault (codes "DTSTART;VALUE=Period:20250310T090000Z/PT1H") 56
+a_period = refl
+
+another_word : TimeFault (codes "DTSTART;VALUE=TEXT:20250310T090000Z") 11
+another_word = refl
+
+tenth_of_march : IsDateText (codes "20250310")
+unfolding days_before_year days_of_months
+tenth_of_march = (pos 20_157, record { year = 2025; month = 3; day = 10; first = omega arith; last = omega arith; date = (omega arith, omega arith, omega arith, omega arith); spelled = refl; counted = refl })
+
+a_date : TimeFault (codes "DTSTART;VALUE=DATE:20250310") 55
+a_date = inl (tenth_of_march, refl)
+
+no_date : (text : List ℕ) → 8 < length text → IsDateText text → ⊥
+no_date text l d = let e : length text ≡ 8 = ap length d.1.spelled in absurd (omega arith)
+
+a_utc_time_as_a_date : TimeFault (codes "DTSTART;VALUE=DATE:20250310T090000Z") 10
+a_utc_time_as_a_date = inr (no_date (codes "20250310T090000Z") (omega arith), refl)
+
+a_floating_time_as_a_date : TimeFault (codes "DTSTART;VALUE=DATE:20250310T090000") 11
+a_floating_time_as_a_date = inr (no_date (codes "20250310T090000") (omega arith), refl)
 
 -- what isn't read yet
 unread : (has_unread (codes "DTSTART;TZID=Europe/Paris:20250310T090000" ∷ []) ≡ true) × (has_unread (codes "Rrule:FREQ=DAILY" ∷ []) ≡ true) × (has_unread lines ≡ false)

@@ -1,13 +1,15 @@
 -- What the readers of a VEVENT's properties say, put together.
-use Rattle.std.proofs.Common.{◌≡◌, ℕ, zero, suc, ◌+◌, ◌<◌, ◌≤◌, Bool, true, false, eqb, List, [], ◌∷◌, ◌++◌, ◌-◌, length, length-append, get_or, take, drop, drop-cons, add-one, append_assoc, cond, map, codes, subst, sym, refl, ap, ◌∙◌, inl, inr, arith, ℤ, pos, ◌+ℤ◌, ◌<ℤ◌}
-use Rattle.std.specs.Prelude.{Option, Some, None, Result, Ok, Err, IfOk, IfErr, OnOk, Contains, IsTrue, ◌⊎◌}
-use Rattle.std.specs.Bool.{OnTrue}
+use Rattle.std.proofs.Common.{◌≡◌, ℕ, zero, suc, ◌+◌, ◌<◌, ◌≤◌, Bool, true, false, not, eqb, List, [], ◌∷◌, ◌++◌, length, get_or, take, drop, drop-cons, add-one, append_assoc, cond, map, codes, subst, sym, refl, ap, ◌∙◌, inl, inr, arith, ℤ, pos, ◌+ℤ◌, ◌*ℤ◌, ◌<ℤ◌}
+use Rattle.std.specs.Prelude.{Option, Some, None, Result, Ok, Err, is_ok, IfOk, IfErr, OnOk, OnErr, Contains, IsTrue, ◌⊎◌, ◌↔◌}
+use Rattle.std.specs.Str.{IsUtf8, is_utf8, chars}
+use lib.Utf8.{encode}
+use Rattle.std.proofs.lemmas.Str.{IsUtf8-append, IsUtf8-from_is_utf8}
 use Rattle.std.specs.List.{AllZip, find}
 use Rattle.std.proofs.lemmas.List.{map-append}
 use Rattle.std.proofs.lemmas.List.Elements.{Contains-append_right}
 use Rattle.std.specs.Result.{IsErrAnd}
 use Rattle.std.proofs.lemmas.Bool.{true≢false}
-use Rattle.std.proofs.Math.Seq.{get_or-append_seam, take-append_seam}
+use Rattle.std.proofs.Math.Seq.{take-append_seam}
 use Rattle.std.proofs.lemmas.Bool.Decides.{nat_tests}
 use Rattle.std.proofs.lemmas.Int.{ints}
 use Rattle.ical_lines.specs.Fault.{RefusesOnly}
@@ -22,11 +24,9 @@ use Rattle.cal_events.specs.declared.component.Extent.{Extent}
 use Rattle.cal_events.specs.declared.component.Extent.TheVariants.{ToEnd, For}
 use Rattle.ical_values.specs.declared.duration.Duration.{Duration}
 use Rattle.profile.specs.Lines.{line_value}
-use Rattle.profile.specs.Values.{SpellsDate, SpellsSequence, SpellsDuration, SpellsNegative, SpellsLong, IsUid, unescaped}
-use Rattle.profile.specs.Events.{is_of, lines_named, StandsAtMostOnce, SomeLine, Says, SaysSequence, IsUidLine, IsTime, IsDate, IsLocal, IsNoStamp, ends_in_z, is_date_time, TimeFault, EventFault, IsNoDuration, IsNegativeOrLong, IsAttendee, IsNoAddress, SaysLength, IsLength, BothOrNeither, length_seconds, bad_duration, bad_attendee, lasts_long, ends_early, ends_late, starts_early}
-use Rattle.cal_events.specs.Events.{StandsIn, attendee_of, length_of, IsExtent, GivesLength, ExtentFault, TimesFault, ends_early as lies_before, ends_late as lies_late, lasts_long as is_long, in_extent, starts_early as lies_early, DateTimeFault, DateFault}
-use Rattle.cal_events.specs.Events.{no_stamp as spells_no_stamp, not_fixed as spells_not_fixed, no_time as spells_no_time, date, ending, no_date}
-use Rattle.profile.specs.Events.{no_stamp, not_fixed, no_time}
+use Rattle.profile.specs.Values.{SpellsDate, SpellsLocal, SpellsStamp, SpellsSequence, SpellsDuration, SpellsNegative, SpellsLong, IsUid, unescaped}
+use Rattle.profile.specs.Events.{is_of, lines_named, StandsAtMostOnce, SomeLine, Says, SaysSequence, IsUidLine, TimeKind, DateTime, kind_of, IsTime, IsDateText, IsLocalText, malformed_number, UnfixedOrMalformed, KindFault, TimeFault, EventFault, IsNoDuration, IsNegativeOrLong, IsAttendee, IsNoAddress, SaysLength, IsLength, BothOrNeither, length_seconds, bad_duration, bad_attendee, lasts_long, ends_early, ends_late, starts_early}
+use Rattle.cal_events.specs.Events.{StandsIn, attendee_of, length_of, IsExtent, GivesLength, ExtentFault, TimesFault, ends_early as lies_before, ends_late as lies_late, lasts_long as is_long, in_extent, starts_early as lies_early}
 
 -- ---- the exits of a `?`, by the error that it returns
 
@@ -92,51 +92,78 @@ start_said (Err e) lines line once h = tt
 
 -- ---- times
 
-pub fault_of_date_time : (line text : List ℕ) (n : ℕ) → text ≡ line_value line → DateTimeFault text n → TimeFault line n
-fault_of_date_time line text n e (spells_no_stamp z h) = no_stamp (ap ends_in_z (sym e) ∙ z) (inl (subst IsNoStamp e h))
-fault_of_date_time line text n e (spells_not_fixed h) = not_fixed (subst (λ (t : List ℕ). IsDate t ⊎ IsLocal t) e h)
-fault_of_date_time line text n e (spells_no_time h) = no_time (inl (subst IsNoStamp e h))
-
-pub fault_of_date : (line text : List ℕ) (n : ℕ) → text ≡ line_value line → is_date_time line ≡ false → DateFault text n → TimeFault line n
-fault_of_date line text n e k (date h) = not_fixed (inl (subst IsDate e h))
-fault_of_date line text n e k (ending z) = no_stamp (ap ends_in_z (sym e) ∙ z) (inr k)
-fault_of_date line text n e k no_date = no_time (inr k)
-
--- a stamp ends in `Z`
-last_push : (xs : List ℕ) (x : ℕ) → get_or (xs ++ x ∷ []) (length (xs ++ x ∷ []) - 1) 0 ≡ x
-last_push xs x =
-    let e : length (xs ++ x ∷ []) - 1 ≡ length xs = omega (arith, length-append xs (x ∷ [])) in
-    rw e (get_or-append_seam xs x [] 0)
-
-pub no_z : (text : List ℕ) → ends_in_z text ≡ false → IsNoStamp text
-no_z text e t h =
-    let z : ends_in_z text ≡ true = subst (λ (s : List ℕ). ends_in_z s ≡ true) (sym h.2) (ap (λ c. eqb c 90) (last_push h.0 90)) in
-    absurd (true≢false (sym z ∙ e))
+-- a text is a local time where it is read as one
+pub local_test : (r : Result ℤ Refusal) (text : List ℕ) (b : Bool) → b ≡ is_ok r → IfOk r (SpellsLocal text) → OnErr r ((t : ℤ) → SpellsLocal text t → ⊥) → ((b ≡ true) ↔ IsLocalText text)
+local_test (Ok t) text b e h none = (λ _. (t, h), λ _. e)
+local_test (Err x) text b e h none = (λ is. absurd (true≢false (sym is ∙ e)), λ l. absurd (none l.0 l.1))
 
 -- the texts of dates have eight octets
-date_length : (text : List ℕ) (number : ℤ) → SpellsDate text number → length text ≡ 8
-date_length text number d = ap length d.spelled
+date_length : (text : List ℕ) → IsDateText text → length text ≡ 8
+date_length text (number, d) = ap length d.spelled
 
-take_front : (xs ys : List ℕ) (n : ℕ) → length xs ≡ n → take n (xs ++ ys) ≡ xs
-take_front xs ys n e = subst (λ k. take k (xs ++ ys) ≡ xs) e (take-append_seam xs ys)
+pub no_date_by : (text : List ℕ) (eight : Bool) → eight ≡ not (eqb (length text) 8) → eight ≡ true → IsDateText text → ⊥
+no_date_by text eight e h d = true≢false (sym h ∙ (e ∙ ap (λ n. not (eqb n 8)) (date_length text d)))
 
--- eight octets that midnight makes a local time are a date
+-- eight octets are a date where midnight makes them a local time
 date_before : (front rest t tail : List ℕ) → length front ≡ 8 → length t ≡ 8 → front ++ rest ≡ t ++ tail → front ≡ t
 date_before front rest t tail d e h =
-    let a : take 8 (front ++ rest) ≡ front = take_front front rest 8 d in
-    let b : take 8 (t ++ tail) ≡ t = take_front t tail 8 e in
+    let a : take 8 (front ++ rest) ≡ front = rw (sym d) (take-append_seam front rest) in
+    let b : take 8 (t ++ tail) ≡ t = rw (sym e) (take-append_seam t tail) in
     sym a ∙ ap (take 8) h ∙ b
 
-pub date_of_local : (t tail octets : List ℕ) (r : Bool) → length t ≡ 8 → octets ≡ t ++ tail → OnTrue r (IsLocal octets) → OnTrue r (IsDate t)
-date_of_local t tail octets true e same (s, clock) =
-    let whole : clock.date ++ codes "T" ++ clock.time ≡ t ++ tail = sym clock.spelled ∙ same in
-    let is : clock.date ≡ t = date_before clock.date (codes "T" ++ clock.time) t tail (date_length _ _ clock.on) e (sym (append_assoc clock.date (codes "T") clock.time) ∙ whole) in
+date_of_local : (t : List ℕ) → length t ≡ 8 → IsLocalText (t ++ codes "T000000") → IsDateText t
+date_of_local t e (s, clock) =
+    let whole : clock.date ++ (codes "T" ++ clock.time) ≡ t ++ codes "T000000" = sym (append_assoc clock.date (codes "T") clock.time) ∙ sym clock.spelled in
+    let is : clock.date ≡ t = date_before clock.date (codes "T" ++ clock.time) t (codes "T000000") (date_length clock.date (clock.number, clock.on)) e whole in
     (clock.number, subst (λ (d : List ℕ). SpellsDate d clock.number) is clock.on)
-date_of_local t tail octets false e same h = tt
 
-pub on_true : (r : Bool) (P : Type 0) → r ≡ true → OnTrue r P → P
-on_true true P e h = h
-on_true false P e h = absurd (true≢false (sym e))
+local_of_date : (t : List ℕ) → IsDateText t → IsLocalText (t ++ codes "T000000")
+local_of_date t (number, d) = (
+  (number *ℤ pos 86_400) +ℤ pos 0,
+  record {
+    date = t;
+    time = codes "000000";
+    number = number;
+    second = 0;
+    on = d;
+    at_second = record { hour = 0; minute = 0; second = 0; hours = omega arith; minutes = omega arith; seconds = omega arith; spelled = refl; counted = refl };
+    spelled = sym (append_assoc t (codes "T") (codes "000000"));
+    counted = refl;
+  },
+)
+
+pub date_test : (t midnight : List ℕ) (b : Bool) → length t ≡ 8 → midnight ≡ t ++ codes "T000000" → ((b ≡ true) ↔ IsLocalText midnight) → ((b ≡ true) ↔ IsDateText t)
+date_test t midnight b e m h = (λ is. date_of_local t e (subst IsLocalText m (h.0 is)), λ d. h.1 (subst IsLocalText (sym m) (local_of_date t d)))
+
+zeros_utf8 : is_utf8 (codes "T000000") ≡ true
+unfolding is_utf8 chars encode
+zeros_utf8 = refl
+
+-- midnight behind a text is a text
+pub midnight_utf8 : (t midnight : List ℕ) → midnight ≡ t ++ codes "T000000" → IsUtf8 t → IsUtf8 midnight
+midnight_utf8 t midnight m u = subst IsUtf8 (sym m) (IsUtf8-append t (codes "T000000") u (IsUtf8-from_is_utf8 (codes "T000000") zeros_utf8))
+
+-- what a test tells of a text
+pub unfixed_by : (b : Bool) (P : Type 0) (text : List ℕ) (n : ℕ) → ((b ≡ true) ↔ P) → b ≡ true → n ≡ 55 → UnfixedOrMalformed P text n
+unfixed_by b P text n h e k = inl (h.0 e, k)
+
+pub malformed_by : (b : Bool) (P : Type 0) (text : List ℕ) (n : ℕ) → ((b ≡ true) ↔ P) → b ≡ false → n ≡ malformed_number text → UnfixedOrMalformed P text n
+malformed_by b P text n h e k = inr (λ p. true≢false (sym (h.1 p) ∙ e), k)
+
+pub unfixed_or : (b : Bool) (P Q : Type 0) (text : List ℕ) (n : ℕ) → ((b ≡ true) ↔ Q) → b ≡ true → n ≡ 55 → UnfixedOrMalformed (P ⊎ Q) text n
+unfixed_or b P Q text n h e k = inl (inr (h.0 e), k)
+
+pub malformed_or : (b : Bool) (P Q : Type 0) (text : List ℕ) (n : ℕ) → ((b ≡ true) ↔ Q) → b ≡ false → UnfixedOrMalformed P text n → UnfixedOrMalformed (P ⊎ Q) text n
+malformed_or b P Q text n h e (inl (p, k)) = inl (inl p, k)
+malformed_or b P Q text n h e (inr (no, k)) = inr (λ x. elim x [ inl p ↦ no p | inr q ↦ absurd (true≢false (sym (h.1 q) ∙ e)) ], k)
+
+-- the kind that VALUE says decides what is wrong
+pub kind_fault : (line text : List ℕ) (kind : TimeKind) (n : ℕ) → kind ≡ kind_of line → text ≡ line_value line → KindFault kind text n → TimeFault line n
+kind_fault line text kind n k e f = subst (λ (x : TimeKind). KindFault x (line_value line) n) k (subst (λ (t : List ℕ). KindFault kind t n) e f)
+
+pub time_said : (r : Result ℤ Refusal) (line text : List ℕ) → DateTime ≡ kind_of line → text ≡ line_value line → IfOk r (SpellsStamp text) → IfOk r (IsTime line)
+time_said (Ok t) line text k e h = (sym k, subst (λ (x : List ℕ). SpellsStamp x t) e h)
+time_said (Err x) line text k e h = tt
 
 -- ---- durations
 

@@ -1,16 +1,14 @@
 -- The lines of a VEVENT say at most one event, and none where a fault stands in them.
-use Rattle.std.proofs.Common.{◌≡◌, ℕ, zero, suc, ◌+◌, ◌*◌, ◌≤◌, Bool, true, false, List, [], ◌∷◌, ◌++◌, length, length-append, codes, subst, sym, refl, ap, ◌∙◌, inl, inr, arith, ℤ, pos, ◌+ℤ◌, ◌<ℤ◌}
-use Rattle.std.specs.Prelude.{Option, Some, None, is_some, option_map, unwrap_or, Contains, All}
+use Rattle.std.proofs.Common.{◌≡◌, ℕ, zero, suc, ◌+◌, ◌*◌, ◌≤◌, Bool, true, false, List, [], ◌∷◌, length, codes, subst, sym, refl, ap, ◌∙◌, inl, inr, arith, ℤ, pos, ◌+ℤ◌, ◌<ℤ◌}
+use Rattle.std.specs.Prelude.{Option, Some, None, is_some, option_map, unwrap_or, Contains, All, ◌⊎◌}
 use Rattle.std.specs.Option.{option_to_list}
 use Rattle.std.specs.List.{AllZip}
-use Rattle.std.specs.Str.{bytes_eq, str_to_ascii_lowercase}
 use Rattle.std.proofs.lemmas.Bool.{true≢false}
 use Rattle.std.proofs.lemmas.Int.{ints}
-use Rattle.std.proofs.lemmas.Slice.Eq.{bytes_eq-Decides}
 use Rattle.std.proofs.lemmas.List.Elements.{All-from_recursion, All-contains}
-use Rattle.profile.specs.Lines.{line_value, line_param, is_same_name}
-use Rattle.profile.specs.Values.{SpellsStamp, SpellsLocal, SpellsDate, SpellsSequence, SpellsDuration, SpellsNegative, IsUid, unescaped}
-use Rattle.profile.specs.Events.{lines_named, StandsAtMostOnce, IsMissing, SomeLine, BothOrNeither, Says, SaysLength, SaysEvent, Event, Attendee, Length, length_seconds, IsLength, LastsFor, LastsUntil, IsTime, IsUidLine, IsAddressLine, IsStampLine, IsSequenceLine, IsAttendee, IsNoStamp, IsNegativeOrLong, IsNoAddress, IsNoSequence, StartAndEnd, TimeFault, EventFault, single_names, no_stamp, no_time, not_fixed, period, bad_start, bad_end, bad_stamp, bad_duration, bad_uid, bad_organiser, bad_attendee, bad_sequence, ends_early, ends_late, lasts_long, starts_early, no_uid, no_start, no_stamp_given, twice, end_and_duration, no_organiser}
+use Rattle.profile.specs.Lines.{line_value}
+use Rattle.profile.specs.Values.{SpellsStamp, SpellsSequence, SpellsDuration, SpellsNegative, IsUid, unescaped}
+use Rattle.profile.specs.Events.{lines_named, StandsAtMostOnce, IsMissing, SomeLine, BothOrNeither, Says, SaysLength, SaysEvent, Event, Attendee, Length, length_seconds, IsLength, LastsFor, LastsUntil, IsTime, IsUidLine, IsAddressLine, IsStampLine, IsSequenceLine, IsAttendee, IsNoStamp, IsNegativeOrLong, IsNoAddress, IsNoSequence, StartAndEnd, TimeKind, DateTime, Date, Period, Other, kind_of, IsDateText, IsLocalText, UnfixedOrMalformed, KindFault, TimeFault, EventFault, single_names, bad_start, bad_end, bad_stamp, bad_duration, bad_uid, bad_organiser, bad_attendee, bad_sequence, ends_early, ends_late, lasts_long, starts_early, no_uid, no_start, no_stamp_given, twice, end_and_duration, no_organiser}
 
 abbrev Lines : Type 0
 Lines = List (List ℕ)
@@ -147,46 +145,27 @@ one_event one two three m lines a b s t =
 
 -- ---- no fault stands where an event is said
 
-pub same_text : (word a b : List ℕ) → is_same_name word a ≡ true → is_same_name word b ≡ true → str_to_ascii_lowercase a ≡ str_to_ascii_lowercase b
-same_text word a b h k =
-    sym (bytes_eq-true (str_to_ascii_lowercase word) (str_to_ascii_lowercase a) h) ∙ bytes_eq-true (str_to_ascii_lowercase word) (str_to_ascii_lowercase b) k
-  where
-    bytes_eq-true : (xs ys : List ℕ) → bytes_eq xs ys ≡ true → xs ≡ ys
-    bytes_eq-true xs ys e = (bytes_eq-Decides xs ys).0 e
-
--- a value can't be both a date-time and a period
-no_period : (given : Option (List ℕ)) → unwrap_or (option_map (λ word. is_same_name word (codes "DATE-TIME")) given) true ≡ true
-    → unwrap_or (option_map (λ word. is_same_name word (codes "PERIOD")) given) false ≡ true → ⊥
-no_period None h k = true≢false (sym k)
-no_period (Some word) h k = let e : length (codes "DATE-TIME") ≡ length (codes "PERIOD") = ap length (same_text word (codes "DATE-TIME") (codes "PERIOD") h k) in absurd (omega arith)
-
-date_length : (text : List ℕ) (number : ℤ) → SpellsDate text number → length text ≡ 8
-date_length text number d = ap length d.spelled
-
-local_length : (text : List ℕ) (t : ℤ) → SpellsLocal text t → length text ≡ 15
-local_length text t c =
-    let d : length c.date ≡ 8 = date_length c.date c.number c.on in
-    let s : length c.time ≡ 6 = ap length c.at_second.spelled in
-    ap length c.spelled ∙ length-append (c.date ++ codes "T") c.time ∙ both (length (c.date ++ codes "T")) (length c.time) (length-append c.date (codes "T") ∙ ap (λ n. n + 1) d) s
-  where
-    both : (a b : ℕ) → a ≡ 9 → b ≡ 6 → a + b ≡ 15
-    both a b p q = omega arith
-
-stamp_length : (text : List ℕ) (t : ℤ) → SpellsStamp text t → length text ≡ 16
-stamp_length text t h =
-    let l = local_length h.0 t h.1 in
-    ap length h.2 ∙ length-append h.0 (codes "Z") ∙ ap (λ n. n + 1) l
-
 time_sound : (line : List ℕ) (t : ℤ) (n : ℕ) → IsTime line t → TimeFault line n → ⊥
-time_sound line t n is (no_stamp z (inl h)) = h t is.1
-time_sound line t n is (no_stamp z (inr h)) = true≢false (sym is.0 ∙ h)
-time_sound line t n is (no_time (inl h)) = h t is.1
-time_sound line t n is (no_time (inr h)) = true≢false (sym is.0 ∙ h)
-time_sound line t n is (not_fixed (inl (number, d))) =
-    let a = stamp_length (line_value line) t is.1 in let b = date_length (line_value line) number d in absurd (omega arith)
-time_sound line t n is (not_fixed (inr (u, l))) =
-    let a = stamp_length (line_value line) t is.1 in let b = local_length (line_value line) u l in absurd (omega arith)
-time_sound line t n is (period h) = no_period (line_param (codes "VALUE") line) is.0 h
+time_sound line t n is f =
+    let h : KindFault DateTime (line_value line) n = subst (λ (k : TimeKind). KindFault k (line_value line) n) is.0 f in
+    h.0 t is.1
+
+-- ---- a start or an end has at most one fault
+
+one_case : (P : Type 0) (text : List ℕ) (m n : ℕ) → UnfixedOrMalformed P text m → UnfixedOrMalformed P text n → m ≡ n
+one_case P text m n (inl (p, h)) (inl (q, k)) = h ∙ sym k
+one_case P text m n (inl (p, h)) (inr (no, k)) = absurd (no p)
+one_case P text m n (inr (no, h)) (inl (q, k)) = absurd (no q)
+one_case P text m n (inr (no, h)) (inr (none, k)) = h ∙ sym k
+
+kind_number : (kind : TimeKind) (text : List ℕ) (m n : ℕ) → KindFault kind text m → KindFault kind text n → m ≡ n
+kind_number DateTime text m n h k = one_case (IsDateText text ⊎ IsLocalText text) text m n h.1 k.1
+kind_number Date text m n h k = one_case (IsDateText text) text m n h k
+kind_number Period text m n h k = h ∙ sym k
+kind_number Other text m n h k = h ∙ sym k
+
+pub one_number : (line : List ℕ) (m n : ℕ) → TimeFault line m → TimeFault line n → m ≡ n
+one_number line m n h k = kind_number (kind_of line) (line_value line) m n h k
 
 -- the end that stands
 end_said : (lines : Lines) (start : ℤ) (length : Length) (P : List ℕ → Type 0) → SaysLength lines start length → (l : SomeLine (codes "DTEND") P lines) → LastsUntil start l.0 length

@@ -9,7 +9,7 @@ use Rattle.cal_events.specs.Calendars.{booked_of}
 use Rattle.cal_events.specs.declared.calendar.Entry.{Entry}
 use Rattle.profile.specs.Instances.{Booked}
 use Rattle.profile.specs.Events as profile
-use Rattle.profile.specs.Events.{StandsAtMostOnce, IsTime, IsLength, IsDate, IsLocal, IsNoStamp, is_date_time, has_value, ends_in_z, length_seconds}
+use Rattle.profile.specs.Events.{StandsAtMostOnce, IsTime, IsLength, length_seconds}
 use Rattle.profile.specs.Lines.{is_same_name}
 use Rattle.ical_tree.specs.Tree.{component_name, component_lines, component_children}
 use Rattle.ical_tree.specs.declared.component.Component.{Component}
@@ -59,24 +59,11 @@ abbrev pub StandsIn : (ℕ → Type 0) → Fault → Type 0
 StandsIn P Memory = Unit {0}
 StandsIn P (Refused r) = P r.number
 
--- what VALUE tells where the line is of this kind
-abbrev pub IsKind : List ℕ → TimeKind → Type 0
-IsKind line DateTime = is_date_time line ≡ true
-IsKind line Date = is_date_time line ≡ false
-IsKind line Period = has_value (codes "PERIOD") line ≡ true
-IsKind line Other = is_date_time line ≡ false
-
--- what is wrong with the value of a start or an end that VALUE doesn't call anything else
-pub data DateTimeFault (text : List ℕ) : ℕ → Type 0 where
-  no_stamp : ends_in_z text ≡ true → IsNoStamp text → DateTimeFault text 10
-  not_fixed : IsDate text ⊎ IsLocal text → DateTimeFault text 55
-  no_time : IsNoStamp text → DateTimeFault text 11
-
--- and that VALUE calls a date
-pub data DateFault (text : List ℕ) : ℕ → Type 0 where
-  date : IsDate text → DateFault text 55
-  ending : ends_in_z text ≡ true → DateFault text 10
-  no_date : DateFault text 11
+abbrev pub said_kind : TimeKind → profile.TimeKind
+said_kind DateTime = profile.DateTime
+said_kind Date = profile.Date
+said_kind Period = profile.Period
+said_kind Other = profile.Other
 
 -- DTEND lies so many seconds from the start, or DURATION is so, or neither stands
 abbrev pub IsExtent : List (List ℕ) → ℤ → Extent → Type 0

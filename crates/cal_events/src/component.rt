@@ -1,7 +1,6 @@
 //! One VEVENT, read: its values, judged one property after another in a fixed order, and then
 //! together (RFC 5545 3.6.1). By now single events with UTC times alone are read.
-ghost use Rattle.std.specs.Prelude.{ℕ, List, ◌≡◌, ◌≤◌, ◌^◌, ◌++◌, ◌<ℤ◌, length, Bool, Some, map, codes, pos, negsuc, ◌+ℤ◌, ◌≤ℤ◌, option_map, true, IfOk, IfErr, OnOk, IsTrue};
-ghost use Rattle.std.specs.Bool.{OnTrue};
+ghost use Rattle.std.specs.Prelude.{ℕ, List, ◌≡◌, ◌⊎◌, ◌↔◌, ◌≤◌, ◌^◌, ◌++◌, ◌<ℤ◌, length, Bool, Some, map, codes, pos, negsuc, ◌+ℤ◌, ◌≤ℤ◌, option_map, true, IfOk, IfErr, OnOk, IsTrue};
 ghost use Rattle.std.specs.List.{AllZip};
 ghost use Rattle.ical_lines.specs.Fault.{RefusesOnly};
 ghost use Rattle.ical_lines.specs.Text.{line_text};
@@ -9,8 +8,9 @@ ghost use Rattle.ical_tree.specs.Tree.{component_lines};
 ghost use Rattle.ical_values.specs.Octets.{address_octets, text_octets};
 ghost use Rattle.profile.specs.Faults.{is_event_fault};
 ghost use Rattle.profile.specs.Values.{SpellsStamp};
-ghost use Rattle.profile.specs.Events.{Event, answer_named, answer_of, length_seconds, ends_in_z, lines_named, Says, SaysSequence, SaysEvent, IsUidLine, IsAddressLine, IsStampLine, IsAttendee, IsTime, IsDate, IsLocal, IsNoAddress, TimeFault, EventFault};
-ghost use Rattle.cal_events.specs.Events.{is_message, participation_of, attendee_of, length_of, event_of, StandsIn, DateTimeFault, DateFault, IsKind, IsExtent, GivesLength, ExtentFault, TimesFault};
+ghost use Rattle.profile.specs.Events.{Event, answer_named, answer_of, length_seconds, ends_in_z, lines_named, malformed_number, Says, SaysSequence, SaysEvent, IsUidLine, IsAddressLine, IsStampLine, IsAttendee, IsTime, IsDateText, IsLocalText, IsNoAddress, UnfixedOrMalformed, TimeFault, EventFault};
+ghost use Rattle.profile.specs.Events as events;
+ghost use Rattle.cal_events.specs.Events.{is_message, participation_of, attendee_of, length_of, event_of, said_kind, StandsIn, IsExtent, GivesLength, ExtentFault, TimesFault};
 
 use crate::properties::{optional, required};
 use ical_lines::{Fault, Line, Refusal};
@@ -143,12 +143,14 @@ impl EventComponent {
     }
 }
 
-/// The lines of a VEVENT say at most one event, and none where a fault stands in them.
+/// The lines of a VEVENT say at most one event, and none where a fault stands in them. A start or an end has at most
+/// one fault.
 pub fn one_event()
     ensures one { (in_message : Bool) (lines : List (List ℕ)) (a b : Event)
         → SaysEvent in_message lines a → SaysEvent in_message lines b → a ≡ b }
     ensures or_a_fault { (in_message : Bool) (lines : List (List ℕ)) (a : Event) (n : ℕ)
         → SaysEvent in_message lines a → EventFault in_message lines n → ⊥ }
+    ensures one_number { (line : List ℕ) (m n : ℕ) → TimeFault line m → TimeFault line n → m ≡ n }
 {
     one_stamp();
     one_duration();
@@ -264,7 +266,7 @@ enum TimeKind {
 }
 
 fn kind_of(line: Line<'_>) -> TimeKind
-    ensures { IsKind (line_text line.entry) result }
+    ensures { said_kind result ≡ events.kind_of (line_text line.entry) }
 {
     match line.param("VALUE") {
         None => TimeKind::DateTime,
@@ -294,24 +296,44 @@ fn read_time(line: Line<'_>) -> Result<Stamp, Refusal>
 fn read_date_time(text: &str) -> Result<Stamp, Refusal>
     ensures reads { IfOk result (SpellsStamp text.now) }
     ensures refuses { IfErr result (λ e. IsTrue (is_event_fault e.number)) }
-    ensures stands { IfErr result (λ e. DateTimeFault text.now e.number) }
+    ensures stands { IfErr result (λ e. events.KindFault events.DateTime text.now e.number) }
 {
-    if ends_in_z(text) {
-        Stamp::read(text)
-    } else if is_local(text) || is_date(text) {
-        Err(Refusal::NOT_FIXED)
-    } else {
-        Err(Refusal::BAD_DATE_TIME)
+    match Stamp::read(text) {
+        Ok(stamp) => Ok(stamp),
+        Err(_) => Err(refusal_of_date_time(text)),
     }
 }
 
+/// Why a text that is no UTC date-time is refused: 55 for a date or a floating time, else 10 or 11.
+fn refusal_of_date_time(text: &str) -> Refusal
+    ensures refuses { IsTrue (is_event_fault result.number) }
+    ensures stands { UnfixedOrMalformed (IsDateText text.now ⊎ IsLocalText text.now) text.now result.number }
+{
+    if is_local(text) {
+        Refusal::NOT_FIXED
+    } else {
+        refusal_of_date(text)
+    }
+}
+
+/// Why a text is refused that VALUE says is a date: 55 where it is one, else 10 or 11.
 fn refusal_of_date(text: &str) -> Refusal
     ensures refuses { IsTrue (is_event_fault result.number) }
-    ensures stands { DateFault text.now result.number }
+    ensures stands { UnfixedOrMalformed (IsDateText text.now) text.now result.number }
 {
     if is_date(text) {
         Refusal::NOT_FIXED
-    } else if ends_in_z(text) {
+    } else {
+        malformed(text)
+    }
+}
+
+/// Why a text is refused that is no date and no time: 10 where it ends in `Z`, else 11.
+fn malformed(text: &str) -> Refusal
+    ensures refuses { IsTrue (is_event_fault result.number) }
+    ensures number { result.number ≡ malformed_number text.now }
+{
+    if ends_in_z(text) {
         Refusal::BAD_STAMP
     } else {
         Refusal::BAD_DATE_TIME
@@ -329,20 +351,24 @@ fn ends_in_z(text: &str) -> bool
 
 /// Whether a text is a local time (RFC 5545 3.3.5, form 1).
 fn is_local(text: &str) -> bool
-    ensures { OnTrue result (IsLocal text.now) }
+    ensures { IsTrue result ↔ IsLocalText text.now }
 {
     LocalTime::read(text).is_ok()
 }
 
 /// Whether a text is a date (RFC 5545 3.3.4): with midnight behind it, it is a local time.
 fn is_date(text: &str) -> bool
-    ensures { OnTrue result (IsDate text.now) }
+    ensures { IsTrue result ↔ IsDateText text.now }
 {
     let octets = text.as_bytes();
     if octets.len() != 8 {
         return false;
     }
-    are_local(&midnight_of(octets))
+    let midnight = midnight_of(octets);
+    match std::str::from_utf8(&midnight) {
+        Ok(midnight) => is_local(midnight),
+        Err(_) => false,
+    }
 }
 
 /// The text of a date's midnight.
@@ -353,16 +379,6 @@ fn midnight_of(date: &[u8]) -> [u8; 15]
     let mut midnight = *b"00000000T000000";
     midnight[..8].copy_from_slice(date);
     midnight
-}
-
-/// Whether octets are a local time.
-fn are_local(octets: &[u8]) -> bool
-    ensures { OnTrue result (IsLocal octets.now) }
-{
-    match std::str::from_utf8(octets) {
-        Ok(text) => is_local(text),
-        Err(_) => false,
-    }
 }
 
 fn read_attendees(alloc: Global, component: &Component) -> Result<Vec<Attendee>, Fault>

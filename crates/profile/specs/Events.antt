@@ -23,13 +23,27 @@ StandsAtMostOnce name lines line = lines_named name lines ≡ option_to_list lin
 
 -- ---- values
 
--- VALUE says that the line's value is a date-time, or doesn't stand (RFC 5545 3.2.20)
-abbrev pub is_date_time : List ℕ → Bool
-is_date_time line = unwrap_or (option_map (λ word. is_same_name word (codes "DATE-TIME")) (line_param (codes "VALUE") line)) true
+-- what VALUE says that a line's value is (RFC 5545 3.2.20)
+pub data TimeKind : Type 0 where
+  DateTime : TimeKind
+  Date : TimeKind
+  Period : TimeKind
+  Other : TimeKind
+
+-- the kind that a word names, caseless
+abbrev pub kind_named : List ℕ → TimeKind
+kind_named word =
+    if is_same_name word (codes "DATE-TIME") then DateTime
+    else (if is_same_name word (codes "DATE") then Date
+    else (if is_same_name word (codes "PERIOD") then Period else Other))
+
+-- a start or an end without VALUE is a date-time (RFC 5545 3.8.2.4, 3.8.2.2)
+abbrev pub kind_of : List ℕ → TimeKind
+kind_of line = unwrap_or (option_map kind_named (line_param (codes "VALUE") line)) DateTime
 
 -- the value of the line is this instant, as a UTC date-time (RFC 5545 3.3.5, form 2)
 abbrev pub IsTime : List ℕ → ℤ → Type 0
-IsTime line instant = (is_date_time line ≡ true) × SpellsStamp (line_value line) instant
+IsTime line instant = (kind_of line ≡ DateTime) × SpellsStamp (line_value line) instant
 
 abbrev pub IsStampLine : List ℕ → ℤ → Type 0
 IsStampLine line instant = SpellsStamp (line_value line) instant
@@ -227,33 +241,35 @@ SomeLine name P lines = (line : List ℕ) × Contains (lines_named name lines) l
 abbrev pub ends_in_z : List ℕ → Bool
 ends_in_z text = slice_index text (length text - 1) == 90
 
--- VALUE says so
-abbrev pub has_value : List ℕ → List ℕ → Bool
-has_value word line = unwrap_or (option_map (λ given. is_same_name given word) (line_param (codes "VALUE") line)) false
-
 -- no instant is spelled
 abbrev pub IsNoStamp : List ℕ → Type 0
 IsNoStamp text = (t : ℤ) → SpellsStamp text t → ⊥
 
 -- a date (RFC 5545 3.3.4), or a local time without zone (RFC 5545 3.3.5, form 1)
-abbrev pub IsDate : List ℕ → Type 0
-IsDate text = (number : ℤ) × SpellsDate text number
+abbrev pub IsDateText : List ℕ → Type 0
+IsDateText text = (number : ℤ) × SpellsDate text number
 
-abbrev pub IsLocal : List ℕ → Type 0
-IsLocal text = (t : ℤ) × SpellsLocal text t
+abbrev pub IsLocalText : List ℕ → Type 0
+IsLocalText text = (t : ℤ) × SpellsLocal text t
 
--- the value is no UTC date-time, or VALUE says that it is something else
-abbrev pub IsNoTime : List ℕ → Type 0
-IsNoTime line = IsNoStamp (line_value line) ⊎ (is_date_time line ≡ false)
+-- the number of a text that is no date and no time
+abbrev pub malformed_number : List ℕ → ℕ
+malformed_number text = if ends_in_z text then 10 else 11
 
--- what is wrong with a start or an end
-pub data TimeFault (line : List ℕ) : ℕ → Type 0 where
-  -- it ends as a UTC time does, and is none
-  no_stamp : ends_in_z (line_value line) ≡ true → IsNoTime line → TimeFault line 10
-  no_time : IsNoTime line → TimeFault line 11
-  -- a date or a floating time
-  not_fixed : IsDate (line_value line) ⊎ IsLocal (line_value line) → TimeFault line 55
-  period : has_value (codes "PERIOD") line ≡ true → TimeFault line 56
+-- 55 where the text is no fixed time, else the number of a malformed one
+abbrev pub UnfixedOrMalformed : Type 0 → List ℕ → ℕ → Type 0
+UnfixedOrMalformed IsUnfixed text number = (IsUnfixed × (number ≡ 55)) ⊎ ((IsUnfixed → ⊥) × (number ≡ malformed_number text))
+
+-- the number of what is wrong with a text of this kind: there is at most one. Dates, and times without zone, aren't read yet
+abbrev pub KindFault : TimeKind → List ℕ → ℕ → Type 0
+KindFault DateTime text number = IsNoStamp text × UnfixedOrMalformed (IsDateText text ⊎ IsLocalText text) text number
+KindFault Date text number = UnfixedOrMalformed (IsDateText text) text number
+KindFault Period text number = number ≡ 56
+KindFault Other text number = number ≡ 11
+
+-- the number of what is wrong with a start or an end
+abbrev pub TimeFault : List ℕ → ℕ → Type 0
+TimeFault line number = KindFault (kind_of line) (line_value line) number
 
 -- the properties that stand at most once
 abbrev pub single_names : List (List ℕ)
