@@ -3,7 +3,7 @@ use Rattle.std.proofs.Common.{◌≡◌, Result, Ok, Err, OnOk, OnErr, map, filt
 use Rattle.std.specs.List.{slice_split, onto_first, list_any, list_all}
 use Rattle.std.proofs.lemmas.List.{append_assoc, append-nil, length-take, length-drop, drop-drop, get_or-take}
 use Rattle.std.proofs.lemmas.List.Concat.{flat_map-append}
-use Rattle.std.proofs.lemmas.List.Folds.{list_all-append}
+use Rattle.std.proofs.lemmas.List.Folds.{list_all-append, list_any-append}
 use Rattle.std.proofs.lemmas.List.Splits.{length-slice_split, slice_split_at}
 use Rattle.std.proofs.lemmas.List.Sums.{count_by-le-length}
 use Rattle.memchr.specs.Find.{IsFirstByte, is_byte}
@@ -13,6 +13,7 @@ use Rattle.std.specs.Str.{IsUtf8, is_utf8, IsCharBoundary}
 use Rattle.std.proofs.lemmas.Str.{IsUtf8-from_is_utf8, is_utf8-from_IsUtf8}
 use Rattle.std.proofs.Math.Bool.{or-true}
 use Rattle.std.proofs.lemmas.Bool.Decides.{Decides-eqb}
+use Rattle.std.proofs.lemmas.Bool.{or_parts, and_parts, false_from_ne_true, not-true, not_from_false}
 use Rattle.ical_lines.proofs.PieceLemmas.{boundary_past}
 use Rattle.ical_lines.proofs.SplitLemmas.{split_at_byte, split_no_byte}
 
@@ -38,26 +39,6 @@ lines_of-le xs =
 
 -- ---- texts without a break
 
-pub neither_first : (a b : Bool) → (a || b) ≡ false → a ≡ false
-neither_first true b h = h
-neither_first false b h = refl
-
-pub neither_second : (a b : Bool) → (a || b) ≡ false → b ≡ false
-neither_second true b h = cc
-neither_second false b h = h
-
-pub both : (a b : Bool) → (a && b) ≡ true → (a ≡ true) × (b ≡ true)
-both true b h = (refl, h)
-both false b h = cc
-
-pub not_true : (b : Bool) → (b ≡ true → ⊥) → b ≡ false
-not_true true h = absurd (h refl)
-not_true false h = refl
-
-pub was_false : (b : Bool) → not b ≡ true → b ≡ false
-was_false true h = cc
-was_false false h = refl
-
 not_any : (p : ℕ → Bool) (xs : List ℕ) → ((k : ℕ) → k < length xs → p (get_or xs k 0) ≡ false) → list_any p xs ≡ false
 not_any p [] h = refl
 not_any p (x ∷ xs) h =
@@ -67,11 +48,11 @@ not_any p (x ∷ xs) h =
 
 pub none_at : (p : ℕ → Bool) (xs : List ℕ) → list_any p xs ≡ false → (k d : ℕ) → k < length xs → p (get_or xs k d) ≡ false
 none_at p [] h k d l = absurd (omega arith)
-none_at p (x ∷ xs) h zero d l = neither_first (p x) (list_any p xs) h
-none_at p (x ∷ xs) h (suc k) d l = none_at p xs (neither_second (p x) (list_any p xs) h) k d (omega arith)
+none_at p (x ∷ xs) h zero d l = (or_parts (p x) (list_any p xs) h).0
+none_at p (x ∷ xs) h (suc k) d l = none_at p xs (or_parts (p x) (list_any p xs) h).1 k d (omega arith)
 
 front_at : (xs : List ℕ) (i : ℕ) → IsFirstByte (is_byte 10) xs (Some i) → (k : ℕ) → k < i → is_break (get_or (take i xs) k 0) ≡ false
-front_at xs i h k l = rw (get_or-take i xs k 0 l) (not_true (is_break (get_or xs k 0)) (h.0.before k (omega arith) l))
+front_at xs i h k l = rw (get_or-take i xs k 0 l) (false_from_ne_true (is_break (get_or xs k 0)) (h.0.before k (omega arith) l))
 
 pub one_line_front : (xs : List ℕ) (i : ℕ) → IsFirstByte (is_byte 10) xs (Some i) → is_one_line (take i xs) ≡ true
 one_line_front xs i h =
@@ -83,8 +64,8 @@ one_line_front xs i h =
 pub lines_of-ended : (lines : List (List ℕ)) → list_all is_one_line lines ≡ true → lines_of (ended lines) ≡ lines
 lines_of-ended [] h = refl
 lines_of-ended (x ∷ ls) h =
-    let parts = both (is_one_line x) (list_all is_one_line ls) h in
-    let none = none_at is_break x (was_false (list_any is_break x) parts.0) in
+    let parts = and_parts (is_one_line x) (list_all is_one_line ls) h in
+    let none = none_at is_break x (not-true (list_any is_break x) parts.0) in
     let split : slice_split is_break (ended (x ∷ ls)) ≡ x ∷ slice_split is_break (ended ls) = ap (slice_split is_break) (append_assoc x (10 ∷ []) (ended ls)) ∙ slice_split_at is_break x 10 (ended ls) none refl in
     ap (λ s. take (length s - 1) s) split ∙ (cut_last x (slice_split is_break (ended ls)) (count_by is_break (ended ls)) (length-slice_split is_break (ended ls)) ∙ ap (λ z. x ∷ z) (lines_of-ended ls parts.1))
 
@@ -103,7 +84,7 @@ all_take : (n : ℕ) (s : List (List ℕ)) → list_all is_one_line s ≡ true �
 all_take zero s h = refl
 all_take (suc n) [] h = refl
 all_take (suc n) (x ∷ s) h =
-    let parts = both (is_one_line x) (list_all is_one_line s) h in
+    let parts = and_parts (is_one_line x) (list_all is_one_line s) h in
     rw (parts.0, all_take n s parts.1) refl
 
 pub lines_whole : (xs : List ℕ) → list_all is_one_line (lines_of xs) ≡ true
@@ -113,30 +94,24 @@ any_take : (n : ℕ) (xs : List ℕ) → list_any is_break xs ≡ false → list
 any_take zero xs h = refl
 any_take (suc n) [] h = refl
 any_take (suc n) (x ∷ xs) h =
-    let first = neither_first (is_break x) (list_any is_break xs) h in
-    rw (first, any_take n xs (neither_second (is_break x) (list_any is_break xs) h)) refl
+    let first = (or_parts (is_break x) (list_any is_break xs) h).0 in
+    rw (first, any_take n xs (or_parts (is_break x) (list_any is_break xs) h).1) refl
 
 any_rest : (xs : List ℕ) → list_any is_break xs ≡ false → list_any is_break (drop 1 xs) ≡ false
 any_rest [] h = refl
-any_rest (x ∷ xs) h = neither_second (is_break x) (list_any is_break xs) h
+any_rest (x ∷ xs) h = (or_parts (is_break x) (list_any is_break xs) h).1
 
-any_append : (xs ys : List ℕ) → list_any is_break xs ≡ false → list_any is_break ys ≡ false → list_any is_break (xs ++ ys) ≡ false
-any_append [] ys h k = k
-any_append (x ∷ xs) ys h k =
-    let first = neither_first (is_break x) (list_any is_break xs) h in
-    rw (first, any_append xs ys (neither_second (is_break x) (list_any is_break xs) h) k) refl
-
-one_line : (b : Bool) → b ≡ false → not b ≡ true
-one_line b h = rw h refl
+pub any_append : (xs ys : List ℕ) → list_any is_break xs ≡ false → list_any is_break ys ≡ false → list_any is_break (xs ++ ys) ≡ false
+any_append xs ys h k = rw (list_any-append is_break xs ys, h) k
 
 return_by : (b : Bool) (n : ℕ) (l : List ℕ) → is_one_line l ≡ true → is_one_line (cond b (take n l) l) ≡ true
-return_by true n l h = one_line (list_any is_break (take n l)) (any_take n l (was_false (list_any is_break l) h))
+return_by true n l h = not_from_false (list_any is_break (take n l)) (any_take n l (not-true (list_any is_break l) h))
 return_by false n l h = h
 
 returns_whole : (s : List (List ℕ)) → list_all is_one_line s ≡ true → list_all is_one_line (map without_return s) ≡ true
 returns_whole [] h = refl
 returns_whole (l ∷ s) h =
-    let parts = both (is_one_line l) (list_all is_one_line s) h in
+    let parts = and_parts (is_one_line l) (list_all is_one_line s) h in
     let first : is_one_line (without_return l) ≡ true = return_by (eqb (get_or l (length l - 1) 0) 13) (length l - 1) l parts.0 in
     rw (first, returns_whole s parts.1) refl
 
@@ -147,19 +122,19 @@ all_cond false s t h k = k
 gather_whole : (begun : List ℕ) (s : List (List ℕ)) → is_one_line begun ≡ true → list_all is_one_line s ≡ true → list_all is_one_line (gather begun s) ≡ true
 gather_whole begun [] h k = rw h refl
 gather_whole begun (l ∷ s) h k =
-    let parts = both (is_one_line l) (list_all is_one_line s) k in
-    let joined : is_one_line (begun ++ drop 1 l) ≡ true = one_line (list_any is_break (begun ++ drop 1 l)) (any_append begun (drop 1 l) (was_false (list_any is_break begun) h) (any_rest l (was_false (list_any is_break l) parts.0))) in
+    let parts = and_parts (is_one_line l) (list_all is_one_line s) k in
+    let joined : is_one_line (begun ++ drop 1 l) ≡ true = not_from_false (list_any is_break (begun ++ drop 1 l)) (any_append begun (drop 1 l) (not-true (list_any is_break begun) h) (any_rest l (not-true (list_any is_break l) parts.0))) in
     all_cond (is_continuation l) (gather (begun ++ drop 1 l) s) (begun ∷ gather l s) (gather_whole (begun ++ drop 1 l) s joined parts.1) (rw h (gather_whole l s parts.0 parts.1))
 
 unfolded_whole : (s : List (List ℕ)) → list_all is_one_line s ≡ true → list_all is_one_line (unfolded s) ≡ true
 unfolded_whole [] h = refl
 unfolded_whole (l ∷ s) h =
-    let parts = both (is_one_line l) (list_all is_one_line s) h in gather_whole l s parts.0 parts.1
+    let parts = and_parts (is_one_line l) (list_all is_one_line s) h in gather_whole l s parts.0 parts.1
 
 filled_whole : (s : List (List ℕ)) → list_all is_one_line s ≡ true → list_all is_one_line (filter is_filled s) ≡ true
 filled_whole [] h = refl
 filled_whole (l ∷ s) h =
-    let parts = both (is_one_line l) (list_all is_one_line s) h in
+    let parts = and_parts (is_one_line l) (list_all is_one_line s) h in
     all_cond (is_filled l) (l ∷ filter is_filled s) (filter is_filled s) (rw parts.0 (filled_whole s parts.1)) (filled_whole s parts.1)
 
 pub logical_whole : (octets : List ℕ) → list_all is_one_line (logical_lines octets) ≡ true
@@ -213,10 +188,6 @@ next_cut bytes text tail i u b f t =
 
 -- ---- a test of the lines so far
 
-pub and_false : (a : Bool) → (a && false) ≡ false
-and_false true = refl
-and_false false = refl
-
 pub any_later : (p : List ℕ → Bool) (x : List ℕ) (xs ys : List (List ℕ)) → ys ≡ x ∷ xs → list_any p xs ≡ true → list_any p ys ≡ true
 any_later p x xs ys e h = ap (list_any p) e ∙ (ap (λ b. p x || b) h ∙ or-true (p x))
 
@@ -263,7 +234,7 @@ or_second false c = refl
 
 pub utf8_stands : (b : Bool) (octets bs : List ℕ) → bs ≡ ended (logical_lines octets) → (IsUtf8 bs → ⊥) → text_has b 5 octets ≡ true
 utf8_stands b octets bs e h =
-    let u : is_utf8 (ended (logical_lines octets)) ≡ false = not_true (is_utf8 (ended (logical_lines octets))) (λ t. h (subst IsUtf8 (sym e) (IsUtf8-from_is_utf8 (ended (logical_lines octets)) t))) in
+    let u : is_utf8 (ended (logical_lines octets)) ≡ false = false_from_ne_true (is_utf8 (ended (logical_lines octets))) (λ t. h (subst IsUtf8 (sym e) (IsUtf8-from_is_utf8 (ended (logical_lines octets)) t))) in
     rw u (or_second (list_any (line_has 5) (logical_lines octets)) (false && (b && (ltb 1048576 (length octets) || ltb 65536 (length (logical_lines octets))))))
 
 pub all_read : (b : Bool) (octets bs : List ℕ) → bs ≡ ended (logical_lines octets) → IsUtf8 bs → list_any is_faulty (lines_of bs) ≡ false → (b && ltb 65536 (length (lines_of bs))) ≡ false → (b && ltb 1048576 (length octets)) ≡ false → reads_as_lines b octets ≡ true

@@ -5,13 +5,12 @@ use Rattle.std.specs.Str.{IsUtf8, is_utf8, chars, encode_utf8_all}
 use Rattle.std.specs.List.{flat_map, list_any, list_all}
 use Rattle.std.proofs.lemmas.List.{append_assoc, get_or_at, take_at, drop_at, length-append, length_push}
 use Rattle.std.proofs.Math.Bool.{and-false}
-use Rattle.std.proofs.lemmas.Bool.{true≢false}
+use Rattle.std.proofs.lemmas.Bool.{true≢false, or_parts, and_parts, not-true, not-false}
 use Rattle.std.proofs.lemmas.Bool.Decides.{nat_tests, eqb_tells}
 use Rattle.std.proofs.lemmas.Str.{encodes-chars, length-encode, len_utf8_bounds, IsUtf8-append, IsUtf8-nil, IsUtf8-take, IsUtf8-drop, IsCharBoundary-before_ascii, IsCharBoundary-after_ascii, IsUtf8-from_ascii, IsUtf8-from_is_utf8, is_utf8-from_IsUtf8}
 use Rattle.std.proofs.lemmas.Str.Ascii.{IsAscii-cons, IsAscii-nil}
 use Rattle.profile.specs.Lines.{fold_break, fold_from, next_column, folded, without_mark, physical_lines, is_continuation, unfolded, is_filled, logical_lines, ended, outside, line_name, is_name, is_name_octet, is_control, has_control, lacks_colon, has_bad_name, has_bad_quote, line_has, is_faulty, is_content, text_has, reads_as_lines}
 use Rattle.ical_lines.specs.Breaks.{is_break, is_one_line}
-use Rattle.ical_lines.proofs.BreakLemmas.{both, was_false, neither_first, neither_second}
 use Rattle.ical_lines.proofs.ReadBackLemmas.{reads_back}
 
 -- ---- what a content line has
@@ -29,7 +28,7 @@ name_first zero b c cs h = cc
 name_first (suc a) zero c cs h = cc
 name_first (suc a) (suc b) c cs h =
     let front = c ∷ take a (take b cs) in
-    (both (is_name_octet c) (list_all is_name_octet (take a (take b cs))) (both (is_filled front) (list_all is_name_octet front) h).1).0
+    (and_parts (is_name_octet c) (list_all is_name_octet (take a (take b cs))) (and_parts (is_filled front) (list_all is_name_octet front) h).1).0
 
 control_break : (c : ℕ) → is_control c ≡ false → is_break c ≡ false
 control_break c h = grind (arith, nat_tests, eqb_tells)
@@ -37,8 +36,8 @@ control_break c h = grind (arith, nat_tests, eqb_tells)
 no_break : (line : List ℕ) → list_any is_control line ≡ false → list_any is_break line ≡ false
 no_break [] h = refl
 no_break (c ∷ cs) h =
-    let first = control_break c (neither_first (is_control c) (list_any is_control cs) h) in
-    rw (first, no_break cs (neither_second (is_control c) (list_any is_control cs) h)) refl
+    let first = control_break c (or_parts (is_control c) (list_any is_control cs) h).0 in
+    rw (first, no_break cs (or_parts (is_control c) (list_any is_control cs) h).1) refl
 
 pub record Content (line : List ℕ) : Type 0 where
   pub fine : is_faulty line ≡ false
@@ -46,23 +45,19 @@ pub record Content (line : List ℕ) : Type 0 where
   pub whole : is_one_line line ≡ true
   pub utf8 : IsUtf8 line
 
-was_true : (b : Bool) → not b ≡ false → b ≡ true
-was_true true h = refl
-was_true false h = cc
-
 pub content : (line : List ℕ) → is_content line ≡ true → Content line
 content line h =
-    let parts = both (not (is_faulty line)) (is_utf8 line) h in
-    let fine = was_false (is_faulty line) parts.0 in
+    let parts = and_parts (not (is_faulty line)) (is_utf8 line) h in
+    let fine = not-true (is_faulty line) parts.0 in
     let a = lacks_colon line in
     let b = has_bad_name line in
     let q = has_bad_quote line in
-    let control : has_control line ≡ false = neither_second (a || b || q) (has_control line) fine in
-    let front : (a || b || q) ≡ false = neither_first (a || b || q) (has_control line) fine in
-    let name : b ≡ false = neither_second a b (neither_first (a || b) q front) in
+    let control : has_control line ≡ false = (or_parts (a || b || q) (has_control line) fine).1 in
+    let front : (a || b || q) ≡ false = (or_parts (a || b || q) (has_control line) fine).0 in
+    let name : b ≡ false = (or_parts a b (or_parts (a || b) q front).0).1 in
     record {
       fine = fine;
-      named = was_true (is_name (line_name line)) (neither_first (not (is_name (line_name line))) _ name);
+      named = not-false (is_name (line_name line)) (or_parts (not (is_name (line_name line))) _ name).0;
       whole = rw (no_break line control) refl;
       utf8 = IsUtf8-from_is_utf8 line parts.1;
     }
@@ -116,12 +111,12 @@ starter_unmarked (o ∷ os) h =
 first_starts : (lines : List (List ℕ)) → list_all is_content lines ≡ true → is_starter (get_or (flat_map folded lines) 0 0) ≡ true
 first_starts [] h = refl
 first_starts (x ∷ ls) h =
-    let parts = both (is_content x) (list_all is_content ls) h in starts x (flat_map folded ls) (content x parts.0)
+    let parts = and_parts (is_content x) (list_all is_content ls) h in starts x (flat_map folded ls) (content x parts.0)
 
 unfolded_back : (lines : List (List ℕ)) → list_all is_content lines ≡ true → unfolded (physical_lines (flat_map folded lines)) ≡ lines ++ [] ∷ []
 unfolded_back [] h = refl
 unfolded_back (x ∷ ls) h =
-    let parts = both (is_content x) (list_all is_content ls) h in
+    let parts = and_parts (is_content x) (list_all is_content ls) h in
     let line = content x parts.0 in
     reads_back x (flat_map folded ls) line.utf8 line.whole (starter_continues (flat_map folded ls) (first_starts ls parts.1)) ∙ ap (λ z. x ∷ z) (unfolded_back ls parts.1)
 
@@ -132,7 +127,7 @@ filled (c ∷ cs) h = grind (arith, nat_tests)
 filter_filled : (lines : List (List ℕ)) → list_all is_content lines ≡ true → filter is_filled (lines ++ [] ∷ []) ≡ lines
 filter_filled [] h = refl
 filter_filled (x ∷ ls) h =
-    let parts = both (is_content x) (list_all is_content ls) h in
+    let parts = and_parts (is_content x) (list_all is_content ls) h in
     let some = filled x (content x parts.0) in
     rw some (ap (λ z. x ∷ z) (filter_filled ls parts.1))
 
@@ -143,14 +138,14 @@ lines_back lines h =
 none_faulty : (lines : List (List ℕ)) → list_all is_content lines ≡ true → list_any is_faulty lines ≡ false
 none_faulty [] h = refl
 none_faulty (x ∷ ls) h =
-    let parts = both (is_content x) (list_all is_content ls) h in
+    let parts = and_parts (is_content x) (list_all is_content ls) h in
     let line = content x parts.0 in
     rw (line.fine, none_faulty ls parts.1) refl
 
 ended_utf8 : (lines : List (List ℕ)) → list_all is_content lines ≡ true → IsUtf8 (ended lines)
 ended_utf8 [] h = IsUtf8-nil
 ended_utf8 (x ∷ ls) h =
-    let parts = both (is_content x) (list_all is_content ls) h in
+    let parts = and_parts (is_content x) (list_all is_content ls) h in
     let line = content x parts.0 in
     IsUtf8-append (x ++ 10 ∷ []) (ended ls) (IsUtf8-append x (10 ∷ []) line.utf8 (IsUtf8-from_ascii (10 ∷ []) (IsAscii-cons 10 [] (omega arith) IsAscii-nil))) (ended_utf8 ls parts.1)
 
@@ -179,9 +174,9 @@ all_content : (lines : List (List ℕ)) → list_any is_faulty lines ≡ false �
 all_content [] f u = refl
 all_content (x ∷ ls) f u =
     let cut = cut_at_end x (ended ls) u in
-    let first : is_faulty x ≡ false = neither_first (is_faulty x) (list_any is_faulty ls) f in
+    let first : is_faulty x ≡ false = (or_parts (is_faulty x) (list_any is_faulty ls) f).0 in
     let utf8 : is_utf8 x ≡ true = is_utf8-from_IsUtf8 x cut.0 in
-    rw (first, utf8, all_content ls (neither_second (is_faulty x) (list_any is_faulty ls) f) cut.1) refl
+    rw (first, utf8, all_content ls (or_parts (is_faulty x) (list_any is_faulty ls) f).1 cut.1) refl
 
 -- what it says of octets that they read as lines
 pub record Reads (bounded : Bool) (octets : List ℕ) : Type 0 where
@@ -194,9 +189,9 @@ reads_parts bounded octets h =
     let faulty = list_any is_faulty (logical_lines octets) in
     let utf8 = is_utf8 (ended (logical_lines octets)) in
     let large = bounded && (ltb 1048576 (length octets) || ltb 65536 (length (logical_lines octets))) in
-    let outer = both (not faulty && utf8) (not large) h in
-    let inner = both (not faulty) utf8 outer.0 in
-    record { faultless = was_false faulty inner.0; utf8 = inner.1; small = was_false large outer.1 }
+    let outer = and_parts (not faulty && utf8) (not large) h in
+    let inner = and_parts (not faulty) utf8 outer.0 in
+    record { faultless = not-true faulty inner.0; utf8 = inner.1; small = not-true large outer.1 }
 
 pub read_content : (bounded : Bool) (octets : List ℕ) → reads_as_lines bounded octets ≡ true → list_all is_content (logical_lines octets) ≡ true
 read_content bounded octets h =
@@ -213,8 +208,8 @@ no_fault_by i j k l false false false false h = rw (and-false i, and-false j, an
 none_has : (number : ℕ) (lines : List (List ℕ)) → list_any is_faulty lines ≡ false → list_any (line_has number) lines ≡ false
 none_has number [] h = refl
 none_has number (x ∷ ls) h =
-    let first : line_has number x ≡ false = no_fault_by (eqb number 1) (eqb number 2) (eqb number 3) (eqb number 4) (lacks_colon x) (has_bad_name x) (has_bad_quote x) (has_control x) (neither_first (is_faulty x) (list_any is_faulty ls) h) in
-    rw (first, none_has number ls (neither_second (is_faulty x) (list_any is_faulty ls) h)) refl
+    let first : line_has number x ≡ false = no_fault_by (eqb number 1) (eqb number 2) (eqb number 3) (eqb number 4) (lacks_colon x) (has_bad_name x) (has_bad_quote x) (has_control x) (or_parts (is_faulty x) (list_any is_faulty ls) h).0 in
+    rw (first, none_has number ls (or_parts (is_faulty x) (list_any is_faulty ls) h).1) refl
 
 pub read_fine : (bounded : Bool) (octets : List ℕ) (number : ℕ) → reads_as_lines bounded octets ≡ true → text_has bounded number octets ≡ false
 read_fine bounded octets number h =

@@ -2,12 +2,12 @@
 use Rattle.std.proofs.Common.{◌≡◌, ℕ, suc, zero, ◌+◌, ◌-◌, ◌<◌, ◌≤◌, Bool, true, false, not, ◌&&◌, ◌||◌, cond, eqb, ltb, Option, None, Some, List, [], ◌∷◌, length, take, refl, ap, sym, subst, ◌∙◌, arith}
 use Rattle.std.specs.List.{find, list_any}
 use Rattle.std.proofs.Math.Bool.{or-true}
-use Rattle.std.proofs.lemmas.Bool.{ltb-false, ltb-true, lt-ltb}
+use Rattle.std.proofs.lemmas.Bool.{ltb-false, ltb-true, lt-ltb, or_parts, and_parts, false_from_ne_true, not-true}
 use Rattle.std.proofs.lemmas.Bool.Decides.{Decides-eqb}
 use Rattle.std.proofs.lemmas.Str.{IsUtf8-from_is_utf8, is_utf8-from_IsUtf8}
 use Rattle.std.specs.Str.{IsUtf8, is_utf8}
 use Rattle.ical_lines.specs.Breaks.{lines_of}
-use Rattle.ical_lines.proofs.BreakLemmas.{not_true, was_false, both, neither_first, neither_second, lines_of-logical}
+use Rattle.ical_lines.proofs.BreakLemmas.{lines_of-logical}
 use Rattle.profile.specs.Lines.{ended, logical_lines, reads_as_lines, line_has, is_faulty, lacks_colon, has_bad_name, has_bad_quote, has_control}
 use Rattle.profile.specs.First.{least_fault, judged, fault_of, lines_fault, text_fault, is_number, comes_after}
 use Rattle.ical_lines.specs.Fault.{RefusesOnly}
@@ -68,7 +68,7 @@ bound_stands true count line rest lines all e m l =
 
 pub utf8_first : (b : Bool) (octets bs : List ℕ) → bs ≡ ended (logical_lines octets) → (IsUtf8 bs → ⊥) → (b && ltb 1048576 (length octets)) ≡ false → is_number (text_fault b octets) 5 ≡ true
 utf8_first b octets bs e h o =
-    let u : is_utf8 (ended (logical_lines octets)) ≡ false = not_true (is_utf8 (ended (logical_lines octets))) (λ t. h (subst IsUtf8 (sym e) (IsUtf8-from_is_utf8 (ended (logical_lines octets)) t))) in
+    let u : is_utf8 (ended (logical_lines octets)) ≡ false = false_from_ne_true (is_utf8 (ended (logical_lines octets))) (λ t. h (subst IsUtf8 (sym e) (IsUtf8-from_is_utf8 (ended (logical_lines octets)) t))) in
     rw (o, u) refl
 
 pub lines_first : (b : Bool) (n : ℕ) (octets bs : List ℕ) → bs ≡ ended (logical_lines octets) → IsUtf8 bs → (b && ltb 1048576 (length octets)) ≡ false → is_number (lines_fault b (lines_of bs)) n ≡ true → is_number (text_fault b octets) n ≡ true
@@ -83,31 +83,31 @@ none_found : (n : ℕ) (lines : List (List ℕ)) → list_any is_faulty lines �
 none_found zero lines h = refl
 none_found (suc n) [] h = refl
 none_found (suc n) (line ∷ lines) h =
-    let f = neither_first (is_faulty line) (list_any is_faulty lines) h in
-    rw f (none_found n lines (neither_second (is_faulty line) (list_any is_faulty lines) h))
+    let f = (or_parts (is_faulty line) (list_any is_faulty lines) h).0 in
+    rw f (none_found n lines (or_parts (is_faulty line) (list_any is_faulty lines) h).1)
 
 none_at_all : (lines : List (List ℕ)) → list_any is_faulty lines ≡ false → find is_faulty lines ≡ None
 none_at_all [] h = refl
 none_at_all (line ∷ lines) h =
-    let f = neither_first (is_faulty line) (list_any is_faulty lines) h in
-    rw f (none_at_all lines (neither_second (is_faulty line) (list_any is_faulty lines) h))
+    let f = (or_parts (is_faulty line) (list_any is_faulty lines) h).0 in
+    rw f (none_at_all lines (or_parts (is_faulty line) (list_any is_faulty lines) h).1)
 
 none_judged : (b : Bool) (lines : List (List ℕ)) → list_any is_faulty lines ≡ false → find is_faulty (judged b lines) ≡ None
 none_judged true lines h = none_found 65536 lines h
 none_judged false lines h = none_at_all lines h
 
 neither_bound : (b x y : Bool) → (b && (x || y)) ≡ false → ((b && x) ≡ false) × ((b && y) ≡ false)
-neither_bound true x y h = (neither_first x y h, neither_second x y h)
+neither_bound true x y h = or_parts x y h
 neither_bound false x y h = (refl, refl)
 
 reads_fine : (b : Bool) (octets : List ℕ) → reads_as_lines b octets ≡ true → text_fault b octets ≡ None
 reads_fine b octets h =
     let lines = logical_lines octets in
     let bound = b && (ltb 1048576 (length octets) || ltb 65536 (length lines)) in
-    let p = both (not (list_any is_faulty lines) && is_utf8 (ended lines)) (not bound) h in
-    let q = both (not (list_any is_faulty lines)) (is_utf8 (ended lines)) p.0 in
-    let k = neither_bound b (ltb 1048576 (length octets)) (ltb 65536 (length lines)) (was_false bound p.1) in
-    rw (k.0, q.1, none_judged b lines (was_false (list_any is_faulty lines) q.0), k.1) refl
+    let p = and_parts (not (list_any is_faulty lines) && is_utf8 (ended lines)) (not bound) h in
+    let q = and_parts (not (list_any is_faulty lines)) (is_utf8 (ended lines)) p.0 in
+    let k = neither_bound b (ltb 1048576 (length octets)) (ltb 65536 (length lines)) (not-true bound p.1) in
+    rw (k.0, q.1, none_judged b lines (not-true (list_any is_faulty lines) q.0), k.1) refl
 
 pub comes_after_lines : (b : Bool) (octets : List ℕ) (fault : Fault) → reads_as_lines b octets ≡ true → RefusesOnly (comes_after (text_fault b octets)) fault
 comes_after_lines b octets Memory h = tt

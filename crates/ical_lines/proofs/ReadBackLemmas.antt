@@ -9,9 +9,10 @@ use Rattle.std.proofs.lemmas.List.Folds.{list_any-append, list_all-append}
 use Rattle.std.proofs.lemmas.Bool.Decides.{nat_tests}
 use Rattle.std.proofs.lemmas.Str.{encodes-chars, length-encode, len_utf8_bounds, IsUtf8-append, IsUtf8-from_ascii}
 use Rattle.std.proofs.lemmas.Str.Ascii.{IsAscii-cons, IsAscii-nil}
+use Rattle.std.proofs.lemmas.Bool.{or_parts, not-true}
 use Rattle.profile.specs.Lines.{fold_from, folded, without_return, physical_lines, is_continuation, gather, unfolded, is_short}
 use Rattle.ical_lines.specs.Breaks.{is_break, is_one_line}
-use Rattle.ical_lines.proofs.BreakLemmas.{neither_first, neither_second, none_at, was_false}
+use Rattle.ical_lines.proofs.BreakLemmas.{none_at, any_append}
 
 -- the physical lines that a folded rest of a line adds to: `front` ends the one that has begun, `others` follow it
 record Shape (octets begun text : List ℕ) (after : List (List ℕ)) : Type 0 where
@@ -87,10 +88,7 @@ size_of c = let b = len_utf8_bounds c in omega (arith, length-encode c, b.1)
 first_free : (xs ys : List ℕ) → list_any is_break (xs ++ ys) ≡ false → (list_any is_break xs ≡ false) × (list_any is_break ys ≡ false)
 first_free xs ys h =
     let e = sym (list_any-append is_break xs ys) ∙ h in
-    (neither_first (list_any is_break xs) (list_any is_break ys) e, neither_second (list_any is_break xs) (list_any is_break ys) e)
-
-both_free : (xs ys : List ℕ) → list_any is_break xs ≡ false → list_any is_break ys ≡ false → list_any is_break (xs ++ ys) ≡ false
-both_free xs ys h k = rw (list_any-append is_break xs ys, h) k
+    or_parts (list_any is_break xs) (list_any is_break ys) e
 
 not_past : (a b : ℕ) → ltb 75 (a + b) ≡ false → a + b ≤ 75
 not_past a b h = grind (arith, nat_tests)
@@ -100,7 +98,7 @@ shape [] q tail col h k e l j = shape_none q tail k (omega arith) j
 shape (c ∷ cs) q tail col h k e l j =
     let free = first_free (encode_utf8 c) (encode_utf8_all cs) h in
     let size = size_of c in
-    shape_by (ltb 75 (col + length (encode_utf8 c))) q (encode_utf8 c) (13 ∷ 10 ∷ tail) (encode_utf8_all cs) (physical_lines tail) col cs k (omega arith) (λ no. shape cs (q ++ encode_utf8 c) tail (col + length (encode_utf8 c)) free.1 (both_free q (encode_utf8 c) k free.0) (omega (arith, length-append q (encode_utf8 c), e)) (not_past col (length (encode_utf8 c)) no) j) (shape cs (32 ∷ encode_utf8 c) tail (1 + length (encode_utf8 c)) free.1 free.0 (omega arith) (omega arith) j)
+    shape_by (ltb 75 (col + length (encode_utf8 c))) q (encode_utf8 c) (13 ∷ 10 ∷ tail) (encode_utf8_all cs) (physical_lines tail) col cs k (omega arith) (λ no. shape cs (q ++ encode_utf8 c) tail (col + length (encode_utf8 c)) free.1 (any_append q (encode_utf8 c) k free.0) (omega (arith, length-append q (encode_utf8 c), e)) (not_past col (length (encode_utf8 c)) no) j) (shape cs (32 ∷ encode_utf8 c) tail (1 + length (encode_utf8 c)) free.1 free.0 (omega arith) (omega arith) j)
 
 -- ---- the line that follows
 
@@ -130,7 +128,7 @@ next_starts (c ∷ cs) h line = starts_by (is_break c) c (slice_split is_break c
 
 shape_of : (text rest : List ℕ) → IsUtf8 text → is_one_line text ≡ true → is_continuation rest ≡ false → Shape (fold_from 0 (chars text) ++ 13 ∷ 10 ∷ rest) [] (encode_utf8_all (chars text)) (physical_lines rest)
 shape_of text rest u h k =
-    let none : list_any is_break (encode_utf8_all (chars text)) ≡ false = ap (list_any is_break) (encodes-chars text u) ∙ was_false (list_any is_break text) h in
+    let none : list_any is_break (encode_utf8_all (chars text)) ≡ false = ap (list_any is_break) (encodes-chars text u) ∙ not-true (list_any is_break text) h in
     shape (chars text) [] rest 0 none refl refl (omega arith) (next_starts rest k)
 
 pub reads_back : (text rest : List ℕ) → IsUtf8 text → is_one_line text ≡ true → is_continuation rest ≡ false → unfolded (physical_lines (folded text ++ rest)) ≡ text ∷ unfolded (physical_lines rest)

@@ -4,19 +4,16 @@ use Rattle.std.specs.List.{slice_split, position_or_len}
 use Rattle.std.proofs.lemmas.List.{get_or_default, take_rest}
 use Rattle.std.proofs.lemmas.List.Sums.{position_or_len_is}
 use Rattle.std.proofs.lemmas.List.Splits.{slice_split_first, slice_split_none}
+use Rattle.std.proofs.lemmas.Bool.{false_from_ne_true}
 use Rattle.memchr.specs.Find.{IsFirstByte, is_byte}
 use Rattle.profile.specs.Lines.{physical_lines, without_return}
-
-not_true : (b : Bool) → (b ≡ true → ⊥) → b ≡ false
-not_true true h = absurd (h refl)
-not_true false h = refl
 
 -- the first byte that is c ends the first part
 pub split_at_byte : (c : ℕ) (xs : List ℕ) (i : ℕ) → IsFirstByte (is_byte c) xs (Some i) → slice_split (λ x. eqb x c) xs ≡ take i xs ∷ slice_split (λ x. eqb x c) (drop (i + 1) xs)
 split_at_byte c xs i h =
     let p : ℕ → Bool = λ x. eqb x c in
     let low : i ≤ length xs = omega (arith, h.0.high) in
-    let e : position_or_len p xs ≡ i = position_or_len_is p xs i 0 low (λ k l. not_true (p (get_or xs k 0)) (h.0.before k (omega arith) l)) (λ _. h.1) in
+    let e : position_or_len p xs ≡ i = position_or_len_is p xs i 0 low (λ k l. false_from_ne_true (p (get_or xs k 0)) (h.0.before k (omega arith) l)) (λ _. h.1) in
     let inside : position_or_len p xs < length xs = omega (arith, e, h.0.high) in
     slice_split_first p xs 0 inside ∙ ap (λ n. take n xs ∷ slice_split p (drop (n + 1) xs)) e
 
@@ -24,7 +21,7 @@ split_at_byte c xs i h =
 pub split_no_byte : (c : ℕ) (xs : List ℕ) → IsFirstByte (is_byte c) xs None → slice_split (λ x. eqb x c) xs ≡ xs ∷ []
 split_no_byte c xs h =
     let p : ℕ → Bool = λ x. eqb x c in
-    slice_split_none p xs (λ k d l. rw (get_or_default xs k d 0 l) (not_true (p (get_or xs k 0)) (h k (omega arith) l)))
+    slice_split_none p xs (λ k d l. rw (get_or_default xs k d 0 l) (false_from_ne_true (p (get_or xs k 0)) (h k (omega arith) l)))
 
 pub first_line : (xs f : List ℕ) (i : ℕ) → IsFirstByte (is_byte 10) xs (Some i) → f ≡ without_return (take i xs) → physical_lines xs ≡ f ∷ physical_lines (take (length xs - (i + 1)) (drop (i + 1) xs))
 first_line xs f i h e =

@@ -1,10 +1,10 @@
 -- One line more, and what the open components are then.
 use Rattle.std.proofs.Common.{◌≡◌, ℕ, suc, ◌-◌, ◌≤◌, Bool, true, false, not, ◌&&◌, Option, None, Some, is_some, List, [], ◌∷◌, ◌++◌, length, reverse, refl, ap, sym, subst, ◌∙◌, arith}
 use Rattle.std.proofs.lemmas.List.{append_assoc, reverse-append, length-reverse, nil_from_length}
+use Rattle.std.proofs.lemmas.Bool.{not-true}
 use Rattle.profile.specs.Lines.{line_value, is_same_name}
 use Rattle.profile.specs.Objects.{Opens, Closes, is_property, is_end, is_calendar_name, may_begin}
 use Rattle.profile.specs.Objects.Body.{nothing, property, component}
-use Rattle.ical_lines.proofs.BreakLemmas.{was_false}
 use Rattle.ical_tree.specs.declared.component.Component.{Component}
 use Rattle.ical_tree.specs.Tree.{component_name, component_lines, component_children}
 use Rattle.ical_tree.specs.Reading.{BodyOf, Built, names_of}
@@ -64,7 +64,7 @@ ended_child rest p q c closed done line e s n l k b =
         body = g.1.body ++ h.1.begin ∷ (h.1.body ++ line ∷ []);
         are = all;
         opens = rw n g.1.opens;
-        holds = rw (deep, l, k) (component c h.1.begin line h.1.body (was_false (is_calendar_name (component_name c)) h.4) h.1.opens closes h.1.holds outer);
+        holds = rw (deep, l, k) (component c h.1.begin line h.1.body (not-true (is_calendar_name (component_name c)) h.4) h.1.opens closes h.1.holds outer);
       },
       g.2,
       g.3,

@@ -1,23 +1,18 @@
 -- Lines spell at most one tree, and none where a fault stands in how they pair up.
 use Rattle.std.proofs.Common.{◌≡◌, ℕ, Bool, true, false, not, ◌&&◌, ◌||◌, eqb, cond, List, [], ◌∷◌, ◌++◌, refl, ap, sym, ◌∙◌, arith}
-use Rattle.std.proofs.lemmas.Bool.{true≢false}
+use Rattle.std.proofs.lemmas.Bool.{true≢false, or_from}
 use Rattle.std.proofs.lemmas.List.{append_assoc, append-nil}
 use Rattle.std.proofs.Math.Bool.{and-false}
 use Rattle.profile.specs.Lines.{line_name, line_value}
-use Rattle.profile.specs.Objects.{is_begin, is_end, is_property, Opens, Closes, Body, Spells, IsObject, is_none, opened_from, some_misplaced, all_fit, lines_have}
+use Rattle.profile.specs.Objects.{is_begin, is_end, is_property, Opens, Closes, IsObject, is_none, opened_from, some_misplaced, all_fit, lines_have}
 use Rattle.profile.specs.Objects.Body.{nothing, property, component}
 use Rattle.ical_tree.specs.Tree.{trees_of}
-use Rattle.ical_tree.proofs.PairLemmas.{not_both, no_begin, no_end, or_none, any_misplaced, first_none, fine_first, stays_whole, stays, fine_whole, fine}
+use Rattle.ical_tree.proofs.PairLemmas.{not_both, no_begin, no_end, any_misplaced, first_none, fine_first, stays_whole, stays, fine_whole, fine}
+use Rattle.ical_tree.proofs.TreeOfLemmas.{BodyT, SpellsT}
 use Rattle.profile.specs.Trees.{Tree, Trees, tree, none, more, trees_list, tree_name, tree_own, tree_inside}
 
 abbrev Lines : Type 0
 Lines = List (List ℕ)
-
-abbrev BodyT : ℕ → Lines → List Tree → Lines → Type 0
-BodyT = Body tree_name tree_own tree_inside
-
-abbrev SpellsT : ℕ → Tree → Lines → Type 0
-SpellsT = Spells tree_name tree_own tree_inside
 
 -- ---- one pass over the lines: the open components with what they have so far, from the innermost on
 
@@ -133,8 +128,8 @@ one_tree d e lines a b s t = ap (found_tree a) (sym (passed d a lines s) ∙ pas
 nothing_wrong : (n : ℕ) (lines : Lines) → some_misplaced n [] false lines ≡ false → is_none (opened_from [] lines) ≡ true → is_none lines ≡ false → lines_have n lines ≡ false
 nothing_wrong n lines m o l =
     let f = all_fit [] false lines in
-    or_none (some_misplaced n [] false lines || (eqb n 21 && (f && not (is_none (opened_from [] lines))))) (eqb n 23 && is_none lines)
-    (or_none (some_misplaced n [] false lines) (eqb n 21 && (f && not (is_none (opened_from [] lines)))) m (ap (λ b. eqb n 21 && (f && not b)) o ∙ (ap (λ b. eqb n 21 && b) (and-false f) ∙ and-false (eqb n 21))))
+    or_from (some_misplaced n [] false lines || (eqb n 21 && (f && not (is_none (opened_from [] lines))))) (eqb n 23 && is_none lines)
+    (or_from (some_misplaced n [] false lines) (eqb n 21 && (f && not (is_none (opened_from [] lines)))) m (ap (λ b. eqb n 21 && (f && not b)) o ∙ (ap (λ b. eqb n 21 && b) (and-false f) ∙ and-false (eqb n 21))))
     (ap (λ b. eqb n 23 && b) l ∙ and-false (eqb n 23))
 
 -- lines that spell an object have no fault in how they pair up

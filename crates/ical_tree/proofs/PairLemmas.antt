@@ -2,9 +2,9 @@
 use Rattle.std.proofs.Common.{◌≡◌, ℕ, ◌+◌, ◌<◌, ◌≤◌, Bool, true, false, not, ◌&&◌, ◌||◌, eqb, cond, List, [], ◌∷◌, ◌++◌, length, drop, codes, refl, ap, sym, ◌∙◌, arith}
 use Rattle.std.specs.Prelude.{nat_le}
 use Rattle.std.specs.Str.{bytes_eq, str_to_ascii_lowercase}
-use Rattle.std.proofs.lemmas.Bool.{true≢false, lt-leb}
+use Rattle.std.proofs.lemmas.Bool.{lt-leb, or_from, or_parts, or_right, and_from, and_parts, and_right, not-true}
 use Rattle.std.proofs.lemmas.Slice.Eq.{bytes_eq-Decides}
-use Rattle.std.proofs.Math.Bool.{and-false, or-true}
+use Rattle.std.proofs.Math.Bool.{and-false}
 use Rattle.profile.specs.Lines.{line_name, line_value, is_same_name}
 use Rattle.profile.specs.Objects.{is_begin, is_end, is_property, Opens, Closes, Body, is_none, now_open, opened_from, misplaced, misplaced_begin, misplaced_end, misplaced_property, is_calendar_name, fits, some_misplaced, all_fit}
 use Rattle.profile.specs.Objects.Body.{nothing, property, component}
@@ -22,43 +22,10 @@ not_both name h =
     ap (λ x. bytes_eq x (str_to_ascii_lowercase (codes "BEGIN"))) (bytes_eq-true (str_to_ascii_lowercase name) (str_to_ascii_lowercase (codes "END")) h)
 
 pub no_begin : (a b : Bool) → (not a && not b) ≡ true → a ≡ false
-no_begin false b h = refl
-no_begin true b h = absurd (true≢false (sym h))
+no_begin a b h = not-true a (and_parts (not a) (not b) h).0
 
 pub no_end : (a b : Bool) → (not a && not b) ≡ true → b ≡ false
-no_end a false h = refl
-no_end false true h = absurd (true≢false (sym h))
-no_end true true h = absurd (true≢false (sym h))
-
--- ---- tests
-
-pub or_none : (a b : Bool) → a ≡ false → b ≡ false → (a || b) ≡ false
-or_none a b h k = ap (λ x. x || b) h ∙ k
-
-none_left : (a b : Bool) → (a || b) ≡ false → a ≡ false
-none_left false b h = refl
-none_left true b h = absurd (true≢false h)
-
-none_right : (a b : Bool) → (a || b) ≡ false → b ≡ false
-none_right false b h = h
-none_right true b h = absurd (true≢false h)
-
-and_none : (a b : Bool) → b ≡ false → (a && b) ≡ false
-and_none a b h = ap (λ x. a && x) h ∙ and-false a
-
-both : (a b : Bool) → a ≡ true → b ≡ true → (a && b) ≡ true
-both a b h k = ap (λ x. x && b) h ∙ k
-
-left_of : (a b : Bool) → (a && b) ≡ true → a ≡ true
-left_of true b h = refl
-left_of false b h = absurd (true≢false (sym h))
-
-right_of : (a b : Bool) → (a && b) ≡ true → b ≡ true
-right_of true b h = h
-right_of false b h = absurd (true≢false (sym h))
-
-later : (a b : Bool) → b ≡ true → (a || b) ≡ true
-later a b h = ap (λ x. a || x) h ∙ or-true a
+no_end a b h = not-true b (and_parts (not a) (not b) h).1
 
 -- ---- no line is misplaced, the others not looked at
 
@@ -88,7 +55,7 @@ none-append n stack started [] b h k = k
 none-append n stack started (line ∷ a) b h k =
     let x = misplaced n stack started line in
     let y = any_misplaced n (now_open stack line) true a in
-    or_none x (any_misplaced n (now_open stack line) true (a ++ b)) (none_left x y h) (none-append n (now_open stack line) true a b (none_right x y h) k)
+    or_from x (any_misplaced n (now_open stack line) true (a ++ b)) (or_parts x y h).0 (none-append n (now_open stack line) true a b (or_parts x y h).1 k)
 
 fine-append : (n : ℕ) (stack a b : Lines) → any_misplaced n stack true a ≡ false → any_misplaced n (opened_from stack a) true b ≡ false → any_misplaced n stack true (a ++ b) ≡ false
 fine-append n stack a b h k = none-append n stack true a b h (ap (λ s. any_misplaced n (opened_from stack a) s b) (after_true a) ∙ k)
@@ -100,17 +67,17 @@ all_fit_from stack started (line ∷ lines) h k m =
     let b = misplaced 22 stack started line in
     let c = misplaced 23 stack started line in
     let next = now_open stack line in
-    both (fits stack started line) (all_fit next true lines)
-    (ap not (or_none (a || b) c (or_none a b (none_left a (any_misplaced 20 next true lines) h) (none_left b (any_misplaced 22 next true lines) k)) (none_left c (any_misplaced 23 next true lines) m)))
-    (all_fit_from next true lines (none_right a (any_misplaced 20 next true lines) h) (none_right b (any_misplaced 22 next true lines) k) (none_right c (any_misplaced 23 next true lines) m))
+    and_from (fits stack started line) (all_fit next true lines)
+    (ap not (or_from (a || b) c (or_from a b (or_parts a (any_misplaced 20 next true lines) h).0 (or_parts b (any_misplaced 22 next true lines) k).0) (or_parts c (any_misplaced 23 next true lines) m).0))
+    (all_fit_from next true lines (or_parts a (any_misplaced 20 next true lines) h).1 (or_parts b (any_misplaced 22 next true lines) k).1 (or_parts c (any_misplaced 23 next true lines) m).1)
 
 pub first_none : (n : ℕ) (stack : Lines) (started : Bool) (lines : Lines) → any_misplaced n stack started lines ≡ false → some_misplaced n stack started lines ≡ false
 first_none n stack started [] h = refl
 first_none n stack started (line ∷ lines) h =
     let a = misplaced n stack started line in
     let next = now_open stack line in
-    or_none a (fits stack started line && some_misplaced n next true lines) (none_left a (any_misplaced n next true lines) h)
-    (and_none (fits stack started line) (some_misplaced n next true lines) (first_none n next true lines (none_right a (any_misplaced n next true lines) h)))
+    or_from a (fits stack started line && some_misplaced n next true lines) (or_parts a (any_misplaced n next true lines) h).0
+    (and_right (fits stack started line) (some_misplaced n next true lines) (first_none n next true lines (or_parts a (any_misplaced n next true lines) h).1))
 
 -- a fault after lines that all fit is one of all lines
 pub found_later : (n : ℕ) (stack : Lines) (started : Bool) (done left : Lines) → all_fit stack started done ≡ true → some_misplaced n (opened_from stack done) (after started done) left ≡ true → some_misplaced n stack started (done ++ left) ≡ true
@@ -120,7 +87,7 @@ found_later n stack started (line ∷ done) left h k =
     let f = fits stack started line in
     let g = all_fit next true done in
     let rest = some_misplaced n next true (done ++ left) in
-    later (misplaced n stack started line) (f && rest) (both f rest (left_of f g h) (found_later n next true done left (right_of f g h) k))
+    or_right (misplaced n stack started line) (f && rest) (and_from f rest (and_parts f g h).0 (found_later n next true done left (and_parts f g h).1 k))
 
 -- ---- where a line stands
 
@@ -154,7 +121,7 @@ at_property n stack started line h =
     ∙ ap (λ e. cond e (misplaced_end n stack (line_value line)) (misplaced_property n stack)) (no_end (is_begin line) (is_end line) h)
 
 never_two : (a b : Bool) → ((a && false) || (b && false)) ≡ false
-never_two a b = or_none (a && false) (b && false) (and-false a) (and-false b)
+never_two a b = or_from (a && false) (b && false) (and-false a) (and-false b)
 
 -- a component that is no VCALENDAR may begin inside another, at most seven components around it
 pub fine_begin : (n : ℕ) (x : List ℕ) (stack : Lines) (started : Bool) (line name : List ℕ) → is_calendar_name name ≡ false → Opens line name → length stack < 7 → misplaced n (x ∷ stack) started line ≡ false
@@ -197,14 +164,14 @@ stays {name = name} (component {body = body} part begin end inner v o e b rest) 
 pub fine_whole : (n : ℕ) (stack : Lines) (started : Bool) (name begin end : List ℕ) (inner : Lines) → Opens begin name → Closes end name → Stays inner
     → misplaced n stack started begin ≡ false → any_misplaced n (name ∷ stack) true inner ≡ false → any_misplaced n stack started (begin ∷ (inner ++ end ∷ [])) ≡ false
 fine_whole n stack started name begin end inner o c k m f =
-    let last : any_misplaced n (name ∷ stack) true (end ∷ []) ≡ false = or_none (misplaced n (name ∷ stack) true end) false (fine_end n stack end name c) refl in
+    let last : any_misplaced n (name ∷ stack) true (end ∷ []) ≡ false = or_from (misplaced n (name ∷ stack) true end) false (fine_end n stack end name c) refl in
     let rest : any_misplaced n (name ∷ stack) true (inner ++ end ∷ []) ≡ false = fine-append n (name ∷ stack) inner (end ∷ []) f (ap (λ s. any_misplaced n s true (end ∷ [])) (k (name ∷ stack)) ∙ last) in
-    or_none (misplaced n stack started begin) (any_misplaced n (now_open stack begin) true (inner ++ end ∷ [])) m (ap (λ s. any_misplaced n s true (inner ++ end ∷ [])) (now_begin stack begin name o) ∙ rest)
+    or_from (misplaced n stack started begin) (any_misplaced n (now_open stack begin) true (inner ++ end ∷ [])) m (ap (λ s. any_misplaced n s true (inner ++ end ∷ [])) (now_begin stack begin name o) ∙ rest)
 
 pub fine : {T : Type 0} {name : T → List ℕ} {own : T → Lines} {inside : T → List T} {depth : ℕ} {lines : Lines} {parts : List T} {body : Lines} → Body name own inside depth lines parts body → (n : ℕ) (x : List ℕ) (stack : Lines) → length stack + depth ≤ 7 → any_misplaced n (x ∷ stack) true body ≡ false
 fine nothing = λ n x stack h. refl
 fine (property {body = body} line p b) = λ n x stack h.
-    let last : any_misplaced n (x ∷ stack) true (line ∷ []) ≡ false = or_none (misplaced n (x ∷ stack) true line) false (fine_property n x stack line p) refl in
+    let last : any_misplaced n (x ∷ stack) true (line ∷ []) ≡ false = or_from (misplaced n (x ∷ stack) true line) false (fine_property n x stack line p) refl in
     fine-append n (x ∷ stack) body (line ∷ []) (fine b n x stack h) (ap (λ s. any_misplaced n s true (line ∷ [])) (stays b (x ∷ stack)) ∙ last)
 fine {name = name} (component {body = body} part begin end inner v o e b rest) = λ n x stack h.
     let within : any_misplaced n (name part ∷ x ∷ stack) true inner ≡ false = fine b n (name part) (x ∷ stack) (omega arith) in

@@ -3,7 +3,7 @@ use Rattle.std.proofs.Common.{◌≡◌, ℕ, ◌+◌, suc, zero, Bool, true, fa
 use Rattle.std.specs.List.{flat_map, list_all, list_any}
 use Rattle.std.specs.Str.{IsUtf8, is_utf8, str_to_ascii_lowercase}
 use Rattle.std.proofs.Math.Bool.{and-false}
-use Rattle.std.proofs.lemmas.Bool.{true≢false}
+use Rattle.std.proofs.lemmas.Bool.{true≢false, or_parts, and_parts, not-true}
 use Rattle.std.proofs.lemmas.Bool.Decides.{nat_tests}
 use Rattle.std.proofs.lemmas.Slice.Eq.{bytes_eq-Decides}
 use Rattle.std.proofs.lemmas.List.{append_assoc, append-nil}
@@ -14,7 +14,6 @@ use Rattle.std.proofs.lemmas.Str.Ascii.{IsAscii-cons, IsAscii-nil}
 use Rattle.profile.specs.Lines.{outside, line_value, is_same_name, is_control, has_control, lacks_colon, has_bad_name, has_bad_quote, is_faulty, is_content, logical_lines, reads_as_lines}
 use Rattle.profile.specs.Objects.{Body, nothing, property, component, is_property, Opens, Closes, has_version}
 use Rattle.profile.specs.Trees.{tree_own}
-use Rattle.ical_lines.proofs.BreakLemmas.{both, was_false, neither_second}
 use Rattle.ical_lines.proofs.ContentLemmas.{lines_back, lines_fine, read_content, read_fine}
 use Rattle.ical_lines.proofs.ReadBackLemmas.{property_utf8}
 use Rattle.ical_tree.specs.declared.component.Component.{Component, out-Component}
@@ -39,7 +38,7 @@ all_written cs = flat_map written_lines cs
 
 module _ {T : Type 0} (p : T → Bool) where
   all_parts : (xs ys : List T) → list_all p (xs ++ ys) ≡ true → (list_all p xs ≡ true) × (list_all p ys ≡ true)
-  all_parts xs ys h = both (list_all p xs) (list_all p ys) (sym (list_all-append p xs ys) ∙ h)
+  all_parts xs ys h = and_parts (list_all p xs) (list_all p ys) (sym (list_all-append p xs ys) ∙ h)
 
   all_both : (xs ys : List T) → list_all p xs ≡ true → list_all p ys ≡ true → list_all p (xs ++ ys) ≡ true
   all_both xs ys h k = rw (list_all-append p xs ys, h) k
@@ -52,12 +51,12 @@ module _ {T : Type 0} (p : T → Bool) where
 no_control_after : (n : ℕ) (line : List ℕ) → list_any is_control line ≡ false → list_any is_control (drop n line) ≡ false
 no_control_after zero line h = h
 no_control_after (suc n) [] h = refl
-no_control_after (suc n) (c ∷ cs) h = no_control_after n cs (neither_second (is_control c) (list_any is_control cs) h)
+no_control_after (suc n) (c ∷ cs) h = no_control_after n cs (or_parts (is_control c) (list_any is_control cs) h).1
 
 value_clean : (line : List ℕ) → is_content line ≡ true → has_control (line_value line) ≡ false
 value_clean line h =
-    let fine = was_false (is_faulty line) (both (not (is_faulty line)) (is_utf8 line) h).0 in
-    no_control_after (outside 58 line + 1) line (neither_second (lacks_colon line || has_bad_name line || has_bad_quote line) (has_control line) fine)
+    let fine = not-true (is_faulty line) (and_parts (not (is_faulty line)) (is_utf8 line) h).0 in
+    no_control_after (outside 58 line + 1) line (or_parts (lacks_colon line || has_bad_name line || has_bad_quote line) (has_control line) fine).1
 
 begin_content : (name : List ℕ) → has_control name ≡ false → IsUtf8 name → is_content (codes "BEGIN" ++ 58 ∷ name) ≡ true
 begin_content name h u =
@@ -94,14 +93,14 @@ body_content (property {lines = own} {body = body} line p b) h =
     (all_both is_content own (line ∷ []) rest.0 parts.1, rest.1)
 body_content (component {lines = own} {parts = ps} {body = body} part begin end inner v o e b rest) h =
     let outer = all_parts is_content body (begin ∷ (inner ++ end ∷ [])) h in
-    let first = both (is_content begin) (list_all is_content (inner ++ end ∷ [])) outer.1 in
+    let first = and_parts (is_content begin) (list_all is_content (inner ++ end ∷ [])) outer.1 in
     let inside = body_content b (all_parts is_content inner (end ∷ []) first.1).0 in
     let before = body_content rest outer.0 in
     (before.0, ap (list_all is_content) (pushed ps part) ∙ all_both is_content (all_written ps) (written_lines part) before.1 (whole_content part begin first.0 o inside.0 inside.1))
 
 written_content : (depth : ℕ) (c : Component) (lines : Lines) → SpellsOf depth c lines → list_all is_content lines ≡ true → list_all is_content (written_lines c) ≡ true
 written_content depth c lines s h =
-    let all = both (is_content s.begin) (list_all is_content (s.body ++ s.end ∷ [])) (ap (list_all is_content) (sym s.are) ∙ h) in
+    let all = and_parts (is_content s.begin) (list_all is_content (s.body ++ s.end ∷ [])) (ap (list_all is_content) (sym s.are) ∙ h) in
     let inside = body_content s.holds (all_parts is_content s.body (s.end ∷ []) all.1).0 in
     whole_content c s.begin all.0 s.opens inside.0 inside.1
 
@@ -124,7 +123,7 @@ own_properties (component part begin end inner v o e b rest) = own_properties re
 own_from : (depth : ℕ) (done rest : Lines) → BodyC depth done [] done → list_all is_property rest ≡ true → BodyC depth (done ++ rest) [] (done ++ rest)
 own_from depth done [] b h = subst (λ (ls : Lines). BodyC depth ls [] ls) (sym (append-nil done)) b
 own_from depth done (x ∷ xs) b h =
-    let parts = both (is_property x) (list_all is_property xs) h in
+    let parts = and_parts (is_property x) (list_all is_property xs) h in
     subst (λ (ls : Lines). BodyC depth ls [] ls) (append_assoc done (x ∷ []) xs) (own_from depth (done ++ x ∷ []) xs (property x parts.0 b) parts.1)
 
 -- properties first, and then the components, each as it is written

@@ -1,11 +1,10 @@
 -- Which faults stand in the lines so far.
 use Rattle.std.proofs.Common.{◌≡◌, inl, inr, ℕ, ◌+◌, ◌-◌, ◌<◌, ◌≤◌, arith, Bool, true, false, not, ◌&&◌, ◌||◌, eqb, Option, None, Some, is_some, List, [], ◌∷◌, ◌++◌, length, reverse, refl, ap, sym, subst, ◌∙◌}
-use Rattle.std.proofs.lemmas.Bool.{lt-leb}
+use Rattle.std.proofs.lemmas.Bool.{lt-leb, or_from, not-true}
 use Rattle.std.proofs.lemmas.List.{append_assoc, append-nil, length-map, length-reverse}
 use Rattle.profile.specs.First.{is_number, comes_after}
 use Rattle.profile.specs.Lines.{logical_lines}
 use Rattle.profile.specs.Objects.{Opens, is_none, now_open, opened_from, opened, is_calendar_name, may_begin, misplaced, misplaced_begin, fits, some_misplaced, all_fit, lines_have}
-use Rattle.ical_lines.proofs.BreakLemmas.{was_false}
 use Rattle.ical_lines.specs.Fault.{RefusesOnly}
 use Rattle.ical_lines.specs.declared.fault.Fault.{Fault}
 use Rattle.ical_lines.specs.declared.fault.Fault.TheVariants.{Refused, Memory}
@@ -13,7 +12,7 @@ use Rattle.ical_tree.specs.declared.component.Component.{Component}
 use Rattle.ical_tree.specs.Tree.{component_name}
 use Rattle.ical_tree.specs.Reading.{Built, Stands, SpellsOf, IsCalendar, names_of}
 use Rattle.ical_tree.proofs.BuiltLemmas.{outermost}
-use Rattle.ical_tree.proofs.PairLemmas.{or_none, opened-append, any_misplaced, after, after_first, none-append, all_fit_from, found_later, now_begin, fine_begin, fine_first, stays_whole, stays, fine_whole, fine}
+use Rattle.ical_tree.proofs.PairLemmas.{opened-append, any_misplaced, after, after_first, none-append, all_fit_from, found_later, now_begin, fine_begin, fine_first, stays_whole, stays, fine_whole, fine}
 
 -- ---- BEGIN of a component that may not begin here
 
@@ -61,7 +60,7 @@ begin_fits n c [] None before begin o l h b = ap (λ ls. misplaced n [] (after f
 begin_fits n c [] (Some d) before begin o l h b = let e = (outermost (Some d) (is_calendar_name (component_name c)) h).0 in cc
 begin_fits n c (x ∷ xs) closed before begin o l h b =
     let m : length (names_of xs) < 7 = omega (arith, length-map xs component_name) in
-    fine_begin n (component_name x) (names_of xs) (after false before) begin (component_name c) (was_false (is_calendar_name (component_name c)) h) o m
+    fine_begin n (component_name x) (names_of xs) (after false before) begin (component_name c) (not-true (is_calendar_name (component_name c)) h) o m
 
 built_none : (n : ℕ) (cs : List Component) (closed : Option Component) (done : List (List ℕ)) → Built cs closed done → any_misplaced n [] false done ≡ false
 built_none n [] None done b = ap (any_misplaced n [] false) b
@@ -73,7 +72,7 @@ built_none n (c ∷ around) closed done b =
     let l = b.3 in
     let deep : length (names_of around) + (7 - length around) ≤ 7 = omega (arith, length-map around component_name) in
     let inner : any_misplaced n (now_open (names_of around) o.begin) true o.body ≡ false = ap (λ s. any_misplaced n s true o.body) (now_begin (names_of around) o.begin (component_name c) o.opens) ∙ fine o.holds n (component_name c) (names_of around) deep in
-    let here : any_misplaced n (names_of around) (after false b.0) (o.begin ∷ o.body) ≡ false = or_none (misplaced n (names_of around) (after false b.0) o.begin) (any_misplaced n (now_open (names_of around) o.begin) true o.body) (begin_fits n c around closed b.0 o.begin o.opens l b.4 b.2) inner in
+    let here : any_misplaced n (names_of around) (after false b.0) (o.begin ∷ o.body) ≡ false = or_from (misplaced n (names_of around) (after false b.0) o.begin) (any_misplaced n (now_open (names_of around) o.begin) true o.body) (begin_fits n c around closed b.0 o.begin o.opens l b.4 b.2) inner in
     ap (any_misplaced n [] false) o.are
     ∙ none-append n [] false b.0 (o.begin ∷ o.body) (built_none n around closed b.0 b.2) (ap (λ s. any_misplaced n s (after false b.0) (o.begin ∷ o.body)) (built_opened around closed b.0 b.2) ∙ here)
 

@@ -29,8 +29,12 @@ tree_of-own c = ap tree_own (tree_out c)
 pub tree_of-inside : (c : Component) → tree_inside (tree_of c) ≡ map tree_of (component_children c)
 tree_of-inside c = ap tree_inside (tree_out c) ∙ trees_back (map tree_of (component_children c))
 
-abbrev BodyT : ℕ → Lines → List Tree → Lines → Type 0
+-- bodies and components whose parts are trees
+abbrev pub BodyT : ℕ → Lines → List Tree → Lines → Type 0
 BodyT = Body tree_name tree_own tree_inside
+
+abbrev pub SpellsT : ℕ → Tree → Lines → Type 0
+SpellsT = Spells tree_name tree_own tree_inside
 
 opens_tree : (line : List ℕ) (c : Component) → Opens line (component_name c) → Opens line (tree_name (tree_of c))
 opens_tree line c o = subst (Opens line) (sym (tree_of-name c)) o
@@ -49,7 +53,7 @@ body_tree (component {depth = d} {lines = own} {parts = ps} {body = body} part b
     subst (λ (ts : List Tree). BodyT (suc d) own ts (body ++ begin ∷ (inner ++ end ∷ []))) (sym (map-append tree_of ps (part ∷ [])))
     (component (tree_of part) begin end inner (ap is_calendar_name (tree_of-name part) ∙ v) (opens_tree begin part o) (closes_tree end part e) (holds_tree d part inner (body_tree b)) (body_tree rest))
 
-pub spells_tree : (depth : ℕ) (c : Component) (lines : Lines) → SpellsOf depth c lines → Spells tree_name tree_own tree_inside depth (tree_of c) lines
+pub spells_tree : (depth : ℕ) (c : Component) (lines : Lines) → SpellsOf depth c lines → SpellsT depth (tree_of c) lines
 spells_tree depth c lines s = record {
   begin = s.begin;
   end = s.end;

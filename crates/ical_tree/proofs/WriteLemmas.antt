@@ -58,10 +58,5 @@ all_written (Ok t) out new old c cs n k l h w =
     let all : out ≡ start_of c old ++ inner = h ∙ ap (λ ds. start_of c old ++ flat_map folded (flat_map written_lines ds)) (take_all n cs l ∙ k) in
     w ∙ (ap (λ z. z ++ folded (end_of c)) all ∙ (regroup old (folded (begin_of c)) (flat_map folded (component_lines c)) inner (folded (end_of c)) ∙ ap (λ z. old ++ z) (sym (written_parts c))))
 
-pub keeps_through : (a y z : List ℕ) → take (length a) y ≡ a → take (length y) z ≡ y → take (length a) z ≡ a
-keeps_through a y z e f =
-    let l : length a ≤ length y = omega (arith, ap length e, length-take (length a) y) in
-    sym (take-take (length a) (length y) z l) ∙ (ap (take (length a)) f ∙ e)
-
 pub keeps_after : (a x y : List ℕ) → y ≡ a ++ x → take (length a) y ≡ a
 keeps_after a x y e = ap (take (length a)) e ∙ take_at a x (length a) refl

@@ -1,6 +1,6 @@
 -- Schemes, and ASCII lower case of text.
 use Rattle.std.proofs.Common.{◌≡◌, ◌≢◌, ◌∙◌, ℕ, zero, suc, ◌<◌, ◌≤◌, Bool, true, false, cond, List, [], ◌∷◌, length, get_or, map, refl, sym, ap, arith, inl, inr, ltb}
-use Rattle.std.proofs.lemmas.Bool.{cases_order}
+use Rattle.std.proofs.lemmas.Bool.{cases_order, and_parts}
 use Rattle.std.proofs.lemmas.Bool.Decides.{nat_tests}
 use Rattle.std.proofs.lemmas.List.{map-append}
 use Rattle.std.proofs.lemmas.Str.{encode_ascii, encodes-chars}
@@ -74,26 +74,21 @@ lower_scheme_octet c h = grind (arith, nat_tests)
 lower_path_octet : (c : ℕ) → is_path_octet c ≡ true → is_path_octet (to_ascii_lowercase c) ≡ true
 lower_path_octet c h = grind (arith, nat_tests)
 
-both : (a b : Bool) → a && b ≡ true → (a ≡ true) × (b ≡ true)
-both true true h = (refl, refl)
-both true false h = absurd (false≢true h)
-both false b h = absurd (false≢true h)
-
 lower_all : (test : ℕ → Bool) → ((c : ℕ) → test c ≡ true → test (to_ascii_lowercase c) ≡ true) → (cs : List ℕ) → list_all test cs ≡ true → list_all test (lower_case cs) ≡ true
 lower_all test f [] h = refl
 lower_all test f (c ∷ cs) h =
-    let p = both (test c) (list_all test cs) h in
+    let p = and_parts (test c) (list_all test cs) h in
     rw (f c p.0, lower_all test f cs p.1) refl
 
 lower_scheme : (cs : List ℕ) → is_scheme cs ≡ true → is_scheme (lower_case cs) ≡ true
 lower_scheme [] h = h
 lower_scheme (c ∷ cs) h =
-    let p = both (is_ascii_alphabetic c) (list_all is_scheme_octet cs) h in
+    let p = and_parts (is_ascii_alphabetic c) (list_all is_scheme_octet cs) h in
     rw (lower_letter c p.0, lower_all is_scheme_octet lower_scheme_octet cs p.1) refl
 
 lower_path : (cs : List ℕ) → is_path cs ≡ true → is_path (lower_case cs) ≡ true
 lower_path cs h =
-    let p = both (nat_lt 0 (length cs)) (list_all is_path_octet cs) h in
+    let p = and_parts (nat_lt 0 (length cs)) (list_all is_path_octet cs) h in
     let long : length (lower_case cs) ≡ length cs = length-map cs to_ascii_lowercase in
     rw (long, p.0, lower_all is_path_octet lower_path_octet cs p.1) refl
 

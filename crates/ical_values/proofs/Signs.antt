@@ -1,13 +1,8 @@
 -- The sign of a duration.
 use Rattle.std.proofs.Common.{◌≡◌, ◌∙◌, ℕ, ◌<◌, ◌^◌, inl, inr, List, ◌∷◌, get_or, drop, refl, sym, ap, arith}
+use Rattle.ical_values.proofs.Parts.{head, tail}
 use Rattle.profile.specs.Values.{SpellsUnsigned, SpellsDuration, SpellsNegative, SpellsLong}
 use Rattle.ical_values.specs.Counts.{CountsUnsigned, SpellsLongBody}
-
-head : (a b : ℕ) (xs ys : List ℕ) → a ∷ xs ≡ b ∷ ys → a ≡ b
-head a b xs ys e = ap (λ x. get_or x 0 0) e
-
-tail : (a b : ℕ) (xs ys : List ℕ) → a ∷ xs ≡ b ∷ ys → xs ≡ ys
-tail a b xs ys e = ap (drop 1) e
 
 -- counts that fit 32 bits are those of the text
 pub fitted : (text : List ℕ) (d s days seconds : ℕ) → CountsUnsigned text d s → days ≡ d → seconds ≡ s → days < 2 ^ 32 → seconds < 2 ^ 32 → SpellsUnsigned text days seconds

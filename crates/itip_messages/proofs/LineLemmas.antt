@@ -4,6 +4,7 @@ use Rattle.std.specs.Prelude.{Result, OnOk, codes, ℤ}
 use Rattle.std.proofs.lemmas.List.{append-nil}
 use Rattle.std.proofs.lemmas.Grind.{flat_map-append}
 use Rattle.std.specs.List.{flat_map, AllZip}
+use Rattle.cal_events.proofs.EventLemmas.{push_zip}
 use Rattle.profile.specs.Lines.{folded}
 use Rattle.profile.specs.Revisions.{At}
 use Rattle.profile.specs.Messages.{TellsSlot, opening_lines}
@@ -50,12 +51,6 @@ event_written = joins folded
 
 -- ---- the VEVENTs of a reply
 
-AllZip-more : {A B : Type 0} (R : A → B → Type 0) (xs : List A) (ys : List B) (x : A) (y : B) → AllZip R xs ys → R x y → AllZip R (xs ++ x ∷ []) (ys ++ y ∷ [])
-AllZip-more R [] [] x y h r = (r, tt)
-AllZip-more R [] (z ∷ zs) x y h r = absurd h
-AllZip-more R (z ∷ zs) [] x y h r = absurd h
-AllZip-more R (w ∷ ws) (z ∷ zs) x y h r = (h.0, AllZip-more R ws zs x y h.1 r)
-
 more_lines : (f : List ℕ → List ℕ) (old mid new : List ℕ) (before : List (List (List ℕ))) (lines : List (List ℕ)) → mid ≡ old ++ flat_map f (flat_map (λ event. event) before) → new ≡ mid ++ flat_map f lines → new ≡ old ++ flat_map f (flat_map (λ event. event) (before ++ lines ∷ []))
 more_lines f old mid new before lines e1 e2 =
     let grown : flat_map (λ event. event) (before ++ lines ∷ []) ≡ flat_map (λ event. event) before ++ lines =
@@ -65,7 +60,7 @@ more_lines f old mid new before lines e1 e2 =
 -- one event more
 pub events_more : (events : List ReplyEvent) (event : ReplyEvent) (old mid new : List ℕ) → WritesEvents events old mid → WritesLines mid new (IsWrittenEvent event) → WritesEvents (events ++ event ∷ []) old new
 events_more events event old mid new before one =
-    (before.0 ++ one.0 ∷ [], AllZip-more IsWrittenEvent events before.0 event one.0 before.1 one.1, more_lines folded old mid new before.0 one.0 before.2 one.2)
+    (before.0 ++ one.0 ∷ [], push_zip IsWrittenEvent events before.0 event one.0 before.1 one.1, more_lines folded old mid new before.0 one.0 before.2 one.2)
 
 whole : (f : List ℕ → List ℕ) (first lines : List (List ℕ)) (last empty opened mid closed : List ℕ) → empty ≡ [] → opened ≡ empty ++ flat_map f first → mid ≡ opened ++ flat_map f lines → closed ≡ mid ++ f last → closed ≡ flat_map f (first ++ lines ++ (last ∷ []))
 whole f first lines last empty opened mid closed e0 e1 e2 e3 = rw (e3, e2, e1, e0) (simp (flat_map-append f, append_assoc, append-nil))

@@ -4,6 +4,8 @@ use Rattle.std.specs.Prelude.{Result, Ok, Err, IfErr, IfOk, Contains, codes}
 use Rattle.std.specs.List.{list_all, list_any, AllZip}
 use Rattle.std.specs.Str.{bytes_eq}
 use Rattle.std.proofs.lemmas.List.{map-append}
+use Rattle.std.proofs.Math.Bool.{or-false}
+use Rattle.std.proofs.lemmas.Bool.{or_parts}
 use Rattle.ical_lines.specs.declared.fault.Fault.{Fault}
 use Rattle.ical_lines.specs.declared.fault.Fault.TheVariants.{Refused, Memory}
 use Rattle.ical_lines.specs.declared.fault.Refusal.{Refusal}
@@ -109,10 +111,6 @@ stamp_given vevents event o =
     let s = o.says.stamp in
     some_itself event.stamp (given _ s.line (event_of event).stamp (s.stands refl) s.is)
 
-or_false : (a : Bool) → (a || false) ≡ false → a ≡ false
-or_false true h = h
-or_false false h = refl
-
 -- the message's lines say a REQUEST for it
 pub request_said : (own : Lines) (vevents : List Lines) (event : EventComponent) → NamesRequest own → list_any has_unread vevents ≡ false → OneSaid vevents event → SaysRequest own vevents (event_of event)
 request_said own vevents event named read o = record {
@@ -121,7 +119,7 @@ request_said own vevents event named read o = record {
   request = named.2;
   lines = o.lines;
   one = o.one;
-  read = or_false (has_unread o.lines) (subst (λ (vs : List Lines). list_any has_unread vs ≡ false) o.one read);
+  read = (or_parts (has_unread o.lines) false (subst (λ (vs : List Lines). list_any has_unread vs ≡ false) o.one read)).0;
   says = o.says;
 }
 
@@ -136,10 +134,6 @@ any_mapped : (p : events.Attendee → Bool) (xs : List Attendee) → list_any (�
 any_mapped p [] = refl
 any_mapped p (x ∷ xs) = ap (λ b. p (attendee_of x) || b) (any_mapped p xs)
 
-or_none : (b : Bool) → (b || false) ≡ b
-or_none true = refl
-or_none false = refl
-
 -- the one component names the room where the event does
 names_said : (room : List ℕ) (message : Message) (event : Event) (s : StandsFor message event) → component_names room s.component ≡ names_room room event
 names_said room message event s =
@@ -147,7 +141,7 @@ names_said room message event s =
 
 addressed : (room : List ℕ) (message : Message) (event : Event) → StandsFor message event → list_any (component_names room) message.components.items ≡ names_room room event
 addressed room message event s =
-    ap (list_any (component_names room)) s.one ∙ or_none (component_names room s.component) ∙ names_said room message event s
+    ap (list_any (component_names room)) s.one ∙ or-false (component_names room s.component) ∙ names_said room message event s
 
 -- not addressed: no parts
 pub no_parts : (room : List ℕ) (message : Message) (event : Event) (parts : List revisions.Part) (b : Bool) → b ≡ list_any (component_names room) message.components.items → b ≡ false → parts ≡ []

@@ -3,17 +3,15 @@ use Rattle.std.proofs.Common.{◌≡◌, ℕ, suc, true, false, List, [], ◌∷
 use Rattle.std.specs.List.{flat_map, list_all, filter}
 use Rattle.std.specs.Prelude.{map}
 use Rattle.std.proofs.lemmas.Bool.{and_parts}
+use Rattle.ical_tree.proofs.TreeOfLemmas.{BodyT}
 use Rattle.profile.specs.Lines.{is_same_name}
 use Rattle.profile.specs.Trees.{Tree, Trees, tree, none, more, trees_list, tree_name, tree_own, tree_inside, vevents}
-use Rattle.profile.specs.Objects.{is_property, has_version, Opens, Closes, Body, IsObject}
+use Rattle.profile.specs.Objects.{is_property, has_version, Opens, Closes, IsObject}
 use Rattle.profile.specs.Objects.Body.{nothing, property, component}
 use Rattle.profile.specs.Messages.{method_lines, object_lines}
 
 abbrev pub Lines : Type 0
 Lines = List (List ℕ)
-
-abbrev BodyT : ℕ → Lines → List Tree → Lines → Type 0
-BodyT = Body tree_name tree_own tree_inside
 
 -- a VEVENT with these own lines
 abbrev pub vevent_lines : Lines → Lines

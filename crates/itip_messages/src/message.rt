@@ -125,6 +125,7 @@ impl Message {
         })
     }
 
+    /// The METHOD (RFC 5546 1.4).
     pub fn method(&self) -> Method
         ensures { result ≡ self.now.method }
     {
@@ -138,6 +139,7 @@ impl Message {
         &self.organiser
     }
 
+    /// The UID that all its VEVENTs have, its escapes read (RFC 5545 3.8.4.7).
     pub fn uid(&self) -> &Text
         ensures { result.now ≡ self.now.uid }
     {

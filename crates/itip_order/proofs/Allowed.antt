@@ -5,7 +5,7 @@ use Rattle.std.specs.declared.cmp.Ordering.TheVariants.{Less, Equal, Greater}
 use Rattle.std.specs.Ordering.{ordering_then, is_eq, is_lt, is_gt}
 use Rattle.std.specs.Cmp.{both_ways}
 use Rattle.std.specs.List.{Contains}
-use Rattle.std.proofs.lemmas.Bool.{and_parts, true≢false, or_left}
+use Rattle.std.proofs.lemmas.Bool.{and_parts, true≢false, or_left, or_right, and_from}
 use Rattle.std.proofs.lemmas.List.{take-append-drop}
 use Rattle.std.proofs.lemmas.List.Elements.{Contains-get_or, Contains-append_cases}
 use Rattle.profile.specs.Revisions.{Whole, Part, place_cmp, same_meeting, same_place, is_whole, stands_beside, allows}
@@ -52,21 +52,13 @@ at_whole x p e = let both = and_parts _ _ e in eq_then _ _ both.1 both.0
 pub allowed_whole : (R : List Part) (p : Part) → is_whole p ≡ true → true ≡ is_allowed_by R p
 allowed_whole R p whole = sym (all_from (λ w. allows w p) R (λ x c. or_left _ _ whole))
 
-or_from_right : (a b : Bool) → b ≡ true → (a || b) ≡ true
-or_from_right true b e = refl
-or_from_right false b e = e
-
 or_right_of : (a b : Bool) → a ≡ false → (a || b) ≡ true → b ≡ true
 or_right_of true b p q = absurd (true≢false p)
 or_right_of false b p q = q
 
-and_of : (a b : Bool) → a ≡ true → b ≡ true → (a && b) ≡ true
-and_of true b p q = q
-and_of false b p q = p
-
 pub allowed_absent : (R : List Part) (p : Part) (at : ℕ) → IsGap R (at_slot p Whole) at → true ≡ is_allowed_by R p
 allowed_absent R p at gap = sym (all_from (λ w. allows w p) R (λ x c.
-    or_from_right (is_whole p) _ (implies_from _ _ (λ whole.
+    or_right (is_whole p) _ (implies_from _ _ (λ whole.
     let here = at_whole x p whole in
     absurd (elim (Contains-append_cases (take at R) (drop at R) x (subst (λ (xs : List Part). Contains xs x) (sym (take-append-drop at R)) c)) [
       | inl left ↦ lt_not_eq _ (all_at (λ r. is_lt (place_cmp r (at_slot p Whole))) (take at R) x gap.below left) here
@@ -79,7 +71,7 @@ allowed_found R p w at a other found is =
     let place : place_cmp w (at_slot p Whole) ≡ Equal = subst (λ (z : Part). place_cmp z (at_slot p Whole) ≡ Equal) (sym is) (found.same w) in
     let both = then_equal _ _ place in
     both_ways (stands_beside w p) (is_allowed_by R p)
-    (λ stands. all_from (λ v. allows v p) R (λ x c. or_from_right (is_whole p) _ (implies_from _ _ (λ whole.
+    (λ stands. all_from (λ v. allows v p) R (λ x c. or_right (is_whole p) _ (implies_from _ _ (λ whole.
     let same = ascending_unique R x w a c in_R (place_trans x (at_slot p Whole) w (at_whole x p whole) (place_sym w (at_slot p Whole) (ap is_eq place))) in
     subst (λ (z : Part). stands_beside z p ≡ true) (sym same) stands))))
-    (λ allowed. implies_at _ _ (or_right_of (is_whole p) _ other (all_at (λ v. allows v p) R w allowed in_R)) (and_of _ _ (ap is_eq both.1) (ap is_eq both.0)))
+    (λ allowed. implies_at _ _ (or_right_of (is_whole p) _ other (all_at (λ v. allows v p) R w allowed in_R)) (and_from _ _ (ap is_eq both.1) (ap is_eq both.0)))

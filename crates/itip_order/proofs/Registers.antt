@@ -59,7 +59,7 @@ part_antisymm a b place p q = part_same a b (is_eq_true _ place) (le_both _ p (a
 pub same_part_is : (a b : Part) → same_part a b ≡ true → a ≡ b
 same_part_is a b h = let both = and_parts _ _ h in part_same a b (is_eq_true _ both.0) (is_eq_true _ both.1)
 
-same_part_refl : (a : Part) → same_part a a ≡ true
+pub same_part_refl : (a : Part) → same_part a a ≡ true
 same_part_refl a = and_from _ _ (eq_refl a) (ap is_eq (tied_itself part_total a))
 
 -- the part was taken, and none of its place is greater

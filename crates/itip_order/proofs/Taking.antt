@@ -23,7 +23,7 @@ is_lt_true Less e = refl
 is_lt_true Equal e = absurd (true≢false (sym e))
 is_lt_true Greater e = absurd (true≢false (sym e))
 
-is_gt_true : (o : Ordering) → is_gt o ≡ true → o ≡ Greater
+pub is_gt_true : (o : Ordering) → is_gt o ≡ true → o ≡ Greater
 is_gt_true Less e = absurd (true≢false (sym e))
 is_gt_true Equal e = absurd (true≢false (sym e))
 is_gt_true Greater e = refl

@@ -10,6 +10,7 @@ use Rattle.std.specs.Str.Lines.{lines}
 use Rattle.std.proofs.lemmas.Bool.{and_parts}
 use Rattle.std.proofs.lemmas.List.{nil_from_length}
 use Rattle.std.proofs.lemmas.Map.Views.{lookup-from_Contains}
+use Rattle.itip_order.proofs.Lasting.{view_taken}
 use Rattle.ical_values.specs.Written.{Appends}
 use Rattle.itip_messages.specs.Replies.{IsStampLine}
 use Rattle.itip_order.specs.Registers.{IsView}
@@ -105,9 +106,6 @@ module _ (entries : List (MeetingKey × Meeting)) (book : Book) (key : MeetingKe
               (greatest_at book.taken p (sym (view_whole book.taken p whole) ∙ seen)) (place_whole key a.claim.part p kept.of_it from.1 a_whole whole),
           from.0,
         )
-      where
-        view_taken : (h : List Part) (q : Part) → in_view h q ≡ true → Contains h q
-        view_taken h q v = (greatest_at h q (and_parts _ _ v).0).taken
 
 -- ---- the VEVENT of a part
 

@@ -5,7 +5,7 @@ use Rattle.std.specs.Str.{bytes_eq}
 use Rattle.std.specs.List.{Contains, filter, flat_map, list_all}
 use Rattle.std.specs.Cmp.{both_ways as same_tests}
 use Rattle.std.specs.FinMap.{nat_cmp-IsAntisymmetric, slice_cmp-IsAntisymmetric}
-use Rattle.std.proofs.lemmas.Bool.{and_parts, and_from, and_right, both_ways, cases_Bool}
+use Rattle.std.proofs.lemmas.Bool.{and_parts, and_from, and_right, both_ways, cases_Bool, or_left}
 use Rattle.std.proofs.Math.Bool.{and-true}
 use Rattle.std.proofs.lemmas.List.{append-nil}
 use Rattle.std.proofs.lemmas.List.Elements.{filter-append, Contains-append_left, Contains-push, Contains-push_cases}
@@ -16,12 +16,12 @@ use Rattle.profile.specs.Revisions.{Part, Whole, Slot, octets_cmp, slot_cmp, mee
 use Rattle.profile.specs.Rooms.{Answer, is_accept, is_confirmed, confirmed_in}
 use Rattle.itip_order.proofs.Lists.{all_from, in_head, in_tail, filter_at, filter_from}
 use Rattle.itip_order.proofs.Order.{is_eq_true, then_equal}
-use Rattle.itip_order.proofs.Registers.{greatest_at, greatest_from, greatest_unique, eq_refl, place_sym, place_trans, part_le_trans, implies_from}
+use Rattle.itip_order.proofs.Registers.{greatest_at, greatest_from, greatest_unique, eq_refl, place_sym, place_trans, part_le_trans, implies_from, part_le_refl}
 use Rattle.room_books.specs.declared.meeting.MeetingKey.{MeetingKey}
 use Rattle.room_books.specs.declared.meeting.Span.{Span}
 use Rattle.room_books.specs.Views.{same_key, booked_of}
 use Rattle.room_books.specs.Standing.{is_of, of_meeting}
-use Rattle.room_books.proofs.Views.{le_unless, part_le_refl, or_first, view_back}
+use Rattle.room_books.proofs.Views.{le_unless, view_back}
 
 pub is_of_parts : (k : MeetingKey) (p : Part) → is_of k p ≡ true → (address_octets k.organiser ≡ p.organiser) × (text_octets k.uid ≡ p.uid)
 is_of_parts k p e =
@@ -61,7 +61,7 @@ whole_is p e = ap (λ (s : Slot). is_eq (slot_cmp s Whole)) e
 -- a Whole is in the view where it is the greatest
 pub view_whole : (h : List Part) (p : Part) → p.slot ≡ Whole → in_view h p ≡ is_greatest h p
 view_whole h p e =
-    let all : list_all (λ whole. implies (is_greatest h whole) (allows whole p)) h ≡ true = all_from (λ whole. implies (is_greatest h whole) (allows whole p)) h (λ w c. implies_from (is_greatest h w) (allows w p) (λ g. or_first (is_whole p) (implies (is_whole w && same_meeting w p) (stands_beside w p)) (whole_is p e))) in
+    let all : list_all (λ whole. implies (is_greatest h whole) (allows whole p)) h ≡ true = all_from (λ whole. implies (is_greatest h whole) (allows whole p)) h (λ w c. implies_from (is_greatest h w) (allows w p) (λ g. or_left (is_whole p) (implies (is_whole w && same_meeting w p) (stands_beside w p)) (whole_is p e))) in
     ap (λ b. is_greatest h p && b) all ∙ and-true (is_greatest h p)
 
 place_of_key : (k : MeetingKey) (p y : Part) → same_place y p ≡ true → is_of k p ≡ true → is_of k y ≡ true

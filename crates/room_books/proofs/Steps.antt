@@ -25,7 +25,7 @@ use Rattle.std.specs.Ordering.{is_eq, is_le}
 use Rattle.std.specs.List.{AllZip}
 use Rattle.std.proofs.lemmas.Cmp.{tied_itself}
 use Rattle.itip_order.proofs.Order.{part_total}
-use Rattle.itip_order.proofs.Registers.{greatest_at, greatest_from, greatest_unique, eq_refl}
+use Rattle.itip_order.proofs.Registers.{greatest_at, greatest_from, greatest_unique, eq_refl, part_le_refl, same_part_refl}
 use Rattle.room_books.specs.Replying.{IsReplyOf, Tells, TellsDecided}
 use Rattle.room_books.specs.declared.meeting.MeetingKey.{MeetingKey}
 use Rattle.room_books.specs.declared.meeting.Meeting.{Meeting}
@@ -44,7 +44,6 @@ use Rattle.room_books.proofs.Meetings.{key_from, is_of_parts, is_of_from, is_of_
 use Rattle.room_books.proofs.Stepping.{decides, others_differ, other_of, others_stay, own_stays, own_goes, others_same}
 use Rattle.room_books.proofs.Arrivals.{arrives}
 use Rattle.room_books.proofs.Dates.{told_span, span_told, others_dated, decision_dated}
-use Rattle.room_books.proofs.Views.{part_le_refl}
 
 list_same : (k q : MeetingKey) (o : Option Span) → same_key k q ≡ true → booked_list k o ≡ booked_list q o
 list_same k q None e = refl
@@ -377,9 +376,6 @@ part_steps entries entries' asks taken kind distinct key whole set after updates
 view_unique : (k : MeetingKey) (h : List Part) (p q : Part) → p.slot ≡ Whole → q.slot ≡ Whole → is_of k p ≡ true → is_of k q ≡ true → in_view h p ≡ true → in_view h q ≡ true → p ≡ q
 view_unique k h p q w v e f x y = greatest_unique h p q (greatest_at h p (sym (view_whole h p w) ∙ x)) (greatest_at h q (sym (view_whole h q v) ∙ y)) (place_whole k p q e f w v)
 
-same_part_itself : (p : Part) → same_part p p ≡ true
-same_part_itself p = and_from _ _ (eq_refl p) (ap is_eq (tied_itself part_total p))
-
 -- the part is in the view of the book after as it is in that of its own meeting
 view_now : (entries' : List (MeetingKey × Meeting)) (asks : Asked) (kind : Kind) (book : Book) → (part_of asks.part.now).slot ≡ Whole → is_of asks.key.now (part_of asks.part.now) ≡ true
     → (s : StepsTo entries' book (claim_of (part_of asks.part.now) asks.span ∷ []) asks.moment kind) → in_view s.after.taken (part_of asks.part.now) ≡ in_view (of_meeting asks.key.now book.taken ++ part_of asks.part.now ∷ []) (part_of asks.part.now)
@@ -403,7 +399,7 @@ reply_shows room entries entries' asks taken kind book octets d whole set of_k f
     let shows : ShowsAnswer room s.after c reply.lines = record {
       answer = o.given;
       kept = o.kept;
-      of_part = ap (λ (x : Part). same_part x p) same ∙ same_part_itself p;
+      of_part = ap (λ (x : Part). same_part x p) same ∙ same_part_refl p;
       shows = subst (λ (m : ℤ). IsReplyEvent room p m o.given.outcome reply.lines) (sym o.moment) (subst (λ (x : messages.Outcome). IsReplyEvent room p d.moment x reply.lines) (sym o.outcome) reply.event);
     } in
     let is_shown : c ∷ [] ≡ shown s.after.taken (c ∷ []) = λ i. cond (sym set i && sym seen i) (c ∷ []) [] in

@@ -4,35 +4,19 @@ use Rattle.std.specs.declared.cmp.Ordering.{Ordering}
 use Rattle.std.specs.declared.cmp.Ordering.TheVariants.{Less, Equal, Greater}
 use Rattle.std.specs.Ordering.{is_eq, is_le, is_gt, ordering_then, ordering_reverse}
 use Rattle.std.specs.List.{Contains}
-use Rattle.std.proofs.lemmas.Bool.{and_parts, and_from, or_cases, and_cases, both_ways, true≢false, cases_Bool}
+use Rattle.std.proofs.lemmas.Bool.{and_parts, and_from, or_cases, and_cases, both_ways, true≢false, cases_Bool, or_right, not-true, or_left}
 use Rattle.std.proofs.lemmas.Cmp.{alike_right, tied_itself}
 use Rattle.std.proofs.lemmas.List.Elements.{Contains-append_left, Contains-push, Contains-push_cases}
+use Rattle.itip_order.proofs.Taking.{is_gt_true}
 use Rattle.profile.specs.Revisions.{Whole, Revision, Body, Set, Absent, Cancelled, Part, slot_cmp, meeting_cmp, revision_cmp, body_cmp, part_cmp, same_place, is_cancelled, is_greatest, implies, stands_beside, allows, in_view}
 use Rattle.itip_order.proofs.Lists.{all_at, all_from}
 use Rattle.itip_order.proofs.Order.{slot_total, meeting_total, revision_total, part_total, is_eq_true, then_equal}
-use Rattle.itip_order.proofs.Registers.{Greatest, greatest_at, greatest_from, place_sym, place_trans, part_le_trans, implies_at, implies_from}
-
-is_gt_true : (o : Ordering) → is_gt o ≡ true → o ≡ Greater
-is_gt_true Less e = absurd (true≢false (sym e))
-is_gt_true Equal e = absurd (true≢false (sym e))
-is_gt_true Greater e = refl
+use Rattle.itip_order.proofs.Registers.{Greatest, greatest_at, greatest_from, place_sym, place_trans, part_le_trans, implies_at, implies_from, part_le_refl}
 
 not_le_gt : (o : Ordering) → is_le o ≡ false → is_le (ordering_reverse o) ≡ true
 not_le_gt Less e = absurd (true≢false e)
 not_le_gt Equal e = absurd (true≢false e)
 not_le_gt Greater e = refl
-
-or_right : (a b : Bool) → b ≡ true → (a || b) ≡ true
-or_right true b e = refl
-or_right false b e = e
-
-pub or_first : (a b : Bool) → a ≡ true → (a || b) ≡ true
-or_first true b e = refl
-or_first false b e = absurd (true≢false (sym e))
-
-not_true : (b : Bool) → not b ≡ true → b ≡ false
-not_true true e = absurd (true≢false (sym e))
-not_true false e = refl
 
 -- a revision above or beside a greater one is above a lesser one
 above_lesser : (w q p : Revision) → revision_cmp w q ≡ Less → (revision_cmp p q ≡ Greater) ⊎ (revision_cmp p q ≡ Equal) → revision_cmp p w ≡ Greater
@@ -54,11 +38,11 @@ beside_cases : (whole part : Part) → stands_beside whole part ≡ true → (re
 beside_cases whole part h =
     elim (or_cases _ _ h) [
       | inl gt ↦ inl (is_gt_true _ gt)
-      | inr eq ↦ let both = and_parts _ _ eq in inr (is_eq_true _ both.0, not_true _ both.1)
+      | inr eq ↦ let both = and_parts _ _ eq in inr (is_eq_true _ both.0, not-true _ both.1)
     ]
 
 beside_above : (whole part : Part) → revision_cmp part.revision whole.revision ≡ Greater → stands_beside whole part ≡ true
-beside_above whole part e = or_first _ _ (ap is_gt e)
+beside_above whole part e = or_left _ _ (ap is_gt e)
 
 beside_equal : (whole part : Part) → revision_cmp part.revision whole.revision ≡ Equal → is_cancelled whole ≡ false → stands_beside whole part ≡ true
 beside_equal whole part e n = or_right _ _ (and_from _ _ (ap is_eq e) (ap not n))
@@ -89,9 +73,6 @@ allows_lower w q p place le h =
     (λ meeting. ap is_eq (sym (meeting_total.congr w q p places.0)) ∙ meeting)
     (stands_lower_at w q p (revision_cmp w.revision q.revision) refl le)
     h
-
-pub part_le_refl : (a : Part) → is_le (part_cmp a a) ≡ true
-part_le_refl a = ap is_le (tied_itself part_total a)
 
 -- one of two parts of a place is at most the other
 pub le_unless : (w q : Part) → same_place q w ≡ true → (same_place q w && is_le (part_cmp w q)) ≡ false → is_le (part_cmp q w) ≡ true

@@ -22,6 +22,8 @@ pub struct MeetingKey {
 }
 
 impl MeetingKey {
+    /// The name of the meeting that has this ORGANIZER's address and this UID, both copied (RFC 5545 3.8.4.7).
+    /// It fails only for want of memory.
     pub fn of(organiser: &Address, uid: &Text) -> Result<MeetingKey, AllocError>
         ensures { IfOk result (IsKeyOf (address_octets organiser.now) (text_octets uid.now)) }
     {

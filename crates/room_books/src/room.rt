@@ -53,6 +53,7 @@ impl Room {
         self.alloc
     }
 
+    /// The room's own address, in lower case: an ATTENDEE of this address is the room (RFC 5545 3.8.4.1).
     pub fn address(&self) -> &Address
         ensures { result.now ≡ self.now.address }
     {

@@ -2,6 +2,7 @@
 use Rattle.std.proofs.Common.{◌≡◌, inl, inr, ℕ, ◌<◌, ◌≤◌, Bool, true, false, not, ◌&&◌, ◌||◌, ◌==◌, nat_lt, List, length, codes, refl, sym, ap, subst, ◌∙◌, arith, take_all, length-take}
 use Rattle.std.proofs.lemmas.Bool.{not-true}
 use Rattle.std.proofs.lemmas.Bool.Decides.{nat_tests}
+use Rattle.std.proofs.Math.Bool.{or-true}
 use Rattle.ical_lines.specs.declared.fault.Fault.{Fault}
 use Rattle.ical_lines.specs.declared.fault.Fault.TheVariants.{Refused, Memory}
 use Rattle.ical_tree.proofs.TreeOfLemmas.{tree_of-own, spells_tree, count_tree}
@@ -70,10 +71,6 @@ kept_long octets object is long =
     let same : length octets ≡ length (kept_of object) = ap length is in
     omega (arith, length-take 1_048_577 object)
 
-or_true : (b : Bool) → (b || true) ≡ true
-or_true true = refl
-or_true false = refl
-
 pub long_fault : (octets object : List ℕ) → octets ≡ kept_of object → 1_048_577 ≤ length octets → ObjectFault 6 object
 long_fault octets object is long =
     let more' : 1_048_576 < length object = kept_long octets object is long in
@@ -81,4 +78,4 @@ long_fault octets object is long =
     inl (at lt)
   where
     at : nat_lt 1_048_576 (length object) ≡ true → text_has true 6 object ≡ true
-    at lt = rw lt (or_true _)
+    at lt = rw lt (or-true _)

@@ -36,7 +36,7 @@ enum Piece {
 }
 
 impl Objects {
-    /// Nothing is read yet.
+    /// A stream from which nothing is read yet; 1,073,741,824 octets may be read of it.
     pub fn new(alloc: Global) -> Objects
         ensures { result.left ≡ MOST_OCTETS }
     {

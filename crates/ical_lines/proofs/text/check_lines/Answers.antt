@@ -1,10 +1,11 @@
 use Rattle.std.proofs.Common.{◌≡◌, ◌||◌, ◌&&◌, ltb, length, refl, ap, sym, ◌∙◌, arith}
 use Rattle.std.specs.List.{list_any}
+use Rattle.std.proofs.Math.Bool.{and-false}
 use Rattle.profile.specs.Lines.{is_faulty, line_has}
 use Rattle.ical_lines.specs.Breaks.{lines_of}
 use Rattle.ical_lines.specs.Limits.{is_bounded}
 use Rattle.ical_lines.specs.Text.{lines_left}
-use Rattle.ical_lines.proofs.BreakLemmas.{and_false, any_later, any_here, lines_of-le}
+use Rattle.ical_lines.proofs.BreakLemmas.{any_later, any_here, lines_of-le}
 use Rattle.ical_lines.proofs.FirstLemmas.{next_judged, first_found, too_many, bound_stands}
 use Rattle.ical_lines.proofs.text.check_lines.Goals as goal
 
@@ -15,7 +16,7 @@ loop-line-init c =
       finite = tt;
       counted = rw e (omega arith);
       fits = rw e (omega (arith, lines_of-le c.args.text.now));
-      within = and_false (is_bounded c.args.limits);
+      within = and-false (is_bounded c.args.limits);
       same = rw e refl;
       first = rw e refl;
       among = λ n h. rw e at h;
