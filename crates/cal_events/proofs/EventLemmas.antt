@@ -25,7 +25,7 @@ use Rattle.cal_events.specs.declared.component.Extent.TheVariants.{ToEnd, For}
 use Rattle.ical_values.specs.declared.duration.Duration.{Duration}
 use Rattle.profile.specs.Lines.{line_value}
 use Rattle.profile.specs.Values.{SpellsDate, SpellsLocal, SpellsStamp, SpellsSequence, SpellsDuration, SpellsNegative, SpellsLong, IsUid, unescaped}
-use Rattle.profile.specs.Events.{is_of, lines_named, StandsAtMostOnce, SomeLine, Says, SaysSequence, IsUidLine, TimeKind, DateTime, kind_of, IsTime, IsDateText, IsLocalText, malformed_number, UnfixedOrMalformed, KindFault, TimeFault, EventFault, IsNoDuration, IsNegativeOrLong, IsAttendee, IsNoAddress, SaysLength, IsLength, BothOrNeither, length_seconds, bad_duration, bad_attendee, lasts_long, ends_early, ends_late, starts_early}
+use Rattle.profile.specs.Events.{is_of, lines_named, StandsAtMostOnce, SomeLine, Says, SaysSequence, IsUidLine, TimeKind, DateTime, time_kind, IsTime, IsDateText, IsLocalText, malformed_number, UnfixedOrMalformed, KindFault, TimeFault, EventFault, IsNoDuration, IsNegativeOrLong, IsAttendee, IsNoAddress, SaysLength, IsLength, BothOrNeither, length_seconds, bad_duration, bad_attendee, lasts_long, ends_early, ends_late, starts_early}
 use Rattle.cal_events.specs.Events.{StandsIn, attendee_of, length_of, IsExtent, GivesLength, ExtentFault, TimesFault, ends_early as lies_before, ends_late as lies_late, lasts_long as is_long, in_extent, starts_early as lies_early}
 
 -- ---- the exits of a `?`, by the error that it returns
@@ -158,10 +158,10 @@ malformed_or b P Q text n h e (inl (p, k)) = inl (inl p, k)
 malformed_or b P Q text n h e (inr (no, k)) = inr (λ x. elim x [ inl p ↦ no p | inr q ↦ absurd (true≢false (sym (h.1 q) ∙ e)) ], k)
 
 -- the kind that VALUE says decides what is wrong
-pub kind_fault : (line text : List ℕ) (kind : TimeKind) (n : ℕ) → kind ≡ kind_of line → text ≡ line_value line → KindFault kind text n → TimeFault line n
+pub kind_fault : (line text : List ℕ) (kind : TimeKind) (n : ℕ) → kind ≡ time_kind line → text ≡ line_value line → KindFault kind text n → TimeFault line n
 kind_fault line text kind n k e f = subst (λ (x : TimeKind). KindFault x (line_value line) n) k (subst (λ (t : List ℕ). KindFault kind t n) e f)
 
-pub time_said : (r : Result ℤ Refusal) (line text : List ℕ) → DateTime ≡ kind_of line → text ≡ line_value line → IfOk r (SpellsStamp text) → IfOk r (IsTime line)
+pub time_said : (r : Result ℤ Refusal) (line text : List ℕ) → DateTime ≡ time_kind line → text ≡ line_value line → IfOk r (SpellsStamp text) → IfOk r (IsTime line)
 time_said (Ok t) line text k e h = (sym k, subst (λ (x : List ℕ). SpellsStamp x t) e h)
 time_said (Err x) line text k e h = tt
 

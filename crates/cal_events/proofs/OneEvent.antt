@@ -8,7 +8,7 @@ use Rattle.std.proofs.lemmas.Int.{ints}
 use Rattle.std.proofs.lemmas.List.Elements.{All-from_recursion, All-contains}
 use Rattle.profile.specs.Lines.{line_value}
 use Rattle.profile.specs.Values.{SpellsStamp, SpellsSequence, SpellsDuration, SpellsNegative, IsUid, unescaped}
-use Rattle.profile.specs.Events.{lines_named, StandsAtMostOnce, IsMissing, SomeLine, BothOrNeither, Says, SaysLength, SaysEvent, Event, Attendee, Length, length_seconds, IsLength, LastsFor, LastsUntil, IsTime, IsUidLine, IsAddressLine, IsStampLine, IsSequenceLine, IsAttendee, IsNoStamp, IsNegativeOrLong, IsNoAddress, IsNoSequence, StartAndEnd, TimeKind, DateTime, Date, Period, Other, kind_of, IsDateText, IsLocalText, UnfixedOrMalformed, KindFault, TimeFault, EventFault, single_names, bad_start, bad_end, bad_stamp, bad_duration, bad_uid, bad_organiser, bad_attendee, bad_sequence, ends_early, ends_late, lasts_long, starts_early, no_uid, no_start, no_stamp_given, twice, end_and_duration, no_organiser}
+use Rattle.profile.specs.Events.{lines_named, StandsAtMostOnce, IsMissing, SomeLine, BothOrNeither, Says, SaysLength, SaysEvent, Event, Attendee, Length, length_seconds, IsLength, LastsFor, LastsUntil, IsTime, IsUidLine, IsAddressLine, IsStampLine, IsSequenceLine, IsAttendee, IsNoStamp, IsNegativeOrLong, IsNoAddress, IsNoSequence, StartAndEnd, TimeKind, DateTime, Date, Period, Other, time_kind, IsDateText, IsLocalText, UnfixedOrMalformed, KindFault, TimeFault, EventFault, single_names, bad_start, bad_end, bad_stamp, bad_duration, bad_uid, bad_organiser, bad_attendee, bad_sequence, ends_early, ends_late, lasts_long, starts_early, no_uid, no_start, no_stamp_given, twice, end_and_duration, no_organiser}
 
 abbrev Lines : Type 0
 Lines = List (List ℕ)
@@ -165,7 +165,7 @@ kind_number Period text m n h k = h ∙ sym k
 kind_number Other text m n h k = h ∙ sym k
 
 pub one_number : (line : List ℕ) (m n : ℕ) → TimeFault line m → TimeFault line n → m ≡ n
-one_number line m n h k = kind_number (kind_of line) (line_value line) m n h k
+one_number line m n h k = kind_number (time_kind line) (line_value line) m n h k
 
 -- the end that stands
 end_said : (lines : Lines) (start : ℤ) (length : Length) (P : List ℕ → Type 0) → SaysLength lines start length → (l : SomeLine (codes "DTEND") P lines) → LastsUntil start l.0 length

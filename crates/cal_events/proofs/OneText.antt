@@ -3,7 +3,7 @@ use Rattle.std.proofs.Common.{◌≡◌, ℕ, Bool, true, false, List, subst, sy
 use Rattle.std.proofs.lemmas.Bool.{true≢false}
 use Rattle.ical_lines.proofs.ContentLemmas.{read_fine}
 use Rattle.profile.specs.Lines.{logical_lines}
-use Rattle.profile.specs.Objects.{Spells, IsObject, has_version, lines_have}
+use Rattle.profile.specs.Objects.{SpellsTree, IsObject, has_version, lines_have}
 use Rattle.profile.specs.Trees.{Tree, tree_name, tree_own, tree_inside, vevents}
 use Rattle.profile.specs.Instances.{Booked}
 use Rattle.profile.specs.Events.{SaysCalendar, CalendarFault}
@@ -13,7 +13,7 @@ abbrev Lines : Type 0
 Lines = List (List ℕ)
 
 abbrev OneTree : Type 0
-OneTree = (d e : ℕ) (lines : Lines) (a b : Tree) → Spells tree_name tree_own tree_inside d a lines → Spells tree_name tree_own tree_inside e b lines → a ≡ b
+OneTree = (d e : ℕ) (lines : Lines) (a b : Tree) → SpellsTree tree_name tree_own tree_inside d a lines → SpellsTree tree_name tree_own tree_inside e b lines → a ≡ b
 
 abbrev PairsUp : Type 0
 PairsUp = (bounded : Bool) (t : Tree) (lines : Lines) (n : ℕ) → IsObject tree_name tree_own tree_inside bounded t lines → lines_have n lines ≡ true → ⊥

@@ -10,7 +10,7 @@ use Rattle.ical_tree.proofs.TreeOfLemmas.{tree_of-name, tree_of-own, tree_of-ins
 use Rattle.ical_tree.specs.Reading.{Stands, calendar_has}
 use Rattle.ical_tree.specs.declared.component.Component.{Component}
 use Rattle.profile.specs.Lines.{is_same_name, logical_lines, reads_as_lines}
-use Rattle.profile.specs.Objects.{Spells, has_version}
+use Rattle.profile.specs.Objects.{SpellsTree, has_version}
 use Rattle.profile.specs.Trees.{Tree, tree_name, tree_own, vevents}
 use Rattle.profile.specs.Instances.{Booked}
 use Rattle.profile.specs.Events.{SaysCalendar, CalendarFault}
@@ -48,7 +48,7 @@ faults_there (Err (Refused x)) octets c object h =
     in_vevents (tree_of c) (object_tree false c (logical_lines octets) object) (subst (λ (vs : List Lines). CalendarFault vs x.number) (sym (vevents_tree c)) h)
 
 -- what is wrong with the one VCALENDAR: nothing counts its VEVENTs here
-version_wrong : (octets : List ℕ) (n : ℕ) (c : Component) → Spells component_name component_lines component_children 7 c (logical_lines octets) → IsTrue (calendar_has false n c)
+version_wrong : (octets : List ℕ) (n : ℕ) (c : Component) → SpellsTree component_name component_lines component_children 7 c (logical_lines octets) → IsTrue (calendar_has false n c)
     → CalendarTextFault octets n
 version_wrong octets n c s h =
     let e : n ≡ 24 = grind (arith, nat_tests) in

@@ -8,8 +8,7 @@ ghost use Rattle.ical_tree.specs.Tree.{component_lines};
 ghost use Rattle.ical_values.specs.Octets.{address_octets, text_octets};
 ghost use Rattle.profile.specs.Faults.{is_event_fault};
 ghost use Rattle.profile.specs.Values.{SpellsStamp};
-ghost use Rattle.profile.specs.Events.{Event, answer_named, answer_of, length_seconds, ends_in_z, lines_named, malformed_number, Says, SaysSequence, SaysEvent, IsUidLine, IsAddressLine, IsStampLine, IsAttendee, IsTime, IsDateText, IsLocalText, IsNoAddress, UnfixedOrMalformed, TimeFault, EventFault};
-ghost use Rattle.profile.specs.Events as events;
+ghost use Rattle.profile.specs.Events.{Event, answer_named, answer_of, length_seconds, ends_in_z, lines_named, malformed_number, Says, SaysSequence, SaysEvent, IsUidLine, IsAddressLine, IsStampLine, IsAttendee, IsTime, IsDateText, IsLocalText, IsNoAddress, UnfixedOrMalformed, time_kind, DateTime, KindFault, TimeFault, EventFault};
 ghost use Rattle.cal_events.specs.Events.{is_message, participation_of, attendee_of, length_of, event_of, said_kind, StandsIn, IsExtent, GivesLength, ExtentFault, TimesFault};
 
 use crate::properties::{optional, required};
@@ -266,7 +265,7 @@ enum TimeKind {
 }
 
 fn kind_of(line: Line<'_>) -> TimeKind
-    ensures { said_kind result ≡ events.kind_of (line_text line.entry) }
+    ensures { said_kind result ≡ time_kind (line_text line.entry) }
 {
     match line.param("VALUE") {
         None => TimeKind::DateTime,
@@ -296,7 +295,7 @@ fn read_time(line: Line<'_>) -> Result<Stamp, Refusal>
 fn read_date_time(text: &str) -> Result<Stamp, Refusal>
     ensures reads { IfOk result (SpellsStamp text.now) }
     ensures refuses { IfErr result (λ e. IsTrue (is_event_fault e.number)) }
-    ensures stands { IfErr result (λ e. events.KindFault events.DateTime text.now e.number) }
+    ensures stands { IfErr result (λ e. KindFault DateTime text.now e.number) }
 {
     match Stamp::read(text) {
         Ok(stamp) => Ok(stamp),

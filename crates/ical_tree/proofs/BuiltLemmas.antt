@@ -4,7 +4,7 @@ use Rattle.std.proofs.lemmas.List.{append_assoc, reverse-append, length-reverse,
 use Rattle.std.proofs.lemmas.Bool.{not-true}
 use Rattle.profile.specs.Lines.{line_value, is_same_name}
 use Rattle.profile.specs.Objects.{Opens, Closes, is_property, is_end, is_calendar_name, may_begin}
-use Rattle.profile.specs.Objects.Body.{nothing, property, component}
+use Rattle.profile.specs.Objects.SpellsBody.{nothing, property, component}
 use Rattle.ical_tree.specs.declared.component.Component.{Component}
 use Rattle.ical_tree.specs.Tree.{component_name, component_lines, component_children}
 use Rattle.ical_tree.specs.Reading.{BodyOf, Built, names_of}

@@ -6,8 +6,8 @@ use Rattle.std.proofs.lemmas.Bool.{lt-leb, or_from, or_parts, or_right, and_from
 use Rattle.std.proofs.lemmas.Slice.Eq.{bytes_eq-Decides}
 use Rattle.std.proofs.Math.Bool.{and-false}
 use Rattle.profile.specs.Lines.{line_name, line_value, is_same_name}
-use Rattle.profile.specs.Objects.{is_begin, is_end, is_property, Opens, Closes, Body, is_none, now_open, opened_from, misplaced, misplaced_begin, misplaced_end, misplaced_property, is_calendar_name, fits, some_misplaced, all_fit}
-use Rattle.profile.specs.Objects.Body.{nothing, property, component}
+use Rattle.profile.specs.Objects.{is_begin, is_end, is_property, Opens, Closes, SpellsBody, is_none, now_open, opened_from, misplaced, misplaced_begin, misplaced_end, misplaced_property, is_calendar_name, fits, some_misplaced, all_fit}
+use Rattle.profile.specs.Objects.SpellsBody.{nothing, property, component}
 
 abbrev Lines : Type 0
 Lines = List (List ℕ)
@@ -154,7 +154,7 @@ stays_whole name begin end inner o c k stack =
     ap (λ s. opened_from s (inner ++ end ∷ [])) (now_begin stack begin name o)
     ∙ (opened-append (name ∷ stack) inner (end ∷ []) ∙ (ap (λ s. now_open s end) (k (name ∷ stack)) ∙ now_end (name ∷ stack) end name c))
 
-pub stays : {T : Type 0} {name : T → List ℕ} {own : T → Lines} {inside : T → List T} {depth : ℕ} {lines : Lines} {parts : List T} {body : Lines} → Body name own inside depth lines parts body → Stays body
+pub stays : {T : Type 0} {name : T → List ℕ} {own : T → Lines} {inside : T → List T} {depth : ℕ} {lines : Lines} {parts : List T} {body : Lines} → SpellsBody name own inside depth lines parts body → Stays body
 stays nothing = λ stack. refl
 stays (property {body = body} line h b) = λ stack.
     opened-append stack body (line ∷ []) ∙ (ap (λ s. now_open s line) (stays b stack) ∙ now_property stack line h)
@@ -168,7 +168,7 @@ fine_whole n stack started name begin end inner o c k m f =
     let rest : any_misplaced n (name ∷ stack) true (inner ++ end ∷ []) ≡ false = fine-append n (name ∷ stack) inner (end ∷ []) f (ap (λ s. any_misplaced n s true (end ∷ [])) (k (name ∷ stack)) ∙ last) in
     or_from (misplaced n stack started begin) (any_misplaced n (now_open stack begin) true (inner ++ end ∷ [])) m (ap (λ s. any_misplaced n s true (inner ++ end ∷ [])) (now_begin stack begin name o) ∙ rest)
 
-pub fine : {T : Type 0} {name : T → List ℕ} {own : T → Lines} {inside : T → List T} {depth : ℕ} {lines : Lines} {parts : List T} {body : Lines} → Body name own inside depth lines parts body → (n : ℕ) (x : List ℕ) (stack : Lines) → length stack + depth ≤ 7 → any_misplaced n (x ∷ stack) true body ≡ false
+pub fine : {T : Type 0} {name : T → List ℕ} {own : T → Lines} {inside : T → List T} {depth : ℕ} {lines : Lines} {parts : List T} {body : Lines} → SpellsBody name own inside depth lines parts body → (n : ℕ) (x : List ℕ) (stack : Lines) → length stack + depth ≤ 7 → any_misplaced n (x ∷ stack) true body ≡ false
 fine nothing = λ n x stack h. refl
 fine (property {body = body} line p b) = λ n x stack h.
     let last : any_misplaced n (x ∷ stack) true (line ∷ []) ≡ false = or_from (misplaced n (x ∷ stack) true line) false (fine_property n x stack line p) refl in

@@ -12,7 +12,7 @@ use Rattle.std.proofs.lemmas.List.Folds.{list_all-append}
 use Rattle.std.proofs.lemmas.Str.{IsUtf8-string_bytes, IsUtf8-from_ascii, is_utf8-from_IsUtf8}
 use Rattle.std.proofs.lemmas.Str.Ascii.{IsAscii-cons, IsAscii-nil}
 use Rattle.profile.specs.Lines.{outside, line_value, is_same_name, is_control, has_control, lacks_colon, has_bad_name, has_bad_quote, is_faulty, is_content, logical_lines, reads_as_lines}
-use Rattle.profile.specs.Objects.{Body, nothing, property, component, is_property, Opens, Closes, has_version}
+use Rattle.profile.specs.Objects.{SpellsBody, nothing, property, component, is_property, Opens, Closes, has_version}
 use Rattle.profile.specs.Trees.{tree_own}
 use Rattle.ical_lines.proofs.ContentLemmas.{lines_back, lines_fine, read_content, read_fine}
 use Rattle.ical_lines.proofs.ReadBackLemmas.{property_utf8}
@@ -28,7 +28,7 @@ abbrev Lines : Type 0
 Lines = List (List ℕ)
 
 abbrev BodyC : ℕ → Lines → List Component → Lines → Type 0
-BodyC = Body component_name component_lines component_children
+BodyC = SpellsBody component_name component_lines component_children
 
 -- the lines of components that are written one behind another
 abbrev all_written : List Component → Lines

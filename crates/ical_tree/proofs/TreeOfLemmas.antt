@@ -3,7 +3,7 @@ use Rattle.std.proofs.Common.{◌≡◌, ℕ, ◌+◌, suc, Bool, nat_lt, ◌&&�
 use Rattle.std.specs.Prelude.{count_by}
 use Rattle.std.proofs.lemmas.List.{map-append}
 use Rattle.profile.specs.Lines.{is_same_name}
-use Rattle.profile.specs.Objects.{Body, nothing, property, component, is_calendar_name, Opens, Closes, Spells, IsObject, has_version, count_inside}
+use Rattle.profile.specs.Objects.{SpellsBody, nothing, property, component, is_calendar_name, Opens, Closes, SpellsTree, IsObject, has_version, count_inside}
 use Rattle.profile.specs.Trees.{Tree, tree, trees_list, tree_name, tree_own, tree_inside}
 use Rattle.ical_tree.specs.declared.component.Component.{Component}
 use Rattle.ical_tree.specs.declared.component.Component.TheFolds.{fold_out-Component}
@@ -31,10 +31,10 @@ tree_of-inside c = ap tree_inside (tree_out c) ∙ trees_back (map tree_of (comp
 
 -- bodies and components whose parts are trees
 abbrev pub BodyT : ℕ → Lines → List Tree → Lines → Type 0
-BodyT = Body tree_name tree_own tree_inside
+BodyT = SpellsBody tree_name tree_own tree_inside
 
 abbrev pub SpellsT : ℕ → Tree → Lines → Type 0
-SpellsT = Spells tree_name tree_own tree_inside
+SpellsT = SpellsTree tree_name tree_own tree_inside
 
 opens_tree : (line : List ℕ) (c : Component) → Opens line (component_name c) → Opens line (tree_name (tree_of c))
 opens_tree line c o = subst (Opens line) (sym (tree_of-name c)) o
@@ -46,7 +46,7 @@ holds_tree : (depth : ℕ) (c : Component) (body : Lines) → BodyT depth (compo
 holds_tree depth c body b =
     subst (λ (own : Lines). BodyT depth own (tree_inside (tree_of c)) body) (sym (tree_of-own c)) (subst (λ (ts : List Tree). BodyT depth (component_lines c) ts body) (sym (tree_of-inside c)) b)
 
-body_tree : {depth : ℕ} {own : Lines} {parts : List Component} {body : Lines} → Body component_name component_lines component_children depth own parts body → BodyT depth own (map tree_of parts) body
+body_tree : {depth : ℕ} {own : Lines} {parts : List Component} {body : Lines} → SpellsBody component_name component_lines component_children depth own parts body → BodyT depth own (map tree_of parts) body
 body_tree nothing = nothing
 body_tree (property line h b) = property line h (body_tree b)
 body_tree (component {depth = d} {lines = own} {parts = ps} {body = body} part begin end inner v o e b rest) =

@@ -1,17 +1,17 @@
 -- What the lines so far have spelled.
 use Rattle.std.specs.Prelude.{◌≡◌, ◌⊎◌, ◌&&◌, ◌||◌, ◌==◌, ℕ, ◌-◌, ◌≤◌, Bool, true, not, nat_lt, map, IsTrue, List, [], ◌∷◌, ◌++◌, Option, None, Some, is_some, length, codes}
 use Rattle.profile.specs.Lines.{logical_lines, text_has}
-use Rattle.profile.specs.Objects.{Body, Spells, Opens, is_calendar_name, may_begin, has_version, count_inside, lines_have}
+use Rattle.profile.specs.Objects.{SpellsBody, SpellsTree, Opens, is_calendar_name, may_begin, has_version, count_inside, lines_have}
 use Rattle.ical_lines.specs.declared.fault.Fault.{Fault}
 use Rattle.ical_lines.specs.declared.fault.Fault.TheVariants.{Refused, Memory}
 use Rattle.ical_tree.specs.declared.component.Component.{Component}
 use Rattle.ical_tree.specs.Tree.{component_name, component_lines, component_children}
 
 abbrev pub BodyOf : ℕ → Component → List (List ℕ) → Type 0
-BodyOf depth c body = Body component_name component_lines component_children depth (component_lines c) (component_children c) body
+BodyOf depth c body = SpellsBody component_name component_lines component_children depth (component_lines c) (component_children c) body
 
 abbrev pub SpellsOf : ℕ → Component → List (List ℕ) → Type 0
-SpellsOf depth c lines = Spells component_name component_lines component_children depth c lines
+SpellsOf depth c lines = SpellsTree component_name component_lines component_children depth c lines
 
 abbrev pub IsCalendar : Component → Type 0
 IsCalendar c = is_calendar_name (component_name c) ≡ true

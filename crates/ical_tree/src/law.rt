@@ -1,12 +1,12 @@
 //! Which trees lines can spell (RFC 5545 3.4, 3.6).
 ghost use Rattle.std.specs.Prelude.{ℕ, List, Bool, ◌≡◌, true};
-ghost use Rattle.profile.specs.Objects.{Spells, IsObject, lines_have};
+ghost use Rattle.profile.specs.Objects.{SpellsTree, IsObject, lines_have};
 ghost use Rattle.profile.specs.Trees.{Tree, tree_name, tree_own, tree_inside};
 
 /// Lines spell at most one tree, and no object where a fault stands in how they pair up.
 pub fn one_tree()
     ensures one { (depth other : ℕ) (lines : List (List ℕ)) (a b : Tree)
-        → Spells tree_name tree_own tree_inside depth a lines → Spells tree_name tree_own tree_inside other b lines → a ≡ b }
+        → SpellsTree tree_name tree_own tree_inside depth a lines → SpellsTree tree_name tree_own tree_inside other b lines → a ≡ b }
     ensures or_a_fault { (bounded : Bool) (t : Tree) (lines : List (List ℕ)) (n : ℕ)
         → IsObject tree_name tree_own tree_inside bounded t lines → lines_have n lines ≡ true → ⊥ }
 {}

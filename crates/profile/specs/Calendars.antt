@@ -1,7 +1,7 @@
 -- The calendar of a room that a text is (RFC 5545 3.4), and what can be wrong with such a text.
 use Rattle.std.specs.Prelude.{◌≡◌, ℕ, true, false, List}
 use Rattle.profile.specs.Lines.{logical_lines, text_has, reads_as_lines}
-use Rattle.profile.specs.Objects.{Spells, IsObject, has_version, lines_have}
+use Rattle.profile.specs.Objects.{SpellsTree, IsObject, has_version, lines_have}
 use Rattle.profile.specs.Trees.{Tree, tree_name, tree_own, tree_inside, vevents}
 use Rattle.profile.specs.Instances.{Booked}
 use Rattle.profile.specs.Certificates.{CertificateStands}
@@ -25,7 +25,7 @@ pub data CalendarTextFault (octets : List ℕ) : ℕ → Type 0 where
   -- 20 to 23: in how the lines pair up
   in_tree : {n : ℕ} → lines_have n (logical_lines octets) ≡ true → CalendarTextFault octets n
   -- VERSION doesn't stand once, or isn't `2.0`
-  no_version : (t : Tree) → Spells tree_name tree_own tree_inside 7 t (logical_lines octets) → has_version (tree_own t) ≡ false → CalendarTextFault octets 24
+  no_version : (t : Tree) → SpellsTree tree_name tree_own tree_inside 7 t (logical_lines octets) → has_version (tree_own t) ≡ false → CalendarTextFault octets 24
   -- in the VEVENTs of the calendar that stands there
   in_vevents : {n : ℕ} → (t : Tree) → IsCalendarText t octets → CalendarFault (vevents t) n → CalendarTextFault octets n
 

@@ -38,12 +38,12 @@ kind_named word =
     else (if is_same_name word (codes "PERIOD") then Period else Other))
 
 -- a start or an end without VALUE is a date-time (RFC 5545 3.8.2.4, 3.8.2.2)
-abbrev pub kind_of : List ℕ → TimeKind
-kind_of line = unwrap_or (option_map kind_named (line_param (codes "VALUE") line)) DateTime
+abbrev pub time_kind : List ℕ → TimeKind
+time_kind line = unwrap_or (option_map kind_named (line_param (codes "VALUE") line)) DateTime
 
 -- the value of the line is this instant, as a UTC date-time (RFC 5545 3.3.5, form 2)
 abbrev pub IsTime : List ℕ → ℤ → Type 0
-IsTime line instant = (kind_of line ≡ DateTime) × SpellsStamp (line_value line) instant
+IsTime line instant = (time_kind line ≡ DateTime) × SpellsStamp (line_value line) instant
 
 abbrev pub IsStampLine : List ℕ → ℤ → Type 0
 IsStampLine line instant = SpellsStamp (line_value line) instant
@@ -134,22 +134,29 @@ IsLength start (Some line) None length = LastsUntil start line length
 IsLength start None (Some line) length = LastsFor line length
 IsLength start (Some line) (Some other) length = ⊥
 
--- the length of an event; at most 366 days, which is this profile's choice
+-- the longest event in seconds, 366 days; this profile's choice
+abbrev pub longest : ℕ
+longest = 31_622_400
+
+-- the first second that an event may name, 1969-12-31T00:00:00Z; this profile's choice
+abbrev pub first_second : ℤ
+first_second = negsuc 86_399
+
+-- the length of an event
 pub record SaysLength (lines : List (List ℕ)) (start : ℤ) (length : Length) : Type 0 where
   pub end_line : Option (List ℕ)
   pub duration_line : Option (List ℕ)
   pub end_once : StandsAtMostOnce (codes "DTEND") lines end_line
   pub duration_once : StandsAtMostOnce (codes "DURATION") lines duration_line
   pub is : IsLength start end_line duration_line length
-  pub most : length_seconds length ≤ 31_622_400
+  pub most : length_seconds length ≤ longest
 
 -- SEQUENCE, 0 where it is missing (RFC 5545 3.8.7.4)
 abbrev pub SaysSequence : List (List ℕ) → ℕ → Type 0
 SaysSequence lines n = (given : Option ℕ) × Says (codes "SEQUENCE") false IsSequenceLine lines given × (n ≡ unwrap_or given 0)
 
 -- the lines of a VEVENT say this event. In a message ORGANIZER and DTSTAMP have to stand; UID and DTSTART always
--- (RFC 5545 3.6.1, RFC 5546 3.2). That a calendar's VEVENT may lack DTSTAMP, that a REQUEST may lack ATTENDEE, and that times before
--- 1969-12-31T00:00:00Z are none, is this profile's choice
+-- (RFC 5545 3.6.1, RFC 5546 3.2). That a calendar's VEVENT may lack DTSTAMP and that a REQUEST may lack ATTENDEE is this profile's choice
 pub record SaysEvent (in_message : Bool) (lines : List (List ℕ)) (event : Event) : Type 0 where
   pub uid : Says (codes "UID") true IsUidLine lines (Some event.uid)
   pub organiser : Says (codes "ORGANIZER") in_message IsAddressLine lines event.organiser
@@ -159,7 +166,7 @@ pub record SaysEvent (in_message : Bool) (lines : List (List ℕ)) (event : Even
   pub start : Says (codes "DTSTART") true IsTime lines (Some event.start)
   pub length : SaysLength lines event.start event.length
   pub attendees : AllZip IsAttendee (lines_named (codes "ATTENDEE") lines) event.attendees
-  pub from_1970 : negsuc 86_399 ≤ℤ event.start
+  pub from_1970 : first_second ≤ℤ event.start
 
 -- ---- what isn't read yet
 
@@ -269,7 +276,7 @@ KindFault Other text number = number ≡ 11
 
 -- the number of what is wrong with a start or an end
 abbrev pub TimeFault : List ℕ → ℕ → Type 0
-TimeFault line number = KindFault (kind_of line) (line_value line) number
+TimeFault line number = KindFault (time_kind line) (line_value line) number
 
 -- the properties that stand at most once
 abbrev pub single_names : List (List ℕ)
@@ -288,7 +295,7 @@ IsNoDuration line = ((days seconds : ℕ) → SpellsDuration (line_value line) d
 
 -- a duration that is negative, or of more than 366 days
 abbrev pub IsNegativeOrLong : List ℕ → Type 0
-IsNegativeOrLong line = SpellsNegative (line_value line) ⊎ ((length : Length) × LastsFor line length × (31_622_400 < length_seconds length))
+IsNegativeOrLong line = SpellsNegative (line_value line) ⊎ ((length : Length) × LastsFor line length × (longest < length_seconds length))
 
 -- the lines hold a start and an end, and so do the two lie
 abbrev pub StartAndEnd : (ℤ → ℤ → Type 0) → List (List ℕ) → Type 0
@@ -308,10 +315,10 @@ pub data EventFault (in_message : Bool) (lines : List (List ℕ)) : ℕ → Type
   -- it ends before it starts
   ends_early : StartAndEnd (λ start end. end <ℤ start) lines → EventFault in_message lines 50
   -- it lasts longer than 366 days
-  ends_late : StartAndEnd (λ start end. (start +ℤ pos 31_622_400) <ℤ end) lines → EventFault in_message lines 51
+  ends_late : StartAndEnd (λ start end. (start +ℤ pos longest) <ℤ end) lines → EventFault in_message lines 51
   lasts_long : SomeLine (codes "DURATION") IsNegativeOrLong lines → EventFault in_message lines 51
   -- it starts before 1969-12-31T00:00:00Z
-  starts_early : (start : ℤ) → SomeLine (codes "DTSTART") (λ line. IsTime line start) lines → start <ℤ negsuc 86_399 → EventFault in_message lines 52
+  starts_early : (start : ℤ) → SomeLine (codes "DTSTART") (λ line. IsTime line start) lines → start <ℤ first_second → EventFault in_message lines 52
   no_uid : IsMissing (codes "UID") lines → EventFault in_message lines 61
   no_start : IsMissing (codes "DTSTART") lines → EventFault in_message lines 61
   no_stamp_given : in_message ≡ true → IsMissing (codes "DTSTAMP") lines → EventFault in_message lines 61

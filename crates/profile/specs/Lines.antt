@@ -175,15 +175,26 @@ is_faulty line = lacks_colon line || has_bad_name line || has_bad_quote line || 
 abbrev pub is_content : List ℕ → Bool
 is_content line = not (is_faulty line) && is_utf8 line
 
--- the fault of this number, 1 to 6, stands in the octets; with `bounded` a message has at most 1,048,576 octets and 65,536 lines
+-- the most octets and the most lines of a message; this profile's choice
+abbrev pub most_octets : ℕ
+most_octets = 1_048_576
+
+abbrev pub most_lines : ℕ
+most_lines = 65_536
+
+-- there are more of them
+abbrev pub is_too_long : List ℕ → Bool
+is_too_long octets = nat_lt most_octets (length octets) || nat_lt most_lines (length (logical_lines octets))
+
+-- the fault of this number, 1 to 6, stands in the octets; with `bounded` they are a message
 abbrev pub text_has : Bool → ℕ → List ℕ → Bool
 text_has bounded number octets =
-    list_any (line_has number) (logical_lines octets) || (number == 5 && not (is_utf8 (ended (logical_lines octets)))) || (number == 6 && (bounded && (nat_lt 1048576 (length octets) || nat_lt 65536 (length (logical_lines octets)))))
+    list_any (line_has number) (logical_lines octets) || (number == 5 && not (is_utf8 (ended (logical_lines octets)))) || (number == 6 && (bounded && is_too_long octets))
 
 -- none of the faults 1 to 6 stands in the octets
 abbrev pub reads_as_lines : Bool → List ℕ → Bool
 reads_as_lines bounded octets =
-    not (list_any is_faulty (logical_lines octets)) && is_utf8 (ended (logical_lines octets)) && not (bounded && (nat_lt 1048576 (length octets) || nat_lt 65536 (length (logical_lines octets))))
+    not (list_any is_faulty (logical_lines octets)) && is_utf8 (ended (logical_lines octets)) && not (bounded && is_too_long octets)
 
 -- ---- folding: no physical line has more than 75 octets, and no character is split
 

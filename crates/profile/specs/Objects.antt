@@ -36,6 +36,10 @@ is_version_only _ = false
 abbrev pub has_version : List (List ℕ) → Bool
 has_version lines = is_version_only (filter is_version lines)
 
+-- the most VEVENTs of a message; this profile's choice
+abbrev pub most_events : ℕ
+most_events = 200
+
 -- ---- what can be wrong with the lines of an object, by the number of its refusal
 
 abbrev pub is_none : List (List ℕ) → Bool
@@ -109,33 +113,32 @@ lines_have number lines =
 module _ {T : Type 0} (name : T → List ℕ) (own : T → List (List ℕ)) (inside : T → List T) where
   -- `body` spells these properties and these components, each in their order, with components at most `depth` deep and none
   -- of them a VCALENDAR
-  pub data Body : ℕ → List (List ℕ) → List T → List (List ℕ) → Type 0 where
-    nothing : {depth : ℕ} → Body depth [] [] []
-    property : {depth : ℕ} {lines : List (List ℕ)} {parts : List T} {body : List (List ℕ)} (line : List ℕ) → is_property line ≡ true → Body depth lines parts body → Body depth (lines ++ line ∷ []) parts (body ++ line ∷ [])
-    component : {depth : ℕ} {lines : List (List ℕ)} {parts : List T} {body : List (List ℕ)} (part : T) (begin end : List ℕ) (inner : List (List ℕ)) → is_calendar_name (name part) ≡ false → Opens begin (name part) → Closes end (name part) → Body depth (own part) (inside part) inner → Body (suc depth) lines parts body → Body (suc depth) lines (parts ++ part ∷ []) (body ++ begin ∷ (inner ++ end ∷ []))
+  pub data SpellsBody : ℕ → List (List ℕ) → List T → List (List ℕ) → Type 0 where
+    nothing : {depth : ℕ} → SpellsBody depth [] [] []
+    property : {depth : ℕ} {lines : List (List ℕ)} {parts : List T} {body : List (List ℕ)} (line : List ℕ) → is_property line ≡ true → SpellsBody depth lines parts body → SpellsBody depth (lines ++ line ∷ []) parts (body ++ line ∷ [])
+    component : {depth : ℕ} {lines : List (List ℕ)} {parts : List T} {body : List (List ℕ)} (part : T) (begin end : List ℕ) (inner : List (List ℕ)) → is_calendar_name (name part) ≡ false → Opens begin (name part) → Closes end (name part) → SpellsBody depth (own part) (inside part) inner → SpellsBody (suc depth) lines parts body → SpellsBody (suc depth) lines (parts ++ part ∷ []) (body ++ begin ∷ (inner ++ end ∷ []))
 
   -- the lines spell the component: its BEGIN, its body, its END
-  pub record Spells (depth : ℕ) (whole : T) (lines : List (List ℕ)) : Type 0 where
+  pub record SpellsTree (depth : ℕ) (whole : T) (lines : List (List ℕ)) : Type 0 where
     pub begin : List ℕ
     pub end : List ℕ
     pub body : List (List ℕ)
     pub are : lines ≡ begin ∷ (body ++ end ∷ [])
     pub opens : Opens begin (name whole)
     pub closes : Closes end (name whole)
-    pub holds : Body depth (own whole) (inside whole) body
+    pub holds : SpellsBody depth (own whole) (inside whole) body
 
   -- how many components of this name stand directly inside
   abbrev pub count_inside : List ℕ → T → ℕ
   count_inside kind whole = count_by (λ part. is_same_name (name part) kind) (inside whole)
 
   -- the lines spell one VCALENDAR, with components nested at most 8 deep, and one VERSION, which is `2.0`
-  -- (RFC 5545 3.4, 3.7.4); 8 deep is the whole and 7 inside it. The depth, and for a message at most 200 VEVENTs, are this
-  -- profile's choice
+  -- (RFC 5545 3.4, 3.7.4); 8 deep is the whole and 7 inside it. The depth is this profile's choice
   pub record IsObject (bounded : Bool) (whole : T) (lines : List (List ℕ)) : Type 0 where
-    pub spelled : Spells 7 whole lines
+    pub spelled : SpellsTree 7 whole lines
     pub calendar : is_calendar_name (name whole) ≡ true
     pub version : has_version (own whole) ≡ true
-    pub events : (bounded && nat_lt 200 (count_inside (codes "VEVENT") whole)) ≡ false
+    pub events : (bounded && nat_lt most_events (count_inside (codes "VEVENT") whole)) ≡ false
 
 -- ---- the cut of a stream into objects; where an object ends is this profile's choice
 

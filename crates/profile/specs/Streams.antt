@@ -4,7 +4,7 @@ use Rattle.std.specs.Option.{option_to_list}
 use Rattle.std.specs.List.{flat_map}
 use Rattle.std.specs.Str.{is_utf8}
 use Rattle.profile.specs.Lines.{logical_lines, text_has}
-use Rattle.profile.specs.Objects.{Spells, count_inside, has_version, lines_have, is_begun, after_object}
+use Rattle.profile.specs.Objects.{SpellsTree, most_events, count_inside, has_version, lines_have, is_begun, after_object}
 use Rattle.profile.specs.Trees.{Tree, tree_name, tree_own, tree_inside}
 use Rattle.profile.specs.Events.{Event, booked_by}
 use Rattle.profile.specs.Messages.{SpellsRequest, RequestFault, AreParts, Outcome}
@@ -43,17 +43,23 @@ pub data SaysSettings : Bool → List ℕ → List Setting → Type 0 where
   with_lf : {closed : Bool} {rest : List ℕ} {settings : List Setting} (line : List ℕ) (setting : Setting) → IsSetting line setting → SaysSettings closed rest settings → SaysSettings closed (line ++ 10 ∷ rest) (setting ∷ settings)
   with_crlf : {closed : Bool} {rest : List ℕ} {settings : List Setting} (line : List ℕ) (setting : Setting) → IsSetting line setting → SaysSettings closed rest settings → SaysSettings closed (line ++ 13 ∷ 10 ∷ rest) (setting ∷ settings)
 
--- the octets of a preamble, which are UTF-8, give this moment and these rooms: the moment once, a room at least, and no room twice.
--- At most 65,536 octets and 64 rooms are this profile's choice
+-- the most octets of a preamble, and the most rooms that it hosts; this profile's choice
+abbrev pub most_of_preamble : ℕ
+most_of_preamble = 65_536
+
+abbrev pub most_rooms : ℕ
+most_rooms = 64
+
+-- the octets of a preamble, which are UTF-8, give this moment and these rooms: the moment once, a room at least, and no room twice
 pub record IsPreamble (closed : Bool) (octets : List ℕ) (moment : ℤ) (addresses : List (List ℕ)) : Type 0 where
   pub settings : List Setting
   pub says : SaysSettings closed octets settings
   pub text : is_utf8 octets ≡ true
-  pub short : length octets ≤ 65_536
+  pub short : length octets ≤ most_of_preamble
   pub moment_is : moments settings ≡ moment ∷ []
   pub rooms_are : rooms settings ≡ addresses
   pub some : 0 < length addresses
-  pub few : length addresses ≤ 64
+  pub few : length addresses ≤ most_rooms
   pub differ : AllPairs ◌≢◌ addresses
 
 -- the octets of a configuration give these rooms: a preamble's lines, without a moment
@@ -61,11 +67,11 @@ pub record IsConfiguration (closed : Bool) (octets : List ℕ) (addresses : List
   pub settings : List Setting
   pub says : SaysSettings closed octets settings
   pub text : is_utf8 octets ≡ true
-  pub short : length octets ≤ 65_536
+  pub short : length octets ≤ most_of_preamble
   pub timeless : moments settings ≡ []
   pub rooms_are : rooms settings ≡ addresses
   pub some : 0 < length addresses
-  pub few : length addresses ≤ 64
+  pub few : length addresses ≤ most_rooms
   pub differ : AllPairs ◌≢◌ addresses
 
 -- ---- the objects of a stream
@@ -95,9 +101,9 @@ pub record IsStream (stream : List ℕ) (moment : ℤ) (addresses : List (List �
 -- the fault of this number, 24 or 25, stands in the tree that the lines spell
 abbrev pub TreeFault : ℕ → List (List ℕ) → Type 0
 TreeFault n lines =
-    (t : Tree) × Spells tree_name tree_own tree_inside 7 t lines
+    (t : Tree) × SpellsTree tree_name tree_own tree_inside 7 t lines
     × (((n ≡ 24) × (has_version (tree_own t) ≡ false))
-    ⊎ ((n ≡ 25) × (200 < count_inside tree_name tree_own tree_inside (codes "VEVENT") t)))
+    ⊎ ((n ≡ 25) × (most_events < count_inside tree_name tree_own tree_inside (codes "VEVENT") t)))
 
 -- the fault of this number stands in the octets: in a line, in how the lines pair up, in the tree, or in the message
 abbrev pub ObjectFault : ℕ → List ℕ → Type 0

@@ -10,8 +10,8 @@ use Rattle.std.proofs.lemmas.List.Folds.{list_any-append}
 use Rattle.std.proofs.lemmas.Str.{IsUtf8-take, IsUtf8-drop, IsUtf8-nil, IsUtf8-from_is_utf8, IsCharBoundary-before_ascii, IsCharBoundary-after_ascii}
 use Rattle.profile.specs.Lines.{outside_from, outside, line_value, is_control, is_faulty, has_control, ended, logical_lines, reads_as_lines}
 use Rattle.profile.specs.Trees.{Tree, tree_name, tree_own, tree_inside, vevents}
-use Rattle.profile.specs.Objects.{Body, IsObject}
-use Rattle.profile.specs.Objects.Body.{nothing, property, component}
+use Rattle.profile.specs.Objects.{SpellsBody, IsObject}
+use Rattle.profile.specs.Objects.SpellsBody.{nothing, property, component}
 use Rattle.itip_order.proofs.Lists.{in_cons, in_tail, none_in_nil, filter_at}
 use Rattle.itip_messages.proofs.CleanText.{IsClean}
 use Rattle.itip_messages.proofs.ObjectTree.{Lines}
@@ -132,7 +132,7 @@ holds_component own parts body part begin end inner i h = record {
       ];
 }
 
-holds : {depth : ℕ} {own : Lines} {parts : List Tree} {body : Lines} → Body tree_name tree_own tree_inside depth own parts body → Holds own parts body
+holds : {depth : ℕ} {own : Lines} {parts : List Tree} {body : Lines} → SpellsBody tree_name tree_own tree_inside depth own parts body → Holds own parts body
 holds nothing = holds_none
 holds (property {lines = own} {parts = parts} {body = body} line p b) = holds_property own parts body line (holds b)
 holds (component {lines = own} {parts = parts} {body = body} part begin end inner v o e b rest) = holds_component own parts body part begin end inner (holds b).of_own (holds rest)
