@@ -1,5 +1,5 @@
 -- What the readers of a VEVENT's properties say, put together.
-use Rattle.std.proofs.Common.{◌≡◌, ℕ, zero, suc, ◌+◌, ◌<◌, ◌≤◌, Bool, true, false, not, eqb, List, [], ◌∷◌, ◌++◌, length, get_or, take, drop, drop-cons, add-one, append_assoc, cond, map, codes, subst, sym, refl, ap, ◌∙◌, inl, inr, arith, ℤ, pos, ◌+ℤ◌, ◌*ℤ◌, ◌<ℤ◌}
+use Rattle.std.proofs.Common.{◌≡◌, ℕ, zero, suc, ◌+◌, ◌<◌, ◌≤◌, Bool, true, false, eqb, List, [], ◌∷◌, ◌++◌, length, get_or, take, drop, drop-cons, add-one, append_assoc, cond, map, codes, subst, sym, refl, ap, ◌∙◌, inl, inr, arith, ℤ, pos, ◌+ℤ◌, ◌*ℤ◌, ◌<ℤ◌}
 use Rattle.std.specs.Prelude.{Option, Some, None, Result, Ok, Err, is_ok, IfOk, IfErr, OnOk, OnErr, Contains, IsTrue, ◌⊎◌, ◌↔◌}
 use Rattle.std.specs.Str.{IsUtf8, is_utf8, chars}
 use lib.Utf8.{encode}
@@ -25,7 +25,7 @@ use Rattle.cal_events.specs.declared.component.Extent.TheVariants.{ToEnd, For}
 use Rattle.ical_values.specs.declared.duration.Duration.{Duration}
 use Rattle.profile.specs.Lines.{line_value}
 use Rattle.profile.specs.Values.{SpellsDate, SpellsLocal, SpellsStamp, SpellsSequence, SpellsDuration, SpellsNegative, SpellsLong, IsUid, unescaped}
-use Rattle.profile.specs.Events.{is_of, lines_named, StandsAtMostOnce, SomeLine, Says, SaysSequence, IsUidLine, TimeKind, DateTime, time_kind, IsTime, IsDateText, IsLocalText, malformed_number, UnfixedOrMalformed, KindFault, TimeFault, EventFault, IsNoDuration, IsNegativeOrLong, IsAttendee, IsNoAddress, SaysLength, IsLength, BothOrNeither, length_seconds, bad_duration, bad_attendee, lasts_long, ends_early, ends_late, starts_early}
+use Rattle.profile.specs.Events.{is_of, lines_named, StandsAtMostOnce, SomeLine, Says, SaysSequence, IsUidLine, TimeKind, DateTime, time_kind, IsTime, IsDateText, IsLocalText, KindFault, TimeFault, EventFault, IsNoDuration, IsNegativeOrLong, IsAttendee, IsNoAddress, SaysLength, IsLength, BothOrNeither, length_seconds, bad_duration, bad_attendee, lasts_long, ends_early, ends_late, starts_early}
 use Rattle.cal_events.specs.Events.{StandsIn, attendee_of, length_of, IsExtent, GivesLength, ExtentFault, TimesFault, ends_early as lies_before, ends_late as lies_late, lasts_long as is_long, in_extent, starts_early as lies_early}
 
 -- ---- the exits of a `?`, by the error that it returns
@@ -101,9 +101,6 @@ local_test (Err x) text b e h none = (λ is. absurd (true≢false (sym is ∙ e)
 date_length : (text : List ℕ) → IsDateText text → length text ≡ 8
 date_length text (number, d) = ap length d.spelled
 
-pub no_date_by : (text : List ℕ) (eight : Bool) → eight ≡ not (eqb (length text) 8) → eight ≡ true → IsDateText text → ⊥
-no_date_by text eight e h d = true≢false (sym h ∙ (e ∙ ap (λ n. not (eqb n 8)) (date_length text d)))
-
 -- eight octets are a date where midnight makes them a local time
 date_before : (front rest t tail : List ℕ) → length front ≡ 8 → length t ≡ 8 → front ++ rest ≡ t ++ tail → front ≡ t
 date_before front rest t tail d e h =
@@ -142,20 +139,6 @@ zeros_utf8 = refl
 -- midnight behind a text is a text
 pub midnight_utf8 : (t midnight : List ℕ) → midnight ≡ t ++ codes "T000000" → IsUtf8 t → IsUtf8 midnight
 midnight_utf8 t midnight m u = subst IsUtf8 (sym m) (IsUtf8-append t (codes "T000000") u (IsUtf8-from_is_utf8 (codes "T000000") zeros_utf8))
-
--- what a test tells of a text
-pub unfixed_by : (b : Bool) (P : Type 0) (text : List ℕ) (n : ℕ) → ((b ≡ true) ↔ P) → b ≡ true → n ≡ 55 → UnfixedOrMalformed P text n
-unfixed_by b P text n h e k = inl (h.0 e, k)
-
-pub malformed_by : (b : Bool) (P : Type 0) (text : List ℕ) (n : ℕ) → ((b ≡ true) ↔ P) → b ≡ false → n ≡ malformed_number text → UnfixedOrMalformed P text n
-malformed_by b P text n h e k = inr (λ p. true≢false (sym (h.1 p) ∙ e), k)
-
-pub unfixed_or : (b : Bool) (P Q : Type 0) (text : List ℕ) (n : ℕ) → ((b ≡ true) ↔ Q) → b ≡ true → n ≡ 55 → UnfixedOrMalformed (P ⊎ Q) text n
-unfixed_or b P Q text n h e k = inl (inr (h.0 e), k)
-
-pub malformed_or : (b : Bool) (P Q : Type 0) (text : List ℕ) (n : ℕ) → ((b ≡ true) ↔ Q) → b ≡ false → UnfixedOrMalformed P text n → UnfixedOrMalformed (P ⊎ Q) text n
-malformed_or b P Q text n h e (inl (p, k)) = inl (inl p, k)
-malformed_or b P Q text n h e (inr (no, k)) = inr (λ x. elim x [ inl p ↦ no p | inr q ↦ absurd (true≢false (sym (h.1 q) ∙ e)) ], k)
 
 -- the kind that VALUE says decides what is wrong
 pub kind_fault : (line text : List ℕ) (kind : TimeKind) (n : ℕ) → kind ≡ time_kind line → text ≡ line_value line → KindFault kind text n → TimeFault line n

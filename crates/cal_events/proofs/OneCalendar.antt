@@ -1,7 +1,7 @@
 -- The VEVENTs of a calendar say at most one calendar for a room, and none where a fault stands in them.
-use Rattle.std.proofs.Common.{◌≡◌, ◌≢◌, ℕ, zero, suc, ◌+◌, ◌<◌, Bool, true, false, List, [], ◌∷◌, length, map, get_or, subst, sym, refl, ap, ◌∙◌, arith}
+use Rattle.std.proofs.Common.{◌≡◌, ◌≢◌, ℕ, zero, suc, Bool, false, List, [], ◌∷◌, map, subst, sym, refl, ap, ◌∙◌, arith}
 use Rattle.std.specs.Prelude.{Contains, AllPairs}
-use Rattle.std.specs.List.{AllZip, list_any}
+use Rattle.std.specs.List.{AllZip}
 use Rattle.std.proofs.lemmas.Bool.{true≢false}
 use Rattle.profile.specs.Instances.{Booked}
 use Rattle.profile.specs.Events.{Event, SaysEvent, EventFault, SaysCalendar, CalendarFault, in_event, one_meeting, not_yet, confirmed, meeting_said}

@@ -1,6 +1,6 @@
 -- The lines of a VEVENT say at most one event, and none where a fault stands in them.
 use Rattle.std.proofs.Common.{◌≡◌, ℕ, zero, suc, ◌+◌, ◌*◌, ◌≤◌, Bool, true, false, List, [], ◌∷◌, length, codes, subst, sym, refl, ap, ◌∙◌, inl, inr, arith, ℤ, pos, ◌+ℤ◌, ◌<ℤ◌}
-use Rattle.std.specs.Prelude.{Option, Some, None, is_some, option_map, unwrap_or, Contains, All, ◌⊎◌}
+use Rattle.std.specs.Prelude.{Option, Some, None, is_some, unwrap_or, Contains, All, ◌⊎◌}
 use Rattle.std.specs.Option.{option_to_list}
 use Rattle.std.specs.List.{AllZip}
 use Rattle.std.proofs.lemmas.Bool.{true≢false}
@@ -154,9 +154,9 @@ time_sound line t n is f =
 
 one_case : (P : Type 0) (text : List ℕ) (m n : ℕ) → UnfixedOrMalformed P text m → UnfixedOrMalformed P text n → m ≡ n
 one_case P text m n (inl (p, h)) (inl (q, k)) = h ∙ sym k
-one_case P text m n (inl (p, h)) (inr (no, k)) = absurd (no p)
-one_case P text m n (inr (no, h)) (inl (q, k)) = absurd (no q)
-one_case P text m n (inr (no, h)) (inr (none, k)) = h ∙ sym k
+one_case P text m n (inl (p, h)) (inr (never, k)) = absurd (never p)
+one_case P text m n (inr (never, h)) (inl (q, k)) = absurd (never q)
+one_case P text m n (inr (never, h)) (inr (none, k)) = h ∙ sym k
 
 kind_number : (kind : TimeKind) (text : List ℕ) (m n : ℕ) → KindFault kind text m → KindFault kind text n → m ≡ n
 kind_number DateTime text m n h k = one_case (IsDateText text ⊎ IsLocalText text) text m n h.1 k.1

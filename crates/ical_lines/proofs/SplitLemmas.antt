@@ -1,5 +1,5 @@
 -- What memchr finds, as the parts that a list is split into.
-use Rattle.std.proofs.Common.{◌≡◌, map, ℕ, ◌+◌, ◌-◌, ◌<◌, ◌≤◌, Bool, true, false, eqb, None, Some, List, [], ◌∷◌, length, take, drop, get_or, refl, ap, ◌∙◌, arith}
+use Rattle.std.proofs.Common.{◌≡◌, map, ℕ, ◌+◌, ◌-◌, ◌<◌, ◌≤◌, Bool, eqb, None, Some, List, [], ◌∷◌, length, take, drop, get_or, ap, ◌∙◌, arith}
 use Rattle.std.specs.List.{slice_split, position_or_len}
 use Rattle.std.proofs.lemmas.List.{get_or_default, take_rest}
 use Rattle.std.proofs.lemmas.List.Sums.{position_or_len_is}

@@ -1,7 +1,7 @@
 -- Which faults stand in the lines so far.
 use Rattle.std.proofs.Common.{◌≡◌, inl, inr, ℕ, ◌+◌, ◌-◌, ◌<◌, ◌≤◌, arith, Bool, true, false, not, ◌&&◌, ◌||◌, eqb, Option, None, Some, is_some, List, [], ◌∷◌, ◌++◌, length, reverse, refl, ap, sym, subst, ◌∙◌}
 use Rattle.std.proofs.lemmas.Bool.{lt-leb, or_from, not-true}
-use Rattle.std.proofs.lemmas.List.{append_assoc, append-nil, length-map, length-reverse}
+use Rattle.std.proofs.lemmas.List.{append_assoc, append-nil, nil_from_length, length-map, length-reverse}
 use Rattle.profile.specs.First.{is_number, comes_after}
 use Rattle.profile.specs.Lines.{logical_lines}
 use Rattle.profile.specs.Objects.{Opens, is_none, now_open, opened_from, opened, is_calendar_name, may_begin, misplaced, misplaced_begin, fits, some_misplaced, all_fit, lines_have}
@@ -16,15 +16,19 @@ use Rattle.ical_tree.proofs.PairLemmas.{opened-append, any_misplaced, after, aft
 
 -- ---- BEGIN of a component that may not begin here
 
-is_none-length : (names : List (List ℕ)) → is_none names ≡ eqb (length names) 0
-is_none-length [] = refl
-is_none-length (name ∷ names) = refl
+is_none-some : (names : List (List ℕ)) → 0 < length names → is_none names ≡ false
+is_none-some [] l = absurd (omega arith)
+is_none-some (name ∷ names) l = refl
 
 names-length : (items : List Component) → length (names_of (reverse items)) ≡ length items
 names-length items = length-map (reverse items) component_name ∙ length-reverse items
 
-pub outside : (items : List Component) → is_none (names_of (reverse items)) ≡ eqb (length items) 0
-outside items = is_none-length (names_of (reverse items)) ∙ ap (λ n. eqb n 0) (names-length items)
+-- nothing is open where this test tells that there are no items
+pub outside : (items : List Component) (b : Bool) → (b ≡ true → length items ≡ 0) → (b ≡ false → 0 < length items) → b ≡ is_none (names_of (reverse items))
+outside items true none some = ap (λ xs. is_none (names_of (reverse xs))) (sym (nil_from_length items (none refl)))
+outside items false none some =
+    let l = some refl in
+    sym (is_none-some (names_of (reverse items)) (omega (arith, names-length items, l)))
 
 pub stray : (items : List Component) (started : Bool) (name : List ℕ) → length items < 8 → may_begin (names_of (reverse items)) started name ≡ false → misplaced_begin 23 (names_of (reverse items)) started name ≡ true
 stray items started name l h =

@@ -5,7 +5,7 @@ use Rattle.profile.specs.Lines.{folded}
 use Rattle.ical_tree.specs.declared.component.Component.{Component}
 use Rattle.ical_tree.specs.declared.component.Component.TheFolds.{fold_out-Component}
 use Rattle.ical_tree.specs.Tree.{component_name, component_lines, component_children, written_lines, written_step, written}
-use Rattle.std.proofs.lemmas.List.{append_assoc, append-nil, length-take, take-append-le, take_all, take_at, take-take, take_more}
+use Rattle.std.proofs.lemmas.List.{append_assoc, append-nil, length-take, take-append-le, take_all, take_at, take_more}
 use Rattle.std.proofs.lemmas.List.Concat.{flat_map-append}
 
 pub keeps_written : {T E : Type 0} (r : Result T E) (a y z x : List ℕ) → take (length a) y ≡ a → OnOk r (z ≡ y ++ x) → OnErr r (z ≡ y) → take (length a) z ≡ a

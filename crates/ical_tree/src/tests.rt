@@ -79,7 +79,10 @@ fn objects_have_their_refusals(rt: HostRuntime) {
     let inner = b"BEGIN:VCALENDAR\nVERSION:2.0\nBEGIN:vcalendar\nEND:VCALENDAR\nEND:VCALENDAR\n";
     assert_eq!(rt; number_of(&rt, inner), Refusal::NOT_ONE_CALENDAR.number);
     let inside_an_event = b"BEGIN:VCALENDAR\nBEGIN:VEVENT\nBEGIN:VCALENDAR\n";
-    assert_eq!(rt; number_of(&rt, inside_an_event), Refusal::NOT_ONE_CALENDAR.number);
+    assert_eq!(rt;
+        number_of(&rt, inside_an_event),
+        Refusal::NOT_ONE_CALENDAR.number
+    );
     let crossed = b"BEGIN:VCALENDAR\nVERSION:2.0\nBEGIN:VEVENT\nEND:VCALENDAR\n";
     assert_eq!(rt; number_of(&rt, crossed), Refusal::STRAY_END.number);
     assert_eq!(rt;

@@ -7,9 +7,8 @@ use Rattle.std.proofs.lemmas.Str.{encode_ascii, encodes-chars}
 use Rattle.std.proofs.lemmas.Str.Ascii.{lowercase_is, lowercase_ascii, lowercase-lowercase}
 use Rattle.std.specs.List.{list_all}
 use Rattle.std.specs.Char.{to_ascii_lowercase, is_ascii_alphabetic}
-use Rattle.std.proofs.lemmas.Bool.{false≢true}
 use Rattle.std.proofs.lemmas.List.{length-map}
-use Rattle.std.proofs.Common.{◌&&◌, nat_lt}
+use Rattle.std.proofs.Common.{nat_lt}
 use Rattle.std.specs.Str.{chars, IsUtf8}
 use lib.Utf8.{encode, encodes}
 use Rattle.profile.specs.Values.{IsAddress, is_scheme, is_scheme_octet, is_path, is_path_octet, lower_case}

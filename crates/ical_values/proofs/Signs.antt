@@ -1,5 +1,5 @@
 -- The sign of a duration.
-use Rattle.std.proofs.Common.{◌≡◌, ◌∙◌, ℕ, ◌<◌, ◌^◌, inl, inr, List, ◌∷◌, get_or, drop, refl, sym, ap, arith}
+use Rattle.std.proofs.Common.{◌≡◌, ◌∙◌, ℕ, ◌<◌, ◌^◌, inl, inr, List, ◌∷◌, refl, sym, arith}
 use Rattle.ical_values.proofs.Parts.{head, tail}
 use Rattle.profile.specs.Values.{SpellsUnsigned, SpellsDuration, SpellsNegative, SpellsLong}
 use Rattle.ical_values.specs.Counts.{CountsUnsigned, SpellsLongBody}

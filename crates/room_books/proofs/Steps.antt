@@ -5,7 +5,7 @@ use Rattle.profile.specs.Values.{IsClockSeconds}
 use Rattle.indexmap.specs.IndexMap.{insert_entry}
 use Rattle.std.specs.List.{Contains, filter, flat_map, IsDistinct}
 use Rattle.std.specs.Map.{keys_of, lookup}
-use Rattle.std.proofs.lemmas.Bool.{true≢false, cases_Bool, false_from_ne_true, and_from}
+use Rattle.std.proofs.lemmas.Bool.{true≢false, cases_Bool, false_from_ne_true}
 use Rattle.std.proofs.lemmas.List.Elements.{filter-append, Contains-append_left, Contains-append_cases, Contains-push, Contains-push_cases}
 use Rattle.itip_order.specs.Registers.{StandsFor}
 use Rattle.itip_order.specs.Parts.{part_of}
@@ -21,11 +21,9 @@ use Rattle.profile.specs.Rooms as rooms
 use Rattle.profile.specs.Rooms.{shown}
 use Rattle.profile.specs.Kept.{IsReply, Replies, ShowsAnswer, written, first_parts}
 use Rattle.profile.specs.Messages.{IsReplyEvent, object_lines}
-use Rattle.std.specs.Ordering.{is_eq, is_le}
+use Rattle.std.specs.Ordering.{is_le}
 use Rattle.std.specs.List.{AllZip}
-use Rattle.std.proofs.lemmas.Cmp.{tied_itself}
-use Rattle.itip_order.proofs.Order.{part_total}
-use Rattle.itip_order.proofs.Registers.{greatest_at, greatest_from, greatest_unique, eq_refl, part_le_refl, same_part_refl}
+use Rattle.itip_order.proofs.Registers.{greatest_at, greatest_from, greatest_unique, part_le_refl, same_part_refl}
 use Rattle.room_books.specs.Replying.{IsReplyOf, Tells, TellsDecided}
 use Rattle.room_books.specs.declared.meeting.MeetingKey.{MeetingKey}
 use Rattle.room_books.specs.declared.meeting.Meeting.{Meeting}

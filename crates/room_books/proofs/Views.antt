@@ -5,7 +5,7 @@ use Rattle.std.specs.declared.cmp.Ordering.TheVariants.{Less, Equal, Greater}
 use Rattle.std.specs.Ordering.{is_eq, is_le, is_gt, ordering_then, ordering_reverse}
 use Rattle.std.specs.List.{Contains}
 use Rattle.std.proofs.lemmas.Bool.{and_parts, and_from, or_cases, and_cases, both_ways, true≢false, cases_Bool, or_right, not-true, or_left}
-use Rattle.std.proofs.lemmas.Cmp.{alike_right, tied_itself}
+use Rattle.std.proofs.lemmas.Cmp.{alike_right}
 use Rattle.std.proofs.lemmas.List.Elements.{Contains-append_left, Contains-push, Contains-push_cases}
 use Rattle.itip_order.proofs.Taking.{is_gt_true}
 use Rattle.profile.specs.Revisions.{Whole, Revision, Body, Set, Absent, Cancelled, Part, slot_cmp, meeting_cmp, revision_cmp, body_cmp, part_cmp, same_place, is_cancelled, is_greatest, implies, stands_beside, allows, in_view}

@@ -1,4 +1,4 @@
-use Rattle.std.proofs.Common.{◌≡◌, ◌<◌, ◌≤◌, length, sym, ◌∙◌, arith}
+use Rattle.std.proofs.Common.{◌<◌, ◌≤◌, length, is_some, sym, ◌∙◌, arith}
 use Rattle.ical_tree.proofs.BuiltLemmas.{begun}
 use Rattle.ical_tree.proofs.StandsLemmas.{stray}
 use Rattle.ical_tree.proofs.read.Reader.begin.Goals as goal
@@ -6,7 +6,7 @@ use Rattle.ical_tree.proofs.read.Reader.begin.Goals as goal
 pub returns-then-not-may_begin-clause-stands : goal.returns-then-not-may_begin-clause-stands
 returns-then-not-may_begin-clause-stands c =
     let room : length c.args.self.now.open.items < 8 = omega (arith, c.args.self.now.open.ok.0) in
-    stray c.args.self.now.open.items _ _ room (sym c.may_begin.ensures ∙ c.if-not-may_begin.true)
+    stray c.args.self.now.open.items (is_some c.args.self.now.closed) c.args.name.now room (sym c.may_begin.ensures ∙ c.if-not-may_begin.true)
 
 pub returns-clause-built : goal.returns-clause-built
 returns-clause-built c = λ done line o b.
