@@ -1,7 +1,9 @@
 -- Where the octets of a preamble lead, and where it ends.
-use Rattle.std.proofs.Common.{◌≡◌, ◌⊎◌, inl, inr, ℕ, ℤ, ◌+◌, ◌<◌, ◌≤◌, Bool, true, false, cond, eqb, List, [], ◌∷◌, ◌++◌, length, Option, Some, None, IfSome, OnSome, zero, suc, min, take, nat_lt, ◌&&◌, not, length-take, length-take-le, take-take, refl, sym, ap, subst, ◌∙◌, arith, length-append, true≢false}
+use Rattle.std.proofs.Common.{◌≡◌, ◌⊎◌, inl, inr, ℕ, ℤ, ◌+◌, ◌<◌, ◌≤◌, Bool, true, false, cond, eqb, List, [], ◌∷◌, ◌++◌, length, Option, Some, None, IfSome, OnSome, zero, suc, min, take, get_or, nat_lt, ◌&&◌, not, length-take, length-take-le, take-take, refl, sym, ap, subst, ◌∙◌, arith, length-append, true≢false}
+use Rattle.std.proofs.lemmas.Bool.{false_from_ne_true}
 use Rattle.std.proofs.lemmas.Bool.Decides.{nat_tests}
-use Rattle.std.proofs.lemmas.List.{append_assoc, append_cancel_right}
+use Rattle.memchr.specs.Find.{IsFirstByte, is_byte}
+use Rattle.std.proofs.lemmas.List.{append_assoc, append_cancel_right, get_or-take, take_all, take_more}
 use Rattle.std.specs.Io.KnownBytes.{Consumes, IsAtEnd}
 use Rattle.std.proofs.KnownBytes.{Consumes-trans}
 use Rattle.profile.specs.Streams.{Setting, SaysSettings, by_end, by_lf, by_crlf, last, with_lf, with_crlf, IsPreamble}
@@ -48,6 +50,30 @@ rest_short Closed (y ∷ ys) = omega arith
 rest_short Start (y ∷ ys) = let h = rest_short (next_place Start y) ys in omega arith
 rest_short Return (y ∷ ys) = let h = rest_short (next_place Return y) ys in omega arith
 rest_short Inside (y ∷ ys) = let h = rest_short (next_place Inside y) ys in omega arith
+
+-- ---- the rest of a line, up to its LF
+
+no_lf_leads : (cs : List ℕ) → ((k : ℕ) → k < length cs → eqb (get_or cs k 0) 10 ≡ false) → Leads Inside cs Inside
+no_lf_leads [] h = leads_none Inside
+no_lf_leads (c ∷ cs) h =
+    let here : next_place Inside c ≡ Inside = ap (λ b. cond b Start Inside) (h 0 (omega arith)) in
+    let P : Place → Type 0 = Leads Inside (c ∷ []) in
+    leads_trans Inside Inside Inside (c ∷ []) cs (subst P here (leads_step Inside c refl)) (no_lf_leads cs (λ k l. h (suc k) (omega arith)))
+
+lf_leads : (c : ℕ) → eqb c 10 ≡ true → Leads Inside (c ∷ []) Start
+lf_leads c h =
+    let P : Place → Type 0 = Leads Inside (c ∷ []) in
+    subst P (ap (λ b. cond b Start Inside) h) (leads_step Inside c refl)
+
+pub line_ends : (lent : List ℕ) (end : ℕ) → IsFirstByte (is_byte 10) lent (Some end) → Leads Inside (take (end + 1) lent) Start
+line_ends lent end found =
+    let within : end < length lent = omega (arith, found.0.high) in
+    let front = no_lf_leads (take end lent) (λ k l. let m : k < end = omega (arith, l, length-take end lent) in rw (get_or-take end lent k 0 m) (false_from_ne_true (eqb (get_or lent k 0) 10) (found.0.before k (omega arith) m))) in
+    subst (λ (z : List ℕ). Leads Inside z Start) (sym (take_more lent end 0 within)) (leads_trans Inside Inside Start (take end lent) (get_or lent end 0 ∷ []) front (lf_leads (get_or lent end 0) found.1))
+
+pub line_goes : (lent : List ℕ) → IsFirstByte (is_byte 10) lent None → Leads Inside (take (length lent) lent) Inside
+line_goes lent none =
+    subst (λ (z : List ℕ). Leads Inside z Inside) (sym (take_all (length lent) lent (omega arith))) (no_lf_leads lent (λ k l. false_from_ne_true (eqb (get_or lent k 0) 10) (none k (omega arith) l)))
 
 -- ---- where settings lead
 

@@ -5,11 +5,13 @@ ghost use Rattle.sched_box.specs.Config.{config_rooms};
 ghost use Rattle.sched_box.specs.Faults.{IfRefusedStream, IsReadFault, RefusesPreamble};
 ghost use Rattle.sched_box.specs.Objects.{IsPieceFault};
 ghost use Rattle.sched_box.specs.Preamble.{IsLong, Leads, Opens, OpensNot, TakesPiece, TakesPreamble, is_closed, next_place};
+ghost use Rattle.sched_box.specs.declared.preamble.Place.TheVariants.{Inside};
 
 use crate::config::{Config, LONGEST};
 use crate::fault::{ServeFault, StreamFault};
 use ical_lines::{Fault, Refusal};
 use ical_values::Stamp;
+use memchr::memchr;
 use std::alloc::Global;
 use std::io::BufRead;
 
@@ -50,8 +52,8 @@ fn take_preamble<R: BufRead>(alloc: Global, reader: &mut R) -> Result<Vec<u8>, S
     Err(StreamFault::Refused(Refusal::BAD_PREAMBLE))
 }
 
-/// Takes octets up to the end of the empty line, or all that the reader lends at once, at most one more than a preamble may
-/// have; false after the empty line, and at the end of the input.
+/// Takes the rest of a line that has begun, or one octet where none has, of what the reader lends at once, at most one more
+/// than a preamble may have; false after the empty line, and at the end of the input.
 fn take_piece<R: BufRead>(
     reader: &mut R,
     place: &mut Place,
@@ -129,23 +131,49 @@ impl Scanned {
     }
 }
 
+/// What leads on of the octets that were lent: the rest of a line that has begun, or one octet where none has.
 fn scan(place: Place, lent: &[u8]) -> Scanned
     ensures within { result.count ≤ length lent.now }
     ensures leads { Leads place (take result.count lent.now) result.place }
     ensures some { is_closed place ≡ false → 0 < length lent.now → 0 < result.count }
 {
-    let mut reached = place;
-    for (count, octet) in lent.iter().enumerate() {
-        if reached.is_closed() {
-            return Scanned {
-                count,
-                place: reached,
-            };
-        }
-        reached = reached.after(*octet);
+    match place {
+        Place::Inside => scan_line(lent),
+        Place::Closed => Scanned { count: 0, place },
+        Place::Start | Place::Return => scan_octet(place, lent),
     }
-    Scanned {
-        count: lent.len(),
-        place: reached,
+}
+
+/// The rest of a line that isn't empty: up to its LF, or all that was lent.
+fn scan_line(lent: &[u8]) -> Scanned
+    ensures within { result.count ≤ length lent.now }
+    ensures leads { Leads Inside (take result.count lent.now) result.place }
+    ensures some { 0 < length lent.now → 0 < result.count }
+{
+    match memchr(b'\n', lent) {
+        Some(end) => Scanned {
+            count: end + 1,
+            place: Place::Start,
+        },
+        None => Scanned {
+            count: lent.len(),
+            place: Place::Inside,
+        },
+    }
+}
+
+/// The first octet, where there is one.
+fn scan_octet(place: Place, lent: &[u8]) -> Scanned
+    requires { is_closed place ≡ false }
+    ensures within { result.count ≤ length lent.now }
+    ensures leads { Leads place (take result.count lent.now) result.place }
+    ensures some { 0 < length lent.now → 0 < result.count }
+{
+    match lent.first() {
+        Some(octet) => Scanned {
+            count: 1,
+            place: place.after(*octet),
+        },
+        None => Scanned { count: 0, place },
     }
 }
