@@ -1,3 +1,4 @@
 mod Examples
 mod RuleExamples
 mod ZoneExamples
+mod RuleTextExamples

@@ -1,33 +1,49 @@
 -- The text of a recurrence rule: what it says, and what can be wrong with it (RFC 5545 3.3.10).
-use Rattle.std.specs.Prelude.{◌≡◌, ℕ, ◌<◌, ◌≤◌, ◌⊎◌, Bool, true, false, ◌&&◌, ◌||◌, ◌==◌, IsTrue, Contains, List, [], ◌∷◌, ◌++◌, length, map, filter, take, drop, codes, Option, Some, None, ℤ, pos, neg_ℤ}
-use Rattle.std.specs.List.{list_all, list_any, slice_split, AllZip}
-use Rattle.std.specs.Str.{bytes_eq}
+use Rattle.std.specs.Prelude.{◌≡◌, ℕ, ◌<◌, ◌≤◌, ◌⊎◌, ◌==◌, true, false, if◌then◌else◌, IsTrue, Contains, All, List, [], ◌∷◌, ◌++◌, length, codes, Option, Some, None, ℤ, pos, neg_ℤ}
+use Rattle.std.specs.List.{slice_split, filter_map, AllZip}
 use Rattle.profile.specs.Faults.{is_between}
 use Rattle.profile.specs.Days.{Frequency, Daily, Weekly, Monthly, Yearly}
 use Rattle.profile.specs.Values.{IsNumber, SpellsDate, SpellsLocal, SpellsStamp}
 use Rattle.profile.specs.Rules.{RuleText, WeekdayNumber, Until, UntilDay, UntilLocal, UntilInstant, go_together, has_one_end}
 
--- ---- the parts of a text
+-- THE PARTS OF A TEXT
 
 -- the parts, between semicolons
 abbrev pub rule_parts : List ℕ → List (List ℕ)
 rule_parts text = slice_split (λ c. c == 59) text
 
--- the part begins with this key, a name and `=`
-abbrev pub has_key : List ℕ → List ℕ → Bool
-has_key key part = bytes_eq (take (length key) part) key
+-- what follows a key, a name and `=`, in a part that begins with it
+unfoldable pub after_key : List ℕ → List ℕ → Option (List ℕ)
+after_key [] part = Some part
+after_key (k ∷ key) [] = None
+after_key (k ∷ key) (c ∷ part) = if c == k then after_key key part else None
 
 -- the values of the parts with this key, in order
 abbrev pub values_of : List ℕ → List ℕ → List (List ℕ)
-values_of key text = map (drop (length key)) (filter (has_key key) (rule_parts text))
+values_of key text = filter_map (after_key key) (rule_parts text)
 
--- the keys that are read besides FREQ, each at most once
-abbrev pub other_keys : List (List ℕ)
-other_keys =
-    codes "INTERVAL=" ∷ codes "COUNT=" ∷ codes "UNTIL=" ∷ codes "WKST=" ∷ codes "BYMONTH=" ∷ codes "BYMONTHDAY=" ∷ codes "BYDAY="
-    ∷ codes "BYSETPOS=" ∷ []
+-- the parts that are read besides FREQ, each at most once
+pub data RuleKey : Type 0 where
+  Interval : RuleKey
+  Count : RuleKey
+  EndsAt : RuleKey
+  WeekStart : RuleKey
+  ByMonth : RuleKey
+  ByMonthDay : RuleKey
+  ByDay : RuleKey
+  BySetPosition : RuleKey
 
--- ---- values
+abbrev pub key_word : RuleKey → List ℕ
+key_word Interval = codes "INTERVAL="
+key_word Count = codes "COUNT="
+key_word EndsAt = codes "UNTIL="
+key_word WeekStart = codes "WKST="
+key_word ByMonth = codes "BYMONTH="
+key_word ByMonthDay = codes "BYMONTHDAY="
+key_word ByDay = codes "BYDAY="
+key_word BySetPosition = codes "BYSETPOS="
+
+-- VALUES
 
 abbrev pub frequency_word : Frequency → List ℕ
 frequency_word Daily = codes "DAILY"
@@ -38,15 +54,14 @@ frequency_word Yearly = codes "YEARLY"
 abbrev pub SpellsFrequency : List ℕ → Frequency → Type 0
 SpellsFrequency value frequency = value ≡ frequency_word frequency
 
--- the two letters of a weekday, Monday 0
-pub data SpellsWeekday : List ℕ → ℕ → Type 0 where
-  monday : SpellsWeekday (codes "MO") 0
-  tuesday : SpellsWeekday (codes "TU") 1
-  wednesday : SpellsWeekday (codes "WE") 2
-  thursday : SpellsWeekday (codes "TH") 3
-  friday : SpellsWeekday (codes "FR") 4
-  saturday : SpellsWeekday (codes "SA") 5
-  sunday : SpellsWeekday (codes "SU") 6
+-- the two letters of a weekday, 0 for Monday
+abbrev pub weekday_word : ℕ → List ℕ
+weekday_word n =
+    if n == 0 then codes "MO" else (if n == 1 then codes "TU" else (if n == 2 then codes "WE" else (if n == 3 then codes "TH"
+    else (if n == 4 then codes "FR" else (if n == 5 then codes "SA" else codes "SU")))))
+
+abbrev pub SpellsWeekday : List ℕ → ℕ → Type 0
+SpellsWeekday value weekday = (weekday < 7) × (value ≡ weekday_word weekday)
 
 -- digits, leading zeros among them, that give a number of this range
 abbrev pub SpellsBetween : ℕ → ℕ → List ℕ → ℕ → Type 0
@@ -94,32 +109,46 @@ SpellsEntries = SpellsList SpellsEntry
 abbrev pub SpellsPositions : List ℕ → List ℤ → Type 0
 SpellsPositions = SpellsList (SpellsPlace 366)
 
--- ---- what a text says
+-- a value that spells nothing: it is no value of its part, is out of its range, or is a list that is too long
+abbrev pub SpellsNone : {A : Type 0} → (List ℕ → A → Type 0) → List ℕ → Type 0
+SpellsNone {A} IsValue value = (x : A) → IsValue value x → ⊥
 
--- a part that stands once and is spelled so, or doesn't stand
+abbrev pub IsBadValue : RuleKey → List ℕ → Type 0
+IsBadValue Interval = SpellsNone SpellsInterval
+IsBadValue Count = SpellsNone SpellsCount
+IsBadValue EndsAt = SpellsNone SpellsUntil
+IsBadValue WeekStart = SpellsNone SpellsWeekday
+IsBadValue ByMonth = SpellsNone SpellsMonths
+IsBadValue ByMonthDay = SpellsNone SpellsMonthDays
+IsBadValue ByDay = SpellsNone SpellsEntries
+IsBadValue BySetPosition = SpellsNone SpellsPositions
+
+-- WHAT A TEXT SAYS
+
+-- FREQ with a frequency of a day or more, or another part that is read here
+abbrev pub IsKnownPart : List ℕ → Type 0
+IsKnownPart part =
+    ((frequency : Frequency) × (after_key (codes "FREQ=") part ≡ Some (frequency_word frequency)))
+    ⊎ ((key : RuleKey) × (value : List ℕ) × (after_key (key_word key) part ≡ Some value))
+
+-- of the values of one part: a single one is spelled so, and where there is none that is missing
 abbrev pub SaysOr : {A : Type 0} → (List ℕ → A → Type 0) → A → List (List ℕ) → A → Type 0
 SaysOr IsValue missing [] x = x ≡ missing
 SaysOr IsValue missing (value ∷ []) x = IsValue value x
 SaysOr IsValue missing (_ ∷ _ ∷ _) x = ⊥
 
--- the value of a part that has no meaning where it is missing
+-- the value of a part that means nothing where it is missing
 abbrev pub IsGiven : {A : Type 0} → (List ℕ → A → Type 0) → List ℕ → Option A → Type 0
 IsGiven IsValue value None = ⊥
 IsGiven IsValue value (Some x) = IsValue value x
 
--- FREQ stands, with a frequency that is read here; those of less than a day are left out
-abbrev pub IsFrequencyValue : List ℕ → Type 0
-IsFrequencyValue value = (frequency : Frequency) × SpellsFrequency value frequency
+-- FREQ stands once and says this
+abbrev pub SaysFrequency : List (List ℕ) → Frequency → Type 0
+SaysFrequency values frequency = values ≡ frequency_word frequency ∷ []
 
--- the part is FREQ with such a value, or has another key that is read
-abbrev pub IsKnown : List ℕ → Type 0
-IsKnown part =
-    ((has_key (codes "FREQ=") part ≡ true) × IsFrequencyValue (drop 5 part)) ⊎ (list_any (λ key. has_key key part) other_keys ≡ true)
-
--- the text says this: each part is known, FREQ stands once, and each other part once or not at all
-pub record SaysRule (text : List ℕ) (rule : RuleText) : Type 0 where
-  pub known : (part : List ℕ) → Contains (rule_parts text) part → IsKnown part
-  pub frequency : (value : List ℕ) × (values_of (codes "FREQ=") text ≡ value ∷ []) × SpellsFrequency value rule.frequency
+-- FREQ stands once, each other part once or not at all, and they say this
+pub record SaysParts (text : List ℕ) (rule : RuleText) : Type 0 where
+  pub frequency : SaysFrequency (values_of (codes "FREQ=") text) rule.frequency
   pub interval : SaysOr SpellsInterval 1 (values_of (codes "INTERVAL=") text) rule.interval
   pub count : SaysOr (IsGiven SpellsCount) None (values_of (codes "COUNT=") text) rule.count
   pub until : SaysOr (IsGiven SpellsUntil) None (values_of (codes "UNTIL=") text) rule.until
@@ -129,38 +158,29 @@ pub record SaysRule (text : List ℕ) (rule : RuleText) : Type 0 where
   pub weekdays : SaysOr SpellsEntries [] (values_of (codes "BYDAY=") text) rule.weekdays
   pub positions : SaysOr SpellsPositions [] (values_of (codes "BYSETPOS=") text) rule.positions
 
--- the text spells this rule: it says it, its parts go together, and it has one end
+-- the text spells this rule: each part is known, they say it, go together, and have one end
 pub record SpellsRule (text : List ℕ) (rule : RuleText) : Type 0 where
-  pub says : SaysRule text rule
+  pub known : All IsKnownPart (rule_parts text)
+  pub says : SaysParts text rule
   pub together : go_together rule ≡ true
   pub one_end : has_one_end rule ≡ true
 
--- ---- what can be wrong with it, by the number of its refusal
-
--- a part with this key has a value that spells nothing
-abbrev pub SomeValue : {A : Type 0} → List ℕ → (List ℕ → A → Type 0) → List ℕ → Type 0
-SomeValue {A} key IsValue text =
-    (value : List ℕ) × Contains (values_of key text) value × ((x : A) → IsValue value x → ⊥)
+-- WHAT CAN BE WRONG WITH IT, BY THE NUMBER OF ITS REFUSAL
 
 pub data RuleFault (text : List ℕ) : ℕ → Type 0 where
   -- a part is unknown, or empty, or its frequency is left out here
-  unknown : (part : List ℕ) → Contains (rule_parts text) part → (IsKnown part → ⊥) → RuleFault text 30
-  -- a value is none, or out of its range, or a list is too long
-  bad_interval : SomeValue (codes "INTERVAL=") SpellsInterval text → RuleFault text 31
-  bad_count : SomeValue (codes "COUNT=") SpellsCount text → RuleFault text 31
-  bad_until : SomeValue (codes "UNTIL=") SpellsUntil text → RuleFault text 31
-  bad_week_start : SomeValue (codes "WKST=") SpellsWeekday text → RuleFault text 31
-  bad_months : SomeValue (codes "BYMONTH=") SpellsMonths text → RuleFault text 31
-  bad_month_days : SomeValue (codes "BYMONTHDAY=") SpellsMonthDays text → RuleFault text 31
-  bad_weekdays : SomeValue (codes "BYDAY=") SpellsEntries text → RuleFault text 31
-  bad_positions : SomeValue (codes "BYSETPOS=") SpellsPositions text → RuleFault text 31
-  -- no FREQ, or two; another part twice; parts that don't go together
+  unknown : (part : List ℕ) → Contains (rule_parts text) part → (IsKnownPart part → ⊥) → RuleFault text 30
+  -- a value spells nothing, also where its part stands twice
+  bad_value : (key : RuleKey) (value : List ℕ) → Contains (values_of (key_word key) text) value → IsBadValue key value → RuleFault text 31
+  -- no FREQ, or two
   no_frequency : values_of (codes "FREQ=") text ≡ [] → RuleFault text 32
   two_frequencies : 1 < length (values_of (codes "FREQ=") text) → RuleFault text 32
-  twice : (key : List ℕ) → Contains other_keys key → 1 < length (values_of key text) → RuleFault text 32
-  apart : (rule : RuleText) → SaysRule text rule → go_together rule ≡ false → RuleFault text 32
+  -- another part twice
+  twice : (key : RuleKey) → 1 < length (values_of (key_word key) text) → RuleFault text 32
+  -- parts that don't go together
+  apart : (rule : RuleText) → SaysParts text rule → go_together rule ≡ false → RuleFault text 32
   -- both COUNT and UNTIL
-  two_ends : (rule : RuleText) → SaysRule text rule → has_one_end rule ≡ false → RuleFault text 33
+  two_ends : (rule : RuleText) → SaysParts text rule → has_one_end rule ≡ false → RuleFault text 33
 
 -- the least number of all faults that stand in the text
 pub record IsLeastRuleFault (text : List ℕ) (number : ℕ) : Type 0 where
