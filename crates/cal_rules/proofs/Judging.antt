@@ -1,8 +1,8 @@
 -- Tests of lists, written or implied.
-use Rattle.std.proofs.Common.{◌≡◌, ◌∙◌, ap, sym, refl, ℕ, suc, pos, Bool, true, false, ◌&&◌, ◌||◌, ◌==◌, nat_eq, nat_le, length, List, [], ◌∷◌, map, if◌then◌else◌, arith}
+use Rattle.std.proofs.Common.{◌≡◌, ◌∙◌, ap, sym, refl, ℕ, suc, pos, Bool, true, false, ◌&&◌, ◌||◌, ◌==◌, nat_eq, List, [], ◌∷◌, map, if◌then◌else◌, arith}
 use Rattle.std.proofs.lemmas.Bool.Decides.{nat_tests}
 use Rattle.std.specs.List.{list_any, list_all}
-use Rattle.profile.specs.Rules.{allows, is_short, names_weekday}
+use Rattle.profile.specs.Rules.{allows, names_weekday}
 
 or_false : (b : Bool) → (b || false) ≡ b
 or_false true = refl
@@ -39,14 +39,3 @@ allows_map test f (x ∷ xs) = any_map test f (x ∷ xs)
 pub all_map : {A B : Type 0} (test : B → Bool) (f : A → B) (xs : List A) → list_all test (map f xs) ≡ list_all (λ x. test (f x)) xs
 all_map test f [] = refl
 all_map test f (x ∷ xs) = ap (λ b. test (f x) && b) (all_map test f xs)
-
-length_map : {A B : Type 0} (f : A → B) (xs : List A) → length (map f xs) ≡ length xs
-length_map f [] = refl
-length_map f (x ∷ xs) = ap suc (length_map f xs)
-
-pub short_map : {A B : Type 0} (f : A → B) (xs : List A) → is_short (map f xs) ≡ is_short xs
-short_map f xs = ap (λ n. nat_le n 366) (length_map f xs)
-
--- a list of entries that is judged as others see it
-pub judged : {A B : Type 0} (test : B → Bool) (f : A → B) (xs : List A) → (list_all test (map f xs) && is_short (map f xs)) ≡ (list_all (λ x. test (f x)) xs && is_short xs)
-judged test f xs = rw (all_map test f xs, short_map f xs) refl

@@ -3,3 +3,8 @@ pub mod Counting
 pub mod Lists
 pub mod Strides
 pub mod Cuts
+pub mod Parted
+pub mod Numbers
+pub mod Entered
+pub mod OneRule
+pub mod Exits

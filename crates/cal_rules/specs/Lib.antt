@@ -4,4 +4,3 @@ pub mod Left
 pub mod Refused
 pub mod Cut
 pub mod Piece
-pub mod Words

@@ -1,10 +1,18 @@
 -- How the reading of a rule may fail.
-use Rattle.std.specs.Prelude.{IsTrue}
+use Rattle.std.specs.Prelude.{◌≡◌, ℕ, ◌≤◌, List, Some}
 use Rattle.ical_lines.specs.declared.fault.Fault.{Fault}
 use Rattle.ical_lines.specs.declared.fault.Fault.TheVariants.{Refused, Memory}
-use Rattle.profile.specs.Faults.{is_between}
+use Rattle.profile.specs.RuleTexts.{RuleFault, RuleKey, key_word, after_key, IsBadValue}
 
--- 30 to 33, or want of memory
-abbrev pub RefusesRule : Fault → Type 0
-RefusesRule (Refused refusal) = IsTrue (is_between 30 33 refusal.number)
-RefusesRule Memory = Unit {0}
+-- by a number of which this holds, or for want of memory
+abbrev pub RefusesBy : (ℕ → Type 0) → Fault → Type 0
+RefusesBy Holds (Refused refusal) = Holds refusal.number
+RefusesBy Holds Memory = Unit {0}
+
+-- a fault of the parts one by one; that parts don't fit together comes after them
+abbrev pub IsPartFault : List ℕ → ℕ → Type 0
+IsPartFault text number = RuleFault text number × (number ≤ 32)
+
+-- the part has a key and a value that spells nothing
+abbrev pub HasBadValue : List ℕ → Type 0
+HasBadValue part = (key : RuleKey) × (value : List ℕ) × (after_key (key_word key) part ≡ Some value) × IsBadValue key value

@@ -4,6 +4,9 @@
 
 mod base;
 mod checks;
+mod entries;
+mod fields;
+mod keys;
 mod pieces;
 mod place;
 mod read;
@@ -16,6 +19,7 @@ mod values;
 mod write;
 mod written;
 
+pub use read::one_rule;
 pub use rule::{Days, Rule};
 pub use text::RuleText;
 pub use written::{Until, WeekdayNumber};

@@ -1,36 +1,32 @@
-//! The text of a rule, read part by part (RFC 5545 3.3.10).
+//! The text of a rule, read part by part (RFC 5545 3.3.10). First each part has to be known, then each value has to be
+//! one, then each part has to stand once, and then they have to go together: so the least fault is found first.
 
-ghost use Rattle.std.specs.Prelude.{◌≡◌, IsTrue, OnOk, IfErr};
-ghost use Rattle.profile.specs.Rules.{is_in_range};
+ghost use Rattle.std.specs.Prelude.{◌≡◌, ℕ, List, All, Contains, MatchBool, IfOk, IfErr, OnOk};
+ghost use Rattle.profile.specs.Rules as rules;
+ghost use Rattle.profile.specs.RuleTexts.{rule_parts, values_of, key_word, RuleKey, IsKnownPart, IsBadValue, SaysParts, SpellsRule, RuleFault, IsLeastRuleFault};
 ghost use Rattle.cal_rules.specs.Views.{text_of};
-ghost use Rattle.cal_rules.specs.Refused.{RefusesRule};
+ghost use Rattle.cal_rules.specs.Refused.{RefusesBy, IsPartFault, HasBadValue};
 
+use crate::fields;
+use crate::keys::{is_bad_value, is_known, split_part};
 use crate::pieces::Pieces;
 use crate::refusals::{BAD_PARTS, BAD_VALUE, TWO_ENDS, UNKNOWN_PART};
 use crate::text::RuleText;
-use crate::values::{
-    read_entry, read_frequency, read_number, read_signed, read_until, read_weekday,
-};
-use crate::written::{WeekdayNumber, Written};
-use cal_days::Frequency;
+use crate::written::Written;
 use ical_lines::{Fault, Refusal};
-use std::alloc::Global;
+use std::alloc::{AllocError, Global};
 
 impl RuleText {
     /// Reads the text of an RRULE. Refused are, the least number that applies: a part that is unknown or
     /// left out (30), a value that is bad or out of range (31), parts that don't go together, a part
     /// twice or no FREQ (32), COUNT beside UNTIL (33).
     pub fn read(alloc: Global, text: &str) -> Result<RuleText, Fault>
-        ensures refuses { IfErr result RefusesRule }
+        ensures reads { IfOk result (λ rule. SpellsRule text.now rule) }
+        ensures refuses { IfErr result (RefusesBy (IsLeastRuleFault text.now)) }
     {
-        for part in Pieces::of(text, ';') {
-            check_part(part)?;
-        }
-        let written = read_parts(alloc, text)?;
-        check_once(text)?;
-        if !written.is_in_range() {
-            return Err(Fault::Refused(BAD_VALUE));
-        }
+        check_known(text)?;
+        check_values(alloc, text)?;
+        let written = read_written(alloc, text)?;
         if !written.go_together() {
             return Err(Fault::Refused(BAD_PARTS));
         }
@@ -41,167 +37,74 @@ impl RuleText {
     }
 }
 
-/// The name and the value of a part; None without `=`.
-fn split_part(part: &str) -> Option<(&str, &str)> {
-    part.split_once('=')
-}
+/// A text spells at most one rule, and none where a fault stands in it. With the contract of `RuleText::read`: what
+/// is taken is the one rule that the text spells, and what is refused spells none.
+pub fn one_rule()
+    ensures reading { (text : List ℕ) (a b : rules.RuleText) → SpellsRule text a → SpellsRule text b → a ≡ b }
+    ensures none { (text : List ℕ) (number : ℕ) (a : rules.RuleText) → RuleFault text number → SpellsRule text a → ⊥ }
+{}
 
-/// Is the part one that is read here? Refused: 30.
-fn check_part(part: &str) -> Result<(), Refusal>
-    ensures refuses { IfErr result (λ e. e.number ≡ 30) }
+/// Is each part one that is read here? Refused: 30.
+fn check_known(text: &str) -> Result<(), Refusal>
+    ensures known { OnOk result (All IsKnownPart (rule_parts text.now)) }
+    ensures refuses { IfErr result (λ e. (e.number ≡ 30) × RuleFault text.now 30) }
 {
-    let Some((name, value)) = split_part(part) else {
-        return Err(UNKNOWN_PART);
-    };
-    if name == "FREQ" {
-        return match read_frequency(value) {
-            Some(_) => Ok(()),
-            None => Err(UNKNOWN_PART),
-        };
-    }
-    match name {
-        "INTERVAL" | "COUNT" | "UNTIL" | "WKST" | "BYMONTH" | "BYMONTHDAY" | "BYDAY" | "BYSETPOS" =>
-            Ok(()),
-        _ => Err(UNKNOWN_PART),
-    }
-}
-
-/// How many parts have that name, counted up to two.
-fn count_parts(text: &str, name: &str) -> u8 {
-    let mut count = 0;
     for part in Pieces::of(text, ';') {
-        if let Some((key, _)) = split_part(part) {
-            if key == name && count < 2 {
-                count += 1;
-            }
-        }
-    }
-    count
-}
-
-/// Does FREQ stand once, and each other part at most once? Refused: 32.
-fn check_once(text: &str) -> Result<(), Refusal>
-    ensures refuses { IfErr result (λ e. e.number ≡ 32) }
-{
-    if count_parts(text, "FREQ") != 1 {
-        return Err(BAD_PARTS);
-    }
-    for name in [
-        "INTERVAL",
-        "COUNT",
-        "UNTIL",
-        "WKST",
-        "BYMONTH",
-        "BYMONTHDAY",
-        "BYDAY",
-        "BYSETPOS",
-    ] {
-        if count_parts(text, name) > 1 {
-            return Err(BAD_PARTS);
+        if !is_known(part) {
+            return Err(UNKNOWN_PART);
         }
     }
     Ok(())
 }
 
-/// The parts of a text, each in its range. Of a part that stands twice the last counts. Refused: 31.
-fn read_parts(alloc: Global, text: &str) -> Result<Written, Fault>
-    ensures refuses { IfErr result RefusesRule }
+/// Does each value spell something? Refused: 31.
+fn check_values(alloc: Global, text: &str) -> Result<(), Fault>
+    ensures good { OnOk result ((key : RuleKey) (value : List ℕ) → Contains (values_of (key_word key) text.now) value
+        → IsBadValue key value → ⊥) }
+    ensures refuses { IfErr result (RefusesBy (λ n. (n ≡ 31) × RuleFault text.now 31)) }
 {
-    let mut written = Written {
-        frequency: Frequency::Daily,
-        interval: 1,
-        week_start: 0,
-        months: Vec::new(alloc),
-        month_days: Vec::new(alloc),
-        weekdays: Vec::new(alloc),
-        positions: Vec::new(alloc),
-        count: None,
-        until: None,
-    };
     for part in Pieces::of(text, ';') {
-        if let Some((name, value)) = split_part(part) {
-            written = written.with(alloc, name, value)?;
-        }
-        if !written.is_in_range() {
+        if has_bad_value(alloc, part)? {
             return Err(Fault::Refused(BAD_VALUE));
         }
     }
-    Ok(written)
+    Ok(())
 }
 
-impl Written {
-    /// These parts with one more. Refused: 31 where its value is none.
-    fn with(self, alloc: Global, name: &str, value: &str) -> Result<Written, Fault>
-        ensures refuses { IfErr result RefusesRule }
-    {
-        let mut written = self;
-        match name {
-            "FREQ" => written.frequency = needed(read_frequency(value))?,
-            "INTERVAL" => written.interval = needed(read_short(value))?,
-            "COUNT" => written.count = Some(needed(read_number(value))?),
-            "UNTIL" => written.until = Some(needed(read_until(alloc, value)?)?),
-            "WKST" => written.week_start = needed(read_weekday(value))?,
-            "BYMONTH" => written.months = read_months(alloc, value)?,
-            "BYMONTHDAY" => written.month_days = read_numbers(alloc, value)?,
-            "BYDAY" => written.weekdays = read_entries(alloc, value)?,
-            "BYSETPOS" => written.positions = read_numbers(alloc, value)?,
-            _ => {}
-        }
-        Ok(written)
-    }
-}
-
-/// A value that has to be one. Refused: 31.
-fn needed<T: Drop>(value: Option<T>) -> Result<T, Refusal>
-    ensures refuses { IfErr result (λ e. e.number ≡ 31) }
+/// Has the part a key, and does its value spell nothing?
+fn has_bad_value(alloc: Global, part: &str) -> Result<bool, AllocError>
+    ensures { IfOk result (λ bad. MatchBool bad (HasBadValue part.now) (HasBadValue part.now → ⊥)) }
 {
-    match value {
-        Some(value) => Ok(value),
-        None => Err(BAD_VALUE),
-    }
+    let Some((key, value)) = split_part(part) else {
+        return Ok(false);
+    };
+    is_bad_value(alloc, key, value)
 }
 
-/// A number of 16 bits.
-fn read_short(value: &str) -> Option<u16> {
-    match read_number(value) {
-        Some(number) if number <= 0xffff => Some(number as u16),
-        _ => None,
-    }
-}
-
-/// The months of a list. Refused: 31.
-fn read_months(alloc: Global, value: &str) -> Result<Vec<u8>, Fault>
-    ensures refuses { IfErr result RefusesRule }
+/// The parts of a text, each from its one value. Refused: 32 where FREQ is missing or a part stands twice. The values
+/// are good by then; else: 30, 31.
+fn read_written(alloc: Global, text: &str) -> Result<Written, Fault>
+    ensures says { IfOk result (λ written. SaysParts text.now (text_of written)) }
+    ensures refuses { IfErr result (RefusesBy (IsPartFault text.now)) }
 {
-    let mut months = Vec::new(alloc);
-    for entry in Pieces::of(value, ',') {
-        let month = needed(read_number(entry))?;
-        if month > 12 {
-            return Err(Fault::Refused(BAD_VALUE));
-        }
-        months.push(month as u8)?;
-    }
-    Ok(months)
-}
-
-/// The numbers of a list. Refused: 31.
-fn read_numbers(alloc: Global, value: &str) -> Result<Vec<i16>, Fault>
-    ensures refuses { IfErr result RefusesRule }
-{
-    let mut numbers = Vec::new(alloc);
-    for entry in Pieces::of(value, ',') {
-        numbers.push(needed(read_signed(entry))?)?;
-    }
-    Ok(numbers)
-}
-
-/// The entries of BYDAY. Refused: 31.
-fn read_entries(alloc: Global, value: &str) -> Result<Vec<WeekdayNumber>, Fault>
-    ensures refuses { IfErr result RefusesRule }
-{
-    let mut entries = Vec::new(alloc);
-    for entry in Pieces::of(value, ',') {
-        entries.push(needed(read_entry(entry))?)?;
-    }
-    Ok(entries)
+    let frequency = fields::frequency(text)?;
+    let interval = fields::interval(text)?;
+    let count = fields::count(text)?;
+    let until = fields::until(alloc, text)?;
+    let week_start = fields::week_start(text)?;
+    let months = fields::months(alloc, text)?;
+    let month_days = fields::month_days(alloc, text)?;
+    let weekdays = fields::weekdays(alloc, text)?;
+    let positions = fields::positions(alloc, text)?;
+    Ok(Written {
+        frequency,
+        interval,
+        week_start,
+        months,
+        month_days,
+        weekdays,
+        positions,
+        count,
+        until,
+    })
 }

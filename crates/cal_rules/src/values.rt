@@ -1,10 +1,12 @@
 //! The values of a rule's parts: words, numbers, weekdays, dates (RFC 5545 3.3.10).
 
-ghost use Rattle.std.specs.Prelude.{◌≡◌, ◌<◌, ◌^◌, ℕ, IfSome, IfNone};
-ghost use Rattle.profile.specs.Values.{IsNumber};
+ghost use Rattle.std.specs.Prelude.{◌≡◌, ◌<◌, ◌≤◌, ◌^◌, ◌*ℤ◌, ℕ, ℤ, pos, neg_ℤ, IfSome, IfNone, IfOk};
+ghost use Rattle.profile.specs.Values.{IsNumber, IsClockSeconds, SpellsDate};
+ghost use Rattle.profile.specs.RuleTexts.{SpellsFrequency, SpellsWeekday, SpellsBetween, SpellsInterval, SpellsCount, SpellsPlace, SpellsEntry, SpellsUntil, SpellsNone};
 ghost use Rattle.cal_days.specs.Views.{frequency_of};
-ghost use Rattle.cal_rules.specs.Words.{frequency_word, weekday_word, SpellsSize};
+ghost use Rattle.cal_rules.specs.Views.{entry_of, until_of};
 
+use crate::checks::is_between;
 use crate::written::{Until, WeekdayNumber};
 use cal_days::{Day, Frequency};
 use ical_values::{LocalTime, Stamp};
@@ -12,7 +14,8 @@ use std::alloc::{AllocError, Global};
 
 /// The frequency of a word; those of less than a day are left out here.
 pub(crate) fn read_frequency(value: &str) -> Option<Frequency>
-    ensures { IfSome result (λ f. value.now ≡ frequency_word (frequency_of f)) }
+    ensures reads { IfSome result (λ f. SpellsFrequency value.now (frequency_of f)) }
+    ensures none { IfNone result (SpellsNone SpellsFrequency value.now) }
 {
     match value {
         "DAILY" => Some(Frequency::Daily),
@@ -25,8 +28,8 @@ pub(crate) fn read_frequency(value: &str) -> Option<Frequency>
 
 /// The weekday of its two letters, 0 for Monday.
 pub(crate) fn read_weekday(value: &str) -> Option<u8>
-    ensures reads { IfSome result (λ n. value.now ≡ weekday_word n) }
-    ensures range { IfSome result (λ n. n < 7) }
+    ensures reads { IfSome result (SpellsWeekday value.now) }
+    ensures none { IfNone result (SpellsNone SpellsWeekday value.now) }
 {
     match value {
         "MO" => Some(0),
@@ -40,9 +43,9 @@ pub(crate) fn read_weekday(value: &str) -> Option<u8>
     }
 }
 
-/// A number in decimal digits, without a sign.
-pub(crate) fn read_number(value: &str) -> Option<u32>
-    ensures reads { IfSome result (SpellsSize value.now) }
+/// A number in decimal digits, without a sign. None past 32 bits too.
+fn read_number(value: &str) -> Option<u32>
+    ensures reads { IfSome result (IsNumber value.now) }
     ensures none { IfNone result ((n : ℕ) → n < 2 ^ 32 → IsNumber value.now n → ⊥) }
 {
     if value.strip_prefix('+').is_some() {
@@ -54,28 +57,98 @@ pub(crate) fn read_number(value: &str) -> Option<u32>
     }
 }
 
-/// A number of at most three digits' size, with an optional sign; 0 is none.
-pub(crate) fn read_signed(value: &str) -> Option<i16> {
-    let (is_negative, digits) = match value.strip_prefix('-') {
-        Some(digits) => (true, digits),
-        None => (false, value.strip_prefix('+').unwrap_or(value)),
-    };
-    let Some(size) = read_number(digits) else {
+/// A number from low to high in decimal digits, without a sign.
+pub(crate) fn read_between(low: u32, high: u32, value: &str) -> Option<u32>
+    ensures reads { IfSome result (SpellsBetween low high value.now) }
+    ensures none { IfNone result (SpellsNone (SpellsBetween low high) value.now) }
+{
+    let Some(number) = read_number(value) else {
         return None;
     };
-    if size == 0 || size > 999 {
+    if !is_between(low, high, number) {
         return None;
     }
-    Some(if is_negative {
-        -(size as i16)
-    } else {
-        size as i16
-    })
+    Some(number)
+}
+
+/// The value of INTERVAL.
+pub(crate) fn read_interval(value: &str) -> Option<u16>
+    ensures reads { IfSome result (SpellsInterval value.now) }
+    ensures none { IfNone result (SpellsNone SpellsInterval value.now) }
+{
+    let Some(number) = read_between(1, 9999, value) else {
+        return None;
+    };
+    Some(number as u16)
+}
+
+/// The value of COUNT.
+pub(crate) fn read_count(value: &str) -> Option<u32>
+    ensures reads { IfSome result (SpellsCount value.now) }
+    ensures none { IfNone result (SpellsNone SpellsCount value.now) }
+{
+    read_between(1, 100_000, value)
+}
+
+/// An entry of BYMONTH.
+pub(crate) fn read_month(value: &str) -> Option<u8>
+    ensures reads { IfSome result (SpellsBetween 1 12 value.now) }
+    ensures none { IfNone result (SpellsNone (SpellsBetween 1 12) value.now) }
+{
+    let Some(number) = read_between(1, 12, value) else {
+        return None;
+    };
+    Some(number as u8)
+}
+
+/// A number from 1 to the most, that counts from the start.
+fn read_from_start(most: u16, digits: &str) -> Option<i16>
+    requires { most ≤ 366 }
+    ensures reads { IfSome result (λ place. (size : ℕ) × SpellsBetween 1 most digits.now size × (place ≡ pos size)) }
+    ensures none { IfNone result (SpellsNone (SpellsBetween 1 most) digits.now) }
+{
+    let Some(size) = read_between(1, most as u32, digits) else {
+        return None;
+    };
+    Some(size as i16)
+}
+
+/// A number from 1 to the most, that counts from the end.
+fn read_from_end(most: u16, digits: &str) -> Option<i16>
+    requires { most ≤ 366 }
+    ensures reads { IfSome result (λ place. (size : ℕ) × SpellsBetween 1 most digits.now size × (place ≡ neg_ℤ (pos size))) }
+    ensures none { IfNone result (SpellsNone (SpellsBetween 1 most) digits.now) }
+{
+    let Some(size) = read_between(1, most as u32, digits) else {
+        return None;
+    };
+    Some(-(size as i16))
+}
+
+/// A number from 1 to the most with an optional sign; with `-` it counts from the end.
+pub(crate) fn read_place(most: u16, value: &str) -> Option<i16>
+    requires { most ≤ 366 }
+    ensures reads { IfSome result (SpellsPlace most value.now) }
+    ensures none { IfNone result (SpellsNone (SpellsPlace most) value.now) }
+{
+    if let Some(digits) = value.strip_prefix('-') {
+        return read_from_end(most, digits);
+    }
+    if let Some(digits) = value.strip_prefix('+') {
+        return read_from_start(most, digits);
+    }
+    read_from_start(most, value)
 }
 
 /// An entry of BYDAY: a weekday, with a number before it or none.
-pub(crate) fn read_entry(value: &str) -> Option<WeekdayNumber> {
-    if value.len() < 2 || !value.is_char_boundary(value.len() - 2) {
+pub(crate) fn read_entry(value: &str) -> Option<WeekdayNumber>
+    ensures reads { IfSome result (λ entry. SpellsEntry value.now (entry_of entry)) }
+    ensures none { IfNone result (SpellsNone SpellsEntry value.now) }
+{
+    if value.len() < 2 {
+        return None;
+    }
+    if !value.is_char_boundary(value.len() - 2) {
         return None;
     }
     let (front, letters) = value.split_at(value.len() - 2);
@@ -85,23 +158,47 @@ pub(crate) fn read_entry(value: &str) -> Option<WeekdayNumber> {
     if front.is_empty() {
         return Some(WeekdayNumber { number: 0, weekday });
     }
-    match read_signed(front) {
-        Some(number) => Some(WeekdayNumber { number, weekday }),
-        None => None,
-    }
+    let Some(number) = read_place(53, front) else {
+        return None;
+    };
+    Some(WeekdayNumber { number, weekday })
 }
 
 /// A date, a local date-time, or one in UTC.
-pub(crate) fn read_until(alloc: Global, value: &str) -> Result<Option<Until>, AllocError> {
+pub(crate) fn read_until(alloc: Global, value: &str) -> Result<Option<Until>, AllocError>
+    ensures reads { IfOk result (λ read. IfSome read (λ end. SpellsUntil value.now (until_of end))) }
+    ensures none { IfOk result (λ read. IfNone read (SpellsNone SpellsUntil value.now)) }
+{
     if let Ok(stamp) = Stamp::read(value) {
         return Ok(Some(Until::Utc(stamp)));
     }
     if let Ok(local) = LocalTime::read(value) {
         return Ok(Some(Until::Local(local)));
     }
-    let midnight = format!(in alloc; "{value}T000000")?;
+    let Some(day) = read_date(alloc, value)? else {
+        return Ok(None);
+    };
+    Ok(Some(Until::Date(day)))
+}
+
+/// A date, by its midnight.
+fn read_date(alloc: Global, value: &str) -> Result<Option<Day>, AllocError>
+    ensures reads { IfOk result (λ read. IfSome read (SpellsDate value.now)) }
+    ensures none { IfOk result (λ read. IfNone read (SpellsNone SpellsDate value.now)) }
+{
+    let mut midnight = String::from_str(alloc, value)?;
+    midnight.push_str("T000000")?;
     let Ok(local) = LocalTime::read(midnight.as_str()) else {
         return Ok(None);
     };
-    Ok(Day::of_number(local.seconds().div_euclid(86_400)).map(|day| Until::Date(day)))
+    Ok(Day::of_number(day_number(local.seconds())))
+}
+
+/// The number of the day that begins with that second.
+fn day_number(seconds: i64) -> i64
+    requires { IsClockSeconds seconds }
+    ensures { (number : ℤ) → seconds ≡ number *ℤ pos 86_400 → result ≡ number }
+{
+    let since = (seconds + 62_135_596_800) as u64;
+    (since / 86_400) as i64 - 719_162
 }

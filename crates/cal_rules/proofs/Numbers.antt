@@ -1,0 +1,369 @@
+-- Numbers, weekdays and dates as they are spelled.
+use Rattle.std.proofs.Common.{to_z, of_z, w16, w64, ◌≡◌, ◌∙◌, ◌≢◌, ap, sym, refl, ℕ, zero, suc, ◌+◌, ◌-◌, ◌*◌, ◌^◌, ◌<◌, ◌≤◌, lit<, lit≤, true, false, cond, nat_eq, inl, inr, ◌⊎◌, List, [], ◌∷◌, ◌++◌, length, get_or, take, drop, codes, Option, None, Some, IsSome, is_some, IfSome, IfNone, MatchOption, ℤ, pos, neg_ℤ, ◌*ℤ◌, ◌+ℤ◌, arith}
+use Rattle.std.proofs.lemmas.Bool.Decides.{nat_tests}
+use Rattle.std.proofs.lemmas.Int.{ints}
+use Rattle.std.proofs.lemmas.List.{append_assoc, take-append-drop, take_at, drop_at, get_or_at, length-append}
+use Rattle.std.proofs.lemmas.Str.{IsCharBoundary-before_ascii}
+use Rattle.std.proofs.lemmas.Str.Parse.{without_leading_plus_none, digit_from_value}
+use Rattle.std.specs.Int.{IsInRange}
+use denote.Ref.{Bor}
+use Rattle.std.specs.Str.{IsCharBoundary}
+use Rattle.std.specs.Str.Parse.{AllDigits, IsNumeral, digits_value, without_leading_plus}
+use Rattle.profile.specs.Faults.{is_between}
+use Rattle.profile.specs.Days.{Frequency, Daily, Weekly, Monthly, Yearly, IsDayNumber}
+use Rattle.profile.specs.Values.{IsNumber, IsClockSeconds, SpellsDate, SpellsTime, SpellsLocal, SpellsStamp}
+use Rattle.profile.specs.Rules.{WeekdayNumber, Until, UntilDay, UntilLocal, UntilInstant}
+use Rattle.profile.specs.RuleTexts.{frequency_word, weekday_word, SpellsFrequency, SpellsWeekday, SpellsBetween, SpellsPlace, SpellsEntry, SpellsUntil, SpellsNone}
+use Rattle.ical_values.proofs.Offsets.{time_same}
+use Rattle.ical_values.proofs.Spelled.{clock_parts, date_length, after_letter, list_of_8}
+use Rattle.ical_values.proofs.Readings.{date_same, clock_same, stamp_same}
+
+-- ---- words
+
+pub no_frequency_word : (value : List ℕ) → value ≢ codes "DAILY" → value ≢ codes "WEEKLY" → value ≢ codes "MONTHLY" → value ≢ codes "YEARLY" → SpellsNone SpellsFrequency value
+no_frequency_word value a b c d Daily e = a e
+no_frequency_word value a b c d Weekly e = b e
+no_frequency_word value a b c d Monthly e = c e
+no_frequency_word value a b c d Yearly e = d e
+
+pub no_weekday_word : (value : List ℕ) → value ≢ codes "MO" → value ≢ codes "TU" → value ≢ codes "WE" → value ≢ codes "TH" → value ≢ codes "FR" → value ≢ codes "SA" → value ≢ codes "SU" → SpellsNone SpellsWeekday value
+no_weekday_word value a b c d e f g zero s = a s.1
+no_weekday_word value a b c d e f g (suc zero) s = b s.1
+no_weekday_word value a b c d e f g (suc (suc zero)) s = c s.1
+no_weekday_word value a b c d e f g (suc (suc (suc zero))) s = d s.1
+no_weekday_word value a b c d e f g (suc (suc (suc (suc zero)))) s = e s.1
+no_weekday_word value a b c d e f g (suc (suc (suc (suc (suc zero))))) s = f s.1
+no_weekday_word value a b c d e f g (suc (suc (suc (suc (suc (suc zero)))))) s = g s.1
+no_weekday_word value a b c d e f g (suc (suc (suc (suc (suc (suc (suc n))))))) s = absurd (omega (arith, s.0))
+
+-- a word has two letters, and says which weekday it is
+abbrev weight : List ℕ → ℕ
+weight word = 2 * get_or word 0 0 + get_or word 1 0
+
+record OfWeekday (n : ℕ) : Type 0 where
+  long : length (weekday_word n) ≡ 2
+  low : get_or (weekday_word n) 0 0 < 128
+
+of_weekday : (n : ℕ) → n < 7 → OfWeekday n
+of_weekday zero h = record { long = refl; low = lit< tt }
+of_weekday (suc zero) h = record { long = refl; low = lit< tt }
+of_weekday (suc (suc zero)) h = record { long = refl; low = lit< tt }
+of_weekday (suc (suc (suc zero))) h = record { long = refl; low = lit< tt }
+of_weekday (suc (suc (suc (suc zero)))) h = record { long = refl; low = lit< tt }
+of_weekday (suc (suc (suc (suc (suc zero))))) h = record { long = refl; low = lit< tt }
+of_weekday (suc (suc (suc (suc (suc (suc zero)))))) h = record { long = refl; low = lit< tt }
+of_weekday (suc (suc (suc (suc (suc (suc (suc n))))))) h = absurd (omega arith)
+
+weekday_at : List ℕ → ℕ
+weekday_at word =
+    let w = weight word in
+    cond (nat_eq w 233) 0 (cond (nat_eq w 253) 1 (cond (nat_eq w 243) 2 (cond (nat_eq w 240) 3 (cond (nat_eq w 222) 4 (cond (nat_eq w 231) 5 6)))))
+
+weekday_back : (n : ℕ) → n < 7 → weekday_at (weekday_word n) ≡ n
+unfolding weekday_at
+weekday_back zero h = refl
+weekday_back (suc zero) h = refl
+weekday_back (suc (suc zero)) h = refl
+weekday_back (suc (suc (suc zero))) h = refl
+weekday_back (suc (suc (suc (suc zero)))) h = refl
+weekday_back (suc (suc (suc (suc (suc zero))))) h = refl
+weekday_back (suc (suc (suc (suc (suc (suc zero)))))) h = refl
+weekday_back (suc (suc (suc (suc (suc (suc (suc n))))))) h = absurd (omega arith)
+
+pub weekday_same : (value : List ℕ) (m n : ℕ) → SpellsWeekday value m → SpellsWeekday value n → m ≡ n
+weekday_same value m n s t = sym (weekday_back m s.0) ∙ ap weekday_at (sym s.1 ∙ t.1) ∙ weekday_back n t.0
+
+first_letter : (f g : Frequency) → frequency_word f ≡ frequency_word g → get_or (frequency_word f) 0 0 ≡ get_or (frequency_word g) 0 0
+first_letter f g e = ap (λ w. get_or w 0 0) e
+
+pub frequency_same : (f g : Frequency) → frequency_word f ≡ frequency_word g → f ≡ g
+frequency_same Daily Daily e = refl
+frequency_same Weekly Weekly e = refl
+frequency_same Monthly Monthly e = refl
+frequency_same Yearly Yearly e = refl
+frequency_same Daily Weekly e = absurd (omega (arith, first_letter Daily Weekly e))
+frequency_same Daily Monthly e = absurd (omega (arith, first_letter Daily Monthly e))
+frequency_same Daily Yearly e = absurd (omega (arith, first_letter Daily Yearly e))
+frequency_same Weekly Daily e = absurd (omega (arith, first_letter Weekly Daily e))
+frequency_same Weekly Monthly e = absurd (omega (arith, first_letter Weekly Monthly e))
+frequency_same Weekly Yearly e = absurd (omega (arith, first_letter Weekly Yearly e))
+frequency_same Monthly Daily e = absurd (omega (arith, first_letter Monthly Daily e))
+frequency_same Monthly Weekly e = absurd (omega (arith, first_letter Monthly Weekly e))
+frequency_same Monthly Yearly e = absurd (omega (arith, first_letter Monthly Yearly e))
+frequency_same Yearly Daily e = absurd (omega (arith, first_letter Yearly Daily e))
+frequency_same Yearly Weekly e = absurd (omega (arith, first_letter Yearly Weekly e))
+frequency_same Yearly Monthly e = absurd (omega (arith, first_letter Yearly Monthly e))
+
+-- ---- numbers
+
+not_plus : (bs : List ℕ) → ((rest : List ℕ) → bs ≡ 43 ∷ rest → ⊥) → get_or bs 0 0 ≢ 43
+not_plus [] h = λ e. absurd (omega arith)
+not_plus (c ∷ cs) h = λ e. h cs (ap (λ x. x ∷ cs) e)
+
+-- nothing was stripped
+pub stripped_none : (bs : List ℕ) (r : Option (Bor (List ℕ))) → is_some r ≡ false → MatchOption r ((rest : List ℕ) → bs ≡ 43 ∷ rest → ⊥) (λ x. bs ≡ 43 ∷ x.now) → (rest : List ℕ) → bs ≡ 43 ∷ rest → ⊥
+stripped_none bs None e h = h
+stripped_none bs (Some x) e h = cc
+
+-- what `parse` reads where no `+` stands
+pub plain_number : (bs : List ℕ) (n : ℕ) → ((rest : List ℕ) → bs ≡ 43 ∷ rest → ⊥) → IsNumeral 10 (without_leading_plus bs) → n ≡ digits_value 10 (without_leading_plus bs) → IsNumber bs n
+plain_number bs n h p e =
+    let same = without_leading_plus_none bs (not_plus bs h) in
+    let q = rw same at p in
+    (q.0, q.1, sym (rw same at e))
+
+pub between_small : (low high : ℕ) (value : List ℕ) → high < 2 ^ 32 → ((n : ℕ) → n < 2 ^ 32 → IsNumber value n → ⊥) → SpellsNone (SpellsBetween low high) value
+between_small low high value bound none n s =
+    let small : n ≤ high = grind (arith, nat_tests) in none n (omega arith) s.0
+
+pub between_out : (low high : ℕ) (value : List ℕ) (m : ℕ) → IsNumber value m → is_between low high m ≡ false → SpellsNone (SpellsBetween low high) value
+between_out low high value m is out n s =
+    let same : m ≡ n = sym is.2 ∙ s.0.2 in
+    let both : is_between low high m ≡ true = ap (is_between low high) same ∙ s.1 in cc
+
+pub between_same : (low high : ℕ) (value : List ℕ) (m n : ℕ) → SpellsBetween low high value m → SpellsBetween low high value n → m ≡ n
+between_same low high value m n s t = sym s.0.2 ∙ t.0.2
+
+-- ---- places
+
+-- the bounds of a place's size
+size_bounds : (most n : ℕ) (digits : List ℕ) → SpellsBetween 1 most digits n → (1 ≤ n) × (n ≤ most)
+size_bounds most n digits s = (grind (arith, nat_tests), grind (arith, nat_tests))
+
+pub cast_up : (most n : ℕ) (digits : List ℕ) → most ≤ 366 → SpellsBetween 1 most digits n → to_z w16 n ≡ pos n
+cast_up most n digits bound s =
+    let h = size_bounds most n digits s in omega (arith, ints, h.1)
+
+pub cast_down : (most n : ℕ) (digits : List ℕ) → most ≤ 366 → SpellsBetween 1 most digits n → to_z w16 (of_z w16 (neg_ℤ (to_z w16 n))) ≡ neg_ℤ (pos n)
+cast_down most n digits bound s =
+    let h = size_bounds most n digits s in omega (arith, ints, h.1)
+
+-- a digit is no sign
+digit_first : (digits : List ℕ) → 0 < length digits → AllDigits 10 digits → IsInRange 48 57 (get_or digits 0 0)
+digit_first [] h a = absurd (omega arith)
+digit_first (c ∷ cs) h a = digit_from_value c a.0
+
+sign_none : (c : ℕ) (rest digits : List ℕ) → c < 48 → 0 < length digits → AllDigits 10 digits → digits ≡ c ∷ rest → ⊥
+sign_none c rest digits low h a e =
+    let r = digit_first digits h a in
+    let f : get_or digits 0 0 ≡ c = ap (λ x. get_or x 0 0) e in
+    omega (arith, r.0)
+
+tail : (a b : ℕ) (xs ys : List ℕ) → a ∷ xs ≡ b ∷ ys → xs ≡ ys
+tail a b xs ys e = ap (drop 1) e
+
+head : (a b : ℕ) (xs ys : List ℕ) → a ∷ xs ≡ b ∷ ys → a ≡ b
+head a b xs ys e = ap (λ x. get_or x 0 0) e
+
+pub minus_reads : (most : ℕ) (value digits : List ℕ) (r : Option ℤ) → value ≡ 45 ∷ digits → IfSome r (λ place. (size : ℕ) × SpellsBetween 1 most digits size × (place ≡ neg_ℤ (pos size))) → IfSome r (SpellsPlace most value)
+minus_reads most value digits None e h = tt
+minus_reads most value digits (Some place) e (size, s, f) = (digits, size, s, inr (e, f))
+
+pub plus_reads : (most : ℕ) (value digits : List ℕ) (r : Option ℤ) → value ≡ 43 ∷ digits → IfSome r (λ place. (size : ℕ) × SpellsBetween 1 most digits size × (place ≡ pos size)) → IfSome r (SpellsPlace most value)
+plus_reads most value digits None e h = tt
+plus_reads most value digits (Some place) e (size, s, f) = (digits, size, s, inl (inr e, f))
+
+pub bare_reads : (most : ℕ) (value : List ℕ) (r : Option ℤ) → IfSome r (λ place. (size : ℕ) × SpellsBetween 1 most value size × (place ≡ pos size)) → IfSome r (SpellsPlace most value)
+bare_reads most value None h = tt
+bare_reads most value (Some place) (size, s, f) = (value, size, s, inl (inl refl, f))
+
+no_minus : (most : ℕ) (value digits : List ℕ) → value ≡ 45 ∷ digits → SpellsNone (SpellsBetween 1 most) digits → SpellsNone (SpellsPlace most) value
+no_minus most value digits e none place (d, n, s, inl (inl f, p)) = sign_none 45 digits d (omega arith) s.0.0 s.0.1 (sym f ∙ e)
+no_minus most value digits e none place (d, n, s, inl (inr f, p)) = absurd (omega (arith, head 43 45 d digits (sym f ∙ e)))
+no_minus most value digits e none place (d, n, s, inr (f, p)) = none n (rw (tail 45 45 d digits (sym f ∙ e)) at s)
+
+no_plus : (most : ℕ) (value digits : List ℕ) → value ≡ 43 ∷ digits → SpellsNone (SpellsBetween 1 most) digits → SpellsNone (SpellsPlace most) value
+no_plus most value digits e none place (d, n, s, inl (inl f, p)) = sign_none 43 digits d (omega arith) s.0.0 s.0.1 (sym f ∙ e)
+no_plus most value digits e none place (d, n, s, inl (inr f, p)) = none n (rw (tail 43 43 d digits (sym f ∙ e)) at s)
+no_plus most value digits e none place (d, n, s, inr (f, p)) = absurd (omega (arith, head 45 43 d digits (sym f ∙ e)))
+
+no_bare : (most : ℕ) (value : List ℕ) → ((rest : List ℕ) → value ≡ 45 ∷ rest → ⊥) → ((rest : List ℕ) → value ≡ 43 ∷ rest → ⊥) → SpellsNone (SpellsBetween 1 most) value → SpellsNone (SpellsPlace most) value
+no_bare most value minus plus none place (d, n, s, inl (inl f, p)) = none n (rw (sym f) at s)
+no_bare most value minus plus none place (d, n, s, inl (inr f, p)) = plus d f
+no_bare most value minus plus none place (d, n, s, inr (f, p)) = minus d f
+
+pub minus_none : (most : ℕ) (value digits : List ℕ) (r : Option ℤ) → value ≡ 45 ∷ digits → IfNone r (SpellsNone (SpellsBetween 1 most) digits) → IfNone r (SpellsNone (SpellsPlace most) value)
+minus_none most value digits None e h = no_minus most value digits e h
+minus_none most value digits (Some place) e h = tt
+
+pub plus_none : (most : ℕ) (value digits : List ℕ) (r : Option ℤ) → value ≡ 43 ∷ digits → IfNone r (SpellsNone (SpellsBetween 1 most) digits) → IfNone r (SpellsNone (SpellsPlace most) value)
+plus_none most value digits None e h = no_plus most value digits e h
+plus_none most value digits (Some place) e h = tt
+
+pub bare_none : (most : ℕ) (value : List ℕ) (r : Option ℤ) → ((rest : List ℕ) → value ≡ 45 ∷ rest → ⊥) → ((rest : List ℕ) → value ≡ 43 ∷ rest → ⊥) → IfNone r (SpellsNone (SpellsBetween 1 most) value) → IfNone r (SpellsNone (SpellsPlace most) value)
+bare_none most value None minus plus h = no_bare most value minus plus h
+bare_none most value (Some place) minus plus h = tt
+
+pub place_nonempty : (most : ℕ) (value : List ℕ) (place : ℤ) → SpellsPlace most value place → 0 < length value
+place_nonempty most value place (d, n, s, inl (inl f, p)) = rw f s.0.0
+place_nonempty most value place (d, n, s, inl (inr f, p)) = rw f (omega arith)
+place_nonempty most value place (d, n, s, inr (f, p)) = rw f (omega arith)
+
+pub place_same : (most : ℕ) (value : List ℕ) (a b : ℤ) → SpellsPlace most value a → SpellsPlace most value b → a ≡ b
+place_same most value a b (d, m, s, inl (inl e, p)) (c, n, t, inl (inl f, q)) =
+    p ∙ ap pos (between_same 1 most c m n (rw (sym e ∙ f) at s) t) ∙ sym q
+place_same most value a b (d, m, s, inl (inr e, p)) (c, n, t, inl (inr f, q)) =
+    p ∙ ap pos (between_same 1 most c m n (rw (tail 43 43 d c (sym e ∙ f)) at s) t) ∙ sym q
+place_same most value a b (d, m, s, inr (e, p)) (c, n, t, inr (f, q)) =
+    p ∙ ap (λ x. neg_ℤ (pos x)) (between_same 1 most c m n (rw (tail 45 45 d c (sym e ∙ f)) at s) t) ∙ sym q
+place_same most value a b (d, m, s, inl (inl e, p)) (c, n, t, inl (inr f, q)) = absurd (sign_none 43 c d (omega arith) s.0.0 s.0.1 (sym e ∙ f))
+place_same most value a b (d, m, s, inl (inr e, p)) (c, n, t, inl (inl f, q)) = absurd (sign_none 43 d c (omega arith) t.0.0 t.0.1 (sym f ∙ e))
+place_same most value a b (d, m, s, inl (inl e, p)) (c, n, t, inr (f, q)) = absurd (sign_none 45 c d (omega arith) s.0.0 s.0.1 (sym e ∙ f))
+place_same most value a b (d, m, s, inr (e, p)) (c, n, t, inl (inl f, q)) = absurd (sign_none 45 d c (omega arith) t.0.0 t.0.1 (sym f ∙ e))
+place_same most value a b (d, m, s, inl (inr e, p)) (c, n, t, inr (f, q)) = absurd (omega (arith, head 43 45 d c (sym e ∙ f)))
+place_same most value a b (d, m, s, inr (e, p)) (c, n, t, inl (inr f, q)) = absurd (omega (arith, head 45 43 d c (sym e ∙ f)))
+
+-- ---- entries of BYDAY
+
+boundary_at : (value front letters : List ℕ) → value ≡ front ++ letters → length front ≡ length value - 2 → length letters ≡ 2 → get_or letters 0 0 < 128 → IsCharBoundary value (length value - 2)
+boundary_at value front [] e at two low = absurd (omega arith)
+boundary_at value front (y ∷ ys) e at two low =
+    let letter : get_or value (length value - 2) 0 ≡ y = ap (λ v. get_or v (length value - 2) 0) e ∙ get_or_at front y ys 0 (length value - 2) at in
+    let long : length value ≡ length front + length (y ∷ ys) = ap length e ∙ length-append front (y ∷ ys) in
+    IsCharBoundary-before_ascii value (length value - 2) (omega arith) (omega (arith, letter))
+
+number_same : (front : List ℕ) (a b : ℤ) → ((front ≡ []) × (a ≡ pos 0)) ⊎ SpellsPlace 53 front a → ((front ≡ []) × (b ≡ pos 0)) ⊎ SpellsPlace 53 front b → a ≡ b
+number_same front a b (inl p) (inl q) = p.1 ∙ sym q.1
+number_same front a b (inr s) (inr t) = place_same 53 front a b s t
+number_same front a b (inl p) (inr t) = absurd (omega (arith, ap length p.0, place_nonempty 53 front b t))
+number_same front a b (inr s) (inl q) = absurd (omega (arith, ap length q.0, place_nonempty 53 front a s))
+
+pub record EntryParts (value : List ℕ) (entry : WeekdayNumber) : Type 0 where
+  pub long : 2 ≤ length value
+  pub boundary : IsCharBoundary value (length value - 2)
+  pub letters : SpellsWeekday (drop (length value - 2) value) entry.weekday
+  pub front : ((take (length value - 2) value ≡ []) × (entry.number ≡ pos 0)) ⊎ SpellsPlace 53 (take (length value - 2) value) entry.number
+
+pub entry_parts : (value : List ℕ) (entry : WeekdayNumber) → SpellsEntry value entry → EntryParts value entry
+entry_parts value entry (front, letters, e, w, n) =
+    let of = of_weekday entry.weekday w.0 in
+    let two : length letters ≡ 2 = ap length w.1 ∙ of.long in
+    let long : length value ≡ length front + length letters = ap length e ∙ length-append front letters in
+    let at : length front ≡ length value - 2 = omega arith in
+    let ahead : take (length value - 2) value ≡ front = ap (take (length value - 2)) e ∙ take_at front letters (length value - 2) at in
+    let behind : drop (length value - 2) value ≡ letters = ap (drop (length value - 2)) e ∙ drop_at front letters (length value - 2) at in
+    let low : get_or letters 0 0 < 128 = rw w.1 of.low in
+    record {
+      long = omega arith;
+      boundary = boundary_at value front letters e at two low;
+      letters = rw behind w;
+      front = rw ahead n;
+    }
+
+front_none : (value front : List ℕ) (number : ℤ) → front ≡ take (length value - 2) value → nat_eq (length front) 0 ≡ false → SpellsNone (SpellsPlace 53) front → ((take (length value - 2) value ≡ []) × (number ≡ pos 0)) ⊎ SpellsPlace 53 (take (length value - 2) value) number → ⊥
+front_none value front number e filled none (inl p) =
+    let empty : nat_eq (length front) 0 ≡ true = rw (e ∙ p.0) refl in
+    let h : true ≡ false = sym empty ∙ filled in cc
+front_none value front number e filled none (inr s) = none number (rw (sym e) at s)
+
+-- a front that is no number
+pub entry_no_number : (value front : List ℕ) → front ≡ take (length value - 2) value → nat_eq (length front) 0 ≡ false → SpellsNone (SpellsPlace 53) front → SpellsNone SpellsEntry value
+entry_no_number value front e filled none entry s = front_none value front entry.number e filled none (entry_parts value entry s).front
+
+pub entry_reads : (value : List ℕ) (weekday : ℕ) (number : ℤ) → SpellsWeekday (drop (length value - 2) value) weekday → ((take (length value - 2) value ≡ []) × (number ≡ pos 0)) ⊎ SpellsPlace 53 (take (length value - 2) value) number → SpellsEntry value (record { number = number; weekday = weekday })
+entry_reads value weekday number w n = (take (length value - 2) value, drop (length value - 2) value, sym (take-append-drop (length value - 2) value), w, n)
+
+pub entry_same : (value : List ℕ) (a b : WeekdayNumber) → SpellsEntry value a → SpellsEntry value b → a ≡ b
+entry_same value a b s t =
+    let p = entry_parts value a s in
+    let q = entry_parts value b t in
+    let weekday : a.weekday ≡ b.weekday = weekday_same (drop (length value - 2) value) a.weekday b.weekday p.letters q.letters in
+    let number : a.number ≡ b.number = number_same (take (length value - 2) value) a.number b.number p.front q.front in
+    let make : ℤ → ℕ → WeekdayNumber = λ n w. record { number = n; weekday = w } in
+    ap (λ n. make n a.weekday) number ∙ ap (make b.number) weekday
+
+-- ---- UNTIL
+
+-- the day whose midnight those seconds are
+pub record Midnight (value : List ℕ) (seconds : ℤ) : Type 0 where
+  pub number : ℤ
+  pub on : SpellsDate value number
+  pub counted : seconds ≡ number *ℤ pos 86_400
+
+-- 00:00:00
+midnight : SpellsTime 60 (codes "000000") 0
+midnight = record {
+  hour = 0;
+  minute = 0;
+  second = 0;
+  hours = lit≤ tt;
+  minutes = lit≤ tt;
+  seconds = lit≤ tt;
+  spelled = refl;
+  counted = refl;
+}
+
+no_more : (seconds number : ℤ) (second : ℕ) → seconds ≡ (number *ℤ pos 86_400) +ℤ pos second → second ≡ 0 → seconds ≡ number *ℤ pos 86_400
+no_more seconds number second e z = omega (arith, ints)
+
+pub midnight_parts : (value : List ℕ) (seconds : ℤ) → SpellsLocal (value ++ codes "T000000") seconds → Midnight value seconds
+midnight_parts value seconds s =
+    let p = clock_parts 60 (value ++ codes "T000000") seconds s in
+    let long : length value ≡ 8 = omega (arith, p.long, length-append value (codes "T000000")) in
+    let front : take 8 (value ++ codes "T000000") ≡ value = take_at value (codes "T000000") 8 long in
+    let back : after_letter (value ++ codes "T000000") ≡ codes "000000" = ap (λ v. after_letter (v ++ codes "T000000")) (list_of_8 value long) in
+    let zero_second : p.second ≡ 0 = time_same 60 (codes "000000") p.second 0 (lit≤ tt) (rw back at p.at_second) midnight in
+    record {
+      number = p.number;
+      on = rw front at p.on;
+      counted = no_more seconds p.number p.second p.counted zero_second;
+    }
+
+pub no_midnight : (value : List ℕ) → SpellsNone SpellsLocal (value ++ codes "T000000") → SpellsNone SpellsDate value
+no_midnight value none number s = none ((number *ℤ pos 86_400) +ℤ pos 0) (record {
+  date = value;
+  time = codes "000000";
+  number = number;
+  second = 0;
+  on = s;
+  at_second = midnight;
+  spelled = sym (append_assoc value (codes "T") (codes "000000"));
+  counted = refl;
+})
+
+day_bounds : (seconds number : ℤ) → IsClockSeconds seconds → seconds ≡ number *ℤ pos 86_400 → IsDayNumber number
+day_bounds seconds number h e = (omega (arith, ints, h.0, h.1), omega (arith, ints, h.0, h.1))
+
+seconds_cast : (seconds : ℤ) → IsClockSeconds seconds → to_z w64 (of_z w64 seconds) ≡ seconds
+seconds_cast seconds h = omega (arith, ints, h.0, h.1)
+
+day_cast : (number : ℤ) → IsDayNumber number → to_z w64 (of_z w64 number) ≡ number
+day_cast number h = omega (arith, ints, h.0, h.1)
+
+-- the number of that day, as the program reckons it
+day_number_is : (value : List ℕ) (seconds day : ℤ) (m : Midnight value seconds) → IsClockSeconds seconds → ((number : ℤ) → to_z w64 (of_z w64 seconds) ≡ number *ℤ pos 86_400 → day ≡ number) → to_z w64 (of_z w64 day) ≡ m.number
+day_number_is value seconds day m range h =
+    let same : day ≡ m.number = h m.number (seconds_cast seconds range ∙ m.counted) in
+    ap (λ n. to_z w64 (of_z w64 n)) same ∙ day_cast m.number (day_bounds seconds m.number range m.counted)
+
+pub day_reads : (value : List ℕ) (seconds day : ℤ) (read : Option ℤ) → Midnight value seconds → IsClockSeconds seconds → ((number : ℤ) → to_z w64 (of_z w64 seconds) ≡ number *ℤ pos 86_400 → day ≡ number) → IfSome read (λ d. d ≡ to_z w64 (of_z w64 day)) → IfSome read (SpellsDate value)
+day_reads value seconds day None m range h e = tt
+day_reads value seconds day (Some d) m range h e =
+    let same : d ≡ m.number = e ∙ day_number_is value seconds day m range h in rw same m.on
+
+pub day_none : (value : List ℕ) (seconds day : ℤ) (read : Option ℤ) → Midnight value seconds → IsClockSeconds seconds → ((number : ℤ) → to_z w64 (of_z w64 seconds) ≡ number *ℤ pos 86_400 → day ≡ number) → (IsDayNumber (to_z w64 (of_z w64 day)) → IsSome read) → IfNone read (SpellsNone SpellsDate value)
+day_none value seconds day None m range h found = λ number s.
+    let f : false ≡ true = found (rw (day_number_is value seconds day m range h) (day_bounds seconds m.number range m.counted)) in cc
+day_none value seconds day (Some d) m range h found = tt
+
+pub no_until : (value : List ℕ) → SpellsNone SpellsStamp value → SpellsNone SpellsLocal value → SpellsNone SpellsDate value → SpellsNone SpellsUntil value
+no_until value stamp local date (UntilDay number) s = date number s
+no_until value stamp local date (UntilLocal seconds) s = local seconds s
+no_until value stamp local date (UntilInstant instant) s = stamp instant s
+
+local_length : (value : List ℕ) (seconds : ℤ) → SpellsLocal value seconds → length value ≡ 15
+local_length value seconds s = (clock_parts 60 value seconds s).long
+
+stamp_length : (value : List ℕ) (instant : ℤ) → SpellsStamp value instant → length value ≡ 16
+stamp_length value instant (local, s, e) = omega (arith, ap length e, length-append local (codes "Z"), local_length local instant s)
+
+pub until_same : (value : List ℕ) (a b : Until) → SpellsUntil value a → SpellsUntil value b → a ≡ b
+until_same value (UntilDay a) (UntilDay b) s t = ap UntilDay (date_same value a b s t)
+until_same value (UntilLocal a) (UntilLocal b) s t = ap UntilLocal (clock_same 60 value a b (lit≤ tt) s t)
+until_same value (UntilInstant a) (UntilInstant b) s t = ap UntilInstant (stamp_same value a b s t)
+until_same value (UntilDay a) (UntilLocal b) s t = absurd (omega (arith, date_length value a s, local_length value b t))
+until_same value (UntilDay a) (UntilInstant b) s t = absurd (omega (arith, date_length value a s, stamp_length value b t))
+until_same value (UntilLocal a) (UntilDay b) s t = absurd (omega (arith, local_length value a s, date_length value b t))
+until_same value (UntilLocal a) (UntilInstant b) s t = absurd (omega (arith, local_length value a s, stamp_length value b t))
+until_same value (UntilInstant a) (UntilDay b) s t = absurd (omega (arith, stamp_length value a s, date_length value b t))
+until_same value (UntilInstant a) (UntilLocal b) s t = absurd (omega (arith, stamp_length value a s, local_length value b t))

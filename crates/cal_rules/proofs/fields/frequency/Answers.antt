@@ -1,0 +1,17 @@
+use Rattle.cal_rules.specs.Refused.{IsPartFault}
+use Rattle.cal_rules.proofs.Exits.{refusal_exit}
+use Rattle.cal_rules.proofs.Parted.{fault_no_frequency, fault_two_frequencies, fault_frequency}
+use Rattle.cal_rules.proofs.fields.frequency.Goals as goal
+
+pub returns-in_err-value-clause-refuses : goal.returns-in_err-value-clause-refuses
+returns-in_err-value-clause-refuses c =
+    let t = c.in_err-value.ensures.twice in
+    refusal_exit c.from_residual.result (IsPartFault c.args.text.now) c.in_err-value.field-0.0 c.from_residual.ensures.1 (fault_two_frequencies c.args.text.now c.in_err-value.field-0.0.number t.0 t.1)
+
+pub returns-in_default-clause-refuses : goal.returns-in_default-clause-refuses
+returns-in_default-clause-refuses c = fault_no_frequency c.args.text.now (rw c.in_default.is at c.in_ok-value.ensures.value)
+
+pub returns-in_default-read_frequency-clause-refuses :
+    goal.returns-in_default-read_frequency-clause-refuses
+returns-in_default-read_frequency-clause-refuses c =
+    fault_frequency c.args.text.now c.in-Some.value.now (rw c.in-Some.is at c.in_ok-value.ensures.value) c.in_default-read_frequency.ensures.none
