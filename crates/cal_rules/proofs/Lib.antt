@@ -8,3 +8,4 @@ pub mod Numbers
 pub mod Entered
 pub mod OneRule
 pub mod Exits
+pub mod Listing

@@ -1,9 +1,14 @@
 //! The text of a rule, written in one form (RFC 5545 3.3.10).
 
-ghost use Rattle.std.specs.Prelude.{◌≡◌, ◌++◌, ℕ, List, OnOk, OnErr};
+ghost use Rattle.std.specs.Prelude.{◌≡◌, ◌++◌, ◌<◌, ◌==◌, [], map, option_map, codes, decimal, string_bytes, if◌then◌else◌, IfOk, OnOk, OnErr};
+ghost use Rattle.std.specs.Fmt.{signed_decimal};
+ghost use Rattle.std.specs.List.{list_any};
+ghost use Rattle.profile.specs.RuleTexts as texts;
+ghost use Rattle.cal_days.specs.Views.{frequency_of};
+ghost use Rattle.cal_rules.specs.Views.{entry_of, text_of, until_of};
 
 use crate::text::RuleText;
-use crate::written::Written;
+use crate::written::{WeekdayNumber, Written};
 use cal_days::Frequency;
 use std::alloc::{AllocError, Global};
 
@@ -13,7 +18,8 @@ impl RuleText {
     /// `until`, a UTC date-time or a date, takes the place of an UNTIL that the rule has. Without memory
     /// nothing is appended.
     pub fn write(&self, until: Option<&str>, out: &mut Vec<u8>) -> Result<(), AllocError>
-        ensures ok { OnOk result ((text : List ℕ) × (out.new.items ≡ out.old.items ++ text)) }
+        ensures ok { OnOk result
+            (out.new.items ≡ out.old.items ++ texts.rule_text self.now (option_map (λ text. text.now) until.entry)) }
         ensures err { OnErr result (out.new.items ≡ out.old.items) }
     {
         let text = self.written.text(*out.allocator(), until)?;
@@ -23,102 +29,205 @@ impl RuleText {
 
 impl Written {
     /// The text in its one form.
-    fn text(&self, alloc: Global, until: Option<&str>) -> Result<String, AllocError> {
+    fn text(&self, alloc: Global, until: Option<&str>) -> Result<String, AllocError>
+        ensures { IfOk result
+            (λ text. string_bytes text ≡ texts.rule_text (text_of self.now) (option_map (λ text. text.now) until.entry)) }
+    {
         let mut text = String::from_str(alloc, "FREQ=")?;
         text.push_str(frequency_word(self.frequency))?;
-        self.push_end(&mut text, until)?;
-        if self.interval != 1 {
-            text.push_str(";INTERVAL=")?;
-            push_number(&mut text, self.interval as i32)?;
-        }
-        self.push_months(&mut text)?;
+        self.push_count(&mut text)?;
+        self.push_until(&mut text, until)?;
+        self.push_interval(&mut text)?;
+        push_months(&mut text, &self.months)?;
         push_numbers(&mut text, ";BYMONTHDAY=", &self.month_days)?;
-        self.push_weekdays(&mut text)?;
+        push_weekdays(&mut text, &self.weekdays)?;
         push_numbers(&mut text, ";BYSETPOS=", &self.positions)?;
-        if self.week_start != 0 {
-            text.push_str(";WKST=")?;
-            text.push_str(weekday_word(self.week_start))?;
-        }
+        self.push_week_start(&mut text)?;
         Ok(text)
     }
 
-    /// Appends COUNT, or UNTIL as it was handed in.
-    fn push_end(&self, text: &mut String, until: Option<&str>) -> Result<(), AllocError> {
-        if let Some(count) = self.count {
-            text.push_str(";COUNT=")?;
-            let digits = format!(in *text.allocator(); "{count}")?;
-            text.push_str(digits.as_str())?;
-        }
-        if self.until.is_none() {
+    /// Appends COUNT where it is written.
+    fn push_count(&self, text: &mut String) -> Result<(), AllocError>
+        ensures { OnOk result (string_bytes text.new ≡ string_bytes text.old ++ texts.count_text self.now.count) }
+    {
+        let Some(count) = self.count else {
             return Ok(());
-        }
+        };
+        text.push_str(";COUNT=")?;
+        push_number(text, count)?;
+        Ok(())
+    }
+
+    /// Appends UNTIL, where it is written, as it was handed in.
+    fn push_until(&self, text: &mut String, until: Option<&str>) -> Result<(), AllocError>
+        ensures { OnOk result
+            (string_bytes text.new ≡ string_bytes text.old
+            ++ texts.until_text (option_map until_of self.now.until) (option_map (λ text. text.now) until.entry)) }
+    {
+        let Some(_end) = self.until else {
+            return Ok(());
+        };
         let Some(until) = until else {
             return Ok(());
         };
         text.push_str(";UNTIL=")?;
-        text.push_str(until)
-    }
-
-    /// Appends BYMONTH.
-    fn push_months(&self, text: &mut String) -> Result<(), AllocError> {
-        let mut lead = ";BYMONTH=";
-        for month in 1..13 {
-            if self.months.contains(&month) {
-                text.push_str(lead)?;
-                push_number(text, month as i32)?;
-                lead = ",";
-            }
-        }
+        text.push_str(until)?;
         Ok(())
     }
 
-    /// Appends BYDAY.
-    fn push_weekdays(&self, text: &mut String) -> Result<(), AllocError> {
-        let mut lead = ";BYDAY=";
-        for number in -53..54 {
-            for weekday in 0..7 {
-                if self.has_entry(number, weekday) {
-                    text.push_str(lead)?;
-                    if number != 0 {
-                        push_number(text, number as i32)?;
-                    }
-                    text.push_str(weekday_word(weekday))?;
-                    lead = ",";
-                }
-            }
+    /// Appends INTERVAL unless 1.
+    fn push_interval(&self, text: &mut String) -> Result<(), AllocError>
+        ensures { OnOk result
+            (string_bytes text.new ≡ string_bytes text.old
+            ++ (if self.now.interval == 1 then [] else codes ";INTERVAL=" ++ decimal self.now.interval)) }
+    {
+        if self.interval == 1 {
+            return Ok(());
         }
+        text.push_str(";INTERVAL=")?;
+        push_number(text, self.interval as u32)?;
         Ok(())
     }
 
-    /// Is that an entry of BYDAY?
-    fn has_entry(&self, number: i16, weekday: u8) -> bool {
-        self.weekdays
-            .iter()
-            .any(|entry| entry.number == number && entry.weekday == weekday)
+    /// Appends WKST unless MO.
+    fn push_week_start(&self, text: &mut String) -> Result<(), AllocError>
+        ensures { OnOk result
+            (string_bytes text.new ≡ string_bytes text.old
+            ++ (if self.now.week_start == 0 then [] else codes ";WKST=" ++ texts.weekday_word self.now.week_start)) }
+    {
+        if self.week_start == 0 {
+            return Ok(());
+        }
+        text.push_str(";WKST=")?;
+        text.push_str(weekday_word(self.week_start))?;
+        Ok(())
     }
 }
 
-/// Appends a list of numbers from -366 to 366 under its name.
-fn push_numbers(text: &mut String, name: &str, numbers: &[i16]) -> Result<(), AllocError> {
-    let mut lead = name;
-    for number in -366..367 {
-        if numbers.contains(&number) {
-            text.push_str(lead)?;
-            push_number(text, number as i32)?;
-            lead = ",";
+/// Appends BYMONTH.
+fn push_months(text: &mut String, months: &[u8]) -> Result<(), AllocError>
+    ensures { OnOk result
+        (string_bytes text.new ≡ string_bytes text.old
+        ++ texts.listed (codes ";BYMONTH=") (map decimal (texts.months_from 1 months.now))) }
+{
+    let mut is_first = true;
+    for month in 1..13u8 {
+        if months.contains(&month) {
+            push_lead(text, is_first, ";BYMONTH=")?;
+            push_number(text, month as u32)?;
+            is_first = false;
         }
     }
     Ok(())
 }
 
+/// Appends a list of numbers from -366 to 366 under its name.
+fn push_numbers(text: &mut String, name: &str, numbers: &[i16]) -> Result<(), AllocError>
+    ensures { OnOk result
+        (string_bytes text.new ≡ string_bytes text.old
+        ++ texts.listed name.now (map signed_decimal (texts.numbers_from 0 numbers.now))) }
+{
+    let mut is_first = true;
+    for place in 0..733u16 {
+        let number = place as i16 - 366;
+        if numbers.contains(&number) {
+            push_lead(text, is_first, name)?;
+            push_signed(text, number)?;
+            is_first = false;
+        }
+    }
+    Ok(())
+}
+
+/// Appends BYDAY.
+fn push_weekdays(text: &mut String, entries: &[WeekdayNumber]) -> Result<(), AllocError>
+    ensures { OnOk result
+        (string_bytes text.new ≡ string_bytes text.old
+        ++ texts.listed (codes ";BYDAY=") (map texts.entry_text (texts.entries_from 0 (map entry_of entries.now)))) }
+{
+    let mut is_first = true;
+    for place in 0..749u16 {
+        let entry = nth_entry(place);
+        if has_entry(entries, entry) {
+            push_lead(text, is_first, ";BYDAY=")?;
+            push_entry(text, entry)?;
+            is_first = false;
+        }
+    }
+    Ok(())
+}
+
+/// The entry at a place in the order in which BYDAY is written: by number, then from Monday on.
+fn nth_entry(place: u16) -> WeekdayNumber
+    requires { place < 749 }
+    ensures { entry_of result ≡ texts.nth_entry place }
+{
+    WeekdayNumber {
+        number: (place / 7) as i16 - 53,
+        weekday: (place % 7) as u8,
+    }
+}
+
+/// Is that one of the entries?
+fn has_entry(entries: &[WeekdayNumber], wanted: WeekdayNumber) -> bool
+    ensures { result ≡ list_any (λ entry. texts.is_same_entry (entry_of entry) (entry_of wanted)) entries.now }
+{
+    entries.iter().any(|entry| is_same_entry(*entry, wanted))
+}
+
+/// Have both the same number and the same weekday?
+fn is_same_entry(entry: WeekdayNumber, other: WeekdayNumber) -> bool
+    ensures { result ≡ texts.is_same_entry (entry_of entry) (entry_of other) }
+{
+    entry.number == other.number && entry.weekday == other.weekday
+}
+
+/// Appends an entry of BYDAY.
+fn push_entry(text: &mut String, entry: WeekdayNumber) -> Result<(), AllocError>
+    ensures { OnOk result (string_bytes text.new ≡ string_bytes text.old ++ texts.entry_text (entry_of entry)) }
+{
+    if entry.number != 0 {
+        push_signed(text, entry.number)?;
+    }
+    text.push_str(weekday_word(entry.weekday))?;
+    Ok(())
+}
+
+/// Appends the name before the first entry of a list, and a comma before each other.
+fn push_lead(text: &mut String, is_first: bool, name: &str) -> Result<(), AllocError>
+    ensures { OnOk result
+        (string_bytes text.new ≡ string_bytes text.old ++ (if is_first then name.now else codes ",")) }
+{
+    if is_first {
+        text.push_str(name)?;
+        return Ok(());
+    }
+    text.push_str(",")?;
+    Ok(())
+}
+
 /// Appends a number in decimal digits.
-fn push_number(text: &mut String, number: i32) -> Result<(), AllocError> {
+fn push_number(text: &mut String, number: u32) -> Result<(), AllocError>
+    ensures { OnOk result (string_bytes text.new ≡ string_bytes text.old ++ decimal number) }
+{
     let digits = format!(in *text.allocator(); "{number}")?;
-    text.push_str(digits.as_str())
+    text.push_str(digits.as_str())?;
+    Ok(())
+}
+
+/// Appends a number in decimal digits, with `-` before a negative one.
+fn push_signed(text: &mut String, number: i16) -> Result<(), AllocError>
+    ensures { OnOk result (string_bytes text.new ≡ string_bytes text.old ++ signed_decimal number) }
+{
+    let digits = format!(in *text.allocator(); "{number}")?;
+    text.push_str(digits.as_str())?;
+    Ok(())
 }
 
 /// The word of a frequency.
-fn frequency_word(frequency: Frequency) -> &'static str {
+fn frequency_word(frequency: Frequency) -> &'static str
+    ensures { result.now ≡ texts.frequency_word (frequency_of frequency) }
+{
     match frequency {
         Frequency::Daily => "DAILY",
         Frequency::Weekly => "WEEKLY",
@@ -128,7 +237,9 @@ fn frequency_word(frequency: Frequency) -> &'static str {
 }
 
 /// The two letters of a weekday, 0 for Monday; those past Saturday are Sunday's.
-fn weekday_word(weekday: u8) -> &'static str {
+fn weekday_word(weekday: u8) -> &'static str
+    ensures { result.now ≡ texts.weekday_word weekday }
+{
     match weekday {
         0 => "MO",
         1 => "TU",

@@ -1,12 +1,13 @@
 -- Texts of rules, and what they spell or what is wrong with them, by the definitions alone.
-use Rattle.std.proofs.Common.{◌≡◌, ℕ, IsTrue, refl, ap, inl, inr, List, [], ◌∷◌, get_or, codes, Some, None, unwrap_or, pos, arith, lit<, lit≤}
+use Rattle.std.proofs.Common.{◌≡◌, ℕ, IsTrue, refl, ap, inl, inr, List, [], ◌∷◌, get_or, codes, Some, None, unwrap_or, pos, negsuc, arith, lit<, lit≤}
 use Rattle.std.proofs.lemmas.Bool.Decides.{nat_tests}
+use Rattle.std.proofs.lemmas.Fmt.{decimal_digit}
 use Rattle.std.proofs.lemmas.List.Elements.{All-from_recursion}
 use Rattle.profile.specs.Faults.{is_between}
 use Rattle.profile.specs.Days.{Frequency, Daily, Weekly, Monthly, Yearly, days_before_year, days_of_months}
 use Rattle.profile.specs.Rules.{RuleText, UntilDay, go_together}
 use Rattle.profile.specs.Values.{SpellsDate}
-use Rattle.profile.specs.RuleTexts.{Interval, Count, EndsAt, WeekStart, ByMonth, ByMonthDay, ByDay, BySetPosition, rule_parts, after_key, frequency_word, IsKnownPart, SpellsRule, RuleFault, unknown, bad_value, apart, two_ends, no_frequency, twice}
+use Rattle.profile.specs.RuleTexts.{Interval, Count, EndsAt, WeekStart, ByMonth, ByMonthDay, ByDay, BySetPosition, rule_parts, after_key, frequency_word, IsKnownPart, SpellsRule, RuleFault, unknown, bad_value, apart, two_ends, no_frequency, twice, months_from, numbers_from, entries_from, rule_text}
 
 -- ---- FREQ=WEEKLY;INTERVAL=2;COUNT=4;BYDAY=TU,SU;WKST=MO, of RFC 5545 3.8.5.3
 
@@ -158,3 +159,37 @@ an_interval_twice = twice Interval (lit< tt)
 no_freq : RuleFault (codes "INTERVAL=2") 32
 unfolding after_key
 no_freq = no_frequency refl
+
+-- ---- the one form of FREQ=MONTHLY;UNTIL=19971224T000000;BYDAY=1SU,-1SU,MO;BYSETPOS=+2,-1, with another UNTIL
+
+abbrev listed_monthly : RuleText
+listed_monthly = record {
+  frequency = Monthly;
+  interval = 1;
+  week_start = 0;
+  months = [];
+  month_days = [];
+  weekdays = record { number = pos 1; weekday = 6 } ∷ record { number = negsuc 0; weekday = 6 } ∷ record { number = pos 0; weekday = 0 } ∷ [];
+  positions = pos 2 ∷ negsuc 0 ∷ [];
+  count = None;
+  until = Some (UntilDay (pos 20_098));
+}
+
+its_entries : entries_from 0 listed_monthly.weekdays ≡ record { number = negsuc 0; weekday = 6 } ∷ record { number = pos 0; weekday = 0 } ∷ record { number = pos 1; weekday = 6 } ∷ []
+unfolding entries_from
+its_entries = refl
+
+its_positions : numbers_from 0 listed_monthly.positions ≡ negsuc 0 ∷ pos 2 ∷ []
+unfolding numbers_from
+its_positions = refl
+
+no_numbers : numbers_from 0 [] ≡ []
+unfolding numbers_from
+no_numbers = refl
+
+no_months : months_from 1 [] ≡ []
+unfolding months_from
+no_months = refl
+
+written_monthly : rule_text listed_monthly (Some (codes "19971224T050000Z")) ≡ codes "FREQ=MONTHLY;UNTIL=19971224T050000Z;BYDAY=-1SU,MO,1SU;BYSETPOS=-1,2"
+written_monthly = rw (no_months, no_numbers, its_entries, its_positions, decimal_digit 1 (lit< tt), decimal_digit 2 (lit< tt)) refl

@@ -1,10 +1,12 @@
 -- The text of a recurrence rule: what it says, and what can be wrong with it (RFC 5545 3.3.10).
-use Rattle.std.specs.Prelude.{◌≡◌, ℕ, ◌<◌, ◌≤◌, ◌⊎◌, ◌==◌, true, false, if◌then◌else◌, IsTrue, Contains, All, List, [], ◌∷◌, ◌++◌, length, codes, Option, Some, None, ℤ, pos, neg_ℤ}
-use Rattle.std.specs.List.{slice_split, filter_map, AllZip}
+use Rattle.std.specs.Prelude.{◌≡◌, ℕ, ◌-◌, ◌/◌, ◌%◌, ◌<◌, ◌≤◌, ◌⊎◌, Bool, ◌&&◌, ◌==◌, true, false, if◌then◌else◌, IsTrue, Contains, All, List, [], ◌∷◌, ◌++◌, length, map, filter, codes, decimal, Option, Some, None, ℤ, pos, neg_ℤ, ◌-ℤ◌}
+use Rattle.std.specs.Fmt.{signed_decimal}
+use Rattle.std.specs.List.{slice_split, filter_map, AllZip, list_any, range_with_len}
+use Rattle.std.specs.Ordering.{int_eq}
 use Rattle.profile.specs.Faults.{is_between}
 use Rattle.profile.specs.Days.{Frequency, Daily, Weekly, Monthly, Yearly}
 use Rattle.profile.specs.Values.{IsNumber, SpellsDate, SpellsLocal, SpellsStamp}
-use Rattle.profile.specs.Rules.{RuleText, WeekdayNumber, Until, UntilDay, UntilLocal, UntilInstant, go_together, has_one_end}
+use Rattle.profile.specs.Rules.{RuleText, WeekdayNumber, Until, UntilDay, UntilLocal, UntilInstant, is_plain, go_together, has_one_end}
 
 -- THE PARTS OF A TEXT
 
@@ -186,3 +188,58 @@ pub data RuleFault (text : List ℕ) : ℕ → Type 0 where
 pub record IsLeastRuleFault (text : List ℕ) (number : ℕ) : Type 0 where
   pub stands : RuleFault text number
   pub least : (other : ℕ) → RuleFault text other → number ≤ other
+
+-- THE ONE FORM IN WHICH A RULE IS WRITTEN
+
+-- entries, the first after its lead, the others after commas; without entries nothing
+abbrev pub listed : List ℕ → List (List ℕ) → List ℕ
+listed lead [] = []
+listed lead (entry ∷ entries) = lead ++ entry ++ listed (codes ",") entries
+
+-- the months of a list from one on, ascending, each once
+unfoldable pub months_from : ℕ → List ℕ → List ℕ
+months_from first months = filter (λ n. list_any (λ month. month == n) months) (range_with_len first (13 - first))
+
+-- the kth number from -366 on
+abbrev pub nth_number : ℕ → ℤ
+nth_number k = pos k -ℤ pos 366
+
+-- the numbers of a list from the kth on and up to 366, ascending, each once
+unfoldable pub numbers_from : ℕ → List ℤ → List ℤ
+numbers_from k numbers = filter (λ n. list_any (λ number. int_eq number n) numbers) (map nth_number (range_with_len k (733 - k)))
+
+abbrev pub is_same_entry : WeekdayNumber → WeekdayNumber → Bool
+is_same_entry a b = int_eq a.number b.number && (a.weekday == b.weekday)
+
+-- the kth entry from -53MO to 53SU: by number, where none counts as 0, then from Monday on
+abbrev pub nth_entry : ℕ → WeekdayNumber
+nth_entry k = record { number = pos (k / 7) -ℤ pos 53; weekday = k % 7 }
+
+-- the entries of a list from the kth on, in that order, each once
+unfoldable pub entries_from : ℕ → List WeekdayNumber → List WeekdayNumber
+entries_from k entries = filter (λ e. list_any (λ entry. is_same_entry entry e) entries) (map nth_entry (range_with_len k (749 - k)))
+
+abbrev pub entry_text : WeekdayNumber → List ℕ
+entry_text entry = (if is_plain entry.number then [] else signed_decimal entry.number) ++ weekday_word entry.weekday
+
+-- COUNT where it is written
+abbrev pub count_text : Option ℕ → List ℕ
+count_text None = []
+count_text (Some count) = codes ";COUNT=" ++ decimal count
+
+-- UNTIL where it is written, as the text that is handed in
+abbrev pub until_text : Option Until → Option (List ℕ) → List ℕ
+until_text None until = []
+until_text (Some _) None = []
+until_text (Some _) (Some text) = codes ";UNTIL=" ++ text
+
+-- FREQ, COUNT or UNTIL, INTERVAL unless 1, BYMONTH, BYMONTHDAY, BYDAY, BYSETPOS, WKST unless MO; this profile's choice
+abbrev pub rule_text : RuleText → Option (List ℕ) → List ℕ
+rule_text rule until =
+    codes "FREQ=" ++ frequency_word rule.frequency ++ count_text rule.count ++ until_text rule.until until
+    ++ (if rule.interval == 1 then [] else codes ";INTERVAL=" ++ decimal rule.interval)
+    ++ listed (codes ";BYMONTH=") (map decimal (months_from 1 rule.months))
+    ++ listed (codes ";BYMONTHDAY=") (map signed_decimal (numbers_from 0 rule.month_days))
+    ++ listed (codes ";BYDAY=") (map entry_text (entries_from 0 rule.weekdays))
+    ++ listed (codes ";BYSETPOS=") (map signed_decimal (numbers_from 0 rule.positions))
+    ++ (if rule.week_start == 0 then [] else codes ";WKST=" ++ weekday_word rule.week_start)
