@@ -1,4 +1,4 @@
-//! What the text of a rule may say: ranges, and parts that go together (RFC 5545 3.3.10).
+//! Which parts of a rule go together (RFC 5545 3.3.10).
 
 ghost use Rattle.std.specs.Prelude.{◌≡◌, ◌&&◌, ◌||◌, not, map};
 ghost use Rattle.std.specs.List.{list_all};

@@ -72,7 +72,8 @@ pub(crate) fn until(alloc: Global, text: &str) -> Result<Option<Until>, Fault>
     Ok(Some(end))
 }
 
-/// WKST, 0 for Monday, which it is where it isn't written. Refused: 32 where it stands twice, 31 where its value is bad.
+/// WKST, 0 for Monday, which it is where it isn't written. Refused: 32 where it stands twice, 31 where its value is
+/// bad.
 pub(crate) fn week_start(text: &str) -> Result<u8, Refusal>
     ensures says { IfOk result (SaysOr SpellsWeekday 0 (values_of (codes "WKST=") text.now)) }
     ensures refuses { IfErr result (λ e. IsPartFault text.now e.number) }

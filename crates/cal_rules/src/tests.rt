@@ -296,6 +296,22 @@ fn refused_rules(rt: HostRuntime) {
         ("FREQ=DAILY;INTERVAL=+1", 31),
         ("FREQ=DAILY;INTERVAL=0;INTERVAL=1", 31),
         ("FREQ=DAILY;COUNT=100001", 31),
+        ("FREQ=DAILY;COUNT=0", 31),
+        ("FREQ=DAILY;COUNT=-1", 31),
+        ("FREQ=DAILY;UNTIL=20250101T0000", 31),
+        ("FREQ=DAILY;UNTIL=20250101T000000z", 31),
+        ("FREQ=DAILY;UNTIL=", 31),
+        ("FREQ=DAILY;WKST=mo", 31),
+        ("FREQ=DAILY;WKST=1MO", 31),
+        ("FREQ=DAILY;BYMONTH=+1", 31),
+        ("FREQ=DAILY;BYMONTH=1,", 31),
+        ("FREQ=MONTHLY;BYDAY=-54MO", 31),
+        ("FREQ=MONTHLY;BYDAY=+MO", 31),
+        ("FREQ=MONTHLY;BYDAY=--1MO", 31),
+        ("FREQ=MONTHLY;BYDAY=\u{e9}MO", 31),
+        ("FREQ=MONTHLY;BYDAY=MO;BYSETPOS=0", 31),
+        ("COUNT=0;UNTIL=20250110;COUNT=1;FREQ=DAILY", 31),
+        ("FREQ=DAILY;COUNT=1;COUNT=1;UNTIL=20250110", 32),
         ("FREQ=DAILY;UNTIL=2025", 31),
         ("FREQ=DAILY;UNTIL=20250230", 31),
         ("FREQ=DAILY;BYMONTH=13", 31),
@@ -372,6 +388,16 @@ fn written_rules(rt: HostRuntime) -> Result<(), Fail> {
             "FREQ=MONTHLY;UNTIL=19971224T050000Z;BYDAY=-1SU,MO,1SU;BYSETPOS=-1,2",
         ),
         (
+            "FREQ=MONTHLY;BYDAY=53SU,+01MO,-53MO,SA,SA,-1FR,0053SU",
+            "",
+            "FREQ=MONTHLY;BYDAY=-53MO,-1FR,SA,1MO,53SU",
+        ),
+        (
+            "FREQ=DAILY;BYMONTH=012,1;BYMONTHDAY=31,-31,1,-1;BYSETPOS=366,-366,7;INTERVAL=9999",
+            "",
+            "FREQ=DAILY;INTERVAL=9999;BYMONTH=1,12;BYMONTHDAY=-31,-1,1,31;BYSETPOS=-366,7,366",
+        ),
+        (
             "FREQ=YEARLY;BYMONTHDAY=031,-1,2;BYMONTH=12,1;UNTIL=20250101",
             "20250101",
             "FREQ=YEARLY;UNTIL=20250101;BYMONTH=1,12;BYMONTHDAY=-1,2,31",
@@ -384,6 +410,26 @@ fn written_rules(rt: HostRuntime) -> Result<(), Fail> {
         let mut again = Vec::new(rt.alloc());
         RuleText::read(rt.alloc(), want)?.write(handed_in, &mut again)?;
         assert_eq!(rt; again.as_slice(), want.as_bytes(), "{text}");
+    }
+    Ok(())
+}
+
+/// A DAILY rule with that many entries of BYMONTH, all of them 1.
+fn many_months(alloc: Global, count: usize) -> Result<String, Fail> {
+    let mut text = String::from_str(alloc, "FREQ=DAILY;BYMONTH=1")?;
+    for _ in 1..count {
+        text.push_str(",1")?;
+    }
+    Ok(text)
+}
+
+#[test]
+fn long_lists(rt: HostRuntime) -> Result<(), Fail> {
+    let read = RuleText::read(rt.alloc(), many_months(rt.alloc(), 366)?.as_str())?;
+    assert_eq!(rt; read.months().len(), 366);
+    match RuleText::read(rt.alloc(), many_months(rt.alloc(), 367)?.as_str()) {
+        Err(Fault::Refused(refusal)) => assert_eq!(rt; refusal.number, 31),
+        _ => assert!(rt; false),
     }
     Ok(())
 }
