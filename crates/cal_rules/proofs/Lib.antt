@@ -9,3 +9,4 @@ pub mod Entered
 pub mod OneRule
 pub mod Exits
 pub mod Listing
+pub mod ReadBack

@@ -22,4 +22,5 @@ mod written;
 pub use read::one_rule;
 pub use rule::{Days, Rule};
 pub use text::RuleText;
+pub use write::values_read_back;
 pub use written::{Until, WeekdayNumber};

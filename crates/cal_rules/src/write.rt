@@ -1,8 +1,11 @@
 //! The text of a rule, written in one form (RFC 5545 3.3.10).
 
-ghost use Rattle.std.specs.Prelude.{◌≡◌, ◌++◌, ◌<◌, ◌==◌, [], map, option_map, codes, decimal, string_bytes, if◌then◌else◌, IfOk, OnOk, OnErr};
+ghost use Rattle.std.specs.Prelude.{◌≡◌, ◌++◌, ◌<◌, ◌≤◌, ◌^◌, ◌==◌, ℕ, ℤ, List, [], ◌∷◌, length, true, map, option_map, codes, decimal, string_bytes, if◌then◌else◌, IfOk, OnOk, OnErr};
 ghost use Rattle.std.specs.Fmt.{signed_decimal};
-ghost use Rattle.std.specs.List.{list_any};
+ghost use Rattle.std.specs.List.{list_any, list_all};
+ghost use Rattle.profile.specs.Faults.{is_between};
+ghost use Rattle.profile.specs.Rules as rules;
+ghost use Rattle.profile.specs.Rules.{is_place, is_entry};
 ghost use Rattle.profile.specs.RuleTexts as texts;
 ghost use Rattle.cal_days.specs.Views.{frequency_of};
 ghost use Rattle.cal_rules.specs.Views.{entry_of, text_of, until_of};
@@ -250,3 +253,22 @@ fn weekday_word(weekday: u8) -> &'static str
         _ => "SU",
     }
 }
+
+/// What is written of each value of a rule spells that value: a number, a place, an entry of BYDAY, and a list of at
+/// most 366 of them with commas between (RFC 5545 3.3.10). With the contract of `RuleText::write`: each value that it
+/// writes reads back.
+pub fn values_read_back()
+    ensures number { (low high n : ℕ) → n < 2 ^ 64 → is_between low high n ≡ true
+        → texts.SpellsBetween low high (decimal n) n }
+    ensures months { (month : ℕ) (months : List ℕ) → list_all (is_between 1 12) (month ∷ months) ≡ true
+        → length (month ∷ months) ≤ 366
+        → texts.SpellsMonths (decimal month ++ texts.listed (codes ",") (map decimal months)) (month ∷ months) }
+    ensures places { (most : ℕ) (place : ℤ) (places : List ℤ) → most ≤ 366
+        → list_all (is_place most) (place ∷ places) ≡ true → length (place ∷ places) ≤ 366
+        → texts.SpellsList (texts.SpellsPlace most)
+        (signed_decimal place ++ texts.listed (codes ",") (map signed_decimal places)) (place ∷ places) }
+    ensures entries { (entry : rules.WeekdayNumber) (entries : List rules.WeekdayNumber)
+        → list_all is_entry (entry ∷ entries) ≡ true → length (entry ∷ entries) ≤ 366
+        → texts.SpellsEntries (texts.entry_text entry ++ texts.listed (codes ",") (map texts.entry_text entries))
+        (entry ∷ entries) }
+{}
