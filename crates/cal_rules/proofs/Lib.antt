@@ -10,3 +10,4 @@ pub mod OneRule
 pub mod Exits
 pub mod Listing
 pub mod ReadBack
+pub mod WholeRule

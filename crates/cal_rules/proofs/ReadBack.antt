@@ -15,16 +15,16 @@ use Rattle.profile.specs.Rules.{WeekdayNumber, is_place, is_plain, is_entry}
 use Rattle.profile.specs.Values.{IsNumber}
 use Rattle.profile.specs.RuleTexts.{weekday_word, SpellsBetween, SpellsPlace, SpellsEntry, SpellsList, SpellsMonths, SpellsEntries, listed, entry_text}
 
-number_back : (n : ℕ) → n < 2 ^ 64 → IsNumber (decimal n) n
+pub number_back : (n : ℕ) → n < 2 ^ 64 → IsNumber (decimal n) n
 number_back n h = let d = decimal_is_IsNumeral n h in (d.0.0, d.0.1, d.1)
 
 pub between_back : (low high n : ℕ) → n < 2 ^ 64 → is_between low high n ≡ true → SpellsBetween low high (decimal n) n
 between_back low high n h e = (number_back n h, e)
 
-up_to : (most n : ℕ) → is_between 1 most n ≡ true → n ≤ most
+pub up_to : (most n : ℕ) → is_between 1 most n ≡ true → n ≤ most
 up_to most n e = grind (arith, nat_tests)
 
-below : (most n : ℕ) → nat_lt n most ≡ true → n < most
+pub below : (most n : ℕ) → nat_lt n most ≡ true → n < most
 below most n e = grind (arith, nat_tests)
 
 from_end : (most n : ℕ) → nat_lt n most ≡ true → is_between 1 most (suc n) ≡ true
@@ -42,7 +42,7 @@ plain_is_0 : (z : ℤ) → is_plain z ≡ true → z ≡ pos 0
 plain_is_0 (pos n) e = let h : n ≡ 0 = grind (arith, nat_tests) in ap pos h
 plain_is_0 (negsuc n) e = cc
 
-or_other : (x y : Bool) → (x || y) ≡ true → x ≡ false → y ≡ true
+pub or_other : (x y : Bool) → (x || y) ≡ true → x ≡ false → y ≡ true
 or_other true y e f = cc
 or_other false y e f = e
 
@@ -74,10 +74,10 @@ list_back Is entry entries xs clean zip short = (rw (split_back entry entries cl
 
 -- ---- no comma in a value
 
-and_both : (x y : Bool) → x ≡ true → y ≡ true → (x && y) ≡ true
+pub and_both : (x y : Bool) → x ≡ true → y ≡ true → (x && y) ≡ true
 and_both x y e f = rw (e, f) refl
 
-abbrev no_comma : List ℕ → Bool
+abbrev pub no_comma : List ℕ → Bool
 no_comma xs = list_all (λ c. not (c == 44)) xs
 
 comma_append : (xs ys : List ℕ) → no_comma xs ≡ true → no_comma ys ≡ true → no_comma (xs ++ ys) ≡ true
@@ -86,7 +86,7 @@ comma_append (x ∷ xs) ys h g =
     let p = and_parts (not (x == 44)) (no_comma xs) h in
     and_both (not (x == 44)) (no_comma (xs ++ ys)) p.0 (comma_append xs ys p.1 g)
 
-not_true : (b : Bool) → not b ≡ true → b ≡ false
+pub not_true : (b : Bool) → not b ≡ true → b ≡ false
 not_true true e = cc
 not_true false e = refl
 
@@ -103,10 +103,10 @@ comma_digits : (ds : List ℕ) → AllDigits 10 ds → no_comma ds ≡ true
 comma_digits [] a = refl
 comma_digits (c ∷ ds) a = and_both (not (c == 44)) (no_comma ds) (no_digit c (digit_from_value c a.0)) (comma_digits ds a.1)
 
-comma_decimal : (n : ℕ) → n < 2 ^ 64 → no_comma (decimal n) ≡ true
+pub comma_decimal : (n : ℕ) → n < 2 ^ 64 → no_comma (decimal n) ≡ true
 comma_decimal n h = comma_digits (decimal n) (number_back n h).1
 
-comma_place : (most : ℕ) (place : ℤ) → most ≤ 366 → is_place most place ≡ true → no_comma (signed_decimal place) ≡ true
+pub comma_place : (most : ℕ) (place : ℤ) → most ≤ 366 → is_place most place ≡ true → no_comma (signed_decimal place) ≡ true
 comma_place most (pos n) h e =
     let small = up_to most n e in comma_decimal n (omega arith)
 comma_place most (negsuc n) h e =
@@ -126,7 +126,7 @@ comma_front : (number : ℤ) (plain : Bool) → is_plain number ≡ plain → (i
 comma_front number true e h = refl
 comma_front number false e h = comma_place 53 number (omega arith) (or_other (is_plain number) (is_place 53 number) h e)
 
-comma_entry : (entry : WeekdayNumber) → is_entry entry ≡ true → no_comma (entry_text entry) ≡ true
+pub comma_entry : (entry : WeekdayNumber) → is_entry entry ≡ true → no_comma (entry_text entry) ≡ true
 comma_entry entry e =
     let p = and_parts (nat_lt entry.weekday 7) (is_plain entry.number || is_place 53 entry.number) e in
     comma_append (cond (is_plain entry.number) [] (signed_decimal entry.number)) (weekday_word entry.weekday) (comma_front entry.number (is_plain entry.number) refl p.1) (comma_weekday entry.weekday (below 7 entry.weekday p.0))
@@ -145,12 +145,12 @@ all_spelled Is f test spells (x ∷ xs) h =
     let p = and_parts (test x) (list_all test xs) h in
     (spells x p.0, all_spelled Is f test spells xs p.1)
 
-written_list : {A : Type 0} (Is : List ℕ → A → Type 0) (f : A → List ℕ) (test : A → Bool) → ((x : A) → test x ≡ true → Is (f x) x) → ((x : A) → test x ≡ true → no_comma (f x) ≡ true)
+pub written_list : {A : Type 0} (Is : List ℕ → A → Type 0) (f : A → List ℕ) (test : A → Bool) → ((x : A) → test x ≡ true → Is (f x) x) → ((x : A) → test x ≡ true → no_comma (f x) ≡ true)
     → (x : A) (xs : List A) → list_all test (x ∷ xs) ≡ true → length (x ∷ xs) ≤ 366 → SpellsList Is (f x ++ listed (codes ",") (map f xs)) (x ∷ xs)
 written_list Is f test spells clean x xs h short =
     list_back Is (f x) (map f xs) (x ∷ xs) (all_clean f test clean (x ∷ xs) h) (all_spelled Is f test spells (x ∷ xs) h) short
 
-month_small : (n : ℕ) → is_between 1 12 n ≡ true → n < 2 ^ 64
+pub month_small : (n : ℕ) → is_between 1 12 n ≡ true → n < 2 ^ 64
 month_small n e = let h = up_to 12 n e in omega arith
 
 pub months_back : (month : ℕ) (months : List ℕ) → list_all (is_between 1 12) (month ∷ months) ≡ true → length (month ∷ months) ≤ 366 → SpellsMonths (decimal month ++ listed (codes ",") (map decimal months)) (month ∷ months)

@@ -22,5 +22,5 @@ mod written;
 pub use read::one_rule;
 pub use rule::{Days, Rule};
 pub use text::RuleText;
-pub use write::values_read_back;
+pub use write::{rule_reads_back, values_read_back};
 pub use written::{Until, WeekdayNumber};

@@ -1,6 +1,6 @@
 //! The text of a rule, written in one form (RFC 5545 3.3.10).
 
-ghost use Rattle.std.specs.Prelude.{◌≡◌, ◌++◌, ◌<◌, ◌≤◌, ◌^◌, ◌==◌, ℕ, ℤ, List, [], ◌∷◌, length, true, map, option_map, codes, decimal, string_bytes, if◌then◌else◌, IfOk, OnOk, OnErr};
+ghost use Rattle.std.specs.Prelude.{Option, ◌≡◌, ◌++◌, ◌<◌, ◌≤◌, ◌^◌, ◌==◌, ℕ, ℤ, List, [], ◌∷◌, length, true, map, option_map, codes, decimal, string_bytes, if◌then◌else◌, IfOk, OnOk, OnErr};
 ghost use Rattle.std.specs.Fmt.{signed_decimal};
 ghost use Rattle.std.specs.List.{list_any, list_all};
 ghost use Rattle.profile.specs.Faults.{is_between};
@@ -271,4 +271,16 @@ pub fn values_read_back()
         → list_all is_entry (entry ∷ entries) ≡ true → length (entry ∷ entries) ≤ 366
         → texts.SpellsEntries (texts.entry_text entry ++ texts.listed (codes ",") (map texts.entry_text entries))
         (entry ∷ entries) }
+{}
+
+/// What is written of a rule spells that rule, with its lists in order, each entry once, and with the end that was
+/// handed in, where that rule is one that may be read. With the contracts of `RuleText::write` and `RuleText::read`:
+/// what was written is read as that rule.
+pub fn rule_reads_back()
+    ensures { (rule : rules.RuleText) (until : Option (List ℕ)) (end : Option rules.Until)
+        → rules.is_in_range (texts.as_written rule end) ≡ true
+        → rules.go_together (texts.as_written rule end) ≡ true
+        → rules.has_one_end (texts.as_written rule end) ≡ true
+        → texts.HandsIn rule.until until end
+        → texts.SpellsRule (texts.rule_text rule until) (texts.as_written rule end) }
 {}

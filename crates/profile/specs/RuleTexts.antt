@@ -1,7 +1,7 @@
 -- The text of a recurrence rule: what it says, and what can be wrong with it (RFC 5545 3.3.10).
-use Rattle.std.specs.Prelude.{◌≡◌, ℕ, ◌-◌, ◌/◌, ◌%◌, ◌<◌, ◌≤◌, ◌⊎◌, Bool, ◌&&◌, ◌==◌, true, false, if◌then◌else◌, IsTrue, Contains, All, List, [], ◌∷◌, ◌++◌, length, map, filter, codes, decimal, Option, Some, None, ℤ, pos, neg_ℤ, ◌-ℤ◌}
+use Rattle.std.specs.Prelude.{◌≡◌, ℕ, ◌-◌, ◌/◌, ◌%◌, ◌<◌, ◌≤◌, ◌⊎◌, Bool, not, ◌&&◌, ◌==◌, true, false, if◌then◌else◌, IsTrue, Contains, All, List, [], ◌∷◌, ◌++◌, length, map, filter, codes, decimal, Option, Some, None, ℤ, pos, neg_ℤ, ◌-ℤ◌}
 use Rattle.std.specs.Fmt.{signed_decimal}
-use Rattle.std.specs.List.{slice_split, filter_map, AllZip, list_any, range_with_len}
+use Rattle.std.specs.List.{slice_split, filter_map, AllZip, list_any, list_all, range_with_len}
 use Rattle.std.specs.Ordering.{int_eq}
 use Rattle.profile.specs.Faults.{is_between}
 use Rattle.profile.specs.Days.{Frequency, Daily, Weekly, Monthly, Yearly}
@@ -243,3 +243,25 @@ rule_text rule until =
     ++ listed (codes ";BYDAY=") (map entry_text (entries_from 0 rule.weekdays))
     ++ listed (codes ";BYSETPOS=") (map signed_decimal (numbers_from 0 rule.positions))
     ++ (if rule.week_start == 0 then [] else codes ";WKST=" ++ weekday_word rule.week_start)
+
+-- the rule that is written: its lists in order, each entry once, and the end that was handed in
+abbrev pub as_written : RuleText → Option Until → RuleText
+as_written rule end = record {
+  frequency = rule.frequency;
+  interval = rule.interval;
+  week_start = rule.week_start;
+  months = months_from 1 rule.months;
+  month_days = numbers_from 0 rule.month_days;
+  weekdays = entries_from 0 rule.weekdays;
+  positions = numbers_from 0 rule.positions;
+  count = rule.count;
+  until = end;
+}
+
+-- the text that is handed in for UNTIL spells this end, and has no semicolon; where the rule has no UNTIL, or nothing is handed in,
+-- none is written
+abbrev pub HandsIn : Option Until → Option (List ℕ) → Option Until → Type 0
+HandsIn None text end = end ≡ None
+HandsIn (Some _) None end = end ≡ None
+HandsIn (Some _) (Some text) None = ⊥
+HandsIn (Some _) (Some text) (Some end) = SpellsUntil text end × (list_all (λ c. not (c == 59)) text ≡ true)
