@@ -11,3 +11,4 @@ pub mod Exits
 pub mod Listing
 pub mod ReadBack
 pub mod WholeRule
+pub mod InOrder

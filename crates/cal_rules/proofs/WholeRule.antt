@@ -1,5 +1,5 @@
 -- What is written of a whole rule reads back.
-use Rattle.std.proofs.Common.{◌≡◌, ◌∙◌, ap, sym, subst, refl, ℕ, zero, suc, ◌+◌, ◌^◌, ◌<◌, ◌≤◌, Bool, true, false, cond, not, ◌&&◌, ◌||◌, ◌==◌, nat_eq, nat_lt, nat_le, inl, inr, ◌⊎◌, List, [], ◌∷◌, ◌++◌, length, map, filter_map, codes, decimal, All, append_assoc, append-nil, Option, None, Some, ℤ, pos, negsuc, arith}
+use Rattle.std.proofs.Common.{◌≡◌, ◌∙◌, ap, sym, subst, refl, ℕ, zero, suc, ◌^◌, ◌<◌, ◌≤◌, Bool, true, false, cond, not, ◌&&◌, ◌||◌, ◌==◌, nat_eq, nat_lt, nat_le, inl, inr, List, [], ◌∷◌, ◌++◌, length, map, filter_map, codes, decimal, All, append_assoc, append-nil, Option, None, Some, ℤ, pos, negsuc, arith}
 use Rattle.std.proofs.lemmas.Bool.{and_parts}
 use Rattle.std.proofs.lemmas.Bool.Decides.{nat_tests}
 use Rattle.std.proofs.lemmas.List.Elements.{All-nil, All-cons, All-append, All-same, All-from_recursion, filter_map-append}
@@ -8,11 +8,11 @@ use Rattle.std.proofs.lemmas.Str.Parse.{digit_from_value}
 use Rattle.std.specs.Int.{IsInRange}
 use Rattle.std.specs.Str.Parse.{AllDigits}
 use Rattle.std.specs.Fmt.{signed_decimal}
-use Rattle.std.specs.List.{slice_split, list_all, onto_first, cons_option}
+use Rattle.std.specs.List.{list_all, onto_first, cons_option}
 use Rattle.profile.specs.Faults.{is_between}
 use Rattle.profile.specs.Days.{Frequency, Daily, Weekly, Monthly, Yearly}
 use Rattle.profile.specs.Rules.{RuleText, WeekdayNumber, Until, is_place, is_plain, is_entry, is_count, is_short, is_in_range, go_together, has_one_end}
-use Rattle.profile.specs.RuleTexts.{RuleKey, Interval, Count, EndsAt, WeekStart, ByMonth, ByMonthDay, ByDay, BySetPosition, rule_parts, after_key, key_word, values_of, frequency_word, weekday_word, SpellsBetween, SpellsPlace, SpellsEntry, SpellsList, SpellsWeekday, SpellsCount, SpellsUntil, SpellsInterval, SpellsMonths, SpellsMonthDays, SpellsEntries, SpellsPositions, IsGiven, SaysOr, SaysFrequency, IsKnownPart, SaysParts, SpellsRule, listed, months_from, numbers_from, entries_from, entry_text, count_text, until_text, rule_text, as_written, HandsIn}
+use Rattle.profile.specs.RuleTexts.{RuleKey, Interval, Count, EndsAt, WeekStart, ByMonth, ByMonthDay, ByDay, BySetPosition, rule_parts, after_key, key_word, values_of, frequency_word, weekday_word, SpellsBetween, SpellsPlace, SpellsEntry, SpellsList, SpellsWeekday, SpellsCount, SpellsUntil, SpellsInterval, SpellsMonths, SpellsMonthDays, SpellsEntries, SpellsPositions, IsGiven, SaysOr, IsKnownPart, SpellsRule, listed, months_from, numbers_from, entries_from, entry_text, count_text, until_text, rule_text, as_written, HandsIn}
 use Rattle.cal_rules.proofs.Parted.{after_append}
 use Rattle.cal_rules.proofs.ReadBack.{number_back, up_to, below, or_other, and_both, not_true, no_comma, between_back, place_back, entry_back, written_list, month_small, comma_decimal, comma_place, comma_entry}
 
@@ -391,16 +391,16 @@ rule_values t until =
     ∷ []
 
 -- what the ranges of a rule say, one by one
-record Ranges (t : RuleText) : Type 0 where
-  interval : is_between 1 9999 t.interval ≡ true
-  count : is_count t.count ≡ true
-  week : t.week_start < 7
-  months : (list_all (is_between 1 12) t.months && is_short t.months) ≡ true
-  month_days : (list_all (is_place 31) t.month_days && is_short t.month_days) ≡ true
-  weekdays : (list_all is_entry t.weekdays && is_short t.weekdays) ≡ true
-  positions : (list_all (is_place 366) t.positions && is_short t.positions) ≡ true
+pub record Ranges (t : RuleText) : Type 0 where
+  pub interval : is_between 1 9999 t.interval ≡ true
+  pub count : is_count t.count ≡ true
+  pub week : t.week_start < 7
+  pub months : (list_all (is_between 1 12) t.months && is_short t.months) ≡ true
+  pub month_days : (list_all (is_place 31) t.month_days && is_short t.month_days) ≡ true
+  pub weekdays : (list_all is_entry t.weekdays && is_short t.weekdays) ≡ true
+  pub positions : (list_all (is_place 366) t.positions && is_short t.positions) ≡ true
 
-ranges : (t : RuleText) → is_in_range t ≡ true → Ranges t
+pub ranges : (t : RuleText) → is_in_range t ≡ true → Ranges t
 unfolding is_in_range
 ranges t h =
     let p6 = and_parts _ (list_all (is_place 366) t.positions && is_short t.positions) h in

@@ -274,13 +274,10 @@ pub fn values_read_back()
 {}
 
 /// What is written of a rule spells that rule, with its lists in order, each entry once, and with the end that was
-/// handed in, where that rule is one that may be read. With the contracts of `RuleText::write` and `RuleText::read`:
-/// what was written is read as that rule.
+/// handed in. With the contracts of `RuleText::write` and `RuleText::read`: what was written is read as that rule.
 pub fn rule_reads_back()
     ensures { (rule : rules.RuleText) (until : Option (List ℕ)) (end : Option rules.Until)
-        → rules.is_in_range (texts.as_written rule end) ≡ true
-        → rules.go_together (texts.as_written rule end) ≡ true
-        → rules.has_one_end (texts.as_written rule end) ≡ true
+        → rules.IsAllowed rule
         → texts.HandsIn rule.until until end
         → texts.SpellsRule (texts.rule_text rule until) (texts.as_written rule end) }
 {}

@@ -1,5 +1,5 @@
-use Rattle.cal_rules.proofs.WholeRule.{rule_back}
+use Rattle.cal_rules.proofs.InOrder.{allowed_back}
 use Rattle.cal_rules.proofs.write.rule_reads_back.Goals as goal
 
 pub returns : goal.returns
-returns c = rule_back
+returns c = allowed_back
