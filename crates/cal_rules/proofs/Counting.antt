@@ -1,10 +1,10 @@
 -- Days of a rule but for COUNT, counted.
-use Rattle.std.proofs.Common.{◌≡◌, ◌∙◌, sym, refl, inl, inr, ℕ, zero, suc, ◌+◌, ◌-◌, ◌<◌, ◌≤◌, min, Bool, true, false, ◌&&◌, nat_le, Option, Some, None, IsSome, IfSome, MatchOption, ℤ, arith}
-use Rattle.std.proofs.lemmas.Bool.{cases_order, cases_lt, false≢true}
+use Rattle.std.proofs.Common.{◌≡◌, ◌∙◌, sym, refl, inl, inr, ℕ, zero, suc, ◌+◌, ◌-◌, ◌<◌, ◌≤◌, min, max, Bool, true, false, ◌&&◌, nat_le, Option, Some, None, IsSome, IfSome, MatchOption, ℤ, arith}
+use Rattle.std.proofs.lemmas.Bool.{cases_lt, false≢true, and_cases, and_left, and_right}
 use Rattle.std.proofs.lemmas.Bool.Decides.{nat_tests}
-use Rattle.profile.specs.Rules.{Parts, count_days, is_rule_day, is_within_count, is_counted, is_in_step, is_base, last_rule_day, NoDayFrom, IsNextDay}
+use Rattle.profile.specs.Rules.{Parts, count_days, is_rule_day, is_within_count, is_counted, is_base, is_placed, last_rule_day, NoDayFrom, IsNextDay}
 use Rattle.profile.specs.Days.{day_index}
-use Rattle.cal_rules.specs.Counted.{NoneFrom, NoneBetween, IsNextCounted, EndsAt}
+use Rattle.cal_rules.specs.Counted.{NoneIn, IsFirstIn, NoneFrom, NoneBetween, IsNextCounted, EndsAt, is_chosen}
 
 -- no such day before DTSTART
 pub counted_early : (r : Parts) (n : ℕ) → n < r.pattern.start → is_counted r n ≡ false
@@ -16,27 +16,46 @@ pub counted_late : (r : Parts) (n : ℕ) → min r.last last_rule_day < n → is
 unfolding is_counted
 counted_late r n h = grind (arith, nat_tests)
 
--- nor in a period that is out of step
-pub counted_step : (r : Parts) (n : ℕ) → is_in_step r.pattern n ≡ false → is_counted r n ≡ false
-unfolding is_counted is_base
-counted_step r n h = grind (arith, nat_tests)
-
--- the days passed so far, and one stride more
-pub more : (r : Parts) (from index stride : ℕ) → NoneBetween r from index → is_counted r index ≡ false → ((n : ℕ) → index < n → n < index + stride → is_in_step r.pattern n ≡ false) → NoneBetween r from (index + stride)
-more r from index stride before here after n f h =
-    elim (cases_order n index) [
-      | inl e ↦ rw e here
-      | inr (inl lt) ↦ before n f lt
-      | inr (inr gt) ↦ counted_step r n (after n gt h)
+-- nor without a set position
+counted_chosen : (r : Parts) (n : ℕ) → is_chosen r.pattern n ≡ false → is_counted r n ≡ false
+unfolding is_counted
+counted_chosen r n h =
+    let within = nat_le r.pattern.start n && nat_le n r.last && nat_le n last_rule_day in
+    elim (and_cases (is_base r.pattern n) (is_placed r.pattern n) h) [
+      | inl e ↦ and_left (within && is_base r.pattern n) (is_placed r.pattern n) (and_right within (is_base r.pattern n) e)
+      | inr e ↦ and_right (within && is_base r.pattern n) (is_placed r.pattern n) e
     ]
 
--- and none is left past the last day
-pub all_passed : (r : Parts) (from index : ℕ) → NoneBetween r from index → min r.last last_rule_day < index → NoneFrom r from
-all_passed r from index before past n f =
-    elim (cases_lt n index) [
-      | inl lt ↦ before n f lt
-      | inr ge ↦ counted_late r n (omega arith)
+-- between the first day and the last one
+pub counted_is : (r : Parts) (n : ℕ) → r.pattern.start ≤ n → n ≤ r.last → n ≤ last_rule_day → is_counted r n ≡ is_chosen r.pattern n
+unfolding is_counted
+counted_is r n a b c =
+    let x : nat_le r.pattern.start n ≡ true = grind (arith, nat_tests) in
+    let y : nat_le n r.last ≡ true = grind (arith, nat_tests) in
+    let z : nat_le n last_rule_day ≡ true = grind (arith, nat_tests) in
+    rw (x, y, z) refl
+
+-- the least of these days, by the first base day with a set position
+pub next_is : (r : Parts) (from : ℕ) (answer : Option ℕ) → MatchOption answer (NoneIn (is_chosen r.pattern) (max from r.pattern.start) (min r.last last_rule_day + 1)) (IsFirstIn (is_chosen r.pattern) (max from r.pattern.start) (min r.last last_rule_day + 1)) → MatchOption answer (NoneFrom r from) (IsNextCounted r from)
+next_is r from None h =
+    λ n a. elim (cases_lt n r.pattern.start) [
+      | inl lt ↦ counted_early r n lt
+      | inr ge ↦ elim (cases_lt (min r.last last_rule_day) n) [
+        | inl past ↦ counted_late r n past
+        | inr within ↦ counted_chosen r n (h n (omega arith) (omega arith))
+      ]
     ]
+next_is r from (Some day) h =
+    let low = h.not_before in
+    let high = h.inside in
+    record {
+      not_before = omega arith;
+      counted = counted_is r day (omega arith) (omega arith) (omega arith) ∙ h.holds;
+      least = λ n a b. elim (cases_lt n r.pattern.start) [
+        | inl lt ↦ counted_early r n lt
+        | inr ge ↦ counted_chosen r n (h.least n (omega arith) b)
+      ];
+    }
 
 pub counted_bound : (r : Parts) (n : ℕ) → is_counted r n ≡ true → (r.pattern.start ≤ n) × (n ≤ last_rule_day)
 unfolding is_counted

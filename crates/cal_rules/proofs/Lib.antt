@@ -1,6 +1,9 @@
 pub mod Judging
 pub mod Counting
 pub mod Lists
+pub mod Tomorrow
+pub mod Periods
+pub mod Positions
 pub mod Strides
 pub mod Cuts
 pub mod Parted

@@ -1,10 +1,13 @@
 -- Whole periods passed over.
-use Rattle.std.proofs.Common.{◌≡◌, ◌∙◌, sym, inl, inr, ℕ, ◌+◌, ◌-◌, ◌*◌, ◌%◌, ◌<◌, ◌≤◌, false, arith}
+use Rattle.std.proofs.Common.{◌≡◌, ◌∙◌, sym, inl, inr, ℕ, zero, suc, ◌+◌, ◌-◌, ◌*◌, ◌%◌, ◌<◌, ◌≤◌, Bool, true, false, arith}
 use Rattle.std.proofs.Math.Nat.{mod-add-mod, mod-eq_of_lt, add-mod_left}
-use Rattle.std.proofs.lemmas.Bool.{cases_lt, ne_eqb}
+use Rattle.std.proofs.lemmas.Bool.{cases_lt, ne_eqb, eq-eqb}
 use Rattle.cal_days.specs.Views.{PeriodsAscend, PeriodsLast}
 use Rattle.profile.specs.Days.{period_of, shortest_period}
 use Rattle.profile.specs.Rules.{Pattern, is_in_step}
+use Rattle.cal_rules.specs.Spans.{IsSpan}
+use Rattle.cal_rules.specs.Counted.{NoneIn, IsFirstIn, is_chosen}
+use Rattle.cal_rules.proofs.Positions.{chosen_step}
 
 -- below the remainder that is looked for
 pub none_below : (interval here there j : ℕ) → there < interval → here + j < there → (here + j) % interval ≡ there → ⊥
@@ -38,3 +41,56 @@ passed_over p day n ahead ascend last some low high none =
     rw split at (mod-add-mod here p.interval (period - here)) in
     ne_eqb (period % p.interval) (period_of p.frequency p.week_start p.start % p.interval)
     (λ e. none (period - here) (omega arith) (same ∙ e))
+
+-- a period that is no multiple of the interval away
+pub out_of_step : (p : Pattern) (n ahead : ℕ) → PeriodsAscend → PeriodsLast → 1 ≤ ahead → ((j : ℕ) → j < ahead → (period_of p.frequency p.week_start n % p.interval + j) % p.interval ≡ period_of p.frequency p.week_start p.start % p.interval → ⊥) → is_in_step p n ≡ false
+out_of_step p n ahead ascend last some none =
+    passed_over p n n ahead ascend last some (omega arith) (omega arith) none
+
+-- each period is a multiple of 1 away
+pub step_of_one : (p : Pattern) (n : ℕ) → p.interval ≡ 1 → is_in_step p n ≡ true
+unfolding is_in_step
+step_of_one p n e =
+    rw e (eq-eqb (period_of p.frequency p.week_start n % 1) (period_of p.frequency p.week_start p.start % 1) (omega arith))
+
+pub step_here : (p : Pattern) (n : ℕ) → period_of p.frequency p.week_start n % p.interval ≡ period_of p.frequency p.week_start p.start % p.interval → is_in_step p n ≡ true
+unfolding is_in_step
+step_here p n e = eq-eqb _ _ e
+
+-- from a period to the next one in step
+pub beyond_none : (p : Pattern) (from n first end ahead : ℕ) → PeriodsAscend → PeriodsLast → IsSpan p.frequency p.week_start n first end → NoneIn (is_chosen p) from n → NoneIn (is_chosen p) n end → ((j : ℕ) → j < ahead → (period_of p.frequency p.week_start n % p.interval + j) % p.interval ≡ period_of p.frequency p.week_start p.start % p.interval → ⊥) → NoneIn (is_chosen p) from (end + shortest_period p.frequency * (ahead - 1))
+beyond_none p from n first end zero ascend last s before here none m a b =
+    elim (cases_lt m n) [
+      | inl lt ↦ before m a lt
+      | inr ge ↦ here m ge (omega arith)
+    ]
+beyond_none p from n first end (suc ahead) ascend last s before here none m a b =
+    let low = s.not_before in
+    let high = s.not_after in
+    elim (cases_lt m n) [
+      | inl lt ↦ before m a lt
+      | inr ge ↦ elim (cases_lt m end) [
+        | inl inside ↦ here m ge inside
+        | inr past ↦
+            let same = s.same (end - 1) (omega arith) (omega arith) in
+            chosen_step p m (passed_over p (end - 1) m (suc ahead) ascend last (omega arith) (omega arith) (omega arith) (λ j lt e. none j lt (rw same at e)))
+      ]
+    ]
+
+-- the first day found, up to the last one that counts
+pub first_found : (test : ℕ → Bool) (from day end found last : ℕ) → from ≤ day → NoneIn test from day → IsFirstIn test day end found → found ≤ last → IsFirstIn test from (last + 1) found
+first_found test from day end found last low before first within =
+    let after = first.not_before in
+    record {
+      not_before = omega arith;
+      inside = omega arith;
+      holds = first.holds;
+      least = λ n a b. elim (cases_lt n day) [ inl lt ↦ before n a lt | inr ge ↦ first.least n ge b ];
+    }
+
+pub none_found : (test : ℕ → Bool) (from day end found last : ℕ) → NoneIn test from day → IsFirstIn test day end found → last < found → NoneIn test from (last + 1)
+none_found test from day end found last before first past n a b =
+    elim (cases_lt n day) [
+      | inl lt ↦ before n a lt
+      | inr ge ↦ first.least n ge (omega arith)
+    ]

@@ -1,4 +1,6 @@
 pub mod Views
+pub mod Known
+pub mod Spans
 pub mod Counted
 pub mod Left
 pub mod Refused

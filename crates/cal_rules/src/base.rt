@@ -1,12 +1,14 @@
 //! Base days: conditions on one day, written or implied (RFC 5545 3.3.10).
 
-ghost use Rattle.std.specs.Prelude.{◌≡◌, ◌≤◌, ◌==◌};
+ghost use Rattle.std.specs.Prelude.{◌≡◌, ◌==◌};
 ghost use Rattle.cal_days.specs.Views.{frequency_of};
 ghost use Rattle.std.specs.List.{list_any};
 ghost use Rattle.profile.specs.Days.{day_index, period_of};
-ghost use Rattle.profile.specs.Rules.{is_nth, allows, names_weekday, same_weekdays_before, same_weekdays_after, names_no_day, implies_month, implies_month_day, implies_weekday, counts_in_year, passes_month, passes_month_day, passes_weekday, passes, is_in_step, is_base};
+ghost use Rattle.cal_rules.specs.Known.{AreFacts};
+ghost use Rattle.profile.specs.Rules.{is_nth, allows, names_weekday, same_weekdays_before, same_weekdays_after, names_no_day, implies_month, implies_month_day, implies_weekday, counts_in_year, passes_month, passes_month_day, passes_weekday, passes};
 ghost use Rattle.cal_rules.specs.Views.{entry_of, pattern_of};
 
+use crate::facts::DayFacts;
 use crate::written::{WeekdayNumber, Written};
 use cal_days::{Day, Frequency, PeriodIndex};
 
@@ -77,20 +79,15 @@ fn allows_weekday(entries: &[WeekdayNumber], weekday: u8, before: u32, after: u3
 }
 
 /// How many days of its own weekday lie before the day and after it, in its year or in its month.
-fn weekday_place(in_year: bool, day: Day) -> (u32, u32)
-    ensures before { result.0 ≡ same_weekdays_before in_year (day_index day) }
-    ensures after { result.1 ≡ same_weekdays_after in_year (day_index day) }
+fn weekday_place(in_year: bool, day: DayFacts) -> (u32, u32)
+    requires { AreFacts day }
+    ensures before { result.0 ≡ same_weekdays_before in_year day.index }
+    ensures after { result.1 ≡ same_weekdays_after in_year day.index }
 {
     if in_year {
-        return (
-            day.year_days_before() as u32 / 7,
-            day.year_days_after() as u32 / 7,
-        );
+        return (day.year_before as u32 / 7, day.year_after as u32 / 7);
     }
-    (
-        day.month_days_before() as u32 / 7,
-        day.month_days_after() as u32 / 7,
-    )
+    (day.month_before as u32 / 7, day.month_after as u32 / 7)
 }
 
 impl Written {
@@ -139,47 +136,52 @@ impl Written {
     }
 
     /// Is the day's month one of those that count?
-    fn passes_month(&self, start: Day, day: Day) -> bool
-        ensures { result ≡ passes_month (pattern_of self.now (day_index start)) (day_index day) }
+    fn passes_month(&self, start: DayFacts, day: DayFacts) -> bool
+        requires start { AreFacts start }
+        requires day { AreFacts day }
+        ensures { result ≡ passes_month (pattern_of self.now start.index) day.index }
     {
-        let month = day.civil().month;
         if self.implies_month() {
-            return start.civil().month == month;
+            return start.month == day.month;
         }
-        allows_month(&self.months, month)
+        allows_month(&self.months, day.month)
     }
 
     /// Is the day one of the month days that count?
-    fn passes_month_day(&self, start: Day, day: Day) -> bool
-        ensures { result ≡ passes_month_day (pattern_of self.now (day_index start)) (day_index day) }
+    fn passes_month_day(&self, start: DayFacts, day: DayFacts) -> bool
+        requires start { AreFacts start }
+        requires day { AreFacts day }
+        ensures { result ≡ passes_month_day (pattern_of self.now start.index) day.index }
     {
-        let before = day.month_days_before();
         if self.implies_month_day() {
-            return start.month_days_before() == before;
+            return start.month_before == day.month_before;
         }
         allows_nth(
             &self.month_days,
-            before as u32,
-            day.month_days_after() as u32,
+            day.month_before as u32,
+            day.month_after as u32,
         )
     }
 
     /// Is the day's weekday, with its number, one of those that count?
-    fn passes_weekday(&self, start: Day, day: Day) -> bool
-        ensures { result ≡ passes_weekday (pattern_of self.now (day_index start)) (day_index day) }
+    fn passes_weekday(&self, start: DayFacts, day: DayFacts) -> bool
+        requires start { AreFacts start }
+        requires day { AreFacts day }
+        ensures { result ≡ passes_weekday (pattern_of self.now start.index) day.index }
     {
-        let weekday = day.weekday();
         if self.implies_weekday() {
-            return start.weekday() == weekday;
+            return start.weekday == day.weekday;
         }
         let (before, after) = weekday_place(self.counts_in_year(), day);
-        allows_weekday(&self.weekdays, weekday, before, after)
+        allows_weekday(&self.weekdays, day.weekday, before, after)
     }
 
     /// Does the day pass each part that is written or implied?
     #[tactic(auto, unfolding(profile::specs::Rules::passes))]
-    fn passes(&self, start: Day, day: Day) -> bool
-        ensures { result ≡ passes (pattern_of self.now (day_index start)) (day_index day) }
+    pub fn passes(&self, start: DayFacts, day: DayFacts) -> bool
+        requires start { AreFacts start }
+        requires day { AreFacts day }
+        ensures { result ≡ passes (pattern_of self.now start.index) day.index }
     {
         if !self.passes_month(start, day) {
             return false;
@@ -195,29 +197,5 @@ impl Written {
         ensures { result ≡ period_of (frequency_of self.now.frequency) self.now.week_start (day_index day) }
     {
         PeriodIndex::of(self.frequency, self.week_start, day)
-    }
-
-    /// Does the day's period lie a multiple of INTERVAL from that of DTSTART?
-    #[tactic(auto, unfolding(profile::specs::Rules::is_in_step))]
-    pub fn is_in_step(&self, start: Day, day: Day) -> bool
-        requires { 1 ≤ self.now.interval }
-        ensures { result ≡ is_in_step (pattern_of self.now (day_index start)) (day_index day) }
-    {
-        let interval = self.interval as u32;
-        let here = self.period(day).number() % interval;
-        let there = self.period(start).number() % interval;
-        here == there
-    }
-
-    /// Is this a base day?
-    #[tactic(auto, unfolding(profile::specs::Rules::is_base))]
-    pub fn is_base(&self, start: Day, day: Day) -> bool
-        requires { 1 ≤ self.now.interval }
-        ensures { result ≡ is_base (pattern_of self.now (day_index start)) (day_index day) }
-    {
-        if !self.is_in_step(start, day) {
-            return false;
-        }
-        self.passes(start, day)
     }
 }

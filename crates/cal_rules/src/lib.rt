@@ -5,13 +5,16 @@
 mod base;
 mod checks;
 mod entries;
+mod facts;
 mod fields;
 mod keys;
 mod pieces;
 mod place;
+mod position;
 mod read;
 mod refusals;
 mod rule;
+mod span;
 #[cfg(test)]
 mod tests;
 mod text;

@@ -1,13 +1,14 @@
-//! Set positions (RFC 5545 3.3.10, BYSETPOS), and the days of a rule but for COUNT.
+//! The days of a rule but for COUNT, and where COUNT ends (RFC 5545 3.3.10).
 
-ghost use Rattle.std.specs.Prelude.{◌≡◌, ◌+◌, ◌%◌, ◌^◌, ◌<◌, ◌≤◌, false, ℕ, IfSome, MatchOption};
+ghost use Rattle.std.specs.Prelude.{◌≡◌, ◌+◌, ◌-◌, ◌*◌, ◌%◌, ◌<◌, ◌≤◌, true, false, ℕ, IfSome, MatchOption};
 ghost use Rattle.cal_days.specs.Views.{frequency_of};
-ghost use Rattle.profile.specs.Days.{day_index, shortest_period};
-ghost use Rattle.profile.specs.Rules.{is_mate, count_days, reach, is_placed, is_counted, is_in_step};
+ghost use Rattle.profile.specs.Days.{day_index, period_of, shortest_period};
+ghost use Rattle.profile.specs.Rules.{is_counted, is_in_step};
 ghost use Rattle.cal_rules.specs.Views.{pattern_of, parts_of};
-ghost use Rattle.cal_rules.specs.Counted.{NoneFrom, IsNextCounted, EndsAt};
+ghost use Rattle.cal_rules.specs.Counted.{NoneIn, IsFirstIn, NoneFrom, IsNextCounted, EndsAt, is_chosen};
 
-use crate::base::allows_nth;
+use crate::facts::DayFacts;
+use crate::span::Span;
 use crate::written::Written;
 use cal_days::{Day, Frequency};
 
@@ -20,6 +21,7 @@ fn periods_ahead(interval: u32, here: u32, there: u32) -> u32
     requires here { here < interval }
     requires there { there < interval }
     ensures none_sooner { (j : ℕ) → j < result → (here + j) % interval ≡ there → ⊥ }
+    ensures none_left { result ≡ 0 → here ≡ there }
     ensures range { result ≤ interval }
 {
     if here <= there {
@@ -29,63 +31,78 @@ fn periods_ahead(interval: u32, here: u32, there: u32) -> u32
 }
 
 impl Written {
-    /// How far two days of one period can lie apart.
-    fn reach(&self) -> u32
-        ensures value { result ≡ reach (frequency_of self.now.frequency) }
+    /// The days of the shortest period.
+    fn shortest(&self) -> u32
+        ensures value { result ≡ shortest_period (frequency_of self.now.frequency) }
         ensures range { result ≤ 365 }
     {
         match self.frequency {
-            Frequency::Daily => 0,
-            Frequency::Weekly => 6,
-            Frequency::Monthly => 30,
+            Frequency::Daily => 1,
+            Frequency::Weekly => 7,
+            Frequency::Monthly => 28,
             Frequency::Yearly => 365,
         }
     }
 
-    /// Is the day of that index a base day of the period of `day`?
-    #[tactic(auto, using(std::proofs::lemmas::Bool::Decides::nat_tests), unfolding(profile::specs::Rules::is_mate))]
-    fn is_mate(&self, start: Day, day: Day, index: u32) -> bool
+    /// How many periods after that of a day the next one is that lies a multiple of INTERVAL from that
+    /// of DTSTART: 0 where its own does.
+    fn periods_to_step(&self, start: Day, day: Day) -> u32
         requires { 1 ≤ self.now.interval }
-        ensures { result ≡ is_mate (pattern_of self.now (day_index start)) (day_index day) index }
+        ensures range { result ≤ 65_535 }
+        ensures here { result ≡ 0 → is_in_step (pattern_of self.now (day_index start)) (day_index day) ≡ true }
+        ensures none_sooner { let p = pattern_of self.now (day_index start) in (j : ℕ) → j < result
+            → (period_of p.frequency p.week_start (day_index day) % p.interval + j) % p.interval
+            ≡ period_of p.frequency p.week_start p.start % p.interval → ⊥ }
     {
-        let Some(mate) = Day::at_index(index) else {
-            return false;
-        };
-        if self.period(mate).number() != self.period(day).number() {
-            return false;
+        let interval = self.interval as u32;
+        if interval == 1 {
+            return 0;
         }
-        self.is_base(start, mate)
+        let here = self.period(day).number() % interval;
+        let there = self.period(start).number() % interval;
+        periods_ahead(interval, here, there)
     }
 
-    /// How many of so many days from that index on are base days of the period of `day`.
-    #[tactic(auto, using(std::proofs::lemmas::Bool::Decides::nat_tests), unfolding(profile::specs::Rules::count_days))]
-    fn count_mates(&self, start: Day, day: Day, from: u32, days: u32) -> u32
+    /// From where to look further after that period, where the next one in step is so many periods after
+    /// it. No period is shorter than the shortest.
+    fn beyond(&self, span: Span, ahead: u32) -> u32
+        requires span { span.end ≤ 3_652_790 }
+        requires ahead { ahead ≤ 65_535 }
+        ensures { result ≡ span.end + shortest_period (frequency_of self.now.frequency) * (ahead - 1) }
+    {
+        if ahead == 0 {
+            return span.end;
+        }
+        span.end + self.shortest() * (ahead - 1)
+    }
+
+    /// The index of the first base day with a set position, from that index on and up to the last one.
+    fn next_chosen(&self, start: Day, from: u32, last: u32) -> Option<u32>
         requires interval { 1 ≤ self.now.interval }
-        requires fits { from + days < 2 ^ 32 }
-        ensures { result ≡ count_days (is_mate (pattern_of self.now (day_index start)) (day_index day)) from days }
+        requires from { 366 ≤ from }
+        requires last { last ≤ 3_652_424 }
+        ensures { let chosen = is_chosen (pattern_of self.now (day_index start)) in
+            MatchOption result (NoneIn chosen from (last + 1)) (IsFirstIn chosen from (last + 1)) }
     {
-        let mut count = 0;
-        for k in 0..days {
-            if self.is_mate(start, day, from + k) {
-                count += 1;
+        cal_days::periods_grow();
+        let begin = DayFacts::of(start);
+        let mut index = from;
+        while index <= last {
+            let Some(day) = Day::at_index(index) else {
+                return None;
+            };
+            let here = DayFacts::of(day);
+            let span = Span::of(self.frequency, self.week_start, here);
+            let ahead = self.periods_to_step(start, day);
+            if let Some(found) = self.first_in_period(begin, here, span, ahead) {
+                if found > last {
+                    return None;
+                }
+                return Some(found);
             }
+            index = self.beyond(span, ahead);
         }
-        count
-    }
-
-    /// Has a base day one of the set positions?
-    pub fn is_placed(&self, start: Day, day: Day) -> bool
-        requires { 1 ≤ self.now.interval }
-        ensures { result ≡ is_placed (pattern_of self.now (day_index start)) (day_index day) }
-    {
-        if self.positions.is_empty() {
-            return true;
-        }
-        let reach = self.reach();
-        let index = day.index();
-        let before = self.count_mates(start, day, index - reach, reach);
-        let after = self.count_mates(start, day, index + 1, reach);
-        allows_nth(&self.positions, before, after)
+        None
     }
 
     /// Is this a rule day but for COUNT?
@@ -104,42 +121,19 @@ impl Written {
         if index > LAST_RULE_DAY {
             return false;
         }
-        if !self.is_base(start, day) {
-            return false;
-        }
-        self.is_placed(start, day)
+        self.is_chosen(start, index)
     }
 
-    /// The days of the shortest period.
-    fn shortest(&self) -> u32
-        ensures value { result ≡ shortest_period (frequency_of self.now.frequency) }
-        ensures range { result ≤ 365 }
+    /// Is this a base day with a set position?
+    fn is_chosen(&self, start: Day, index: u32) -> bool
+        requires interval { 1 ≤ self.now.interval }
+        requires range { (366 ≤ index) × (index ≤ 3_652_424) }
+        ensures { result ≡ is_chosen (pattern_of self.now (day_index start)) index }
     {
-        match self.frequency {
-            Frequency::Daily => 1,
-            Frequency::Weekly => 7,
-            Frequency::Monthly => 28,
-            Frequency::Yearly => 365,
+        match self.next_chosen(start, index, index) {
+            Some(_found) => true,
+            None => false,
         }
-    }
-
-    /// How many days further to look for a day that is in step. From a period that isn't, this passes
-    /// over whole periods.
-    fn stride(&self, start: Day, day: Day) -> u32
-        requires { 1 ≤ self.now.interval }
-        ensures range { (1 ≤ result) × (result ≤ 24_000_000) }
-        ensures skips { (n : ℕ) → day_index day < n → n < day_index day + result
-            → is_in_step (pattern_of self.now (day_index start)) n ≡ false }
-    {
-        cal_days::periods_grow();
-        let interval = self.interval as u32;
-        let here = self.period(day).number() % interval;
-        let there = self.period(start).number() % interval;
-        let ahead = periods_ahead(interval, here, there);
-        if ahead == 0 {
-            return 1;
-        }
-        1 + self.shortest() * (ahead - 1)
     }
 
     /// The index of the least rule day but for COUNT, from that index on.
@@ -150,17 +144,8 @@ impl Written {
         ensures range { IfSome result (λ day. (366 ≤ day) × (day ≤ 3_652_424)) }
     {
         let limit = last.index().min(LAST_RULE_DAY);
-        let mut index = from.max(start.index());
-        while index <= limit {
-            let Some(day) = Day::at_index(index) else {
-                return None;
-            };
-            if self.is_counted(start, last, day) {
-                return Some(index);
-            }
-            index += self.stride(start, day);
-        }
-        None
+        let begin = from.max(start.index());
+        self.next_chosen(start, begin, limit)
     }
 
     /// The last day that COUNT allows: where it is never reached, 9999-12-31.

@@ -1,0 +1,15 @@
+use Rattle.std.proofs.Common.{◌≤◌, ◌-◌}
+use Rattle.profile.specs.Days.{day_index}
+use Rattle.cal_rules.specs.Views.{pattern_of}
+use Rattle.cal_rules.specs.Counted.{NoneIn, is_chosen}
+use Rattle.cal_rules.proofs.written.Written.next_chosen.Given as goal
+
+abbrev pub invariant-loop-index : goal.invariant-loop-index
+invariant-loop-index l = record {
+  first : 366 ≤ l.index;
+  low : l.from ≤ l.index;
+  none : NoneIn (is_chosen (pattern_of l.self (day_index l.start))) l.from l.index;
+}
+
+abbrev pub decreases-loop-index : goal.decreases-loop-index
+decreases-loop-index l = 4_000_000 - l.index
