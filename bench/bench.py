@@ -40,6 +40,24 @@ ORGANIZER:mailto:ann@example.com
 ATTENDEE;PARTSTAT=ACCEPTED:{room}
 END:VEVENT
 """
+SERIES = """BEGIN:VCALENDAR
+VERSION:2.0
+PRODID:-//bench//EN
+BEGIN:VEVENT
+UID:series@example.com
+DTSTAMP:20250101T000000Z
+ORGANIZER:mailto:ann@example.com
+DTSTART:{start}
+DURATION:PT1H
+RRULE:{rule}
+END:VEVENT
+END:VCALENDAR
+"""
+# Each starts on its own first day.
+RULES = (
+    ("instances of a day each", "19700101T090000Z", "FREQ=DAILY"),
+    ("last weekdays of the month", "19700130T090000Z", "FREQ=MONTHLY;BYDAY=MO,TU,WE,TH,FR;BYSETPOS=-1"),
+)
 
 
 def stamp(number):
@@ -114,6 +132,18 @@ def check(program, count):
     return seconds, peak, size
 
 
+def expand(program, start, rule, count):
+    """The first instances of a series."""
+    with tempfile.TemporaryFile() as stream:
+        stream.write(crlf(SERIES.format(start=start, rule=rule)))
+        stream.seek(0)
+        seconds, peak, status, output = run([program, "expand", "--limit", str(count)], stream)
+    lines = output.count(b"\n")
+    if status != 0 or lines != count:
+        sys.exit(f"expand: status {status}, {lines} lines of {count}")
+    return seconds, peak
+
+
 def quickly(program, calendar_text, certificate_text):
     """Input that is no calendar, or no certificate: an answer of `no`."""
     with tempfile.TemporaryDirectory() as folder:
@@ -152,6 +182,13 @@ def main():
         growth = f"{seconds / before:.1f}" if before else ""
         line("singles checked", count, seconds, f"{size / seconds / 1e6:.0f} MB/s", peak, growth)
         before = seconds
+    for work, start, rule in RULES:
+        before = None
+        for count in (9_500, 95_000):
+            seconds, peak = expand(program, start, rule, count)
+            growth = f"{seconds / before:.1f}" if before else ""
+            line(work, count, seconds, f"{int(count / seconds)}/s", peak, growth)
+            before = seconds
     empty = b"BEGIN:VCALENDAR\r\nVERSION:2.0\r\nEND:VCALENDAR\r\n"
     odd = (
         ("a calendar of 0 octets", b"", b""),

@@ -15,6 +15,9 @@ use std::io::Write;
 /// Seconds of a day in UTC.
 const DAY: i64 = 86_400;
 
+/// Lines are handed to the writer once they have so many octets.
+const FULL: usize = 65_536;
+
 /// An event with all its starts.
 #[derive(Drop)]
 struct Series {
@@ -78,8 +81,10 @@ impl Series {
         limit: usize,
         writer: &mut W,
     ) -> Result<(), PrintFault> {
+        let mut lines = Lines::new(alloc, self.seconds)?;
         let Some(rule) = &self.rule else {
-            self.print_line(alloc, self.start, writer)?;
+            lines.append(self.start)?;
+            lines.hand_over(writer)?;
             return flush(writer);
         };
         let second = second_of(self.start.instant());
@@ -89,9 +94,13 @@ impl Series {
         for day in rule.days(first).take(limit) {
             let instant = day.number().saturating_mul(DAY).saturating_add(second);
             if let Some(start) = Stamp::of_instant(instant) {
-                self.print_line(alloc, start, writer)?;
+                lines.append(start)?;
+                if lines.text.len() >= FULL {
+                    lines.hand_over(writer)?;
+                }
             }
         }
+        lines.hand_over(writer)?;
         flush(writer)
     }
 }
@@ -102,26 +111,47 @@ impl From<AllocError> for PrintFault {
     }
 }
 
-impl Series {
-    /// The line of one instance; its original start is its start.
-    fn print_line<W: Write>(
-        &self,
-        alloc: Global,
-        start: Stamp,
-        writer: &mut W,
-    ) -> Result<(), PrintFault> {
-        let mut line = Vec::new(alloc);
-        start.write(&mut line)?;
-        line.extend_from_slice(b" ")?;
-        start.write(&mut line)?;
-        line.extend_from_slice(b" ")?;
+/// The lines of instances that all last as long, on their way to a writer.
+#[derive(Drop)]
+struct Lines {
+    text: Vec<u8>,
+    /// The start of the last line.
+    start: Vec<u8>,
+    /// What follows the two starts in each line.
+    length: Vec<u8>,
+}
+
+impl Lines {
+    /// None yet.
+    fn new(alloc: Global, seconds: i64) -> Result<Lines, AllocError> {
+        let mut length = Vec::new(alloc);
         let mut digits = Buffer::new();
-        line.extend_from_slice(digits.format(self.seconds).as_bytes())?;
-        line.extend_from_slice(b"\n")?;
-        match writer.write_all(line.as_slice()) {
-            Ok(()) => Ok(()),
-            Err(_) => Err(PrintFault::Device),
+        length.extend_from_slice(digits.format(seconds).as_bytes())?;
+        length.push(b'\n')?;
+        Ok(Lines {
+            text: Vec::new(alloc),
+            start: Vec::new(alloc),
+            length,
+        })
+    }
+
+    /// One more instance; its original start is its start.
+    fn append(&mut self, start: Stamp) -> Result<(), AllocError> {
+        self.start.clear();
+        start.write(&mut self.start)?;
+        self.start.push(b' ')?;
+        self.text.extend_from_slice(self.start.as_slice())?;
+        self.text.extend_from_slice(self.start.as_slice())?;
+        self.text.extend_from_slice(self.length.as_slice())
+    }
+
+    /// Writes the lines, and forgets them.
+    fn hand_over<W: Write>(&mut self, writer: &mut W) -> Result<(), PrintFault> {
+        if writer.write_all(self.text.as_slice()).is_err() {
+            return Err(PrintFault::Device);
         }
+        self.text.clear();
+        Ok(())
     }
 }
 
