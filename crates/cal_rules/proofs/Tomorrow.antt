@@ -92,6 +92,14 @@ year_goes_on n h =
     let inside = rw k.year at (in_year (n + 1)) in
     omega (arith, k.year_before)
 
+-- the days of its month after a day, by its date
+pub month_left : (n : ℕ) → days_in_month (year_of n) (month_of n) - suc (month_days_before n) ≡ month_days_after n
+unfolding month_days_after
+month_left n = omega arith
+
+pub month_has : (n : ℕ) → suc (month_days_before n) ≤ days_in_month (year_of n) (month_of n)
+month_has n = omega (arith, in_month n)
+
 pub facts_on : (f : DayFacts) → AreFacts f → 1 ≤ f.month_after → AreFacts (record { index = f.index + 1; weekday = (f.weekday + 1) % 7; month = f.month; month_before = f.month_before + 1; month_after = f.month_after - 1; year_before = f.year_before + 1; year_after = f.year_after - 1 })
 facts_on f h more =
     let left : 1 ≤ month_days_after f.index = omega (arith, h.month_after) in

@@ -32,24 +32,28 @@ impl DayFacts {
         ensures range { (366 ≤ result.index) × (result.index ≤ 3_653_155) }
         ensures facts { AreFacts result }
     {
+        let civil = day.civil();
         DayFacts {
             index: day.index(),
             weekday: day.weekday(),
-            month: day.civil().month,
-            month_before: day.month_days_before(),
-            month_after: day.month_days_after(),
+            month: civil.month,
+            month_before: civil.day - 1,
+            month_after: day.days_in_month() - civil.day,
             year_before: day.year_days_before(),
             year_after: day.year_days_after(),
         }
     }
 
-    /// Those of the day after it.
-    pub fn tomorrow(self) -> DayFacts
+    /// Those of the day after it; where that is the end, its index alone.
+    pub fn tomorrow(self, end: u32) -> DayFacts
         requires facts { AreFacts self }
-        requires range { (366 ≤ self.index) × (self.index < 3_653_155) }
+        requires range { (366 ≤ self.index) × (self.index < end) × (end ≤ 3_653_155) }
         ensures index { result.index ≡ self.index + 1 }
-        ensures facts { AreFacts result }
+        ensures facts { result.index < end → AreFacts result }
     {
+        if self.index + 1 == end {
+            return DayFacts { index: end, ..self };
+        }
         if self.month_after == 0 {
             return first_of_month(self.index + 1);
         }

@@ -28,7 +28,7 @@ impl Written {
             if self.passes(start, day) {
                 count += 1;
             }
-            day = day.tomorrow();
+            day = day.tomorrow(end);
         }
         count
     }
@@ -60,7 +60,7 @@ impl Written {
             if self.passes(start, day) {
                 return Some(day.index);
             }
-            day = day.tomorrow();
+            day = day.tomorrow(end);
         }
         None
     }
@@ -97,7 +97,7 @@ impl Written {
                 }
                 earlier += 1;
             }
-            day = day.tomorrow();
+            day = day.tomorrow(span.end);
         }
         None
     }

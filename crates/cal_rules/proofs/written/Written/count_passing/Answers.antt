@@ -7,7 +7,7 @@ use Rattle.cal_rules.proofs.written.Written.count_passing.Goals.{then-passes, el
 
 pub loop-day-init : goal.loop-day-init
 loop-day-init c = record {
-  facts = c.requires.from;
+  facts = λ _. c.requires.from;
   low = omega arith;
   high = omega arith;
   small = omega arith;

@@ -1,4 +1,4 @@
-use Rattle.std.proofs.Common.{◌≡◌, ◌≤◌, ◌-◌}
+use Rattle.std.proofs.Common.{◌≡◌, ◌<◌, ◌≤◌, ◌-◌}
 use Rattle.profile.specs.Rules.{passes, count_days}
 use Rattle.cal_rules.specs.Views.{pattern_of}
 use Rattle.cal_rules.specs.Known.{AreFacts}
@@ -6,7 +6,7 @@ use Rattle.cal_rules.proofs.written.Written.count_passing.Given as goal
 
 abbrev pub invariant-loop-day : goal.invariant-loop-day
 invariant-loop-day l = record {
-  facts : AreFacts l.day;
+  facts : l.day.index < l.end → AreFacts l.day;
   low : l.fn.from.index ≤ l.day.index;
   high : l.day.index ≤ l.end;
   small : l.count ≤ l.day.index;

@@ -9,7 +9,7 @@ pub loop-day-init : goal.loop-day-init
 loop-day-init c =
     let p = pattern_of c.args.self.now c.args.start.index in
     record {
-      facts = c.requires.from;
+      facts = λ _. c.requires.from;
       low = omega arith;
       high = omega arith;
       small = omega (arith, c.requires.before, count_max (passes p) c.args.span.first (c.args.from.index - c.args.span.first));
