@@ -17,7 +17,8 @@ pub record IsFirstIn (test : ℕ → Bool) (from end day : ℕ) : Type 0 where
 abbrev pub is_chosen : Pattern → ℕ → Bool
 is_chosen p n = is_base p n && is_placed p n
 
--- a day that passes each part, and has one of the set positions among those of the days from the first on and before the end
+-- a day that passes each part, and has one of the set positions among those from the first day on and before the end that do
+-- (RFC 5545 3.3.10, BYSETPOS)
 abbrev pub has_place : Pattern → ℕ → ℕ → ℕ → Bool
 has_place p first end n =
     passes p n

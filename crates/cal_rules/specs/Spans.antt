@@ -3,7 +3,7 @@ use Rattle.std.specs.Prelude.{◌≡◌, ℕ, ◌+◌, ◌<◌, ◌≤◌}
 use Rattle.profile.specs.Days.{Frequency, period_of}
 use Rattle.profile.specs.Rules.{reach}
 
--- from the first on and before the end lie the days of the period of n, from 0001-01-01 on
+-- from the first on and before the end lie the days of the period of n, from 0001-01-01 on (RFC 5545 3.3.10, FREQ)
 pub record IsSpan (frequency : Frequency) (week_start n first end : ℕ) : Type 0 where
   pub first_day : 366 ≤ first
   pub not_before : first ≤ n
