@@ -17,3 +17,4 @@ pub mod Rooms
 pub mod Kept
 pub mod Trees
 pub mod Streams
+pub mod ZoneTexts
