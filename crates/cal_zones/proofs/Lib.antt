@@ -7,3 +7,8 @@ pub mod Casts
 pub mod Once
 pub mod Spacing
 pub mod Lasts
+pub mod Named
+pub mod PartLemmas
+pub mod Reading
+pub mod OneZone
+pub mod YearLemmas

@@ -1,5 +1,6 @@
--- Onsets that keep apart through 400 years never come at once.
-use Rattle.std.proofs.Common.{◌≡◌, ◌∙◌, ap, sym, refl, inl, inr, ℕ, zero, suc, ◌+◌, ◌-◌, ◌*◌, ◌/◌, ◌<◌, ◌≤◌, arith, ℤ, unsigned_abs, ◌+ℤ◌, ◌-ℤ◌, Some}
+-- Onsets that keep apart through 400 years keep apart for ever.
+use Rattle.std.proofs.Common.{◌≡◌, ◌∙◌, ap, sym, refl, inl, inr, ℕ, zero, suc, ◌+◌, ◌-◌, ◌*◌, ◌/◌, ◌<◌, ◌≤◌, arith, ℤ, unsigned_abs, ◌+ℤ◌, ◌-ℤ◌, ◌⊎◌, pos, true, subst, Some}
+use Rattle.std.specs.Prelude.{Option}
 use Rattle.std.proofs.lemmas.Int.{by_lt_z}
 use Rattle.std.proofs.lemmas.Bool.{cases_order, cases_lt}
 use Rattle.jiff_core.proofs.SignedLemmas.{signed_arith, one_part}
@@ -8,9 +9,15 @@ use Rattle.profile.specs.Values.{IsOffset}
 use Rattle.profile.specs.Zones.{local_time}
 use Rattle.cal_days.proofs.Dates.{named_later, year_begins, year_ends}
 use Rattle.cal_zones.specs.Yearly.{IsOn, IsDayOfYear}
-use Rattle.cal_zones.specs.Spaced.{IsApart, IsYearSpaced, IsSpaced}
+use Rattle.profile.specs.Rules.{Pattern, is_base}
+use Rattle.profile.specs.ZoneTexts.{AreSpaced, AreClose}
+use Rattle.cal_zones.specs.Shapes.{pattern_of}
+use Rattle.cal_zones.specs.Onsets.{rule_of}
+use Rattle.cal_zones.specs.Kinds.{pair_of}
+use Rattle.cal_zones.specs.Spaced.{IsApart, IsYearSpaced, IsSpaced, HasNear}
 use Rattle.cal_zones.specs.Apart.{NeverAtOnce}
 use Rattle.cal_zones.proofs.OneDay.{one_a_year, on_later, on_cycles_earlier, year_start_grows}
+use Rattle.cal_zones.proofs.Bases.{base_is}
 use Rattle.cal_zones.proofs.Onsets.{begins_is}
 use Rattle.cal_zones.specs.declared.shape.Yearly.{Yearly}
 use Rattle.cal_zones.specs.declared.shape.Observance.{Observance}
@@ -63,14 +70,16 @@ year_close n m h =
       | inr ge ↦ ge
     ]
 
--- onsets at one instant lie on days near each other
-days_close : (n m s r : ℕ) (x p q : ℤ) → x +ℤ p ≡ local_time n s → x +ℤ q ≡ local_time m r → s < 86_400 → r < 86_400 → IsOffset p → IsOffset q → (m ≤ n + 4) × (n ≤ m + 4)
-days_close n m s r x p q e f g h i j = (omega (arith, signed_arith, i, j), omega (arith, signed_arith, i, j))
+-- onsets on days that lie far from each other, and the same 400 years later
+far_days : (n m s r : ℕ) (x y p q : ℤ) → x +ℤ p ≡ local_time n s → y +ℤ q ≡ local_time m r → s < 86_400 → r < 86_400 → IsOffset p → IsOffset q → (n + 4 < m) ⊎ (m + 4 < n) → 172_800 ≤ unsigned_abs (x -ℤ y)
+far_days n m s r x y p q e f g h i j (inl far) = let size = one_part (x -ℤ y) in omega (arith, signed_arith, i, j)
+far_days n m s r x y p q e f g h i j (inr far) = let size = one_part (x -ℤ y) in omega (arith, signed_arith, i, j)
 
-meet : (a b : Observance) (n m k l cycles : ℕ) (x : ℤ) → x +ℤ a.offset_from ≡ local_time n a.second → x +ℤ b.offset_from ≡ local_time m b.second → k + 146_097 * cycles ≡ n + 146_097 → l + 146_097 * cycles ≡ m + 146_097 → IsApart a b k l → ⊥
-meet a b n m k l cycles x e f g h apart =
+apart_later : (a b : Observance) (n m k l cycles : ℕ) (x y : ℤ) → x +ℤ a.offset_from ≡ local_time n a.second → y +ℤ b.offset_from ≡ local_time m b.second → k + 146_097 * cycles ≡ n + 146_097 → l + 146_097 * cycles ≡ m + 146_097 → IsApart a b k l → 172_800 ≤ unsigned_abs (x -ℤ y)
+apart_later a b n m k l cycles x y e f g h apart =
     let u : ℤ = local_time k a.second -ℤ a.offset_from in
     let v : ℤ = local_time l b.second -ℤ b.offset_from in
+    let size = one_part (x -ℤ y) in
     elim (apart u v (omega (arith, signed_arith)) (omega (arith, signed_arith))) [
       | inl w ↦ omega (arith, signed_arith)
       | inr w ↦ omega (arith, signed_arith)
@@ -80,8 +89,8 @@ year_cycle : (cycles : ℕ) → year_start (400 * cycles + 401) ≡ 146_097 * cy
 year_cycle zero = refl
 year_cycle (suc cycles) = let e : 400 * suc cycles + 401 ≡ 400 * cycles + 401 + 400 = omega arith in rw e (omega (arith, year_cycle cycles))
 
-never : (a b : Observance) (first second : Yearly) (n m : ℕ) (x : ℤ) → IsSpaced a b first second 801 → IsOn first n → IsOn second m → 1 ≤ year_of n → m ≤ n + 4 → n ≤ m + 4 → x +ℤ a.offset_from ≡ local_time n a.second → x +ℤ b.offset_from ≡ local_time m b.second → ⊥
-never a b first second n m x spaced on there positive up down e f =
+close_apart : (a b : Observance) (first second : Yearly) (n m : ℕ) (x y : ℤ) → IsSpaced a b first second 801 → IsOn first n → IsOn second m → 1 ≤ year_of n → m ≤ n + 4 → n ≤ m + 4 → x +ℤ a.offset_from ≡ local_time n a.second → y +ℤ b.offset_from ≡ local_time m b.second → 172_800 ≤ unsigned_abs (x -ℤ y)
+close_apart a b first second n m x y spaced on there positive up down e f =
     let cycles = (year_of n - 1) / 400 in
     let later : year_of (n + 146_097) ≡ year_of n + 400 = (named_later n).year in
     let begins = year_begins (n + 146_097) in
@@ -93,17 +102,60 @@ never a b first second n m x spaced on there positive up down e f =
     let k_on = on_cycles_earlier first k cycles (rw k_is (on_later first n on)) in
     let l_on = on_cycles_earlier second l cycles (rw l_is (on_later second m there)) in
     let year : year_of k + 400 * cycles ≡ year_of n + 400 = sym (year_cycles k cycles) ∙ ap year_of k_is ∙ later in
-    meet a b n m k l cycles x e f k_is l_is (spaced (year_of k) (omega arith) (omega arith) k l k_on refl l_on (year_close k l (omega arith)) (year_close l k (omega arith)))
+    apart_later a b n m k l cycles x y e f k_is l_is (spaced (year_of k) (omega arith) (omega arith) k l k_on refl l_on (year_close k l (omega arith)) (year_close l k (omega arith)))
+
+-- also in the year 0, which is as the year 400
+early_apart : (a b : Observance) (first second : Yearly) (n m : ℕ) (x y : ℤ) → IsSpaced a b first second 801 → IsOn first n → IsOn second m → year_of n < 1 → m ≤ n + 4 → n ≤ m + 4 → x +ℤ a.offset_from ≡ local_time n a.second → y +ℤ b.offset_from ≡ local_time m b.second → 172_800 ≤ unsigned_abs (x -ℤ y)
+early_apart a b first second n m x y spaced on there early up down e f =
+    let u : ℤ = x +ℤ pos 12_622_780_800 in
+    let v : ℤ = y +ℤ pos 12_622_780_800 in
+    let later : year_of (n + 146_097) ≡ year_of n + 400 = (named_later n).year in
+    let same : u -ℤ v ≡ x -ℤ y = omega (arith, signed_arith) in
+    let far = close_apart a b first second (n + 146_097) (m + 146_097) u v spaced (on_later first n on) (on_later second m there) (omega arith) (omega arith) (omega arith) (omega (arith, signed_arith)) (omega (arith, signed_arith)) in
+    rw same at far
+
+pub all_apart : (a b : Observance) (first second : Yearly) (n m : ℕ) (x y : ℤ) → IsSpaced a b first second 801 → IsOn first n → IsOn second m → x +ℤ a.offset_from ≡ local_time n a.second → y +ℤ b.offset_from ≡ local_time m b.second → 172_800 ≤ unsigned_abs (x -ℤ y)
+all_apart a b first second n m x y spaced on there e f =
+    elim (cases_lt (n + 4) m) [
+      | inl far ↦ far_days n m a.second b.second x y a.offset_from b.offset_from e f a.starts.2 b.starts.2 a.from b.from (inl far)
+      | inr down ↦
+          elim (cases_lt (m + 4) n) [
+            | inl far ↦ far_days n m a.second b.second x y a.offset_from b.offset_from e f a.starts.2 b.starts.2 a.from b.from (inr far)
+            | inr up ↦
+                elim (cases_lt (year_of n) 1) [
+                  | inl early ↦ early_apart a b first second n m x y spaced on there early down up e f
+                  | inr positive ↦ close_apart a b first second n m x y spaced on there positive down up e f
+                ]
+          ]
+    ]
 
 pub never_at_once : (a b : Observance) (first second : Yearly) → a.rule ≡ Some first → b.rule ≡ Some second → IsSpaced a b first second 801 → NeverAtOnce a b
 never_at_once a b first second e f spaced x y h j same =
     let on = begins_is a first h.day e h.begins in
     let there = begins_is b second j.day f j.begins in
-    let read : x.instant +ℤ b.offset_from ≡ local_time j.day b.second = rw same j.read in
-    let near = days_close h.day j.day a.second b.second x.instant a.offset_from b.offset_from h.read read a.starts.2 b.starts.2 a.from b.from in
-    let positive : 1 ≤ year_of h.day =
-    elim (cases_lt (year_of h.day) 1) [
-      | inl lt ↦ absurd (omega (arith, a.starts, on.0, year_ends h.day, year_start_grows (suc (year_of h.day)) 1 (omega arith)))
-      | inr ge ↦ ge
-    ] in
-    never a b first second h.day j.day x.instant spaced on.1 there.1 positive near.0 near.1 h.read read
+    let far = all_apart a b first second h.day j.day x.instant y.instant spaced on.1 there.1 h.read j.read in
+    let size = one_part (x.instant -ℤ y.instant) in
+    absurd (omega (arith, signed_arith))
+
+-- as those who see the rules as they are written say it
+some_same : {A : Type 0} (a b : A) → ◌≡◌ {A = Option A} (Some a) (Some b) → a ≡ b
+some_same a b h = cc
+
+rule_day : (o : Observance) (r : Yearly) (parts : Pattern) (n : ℕ) → o.rule ≡ Some r → rule_of o.day o.rule ≡ Some parts → is_base parts n ≡ true → IsOn r n
+rule_day o r parts n e f b =
+    let g : rule_of o.day (Some r) ≡ Some parts = rw e at f in
+    let same : pattern_of r.month r.days o.day ≡ parts = some_same _ _ g in
+    (base_is r o.day n).0 (subst (λ (p : Pattern). is_base p n ≡ true) (sym same) b)
+
+pub pair_spaced : (a b : Observance) (first second : Yearly) → a.rule ≡ Some first → b.rule ≡ Some second → IsSpaced a b first second 801 → AreSpaced (pair_of a b)
+pair_spaced a b first second e f spaced x y h j =
+    all_apart a b first second h.day j.day x y spaced (rule_day a first h.parts h.day e h.rule h.on) (rule_day b second j.parts j.day f j.rule j.on) h.read j.read
+
+pub pair_close : (a b : Observance) (first second : Yearly) → a.rule ≡ Some first → b.rule ≡ Some second → HasNear a b first second → AreClose (pair_of a b)
+pair_close a b first second e f (n, m, on, there, (x, y, g, h, near)) = (
+  x,
+  y,
+  record { parts = pattern_of first.month first.days a.day; rule = ap (rule_of a.day) e; day = n; on = (base_is first a.day n).1 on; read = g },
+  record { parts = pattern_of second.month second.days b.day; rule = ap (rule_of b.day) f; day = m; on = (base_is second b.day m).1 there; read = h },
+  near,
+)

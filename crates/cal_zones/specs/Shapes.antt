@@ -1,18 +1,25 @@
 -- The days of a month that a rule names.
-use Rattle.std.specs.Prelude.{◌≡◌, ℕ, ◌+◌, ◌-◌, ◌*◌, ◌%◌, ◌<◌, ◌≤◌, Bool, ◌&&◌, nat_le, nat_lt, List, [], ◌∷◌, ℤ, pos, negsuc}
-use Rattle.profile.specs.Days.{days_in_month, Yearly}
-use Rattle.profile.specs.Rules.{WeekdayNumber, Pattern}
-use Rattle.profile.specs.Faults.{is_between}
+use Rattle.std.specs.Prelude.{◌≡◌, ℕ, ◌+◌, ◌-◌, ◌*◌, ◌%◌, ◌<◌, ◌≤◌, Bool}
+use Rattle.profile.specs.Rules.{Pattern}
+use Rattle.profile.specs.ZoneTexts as written
+use Rattle.profile.specs.ZoneTexts.{OnDay, InWeek, YearRule, is_each_year, year_pattern}
 use Rattle.cal_zones.specs.declared.shape.MonthDays.{MonthDays}
 use Rattle.cal_zones.specs.declared.shape.MonthDays.TheVariants.{Day, FromStart, FromEnd, Week}
 
+-- what they stand for
+abbrev pub days_of : MonthDays → written.MonthDays
+days_of (Day day) = OnDay day
+days_of (FromStart number weekday) = written.FromStart number weekday
+days_of (FromEnd number weekday) = written.FromEnd number weekday
+days_of (Week first weekday) = InWeek first weekday
+
+-- a month and days of it
+abbrev pub rule_named : ℕ → MonthDays → YearRule
+rule_named month days = record { month = month; days = days_of days }
+
 -- every year has this day, once
 abbrev pub is_yearly : ℕ → MonthDays → Bool
-is_yearly month (Day day) = is_between 1 12 month && is_between 1 28 day
-is_yearly month (FromStart number weekday) = is_between 1 12 month && is_between 1 4 number && nat_lt weekday 7
-is_yearly month (FromEnd number weekday) = is_between 1 12 month && is_between 1 4 number && nat_lt weekday 7
-is_yearly month (Week first weekday) =
-    is_between 1 12 month && nat_le 1 first && nat_le (first + 6) (days_in_month 1 month) && nat_lt weekday 7
+is_yearly month days = is_each_year month (days_of days)
 
 -- so many days of its month lie before the day, in a month of that length whose first day has that index
 abbrev pub IsPlace : MonthDays → ℕ → ℕ → ℕ → Type 0
@@ -25,29 +32,6 @@ IsPlace (FromEnd number weekday) first length before =
 IsPlace (Week earliest weekday) first length before =
     ((first + before + 5) % 7 ≡ weekday) × (earliest ≤ before + 1) × (before + 1 ≤ earliest + 6)
 
--- BYMONTHDAY and BYDAY as they are written
-abbrev pub month_days_of : MonthDays → List ℤ
-month_days_of (Day day) = pos day ∷ []
-month_days_of (FromStart _ _) = []
-month_days_of (FromEnd _ _) = []
-month_days_of (Week first _) =
-    pos first ∷ pos (first + 1) ∷ pos (first + 2) ∷ pos (first + 3) ∷ pos (first + 4) ∷ pos (first + 5) ∷ pos (first + 6) ∷ []
-
-abbrev pub weekdays_of : MonthDays → List WeekdayNumber
-weekdays_of (Day _) = []
-weekdays_of (FromStart number weekday) = record { number = pos number; weekday = weekday } ∷ []
-weekdays_of (FromEnd number weekday) = record { number = negsuc (number - 1); weekday = weekday } ∷ []
-weekdays_of (Week _ weekday) = record { number = pos 0; weekday = weekday } ∷ []
-
 -- the parts of FREQ=YEARLY with that BYMONTH, on from a DTSTART
 abbrev pub pattern_of : ℕ → MonthDays → ℕ → Pattern
-pattern_of month days start = record {
-  frequency = Yearly;
-  interval = 1;
-  week_start = 0;
-  months = month ∷ [];
-  month_days = month_days_of days;
-  weekdays = weekdays_of days;
-  positions = [];
-  start = start;
-}
+pattern_of month days start = year_pattern (rule_named month days) start

@@ -1,5 +1,5 @@
 -- Two observances whose onsets keep two days apart.
-use Rattle.std.specs.Prelude.{◌≡◌, ℕ, ◌+◌, ◌<◌, ◌≤◌, ◌⊎◌, ℤ, pos, ◌+ℤ◌, ◌≤ℤ◌}
+use Rattle.std.specs.Prelude.{◌≡◌, ℕ, ◌+◌, ◌<◌, ◌≤◌, ◌⊎◌, ℤ, pos, unsigned_abs, ◌+ℤ◌, ◌-ℤ◌, ◌≤ℤ◌}
 use Rattle.profile.specs.Days.{year_of}
 use Rattle.profile.specs.Zones.{local_time}
 use Rattle.cal_zones.specs.Yearly.{IsOn}
@@ -21,3 +21,13 @@ IsYearSpaced a b first second year =
 -- those of the years from 401 on up to one
 abbrev pub IsSpaced : Observance → Observance → Yearly → Yearly → ℕ → Type 0
 IsSpaced a b first second end = (year : ℕ) → 401 ≤ year → year < end → IsYearSpaced a b first second year
+
+-- the onset of the one on a day and that of the other on a day lie closer
+abbrev pub AreNear : Observance → Observance → ℕ → ℕ → Type 0
+AreNear a b n m =
+    (x : ℤ) × (y : ℤ) × (x +ℤ a.offset_from ≡ local_time n a.second) × (y +ℤ b.offset_from ≡ local_time m b.second)
+    × (unsigned_abs (x -ℤ y) < 172_800)
+
+-- those on two days of their rules
+abbrev pub HasNear : Observance → Observance → Yearly → Yearly → Type 0
+HasNear a b first second = (n : ℕ) × (m : ℕ) × IsOn first n × IsOn second m × AreNear a b n m

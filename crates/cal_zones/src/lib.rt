@@ -8,12 +8,17 @@ mod kinds;
 mod last;
 mod make;
 mod observance;
+mod one_day;
+mod parts;
+mod read;
 mod shape;
 mod spaced;
+mod times;
 mod yearly;
 mod zone;
 
 pub use kinds::Zone;
+pub use read::one_zone;
 pub use shape::{MonthDays, Observance, Yearly};
 
 #[cfg(test)]

@@ -6,6 +6,7 @@ ghost use Rattle.profile.specs.Zones.{Constant, Single, local_time};
 ghost use Rattle.cal_zones.specs.Shapes.{is_yearly};
 ghost use Rattle.cal_zones.specs.Onsets.{observance_of};
 ghost use Rattle.cal_zones.specs.Kinds.{zone_of, pair_of};
+ghost use Rattle.profile.specs.ZoneTexts.{AreSpaced};
 ghost use Rattle.cal_zones.specs.Made.{AreMatched, IsSingleFault, IsPairFault};
 
 use crate::kinds::{Fixed, Kind, Pair, Zone};
@@ -21,7 +22,7 @@ const EPOCH: i64 = 62_167_219_200;
 const HALF_DAY: u32 = 43_200;
 
 /// A zone of a shape that isn't one of those accepted.
-const SHAPE: Refusal = Refusal { number: 40 };
+pub(crate) const SHAPE: Refusal = Refusal { number: 40 };
 
 /// TZOFFSETFROM and TZOFFSETTO that don't match, or lie more than 12 hours apart.
 const OFFSETS: Refusal = Refusal { number: 41 };
@@ -89,6 +90,21 @@ impl Observance {
     }
 }
 
+impl Observance {
+    /// The same with an RRULE.
+    pub(crate) fn with_rule(self, rule: Yearly) -> Observance
+        ensures day { result.day ≡ self.day }
+        ensures second { result.second ≡ self.second }
+        ensures rule { result.rule ≡ Some rule }
+        ensures from { result.offset_from ≡ self.offset_from }
+        ensures to { result.offset_to ≡ self.offset_to }
+    {
+        let mut observance = self;
+        observance.rule = Some(rule);
+        observance
+    }
+}
+
 /// Does each TZOFFSETFROM equal the other's TZOFFSETTO, and do they lie at most 12 hours apart?
 fn are_matched(a: &Observance, b: &Observance) -> bool
     ensures yes { result ≡ true → AreMatched a.now b.now }
@@ -144,10 +160,11 @@ impl Zone {
     }
 
     /// The zone of two observances. Refused with 40 where one has no rule, with 41 where each
-    /// TZOFFSETFROM isn't the other's TZOFFSETTO or they lie more than 12 hours apart, with 42 where onsets
-    /// lie less than 172,800 seconds apart in some year.
+    /// TZOFFSETFROM isn't the other's TZOFFSETTO or they lie more than 12 hours apart, with 42 where two onsets
+    /// of their rules lie less than 172,800 seconds apart, in any year.
     pub fn pair(standard: Observance, daylight: Observance) -> Result<Zone, Refusal>
         ensures ok { IfOk result (λ z. zone_of z ≡ pair_of standard daylight) }
+        ensures accepted { IfOk result (λ _. AreMatched standard daylight × AreSpaced (pair_of standard daylight)) }
         ensures refuses { IfErr result (λ e. IsPairFault e.number standard daylight) }
     {
         let Some(first) = standard.rule else {

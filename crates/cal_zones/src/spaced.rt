@@ -1,7 +1,7 @@
 //! Two observances whose onsets keep two days apart, in every year of both rules.
 
-ghost use Rattle.std.specs.Prelude.{◌≡◌, ℕ, ◌+◌, ◌<◌, ◌≤◌, true, Some};
-ghost use Rattle.cal_zones.specs.Spaced.{IsApart, IsYearSpaced, IsSpaced};
+ghost use Rattle.std.specs.Prelude.{◌≡◌, ℕ, ◌+◌, ◌<◌, ◌≤◌, true, false, Some};
+ghost use Rattle.cal_zones.specs.Spaced.{IsApart, IsYearSpaced, IsSpaced, AreNear, HasNear};
 
 use crate::shape::{Observance, Yearly};
 
@@ -11,7 +11,8 @@ const SPACING: u64 = 172_800;
 /// Do the onsets on two days keep apart?
 fn is_apart(a: &Observance, b: &Observance, n: u32, m: u32) -> bool
     requires { (n ≤ 3_653_155) × (m ≤ 3_653_155) }
-    ensures { result ≡ true → IsApart a.now b.now n m }
+    ensures apart { result ≡ true → IsApart a.now b.now n m }
+    ensures near { result ≡ false → AreNear a.now b.now n m }
 {
     a.onset_on(n).abs_diff(b.onset_on(m)) >= SPACING
 }
@@ -20,7 +21,8 @@ fn is_apart(a: &Observance, b: &Observance, n: u32, m: u32) -> bool
 /// before it and in the year after it?
 fn is_year_spaced(a: &Observance, b: &Observance, first: Yearly, second: Yearly, year: u32) -> bool
     requires { (2 ≤ year) × (year ≤ 1000) }
-    ensures { result ≡ true → IsYearSpaced a.now b.now first second year }
+    ensures apart { result ≡ true → IsYearSpaced a.now b.now first second year }
+    ensures near { result ≡ false → HasNear a.now b.now first second }
 {
     let day = first.day_in(year);
     if !is_apart(a, b, day, second.day_in(year - 1)) {
@@ -34,7 +36,8 @@ fn is_year_spaced(a: &Observance, b: &Observance, first: Yearly, second: Yearly,
 
 /// Do they in each year? The years repeat after 400, so these are looked at.
 pub(crate) fn is_spaced(a: &Observance, b: &Observance, first: Yearly, second: Yearly) -> bool
-    ensures { result ≡ true → IsSpaced a.now b.now first second 801 }
+    ensures apart { result ≡ true → IsSpaced a.now b.now first second 801 }
+    ensures near { result ≡ false → HasNear a.now b.now first second }
 {
     for year in 401..801 {
         if !is_year_spaced(a, b, first, second, year) {

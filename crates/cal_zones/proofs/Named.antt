@@ -1,0 +1,223 @@
+-- The day that BYMONTHDAY and BYDAY name: there is at most one.
+use Rattle.std.proofs.Common.{◌≡◌, ◌∙◌, refl, ap, sym, subst, inl, inr, ◌⊎◌, ℕ, ◌+◌, ◌-◌, ◌<◌, ◌≤◌, Bool, true, false, not, ◌&&◌, ◌||◌, ◌==◌, List, [], ◌∷◌, length, map, arith, ℤ, pos, neg_ℤ}
+use Rattle.std.specs.List.{list_all, list_any, range_with_len}
+use Rattle.std.specs.Ordering.{int_eq}
+use Rattle.std.proofs.lemmas.Bool.{true≢false, false≢true, and_parts, or_cases, eqb-true}
+use Rattle.std.proofs.lemmas.Bool.Decides.{nat_tests, Decides-int_eq}
+use Rattle.jiff_core.proofs.SignedLemmas.{signed_arith}
+use Rattle.profile.specs.Days.{days_in_month}
+use Rattle.profile.specs.Faults.{is_between}
+use Rattle.profile.specs.Rules.{WeekdayNumber, RuleText, is_missing}
+use Rattle.profile.specs.ZoneTexts.{MonthDays, OnDay, FromStart, FromEnd, InWeek, YearRule, are_only, is_weekday, is_of_seven, are_seven, names_days, is_each_year, is_plain_yearly, is_one_day}
+use Rattle.cal_zones.specs.Named.{NoWeekdayFor, NamesNone}
+
+-- ---- lists and tests
+
+-- an entry that passes both
+head_of : {A : Type 0} (p q : A → Bool) (xs : List A) → are_only p xs ≡ true → are_only q xs ≡ true → (x : A) × (p x ≡ true) × (q x ≡ true)
+head_of p q [] h k = absurd (true≢false (sym h))
+head_of p q (x ∷ xs) h k = (x, (and_parts (p x) (list_all p xs) h).0, (and_parts (q x) (list_all q xs) k).0)
+
+meet : {A : Type 0} (p q : A → Bool) (xs : List A) → list_any p xs ≡ true → list_all q xs ≡ true → (x : A) × (p x ≡ true) × (q x ≡ true)
+meet p q [] h k = absurd (true≢false (sym h))
+meet p q (x ∷ xs) h k =
+    let here = and_parts (q x) (list_all q xs) k in
+    elim (or_cases (p x) (list_any p xs) h) [
+      | inl e ↦ (x, e, here.0)
+      | inr e ↦ meet p q xs e here.1
+    ]
+
+only_missing : {A : Type 0} (p : A → Bool) (xs : List A) → are_only p xs ≡ true → is_missing xs ≡ true → ⊥
+only_missing p [] h m = true≢false (sym h)
+only_missing p (x ∷ xs) h m = true≢false (sym m)
+
+seven_at : (first : ℕ) (xs : List ℤ) → are_seven first xs ≡ true → (list_all (is_of_seven first) xs ≡ true) × (list_any (λ x. int_eq x (pos (first + 0))) xs ≡ true)
+seven_at first xs h =
+    let t = and_parts (list_all (is_of_seven first) xs) (list_all (λ more. list_any (λ x. int_eq x (pos (first + more))) xs) (range_with_len 0 7)) h in
+    (t.0, (and_parts (list_any (λ x. int_eq x (pos (first + 0))) xs) (list_all (λ more. list_any (λ x. int_eq x (pos (first + more))) xs) (range_with_len 1 6)) t.1).0)
+
+seven_missing : (first : ℕ) (xs : List ℤ) → are_seven first xs ≡ true → is_missing xs ≡ true → ⊥
+seven_missing first [] h m = true≢false (sym (seven_at first [] h).1)
+seven_missing first (x ∷ xs) h m = true≢false (sym m)
+
+seven_low : (f g : ℕ) (xs : List ℤ) → are_seven f xs ≡ true → are_seven g xs ≡ true → g ≤ f
+seven_low f g xs h k =
+    let w = meet (λ x. int_eq x (pos (f + 0))) (is_of_seven g) xs (seven_at f xs h).1 (seven_at g xs k).0 in
+    let same : w.0 ≡ pos (f + 0) = (Decides-int_eq w.0 (pos (f + 0))).0 w.1 in
+    let within : is_between g (g + 6) (f + 0) ≡ true = subst (λ (z : ℤ). is_of_seven g z ≡ true) same w.2 in
+    grind (arith, nat_tests)
+
+-- a list that isn't empty, of which each entry passes
+pub filled : {A : Type 0} (test : A → Bool) (xs : List A) (r : Bool) → false ≡ (length xs == 0) → r ≡ list_all test xs → r ≡ are_only test xs
+filled test [] r h e = absurd (false≢true h)
+filled test (x ∷ xs) r h e = e
+
+all_map : {A B : Type 0} (test : B → Bool) (f : A → B) (xs : List A) → list_all test (map f xs) ≡ list_all (λ x. test (f x)) xs
+all_map test f [] = refl
+all_map test f (x ∷ xs) = ap (λ b. test (f x) && b) (all_map test f xs)
+
+pub filled_map : {A B : Type 0} (test : B → Bool) (f : A → B) (xs : List A) (r : Bool) → false ≡ (length xs == 0) → r ≡ list_all (λ x. test (f x)) xs → r ≡ are_only test (map f xs)
+filled_map test f [] r h e = absurd (false≢true h)
+filled_map test f (x ∷ xs) r h e = e ∙ sym (all_map test f (x ∷ xs))
+
+-- ---- one day
+
+entries_same : (p q : ℤ) (v w : ℕ) (xs : List WeekdayNumber) → are_only (is_weekday p v) xs ≡ true → are_only (is_weekday q w) xs ≡ true → (p ≡ q) × (v ≡ w)
+entries_same p q v w xs h k =
+    let e = head_of (is_weekday p v) (is_weekday q w) xs h k in
+    let a = and_parts (int_eq e.0.number p) (e.0.weekday == v) e.1 in
+    let b = and_parts (int_eq e.0.number q) (e.0.weekday == w) e.2 in
+    (sym ((Decides-int_eq e.0.number p).0 a.0) ∙ (Decides-int_eq e.0.number q).0 b.0, sym (eqb-true e.0.weekday v a.1) ∙ eqb-true e.0.weekday w b.1)
+
+months_same : (m n : ℕ) (xs : List ℕ) → are_only (λ x. x == m) xs ≡ true → are_only (λ x. x == n) xs ≡ true → m ≡ n
+months_same m n xs h k =
+    let e = head_of (λ x. x == m) (λ x. x == n) xs h k in
+    sym (eqb-true e.0 m e.1) ∙ eqb-true e.0 n e.2
+
+numbers_same : (d e : ℕ) (xs : List ℤ) → are_only (λ x. int_eq x (pos d)) xs ≡ true → are_only (λ x. int_eq x (pos e)) xs ≡ true → d ≡ e
+numbers_same d e xs h k =
+    let w = head_of (λ x. int_eq x (pos d)) (λ x. int_eq x (pos e)) xs h k in
+    let same : pos d ≡ pos e = sym ((Decides-int_eq w.0 (pos d)).0 w.1) ∙ (Decides-int_eq w.0 (pos e)).0 w.2 in
+    omega (arith, signed_arith)
+
+-- what each kind of day says of the two lists
+
+on_day : (d : ℕ) (xs : List ℤ) (es : List WeekdayNumber) → names_days (OnDay d) xs es ≡ true → (are_only (λ x. int_eq x (pos d)) xs ≡ true) × (is_missing es ≡ true)
+on_day d xs es h = and_parts (are_only (λ x. int_eq x (pos d)) xs) (is_missing es) h
+
+from_start : (k w : ℕ) (xs : List ℤ) (es : List WeekdayNumber) → names_days (FromStart k w) xs es ≡ true → (is_missing xs ≡ true) × (are_only (is_weekday (pos k) w) es ≡ true)
+from_start k w xs es h = and_parts (is_missing xs) (are_only (is_weekday (pos k) w) es) h
+
+from_end : (k w : ℕ) (xs : List ℤ) (es : List WeekdayNumber) → names_days (FromEnd k w) xs es ≡ true → (is_missing xs ≡ true) × (are_only (is_weekday (neg_ℤ (pos k)) w) es ≡ true)
+from_end k w xs es h = and_parts (is_missing xs) (are_only (is_weekday (neg_ℤ (pos k)) w) es) h
+
+in_week : (f w : ℕ) (xs : List ℤ) (es : List WeekdayNumber) → names_days (InWeek f w) xs es ≡ true → (are_seven f xs ≡ true) × (are_only (is_weekday (pos 0) w) es ≡ true)
+in_week f w xs es h = and_parts (are_seven f xs) (are_only (is_weekday (pos 0) w) es) h
+
+both_ends : (month k j v w : ℕ) (es : List WeekdayNumber) → are_only (is_weekday (pos k) v) es ≡ true → are_only (is_weekday (neg_ℤ (pos j)) w) es ≡ true → (1 ≤ k) ⊎ (1 ≤ j) → ⊥
+both_ends month k j v w es h l (inl low) = let e = (entries_same (pos k) (neg_ℤ (pos j)) v w es h l).0 in omega (arith, signed_arith)
+both_ends month k j v w es h l (inr low) = let e = (entries_same (pos k) (neg_ℤ (pos j)) v w es h l).0 in omega (arith, signed_arith)
+
+pub one_days : (month : ℕ) (xs : List ℤ) (es : List WeekdayNumber) (a b : MonthDays) → names_days a xs es ≡ true → names_days b xs es ≡ true → is_each_year month b ≡ true → a ≡ b
+one_days month xs es (OnDay d) (OnDay e) h k y = ap OnDay (numbers_same d e xs (on_day d xs es h).0 (on_day e xs es k).0)
+one_days month xs es (OnDay d) (FromStart j w) h k y = absurd (only_missing (is_weekday (pos j) w) es (from_start j w xs es k).1 (on_day d xs es h).1)
+one_days month xs es (OnDay d) (FromEnd j w) h k y = absurd (only_missing (is_weekday (neg_ℤ (pos j)) w) es (from_end j w xs es k).1 (on_day d xs es h).1)
+one_days month xs es (OnDay d) (InWeek f w) h k y = absurd (only_missing (is_weekday (pos 0) w) es (in_week f w xs es k).1 (on_day d xs es h).1)
+one_days month xs es (FromStart i v) (OnDay e) h k y = absurd (only_missing (is_weekday (pos i) v) es (from_start i v xs es h).1 (on_day e xs es k).1)
+one_days month xs es (FromStart i v) (FromStart j w) h k y =
+    let e = entries_same (pos i) (pos j) v w es (from_start i v xs es h).1 (from_start j w xs es k).1 in
+    let number : i ≡ j = omega (arith, signed_arith, e.0) in
+    ap (λ n. FromStart n v) number ∙ ap (FromStart j) e.1
+one_days month xs es (FromStart i v) (FromEnd j w) h k y =
+    let low : 1 ≤ j = grind (arith, nat_tests) in
+    absurd (both_ends month i j v w es (from_start i v xs es h).1 (from_end j w xs es k).1 (inr low))
+one_days month xs es (FromStart i v) (InWeek f w) h k y = absurd (seven_missing f xs (in_week f w xs es k).0 (from_start i v xs es h).0)
+one_days month xs es (FromEnd i v) (OnDay e) h k y = absurd (only_missing (is_weekday (neg_ℤ (pos i)) v) es (from_end i v xs es h).1 (on_day e xs es k).1)
+one_days month xs es (FromEnd i v) (FromStart j w) h k y =
+    let low : 1 ≤ j = grind (arith, nat_tests) in
+    absurd (both_ends month j i w v es (from_start j w xs es k).1 (from_end i v xs es h).1 (inl low))
+one_days month xs es (FromEnd i v) (FromEnd j w) h k y =
+    let e = entries_same (neg_ℤ (pos i)) (neg_ℤ (pos j)) v w es (from_end i v xs es h).1 (from_end j w xs es k).1 in
+    let number : i ≡ j = omega (arith, signed_arith, e.0) in
+    ap (λ n. FromEnd n v) number ∙ ap (FromEnd j) e.1
+one_days month xs es (FromEnd i v) (InWeek f w) h k y = absurd (seven_missing f xs (in_week f w xs es k).0 (from_end i v xs es h).0)
+one_days month xs es (InWeek f v) (OnDay e) h k y = absurd (only_missing (is_weekday (pos 0) v) es (in_week f v xs es h).1 (on_day e xs es k).1)
+one_days month xs es (InWeek f v) (FromStart j w) h k y = absurd (seven_missing f xs (in_week f v xs es h).0 (from_start j w xs es k).0)
+one_days month xs es (InWeek f v) (FromEnd j w) h k y = absurd (seven_missing f xs (in_week f v xs es h).0 (from_end j w xs es k).0)
+one_days month xs es (InWeek f v) (InWeek g w) h k y =
+    let a = in_week f v xs es h in
+    let b = in_week g w xs es k in
+    let low = seven_low f g xs a.0 b.0 in
+    let high = seven_low g f xs b.0 a.0 in
+    let first : f ≡ g = omega arith in
+    ap (λ n. InWeek n v) first ∙ ap (InWeek g) (entries_same (pos 0) (pos 0) v w es a.1 b.1).1
+
+-- ---- none
+
+pub none_on_day : (xs : List ℤ) → ((day : ℕ) → 1 ≤ day → day ≤ 28 → are_only (λ x. int_eq x (pos day)) xs ≡ false) → NamesNone xs []
+none_on_day xs never month (OnDay d) h y =
+    let low : 1 ≤ d = grind (arith, nat_tests) in
+    let high : d ≤ 28 = grind (arith, nat_tests) in
+    true≢false (sym (on_day d xs [] h).0 ∙ never d low high)
+none_on_day xs never month (FromStart k w) h y = true≢false (sym (from_start k w xs [] h).1)
+none_on_day xs never month (FromEnd k w) h y = true≢false (sym (from_end k w xs [] h).1)
+none_on_day xs never month (InWeek f w) h y = true≢false (sym (in_week f w xs [] h).1)
+
+pub none_numbered : (es : List WeekdayNumber) → ((k : ℕ) → 1 ≤ k → k ≤ 4 → NoWeekdayFor (pos k) es × NoWeekdayFor (neg_ℤ (pos k)) es) → NamesNone [] es
+none_numbered es never month (OnDay d) h y = true≢false (sym (on_day d [] es h).0)
+none_numbered es never month (FromStart k w) h y =
+    let low : 1 ≤ k = grind (arith, nat_tests) in
+    let high : k ≤ 4 = grind (arith, nat_tests) in
+    let day : w < 7 = grind (arith, nat_tests) in
+    true≢false (sym (from_start k w [] es h).1 ∙ (never k low high).0 w day)
+none_numbered es never month (FromEnd k w) h y =
+    let low : 1 ≤ k = grind (arith, nat_tests) in
+    let high : k ≤ 4 = grind (arith, nat_tests) in
+    let day : w < 7 = grind (arith, nat_tests) in
+    true≢false (sym (from_end k w [] es h).1 ∙ (never k low high).1 w day)
+none_numbered es never month (InWeek f w) h y = seven_missing f [] (in_week f w [] es h).0 refl
+
+month_most : (month : ℕ) → days_in_month 1 month ≤ 31
+month_most month = grind (arith, nat_tests)
+
+pub none_in_week : (xs : List ℤ) (es : List WeekdayNumber) → is_missing xs ≡ false → is_missing es ≡ false
+    → NoWeekdayFor (pos 0) es ⊎ ((first : ℕ) → 1 ≤ first → first ≤ 25 → are_seven first xs ≡ false) → NamesNone xs es
+none_in_week xs es m n never month (OnDay d) h y = true≢false (sym (on_day d xs es h).1 ∙ n)
+none_in_week xs es m n never month (FromStart k w) h y = true≢false (sym (from_start k w xs es h).0 ∙ m)
+none_in_week xs es m n never month (FromEnd k w) h y = true≢false (sym (from_end k w xs es h).0 ∙ m)
+none_in_week xs es m n (inl never) month (InWeek f w) h y =
+    let day : w < 7 = grind (arith, nat_tests) in
+    true≢false (sym (in_week f w xs es h).1 ∙ never w day)
+none_in_week xs es m n (inr never) month (InWeek f w) h y =
+    let low : 1 ≤ f = grind (arith, nat_tests) in
+    let end : f + 6 ≤ days_in_month 1 month = grind (arith, nat_tests) in
+    let high : f ≤ 25 = omega (arith, month_most month) in
+    true≢false (sym (in_week f w xs es h).0 ∙ never f low high)
+
+-- ---- a whole rule
+
+pub record OneDay (rule : RuleText) (r : YearRule) : Type 0 where
+  pub plain : is_plain_yearly rule ≡ true
+  pub month : are_only (λ x. x == r.month) rule.months ≡ true
+  pub days : names_days r.days rule.month_days rule.weekdays ≡ true
+  pub each : is_each_year r.month r.days ≡ true
+
+pub one_day_parts : (rule : RuleText) (r : YearRule) → is_one_day rule r ≡ true → OneDay rule r
+one_day_parts rule r h =
+    let a = and_parts (is_plain_yearly rule && are_only (λ x. x == r.month) rule.months && names_days r.days rule.month_days rule.weekdays) (is_each_year r.month r.days) h in
+    let b = and_parts (is_plain_yearly rule && are_only (λ x. x == r.month) rule.months) (names_days r.days rule.month_days rule.weekdays) a.0 in
+    let c = and_parts (is_plain_yearly rule) (are_only (λ x. x == r.month) rule.months) b.0 in
+    record { plain = c.0; month = c.1; days = b.1; each = a.1 }
+
+-- a rule names at most one month and day
+pub one_named : (rule : RuleText) (month : ℕ) (days : MonthDays) (r : YearRule) → are_only (λ x. x == month) rule.months ≡ true
+    → names_days days rule.month_days rule.weekdays ≡ true → is_one_day rule r ≡ true → (month ≡ r.month) × (days ≡ r.days)
+one_named rule month days r m d h =
+    let o = one_day_parts rule r h in
+    (months_same month r.month rule.months m o.month, one_days r.month rule.month_days rule.weekdays days r.days d o.days o.each)
+
+pub each_of : (rule : RuleText) (month : ℕ) (days : MonthDays) (r : YearRule) → are_only (λ x. x == month) rule.months ≡ true
+    → names_days days rule.month_days rule.weekdays ≡ true → is_one_day rule r ≡ true → is_each_year month days ≡ true
+each_of rule month days r m d h =
+    let o = one_day_parts rule r h in
+    let same = one_named rule month days r m d h in
+    subst (λ (n : ℕ). is_each_year n days ≡ true) (sym same.0) (subst (λ (x : MonthDays). is_each_year r.month x ≡ true) (sym same.1) o.each)
+
+pub none_month : (rule : RuleText) (r : YearRule) → ((month : ℕ) → 1 ≤ month → month ≤ 12 → are_only (λ x. x == month) rule.months ≡ false) → is_one_day rule r ≡ true → ⊥
+none_month rule r never h =
+    let o = one_day_parts rule r h in
+    let range = each_month r.month r.days o.each in
+    true≢false (sym o.month ∙ never r.month range.0 range.1)
+  where
+    each_month : (month : ℕ) (days : MonthDays) → is_each_year month days ≡ true → (1 ≤ month) × (month ≤ 12)
+    each_month month (OnDay d) h = (grind (arith, nat_tests), grind (arith, nat_tests))
+    each_month month (FromStart k w) h = (grind (arith, nat_tests), grind (arith, nat_tests))
+    each_month month (FromEnd k w) h = (grind (arith, nat_tests), grind (arith, nat_tests))
+    each_month month (InWeek f w) h = (grind (arith, nat_tests), grind (arith, nat_tests))
+
+pub names_at : (days : MonthDays) (xs ys : List ℤ) (es fs : List WeekdayNumber) → xs ≡ ys → es ≡ fs → names_days days xs es ≡ true → names_days days ys fs ≡ true
+names_at days xs ys es fs p q h =
+    subst (λ (z : List ℤ). names_days days z fs ≡ true) p (subst (λ (z : List WeekdayNumber). names_days days xs z ≡ true) q h)
+
+pub months_at : (month : ℕ) (xs ys : List ℕ) (b : Bool) → xs ≡ ys → are_only (λ x. x == month) xs ≡ b → are_only (λ x. x == month) ys ≡ b
+months_at month xs ys b p h = subst (λ (z : List ℕ). are_only (λ x. x == month) z ≡ b) p h

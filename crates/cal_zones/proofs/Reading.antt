@@ -1,0 +1,160 @@
+-- What the readers of a VTIMEZONE's parts say, put together.
+use Rattle.std.proofs.Common.{◌≡◌, ◌∙◌, ap, sym, refl, subst, inl, inr, ◌⊎◌, ℕ, zero, suc, ◌+◌, Bool, true, false, List, [], ◌∷◌, length, codes, arith, ℤ, unsigned_abs, ◌-ℤ◌, ◌≤◌}
+use Rattle.std.specs.Prelude.{Option, Some, None, Result, Ok, Err, IfOk, IfErr, Contains}
+use Rattle.std.specs.Result.{IsErrAnd}
+use Rattle.ical_lines.specs.declared.fault.Fault.{Fault}
+use Rattle.ical_lines.specs.declared.fault.Fault.TheVariants.{Refused, Memory}
+use Rattle.ical_lines.specs.declared.fault.Refusal.{Refusal}
+use Rattle.ical_tree.specs.Tree.{component_lines, component_children, tree_of}
+use Rattle.ical_tree.specs.declared.component.Component.{Component}
+use Rattle.profile.specs.Lines.{line_value}
+use Rattle.profile.specs.Zones.{Zone, Constant, Single, Pair, Observance}
+use Rattle.profile.specs.Events.{lines_named, StandsAtMostOnce, SomeLine, Says}
+use Rattle.profile.specs.ZoneTexts.{parts_by, is_part, is_standard, is_daylight, IsLocalLine, SaysTimes, SaysOnce, SaysYearly, TimesFault, PartsSay, PartsFault, OffsetsDiffer, HasForm, SaysZone, ZoneFault, Keeps, Strays, missing, twice, fixed, bad_start, bad_from, bad_to, time_names, constant, single, pair, no_part, in_part, ruled, other_parts, unruled, unmatched, close, IsNoOffsetLine, IsFixedLine, IsNoLocalLine, HasNoYearRule}
+use Rattle.cal_zones.specs.Read as read
+use Rattle.cal_zones.specs.Read.{StandsIn, parts_in, parts_of, standards_of, daylights_of, HasFault, SomeTimesFault, StartFault, IsNotOne, OffsetFault, YearlyFault, SaysSingle, SingleFault, SaysBoth, BothFault, in_times, has_rule, far, in_standard, in_daylight, no_match, no_space}
+use Rattle.cal_zones.specs.Kinds.{zone_of}
+use Rattle.cal_zones.specs.declared.kinds.Zone as kept
+use Rattle.cal_zones.specs.Onsets.{observance_of}
+use Rattle.cal_zones.specs.Made.{IsPairFault, IsSingleFault}
+use Rattle.cal_zones.specs.declared.shape.Observance as rust
+use Rattle.cal_zones.proofs.PartLemmas.{parts_tree}
+
+abbrev Lines : Type 0
+Lines = List (List ℕ)
+
+-- ---- the exits of a `?`, by the error that it returns
+
+pub refused_exit : {T : Type 0} (r : Result T Fault) (P : ℕ → Type 0) (e : Refusal) → IsErrAnd r (λ f. f ≡ Refused e) → P e.number → IfErr r (StandsIn P)
+refused_exit (Ok x) P e h p = tt
+refused_exit (Err f) P e h p = subst (StandsIn P) (sym h) p
+
+pub fault_exit : {T : Type 0} (r : Result T Fault) (P Q : ℕ → Type 0) (e : Fault) → ((n : ℕ) → Q n → P n) → IsErrAnd r (λ f. f ≡ e) → StandsIn Q e → IfErr r (StandsIn P)
+fault_exit (Ok x) P Q e g h p = tt
+fault_exit (Err f) P Q Memory g h p = subst (StandsIn P) (sym h) tt
+fault_exit (Err f) P Q (Refused x) g h p = subst (StandsIn P) (sym h) (g x.number p)
+
+pub refusal_exit : {T : Type 0} (r : Result T Refusal) (P : ℕ → Type 0) (e : Refusal) → IsErrAnd r (λ f. f ≡ e) → P e.number → IfErr r (λ f. P f.number)
+refusal_exit (Ok x) P e h p = tt
+refusal_exit (Err f) P e h p = subst (λ (x : Refusal). P x.number) (sym h) p
+
+pub weaker_ok : {T E : Type 0} (r : Result T E) (P Q : T → Type 0) → ((x : T) → P x → Q x) → IfOk r P → IfOk r Q
+weaker_ok (Ok x) P Q f p = f x p
+weaker_ok (Err e) P Q f p = tt
+
+pub weaker_err : {T E : Type 0} (r : Result T E) (P Q : E → Type 0) → ((e : E) → P e → Q e) → IfErr r P → IfErr r Q
+weaker_err (Ok x) P Q f p = tt
+weaker_err (Err e) P Q f p = f e p
+
+pub weaker_fault : {T : Type 0} (r : Result T Fault) (P Q : ℕ → Type 0) → ((n : ℕ) → P n → Q n) → IfErr r (StandsIn P) → IfErr r (StandsIn Q)
+weaker_fault (Ok x) P Q f p = tt
+weaker_fault (Err Memory) P Q f p = tt
+weaker_fault (Err (Refused e)) P Q f p = f e.number p
+
+-- what two clauses say of an error
+pub err_both : {T E : Type 0} (r : Result T E) (P Q R : E → Type 0) → ((e : E) → P e → Q e → R e) → IfErr r P → IfErr r Q → IfErr r R
+err_both (Ok x) P Q R f p q = tt
+err_both (Err e) P Q R f p q = f e p q
+
+-- ---- lines
+
+pub the_line : (name : List ℕ) (lines : Lines) (line : List ℕ) → StandsAtMostOnce name lines (Some line) → Contains (lines_named name lines) line
+the_line name lines line e = subst (λ (ls : Lines). Contains ls line) (sym e) (zero, omega arith, refl)
+
+pub said : {V : Type 0} (R : List ℕ → V → Type 0) (name : List ℕ) (lines : Lines) (line : List ℕ) (v : V) → StandsAtMostOnce name lines (Some line) → R line v → Says name true R lines (Some v)
+said R name lines line v once is = record { line = Some line; once = once; stands = λ _. refl; is = is }
+
+-- ---- faults of times
+
+pub not_one : (name : List ℕ) (lines : Lines) → Contains time_names name → IsNotOne name lines → TimesFault lines 40
+not_one name lines c (inl h) = missing name c h
+not_one name lines c (inr h) = twice name c h
+
+pub start_fault : (lines : Lines) (line : List ℕ) (n : ℕ) → Contains (lines_named (codes "DTSTART") lines) line → StartFault line n → TimesFault lines n
+start_fault lines line n c (inl (e, h)) = subst (TimesFault lines) (sym e) (fixed (line, c, h))
+start_fault lines line n c (inr (e, h)) = subst (TimesFault lines) (sym e) (bad_start (line, c, h))
+
+pub from_fault : (lines : Lines) (n : ℕ) → OffsetFault (codes "TZOFFSETFROM") lines n → TimesFault lines n
+from_fault lines n (inl (e, h)) = subst (TimesFault lines) (sym e) (not_one (codes "TZOFFSETFROM") lines (1, omega arith, refl) h)
+from_fault lines n (inr (e, h)) = subst (TimesFault lines) (sym e) (bad_from h)
+
+pub to_fault : (lines : Lines) (n : ℕ) → OffsetFault (codes "TZOFFSETTO") lines n → TimesFault lines n
+to_fault lines n (inl (e, h)) = subst (TimesFault lines) (sym e) (not_one (codes "TZOFFSETTO") lines (2, omega arith, refl) h)
+to_fault lines n (inr (e, h)) = subst (TimesFault lines) (sym e) (bad_to h)
+
+-- the same times with another rule
+pub same_times : (lines : Lines) (a b : Observance) → a.day ≡ b.day → a.second ≡ b.second → a.offset_from ≡ b.offset_from → a.offset_to ≡ b.offset_to → SaysTimes lines a → SaysTimes lines b
+same_times lines a b d s f t h = record {
+  start = rw (sym d, sym s) h.start;
+  second = rw (sym s) h.second;
+  from = rw (sym f) h.from;
+  to = rw (sym t) h.to;
+  no_dates = h.no_dates;
+}
+
+pub no_rule_there : (lines : Lines) → IsNotOne (codes "RRULE") lines → HasNoYearRule lines
+no_rule_there lines (inl h) = inl h
+no_rule_there lines (inr h) = inr (inl h)
+
+-- a pair that is refused
+pub both_refused : (p q : Lines) (a b : rust.Observance) (n : ℕ) → SaysYearly p (observance_of a) → SaysYearly q (observance_of b) → (a.rule ≡ None → ⊥) → (b.rule ≡ None → ⊥)
+    → IsPairFault n a b → BothFault p q n
+both_refused p q a b n s t f g (inl (e, inl h)) = absurd (f h)
+both_refused p q a b n s t f g (inl (e, inr h)) = absurd (g h)
+both_refused p q a b n s t f g (inr (inl (e, h))) = subst (BothFault p q) (sym e) (no_match (observance_of a) (observance_of b) s t h)
+both_refused p q a b n s t f g (inr (inr (e, h))) = subst (BothFault p q) (sym e) (no_space (observance_of a) (observance_of b) s t h)
+
+-- a single part that is refused
+pub single_refused : (lines : Lines) (a : rust.Observance) (n : ℕ) → SaysOnce lines (observance_of a) → a.rule ≡ None → IsSingleFault n a → SingleFault lines n
+single_refused lines a n s none (inl (e, h)) = absurd (h none)
+single_refused lines a n s none (inr (e, h)) = subst (SingleFault lines) (sym e) (far (observance_of a) s (λ near. absurd (omega arith)))
+
+pub single_said : (r : Result kept.Zone Refusal) (lines : Lines) (a : rust.Observance) → SaysOnce lines (observance_of a) → IfOk r (λ z. zone_of z ≡ Single (observance_of a))
+    → IfOk r (λ _. (a.rule ≡ None) × (unsigned_abs (a.offset_from -ℤ a.offset_to) ≤ 43_200)) → IfOk r (λ z. SaysSingle lines (zone_of z))
+single_said (Ok z) lines a s is h = (observance_of a, is, s, h.1)
+single_said (Err e) lines a s is h = tt
+
+-- ---- the zone
+
+module _ (parts standards daylights : List Lines) where
+  pub single_says : (part : Lines) (zone : Zone) → OffsetsDiffer parts → parts ≡ part ∷ [] → SaysSingle part zone → PartsSay parts standards daylights zone
+  single_says part zone differ one (a, is, says, near) =
+      subst (PartsSay parts standards daylights) (sym is) (record { form = single part a differ one says; matched = near; spaced = tt })
+
+  pub single_fault : (part : Lines) (n : ℕ) → OffsetsDiffer parts → parts ≡ part ∷ [] → SingleFault part n → PartsFault parts standards daylights n
+  single_fault part n differ one (in_times h) = in_part part (subst (λ (l : List Lines). Contains l part) (sym one) (zero, omega arith, refl)) h
+  single_fault part n differ one (has_rule h) = ruled part differ one h
+  single_fault part n differ one (far a says h) = unmatched (Single a) (single part a differ one says) h
+
+  pub some_times_fault : (n : ℕ) → SomeTimesFault parts n → PartsFault parts standards daylights n
+  some_times_fault n (part, there, fault) = in_part part there fault
+
+  pub both_say : (p q : Lines) (zone : Zone) → OffsetsDiffer parts → standards ≡ p ∷ [] → daylights ≡ q ∷ [] → SaysBoth p q zone → PartsSay parts standards daylights zone
+  both_say p q zone differ one other (a, b, is, first, second, matched, spaced) =
+      subst (PartsSay parts standards daylights) (sym is) (record { form = pair p q a b differ one other first second; matched = matched; spaced = spaced })
+
+  pub both_fault : (p q : Lines) (n : ℕ) → OffsetsDiffer parts → standards ≡ p ∷ [] → daylights ≡ q ∷ [] → Contains parts p → Contains parts q → BothFault p q n → PartsFault parts standards daylights n
+  both_fault p q n differ one other pc qc (in_standard (inl h)) = in_part p pc h
+  both_fault p q n differ one other pc qc (in_standard (inr (e, h))) = subst (PartsFault parts standards daylights) (sym e) (unruled p q differ one other (inl h))
+  both_fault p q n differ one other pc qc (in_daylight (inl h)) = in_part q qc h
+  both_fault p q n differ one other pc qc (in_daylight (inr (e, h))) = subst (PartsFault parts standards daylights) (sym e) (unruled p q differ one other (inr h))
+  both_fault p q n differ one other pc qc (no_match a b s t h) = unmatched (Pair a b) (pair p q a b differ one other s t) h
+  both_fault p q n differ one other pc qc (no_space a b s t h) = close (Pair a b) (pair p q a b differ one other s t) h
+
+-- ---- as trees
+
+same_say : (a b c x y z : List Lines) (zone : Zone) → a ≡ x → b ≡ y → c ≡ z → PartsSay x y z zone → PartsSay a b c zone
+same_say a b c x y z zone e f g h = rw (e, f, g) h
+
+same_fault : (a b c x y z : List Lines) (n : ℕ) → a ≡ x → b ≡ y → c ≡ z → PartsFault x y z n → PartsFault a b c n
+same_fault a b c x y z n e f g h = rw (e, f, g) h
+
+pub says_there : (c : Component) (zone : Zone) → read.Says c zone → SaysZone (tree_of c) zone
+says_there c zone h =
+    same_say (parts_by is_part (tree_of c)) (parts_by is_standard (tree_of c)) (parts_by is_daylight (tree_of c)) (parts_of c) (standards_of c) (daylights_of c) zone
+    (parts_tree is_part c) (parts_tree is_standard c) (parts_tree is_daylight c) h
+
+pub fault_there : (c : Component) (n : ℕ) → HasFault c n → ZoneFault (tree_of c) n
+fault_there c n h =
+    same_fault (parts_by is_part (tree_of c)) (parts_by is_standard (tree_of c)) (parts_by is_daylight (tree_of c)) (parts_of c) (standards_of c) (daylights_of c) n
+    (parts_tree is_part c) (parts_tree is_standard c) (parts_tree is_daylight c) h

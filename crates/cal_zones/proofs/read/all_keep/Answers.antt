@@ -1,0 +1,56 @@
+use Rattle.std.proofs.Common.{◌≡◌, ◌+◌, ◌<◌, ◌≤◌, ℕ, ℤ, List, length, get_or, drop, sym, subst, ap, arith, to_z, of_z, w32, to_z-of_z}
+use Rattle.std.specs.Prelude.{Contains}
+use Rattle.ical_tree.specs.Tree.{component_lines, component_children}
+use Rattle.ical_tree.specs.declared.component.Component.{Component}
+use Rattle.profile.specs.ZoneTexts.{is_part, Keeps, Strays}
+use Rattle.cal_zones.specs.Read.{SomeTimesFault, parts_in, parts_of}
+use Rattle.cal_zones.proofs.PartLemmas.{is_among, drop_other, drop_part, one_more, all_left, none_left}
+use Rattle.cal_zones.proofs.Reading.{refusal_exit}
+use Rattle.cal_zones.proofs.read.all_keep.Goals as goal
+use Rattle.cal_zones.proofs.read.all_keep.Goals.{then-is_part+in_ok-keeps+else-not-branch, else-is_part}
+
+pub returns-in_err-keeps-clause-stands : goal.returns-in_err-keeps-clause-stands
+returns-in_err-keeps-clause-stands c =
+    let all = component_children c.args.zone.now in
+    let i = c.loop-child.child-index in
+    let x = c.child-item.result in
+    let same = c.children-child-items.ensures in
+    let within = subst (λ (l : List Component). i < length l) same c.loop-child-test.true in
+    let here = subst (λ (l : List Component). x ≡ get_or l i x) same c.child-item.is in
+    refusal_exit _ (SomeTimesFault (parts_of c.args.zone.now)) _ c.from_residual.ensures.1
+    (component_lines x, is_among is_part all i x within here (sym c.if-is_part.ensures), c.in_err-keeps.ensures.stands)
+
+pub returns-then-not-branch-clause-no : goal.returns-then-not-branch-clause-no
+returns-then-not-branch-clause-no c h =
+    let all = component_children c.args.zone.now in
+    let i = c.loop-child.child-index in
+    let x = c.child-item.result in
+    let same = c.children-child-items.ensures in
+    let within = subst (λ (l : List Component). i < length l) same c.loop-child-test.true in
+    let here = subst (λ (l : List Component). x ≡ get_or l i x) same c.child-item.is in
+    let strays = subst (λ (z : ℤ). Strays z (component_lines x)) (to_z-of_z c.ranges.offset) (c.in_ok-keeps.ensures.no c.if-not-branch.true) in
+    (component_lines x, is_among is_part all i x within here (sym c.if-is_part.ensures), strays)
+
+pub loop-child-preserved : goal.loop-child-preserved
+loop-child-preserved c later =
+    let all = component_children c.args.zone.now in
+    let i = c.loop-child.child-index in
+    let x = c.child-item.result in
+    let same = c.children-child-items.ensures in
+    let within = subst (λ (l : List Component). i < length l) same c.loop-child-test.true in
+    let here = subst (λ (l : List Component). x ≡ get_or l i x) same c.child-item.is in
+    let k : ℤ = to_z w32 (of_z w32 c.args.offset) in
+    elim c.if-is_part.branch [
+      | then-is_part+in_ok-keeps+else-not-branch w ↦
+          c.loop-child.invariant (all_left (Keeps k) (component_lines x) _ _ (drop_part is_part all i x within here (sym w.if-is_part.ensures)) (w.in_ok-keeps.ensures.yes w.if-not-branch.false) later)
+      | else-is_part w ↦
+          c.loop-child.invariant (subst (λ (l : List (List (List ℕ))). (part : List (List ℕ)) → Contains l part → Keeps k part) (sym (drop_other is_part all i x within here (sym w.if-is_part.ensures))) later)
+    ]
+
+pub returns-clause-yes : goal.returns-clause-yes
+returns-clause-yes c h =
+    let all = component_children c.args.zone.now in
+    let same = c.children-child-items.ensures in
+    let done = subst (λ (l : List Component). length l ≤ c.loop-child.child-index) same c.loop-child-test.false in
+    subst (λ (z : ℤ). (part : List (List ℕ)) → Contains (parts_of c.args.zone.now) part → Keeps z part) (to_z-of_z c.ranges.offset)
+    (c.loop-child.invariant (λ part there. absurd (none_left is_part all c.loop-child.child-index part done there)))

@@ -1,0 +1,30 @@
+use Rattle.std.proofs.Common.{◌≡◌, ap, sym, inl, inr}
+use Rattle.ical_tree.specs.Tree.{component_lines}
+use Rattle.profile.specs.ZoneTexts.{SaysTimes, TimesFault, HasNoYearRule}
+use Rattle.cal_zones.specs.Shapes.{rule_named}
+use Rattle.cal_zones.specs.Onsets.{observance_of, rule_of}
+use Rattle.cal_zones.specs.Read.{YearlyFault}
+use Rattle.cal_zones.proofs.Reading.{refused_exit, fault_exit, same_times}
+use Rattle.cal_zones.proofs.read.read_yearly.Goals as goal
+
+pub returns-in_err-times-clause-stands : goal.returns-in_err-times-clause-stands
+returns-in_err-times-clause-stands c =
+    refused_exit _ (YearlyFault (component_lines c.args.part.now)) _ c.from_residual.ensures.1 (inl c.in_err-times.ensures.stands)
+
+pub returns-in_err-rule-clause-stands : goal.returns-in_err-rule-clause-stands
+returns-in_err-rule-clause-stands c =
+    let lines = component_lines c.args.part.now in
+    fault_exit _ (YearlyFault lines) (λ n. (n ≡ 40) × HasNoYearRule lines) _ (λ n h. inr h) c.from_residual-in_err-rule.ensures.1 c.in_err-rule.ensures.stands
+
+pub returns-clause-says : goal.returns-clause-says
+returns-clause-says c =
+    let lines = component_lines c.args.part.now in
+    let new = c.with_rule.result in
+    let e = c.with_rule.ensures in
+    let rule = c.in_ok-rule.rule in
+    record {
+      times = same_times lines (observance_of c.in_ok-times.times) (observance_of new) (sym e.day) (sym e.second) (sym e.from) (sym e.to) c.in_ok-times.ensures.says;
+      each = rule_named rule.month rule.days;
+      rule = c.in_ok-rule.ensures.says;
+      is = ap (rule_of new.day) e.rule;
+    }

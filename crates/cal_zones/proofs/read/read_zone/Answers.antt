@@ -1,0 +1,50 @@
+use Rattle.std.proofs.Common.{◌≡◌, sym, subst, true, ℤ, to_z, of_z, w32}
+use Rattle.ical_tree.specs.Tree.{component_lines}
+use Rattle.profile.specs.Zones.{Zone}
+use Rattle.profile.specs.ZoneTexts.{PartsSay, Keeps, Strays, no_part, in_part, constant}
+use Rattle.cal_zones.specs.Onsets.{observance_of}
+use Rattle.cal_zones.specs.Read.{HasFault, parts_of, standards_of, daylights_of}
+use Rattle.cal_zones.proofs.Casts.{narrow}
+use Rattle.cal_zones.proofs.Reading.{refused_exit, some_times_fault}
+use Rattle.cal_zones.proofs.read.read_zone.Goals as goal
+
+pub returns-in_default-clause-stands : goal.returns-in_default-clause-stands
+returns-in_default-clause-stands c = no_part c.in_default.ensures.none
+
+pub returns-in_err-first-clause-stands : goal.returns-in_err-first-clause-stands
+returns-in_err-first-clause-stands c =
+    refused_exit _ (HasFault c.args.zone.now) _ c.from_residual.ensures.1 (in_part (component_lines c.in-Some.part.now) c.in-Some.ensures.found c.in_err-first.ensures.stands)
+
+pub returns-in_err-all_keep-clause-stands : goal.returns-in_err-all_keep-clause-stands
+returns-in_err-all_keep-clause-stands c =
+    let zone = c.args.zone.now in
+    refused_exit _ (HasFault zone) _ c.from_residual-in_err-all_keep.ensures.1
+    (some_times_fault (parts_of zone) (standards_of zone) (daylights_of zone) _ c.in_err-all_keep.ensures.stands)
+
+pub returns-then-branch-clause-says : goal.returns-then-branch-clause-says
+returns-then-branch-clause-says c =
+    let zone = c.args.zone.now in
+    let first = c.in_ok-first.first in
+    let same : to_z w32 (of_z w32 first.offset_from) ≡ first.offset_from = narrow first.offset_from first.from in
+    let keeps = c.in_ok-all_keep.ensures.yes c.if-branch.true in
+    subst (λ (z : Zone). PartsSay (parts_of zone) (standards_of zone) (daylights_of zone) z) (sym c.keeping.ensures)
+    (record {
+      form = constant first.offset_from (component_lines c.in-Some.part.now) c.in-Some.ensures.found (λ other there. subst (λ (z : ℤ). Keeps z other) same (keeps other there));
+      matched = tt;
+      spaced = tt;
+    })
+
+pub read_changing-requires : goal.read_changing-requires
+read_changing-requires c =
+    let first = c.in_ok-first.first in
+    let same : to_z w32 (of_z w32 first.offset_from) ≡ first.offset_from = narrow first.offset_from first.from in
+    let other = c.in_ok-all_keep.ensures.no c.if-branch.false in
+    record {
+      one = component_lines c.in-Some.part.now;
+      other = other.0;
+      o = observance_of first;
+      one_in = c.in-Some.ensures.found;
+      other_in = other.1;
+      says = c.in_ok-first.ensures.says;
+      strays = subst (λ (z : ℤ). Strays z other.0) same other.2;
+    }

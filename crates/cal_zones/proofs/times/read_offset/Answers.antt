@@ -1,0 +1,35 @@
+use Rattle.std.proofs.Common.{◌≡◌, sym, subst, inl, inr, refl, ℤ, List, ℕ}
+use Rattle.std.specs.Prelude.{Some, true}
+use Rattle.ical_lines.specs.Text.{line_text}
+use Rattle.ical_lines.specs.declared.fault.Refusal.{Refusal}
+use Rattle.ical_tree.specs.Tree.{component_lines}
+use Rattle.profile.specs.Values.{SpellsOffset}
+use Rattle.profile.specs.Lines.{line_value}
+use Rattle.profile.specs.Events.{Says}
+use Rattle.profile.specs.ZoneTexts.{IsOffsetLine}
+use Rattle.cal_zones.specs.Read.{OffsetFault}
+use Rattle.cal_zones.proofs.Reading.{refusal_exit, weaker_ok, err_both, the_line, said}
+use Rattle.cal_zones.proofs.times.read_offset.Goals as goal
+
+pub returns-in_err-line-clause-stands : goal.returns-in_err-line-clause-stands
+returns-in_err-line-clause-stands c =
+    refusal_exit _ (OffsetFault c.args.name.now (component_lines c.args.part.now)) _ c.from_residual.ensures.1
+    (inl (c.in_err-line.ensures.refuses, c.in_err-line.ensures.faulty))
+
+pub returns-clause-says : goal.returns-clause-says
+returns-clause-says c =
+    let lines = component_lines c.args.part.now in
+    let line = line_text c.in_ok-line.line in
+    let name = c.args.name.now in
+    weaker_ok _ (SpellsOffset c.value.result.now) (λ t. Says name true IsOffsetLine lines (Some t))
+    (λ t h. said IsOffsetLine name lines line t c.in_ok-line.ensures.found (subst (λ (s : List ℕ). SpellsOffset s t) c.value.ensures h)) c.read.ensures.reads
+
+pub returns-clause-stands : goal.returns-clause-stands
+returns-clause-stands c =
+    let lines = component_lines c.args.part.now in
+    let line = line_text c.in_ok-line.line in
+    let name = c.args.name.now in
+    let No : Refusal → Type 0 = λ _. (offset : ℤ) → SpellsOffset c.value.result.now offset → ⊥ in
+    err_both _ (λ e. e.number ≡ 13) No (λ e. OffsetFault name lines e.number)
+    (λ e n no. inr (n, (line, the_line name lines line c.in_ok-line.ensures.found, λ t h. no t (subst (λ (s : List ℕ). SpellsOffset s t) (sym c.value.ensures) h))))
+    c.read.ensures.refuses c.read.ensures.none

@@ -1,0 +1,210 @@
+//! Reading a VTIMEZONE (RFC 5545 3.6.5). Read are: parts that all say one offset; one part without a rule;
+//! one STANDARD and one DAYLIGHT that each name one day of the year.
+
+ghost use Rattle.std.specs.Prelude.{◌≡◌, ◌⊎◌, ℕ, List, true, false, length, codes, Contains, None, Some, IfOk, IfErr};
+ghost use Rattle.ical_tree.specs.Tree.{component_lines, tree_of};
+ghost use Rattle.profile.specs.Trees.{Tree};
+ghost use Rattle.profile.specs.Zones as zones;
+ghost use Rattle.profile.specs.Zones.{Constant};
+ghost use Rattle.profile.specs.Events as lines;
+ghost use Rattle.profile.specs.Events.{IsMissing};
+ghost use Rattle.profile.specs.ZoneTexts.{SaysZone, ZoneFault, SaysYearly, SpellsYear, SpellsNoYear, IsYearLine, HasNoYearRule, OffsetsDiffer, Keeps, Strays, TimesFault};
+ghost use Rattle.cal_zones.specs.Shapes.{rule_named};
+ghost use Rattle.cal_zones.specs.Onsets.{observance_of};
+ghost use Rattle.cal_zones.specs.Kinds.{zone_of};
+ghost use Rattle.cal_zones.specs.Read.{StandsIn, Says, HasFault, parts_of, SomeTimesFault, YearlyFault, SaysSingle, SingleFault, SaysBoth, BothFault, IsShapeFault};
+
+use crate::kinds::{Fixed, Kind, Zone};
+use crate::make::SHAPE;
+use crate::one_day::day_of_year;
+use crate::parts::{first_part, is_part, only_named, only_part};
+use crate::shape::{Observance, Yearly};
+use crate::times::{has_line, read_times, the_line};
+use cal_rules::{RuleText, one_rule};
+use ical_lines::{Fault, Refusal};
+use ical_tree::Component;
+use ical_values::local_time::one_local_time;
+use ical_values::offset::one_offset;
+use std::alloc::Global;
+
+impl Zone {
+    /// The zone that a VTIMEZONE says.
+    /// Refused: 40 for a shape that isn't read, as no part, RDATE, a DTSTART, TZOFFSETFROM or TZOFFSETTO that
+    /// is missing, stands twice or isn't local, or other rules; 11 and 13 for a DTSTART and an offset that are
+    /// none; 41 for offsets that don't match or lie over 12 hours apart; 42 for onsets less than two days
+    /// apart.
+    pub fn read(alloc: Global, zone: &Component) -> Result<Zone, Fault>
+        ensures says { IfOk result (λ z. SaysZone (tree_of zone.now) (zone_of z)) }
+        ensures stands { IfErr result (StandsIn (ZoneFault (tree_of zone.now))) }
+    {
+        read_zone(alloc, zone)
+    }
+
+    /// The zone of the one offset that an observance sets.
+    fn keeping(observance: Observance) -> Zone
+        ensures { zone_of result ≡ Constant observance.offset_from }
+    {
+        Zone {
+            kind: Kind::Constant(Fixed {
+                offset: observance.offset_from,
+            }),
+        }
+    }
+}
+
+/// A VTIMEZONE says at most one zone, and none where a fault stands in it. With the contract of `Zone::read`:
+/// what is read is the one zone that it says, and what is refused says none.
+pub fn one_zone()
+    ensures one { (t : Tree) (a b : zones.Zone) → SaysZone t a → SaysZone t b → a ≡ b }
+    ensures or_a_fault { (t : Tree) (a : zones.Zone) (n : ℕ) → SaysZone t a → ZoneFault t n → ⊥ }
+{
+    one_rule();
+    one_local_time();
+    one_offset();
+}
+
+fn read_zone(alloc: Global, zone: &Component) -> Result<Zone, Fault>
+    ensures says { IfOk result (λ z. Says zone.now (zone_of z)) }
+    ensures stands { IfErr result (StandsIn (HasFault zone.now)) }
+{
+    let Some(part) = first_part(zone) else {
+        return Err(Fault::Refused(SHAPE));
+    };
+    let first = read_times(part)?;
+    if all_keep(zone, first.offset_from)? {
+        return Ok(Zone::keeping(first));
+    }
+    read_changing(alloc, zone)
+}
+
+/// Are both these its offsets?
+fn has_offset(observance: &Observance, offset: i32) -> bool
+    ensures yes { result ≡ true → (observance.now.offset_from ≡ offset) × (observance.now.offset_to ≡ offset) }
+    ensures no { result ≡ false → (observance.now.offset_from ≡ offset) × (observance.now.offset_to ≡ offset) → ⊥ }
+{
+    if observance.offset_from != offset {
+        return false;
+    }
+    observance.offset_to == offset
+}
+
+/// Does a part say that offset alone? Refused where its times are wrong.
+fn keeps(part: &Component, offset: i32) -> Result<bool, Refusal>
+    ensures yes { IfOk result (λ b. b ≡ true → Keeps offset (component_lines part.now)) }
+    ensures no { IfOk result (λ b. b ≡ false → Strays offset (component_lines part.now)) }
+    ensures stands { IfErr result (λ e. TimesFault (component_lines part.now) e.number) }
+{
+    let times = read_times(part)?;
+    Ok(has_offset(&times, offset))
+}
+
+/// Do all parts say that offset alone? Refused where the times of one are wrong.
+fn all_keep(zone: &Component, offset: i32) -> Result<bool, Refusal>
+    ensures yes { IfOk result (λ b. b ≡ true → (part : List (List ℕ)) → Contains (parts_of zone.now) part → Keeps offset part) }
+    ensures no { IfOk result (λ b. b ≡ false → (part : List (List ℕ)) × Contains (parts_of zone.now) part × Strays offset part) }
+    ensures stands { IfErr result (λ e. SomeTimesFault (parts_of zone.now) e.number) }
+{
+    for child in zone.children() {
+        if is_part(child) {
+            if !keeps(child, offset)? {
+                return Ok(false);
+            }
+        }
+    }
+    Ok(true)
+}
+
+/// A zone whose offsets differ.
+fn read_changing(alloc: Global, zone: &Component) -> Result<Zone, Fault>
+    requires { OffsetsDiffer (parts_of zone.now) }
+    ensures says { IfOk result (λ z. Says zone.now (zone_of z)) }
+    ensures stands { IfErr result (StandsIn (HasFault zone.now)) }
+{
+    match only_part(zone) {
+        Some(part) => Ok(read_single(part)?),
+        None => read_pair(alloc, zone),
+    }
+}
+
+/// The zone of one part. Refused with 40 where it has a rule, with 41 where its offsets lie over 12 hours
+/// apart, and where its times are wrong.
+fn read_single(part: &Component) -> Result<Zone, Refusal>
+    ensures says { IfOk result (λ z. SaysSingle (component_lines part.now) (zone_of z)) }
+    ensures stands { IfErr result (λ e. SingleFault (component_lines part.now) e.number) }
+{
+    let observance = read_times(part)?;
+    if has_line(part, "RRULE") {
+        return Err(SHAPE);
+    }
+    Zone::single(observance)
+}
+
+/// The zone of one STANDARD and one DAYLIGHT.
+fn read_pair(alloc: Global, zone: &Component) -> Result<Zone, Fault>
+    requires differ { OffsetsDiffer (parts_of zone.now) }
+    requires several { length (parts_of zone.now) ≡ 1 → ⊥ }
+    ensures says { IfOk result (λ z. Says zone.now (zone_of z)) }
+    ensures stands { IfErr result (StandsIn (HasFault zone.now)) }
+{
+    let Some(standard) = only_named(zone, "STANDARD") else {
+        return Err(Fault::Refused(SHAPE));
+    };
+    let Some(daylight) = only_named(zone, "DAYLIGHT") else {
+        return Err(Fault::Refused(SHAPE));
+    };
+    read_both(alloc, standard, daylight)
+}
+
+fn read_both(alloc: Global, standard: &Component, daylight: &Component) -> Result<Zone, Fault>
+    ensures says { IfOk result (λ z. SaysBoth (component_lines standard.now) (component_lines daylight.now) (zone_of z)) }
+    ensures stands { IfErr result (StandsIn (BothFault (component_lines standard.now) (component_lines daylight.now))) }
+{
+    let first = read_yearly(alloc, standard)?;
+    let second = read_yearly(alloc, daylight)?;
+    Ok(Zone::pair(first, second)?)
+}
+
+/// A part that begins on one day every year.
+fn read_yearly(alloc: Global, part: &Component) -> Result<Observance, Fault>
+    ensures says { IfOk result (λ o. SaysYearly (component_lines part.now) (observance_of o)) }
+    ensures has_rule { IfOk result (λ o. o.rule ≡ None → ⊥) }
+    ensures stands { IfErr result (StandsIn (YearlyFault (component_lines part.now))) }
+{
+    let times = read_times(part)?;
+    let rule = read_rule(alloc, part)?;
+    Ok(times.with_rule(rule))
+}
+
+/// The rule of a part. Refused with 40 where RRULE is missing, stands twice or names no one day of the year.
+fn read_rule(alloc: Global, part: &Component) -> Result<Yearly, Fault>
+    ensures says { IfOk result (λ r. lines.Says (codes "RRULE") true IsYearLine (component_lines part.now) (Some (rule_named r.month r.days))) }
+    ensures stands { IfErr result (StandsIn (λ n. (n ≡ 40) × HasNoYearRule (component_lines part.now))) }
+{
+    let line = the_line(part, "RRULE")?;
+    read_year(alloc, line.value())
+}
+
+/// The one day of the year that the text of a rule names. Refused with 40 where it names none.
+fn read_year(alloc: Global, text: &str) -> Result<Yearly, Fault>
+    ensures says { IfOk result (λ r. SpellsYear text.now (rule_named r.month r.days)) }
+    ensures stands { IfErr result (StandsIn (λ n. (n ≡ 40) × SpellsNoYear text.now)) }
+{
+    let rule = match RuleText::read(alloc, text) {
+        Ok(rule) => rule,
+        Err(fault) => return Err(shape_fault(fault)),
+    };
+    match day_of_year(&rule) {
+        Some(day) => Ok(day),
+        None => Err(Fault::Refused(SHAPE)),
+    }
+}
+
+/// What is wrong with a rule is a shape that isn't read.
+fn shape_fault(fault: Fault) -> Fault
+    ensures { IsShapeFault fault result }
+{
+    match fault {
+        Fault::Memory => Fault::Memory,
+        Fault::Refused(_) => Fault::Refused(SHAPE),
+    }
+}
