@@ -1,19 +1,19 @@
 -- A VTIMEZONE says at most one zone, and none where a fault stands in it.
-use Rattle.std.proofs.Common.{◌≡◌, ◌∙◌, ap, sym, refl, subst, inl, inr, ◌⊎◌, ℕ, zero, suc, ◌+◌, ◌*◌, ◌<◌, ◌≤◌, Bool, true, false, cond, ◌&&◌, List, [], ◌∷◌, ◌++◌, ◌||◌, ◌%◌, length, map, filter, codes, arith, ℤ, pos, unsigned_abs, ◌-ℤ◌}
+use Rattle.std.proofs.Common.{◌≡◌, ◌∙◌, ap, sym, refl, subst, inl, inr, ◌⊎◌, ℕ, zero, suc, ◌+◌, ◌<◌, Bool, true, false, cond, List, [], ◌∷◌, ◌++◌, ◌||◌, ◌%◌, length, map, filter, codes, arith, ℤ}
 use Rattle.std.specs.Prelude.{Option, Some, None, Contains, slice_index}
 use Rattle.std.specs.Str.{str_to_ascii_lowercase}
 use Rattle.std.proofs.lemmas.Slice.Eq.{bytes_eq-Decides}
 use Rattle.std.specs.Option.{option_to_list}
 use Rattle.std.proofs.lemmas.Bool.{true≢false, eqb-true}
 use Rattle.jiff_core.proofs.SignedLemmas.{signed_arith}
-use Rattle.profile.specs.Lines.{line_value, line_param, is_same_name}
+use Rattle.profile.specs.Lines.{line_value, is_same_name}
 use Rattle.profile.specs.Trees.{Tree, tree_name, tree_own, tree_inside}
 use Rattle.profile.specs.Values.{SpellsLocal, SpellsOffset, two_digits, four_digits}
-use Rattle.profile.specs.Rules.{RuleText, Pattern}
+use Rattle.profile.specs.Rules.{RuleText}
 use Rattle.profile.specs.RuleTexts.{SpellsRule, RuleFault}
-use Rattle.profile.specs.Events.{lines_named, StandsAtMostOnce, StandsTwice, IsMissing, SomeLine, BothOrNeither, Says, ends_in_z}
+use Rattle.profile.specs.Events.{lines_named, StandsAtMostOnce, StandsTwice, IsMissing, BothOrNeither, Says, ends_in_z}
 use Rattle.profile.specs.Zones.{Zone, Constant, Single, Pair, Observance, local_time}
-use Rattle.profile.specs.ZoneTexts.{parts_by, is_part, is_standard, is_daylight, IsLocalLine, IsOffsetLine, SaysTimes, SaysOnce, SaysYearly, SpellsYear, SpellsNoYear, IsYearLine, YearRule, MonthDays, HasNoYearRule, TimesFault, PartsSay, PartsFault, OffsetsDiffer, HasForm, SaysZone, ZoneFault, Keeps, Strays, AreMatched, AreSpaced, AreClose, year_pattern, is_one_day, IsFixedLine, IsNoLocalLine, IsNoOffsetLine, time_names, dates, missing, twice, fixed, bad_start, bad_from, bad_to, constant, single, pair, no_part, in_part, ruled, other_parts, unruled, unmatched, close}
+use Rattle.profile.specs.ZoneTexts.{parts_by, is_part, is_standard, is_daylight, IsLocalLine, IsOffsetLine, SaysTimes, SaysOnce, SaysYearly, IsYearLine, YearRule, HasNoYearRule, TimesFault, PartsSay, PartsFault, OffsetsDiffer, HasForm, SaysZone, ZoneFault, Keeps, AreMatched, AreSpaced, AreClose, year_pattern, is_one_day, time_names, dates, missing, twice, fixed, bad_start, bad_from, bad_to, constant, single, pair, no_part, in_part, ruled, other_parts, unruled, unmatched, close}
 use Rattle.cal_zones.proofs.Named.{one_named, one_day_parts}
 
 abbrev Lines : Type 0

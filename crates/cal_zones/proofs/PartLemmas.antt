@@ -4,12 +4,12 @@ use denote.Ref.{Bor}
 use Rattle.std.specs.Prelude.{Option, Some, None, IfSome, IfNone, option_map, Contains, count_by, find}
 use Rattle.std.proofs.lemmas.Bool.{true≢false, or_left, or_right}
 use Rattle.std.proofs.lemmas.List.{map-append, take-append-drop, length-map, drop_all}
-use Rattle.std.proofs.lemmas.List.Elements.{Contains-append_right, filter_more, filter-append}
+use Rattle.std.proofs.lemmas.List.Elements.{Contains-append_right, filter-append}
 use Rattle.std.proofs.lemmas.List.Sums.{length-filter}
 use Rattle.ical_tree.specs.Tree.{component_name, component_lines, component_children, tree_of}
 use Rattle.ical_tree.proofs.TreeOfLemmas.{tree_of-name, tree_of-own, tree_of-inside}
 use Rattle.ical_tree.specs.declared.component.Component.{Component}
-use Rattle.profile.specs.Trees.{Tree, tree_name, tree_own, tree_inside}
+use Rattle.profile.specs.Trees.{Tree, tree_name, tree_own}
 use Rattle.profile.specs.ZoneTexts.{parts_by, is_part, is_standard, is_daylight}
 use Rattle.cal_zones.specs.Read.{parts_in}
 

@@ -1,16 +1,15 @@
 -- What the readers of a VTIMEZONE's parts say, put together.
-use Rattle.std.proofs.Common.{◌≡◌, ◌∙◌, ap, sym, refl, subst, inl, inr, ◌⊎◌, ℕ, zero, suc, ◌+◌, Bool, true, false, List, [], ◌∷◌, length, codes, arith, ℤ, unsigned_abs, ◌-ℤ◌, ◌≤◌}
-use Rattle.std.specs.Prelude.{Option, Some, None, Result, Ok, Err, IfOk, IfErr, Contains}
+use Rattle.std.proofs.Common.{◌≡◌, sym, refl, subst, inl, inr, ℕ, zero, true, List, [], ◌∷◌, codes, arith, unsigned_abs, ◌-ℤ◌, ◌≤◌}
+use Rattle.std.specs.Prelude.{Some, None, Result, Ok, Err, IfOk, IfErr, Contains}
 use Rattle.std.specs.Result.{IsErrAnd}
 use Rattle.ical_lines.specs.declared.fault.Fault.{Fault}
 use Rattle.ical_lines.specs.declared.fault.Fault.TheVariants.{Refused, Memory}
 use Rattle.ical_lines.specs.declared.fault.Refusal.{Refusal}
-use Rattle.ical_tree.specs.Tree.{component_lines, component_children, tree_of}
+use Rattle.ical_tree.specs.Tree.{tree_of}
 use Rattle.ical_tree.specs.declared.component.Component.{Component}
-use Rattle.profile.specs.Lines.{line_value}
-use Rattle.profile.specs.Zones.{Zone, Constant, Single, Pair, Observance}
-use Rattle.profile.specs.Events.{lines_named, StandsAtMostOnce, SomeLine, Says}
-use Rattle.profile.specs.ZoneTexts.{parts_by, is_part, is_standard, is_daylight, IsLocalLine, SaysTimes, SaysOnce, SaysYearly, TimesFault, PartsSay, PartsFault, OffsetsDiffer, HasForm, SaysZone, ZoneFault, Keeps, Strays, missing, twice, fixed, bad_start, bad_from, bad_to, time_names, constant, single, pair, no_part, in_part, ruled, other_parts, unruled, unmatched, close, IsNoOffsetLine, IsFixedLine, IsNoLocalLine, HasNoYearRule}
+use Rattle.profile.specs.Zones.{Zone, Single, Pair, Observance}
+use Rattle.profile.specs.Events.{lines_named, StandsAtMostOnce, Says}
+use Rattle.profile.specs.ZoneTexts.{parts_by, is_part, is_standard, is_daylight, SaysTimes, SaysOnce, SaysYearly, TimesFault, PartsSay, PartsFault, OffsetsDiffer, SaysZone, ZoneFault, missing, twice, fixed, bad_start, bad_from, bad_to, time_names, single, pair, in_part, ruled, unruled, unmatched, close, HasNoYearRule}
 use Rattle.cal_zones.specs.Read as read
 use Rattle.cal_zones.specs.Read.{StandsIn, parts_in, parts_of, standards_of, daylights_of, HasFault, SomeTimesFault, StartFault, IsNotOne, OffsetFault, YearlyFault, SaysSingle, SingleFault, SaysBoth, BothFault, in_times, has_rule, far, in_standard, in_daylight, no_match, no_space}
 use Rattle.cal_zones.specs.Kinds.{zone_of}

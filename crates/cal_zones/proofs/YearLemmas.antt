@@ -1,5 +1,5 @@
 -- The rule of one day a year that a rule's text names.
-use Rattle.std.proofs.Common.{◌≡◌, subst, sym, ap, ℕ, Bool, true, ◌&&◌, ◌==◌}
+use Rattle.std.proofs.Common.{◌≡◌, subst, sym, ℕ, true, ◌&&◌, ◌==◌}
 use Rattle.std.specs.Prelude.{Option, Some, None, IfSome, IfNone, IsSome, ◌↔◌}
 use Rattle.std.proofs.lemmas.Bool.{and_from, false≢true}
 use Rattle.profile.specs.Rules.{RuleText}

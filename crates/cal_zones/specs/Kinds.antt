@@ -1,7 +1,7 @@
 -- What a zone stands for, and its least and greatest offset.
-use Rattle.std.specs.Prelude.{◌≡◌, ◌⊎◌, ℤ, ◌≤ℤ◌}
+use Rattle.std.specs.Prelude.{◌≡◌, ◌⊎◌, Option, Some, None, ℤ, ◌≤ℤ◌}
 use Rattle.profile.specs.Zones.{Zone, Constant, Single, Pair, Onset, IsZoneOnset, IsOffsetAt, Means}
-use Rattle.cal_zones.specs.Onsets.{observance_of}
+use Rattle.cal_zones.specs.Onsets.{observance_of, IsFirstOf}
 use Rattle.cal_zones.specs.declared.shape.Observance.{Observance}
 use Rattle.cal_zones.specs.declared.kinds.Kind as rust
 use Rattle.cal_zones.specs.declared.kinds.Kind.TheVariants as the
@@ -35,3 +35,10 @@ IsOneOffset z = (instant p q : ℤ) → IsOffsetAt z instant p → IsOffsetAt z 
 
 abbrev pub IsOneMeaning : Zone → Type 0
 IsOneMeaning z = (local t u : ℤ) → Means z local t → Means z local u → t ≡ u
+
+-- the first onset of each observance: of none, of one, or of two
+abbrev pub AreFirstOnsets : Zone → Option ℤ → Option ℤ → Type 0
+AreFirstOnsets (Constant _) x y = (x ≡ None) × (y ≡ None)
+AreFirstOnsets (Single a) x y = (first : ℤ) × IsFirstOf a first × (x ≡ Some first) × (y ≡ None)
+AreFirstOnsets (Pair a b) x y =
+    (first : ℤ) × (second : ℤ) × IsFirstOf a first × IsFirstOf b second × (x ≡ Some first) × (y ≡ Some second)

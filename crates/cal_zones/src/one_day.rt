@@ -5,7 +5,8 @@ ghost use Rattle.std.specs.List.{list_all, list_any, range_with_len};
 ghost use Rattle.std.specs.Ordering.{int_eq};
 ghost use Rattle.cal_days.specs.Views.{frequency_of};
 ghost use Rattle.profile.specs.Rules.{is_missing, is_yearly};
-ghost use Rattle.profile.specs.ZoneTexts.{YearRule, are_only, is_weekday, is_of_seven, are_seven, names_days, is_plain_yearly, is_one_day};
+ghost use Rattle.profile.specs.ZoneTexts.{YearRule, are_only, is_weekday, is_of_seven, are_seven, names_days};
+ghost use Rattle.profile.specs.ZoneTexts.{is_plain_yearly, is_one_day};
 ghost use Rattle.cal_rules.specs.Views.{entry_of};
 ghost use Rattle.cal_zones.specs.Shapes.{days_of, rule_named};
 ghost use Rattle.cal_zones.specs.Named.{NamesNone, NoWeekdayFor};
@@ -107,7 +108,8 @@ fn has_number(numbers: &[i16], number: i16) -> bool
 /// Does each of seven numbers in a row, from that one on, stand there?
 fn has_seven(first: u8, numbers: &[i16]) -> bool
     requires { first ≤ 31 }
-    ensures { result ≡ list_all (λ more. list_any (λ x. int_eq x (pos (first + more))) numbers.now) (range_with_len 0 7) }
+    ensures { result
+        ≡ list_all (λ more. list_any (λ x. int_eq x (pos (first + more))) numbers.now) (range_with_len 0 7) }
 {
     (0..7u8).all(|more| has_number(numbers, (first + more) as i16))
 }
@@ -126,7 +128,8 @@ fn are_seven(first: u8, numbers: &[i16]) -> bool
 /// The one month that is named.
 fn only_month(months: &[u8]) -> Option<u8>
     ensures found { IfSome result (λ month. are_only (λ x. x == month) months.now ≡ true) }
-    ensures none { IfNone result ((month : ℕ) → 1 ≤ month → month ≤ 12 → are_only (λ x. x == month) months.now ≡ false) }
+    ensures none { IfNone result
+        ((month : ℕ) → 1 ≤ month → month ≤ 12 → are_only (λ x. x == month) months.now ≡ false) }
 {
     for month in 1..13 {
         if are_only_month(months, month) {
@@ -139,7 +142,8 @@ fn only_month(months: &[u8]) -> Option<u8>
 /// The one day of the month, up to the 28th, that BYMONTHDAY names.
 fn only_day(numbers: &[i16]) -> Option<u8>
     ensures found { IfSome result (λ day. are_only (λ x. int_eq x (pos day)) numbers.now ≡ true) }
-    ensures none { IfNone result ((day : ℕ) → 1 ≤ day → day ≤ 28 → are_only (λ x. int_eq x (pos day)) numbers.now ≡ false) }
+    ensures none { IfNone result
+        ((day : ℕ) → 1 ≤ day → day ≤ 28 → are_only (λ x. int_eq x (pos day)) numbers.now ≡ false) }
 {
     for day in 1..29u8 {
         if are_only_number(numbers, day as i16) {

@@ -58,15 +58,18 @@ fn count_named(zone: &Component, name: &str) -> usize
 }
 
 fn find_named<'a>(zone: &'a Component, name: &str) -> Option<&'a Component>
-    ensures { option_map (λ c. c.now) result ≡ find (λ c. is_same_name (component_name c) name.now) (component_children zone.now) }
+    ensures { option_map (λ c. c.now) result
+        ≡ find (λ c. is_same_name (component_name c) name.now) (component_children zone.now) }
 {
     zone.children().iter().find(|child| child.is_named(name))
 }
 
 /// The one component of that name, where there is one alone.
 pub(crate) fn only_named<'a>(zone: &'a Component, name: &str) -> Option<&'a Component>
-    ensures found { IfSome result (λ part. parts_in (λ n. is_same_name n name.now) (component_children zone.now) ≡ component_lines part.now ∷ []) }
-    ensures none { IfNone result (length (parts_in (λ n. is_same_name n name.now) (component_children zone.now)) ≡ 1 → ⊥) }
+    ensures found { IfSome result (λ part.
+        parts_in (λ n. is_same_name n name.now) (component_children zone.now) ≡ component_lines part.now ∷ []) }
+    ensures none { IfNone result
+        (length (parts_in (λ n. is_same_name n name.now) (component_children zone.now)) ≡ 1 → ⊥) }
 {
     if count_named(zone, name) != 1 {
         return None;

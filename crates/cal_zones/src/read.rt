@@ -8,11 +8,13 @@ ghost use Rattle.profile.specs.Zones as zones;
 ghost use Rattle.profile.specs.Zones.{Constant};
 ghost use Rattle.profile.specs.Events as lines;
 ghost use Rattle.profile.specs.Events.{IsMissing};
-ghost use Rattle.profile.specs.ZoneTexts.{SaysZone, ZoneFault, SaysYearly, SpellsYear, SpellsNoYear, IsYearLine, HasNoYearRule, OffsetsDiffer, Keeps, Strays, TimesFault};
+ghost use Rattle.profile.specs.ZoneTexts.{SaysZone, ZoneFault, SaysYearly, SpellsYear, SpellsNoYear, IsYearLine};
+ghost use Rattle.profile.specs.ZoneTexts.{HasNoYearRule, OffsetsDiffer, Keeps, Strays, TimesFault};
 ghost use Rattle.cal_zones.specs.Shapes.{rule_named};
 ghost use Rattle.cal_zones.specs.Onsets.{observance_of};
 ghost use Rattle.cal_zones.specs.Kinds.{zone_of};
-ghost use Rattle.cal_zones.specs.Read.{StandsIn, Says, HasFault, parts_of, SomeTimesFault, YearlyFault, SaysSingle, SingleFault, SaysBoth, BothFault, IsShapeFault};
+ghost use Rattle.cal_zones.specs.Read.{StandsIn, Says, HasFault, parts_of, SomeTimesFault, YearlyFault, IsShapeFault};
+ghost use Rattle.cal_zones.specs.Read.{SaysSingle, SingleFault, SaysBoth, BothFault};
 
 use crate::kinds::{Fixed, Kind, Zone};
 use crate::make::SHAPE;
@@ -100,8 +102,10 @@ fn keeps(part: &Component, offset: i32) -> Result<bool, Refusal>
 
 /// Do all parts say that offset alone? Refused where the times of one are wrong.
 fn all_keep(zone: &Component, offset: i32) -> Result<bool, Refusal>
-    ensures yes { IfOk result (λ b. b ≡ true → (part : List (List ℕ)) → Contains (parts_of zone.now) part → Keeps offset part) }
-    ensures no { IfOk result (λ b. b ≡ false → (part : List (List ℕ)) × Contains (parts_of zone.now) part × Strays offset part) }
+    ensures yes { IfOk result (λ b. b ≡ true
+        → (part : List (List ℕ)) → Contains (parts_of zone.now) part → Keeps offset part) }
+    ensures no { IfOk result (λ b. b ≡ false
+        → (part : List (List ℕ)) × Contains (parts_of zone.now) part × Strays offset part) }
     ensures stands { IfErr result (λ e. SomeTimesFault (parts_of zone.now) e.number) }
 {
     for child in zone.children() {
@@ -156,7 +160,8 @@ fn read_pair(alloc: Global, zone: &Component) -> Result<Zone, Fault>
 }
 
 fn read_both(alloc: Global, standard: &Component, daylight: &Component) -> Result<Zone, Fault>
-    ensures says { IfOk result (λ z. SaysBoth (component_lines standard.now) (component_lines daylight.now) (zone_of z)) }
+    ensures says { IfOk result
+        (λ z. SaysBoth (component_lines standard.now) (component_lines daylight.now) (zone_of z)) }
     ensures stands { IfErr result (StandsIn (BothFault (component_lines standard.now) (component_lines daylight.now))) }
 {
     let first = read_yearly(alloc, standard)?;
@@ -177,7 +182,8 @@ fn read_yearly(alloc: Global, part: &Component) -> Result<Observance, Fault>
 
 /// The rule of a part. Refused with 40 where RRULE is missing, stands twice or names no one day of the year.
 fn read_rule(alloc: Global, part: &Component) -> Result<Yearly, Fault>
-    ensures says { IfOk result (λ r. lines.Says (codes "RRULE") true IsYearLine (component_lines part.now) (Some (rule_named r.month r.days))) }
+    ensures says { IfOk result (λ r.
+        lines.Says (codes "RRULE") true IsYearLine (component_lines part.now) (Some (rule_named r.month r.days))) }
     ensures stands { IfErr result (StandsIn (λ n. (n ≡ 40) × HasNoYearRule (component_lines part.now))) }
 {
     let line = the_line(part, "RRULE")?;

@@ -1,7 +1,10 @@
 //! Worked zones: the rows of a few real ones, as another program (Python's zoneinfo) gives them.
 
 use crate::{MonthDays, Observance, Yearly, Zone};
+use ical_lines::{Fault, Limits};
+use ical_tree::read_object;
 use ical_values::{LocalTime, UtcOffset};
+use std::alloc::Global;
 
 /// One part of a zone, as it is written.
 #[derive(Clone, Copy)]
@@ -303,4 +306,262 @@ fn last_days(rt: HostRuntime) {
         let day = zone.last_day(second, until).map(|d| d.number());
         assert_eq!(rt; day, want, "{name}");
     }
+}
+
+/// The zone of a VTIMEZONE of two parts.
+fn read(alloc: Global, first: &[u8], second: &[u8]) -> Result<Zone, Fault> {
+    let mut text = Vec::new(alloc);
+    text.extend_from_slice(b"BEGIN:VCALENDAR\r\nVERSION:2.0\r\nBEGIN:VTIMEZONE\r\nTZID:Z\r\n")?;
+    text.extend_from_slice(first)?;
+    text.extend_from_slice(second)?;
+    text.extend_from_slice(b"END:VTIMEZONE\r\nEND:VCALENDAR\r\n")?;
+    let object = read_object(alloc, text.as_slice(), Limits::Open)?;
+    match object.children().first() {
+        Some(zone) => Zone::read(alloc, zone),
+        None => Err(Fault::Memory),
+    }
+}
+
+/// The number of the refusal of a VTIMEZONE of two parts, or 0.
+fn number(alloc: Global, first: &[u8], second: &[u8]) -> u8 {
+    match read(alloc, first, second) {
+        Ok(_) => 0,
+        Err(Fault::Refused(refusal)) => refusal.number,
+        Err(Fault::Memory) => 255,
+    }
+}
+
+const AUTUMN: &[u8] =
+    b"BEGIN:STANDARD\r\nDTSTART:20071104T020000\r\nRRULE:FREQ=YEARLY;BYMONTH=11;BYDAY=1SU\r\n\
+TZOFFSETFROM:-0400\r\nTZOFFSETTO:-0500\r\nEND:STANDARD\r\n";
+
+const SPRING: &[u8] =
+    b"BEGIN:DAYLIGHT\r\nDTSTART:20070311T020000\r\nRRULE:FREQ=YEARLY;BYMONTH=3;BYDAY=2SU\r\n\
+TZOFFSETFROM:-0500\r\nTZOFFSETTO:-0400\r\nEND:DAYLIGHT\r\n";
+
+#[test]
+fn new_york_read(rt: HostRuntime) -> Result<(), Fault> {
+    let zone = read(rt.alloc(), SPRING, AUTUMN)?;
+    // 20250309T070000Z and 20251102T060000Z, one second before and then
+    assert_eq!(rt; zone.offset(1_741_503_599), -18_000);
+    assert_eq!(rt; zone.offset(1_741_503_600), -14_400);
+    assert_eq!(rt; zone.offset(1_762_063_199), -14_400);
+    assert_eq!(rt; zone.offset(1_762_063_200), -18_000);
+    Ok(())
+}
+
+#[test]
+fn seven_days_in_a_row_in_any_order(rt: HostRuntime) -> Result<(), Fault> {
+    let spring = b"BEGIN:DAYLIGHT\r\nDTSTART:20070311T020000\r\n\
+RRULE:FREQ=YEARLY;WKST=SU;BYDAY=SU;BYMONTHDAY=14,8,9,10,11,12,13,8;BYMONTH=3,3\r\n\
+TZOFFSETFROM:-0500\r\nTZOFFSETTO:-0400\r\nEND:DAYLIGHT\r\n";
+    let zone = read(rt.alloc(), AUTUMN, spring)?;
+    assert_eq!(rt; zone.offset(1_741_503_599), -18_000);
+    assert_eq!(rt; zone.offset(1_741_503_600), -14_400);
+    Ok(())
+}
+
+#[test]
+fn other_forms_read(rt: HostRuntime) -> Result<(), Fault> {
+    // three parts of one offset, whose rules aren't read
+    let kept = b"BEGIN:STANDARD\r\nDTSTART:19700101T000000\r\nRRULE:none\r\n\
+TZOFFSETFROM:+0530\r\nTZOFFSETTO:+0530\r\nEND:STANDARD\r\n";
+    let twice =
+        b"BEGIN:DAYLIGHT\r\nDTSTART:19700101T000000\r\nTZOFFSETFROM:+0530\r\nTZOFFSETTO:+0530\r\n\
+END:DAYLIGHT\r\nBEGIN:STANDARD\r\nDTSTART:19700101T000000\r\nTZOFFSETFROM:+0530\r\n\
+TZOFFSETTO:+0530\r\nEND:STANDARD\r\n";
+    assert_eq!(rt; read(rt.alloc(), kept, twice)?.offset(0), 19_800);
+    // one part without a rule, from 20200101T000000 at +0100 on
+    let once =
+        b"BEGIN:DAYLIGHT\r\nDTSTART:20200101T000000\r\nTZOFFSETFROM:+0100\r\nTZOFFSETTO:+0200\r\n\
+END:DAYLIGHT\r\n";
+    let zone = read(rt.alloc(), once, b"")?;
+    assert_eq!(rt; zone.offset(1_577_833_199), 3600);
+    assert_eq!(rt; zone.offset(1_577_833_200), 7200);
+    Ok(())
+}
+
+#[test]
+fn shapes_that_are_refused(rt: HostRuntime) {
+    let a = rt.alloc();
+    assert_eq!(rt; number(a, b"", b""), 40);
+    assert_eq!(rt; number(a, AUTUMN, AUTUMN), 40);
+    assert_eq!(rt; number(a, AUTUMN, b""), 40);
+    // RDATE; no DTSTART; two TZOFFSETTO; DTSTART in UTC, and in a zone
+    assert_eq!(rt;
+        number(
+            a,
+            AUTUMN,
+            b"BEGIN:DAYLIGHT\r\nRDATE:20080309T020000\r\nDTSTART:20070311T020000\r\n\
+RRULE:FREQ=YEARLY;BYMONTH=3;BYDAY=2SU\r\nTZOFFSETFROM:-0500\r\nTZOFFSETTO:-0400\r\nEND:DAYLIGHT\r\n"
+        ),
+        40
+    );
+    assert_eq!(rt;
+        number(
+            a,
+            AUTUMN,
+            b"BEGIN:DAYLIGHT\r\nRRULE:FREQ=YEARLY;BYMONTH=3;BYDAY=2SU\r\n\
+TZOFFSETFROM:-0500\r\nTZOFFSETTO:-0400\r\nEND:DAYLIGHT\r\n"
+        ),
+        40
+    );
+    assert_eq!(rt;
+        number(
+            a,
+            SPRING,
+            b"BEGIN:STANDARD\r\nDTSTART:20071104T020000\r\nTZOFFSETFROM:-0400\r\n\
+TZOFFSETTO:-0500\r\nTZOFFSETTO:-0500\r\nEND:STANDARD\r\n"
+        ),
+        40
+    );
+    assert_eq!(rt;
+        number(
+            a,
+            b"",
+            b"BEGIN:STANDARD\r\nDTSTART:20071104T020000Z\r\nTZOFFSETFROM:-0400\r\n\
+TZOFFSETTO:-0500\r\nEND:STANDARD\r\n"
+        ),
+        40
+    );
+    assert_eq!(rt;
+        number(
+            a,
+            b"",
+            b"BEGIN:STANDARD\r\nDTSTART;TZID=Z:20071104T020000\r\nTZOFFSETFROM:-0400\r\n\
+TZOFFSETTO:-0500\r\nEND:STANDARD\r\n"
+        ),
+        40
+    );
+}
+
+#[test]
+fn rules_that_are_refused(rt: HostRuntime) {
+    let a = rt.alloc();
+    // unreadable; two Sundays; a fifth Sunday; the 29th; an end; every second year
+    assert_eq!(rt;
+        number(
+            a,
+            SPRING,
+            b"BEGIN:STANDARD\r\nDTSTART:20071104T020000\r\nRRULE:FREQ=HOURLY\r\n\
+TZOFFSETFROM:-0400\r\nTZOFFSETTO:-0500\r\nEND:STANDARD\r\n"
+        ),
+        40
+    );
+    assert_eq!(rt;
+        number(
+            a,
+            SPRING,
+            b"BEGIN:STANDARD\r\nDTSTART:20071104T020000\r\n\
+RRULE:FREQ=YEARLY;BYMONTH=11;BYDAY=1SU,2SU\r\nTZOFFSETFROM:-0400\r\nTZOFFSETTO:-0500\r\nEND:STANDARD\r\n"
+        ),
+        40
+    );
+    assert_eq!(rt;
+        number(
+            a,
+            SPRING,
+            b"BEGIN:STANDARD\r\nDTSTART:20071104T020000\r\n\
+RRULE:FREQ=YEARLY;BYMONTH=11;BYDAY=5SU\r\nTZOFFSETFROM:-0400\r\nTZOFFSETTO:-0500\r\nEND:STANDARD\r\n"
+        ),
+        40
+    );
+    assert_eq!(rt;
+        number(
+            a,
+            SPRING,
+            b"BEGIN:STANDARD\r\nDTSTART:20071104T020000\r\n\
+RRULE:FREQ=YEARLY;BYMONTH=11;BYMONTHDAY=29\r\nTZOFFSETFROM:-0400\r\nTZOFFSETTO:-0500\r\nEND:STANDARD\r\n"
+        ),
+        40
+    );
+    assert_eq!(rt;
+        number(
+            a,
+            SPRING,
+            b"BEGIN:STANDARD\r\nDTSTART:20071104T020000\r\n\
+RRULE:FREQ=YEARLY;COUNT=5;BYMONTH=11;BYDAY=1SU\r\nTZOFFSETFROM:-0400\r\nTZOFFSETTO:-0500\r\nEND:STANDARD\r\n"
+        ),
+        40
+    );
+    assert_eq!(rt;
+        number(
+            a,
+            SPRING,
+            b"BEGIN:STANDARD\r\nDTSTART:20071104T020000\r\n\
+RRULE:FREQ=YEARLY;INTERVAL=2;BYMONTH=11;BYDAY=1SU\r\nTZOFFSETFROM:-0400\r\nTZOFFSETTO:-0500\r\nEND:STANDARD\r\n"
+        ),
+        40
+    );
+}
+
+#[test]
+fn values_offsets_and_onsets_that_are_refused(rt: HostRuntime) {
+    let a = rt.alloc();
+    assert_eq!(rt;
+        number(
+            a,
+            b"",
+            b"BEGIN:STANDARD\r\nDTSTART:20071104\r\nTZOFFSETFROM:-0400\r\n\
+TZOFFSETTO:-0500\r\nEND:STANDARD\r\n"
+        ),
+        11
+    );
+    assert_eq!(rt;
+        number(
+            a,
+            b"",
+            b"BEGIN:STANDARD\r\nDTSTART:20071104T020000\r\nTZOFFSETFROM:-0000\r\n\
+TZOFFSETTO:-0500\r\nEND:STANDARD\r\n"
+        ),
+        13
+    );
+    // DAYLIGHT's TZOFFSETTO is -0300
+    assert_eq!(rt;
+        number(
+            a,
+            AUTUMN,
+            b"BEGIN:DAYLIGHT\r\nDTSTART:20070311T020000\r\n\
+RRULE:FREQ=YEARLY;BYMONTH=3;BYDAY=2SU\r\nTZOFFSETFROM:-0500\r\nTZOFFSETTO:-0300\r\nEND:DAYLIGHT\r\n"
+        ),
+        41
+    );
+    // one part, 13 hours apart
+    assert_eq!(rt;
+        number(
+            a,
+            b"",
+            b"BEGIN:STANDARD\r\nDTSTART:20071104T020000\r\nTZOFFSETFROM:-0400\r\n\
+TZOFFSETTO:+0900\r\nEND:STANDARD\r\n"
+        ),
+        41
+    );
+    // STANDARD's rule is DAYLIGHT's; and then the offsets don't match either, or COUNT stands besides
+    assert_eq!(rt;
+        number(
+            a,
+            SPRING,
+            b"BEGIN:STANDARD\r\nDTSTART:20071104T020000\r\n\
+RRULE:FREQ=YEARLY;BYMONTH=3;BYDAY=2SU\r\nTZOFFSETFROM:-0400\r\nTZOFFSETTO:-0500\r\nEND:STANDARD\r\n"
+        ),
+        42
+    );
+    assert_eq!(rt;
+        number(
+            a,
+            SPRING,
+            b"BEGIN:STANDARD\r\nDTSTART:20071104T020000\r\n\
+RRULE:FREQ=YEARLY;BYMONTH=3;BYDAY=2SU\r\nTZOFFSETFROM:-0400\r\nTZOFFSETTO:-0600\r\nEND:STANDARD\r\n"
+        ),
+        41
+    );
+    assert_eq!(rt;
+        number(
+            a,
+            SPRING,
+            b"BEGIN:STANDARD\r\nDTSTART:20071104T020000\r\n\
+RRULE:FREQ=YEARLY;COUNT=2;BYMONTH=3;BYDAY=2SU\r\nTZOFFSETFROM:-0400\r\nTZOFFSETTO:-0600\r\nEND:STANDARD\r\n"
+        ),
+        40
+    );
 }

@@ -30,7 +30,8 @@ pub(crate) fn has_line(part: &Component, name: &str) -> bool
 /// The line of a property that may stand once, None where there is none. Refused with 40 where it stands
 /// twice.
 fn line_or_none<'a>(part: &'a Component, name: &str) -> Result<Option<Line<'a>>, Refusal>
-    ensures found { IfOk result (λ line. StandsAtMostOnce name.now (component_lines part.now) (option_map line_text line)) }
+    ensures found { IfOk result
+        (λ line. StandsAtMostOnce name.now (component_lines part.now) (option_map line_text line)) }
     ensures refuses { IfErr result (λ e. e.number ≡ 40) }
     ensures twice { IfErr result (λ _. StandsTwice name.now (component_lines part.now)) }
 {

@@ -4,7 +4,8 @@ ghost use Rattle.std.specs.Prelude.{◌≡◌};
 ghost use Rattle.profile.specs.Values.{IsOffset};
 ghost use Rattle.profile.specs.Zones.{IsOffsetAt, IsOnset, IsLatest, Means, Single};
 ghost use Rattle.cal_zones.specs.Onsets.{observance_of, onset_at, NoneBegun};
-ghost use Rattle.cal_zones.specs.Kinds.{zone_of, pair_of, IsOrdered, IsBounds, IsOneOffset, IsOneMeaning};
+ghost use Rattle.cal_zones.specs.Kinds.{zone_of, pair_of, IsOrdered, IsBounds, AreFirstOnsets};
+ghost use Rattle.cal_zones.specs.Kinds.{IsOneOffset, IsOneMeaning};
 ghost use Rattle.cal_zones.specs.LastDay.{IsNearEpoch};
 
 use crate::kinds::{Kind, Zone};
@@ -103,6 +104,21 @@ impl Zone {
             Kind::Constant(fixed) => (fixed.offset, fixed.offset),
             Kind::Single(observance) => ordered(observance.offset_from, observance.offset_to),
             Kind::Pair(pair) => ordered(pair.standard.offset_from, pair.standard.offset_to),
+        }
+    }
+
+    /// The first onset of each observance: of none for a zone of one offset, of STANDARD and then DAYLIGHT for
+    /// two.
+    pub fn first_onsets(&self) -> (Option<i64>, Option<i64>)
+        ensures { AreFirstOnsets (zone_of self.now) result.0 result.1 }
+    {
+        match &self.kind {
+            Kind::Constant(_) => (None, None),
+            Kind::Single(observance) => (Some(observance.first_onset()), None),
+            Kind::Pair(pair) => (
+                Some(pair.standard.first_onset()),
+                Some(pair.daylight.first_onset()),
+            ),
         }
     }
 

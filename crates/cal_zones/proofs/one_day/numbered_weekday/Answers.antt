@@ -1,4 +1,4 @@
-use Rattle.std.proofs.Common.{◌≡◌, ◌∙◌, ℕ, ℤ, pos, neg_ℤ, inl, inr, map, subst, sym, arith, to_z, of_z, w16}
+use Rattle.std.proofs.Common.{◌≡◌, ℤ, pos, neg_ℤ, inl, inr, map, subst, arith, to_z, of_z, w16}
 use Rattle.std.proofs.lemmas.Bool.{cases_order}
 use Rattle.std.proofs.lemmas.Int.{to_z_pos}
 use Rattle.jiff_core.proofs.SignedLemmas.{signed_arith}

@@ -1,10 +1,10 @@
-use Rattle.std.proofs.Common.{◌≡◌, ◌+◌, ◌<◌, ◌≤◌, ℕ, ℤ, List, length, get_or, drop, sym, subst, ap, arith, to_z, of_z, w32, to_z-of_z}
+use Rattle.std.proofs.Common.{◌≡◌, ◌<◌, ◌≤◌, ℕ, ℤ, List, length, get_or, sym, subst, to_z, of_z, w32, to_z-of_z}
 use Rattle.std.specs.Prelude.{Contains}
 use Rattle.ical_tree.specs.Tree.{component_lines, component_children}
 use Rattle.ical_tree.specs.declared.component.Component.{Component}
 use Rattle.profile.specs.ZoneTexts.{is_part, Keeps, Strays}
-use Rattle.cal_zones.specs.Read.{SomeTimesFault, parts_in, parts_of}
-use Rattle.cal_zones.proofs.PartLemmas.{is_among, drop_other, drop_part, one_more, all_left, none_left}
+use Rattle.cal_zones.specs.Read.{SomeTimesFault, parts_of}
+use Rattle.cal_zones.proofs.PartLemmas.{is_among, drop_other, drop_part, all_left, none_left}
 use Rattle.cal_zones.proofs.Reading.{refusal_exit}
 use Rattle.cal_zones.proofs.read.all_keep.Goals as goal
 use Rattle.cal_zones.proofs.read.all_keep.Goals.{then-is_part+in_ok-keeps+else-not-branch, else-is_part}

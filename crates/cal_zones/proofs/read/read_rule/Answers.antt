@@ -1,12 +1,10 @@
-use Rattle.std.proofs.Common.{◌≡◌, codes, sym, subst, inl, inr, List, ℕ}
+use Rattle.std.proofs.Common.{◌≡◌, codes, subst, inr, List, ℕ}
 use Rattle.std.specs.Prelude.{Some, true}
 use Rattle.ical_lines.specs.Text.{line_text}
 use Rattle.ical_tree.specs.Tree.{component_lines}
-use Rattle.profile.specs.Lines.{line_value}
 use Rattle.profile.specs.Events.{Says}
 use Rattle.profile.specs.ZoneTexts.{SpellsYear, SpellsNoYear, IsYearLine, HasNoYearRule}
 use Rattle.cal_zones.specs.Shapes.{rule_named}
-use Rattle.cal_zones.specs.Read.{IsNotOne}
 use Rattle.cal_zones.proofs.Reading.{refused_exit, weaker_ok, weaker_fault, the_line, said, no_rule_there}
 use Rattle.cal_zones.proofs.read.read_rule.Goals as goal
 

@@ -1,8 +1,7 @@
 use Rattle.std.proofs.Common.{ap}
 use Rattle.ical_tree.specs.Tree.{component_lines}
 use Rattle.cal_zones.specs.Onsets.{observance_of, rule_of}
-use Rattle.cal_zones.specs.Read.{SingleFault, SaysSingle, in_times, has_rule}
-use Rattle.cal_zones.specs.Kinds.{zone_of}
+use Rattle.cal_zones.specs.Read.{SingleFault, in_times, has_rule}
 use Rattle.cal_zones.specs.Made.{IsSingleFault}
 use Rattle.profile.specs.ZoneTexts.{SaysOnce}
 use Rattle.cal_zones.proofs.Reading.{refusal_exit, weaker_err, single_refused, single_said}

@@ -1,6 +1,6 @@
 use Rattle.std.proofs.Common.{◌≡◌, ap, sym, inl, inr}
 use Rattle.ical_tree.specs.Tree.{component_lines}
-use Rattle.profile.specs.ZoneTexts.{SaysTimes, TimesFault, HasNoYearRule}
+use Rattle.profile.specs.ZoneTexts.{HasNoYearRule}
 use Rattle.cal_zones.specs.Shapes.{rule_named}
 use Rattle.cal_zones.specs.Onsets.{observance_of, rule_of}
 use Rattle.cal_zones.specs.Read.{YearlyFault}

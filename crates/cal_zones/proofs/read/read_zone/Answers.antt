@@ -1,4 +1,4 @@
-use Rattle.std.proofs.Common.{◌≡◌, sym, subst, true, ℤ, to_z, of_z, w32}
+use Rattle.std.proofs.Common.{◌≡◌, sym, subst, ℤ, to_z, of_z, w32}
 use Rattle.ical_tree.specs.Tree.{component_lines}
 use Rattle.profile.specs.Zones.{Zone}
 use Rattle.profile.specs.ZoneTexts.{PartsSay, Keeps, Strays, no_part, in_part, constant}

@@ -1,4 +1,4 @@
-use Rattle.std.proofs.Common.{◌≡◌, sym, subst, inl, inr, ℤ, List, ℕ}
+use Rattle.std.proofs.Common.{◌≡◌, sym, subst, inr, ℤ, List, ℕ}
 use Rattle.ical_lines.specs.Text.{line_text}
 use Rattle.ical_lines.specs.declared.fault.Refusal.{Refusal}
 use Rattle.profile.specs.Values.{SpellsLocal}

@@ -1,10 +1,9 @@
-use Rattle.std.proofs.Common.{◌≡◌, sym, subst, inl, inr, refl, ℤ, List, ℕ}
+use Rattle.std.proofs.Common.{◌≡◌, sym, subst, inl, inr, ℤ, List, ℕ}
 use Rattle.std.specs.Prelude.{Some, true}
 use Rattle.ical_lines.specs.Text.{line_text}
 use Rattle.ical_lines.specs.declared.fault.Refusal.{Refusal}
 use Rattle.ical_tree.specs.Tree.{component_lines}
 use Rattle.profile.specs.Values.{SpellsOffset}
-use Rattle.profile.specs.Lines.{line_value}
 use Rattle.profile.specs.Events.{Says}
 use Rattle.profile.specs.ZoneTexts.{IsOffsetLine}
 use Rattle.cal_zones.specs.Read.{OffsetFault}

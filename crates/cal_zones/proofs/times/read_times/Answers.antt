@@ -1,4 +1,4 @@
-use Rattle.std.proofs.Common.{◌≡◌, codes, sym, subst, ℤ}
+use Rattle.std.proofs.Common.{codes, sym, subst, ℤ}
 use Rattle.std.specs.Prelude.{Some, true}
 use Rattle.ical_tree.specs.Tree.{component_lines}
 use Rattle.profile.specs.Events.{Says}

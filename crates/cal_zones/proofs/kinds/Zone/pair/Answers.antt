@@ -1,4 +1,4 @@
-use Rattle.std.proofs.Common.{inl, inr, refl}
+use Rattle.std.proofs.Common.{inr, refl}
 use Rattle.cal_zones.proofs.Spacing.{never_at_once, pair_spaced, pair_close}
 use Rattle.cal_zones.proofs.kinds.Zone.pair.Goals as goal
 
