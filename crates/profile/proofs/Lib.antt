@@ -2,3 +2,4 @@ mod Examples
 mod RuleExamples
 mod ZoneExamples
 mod RuleTextExamples
+mod ZoneTextExamples
