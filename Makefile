@@ -26,9 +26,14 @@ try:
 test:
 	$(RT) ci
 
-# One table: serving, reading and checking, with sizes, times, peak memory and growth. It takes about half a minute.
-bench: bin/roombox
-	python3 bench/bench.py bin/roombox
+# Jumps in the days of rules, for bench.
+bin/rule_seeks: bin/roombox FORCE
+	@cd crates/rule_seeks && $(RT) run < stdin > ../../out/seeks 2> ../../out/build.log || { cat ../../out/build.log; exit 1; }
+	@cp crates/rule_seeks/out/rule_seeks bin/rule_seeks
+
+# One table: serving, reading, rules and checking, with sizes, times, peak memory and growth. It takes about half a minute.
+bench: bin/roombox bin/rule_seeks
+	python3 bench/bench.py bin/roombox bin/rule_seeks
 
 clean:
 	rm -rf bin out crates/*/out

@@ -2,7 +2,7 @@
 growth of the time from a tenth of the size. The peak counts the moment before the program begins too, so it is never less than
 this script's own, about 15 MiB.
 
-    python3 bench/bench.py bin/roombox
+    python3 bench/bench.py bin/roombox bin/rule_seeks
 """
 
 import os
@@ -58,6 +58,19 @@ RULES = (
     ("instances of a day each", "19700101T090000Z", "FREQ=DAILY"),
     ("last weekdays of the month", "19700130T090000Z", "FREQ=MONTHLY;BYDAY=MO,TU,WE,TH,FR;BYSETPOS=-1"),
 )
+# Rules to jump in, each with the day in 1970 on which it begins; 1971-01-01 and 9000-01-01 are the days to jump to.
+SEEKS = (
+    (0, "FREQ=DAILY"),
+    (0, "FREQ=DAILY;BYMONTH=1;BYDAY=TH,SU"),
+    (0, "FREQ=WEEKLY"),
+    (0, "FREQ=WEEKLY;BYDAY=TU,TH"),
+    (0, "FREQ=MONTHLY"),
+    (29, "FREQ=MONTHLY;BYDAY=MO,TU,WE,TH,FR;BYSETPOS=-1"),
+    (0, "FREQ=YEARLY"),
+    (59, "FREQ=YEARLY;BYMONTH=3;BYDAY=1SU"),
+)
+NEAR, FAR = 365, 2_567_655
+TIMES = 100_000
 
 
 def stamp(number):
@@ -144,6 +157,27 @@ def expand(program, start, rule, count):
     return seconds, peak
 
 
+def seek(program, start, rule, target):
+    """The seconds of many jumps from a rule's first day to a day, without those of the program itself."""
+    with tempfile.TemporaryFile() as stream:
+        stream.write(f"{TIMES} {start} {target} {rule}\n".encode())
+        stream.seek(0)
+        seconds, peak, status, output = run([program], stream)
+    if status != 0 or output == b"none\n":
+        sys.exit(f"seek: status {status}, {output!r} for {rule}")
+    return seconds, peak
+
+
+def seeks(program):
+    """How much longer the jump to the year 9000 takes than the one to 1971, for each rule with INTERVAL 1 and 7."""
+    for interval in (1, 7):
+        for start, rule in SEEKS:
+            near, _ = seek(program, start, f"{rule};INTERVAL={interval}", NEAR)
+            far, peak = seek(program, start, f"{rule};INTERVAL={interval}", FAR)
+            words = rule.removeprefix("FREQ=")
+            line(f"to 9000: {words[:22]} by {interval}", TIMES, far, f"{int(TIMES / far)}/s", peak, f"{far / near:.1f}")
+
+
 def quickly(program, calendar_text, certificate_text):
     """Input that is no calendar, or no certificate: an answer of `no`."""
     with tempfile.TemporaryDirectory() as folder:
@@ -189,6 +223,7 @@ def main():
             growth = f"{seconds / before:.1f}" if before else ""
             line(work, count, seconds, f"{int(count / seconds)}/s", peak, growth)
             before = seconds
+    seeks(sys.argv[2])
     empty = b"BEGIN:VCALENDAR\r\nVERSION:2.0\r\nEND:VCALENDAR\r\n"
     odd = (
         ("a calendar of 0 octets", b"", b""),
