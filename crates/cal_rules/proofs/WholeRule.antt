@@ -1,5 +1,5 @@
 -- What is written of a whole rule reads back.
-use Rattle.std.proofs.Common.{◌≡◌, ◌∙◌, ap, sym, subst, refl, ℕ, zero, suc, ◌^◌, ◌<◌, ◌≤◌, Bool, true, false, cond, not, ◌&&◌, ◌||◌, ◌==◌, nat_eq, nat_lt, nat_le, inl, inr, List, [], ◌∷◌, ◌++◌, length, map, filter_map, codes, decimal, All, append_assoc, append-nil, Option, None, Some, ℤ, pos, negsuc, arith}
+use Rattle.std.proofs.Common.{◌≡◌, ◌∙◌, ap, sym, subst, refl, ℕ, zero, suc, ◌^◌, ◌<◌, ◌≤◌, Bool, true, false, cond, not, ◌&&◌, ◌||◌, ◌==◌, nat_eq, nat_lt, nat_le, inl, inr, List, [], ◌∷◌, ◌++◌, length, map, filter_map, codes, decimal, All, append_assoc, append-nil, Option, None, Some, ℤ, pos, negsuc, arith, ◌/◌, ◌%◌, ◌+◌}
 use Rattle.std.proofs.lemmas.Bool.{and_parts}
 use Rattle.std.proofs.lemmas.Bool.Decides.{nat_tests}
 use Rattle.std.proofs.lemmas.List.Elements.{All-nil, All-cons, All-append, All-same, All-from_recursion, filter_map-append}
@@ -10,8 +10,9 @@ use Rattle.std.specs.Str.Parse.{AllDigits}
 use Rattle.std.specs.Fmt.{signed_decimal}
 use Rattle.std.specs.List.{list_all, onto_first, cons_option}
 use Rattle.profile.specs.Faults.{is_between}
-use Rattle.profile.specs.Days.{Frequency, Daily, Weekly, Monthly, Yearly}
-use Rattle.profile.specs.Rules.{RuleText, WeekdayNumber, Until, is_place, is_plain, is_entry, is_count, is_short, is_in_range, go_together, has_one_end}
+use Rattle.profile.specs.Days.{Frequency, Daily, Weekly, Monthly, Yearly, days_in_month}
+use Rattle.profile.specs.Values.{two_digits, four_digits, SpellsDate, SpellsTime, SpellsLocal}
+use Rattle.profile.specs.Rules.{RuleText, WeekdayNumber, Until, UntilDay, UntilLocal, UntilInstant, is_place, is_plain, is_entry, is_count, is_short, is_in_range, go_together, has_one_end}
 use Rattle.profile.specs.RuleTexts.{RuleKey, Interval, Count, EndsAt, WeekStart, ByMonth, ByMonthDay, ByDay, BySetPosition, rule_parts, after_key, key_word, values_of, frequency_word, weekday_word, SpellsBetween, SpellsPlace, SpellsEntry, SpellsList, SpellsWeekday, SpellsCount, SpellsUntil, SpellsInterval, SpellsMonths, SpellsMonthDays, SpellsEntries, SpellsPositions, IsGiven, SaysOr, IsKnownPart, SpellsRule, listed, months_from, numbers_from, entries_from, entry_text, count_text, until_text, rule_text, as_written, HandsIn}
 use Rattle.cal_rules.proofs.Parted.{after_append}
 use Rattle.cal_rules.proofs.ReadBack.{number_back, up_to, below, or_other, and_both, not_true, no_comma, between_back, place_back, entry_back, written_list, month_small, comma_decimal, comma_place, comma_entry}
@@ -83,6 +84,39 @@ semi_key ByMonth = refl
 semi_key ByMonthDay = refl
 semi_key ByDay = refl
 semi_key BySetPosition = refl
+
+-- ---- no semicolon in UNTIL
+
+digit_clean : (n : ℕ) → n < 10 → not ((48 + n) == 59) ≡ true
+digit_clean n h = grind (arith, nat_tests)
+
+two_clean : (n : ℕ) → n < 100 → no_semicolon (two_digits n) ≡ true
+two_clean n h = and_both (not ((48 + n / 10) == 59)) (not ((48 + n % 10) == 59) && true) (digit_clean (n / 10) (omega arith)) (and_both (not ((48 + n % 10) == 59)) true (digit_clean (n % 10) (omega arith)) refl)
+
+four_clean : (n : ℕ) → n < 10_000 → no_semicolon (four_digits n) ≡ true
+four_clean n h = semi_append (two_digits (n / 100)) (two_digits (n % 100)) (two_clean (n / 100) (omega arith)) (two_clean (n % 100) (omega arith))
+
+date_clean : (text : List ℕ) (number : ℤ) → SpellsDate text number → no_semicolon text ≡ true
+date_clean text number s =
+    let long : days_in_month s.year s.month ≤ 31 = grind arith in
+    rw s.spelled (semi_append (four_digits s.year ++ two_digits s.month) (two_digits s.day)
+    (semi_append (four_digits s.year) (two_digits s.month) (four_clean s.year (omega (arith, s.last))) (two_clean s.month (omega (arith, s.date.1))))
+    (two_clean s.day (omega (arith, s.date.3))))
+
+time_clean : (text : List ℕ) (total : ℕ) → SpellsTime 60 text total → no_semicolon text ≡ true
+time_clean text total s =
+    rw s.spelled (semi_append (two_digits s.hour ++ two_digits s.minute) (two_digits s.second)
+    (semi_append (two_digits s.hour) (two_digits s.minute) (two_clean s.hour (omega (arith, s.hours))) (two_clean s.minute (omega (arith, s.minutes))))
+    (two_clean s.second (omega (arith, s.seconds))))
+
+local_clean : (text : List ℕ) (seconds : ℤ) → SpellsLocal text seconds → no_semicolon text ≡ true
+local_clean text seconds s =
+    rw s.spelled (semi_append (s.date ++ codes "T") s.time (semi_append s.date (codes "T") (date_clean s.date s.number s.on) refl) (time_clean s.time s.second s.at_second))
+
+until_clean : (text : List ℕ) (end : Until) → SpellsUntil text end → no_semicolon text ≡ true
+until_clean text (UntilDay number) s = date_clean text number s
+until_clean text (UntilLocal seconds) s = local_clean text seconds s
+until_clean text (UntilInstant instant) (local, s, e) = rw e (semi_append local (codes "Z") (local_clean local instant s) refl)
 
 -- ---- one part more
 
@@ -352,13 +386,13 @@ until_piece : (u : Option Until) (text : Option (List ℕ)) (end : Option Until)
 until_piece None text end h = absent EndsAt
 until_piece (Some u) None end h = absent EndsAt
 until_piece (Some u) (Some text) None h = absurd h
-until_piece (Some u) (Some text) (Some end) h = present EndsAt text h.1
+until_piece (Some u) (Some text) (Some end) h = present EndsAt text (until_clean text end h)
 
 until_says : (u : Option Until) (text : Option (List ℕ)) (end : Option Until) → HandsIn u text end → SaysOr (IsGiven SpellsUntil) None (until_values u text) end
 until_says None text end h = h
 until_says (Some u) None end h = h
 until_says (Some u) (Some text) None h = absurd h
-until_says (Some u) (Some text) (Some end) h = h.0
+until_says (Some u) (Some text) (Some end) h = h
 
 interval_piece : (n : ℕ) (b : Bool) → is_between 1 9999 n ≡ true → Piece (cond b [] (codes ";INTERVAL=" ++ decimal n)) Interval (cond b [] (decimal n ∷ []))
 interval_piece n true e = absent Interval

@@ -1,7 +1,7 @@
 -- The text of a recurrence rule: what it says, and what can be wrong with it (RFC 5545 3.3.10).
-use Rattle.std.specs.Prelude.{◌≡◌, ℕ, ◌-◌, ◌/◌, ◌%◌, ◌<◌, ◌≤◌, ◌⊎◌, Bool, not, ◌&&◌, ◌==◌, true, false, if◌then◌else◌, IsTrue, Contains, All, List, [], ◌∷◌, ◌++◌, length, map, filter, codes, decimal, Option, Some, None, ℤ, pos, neg_ℤ, ◌-ℤ◌}
+use Rattle.std.specs.Prelude.{◌≡◌, ℕ, ◌-◌, ◌/◌, ◌%◌, ◌<◌, ◌≤◌, ◌⊎◌, Bool, ◌&&◌, ◌==◌, true, false, if◌then◌else◌, IsTrue, Contains, All, List, [], ◌∷◌, ◌++◌, length, map, filter, codes, decimal, Option, Some, None, ℤ, pos, neg_ℤ, ◌-ℤ◌}
 use Rattle.std.specs.Fmt.{signed_decimal}
-use Rattle.std.specs.List.{slice_split, filter_map, AllZip, list_any, list_all, range_with_len}
+use Rattle.std.specs.List.{slice_split, filter_map, AllZip, list_any, range_with_len}
 use Rattle.std.specs.Ordering.{int_eq}
 use Rattle.profile.specs.Faults.{is_between}
 use Rattle.profile.specs.Days.{Frequency, Daily, Weekly, Monthly, Yearly}
@@ -258,10 +258,9 @@ as_written rule end = record {
   until = end;
 }
 
--- the text that is handed in for UNTIL spells this end, and has no semicolon; where the rule has no UNTIL, or nothing is handed in,
--- none is written
+-- the text that is handed in for UNTIL spells this end; where the rule has no UNTIL, or nothing is handed in, none is written
 abbrev pub HandsIn : Option Until → Option (List ℕ) → Option Until → Type 0
 HandsIn None text end = end ≡ None
 HandsIn (Some _) None end = end ≡ None
 HandsIn (Some _) (Some text) None = ⊥
-HandsIn (Some _) (Some text) (Some end) = SpellsUntil text end × (list_all (λ c. not (c == 59)) text ≡ true)
+HandsIn (Some _) (Some text) (Some end) = SpellsUntil text end
