@@ -59,7 +59,8 @@ pub(crate) fn read_entries(
     alloc: Global,
     value: &str,
 ) -> Result<Option<Vec<WeekdayNumber>>, AllocError>
-    ensures reads { IfOk result (λ read. IfSome read (λ entries. SpellsEntries value.now (map entry_of entries.items))) }
+    ensures reads { IfOk result
+        (λ read. IfSome read (λ entries. SpellsEntries value.now (map entry_of entries.items))) }
     ensures none { IfOk result (λ read. IfNone read (SpellsNone SpellsEntries value.now)) }
 {
     let mut entries = Vec::new(alloc);

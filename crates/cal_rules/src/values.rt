@@ -116,7 +116,8 @@ fn read_from_start(most: u16, digits: &str) -> Option<i16>
 /// A number from 1 to the most, that counts from the end.
 fn read_from_end(most: u16, digits: &str) -> Option<i16>
     requires { most ≤ 366 }
-    ensures reads { IfSome result (λ place. (size : ℕ) × SpellsBetween 1 most digits.now size × (place ≡ neg_ℤ (pos size))) }
+    ensures reads { IfSome result
+        (λ place. (size : ℕ) × SpellsBetween 1 most digits.now size × (place ≡ neg_ℤ (pos size))) }
     ensures none { IfNone result (SpellsNone (SpellsBetween 1 most) digits.now) }
 {
     let Some(size) = read_between(1, most as u32, digits) else {

@@ -34,7 +34,8 @@ impl Written {
     /// The text in its one form.
     fn text(&self, alloc: Global, until: Option<&str>) -> Result<String, AllocError>
         ensures { IfOk result
-            (λ text. string_bytes text ≡ texts.rule_text (text_of self.now) (option_map (λ text. text.now) until.entry)) }
+            (λ text. string_bytes text
+            ≡ texts.rule_text (text_of self.now) (option_map (λ text. text.now) until.entry)) }
     {
         let mut text = String::from_str(alloc, "FREQ=")?;
         text.push_str(frequency_word(self.frequency))?;
