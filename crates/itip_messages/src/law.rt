@@ -1,11 +1,27 @@
-//! What a reply that was written reads back as.
+//! What octets say as a REQUEST, and what a reply that was written reads back as.
 ghost use Rattle.std.specs.Prelude.{◌≡◌, ◌<◌, ◌^◌, ℕ, ℤ, List, Contains, Some, codes};
 ghost use Rattle.std.specs.List.{flat_map};
-ghost use Rattle.profile.specs.Messages.{IsReplyEvent, Outcome, object_lines};
+ghost use Rattle.profile.specs.Events.{Event};
+ghost use Rattle.profile.specs.Messages.{IsReplyEvent, Outcome, SpellsRequest, object_lines};
 ghost use Rattle.profile.specs.Revisions.{Part};
 ghost use Rattle.profile.specs.Values.{IsUid};
 ghost use Rattle.profile.specs.Kept.{written};
+ghost use Rattle.profile.specs.Streams.{ObjectFault};
 ghost use Rattle.itip_messages.specs.ReadBack.{IsTextAddress, IsReadAddress, IsAnswer, IsVevent, ReadsAsReply, SaysAnswer};
+
+use cal_events::one_event;
+use ical_tree::one_tree;
+
+/// Octets spell a REQUEST for at most one event, and none where a fault stands in them. With the contract of
+/// `Message::read`: what is taken is the one REQUEST that the octets spell, and what is refused spells none
+/// (RFC 5545 3.4, RFC 5546 3.2.2).
+pub fn one_request()
+    ensures one { (octets : List ℕ) (a b : Event) → SpellsRequest octets a → SpellsRequest octets b → a ≡ b }
+    ensures or_a_fault { (octets : List ℕ) (a : Event) (n : ℕ) → SpellsRequest octets a → ObjectFault n octets → ⊥ }
+{
+    one_tree();
+    one_event();
+}
 
 /// Whatever a room answers: the octets of its REPLY read as lines, and these spell one VCALENDAR of METHOD REPLY with
 /// a VEVENT for each answer, each with the very lines that were written (RFC 5545 3.1, 3.4, RFC 5546 3.2.3). Owed are

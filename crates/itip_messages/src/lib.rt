@@ -8,7 +8,7 @@ pub mod reply;
 mod values;
 pub mod writer;
 
-pub use law::{answers_read_back, replies_read_back};
+pub use law::{answers_read_back, one_request, replies_read_back};
 pub use message::{Message, MessageComponent, Method};
 pub use reply::{Conflict, ConflictKey, Decision, ReplyEvent, write_reply};
 pub use writer::ObjectWriter;

@@ -1,0 +1,118 @@
+-- Octets spell a REQUEST for at most one event, and none where a fault stands in them.
+use Rattle.std.proofs.Common.{◌≡◌, ◌∙◌, ℕ, zero, suc, ◌<◌, Bool, true, false, ◌&&◌, ◌||◌, List, [], ◌∷◌, length, get_or, refl, sym, ap, subst, arith, inl, inr}
+use Rattle.std.specs.Prelude.{Contains, codes, nat_lt}
+use Rattle.std.specs.List.{AllZip, list_any}
+use Rattle.std.specs.Str.{bytes_eq, str_to_ascii_lowercase}
+use Rattle.std.proofs.lemmas.Bool.{true≢false}
+use Rattle.std.proofs.lemmas.Bool.Decides.{nat_tests}
+use Rattle.std.proofs.lemmas.Slice.Eq.{bytes_eq-Decides}
+use Rattle.ical_lines.proofs.ContentLemmas.{read_fine}
+use Rattle.profile.specs.Lines.{logical_lines, line_value, is_same_name}
+use Rattle.profile.specs.Objects.{SpellsTree, IsObject, has_version, lines_have, count_inside, most_events}
+use Rattle.profile.specs.Trees.{Tree, tree_name, tree_own, tree_inside, vevents}
+use Rattle.profile.specs.Events.{Event, SaysEvent, EventFault, has_unread, lines_named}
+use Rattle.profile.specs.Messages.{SaysRequest, SpellsRequest, RequestFault, MethodFault, two_methods, bad_method, unread_method, no_method, MessageFault, in_method, in_event, not_yet, no_event, two_meetings, two_wholes, is_unread_method, is_method, are_one_meeting}
+use Rattle.profile.specs.Streams.{ObjectFault}
+
+abbrev Lines : Type 0
+Lines = List (List ℕ)
+
+abbrev OneTree : Type 0
+OneTree = (d e : ℕ) (lines : Lines) (a b : Tree) → SpellsTree tree_name tree_own tree_inside d a lines → SpellsTree tree_name tree_own tree_inside e b lines → a ≡ b
+
+abbrev PairsUp : Type 0
+PairsUp = (bounded : Bool) (t : Tree) (lines : Lines) (n : ℕ) → IsObject tree_name tree_own tree_inside bounded t lines → lines_have n lines ≡ true → ⊥
+
+abbrev OneEvent : Type 0
+OneEvent = (m : Bool) (lines : Lines) (a b : Event) → SaysEvent m lines a → SaysEvent m lines b → a ≡ b
+
+abbrev NoFault : Type 0
+NoFault = (m : Bool) (lines : Lines) (a : Event) (n : ℕ) → SaysEvent m lines a → EventFault m lines n → ⊥
+
+-- ---- lists of one
+
+in_one : {A : Type 0} (x v : A) → Contains (x ∷ []) v → x ≡ v
+in_one x v (zero, w, e) = e
+in_one x v (suc k, w, e) = absurd (omega arith)
+
+one_line : (x y : Lines) → x ∷ [] ≡ y ∷ [] → x ≡ y
+one_line x y e = ap (λ xs. get_or xs 0 []) e
+
+one_zip : (x : Lines) (events : List Event) → AllZip (SaysEvent true) (x ∷ []) events → length events ≡ 1
+one_zip x [] h = absurd h
+one_zip x (y ∷ []) h = refl
+one_zip x (y ∷ z ∷ zs) h = absurd h.1
+
+one_of_one : (events : List Event) → length events ≡ 1 → are_one_meeting events ≡ true
+one_of_one [] e = refl
+one_of_one (x ∷ []) e = refl
+one_of_one (x ∷ y ∷ events) e = absurd (omega (arith, e))
+
+-- ---- METHOD
+
+-- REQUEST is no other word
+not_unread : (word : List ℕ) → is_same_name word (codes "REQUEST") ≡ true → is_unread_method word ≡ false
+not_unread word h =
+    let e = (bytes_eq-Decides (str_to_ascii_lowercase word) (str_to_ascii_lowercase (codes "REQUEST"))).0 h in
+    ap (λ x. bytes_eq x (str_to_ascii_lowercase (codes "CANCEL")) || bytes_eq x (str_to_ascii_lowercase (codes "ADD")) || bytes_eq x (str_to_ascii_lowercase (codes "REPLY")) || bytes_eq x (str_to_ascii_lowercase (codes "REFRESH"))) e
+
+is_taken : (word : List ℕ) → is_same_name word (codes "REQUEST") ≡ true → is_method word ≡ true
+is_taken word h = rw h refl
+
+no_method_fault : (own : Lines) (vs : List Lines) (a : Event) (n : ℕ) → SaysRequest own vs a → MethodFault own n → ⊥
+no_method_fault own vs a n s (two_methods h) =
+    let k = ap length s.method in absurd (omega (arith, h, k))
+no_method_fault own vs a n s (bad_method (line, at, h)) =
+    let e = in_one s.method_line line (subst (λ (xs : Lines). Contains xs line) s.method at) in
+    true≢false (sym (is_taken (line_value line) (subst (λ (x : List ℕ). is_same_name (line_value x) (codes "REQUEST") ≡ true) e s.request)) ∙ h)
+no_method_fault own vs a n s (unread_method (line, at, h)) =
+    let e = in_one s.method_line line (subst (λ (xs : Lines). Contains xs line) s.method at) in
+    true≢false (sym h ∙ not_unread (line_value line) (subst (λ (x : List ℕ). is_same_name (line_value x) (codes "REQUEST") ≡ true) e s.request))
+no_method_fault own vs a n s (no_method h) =
+    let k : 0 ≡ 1 = sym (ap length h) ∙ ap length s.method in absurd (omega (arith, k))
+
+-- ---- the lines of a VCALENDAR and of its VEVENTs
+
+one_said : OneEvent → (own : Lines) (vs : List Lines) (a b : Event) → SaysRequest own vs a → SaysRequest own vs b → a ≡ b
+one_said one own vs a b s t =
+    let same : s.lines ≡ t.lines = one_line s.lines t.lines (sym s.one ∙ t.one) in
+    one true t.lines a b (subst (λ (x : Lines). SaysEvent true x a) same s.says) t.says
+
+no_message_fault : NoFault → (own : Lines) (vs : List Lines) (a : Event) (n : ℕ) → SaysRequest own vs a → MessageFault own vs n → ⊥
+no_message_fault sound own vs a n s (in_method h) = no_method_fault own vs a n s h
+no_message_fault sound own vs a n s (in_event lines at fault) =
+    let e = in_one s.lines lines (subst (λ (xs : List Lines). Contains xs lines) s.one at) in
+    sound true lines a n (subst (λ (x : Lines). SaysEvent true x a) e s.says) fault
+no_message_fault sound own vs a n s (not_yet h) =
+    let k : (has_unread s.lines || false) ≡ true = sym (ap (λ (xs : List Lines). list_any has_unread xs) s.one) ∙ h in
+    true≢false (sym (rw s.read at k))
+no_message_fault sound own vs a n s (no_event h) =
+    let k : 0 ≡ 1 = sym (ap length h) ∙ ap length s.one in absurd (omega (arith, k))
+no_message_fault sound own vs a n s (two_meetings events zip h) =
+    let one = one_zip s.lines events (subst (λ (xs : List Lines). AllZip (SaysEvent true) xs events) s.one zip) in
+    true≢false (sym (one_of_one events one) ∙ h)
+no_message_fault sound own vs a n s (two_wholes events zip h more) =
+    let one = one_zip s.lines events (subst (λ (xs : List Lines). AllZip (SaysEvent true) xs events) s.one zip) in
+    absurd (omega (arith, one, more))
+
+-- ---- octets
+
+pub one_spelled : OneTree → OneEvent → (octets : List ℕ) (a b : Event) → SpellsRequest octets a → SpellsRequest octets b → a ≡ b
+one_spelled tree one octets a b s t =
+    let same : s.tree ≡ t.tree = tree 7 7 (logical_lines octets) s.tree t.tree s.object.spelled t.object.spelled in
+    one_said one (tree_own t.tree) (vevents t.tree) a b (subst (λ (x : Tree). SaysRequest (tree_own x) (vevents x) a) same s.says) t.says
+
+pub no_fault : OneTree → PairsUp → NoFault → (octets : List ℕ) (a : Event) (n : ℕ) → SpellsRequest octets a → ObjectFault n octets → ⊥
+no_fault one pairs sound octets a n s (inl h) = true≢false (sym h ∙ read_fine true octets n s.lines)
+no_fault one pairs sound octets a n s (inr (inl h)) = pairs true s.tree (logical_lines octets) n s.object h
+no_fault one pairs sound octets a n s (inr (inr (inl (t, spelled, inl (e, h))))) =
+    let same : s.tree ≡ t = one 7 7 (logical_lines octets) s.tree t s.object.spelled spelled in
+    true≢false (sym s.object.version ∙ (ap (λ (x : Tree). has_version (tree_own x)) same ∙ h))
+no_fault one pairs sound octets a n s (inr (inr (inl (t, spelled, inr (e, h))))) =
+    let same : t ≡ s.tree = sym (one 7 7 (logical_lines octets) s.tree t s.object.spelled spelled) in
+    let many : most_events < count_inside tree_name tree_own tree_inside (codes "VEVENT") s.tree = subst (λ (x : Tree). most_events < count_inside tree_name tree_own tree_inside (codes "VEVENT") x) same h in
+    let over : nat_lt most_events (count_inside tree_name tree_own tree_inside (codes "VEVENT") s.tree) ≡ true = grind (arith, nat_tests) in
+    true≢false (sym over ∙ s.object.events)
+no_fault one pairs sound octets a n s (inr (inr (inr r))) =
+    let same : s.tree ≡ r.tree = one 7 7 (logical_lines octets) s.tree r.tree s.object.spelled r.object.spelled in
+    no_message_fault sound (tree_own r.tree) (vevents r.tree) a n (subst (λ (x : Tree). SaysRequest (tree_own x) (vevents x) a) same s.says) r.fault
