@@ -65,7 +65,7 @@ unfolding year_days_before
 in_year n = omega (arith, year_begins n, year_ends n, year_start-step (year_of n))
 
 -- its month
-months_from_0 : (year : ℕ) → days_of_months year 0 ≡ 0
+pub months_from_0 : (year : ℕ) → days_of_months year 0 ≡ 0
 unfolding days_of_months
 months_from_0 year = refl
 
@@ -168,7 +168,7 @@ civil_parts (pos y) self month day h e =
     (ap pos (sym k.year), sym k.month, sym k.day)
 civil_parts (negsuc y) self month day h e = absurd (omega (arith, signed_arith))
 
-year_length_max : (year : ℕ) → days_in_year year ≤ 366
+pub year_length_max : (year : ℕ) → days_in_year year ≤ 366
 year_length_max year = grind (arith, nat_tests)
 
 pub record YearPlace (index start n : ℕ) : Type 0 where
@@ -196,7 +196,7 @@ year_rest year length before n y l b =
     let same : length ≡ days_in_year (year_of n) = l ∙ ap days_in_year y in
     record { within = rw (same, b) (omega (arith, in_year n)); value = rw (same, b) refl }
 
-month_length_max : (year month : ℕ) → days_in_month year month ≤ 31
+pub month_length_max : (year month : ℕ) → days_in_month year month ≤ 31
 month_length_max year month = grind (arith, nat_tests)
 
 pub month_place_max : (n : ℕ) → month_days_before n ≤ 30

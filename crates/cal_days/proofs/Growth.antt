@@ -4,7 +4,7 @@ use Rattle.std.proofs.lemmas.Bool.{cases_lt}
 use Rattle.std.proofs.lemmas.Bool.Decides.{nat_tests}
 use Rattle.profile.specs.Days.{Frequency, Daily, Weekly, Monthly, Yearly, days_in_year, days_in_month, days_of_months, year_start, year_of, month_of, year_days_before, month_days_before, period_of, shortest_period}
 use Rattle.cal_days.proofs.Order.{year_length, months_step}
-use Rattle.cal_days.proofs.Dates.{year_start-step, year_begins, year_ends, month_begins, month_range, in_month}
+use Rattle.cal_days.proofs.Dates.{year_start-step, year_begins, year_ends, months_from_0, month_begins, month_range, in_month}
 
 -- a day between the beginnings of a period and of the next
 pub record Within (starts : ℕ → ℕ) (n period : ℕ) : Type 0 where
@@ -36,7 +36,7 @@ module _ (starts : ℕ → ℕ) (short : ℕ) (grow : (period : ℕ) → starts 
         | inr ge ↦ ge
       ]
 
-year_short : (year : ℕ) → year_start year + 365 ≤ year_start (suc year)
+pub year_short : (year : ℕ) → year_start year + 365 ≤ year_start (suc year)
 year_short year =
     let least : 365 ≤ days_in_year year = grind (arith, nat_tests) in
     omega (arith, year_start-step year)
@@ -47,10 +47,6 @@ year_within n = record { begins = year_begins n; ends = year_ends n }
 months_step_suc : (year month : ℕ) → days_of_months year (suc month) ≡ days_of_months year month + days_in_month year (suc month)
 unfolding days_of_months
 months_step_suc year month = refl
-
-none : (year : ℕ) → days_of_months year 0 ≡ 0
-unfolding days_of_months
-none year = refl
 
 day_place : (n : ℕ) → year_start (year_of n) + days_of_months (year_of n) (month_of n - 1) + month_days_before n ≡ n
 unfolding month_days_before year_days_before
@@ -74,7 +70,7 @@ month_next month =
           let a : suc month / 12 ≡ suc y = omega arith in
           let b : suc month % 12 ≡ 0 = omega arith in
           let last : month % 12 ≡ 11 = omega arith in
-          rw (a, b, last) (omega (arith, rw last at step, year_length y, year_start-step y, none (suc y)))
+          rw (a, b, last) (omega (arith, rw last at step, year_length y, year_start-step y, months_from_0 (suc y)))
     ]
 
 month_short : (month : ℕ) → month_start month + 28 ≤ month_start (suc month)

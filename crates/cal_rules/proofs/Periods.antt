@@ -1,10 +1,9 @@
 -- The days of the period of a day, by its frequency.
 use Rattle.std.proofs.Common.{◌≡◌, ◌∙◌, sym, refl, ℕ, suc, ◌+◌, ◌-◌, ◌*◌, ◌%◌, ◌<◌, ◌≤◌, max, arith}
-use Rattle.std.proofs.lemmas.Bool.Decides.{nat_tests}
-use Rattle.profile.specs.Days.{Frequency, Daily, Weekly, Monthly, Yearly, period_of, days_in_year, days_in_month, year_start, year_of, month_of, month_days_before, month_days_after, year_days_before, year_days_after}
+use Rattle.profile.specs.Days.{Frequency, Daily, Weekly, Monthly, Yearly, period_of, year_start, year_of, month_of, month_days_before, month_days_after, year_days_before, year_days_after}
 use Rattle.profile.specs.Rules.{reach}
-use Rattle.cal_days.proofs.Dates.{date_counts, in_month, in_year, month_range, year_begins, year_ends, year_start-is, year_start-step}
-use Rattle.cal_days.proofs.Growth.{Within, ascends}
+use Rattle.cal_days.proofs.Dates.{date_counts, in_month, in_year, month_length_max, month_range, year_begins, year_ends, year_length_max, year_start-is, year_start-step}
+use Rattle.cal_days.proofs.Growth.{Within, ascends, year_short}
 use Rattle.cal_rules.specs.Spans.{IsSpan}
 use Rattle.cal_rules.specs.Known.{AreFacts}
 use Rattle.cal_rules.specs.declared.facts.DayFacts.{DayFacts}
@@ -60,9 +59,6 @@ week_span week_start n h w =
 
 -- MONTHS
 
-month_length_max : (year month : ℕ) → days_in_month year month ≤ 31
-month_length_max year month = grind (arith, nat_tests)
-
 year_low : (n : ℕ) → 366 ≤ n → 1 ≤ year_of n
 year_low n h = omega (arith, year_ends n)
 
@@ -109,14 +105,6 @@ month_span week_start n h =
     }
 
 -- YEARS
-
-year_short : (year : ℕ) → year_start year + 365 ≤ year_start (suc year)
-year_short year =
-    let least : 365 ≤ days_in_year year = grind (arith, nat_tests) in
-    omega (arith, year_start-step year)
-
-year_length_max : (year : ℕ) → days_in_year year ≤ 366
-year_length_max year = grind (arith, nat_tests)
 
 year_in : (year m : ℕ) → year_start year ≤ m → m < year_start (suc year) → year_of m ≡ year
 year_in year m low high =

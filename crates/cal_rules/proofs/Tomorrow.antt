@@ -1,16 +1,9 @@
 -- The day after a day, in the same month.
 use Rattle.std.proofs.Common.{◌≡◌, ◌∙◌, sym, ℕ, suc, ◌+◌, ◌-◌, ◌%◌, ◌<◌, ◌≤◌, arith}
-use Rattle.std.proofs.lemmas.Bool.Decides.{nat_tests}
-use Rattle.profile.specs.Days.{days_in_year, days_in_month, year_of, month_of, weekday_of, month_days_before, month_days_after, year_days_before, year_days_after}
-use Rattle.cal_days.proofs.Dates.{Named, named, date_counts, in_month, in_year, month_range, year_begins}
+use Rattle.profile.specs.Days.{days_in_month, year_of, month_of, weekday_of, month_days_before, month_days_after, year_days_before, year_days_after}
+use Rattle.cal_days.proofs.Dates.{Named, named, date_counts, in_month, in_year, month_length_max, month_range, year_begins, year_length_max}
 use Rattle.cal_rules.specs.declared.facts.DayFacts.{DayFacts}
 use Rattle.cal_rules.specs.Known.{AreFacts}
-
-month_length_max : (year month : ℕ) → days_in_month year month ≤ 31
-month_length_max year month = grind (arith, nat_tests)
-
-year_length_max : (year : ℕ) → days_in_year year ≤ 366
-year_length_max year = grind (arith, nat_tests)
 
 -- how far a day can lie in its week, its month and its year
 pub record Ranges (n : ℕ) : Type 0 where
