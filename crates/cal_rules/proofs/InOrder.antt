@@ -1,6 +1,6 @@
 -- A rule whose lists are put in order may be read, where the rule may.
 use Rattle.std.proofs.Common.{◌≡◌, ◌∙◌, ap, sym, refl, ℕ, zero, suc, ◌+◌, ◌-◌, ◌*◌, ◌/◌, ◌%◌, ◌<◌, ◌≤◌, Bool, true, false, cond, not, ◌&&◌, ◌||◌, ◌==◌, nat_eq, nat_lt, nat_le, List, [], ◌∷◌, length, map, filter, Contains, Option, None, Some, is_none, ℤ, pos, negsuc, ◌-ℤ◌, zero-add, arith}
-use Rattle.std.proofs.lemmas.Bool.{and_parts}
+use Rattle.std.proofs.lemmas.Bool.{and_parts, and_from}
 use Rattle.std.proofs.lemmas.Bool.Decides.{nat_tests, Decides-int_eq}
 use Rattle.std.proofs.lemmas.Int.{ints}
 use Rattle.std.proofs.lemmas.List.FromFn.{length-map-range_with_len, get_or-map-range_with_len, length-range_with_len, get_or-range_with_len}
@@ -10,7 +10,9 @@ use Rattle.profile.specs.Faults.{is_between}
 use Rattle.profile.specs.Rules.{RuleText, WeekdayNumber, Until, is_weekly, is_long, is_place, is_plain, is_entry, is_missing, is_short, is_in_range, go_together, IsAllowed}
 use Rattle.profile.specs.RuleTexts.{months_from, numbers_from, entries_from, nth_number, nth_entry, is_same_entry, rule_text, as_written, HandsIn, SpellsRule}
 use Rattle.cal_rules.proofs.WholeRule.{Ranges, ranges, rule_back}
-use Rattle.cal_rules.proofs.ReadBack.{up_to, below, and_both}
+use Rattle.cal_rules.proofs.ReadBack.{up_to, below}
+use Rattle.cal_rules.proofs.OneRule.{weekday_test}
+use Rattle.cal_rules.proofs.Parted.{same_octet}
 
 -- ---- candidates that a list has
 
@@ -31,7 +33,7 @@ kept_test same test one zs [] h = refl
 kept_test same test one zs (x ∷ xs) h =
     let rest = kept_test same test one zs xs h in
     elim (list_any (λ z. same z x) zs) as (λ b. list_any (λ z. same z x) zs ≡ b → list_all test (cond b (x ∷ kept same zs xs) (kept same zs xs)) ≡ true) [
-      | true ↦ λ e. and_both (test x) (list_all test (kept same zs xs)) (any_test same test one zs x e h) rest
+      | true ↦ λ e. and_from (test x) (list_all test (kept same zs xs)) (any_test same test one zs x e h) rest
       | false ↦ λ e. rest
     ] refl
 
@@ -133,11 +135,8 @@ entry_one z c e =
     let make : ℤ → ℕ → WeekdayNumber = λ n w. record { number = n; weekday = w } in
     ap (λ n. make n z.weekday) number ∙ ap (make c.number) weekday
 
-same_octet : (n : ℕ) → nat_eq n n ≡ true
-same_octet n = grind (arith, nat_tests)
-
 entry_itself : (z : WeekdayNumber) → is_same_entry z z ≡ true
-entry_itself z = and_both (int_eq z.number z.number) (z.weekday == z.weekday) (int_itself z.number) (same_octet z.weekday)
+entry_itself z = and_from (int_eq z.number z.number) (z.weekday == z.weekday) (int_itself z.number) (same_octet z.weekday)
 
 entry_apart : (a b : ℕ) → nth_entry a ≡ nth_entry b → a ≡ b
 entry_apart a b e =
@@ -205,31 +204,28 @@ months_missing zs all = kept_missing nat_eq (is_between 1 12) same_octet (range_
 
 -- ---- the rule
 
-lt_test : (n : ℕ) → n < 7 → nat_lt n 7 ≡ true
-lt_test n h = grind (arith, nat_tests)
-
 le_test : (m n : ℕ) → n ≤ m → nat_le m 366 ≡ true → nat_le n 366 ≡ true
 le_test m n h e = grind (arith, nat_tests)
 
 months_ordered : (zs : List ℕ) → (list_all (is_between 1 12) zs && is_short zs) ≡ true → (list_all (is_between 1 12) (months_from 1 zs) && is_short (months_from 1 zs)) ≡ true
 months_ordered zs h =
     let p = and_parts (list_all (is_between 1 12) zs) (is_short zs) h in
-    and_both (list_all (is_between 1 12) (months_from 1 zs)) (is_short (months_from 1 zs)) (months_test (is_between 1 12) zs p.0) (le_test (length zs) (length (months_from 1 zs)) (months_short zs) p.1)
+    and_from (list_all (is_between 1 12) (months_from 1 zs)) (is_short (months_from 1 zs)) (months_test (is_between 1 12) zs p.0) (le_test (length zs) (length (months_from 1 zs)) (months_short zs) p.1)
 
 numbers_ordered : (most : ℕ) (zs : List ℤ) → (list_all (is_place most) zs && is_short zs) ≡ true → (list_all (is_place most) (numbers_from 0 zs) && is_short (numbers_from 0 zs)) ≡ true
 numbers_ordered most zs h =
     let p = and_parts (list_all (is_place most) zs) (is_short zs) h in
-    and_both (list_all (is_place most) (numbers_from 0 zs)) (is_short (numbers_from 0 zs)) (numbers_test (is_place most) zs p.0) (le_test (length zs) (length (numbers_from 0 zs)) (numbers_short zs) p.1)
+    and_from (list_all (is_place most) (numbers_from 0 zs)) (is_short (numbers_from 0 zs)) (numbers_test (is_place most) zs p.0) (le_test (length zs) (length (numbers_from 0 zs)) (numbers_short zs) p.1)
 
 entries_ordered : (zs : List WeekdayNumber) → (list_all is_entry zs && is_short zs) ≡ true → (list_all is_entry (entries_from 0 zs) && is_short (entries_from 0 zs)) ≡ true
 entries_ordered zs h =
     let p = and_parts (list_all is_entry zs) (is_short zs) h in
-    and_both (list_all is_entry (entries_from 0 zs)) (is_short (entries_from 0 zs)) (entries_test is_entry zs p.0) (le_test (length zs) (length (entries_from 0 zs)) (entries_short zs) p.1)
+    and_from (list_all is_entry (entries_from 0 zs)) (is_short (entries_from 0 zs)) (entries_test is_entry zs p.0) (le_test (length zs) (length (entries_from 0 zs)) (entries_short zs) p.1)
 
 in_order_range : (t : RuleText) (end : Option Until) → Ranges t → is_in_range (as_written t end) ≡ true
 unfolding is_in_range
 in_order_range t end r =
-    and_both _ _ (and_both _ _ (and_both _ _ (and_both _ _ (and_both _ _ (and_both _ _ r.interval r.count) (lt_test t.week_start r.week)) (months_ordered t.months r.months)) (numbers_ordered 31 t.month_days r.month_days)) (entries_ordered t.weekdays r.weekdays)) (numbers_ordered 366 t.positions r.positions)
+    and_from _ _ (and_from _ _ (and_from _ _ (and_from _ _ (and_from _ _ (and_from _ _ r.interval r.count) (weekday_test t.week_start r.week)) (months_ordered t.months r.months)) (numbers_ordered 31 t.month_days r.month_days)) (entries_ordered t.weekdays r.weekdays)) (numbers_ordered 366 t.positions r.positions)
 
 either_kept : (a b c d : Bool) → (a ≡ true → c ≡ true) → d ≡ b → (a || b) ≡ true → (c || d) ≡ true
 either_kept true b c d f e h = rw (f refl) refl
@@ -245,8 +241,8 @@ in_order_together t end r h =
     let places = numbers_missing 366 t.positions (omega arith) (and_parts (list_all (is_place 366) t.positions) (is_short t.positions) r.positions).0 in
     let p = and_parts _ (is_missing t.positions || not (is_missing t.months && is_missing t.month_days && is_missing t.weekdays)) h in
     let q = and_parts (not (is_weekly t.frequency) || is_missing t.month_days) (list_all (λ entry. is_plain entry.number) t.weekdays || (is_long t.frequency && is_missing t.month_days)) p.0 in
-    and_both _ _
-    (and_both _ _ (ap (λ b. not (is_weekly t.frequency) || b) days ∙ q.0)
+    and_from _ _
+    (and_from _ _ (ap (λ b. not (is_weekly t.frequency) || b) days ∙ q.0)
     (either_kept (list_all (λ entry. is_plain entry.number) t.weekdays) (is_long t.frequency && is_missing t.month_days) (list_all (λ entry. is_plain entry.number) (entries_from 0 t.weekdays)) (is_long t.frequency && is_missing (numbers_from 0 t.month_days)) (entries_test (λ entry. is_plain entry.number) t.weekdays) (ap (λ b. is_long t.frequency && b) days) q.1))
     (rw (places, months, days, entries) p.1)
 

@@ -1,7 +1,7 @@
 -- Tests of lists, written or implied.
 use Rattle.std.proofs.Common.{◌≡◌, ◌∙◌, ap, sym, refl, ℕ, suc, pos, Bool, true, false, ◌&&◌, ◌||◌, ◌==◌, nat_eq, List, [], ◌∷◌, map, if◌then◌else◌, arith}
 use Rattle.std.proofs.lemmas.Bool.Decides.{nat_tests}
-use Rattle.std.specs.List.{list_any, list_all}
+use Rattle.std.specs.List.{list_any}
 use Rattle.profile.specs.Rules.{allows, names_weekday}
 
 or_false : (b : Bool) → (b || false) ≡ b
@@ -16,7 +16,7 @@ by_implied test implied entry entries r e h = rw (e, or_false (test entry)) h
 pub by_written : {A : Type 0} (test : A → Bool) (implied : Bool) (entry : A) (entries : List A) (r : Bool) → implied ≡ false → r ≡ allows test entries → r ≡ allows test (if implied then entry ∷ [] else entries)
 by_written test implied entry entries r e h = rw e h
 
-and_true : (b : Bool) → (b && true) ≡ b
+pub and_true : (b : Bool) → (b && true) ≡ b
 and_true true = refl
 and_true false = refl
 
@@ -27,7 +27,7 @@ plain_weekday weekday there before after r h = h ∙ sym (and_true (there == wee
 pub same_suc : (m n : ℕ) → nat_eq m n ≡ nat_eq (suc m) (suc n)
 same_suc m n = grind (arith, nat_tests)
 
-any_map : {A B : Type 0} (test : B → Bool) (f : A → B) (xs : List A) → list_any test (map f xs) ≡ list_any (λ x. test (f x)) xs
+pub any_map : {A B : Type 0} (test : B → Bool) (f : A → B) (xs : List A) → list_any test (map f xs) ≡ list_any (λ x. test (f x)) xs
 any_map test f [] = refl
 any_map test f (x ∷ xs) = ap (λ b. test (f x) || b) (any_map test f xs)
 
@@ -35,7 +35,3 @@ any_map test f (x ∷ xs) = ap (λ b. test (f x) || b) (any_map test f xs)
 pub allows_map : {A B : Type 0} (test : B → Bool) (f : A → B) (xs : List A) → allows test (map f xs) ≡ allows (λ x. test (f x)) xs
 allows_map test f [] = refl
 allows_map test f (x ∷ xs) = any_map test f (x ∷ xs)
-
-pub all_map : {A B : Type 0} (test : B → Bool) (f : A → B) (xs : List A) → list_all test (map f xs) ≡ list_all (λ x. test (f x)) xs
-all_map test f [] = refl
-all_map test f (x ∷ xs) = ap (λ b. test (f x) && b) (all_map test f xs)

@@ -10,7 +10,6 @@ pub mod Parted
 pub mod Numbers
 pub mod Entered
 pub mod OneRule
-pub mod Exits
 pub mod Listing
 pub mod ReadBack
 pub mod WholeRule

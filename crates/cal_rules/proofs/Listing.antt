@@ -1,11 +1,12 @@
 -- The lists of a rule as they are written.
-use Rattle.std.proofs.Common.{to_z, of_z, w16, ◌≡◌, ◌∙◌, ap, sym, refl, ℕ, suc, ◌+◌, ◌-◌, ◌/◌, ◌<◌, ◌≤◌, Bool, true, false, ◌||◌, cond, ◌==◌, List, [], ◌∷◌, ◌++◌, map, codes, decimal, append_assoc, append-nil, ℤ, pos, ◌-ℤ◌, arith}
+use Rattle.std.proofs.Common.{to_z, of_z, w16, ◌≡◌, ◌∙◌, ap, sym, refl, ℕ, suc, ◌+◌, ◌-◌, ◌/◌, ◌<◌, ◌≤◌, Bool, true, false, cond, ◌==◌, List, [], ◌∷◌, ◌++◌, map, codes, decimal, append_assoc, append-nil, ℤ, pos, ◌-ℤ◌, arith}
 use Rattle.std.proofs.lemmas.Int.{ints}
 use Rattle.std.specs.Fmt.{signed_decimal}
 use Rattle.std.specs.List.{list_any}
 use Rattle.std.specs.Ordering.{int_eq}
 use Rattle.profile.specs.Rules.{WeekdayNumber}
 use Rattle.profile.specs.RuleTexts.{listed, months_from, numbers_from, entries_from, nth_number, nth_entry, is_same_entry, entry_text}
+use Rattle.cal_rules.proofs.Judging.{any_map}
 
 joined : (b lead entry rest : List ℕ) → ((b ++ lead) ++ entry) ++ rest ≡ b ++ (lead ++ entry ++ rest)
 joined b lead entry rest = simp append_assoc
@@ -89,10 +90,6 @@ entries_end : (k : ℕ) (entries : List WeekdayNumber) → 749 ≤ k → entries
 unfolding entries_from
 entries_end k entries h =
     let e : 749 - k ≡ 0 = omega arith in rw e refl
-
-any_map : {A B : Type 0} (test : B → Bool) (f : A → B) (xs : List A) → list_any test (map f xs) ≡ list_any (λ x. test (f x)) xs
-any_map test f [] = refl
-any_map test f (x ∷ xs) = ap (λ b. test (f x) || b) (any_map test f xs)
 
 here_entry : {A : Type 0} (f : A → WeekdayNumber) (k : ℕ) (entry : WeekdayNumber) (entries : List A) (r : Bool) → entry ≡ nth_entry k → list_any (λ x. is_same_entry (f x) entry) entries ≡ r → list_any (λ e. is_same_entry e (nth_entry k)) (map f entries) ≡ r
 here_entry f k entry entries r is any =

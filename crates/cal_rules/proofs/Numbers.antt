@@ -17,6 +17,8 @@ use Rattle.profile.specs.RuleTexts.{frequency_word, weekday_word, SpellsFrequenc
 use Rattle.ical_values.proofs.Offsets.{time_same}
 use Rattle.ical_values.proofs.Spelled.{clock_parts, date_length, after_letter, list_of_8}
 use Rattle.ical_values.proofs.Readings.{date_same, clock_same, stamp_same}
+use Rattle.ical_values.proofs.Parts.{head, tail}
+use Rattle.ical_values.proofs.Facts.{wide_clock}
 
 -- ---- words
 
@@ -148,12 +150,6 @@ sign_none c rest digits low h a e =
     let r = digit_first digits h a in
     let f : get_or digits 0 0 ≡ c = ap (λ x. get_or x 0 0) e in
     omega (arith, r.0)
-
-tail : (a b : ℕ) (xs ys : List ℕ) → a ∷ xs ≡ b ∷ ys → xs ≡ ys
-tail a b xs ys e = ap (drop 1) e
-
-head : (a b : ℕ) (xs ys : List ℕ) → a ∷ xs ≡ b ∷ ys → a ≡ b
-head a b xs ys e = ap (λ x. get_or x 0 0) e
 
 pub minus_reads : (most : ℕ) (value digits : List ℕ) (r : Option ℤ) → value ≡ 45 ∷ digits → IfSome r (λ place. (size : ℕ) × SpellsBetween 1 most digits size × (place ≡ neg_ℤ (pos size))) → IfSome r (SpellsPlace most value)
 minus_reads most value digits None e h = tt
@@ -324,16 +320,13 @@ no_midnight value none number s = none ((number *ℤ pos 86_400) +ℤ pos 0) (re
 day_bounds : (seconds number : ℤ) → IsClockSeconds seconds → seconds ≡ number *ℤ pos 86_400 → IsDayNumber number
 day_bounds seconds number h e = (omega (arith, ints, h.0, h.1), omega (arith, ints, h.0, h.1))
 
-seconds_cast : (seconds : ℤ) → IsClockSeconds seconds → to_z w64 (of_z w64 seconds) ≡ seconds
-seconds_cast seconds h = omega (arith, ints, h.0, h.1)
-
 day_cast : (number : ℤ) → IsDayNumber number → to_z w64 (of_z w64 number) ≡ number
 day_cast number h = omega (arith, ints, h.0, h.1)
 
 -- the number of that day, as the program reckons it
 day_number_is : (value : List ℕ) (seconds day : ℤ) (m : Midnight value seconds) → IsClockSeconds seconds → ((number : ℤ) → to_z w64 (of_z w64 seconds) ≡ number *ℤ pos 86_400 → day ≡ number) → to_z w64 (of_z w64 day) ≡ m.number
 day_number_is value seconds day m range h =
-    let same : day ≡ m.number = h m.number (seconds_cast seconds range ∙ m.counted) in
+    let same : day ≡ m.number = h m.number (wide_clock seconds range ∙ m.counted) in
     ap (λ n. to_z w64 (of_z w64 n)) same ∙ day_cast m.number (day_bounds seconds m.number range m.counted)
 
 pub day_reads : (value : List ℕ) (seconds day : ℤ) (read : Option ℤ) → Midnight value seconds → IsClockSeconds seconds → ((number : ℤ) → to_z w64 (of_z w64 seconds) ≡ number *ℤ pos 86_400 → day ≡ number) → IfSome read (λ d. d ≡ to_z w64 (of_z w64 day)) → IfSome read (SpellsDate value)

@@ -3,6 +3,7 @@ use Rattle.std.proofs.Common.{◌≡◌, ◌∙◌, ap, sym, refl, ℕ, zero, su
 use Rattle.std.proofs.lemmas.Bool.Decides.{nat_tests}
 use Rattle.std.proofs.lemmas.List.Elements.{All-contains}
 use Rattle.std.specs.List.{list_all}
+use Rattle.std.proofs.lemmas.Bool.{and_from, or_right}
 use Rattle.profile.specs.Faults.{is_between}
 use Rattle.profile.specs.Days.{Frequency}
 use Rattle.profile.specs.Rules.{RuleText, WeekdayNumber, Until, is_place, is_plain, is_entry, is_count, is_short, is_in_range, go_together, has_one_end, IsAllowed}
@@ -15,13 +16,6 @@ use Rattle.cal_rules.proofs.Entered.{zip_same, zip_all}
 
 -- ---- ranges
 
-and_both : (x y : Bool) → x ≡ true → y ≡ true → (x && y) ≡ true
-and_both x y e f = rw (e, f) refl
-
-or_right : (x y : Bool) → y ≡ true → (x || y) ≡ true
-or_right true y e = refl
-or_right false y e = e
-
 says_test : {A : Type 0} (Is : List ℕ → A → Type 0) (missing : A) (test : A → Bool) → test missing ≡ true → ((v : List ℕ) (x : A) → Is v x → test x ≡ true) → (values : List (List ℕ)) (x : A) → SaysOr Is missing values x → test x ≡ true
 says_test Is missing test m passes [] x s = ap test s ∙ m
 says_test Is missing test m passes (v ∷ []) x s = passes v x s
@@ -31,11 +25,11 @@ count_ranges : (v : List ℕ) (x : Option ℕ) → IsGiven SpellsCount v x → i
 count_ranges v None s = absurd s
 count_ranges v (Some n) s = s.1
 
-below : (n : ℕ) → n < 7 → nat_lt n 7 ≡ true
-below n h = grind (arith, nat_tests)
+pub weekday_test : (n : ℕ) → n < 7 → nat_lt n 7 ≡ true
+weekday_test n h = grind (arith, nat_tests)
 
 weekday_ranges : (v : List ℕ) (n : ℕ) → SpellsWeekday v n → nat_lt n 7 ≡ true
-weekday_ranges v n s = below n s.0
+weekday_ranges v n s = weekday_test n s.0
 
 fits : (n : ℕ) → n ≤ 366 → nat_le n 366 ≡ true
 fits n h = grind (arith, nat_tests)
@@ -57,10 +51,10 @@ number_ranges front x (inr s) = or_right (is_plain x) (is_place 53 x) (place_ran
 
 entry_ranges : (v : List ℕ) (x : WeekdayNumber) → SpellsEntry v x → is_entry x ≡ true
 entry_ranges v x (front, letters, e, w, n) =
-    and_both (nat_lt x.weekday 7) (is_plain x.number || is_place 53 x.number) (below x.weekday w.0) (number_ranges front x.number n)
+    and_from (nat_lt x.weekday 7) (is_plain x.number || is_place 53 x.number) (weekday_test x.weekday w.0) (number_ranges front x.number n)
 
 list_ranges : {A : Type 0} (Is : List ℕ → A → Type 0) (test : A → Bool) → ((v : List ℕ) (x : A) → Is v x → test x ≡ true) → (v : List ℕ) (xs : List A) → SpellsList Is v xs → (list_all test xs && is_short xs) ≡ true
-list_ranges Is test passes v xs s = and_both (list_all test xs) (is_short xs) (zip_all Is test passes _ xs s.0) (short xs s.1)
+list_ranges Is test passes v xs s = and_from (list_all test xs) (is_short xs) (zip_all Is test passes _ xs s.0) (short xs s.1)
 
 between_ranges : (low high : ℕ) (v : List ℕ) (x : ℕ) → SpellsBetween low high v x → is_between low high x ≡ true
 between_ranges low high v x s = s.1
@@ -75,7 +69,7 @@ says_range text t s =
     let month_days = says_test (SpellsList (SpellsPlace 31)) [] (λ xs. list_all (is_place 31) xs && is_short xs) refl (list_ranges (SpellsPlace 31) (is_place 31) (place_ranges 31)) _ t.month_days s.month_days in
     let weekdays = says_test (SpellsList SpellsEntry) [] (λ xs. list_all is_entry xs && is_short xs) refl (list_ranges SpellsEntry is_entry entry_ranges) _ t.weekdays s.weekdays in
     let positions = says_test (SpellsList (SpellsPlace 366)) [] (λ xs. list_all (is_place 366) xs && is_short xs) refl (list_ranges (SpellsPlace 366) (is_place 366) (place_ranges 366)) _ t.positions s.positions in
-    and_both _ _ (and_both _ _ (and_both _ _ (and_both _ _ (and_both _ _ (and_both _ _ interval count) week_start) months) month_days) weekdays) positions
+    and_from _ _ (and_from _ _ (and_from _ _ (and_from _ _ (and_from _ _ (and_from _ _ interval count) week_start) months) month_days) weekdays) positions
 
 pub is_allowed : (text : List ℕ) (t : RuleText) → SaysParts text t → go_together t ≡ true → has_one_end t ≡ true → IsAllowed t
 is_allowed text t s together ends = (says_range text t s, together, ends)

@@ -11,7 +11,7 @@ use Rattle.cal_rules.specs.Refused.{IsPartFault, HasBadValue}
 
 -- ---- what follows a key
 
-same_octet : (n : ℕ) → nat_eq n n ≡ true
+pub same_octet : (n : ℕ) → nat_eq n n ≡ true
 same_octet n = grind (arith, nat_tests)
 
 pub after_append : (key value : List ℕ) → after_key key (key ++ value) ≡ Some value

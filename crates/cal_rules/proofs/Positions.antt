@@ -1,5 +1,5 @@
 -- Set positions, counted among the days of one period.
-use Rattle.std.proofs.Common.{◌≡◌, ◌∙◌, ap, refl, inl, inr, ℕ, zero, suc, ◌+◌, ◌-◌, ◌<◌, ◌≤◌, Bool, true, false, ◌&&◌, ◌==◌, nat_le, if◌then◌else◌, Option, None, Some, MatchOption, arith}
+use Rattle.std.proofs.Common.{◌≡◌, ◌∙◌, ap, refl, inl, inr, ℕ, zero, suc, ◌+◌, ◌-◌, ◌<◌, ◌≤◌, Bool, true, false, ◌==◌, nat_le, if◌then◌else◌, Option, None, Some, MatchOption, arith}
 use Rattle.std.proofs.lemmas.Bool.{cases_lt, cases_order, and_left, and_right, ne_eqb, eq-eqb}
 use Rattle.std.proofs.lemmas.Bool.Decides.{nat_tests}
 use Rattle.profile.specs.Days.{period_of}
@@ -7,6 +7,7 @@ use Rattle.profile.specs.Rules.{Pattern, allows, is_nth, is_missing, passes, is_
 use Rattle.cal_rules.specs.Spans.{IsSpan}
 use Rattle.cal_rules.specs.Counted.{NoneIn, IsFirstIn, is_chosen, has_place}
 use Rattle.cal_rules.proofs.Periods.{reach_max, span_of}
+use Rattle.cal_rules.proofs.Judging.{and_true}
 
 -- COUNTS
 
@@ -123,10 +124,6 @@ chosen_is p n first end m s step high from to =
     let here = span_of p.frequency p.week_start n first end m s from to in
     let stepped : is_in_step p m ≡ true = step_same p n m (s.same m from to) ∙ step in
     rw (stepped, mates_before_is p m first end here stepped high, mates_after_is p m first end here stepped high) refl
-
-and_true : (b : Bool) → (b && true) ≡ b
-and_true true = refl
-and_true false = refl
 
 -- where no set position is written
 chosen_plain : (p : Pattern) (n first end m : ℕ) → IsSpan p.frequency p.week_start n first end → is_in_step p n ≡ true → is_missing p.positions ≡ true → first ≤ m → m < end → is_chosen p m ≡ passes p m

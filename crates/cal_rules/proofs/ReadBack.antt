@@ -1,6 +1,6 @@
 -- What is written of a rule's values reads back.
-use Rattle.std.proofs.Common.{◌≡◌, ◌∙◌, ap, refl, ℕ, zero, suc, ◌^◌, ◌<◌, ◌≤◌, Bool, true, false, cond, not, ◌&&◌, ◌||◌, ◌==◌, nat_lt, inl, inr, ◌⊎◌, List, [], ◌∷◌, ◌++◌, length, map, codes, decimal, All, append-nil, ℤ, pos, negsuc, arith}
-use Rattle.std.proofs.lemmas.Bool.{and_parts}
+use Rattle.std.proofs.Common.{◌≡◌, ◌∙◌, ap, refl, ℕ, zero, suc, ◌^◌, ◌<◌, ◌≤◌, Bool, true, false, cond, not, ◌||◌, ◌==◌, nat_lt, inl, inr, ◌⊎◌, List, [], ◌∷◌, ◌++◌, length, map, codes, decimal, All, append-nil, ℤ, pos, negsuc, arith}
+use Rattle.std.proofs.lemmas.Bool.{and_parts, and_from, not-true}
 use Rattle.std.proofs.lemmas.Bool.Decides.{nat_tests}
 use Rattle.std.proofs.lemmas.Fmt.{decimal_is_IsNumeral}
 use Rattle.std.proofs.lemmas.List.Elements.{All-nil, All-cons, All-head, All-tail}
@@ -74,9 +74,6 @@ list_back Is entry entries xs clean zip short = (rw (split_back entry entries cl
 
 -- ---- no comma in a value
 
-pub and_both : (x y : Bool) → x ≡ true → y ≡ true → (x && y) ≡ true
-and_both x y e f = rw (e, f) refl
-
 abbrev pub no_comma : List ℕ → Bool
 no_comma xs = list_all (λ c. not (c == 44)) xs
 
@@ -84,24 +81,20 @@ comma_append : (xs ys : List ℕ) → no_comma xs ≡ true → no_comma ys ≡ t
 comma_append [] ys h g = g
 comma_append (x ∷ xs) ys h g =
     let p = and_parts (not (x == 44)) (no_comma xs) h in
-    and_both (not (x == 44)) (no_comma (xs ++ ys)) p.0 (comma_append xs ys p.1 g)
-
-pub not_true : (b : Bool) → not b ≡ true → b ≡ false
-not_true true e = cc
-not_true false e = refl
+    and_from (not (x == 44)) (no_comma (xs ++ ys)) p.0 (comma_append xs ys p.1 g)
 
 comma_all : (xs : List ℕ) → no_comma xs ≡ true → HasNoComma xs
 comma_all [] h = All-nil (λ c. (c == 44) ≡ false)
 comma_all (x ∷ xs) h =
     let p = and_parts (not (x == 44)) (no_comma xs) h in
-    All-cons (λ c. (c == 44) ≡ false) x xs (not_true (x == 44) p.0) (comma_all xs p.1)
+    All-cons (λ c. (c == 44) ≡ false) x xs (not-true (x == 44) p.0) (comma_all xs p.1)
 
 no_digit : (c : ℕ) → IsInRange 48 57 c → not (c == 44) ≡ true
 no_digit c r = grind (arith, nat_tests)
 
 comma_digits : (ds : List ℕ) → AllDigits 10 ds → no_comma ds ≡ true
 comma_digits [] a = refl
-comma_digits (c ∷ ds) a = and_both (not (c == 44)) (no_comma ds) (no_digit c (digit_from_value c a.0)) (comma_digits ds a.1)
+comma_digits (c ∷ ds) a = and_from (not (c == 44)) (no_comma ds) (no_digit c (digit_from_value c a.0)) (comma_digits ds a.1)
 
 pub comma_decimal : (n : ℕ) → n < 2 ^ 64 → no_comma (decimal n) ≡ true
 comma_decimal n h = comma_digits (decimal n) (number_back n h).1

@@ -1,6 +1,6 @@
 -- What is written of a whole rule reads back.
 use Rattle.std.proofs.Common.{◌≡◌, ◌∙◌, ap, sym, subst, refl, ℕ, zero, suc, ◌^◌, ◌<◌, ◌≤◌, Bool, true, false, cond, not, ◌&&◌, ◌||◌, ◌==◌, nat_eq, nat_lt, nat_le, inl, inr, List, [], ◌∷◌, ◌++◌, length, map, filter_map, codes, decimal, All, append_assoc, append-nil, Option, None, Some, ℤ, pos, negsuc, arith, ◌/◌, ◌%◌, ◌+◌}
-use Rattle.std.proofs.lemmas.Bool.{and_parts}
+use Rattle.std.proofs.lemmas.Bool.{and_parts, and_from, not-true}
 use Rattle.std.proofs.lemmas.Bool.Decides.{nat_tests}
 use Rattle.std.proofs.lemmas.List.Elements.{All-nil, All-cons, All-append, All-same, All-from_recursion, filter_map-append}
 use Rattle.std.proofs.lemmas.List.Splits.{slice_split_none, length-slice_split}
@@ -15,7 +15,7 @@ use Rattle.profile.specs.Values.{two_digits, four_digits, SpellsDate, SpellsTime
 use Rattle.profile.specs.Rules.{RuleText, WeekdayNumber, Until, UntilDay, UntilLocal, UntilInstant, is_place, is_plain, is_entry, is_count, is_short, is_in_range, go_together, has_one_end}
 use Rattle.profile.specs.RuleTexts.{RuleKey, Interval, Count, EndsAt, WeekStart, ByMonth, ByMonthDay, ByDay, BySetPosition, rule_parts, after_key, key_word, values_of, frequency_word, weekday_word, SpellsBetween, SpellsPlace, SpellsEntry, SpellsList, SpellsWeekday, SpellsCount, SpellsUntil, SpellsInterval, SpellsMonths, SpellsMonthDays, SpellsEntries, SpellsPositions, IsGiven, SaysOr, IsKnownPart, SpellsRule, listed, months_from, numbers_from, entries_from, entry_text, count_text, until_text, rule_text, as_written, HandsIn}
 use Rattle.cal_rules.proofs.Parted.{after_append}
-use Rattle.cal_rules.proofs.ReadBack.{number_back, up_to, below, or_other, and_both, not_true, no_comma, between_back, place_back, entry_back, written_list, month_small, comma_decimal, comma_place, comma_entry}
+use Rattle.cal_rules.proofs.ReadBack.{number_back, up_to, below, or_other, no_comma, between_back, place_back, entry_back, written_list, month_small, comma_decimal, comma_place, comma_entry}
 
 -- ---- no semicolon in a value
 
@@ -26,20 +26,20 @@ semi_append : (xs ys : List ℕ) → no_semicolon xs ≡ true → no_semicolon y
 semi_append [] ys h g = g
 semi_append (x ∷ xs) ys h g =
     let p = and_parts (not (x == 59)) (no_semicolon xs) h in
-    and_both (not (x == 59)) (no_semicolon (xs ++ ys)) p.0 (semi_append xs ys p.1 g)
+    and_from (not (x == 59)) (no_semicolon (xs ++ ys)) p.0 (semi_append xs ys p.1 g)
 
 semi_all : (xs : List ℕ) → no_semicolon xs ≡ true → All (λ c. (c == 59) ≡ false) xs
 semi_all [] h = All-nil (λ c. (c == 59) ≡ false)
 semi_all (x ∷ xs) h =
     let p = and_parts (not (x == 59)) (no_semicolon xs) h in
-    All-cons (λ c. (c == 59) ≡ false) x xs (not_true (x == 59) p.0) (semi_all xs p.1)
+    All-cons (λ c. (c == 59) ≡ false) x xs (not-true (x == 59) p.0) (semi_all xs p.1)
 
 no_digit : (c : ℕ) → IsInRange 48 57 c → not (c == 59) ≡ true
 no_digit c r = grind (arith, nat_tests)
 
 semi_digits : (ds : List ℕ) → AllDigits 10 ds → no_semicolon ds ≡ true
 semi_digits [] a = refl
-semi_digits (c ∷ ds) a = and_both (not (c == 59)) (no_semicolon ds) (no_digit c (digit_from_value c a.0)) (semi_digits ds a.1)
+semi_digits (c ∷ ds) a = and_from (not (c == 59)) (no_semicolon ds) (no_digit c (digit_from_value c a.0)) (semi_digits ds a.1)
 
 semi_decimal : (n : ℕ) → n < 2 ^ 64 → no_semicolon (decimal n) ≡ true
 semi_decimal n h = semi_digits (decimal n) (number_back n h).1
@@ -91,7 +91,7 @@ digit_clean : (n : ℕ) → n < 10 → not ((48 + n) == 59) ≡ true
 digit_clean n h = grind (arith, nat_tests)
 
 two_clean : (n : ℕ) → n < 100 → no_semicolon (two_digits n) ≡ true
-two_clean n h = and_both (not ((48 + n / 10) == 59)) (not ((48 + n % 10) == 59) && true) (digit_clean (n / 10) (omega arith)) (and_both (not ((48 + n % 10) == 59)) true (digit_clean (n % 10) (omega arith)) refl)
+two_clean n h = and_from (not ((48 + n / 10) == 59)) (not ((48 + n % 10) == 59) && true) (digit_clean (n / 10) (omega arith)) (and_from (not ((48 + n % 10) == 59)) true (digit_clean (n % 10) (omega arith)) refl)
 
 four_clean : (n : ℕ) → n < 10_000 → no_semicolon (four_digits n) ≡ true
 four_clean n h = semi_append (two_digits (n / 100)) (two_digits (n % 100)) (two_clean (n / 100) (omega arith)) (two_clean (n % 100) (omega arith))

@@ -16,6 +16,7 @@ use Rattle.cal_events.specs.Calendars.{booked_of}
 use Rattle.cal_events.specs.Clashes.{Names}
 use Rattle.clash_cert.specs.declared.making.Clash.{Clash}
 use Rattle.clash_cert.specs.Makings.{HasKeys, IsNamedClash, AreNamed, AreNamedAt}
+use Rattle.ical_values.proofs.Facts.{is_lt_true}
 
 key_total : IsTotalOrder key_cmp
 key_total =
@@ -68,14 +69,9 @@ named all a b t clash keys is less later = record {
   later = keys.instant ∙ later;
 }
 
-before_or_not : (r : Ordering) → is_lt r ≡ true → r ≡ Less
-before_or_not Less h = refl
-before_or_not Equal h = cc
-before_or_not Greater h = cc
-
 -- what comes before is less
 pub less_from_before : (a b : Booked) → is_lt (booked_cmp a b) ≡ true → booked_cmp a b ≡ Less
-less_from_before a b h = before_or_not (booked_cmp a b) h
+less_from_before a b h = is_lt_true (booked_cmp a b) h
 
 turned_less : (a b : Booked) → (a.key ≡ b.key → ⊥) → (r : Ordering) → booked_cmp b a ≡ r → is_lt r ≡ false → booked_cmp a b ≡ Less
 turned_less a b differ Less e h = cc

@@ -8,7 +8,7 @@ use Rattle.std.specs.Str.{all_ascii_digits, IsUtf8, bytes_eq}
 use Rattle.std.specs.Str.Parse.{digits_value, ParsesUnsigned}
 use Rattle.std.proofs.lemmas.Bool.{and_parts, and_from, true≢false, cond-true}
 use Rattle.std.proofs.lemmas.Bool.Decides.{nat_tests}
-use Rattle.std.proofs.lemmas.Fmt.{digits_decimal, digits_value-decimal, parse-decimal, IsAscii-decimal}
+use Rattle.std.proofs.lemmas.Fmt.{digits_decimal, parse-decimal, IsAscii-decimal}
 use Rattle.std.proofs.lemmas.Str.Parse.{IsNumeralModel, numerals_by_value, tells_all_ascii_digits}
 use Rattle.std.proofs.lemmas.Str.{IsUtf8-from_ascii}
 use Rattle.std.proofs.lemmas.Option.{same_Some, none-some}
@@ -92,10 +92,6 @@ digits_free (c ∷ ds) h =
 
 digits_model : IsNumeralModel (λ ds. all_ascii_digits ds ≡ true) (digits_value 10)
 digits_model = numerals_by_value (λ ds. all_ascii_digits ds ≡ true) tells_all_ascii_digits
-
--- a number's digits are its own
-pub decimal_once : (m n : ℕ) → m < 2 ^ 64 → n < 2 ^ 64 → decimal m ≡ decimal n → m ≡ n
-decimal_once m n h k e = sym (digits_value-decimal digits_model m h) ∙ ap (digits_value 10) e ∙ digits_value-decimal digits_model n k
 
 pub decimal_free : (n : ℕ) → n < 2 ^ 64 → lf_free (decimal n) ≡ true
 decimal_free n h = digits_free (decimal n) (digits_decimal digits_model n h)

@@ -1,11 +1,12 @@
 -- Which line is the first wrong one.
-use Rattle.std.proofs.Common.{◌≡◌, ◌≢◌, ℕ, zero, suc, ◌-◌, ◌^◌, ◌<◌, ◌≤◌, ◌==◌, Bool, true, false, List, [], ◌∷◌, ◌++◌, length, get_or, take, drop, subst, sym, refl, ap, ◌∙◌, inl, inr, arith}
+use Rattle.std.proofs.Common.{◌≡◌, ◌≢◌, ℕ, zero, suc, ◌-◌, ◌^◌, ◌<◌, ◌≤◌, ◌==◌, Bool, false, List, [], ◌∷◌, ◌++◌, length, get_or, take, drop, subst, sym, refl, ap, ◌∙◌, inl, inr, arith}
 use Rattle.std.specs.Prelude.{codes, decimal}
-use Rattle.std.proofs.lemmas.Bool.{cases_order, true≢false, eqb-true}
+use Rattle.std.proofs.lemmas.Bool.{cases_order, true≢false}
 use Rattle.std.proofs.lemmas.List.{length-take-le}
+use Rattle.std.proofs.lemmas.Fmt.{decimal_injective}
 use Rattle.profile.specs.Certificates.{Claims, IsClaims, lines_of, spelled, Spells, BeginsWell, FirstWrong}
 use Rattle.clash_cert.specs.Texts.{LacksLine, LacksCount}
-use Rattle.clash_cert.proofs.TextLemmas.{AreLines, AreLines-take, lines_are, one_rest, one_cut, one_line, cancel, decimal_once, spelled-take, spelled-take_suc}
+use Rattle.clash_cert.proofs.TextLemmas.{AreLines, AreLines-take, lines_are, one_rest, one_cut, one_line, cancel, spelled-take, spelled-take_suc}
 
 -- after the first n lines a text that goes well has the next
 begins_next : (text : List ℕ) (c : Claims) (n : ℕ) (r : List ℕ) → IsClaims c → n < 4 → text ≡ spelled (take n (lines_of c)) r
@@ -91,11 +92,7 @@ spells text r s t u n e f g i none = record {
   is = four_lines text r s t u n e f.1 g i ∙ ap (λ l. spelled (lines_of (record { singles = n })) l) none;
 }
 
--- what `is_empty` tells
-pub empty_from : (u : List ℕ) (b : Bool) → b ≡ (length u == 0) → b ≡ true → u ≡ []
-empty_from [] b e h = refl
-empty_from (c ∷ u) b e h = let n : length (c ∷ u) ≡ 0 = eqb-true _ _ (sym e ∙ h) in absurd (omega (arith, n))
-
+-- what `is_empty` tells of a text that is not
 pub some_from : (u : List ℕ) (b : Bool) → b ≡ (length u == 0) → b ≡ false → u ≢ []
 some_from u b e h f = true≢false (ap (λ (l : List ℕ). length l == 0) (sym f) ∙ sym e ∙ h)
 
@@ -116,7 +113,7 @@ one_content text c d h k =
     let lines = same_lines (lines_of d) (lines_of c) [] [] (lines_are d k.claims) (lines_are c h.claims) refl (sym k.is ∙ h.is) in
     let second : codes "SINGLES " ++ decimal d.singles ≡ codes "SINGLES " ++ decimal c.singles = ap (λ (ls : List (List ℕ)). get_or ls 1 []) lines in
     let digits : decimal d.singles ≡ decimal c.singles = cancel (codes "SINGLES ") (decimal d.singles) (decimal c.singles) second in
-    ap (λ (n : ℕ). record { singles = n }) (decimal_once d.singles c.singles k.claims h.claims digits)
+    ap (λ (n : ℕ). record { singles = n }) (decimal_injective d.singles c.singles k.claims h.claims digits)
 
 take-take-le : (j k : ℕ) (ls : List (List ℕ)) → j ≤ k → take j (take k ls) ≡ take j ls
 take-take-le zero k ls le = refl

@@ -8,3 +8,5 @@ pub mod Parts
 pub mod Signs
 pub mod Readings
 pub mod Spans
+pub mod Exits
+pub mod Facts

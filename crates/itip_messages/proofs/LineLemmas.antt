@@ -1,6 +1,6 @@
 -- What is written, line by line.
-use Rattle.std.proofs.Common.{◌≡◌, ◌∙◌, ℕ, List, [], ◌∷◌, ◌++◌, refl, sym, ap, Some, Ok, Err, append_assoc}
-use Rattle.std.specs.Prelude.{Result, OnOk, codes, ℤ}
+use Rattle.std.proofs.Common.{◌≡◌, ◌∙◌, ℕ, List, [], ◌∷◌, ◌++◌, refl, sym, ap, Some, append_assoc}
+use Rattle.std.specs.Prelude.{codes, ℤ}
 use Rattle.std.proofs.lemmas.List.{append-nil}
 use Rattle.std.proofs.lemmas.Grind.{flat_map-append}
 use Rattle.std.specs.List.{flat_map}
@@ -12,11 +12,6 @@ use Rattle.profile.specs.Kept.{written}
 use Rattle.ical_values.specs.Written.{Appends}
 use Rattle.itip_messages.specs.declared.reply.ReplyEvent.{ReplyEvent}
 use Rattle.itip_messages.specs.Replies.{IsStampLine, WritesLines, WritesEvents, IsWrittenEvent, IsReplyText}
-
--- what follows from an `Ok`
-pub on_ok : {T E P Q : Type 0} → (r : Result T E) → (P → Q) → OnOk r P → OnOk r Q
-on_ok (Ok x) f h = f h
-on_ok (Err e) f h = h
 
 -- one line
 pub one_line : (old new line : List ℕ) → new ≡ old ++ folded line → new ≡ old ++ written (line ∷ [])

@@ -1,6 +1,6 @@
 -- What the lines of a message say, and what is wrong with them.
 use Rattle.std.proofs.Common.{◌≡◌, ◌∙◌, ℕ, Bool, true, false, ◌&&◌, ◌||◌, cond, List, [], ◌∷◌, ◌++◌, length, map, get_or, refl, sym, ap, subst, arith, inl, inr, Option, Some, None, IsSome, is_some, option_map}
-use Rattle.std.specs.Prelude.{Result, Ok, Err, IfErr, IfOk, Contains, codes}
+use Rattle.std.specs.Prelude.{Result, Ok, Err, IfErr, Contains, codes}
 use Rattle.std.specs.List.{list_all, list_any, AllZip}
 use Rattle.std.specs.Str.{bytes_eq}
 use Rattle.std.proofs.lemmas.List.{map-append}
@@ -124,11 +124,6 @@ request_said own vevents event named read o = record {
 }
 
 -- ---- parts
-
--- what follows of the value of an `Ok`
-pub if_ok : {T E : Type 0} (r : Result T E) (P Q : T → Type 0) → ((x : T) → P x → Q x) → IfOk r P → IfOk r Q
-if_ok (Ok x) P Q f h = f x h
-if_ok (Err e) P Q f h = tt
 
 any_mapped : (p : events.Attendee → Bool) (xs : List Attendee) → list_any (λ a. p (attendee_of a)) xs ≡ list_any p (map attendee_of xs)
 any_mapped p [] = refl

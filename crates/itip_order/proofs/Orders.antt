@@ -10,8 +10,8 @@ use Rattle.itip_order.specs.Registers.{is_ascending, StandsFor, SameParts}
 use Rattle.itip_order.proofs.Lists.{all_at, all_from, any_from, in_cons, in_head, in_tail, none_in_nil}
 use Rattle.itip_order.proofs.Order.{place_total}
 use Rattle.itip_order.proofs.Allowed.{ascending_unique}
-use Rattle.itip_order.proofs.Taking.{is_lt_true}
 use Rattle.itip_order.proofs.Registers.{eq_refl, part_le_refl, Greatest, greatest_at, greatest_from, greatest_register, register_greatest, implies_at, implies_from}
+use Rattle.ical_values.proofs.Facts.{is_lt_true}
 
 -- no place is below itself
 below_itself : (x : Part) → is_lt (place_cmp x x) ≡ true → ⊥

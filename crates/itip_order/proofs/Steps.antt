@@ -1,8 +1,7 @@
 -- The same, of this crate's own parts: a register that is written over, a new one, a copied list.
-use Rattle.std.proofs.Common.{◌≡◌, ℕ, Bool, true, false, cond, List, [], ◌∷◌, ◌++◌, get_or, set, take, drop, Result, Ok, Err, refl, sym, ap, ◌∙◌, subst}
+use Rattle.std.proofs.Common.{◌≡◌, ℕ, Bool, true, false, cond, List, [], ◌∷◌, ◌++◌, get_or, set, take, drop, refl, sym, ap, ◌∙◌, subst}
 use Rattle.std.specs.declared.cmp.Ordering.TheVariants.{Equal, Greater}
 use Rattle.std.specs.List.{Contains, insert, AllZip}
-use Rattle.std.specs.Result.{OnErr}
 use Rattle.std.proofs.lemmas.List.{map-append, map-set, take-map, drop-map}
 use Rattle.std.proofs.Math.ListN.{get_or-map}
 use Rattle.std.proofs.lemmas.List.Elements.{Contains-get_or}
@@ -14,11 +13,6 @@ use Rattle.std.proofs.lemmas.Cmp.{tied_back}
 use Rattle.itip_order.proofs.Order.{place_total, part_same}
 use Rattle.itip_order.proofs.Registers.{Puts}
 use Rattle.itip_order.proofs.Taking.{puts_insert, puts_set}
-
--- what holds anyhow holds on an error
-pub on_err_from : {T E : Type 0} (r : Result T E) (P : Type 0) → P → OnErr r P
-on_err_from (Ok x) P p = tt
-on_err_from (Err e) P p = p
 
 -- the register at a place, as the profile's part
 pub register_is : (items : List Part) (r : Part) (at : ℕ) → r ≡ get_or items at r → part_of r ≡ get_or (parts_of items) at (part_of r)

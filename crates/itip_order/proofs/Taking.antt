@@ -17,11 +17,7 @@ use Rattle.itip_order.specs.Registers.{is_ascending, is_allowed_by, is_known, St
 use Rattle.itip_order.proofs.Lists.{all_at, all_from, any_at, any_from, in_head, in_tail, in_cons, none_in_nil}
 use Rattle.itip_order.proofs.Order.{place_total, part_total}
 use Rattle.itip_order.proofs.Registers.{Puts, stands_kept, stands_put, in_view_from, in_view_at, register_greatest, register_of, place_trans, greatest_unique, allows_same_place, eq_refl}
-
-pub is_lt_true : (o : Ordering) → is_lt o ≡ true → o ≡ Less
-is_lt_true Less e = refl
-is_lt_true Equal e = absurd (true≢false (sym e))
-is_lt_true Greater e = absurd (true≢false (sym e))
+use Rattle.ical_values.proofs.Facts.{is_lt_true}
 
 pub is_gt_true : (o : Ordering) → is_gt o ≡ true → o ≡ Greater
 is_gt_true Less e = absurd (true≢false (sym e))

@@ -1,7 +1,6 @@
 -- The settings so far, against the settings of the whole text.
 use Rattle.std.proofs.Common.{◌≡◌, ◌≢◌, ℕ, zero, suc, ◌<◌, ◌≤◌, Bool, true, false, List, [], ◌∷◌, ◌++◌, length, get_or, map, refl, sym, ap, subst, ◌∙◌, arith, codes, inl, inr, ◌⊎◌, ℤ, Option, Some, None, Result, Ok, Err, OnOk, OnErr, IfErr, Contains, AllPairs, length-append}
 use Rattle.std.proofs.Common.{◌==◌, true≢false}
-use Rattle.std.proofs.lemmas.Bool.Decides.{nat_tests}
 use Rattle.std.specs.Option.{option_to_list}
 use Rattle.std.proofs.lemmas.List.{append_assoc, append-nil, get_or_append_left}
 use Rattle.std.proofs.Math.Seq.{get_or-append_seam}
@@ -305,10 +304,6 @@ all_read text rest s so none =
         other_is ∙ ap (λ z. so.done ++ z) (none_says rest_says none) ∙ append-nil so.done
 
 -- ---- tests of emptiness, and refusals
-
-pub is_none : (xs : List ℕ) (b : Bool) → b ≡ (length xs == 0) → b ≡ true → xs ≡ []
-is_none [] b e t = refl
-is_none (x ∷ xs) b e t = absurd (true≢false (sym t ∙ e ∙ grind (arith, nat_tests)))
 
 pub is_some : (xs : List ℕ) (b : Bool) → b ≡ (length xs == 0) → b ≡ false → 0 < length xs
 is_some [] b e t = absurd (true≢false (sym e ∙ t))

@@ -1,6 +1,6 @@
 use Rattle.cal_rules.specs.Refused.{IsPartFault}
-use Rattle.cal_rules.proofs.Exits.{refusal_exit}
 use Rattle.cal_rules.proofs.Parted.{fault_no_frequency, fault_two_frequencies, fault_frequency}
+use Rattle.ical_values.proofs.Exits.{refusal_exit}
 use Rattle.cal_rules.proofs.fields.frequency.Goals as goal
 
 pub returns-in_err-value-clause-refuses : goal.returns-in_err-value-clause-refuses

@@ -1,7 +1,7 @@
 use Rattle.profile.specs.RuleTexts.{Interval}
 use Rattle.cal_rules.specs.Refused.{IsPartFault}
-use Rattle.cal_rules.proofs.Exits.{refusal_exit}
 use Rattle.cal_rules.proofs.Parted.{fault_twice, fault_bad}
+use Rattle.ical_values.proofs.Exits.{refusal_exit}
 use Rattle.cal_rules.proofs.fields.interval.Goals as goal
 
 pub returns-in_err-value-clause-refuses : goal.returns-in_err-value-clause-refuses

@@ -1,14 +1,14 @@
 use Rattle.ical_lines.specs.declared.fault.Fault.TheVariants.{Refused}
 use Rattle.profile.specs.RuleTexts.{BySetPosition}
-use Rattle.cal_rules.specs.Refused.{IsPartFault}
-use Rattle.cal_rules.proofs.Exits.{fault_exit}
+use Rattle.cal_rules.specs.Refused.{IsPartFault, RefusesBy}
 use Rattle.cal_rules.proofs.Parted.{fault_twice, fault_bad}
+use Rattle.ical_values.proofs.Exits.{err_exit}
 use Rattle.cal_rules.proofs.fields.positions.Goals as goal
 
 pub returns-in_err-value-clause-refuses : goal.returns-in_err-value-clause-refuses
 returns-in_err-value-clause-refuses c =
     let t = c.in_err-value.ensures.twice in
-    fault_exit c.from_residual.result (IsPartFault c.args.text.now) (Refused c.in_err-value.field-0.0) c.from_residual.ensures.1 (fault_twice BySetPosition c.args.text.now c.in_err-value.field-0.0.number t.0 t.1)
+    err_exit c.from_residual.result (RefusesBy (IsPartFault c.args.text.now)) (Refused c.in_err-value.field-0.0) c.from_residual.ensures.1 (fault_twice BySetPosition c.args.text.now c.in_err-value.field-0.0.number t.0 t.1)
 
 pub returns-in_default-2-clause-refuses : goal.returns-in_default-2-clause-refuses
 returns-in_default-2-clause-refuses c =

@@ -4,10 +4,10 @@ use Rattle.ical_tree.specs.Tree.{component_lines, component_children}
 use Rattle.ical_tree.specs.declared.component.Component.{Component}
 use Rattle.profile.specs.Events.{SaysEvent}
 use Rattle.profile.specs.Messages.{MessageFault}
-use Rattle.cal_events.specs.Events.{event_of, vevents_of}
-use Rattle.cal_events.proofs.EventLemmas.{fault_exit}
+use Rattle.cal_events.specs.Events.{event_of, vevents_of, StandsIn}
 use Rattle.cal_events.proofs.ReadingLemmas.{events_in, is_among, take_event, take_other}
 use Rattle.itip_messages.proofs.MessageLemmas.{event_stands, event_pushed}
+use Rattle.ical_values.proofs.Exits.{err_exit}
 use Rattle.itip_messages.proofs.message.events_of.Goals as goal
 use Rattle.itip_messages.proofs.message.events_of.Goals.{then-is_named+in_ok-read+in_ok-push, else-is_named}
 
@@ -20,7 +20,7 @@ returns-in_err-read-clause-stands c =
     let same = c.children-component-items.ensures in
     let within = subst (λ (l : List Component). i < length l) same c.loop-component-test.true in
     let here = subst (λ (l : List Component). x ≡ get_or l i x) same c.component-item.is in
-    fault_exit _ (MessageFault own (vevents_of c.args.object.now)) _ c.from_residual.ensures.1
+    err_exit _ (StandsIn (MessageFault own (vevents_of c.args.object.now))) _ c.from_residual.ensures.1
     (event_stands own (vevents_of c.args.object.now) (component_lines x) _ (is_among all i x within here (sym c.if-is_named.ensures)) c.in_err-read.ensures.stands)
 
 pub loop-component-preserved : goal.loop-component-preserved

@@ -2,8 +2,8 @@ use Rattle.std.proofs.Common.{sym, subst}
 use Rattle.ical_lines.specs.Text.{line_text}
 use Rattle.ical_tree.specs.Tree.{component_lines}
 use Rattle.profile.specs.Messages.{MethodFault, two_methods, no_method}
-use Rattle.cal_events.proofs.EventLemmas.{refusal_exit}
 use Rattle.itip_messages.proofs.MessageLemmas.{word_stands}
+use Rattle.ical_values.proofs.Exits.{refusal_exit}
 use Rattle.itip_messages.proofs.message.method_of.Goals as goal
 
 pub returns-in_err-line-clause-stands : goal.returns-in_err-line-clause-stands

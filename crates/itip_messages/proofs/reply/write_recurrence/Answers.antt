@@ -1,5 +1,6 @@
-use Rattle.itip_messages.proofs.LineLemmas.{on_ok, slot_line}
+use Rattle.itip_messages.proofs.LineLemmas.{slot_line}
+use Rattle.std.proofs.lemmas.Result.{on_ok_weaker}
 use Rattle.itip_messages.proofs.reply.write_recurrence.Goals as goal
 
 pub returns-in-Some : goal.returns-in-Some
-returns-in-Some c = rw c.in-Some.is (on_ok c.stamp.result (slot_line _ _ _) c.stamp.ensures.ok)
+returns-in-Some c = rw c.in-Some.is (on_ok_weaker c.stamp.result (slot_line _ _ _) c.stamp.ensures.ok)

@@ -1,7 +1,8 @@
 use Rattle.std.proofs.Common.{◌++◌, take, rules}
 use Rattle.std.proofs.lemmas.Result.{err_from_is_err_and}
 use Rattle.std.proofs.KnownBytes.{Appends-trans}
-use Rattle.sched_box.proofs.OutputLemmas.{moves_front, any_ok, any_err, all_written, some_written, keeps_same}
+use Rattle.sched_box.proofs.OutputLemmas.{moves_front, any_ok, all_written, some_written, keeps_same}
+use Rattle.ical_values.proofs.Exits.{any_err}
 use Rattle.sched_box.proofs.output.put_some.Goals as goal
 
 pub loop-preserved : goal.loop-preserved

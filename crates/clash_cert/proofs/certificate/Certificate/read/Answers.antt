@@ -1,4 +1,5 @@
-use Rattle.clash_cert.proofs.WrongLines.{wrong_first, wrong_second, wrong_third, wrong_fourth, wrong_after, spells, empty_from, some_from, one_content}
+use Rattle.clash_cert.proofs.WrongLines.{wrong_first, wrong_second, wrong_third, wrong_fourth, wrong_after, spells, some_from, one_content}
+use Rattle.ical_values.proofs.Facts.{empty_from}
 use Rattle.clash_cert.proofs.certificate.Certificate.read.Goals as goal
 
 pub returns-in_default-clause-fault : goal.returns-in_default-clause-fault

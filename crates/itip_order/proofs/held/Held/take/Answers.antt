@@ -7,7 +7,8 @@ use Rattle.itip_order.specs.Parts.{part_of, parts_of}
 use Rattle.itip_order.specs.Registers.{is_allowed_by, is_known, StandsFor}
 use Rattle.itip_order.proofs.Registers.{stands_kept, stands_put}
 use Rattle.itip_order.proofs.Taking.{entered_is, repeated_is, stale_is, unknown_is}
-use Rattle.itip_order.proofs.Steps.{on_err_from, register_in, register_same, put_at, put_gap, ascending_either}
+use Rattle.itip_order.proofs.Steps.{register_in, register_same, put_at, put_gap, ascending_either}
+use Rattle.ical_values.proofs.Exits.{any_err}
 use Rattle.itip_order.proofs.held.Held.take.Goals as goal
 
 -- the part goes over the lesser register of its place
@@ -85,4 +86,4 @@ pub returns-in_err-insert-in-Err-clause-memory : goal.returns-in_err-insert-in-E
 returns-in_err-insert-in-Err-clause-memory c =
     let gap = rw c.deref-2.ensures.value at c.in-Err.ensures.absent in
     let unknown : (history : List revisions.Part) → StandsFor c.args.self.now history → is_known history (part_of c.args.part) ≡ false = λ history s. unknown_is _ history (part_of c.args.part) c.in-Err.at (subst (λ (R : List revisions.Part). StandsFor R history) (sym c.self.view_is) s) gap in
-    on_err_from _ _ unknown
+    any_err _ _ unknown
