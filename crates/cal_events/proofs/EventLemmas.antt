@@ -1,13 +1,12 @@
 -- What the readers of a VEVENT's properties say, put together.
 use Rattle.std.proofs.Common.{◌≡◌, ℕ, zero, suc, ◌+◌, ◌<◌, ◌≤◌, Bool, true, false, eqb, List, [], ◌∷◌, ◌++◌, length, get_or, take, drop, drop-cons, add-one, append_assoc, cond, map, codes, subst, sym, refl, ap, ◌∙◌, inl, inr, arith, ℤ, pos, ◌+ℤ◌, ◌*ℤ◌, ◌<ℤ◌}
-use Rattle.std.specs.Prelude.{Option, Some, None, Result, Ok, Err, is_ok, IfOk, IfErr, OnOk, OnErr, Contains, IsTrue, ◌⊎◌, ◌↔◌}
+use Rattle.std.specs.Prelude.{Option, Some, None, Result, Ok, Err, is_ok, IfOk, OnOk, OnErr, Contains, IsTrue, ◌⊎◌, ◌↔◌}
 use Rattle.std.specs.Str.{IsUtf8, is_utf8, chars}
 use lib.Utf8.{encode}
 use Rattle.std.proofs.lemmas.Str.{IsUtf8-append, IsUtf8-from_is_utf8}
 use Rattle.std.specs.List.{AllZip, find}
 use Rattle.std.proofs.lemmas.List.{map-append}
 use Rattle.std.proofs.lemmas.List.Elements.{Contains-append_right}
-use Rattle.std.specs.Result.{IsErrAnd}
 use Rattle.std.proofs.lemmas.Bool.{true≢false}
 use Rattle.std.proofs.Math.Seq.{take-append_seam}
 use Rattle.std.proofs.lemmas.Bool.Decides.{nat_tests}
@@ -27,25 +26,9 @@ use Rattle.profile.specs.Lines.{line_value}
 use Rattle.profile.specs.Values.{SpellsDate, SpellsLocal, SpellsStamp, SpellsSequence, SpellsDuration, SpellsNegative, SpellsLong, IsUid, unescaped}
 use Rattle.profile.specs.Events.{is_of, lines_named, StandsAtMostOnce, SomeLine, Says, SaysSequence, IsUidLine, TimeKind, DateTime, time_kind, IsTime, IsDateText, IsLocalText, KindFault, TimeFault, EventFault, IsNoDuration, IsNegativeOrLong, IsAttendee, IsNoAddress, SaysLength, IsLength, BothOrNeither, length_seconds, bad_duration, bad_attendee, lasts_long, ends_early, ends_late, starts_early}
 use Rattle.cal_events.specs.Events.{StandsIn, attendee_of, length_of, IsExtent, GivesLength, ExtentFault, TimesFault, ends_early as lies_before, ends_late as lies_late, lasts_long as is_long, in_extent, starts_early as lies_early}
+use Rattle.ical_tree.proofs.OneLine.{the_line}
 
--- ---- the exits of a `?`, by the error that it returns
-
-pub refused_exit : {T : Type 0} (r : Result T Fault) (P : ℕ → Type 0) (e : Refusal) → IsErrAnd r (λ f. f ≡ Refused e) → P e.number → IfErr r (StandsIn P)
-refused_exit (Ok x) P e h p = tt
-refused_exit (Err f) P e h p = subst (StandsIn P) (sym h) p
-
-pub fault_exit : {T : Type 0} (r : Result T Fault) (P : ℕ → Type 0) (e : Fault) → IsErrAnd r (λ f. f ≡ e) → StandsIn P e → IfErr r (StandsIn P)
-fault_exit (Ok x) P e h p = tt
-fault_exit (Err f) P e h p = subst (StandsIn P) (sym h) p
-
-pub refusal_exit : {T : Type 0} (r : Result T Refusal) (P : ℕ → Type 0) (e : Refusal) → IsErrAnd r (λ f. f ≡ e) → P e.number → IfErr r (λ f. P f.number)
-refusal_exit (Ok x) P e h p = tt
-refusal_exit (Err f) P e h p = subst (λ (x : Refusal). P x.number) (sym h) p
-
--- what two clauses say of an error
-pub err_both : {T E : Type 0} (r : Result T E) (P Q R : E → Type 0) → ((e : E) → P e → Q e → R e) → IfErr r P → IfErr r Q → IfErr r R
-err_both (Ok x) P Q R f p q = tt
-err_both (Err e) P Q R f p q = f e p q
+-- ---- faults
 
 -- a fault's one number
 is_number : (n k : ℕ) → IsTrue (eqb n k) → n ≡ k
@@ -57,9 +40,6 @@ by_number Memory P Q k g t q = tt
 by_number (Refused r) P Q k g t q = subst P (sym (is_number r.number k t)) (g q)
 
 -- ---- lines
-
-pub the_line : (name : List ℕ) (lines : List (List ℕ)) (line : List ℕ) → StandsAtMostOnce name lines (Some line) → Contains (lines_named name lines) line
-the_line name lines line e = subst (λ (ls : List (List ℕ)). Contains ls line) (sym e) (zero, omega arith, refl)
 
 pub some_line : (name : List ℕ) (P : List ℕ → Type 0) (lines : List (List ℕ)) (line : List ℕ) → StandsAtMostOnce name lines (Some line) → P line → SomeLine name P lines
 some_line name P lines line e p = (line, the_line name lines line e, p)

@@ -6,15 +6,14 @@ use Rattle.std.specs.List.{AllZip}
 use Rattle.std.proofs.lemmas.Bool.{true≢false}
 use Rattle.std.proofs.lemmas.Int.{ints}
 use Rattle.std.proofs.lemmas.List.Elements.{All-from_recursion, All-contains}
+use Rattle.std.proofs.lemmas.Option.{same_Some}
 use Rattle.profile.specs.Lines.{line_value}
 use Rattle.profile.specs.Values.{SpellsStamp, SpellsSequence, SpellsDuration, SpellsNegative, IsUid, unescaped}
 use Rattle.profile.specs.Events.{lines_named, StandsAtMostOnce, IsMissing, SomeLine, BothOrNeither, Says, SaysLength, SaysEvent, Event, Attendee, Length, length_seconds, IsLength, LastsFor, LastsUntil, IsTime, IsUidLine, IsAddressLine, IsStampLine, IsSequenceLine, IsAttendee, IsNoStamp, IsNegativeOrLong, IsNoAddress, IsNoSequence, StartAndEnd, TimeKind, DateTime, Date, Period, Other, time_kind, IsDateText, IsLocalText, UnfixedOrMalformed, KindFault, TimeFault, EventFault, single_names, bad_start, bad_end, bad_stamp, bad_duration, bad_uid, bad_organiser, bad_attendee, bad_sequence, ends_early, ends_late, lasts_long, starts_early, no_uid, no_start, no_stamp_given, twice, end_and_duration, no_organiser}
+use Rattle.ical_tree.proofs.OneLine.{IsFunctional, same_option, only_line}
 
 abbrev Lines : Type 0
 Lines = List (List ℕ)
-
-abbrev IsFunctional : {V : Type 0} → (List ℕ → V → Type 0) → Type 0
-IsFunctional {V} R = (line : List ℕ) (a b : V) → R line a → R line b → a ≡ b
 
 abbrev OneStamp : Type 0
 OneStamp = (text : List ℕ) (a b : ℤ) → SpellsStamp text a → SpellsStamp text b → a ≡ b
@@ -30,12 +29,6 @@ NotBoth = (text : List ℕ) (d s : ℕ) → SpellsDuration text d s → SpellsNe
 
 -- ---- one line
 
-same_option : {V : Type 0} (a b : Option V) → option_to_list a ≡ option_to_list b → a ≡ b
-same_option None None h = refl
-same_option None (Some b) h = cc
-same_option (Some a) None h = cc
-same_option (Some a) (Some b) h = let e : a ≡ b = cc in ap Some e
-
 same_line : (name : List ℕ) (lines : Lines) (a b : Option (List ℕ)) → StandsAtMostOnce name lines a → StandsAtMostOnce name lines b → a ≡ b
 same_line name lines a b h k = same_option a b (sym h ∙ k)
 
@@ -50,17 +43,6 @@ same_both R f (Some l) (Some v) (Some w) h k = ap Some (f l v w h k)
 same_said : {V : Type 0} (R : List ℕ → V → Type 0) (name : List ℕ) (m : Bool) (lines : Lines) (v w : Option V) → IsFunctional R → Says name m R lines v → Says name m R lines w → v ≡ w
 same_said R name m lines v w f s t =
     same_both R f t.line v w (subst (λ (l : Option (List ℕ)). BothOrNeither R l v) (same_line name lines s.line t.line s.once t.once) s.is) t.is
-
-some_same : {V : Type 0} (a b : V) → ◌≡◌ {A = Option V} (Some a) (Some b) → a ≡ b
-some_same a b h = cc
-
-at_one : (x line : List ℕ) → Contains (x ∷ []) line → x ≡ line
-at_one x line (zero, w, e) = e
-at_one x line (suc k, w, e) = absurd (omega arith)
-
-only_line : (name : List ℕ) (lines : Lines) (l : Option (List ℕ)) (line : List ℕ) → StandsAtMostOnce name lines l → Contains (lines_named name lines) line → l ≡ Some line
-only_line name lines None line e c = let h = subst (λ (ls : Lines). Contains ls line) e c in absurd (omega (arith, h.1))
-only_line name lines (Some x) line e c = ap Some (at_one x line (subst (λ (ls : Lines). Contains ls line) e c))
 
 -- what the one line of a property says
 has_said : {V : Type 0} (R : List ℕ → V → Type 0) (line : List ℕ) (v : Option V) → BothOrNeither R (Some line) v → (x : V) × R line x × (v ≡ Some x)
@@ -132,10 +114,10 @@ event_same a b p q r s t u v = λ i. record { uid = p i; organiser = q i; stamp 
 
 pub one_event : OneStamp → OneDuration → OneSequence → (m : Bool) (lines : Lines) (a b : Event) → SaysEvent m lines a → SaysEvent m lines b → a ≡ b
 one_event one two three m lines a b s t =
-    let start = some_same a.start b.start (same_said IsTime (codes "DTSTART") true lines (Some a.start) (Some b.start) (time_one one) s.start t.start) in
+    let start = same_Some a.start b.start (same_said IsTime (codes "DTSTART") true lines (Some a.start) (Some b.start) (time_one one) s.start t.start) in
     let given = same_said IsSequenceLine (codes "SEQUENCE") false lines s.sequence.0 t.sequence.0 (sequence_one three) s.sequence.1 t.sequence.1 in
     event_same a b
-    (some_same a.uid b.uid (same_said IsUidLine (codes "UID") true lines (Some a.uid) (Some b.uid) uid_one s.uid t.uid))
+    (same_Some a.uid b.uid (same_said IsUidLine (codes "UID") true lines (Some a.uid) (Some b.uid) uid_one s.uid t.uid))
     (same_said IsAddressLine (codes "ORGANIZER") m lines a.organiser b.organiser address_one s.organiser t.organiser)
     (same_said IsStampLine (codes "DTSTAMP") m lines a.stamp b.stamp (stamp_one one) s.stamp t.stamp)
     (s.sequence.2 ∙ ap (λ (o : Option ℕ). unwrap_or o 0) given ∙ sym t.sequence.2)
@@ -192,7 +174,7 @@ ends_said : OneStamp → (lines : Lines) (begin : ℤ) (length : Length) (R : �
     → StartAndEnd R lines → R begin (begin +ℤ pos length.seconds)
 ends_said one lines begin length R says lasts (start, end, first, last, r) =
     let f = said_by IsTime (λ line. IsTime line start) (codes "DTSTART") true lines (Some begin) says first in
-    let s : begin ≡ start = some_same begin f.0 f.2 ∙ time_one one first.0 f.0 start f.1 first.2 in
+    let s : begin ≡ start = same_Some begin f.0 f.2 ∙ time_one one first.0 f.0 start f.1 first.2 in
     let u = end_said lines begin length (λ line. IsTime line end) lasts last in
     let e : (begin +ℤ pos length.seconds) ≡ end = time_one one last.0 _ end u.1 last.2 in
     subst (λ (z : ℤ). R begin z) (sym e) (subst (λ (z : ℤ). R z end) (sym s) r)
@@ -270,7 +252,7 @@ module _ (one : OneStamp) (two : OneDuration) (apart : NotBoth) (m : Bool) (line
       absurd (omega arith)
   no_fault n (starts_early start l early) =
       let f = said_by IsTime (λ line. IsTime line start) (codes "DTSTART") true lines (Some event.start) s.start l in
-      let same : event.start ≡ start = some_same event.start f.0 f.2 ∙ time_one one l.0 f.0 start f.1 l.2 in
+      let same : event.start ≡ start = same_Some event.start f.0 f.2 ∙ time_one one l.0 f.0 start f.1 l.2 in
       let from = s.from_1970 in
       absurd (omega (arith, ints))
   no_fault n (no_uid h) = stands_some IsUidLine (codes "UID") true lines (Some event.uid) s.uid refl h

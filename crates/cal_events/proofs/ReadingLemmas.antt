@@ -1,5 +1,5 @@
 -- An object's VEVENTs, what they say, and the calendar's entries.
-use Rattle.std.proofs.Common.{◌≡◌, ◌≢◌, ℕ, zero, suc, ◌+◌, ◌<◌, Bool, true, false, cond, List, [], ◌∷◌, ◌++◌, ◌||◌, length, map, filter, get_or, take, drop, drop-cons, add-one, subst, sym, refl, ap, ◌∙◌, arith}
+use Rattle.std.proofs.Common.{◌≡◌, ◌≢◌, ℕ, zero, ◌+◌, ◌<◌, Bool, true, false, cond, List, [], ◌∷◌, ◌++◌, ◌||◌, length, map, filter, get_or, take, drop, subst, sym, refl, ap, ◌∙◌, arith}
 use Rattle.std.specs.Prelude.{Contains, AllPairs, Result, Ok, Err, IfOk, IfErr}
 use Rattle.std.specs.List.{list_any}
 use Rattle.std.proofs.lemmas.List.{map-append, take-append-drop, append-nil, length-map}
@@ -8,6 +8,7 @@ use Rattle.ical_lines.specs.declared.fault.Fault.{Fault}
 use Rattle.ical_lines.specs.declared.fault.Fault.TheVariants.{Refused, Memory}
 use Rattle.ical_tree.specs.Tree.{component_lines}
 use Rattle.ical_tree.specs.declared.component.Component.{Component}
+use Rattle.ical_tree.proofs.OneLine.{at_place}
 use Rattle.profile.specs.Instances.{Booked}
 use Rattle.profile.specs.Events.{Event, SaysEvent, SaysCalendar, EventFault, CalendarFault, in_event, one_meeting, has_unread, booked_by, is_confirmed, confirmed, meeting_said}
 use Rattle.cal_events.specs.declared.calendar.Entry.{Entry}
@@ -28,9 +29,6 @@ other_first c cs h = ap (λ b. map component_lines (cond b (c ∷ filter is_veve
 
 event_first : (c : Component) (cs : List Component) → is_vevent c ≡ true → events_in (c ∷ cs) ≡ component_lines c ∷ events_in cs
 event_first c cs h = ap (λ b. map component_lines (cond b (c ∷ filter is_vevent cs) (filter is_vevent cs))) h
-
-at_place : (cs : List Component) (i : ℕ) (c : Component) → i < length cs → c ≡ get_or cs i c → drop i cs ≡ c ∷ drop (i + 1) cs
-at_place cs i c w e = rw (add-one) (drop-cons cs i c w ∙ ap (λ x. x ∷ drop (suc i) cs) (sym e))
 
 pub drop_other : (cs : List Component) (i : ℕ) (c : Component) → i < length cs → c ≡ get_or cs i c → is_vevent c ≡ false → events_in (drop i cs) ≡ events_in (drop (i + 1) cs)
 drop_other cs i c w e h = ap events_in (at_place cs i c w e) ∙ other_first c (drop (i + 1) cs) h

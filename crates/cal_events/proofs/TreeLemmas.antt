@@ -16,8 +16,8 @@ use Rattle.profile.specs.Instances.{Booked}
 use Rattle.profile.specs.Events.{SaysCalendar, CalendarFault}
 use Rattle.profile.specs.Calendars.{SpellsCalendar, CalendarTextFault, in_lines, in_tree, no_version, in_vevents}
 use Rattle.cal_events.specs.Events.{is_vevent, vevents_of, StandsIn}
-use Rattle.cal_events.proofs.EventLemmas.{fault_exit}
 use Rattle.cal_events.proofs.ReadingLemmas.{events_in}
+use Rattle.ical_values.proofs.Exits.{err_exit}
 
 abbrev Lines : Type 0
 Lines = List (List ℕ)
@@ -63,7 +63,7 @@ no_object octets (Refused x) (inr (inr (c, (s, h)))) = version_wrong octets x.nu
 
 pub object_refused : (r : Result (List Booked) Fault) (octets : List ℕ) (f : Fault) → IsErrAnd r (λ e. e ≡ f) → Stands false octets f
     → IfErr r (StandsIn (CalendarTextFault octets))
-object_refused r octets f e h = fault_exit r (CalendarTextFault octets) f e (no_object octets f h)
+object_refused r octets f e h = err_exit r (StandsIn (CalendarTextFault octets)) f e (no_object octets f h)
 
 pub calendar_spelled : (r : Result (List Booked) Fault) (room octets : List ℕ) (c : Component) → reads_as_lines false octets ≡ true
     → IsObjectOf false c (logical_lines octets) → IfOk r (SaysCalendar room (vevents_of c)) → IfOk r (SpellsCalendar room octets)

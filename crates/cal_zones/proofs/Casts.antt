@@ -2,15 +2,13 @@
 use Rattle.std.proofs.Common.{◌≡◌, ◌∙◌, ap, sym, arith, ℤ, ◌-ℤ◌, to_z, of_z, w32, w64}
 use Rattle.jiff_core.proofs.SignedLemmas.{signed_arith}
 use Rattle.profile.specs.Values.{IsOffset, IsClockSeconds}
+use Rattle.ical_values.proofs.Facts.{wide_clock}
 
 pub narrow : (z : ℤ) → IsOffset z → to_z w32 (of_z w32 z) ≡ z
 narrow z h = omega (arith, signed_arith, h)
 
 wide_offset : (z : ℤ) → IsOffset z → to_z w64 (of_z w64 z) ≡ z
 wide_offset z h = omega (arith, signed_arith, h)
-
-pub wide_clock : (z : ℤ) → IsClockSeconds z → to_z w64 (of_z w64 z) ≡ z
-wide_clock z h = omega (arith, signed_arith, h)
 
 difference : (s o : ℤ) → IsClockSeconds s → IsOffset o → to_z w64 (of_z w64 (s -ℤ o)) ≡ s -ℤ o
 difference s o h k = omega (arith, signed_arith, h, k)

@@ -4,6 +4,7 @@ use Rattle.std.specs.List.{list_all, list_any, range_with_len}
 use Rattle.std.specs.Ordering.{int_eq}
 use Rattle.std.proofs.lemmas.Bool.{true≢false, false≢true, and_parts, or_cases, eqb-true}
 use Rattle.std.proofs.lemmas.Bool.Decides.{nat_tests, Decides-int_eq}
+use Rattle.std.proofs.lemmas.List.Folds.{list_all-map}
 use Rattle.jiff_core.proofs.SignedLemmas.{signed_arith}
 use Rattle.profile.specs.Days.{days_in_month}
 use Rattle.profile.specs.Faults.{is_between}
@@ -52,13 +53,9 @@ pub filled : {A : Type 0} (test : A → Bool) (xs : List A) (r : Bool) → false
 filled test [] r h e = absurd (false≢true h)
 filled test (x ∷ xs) r h e = e
 
-all_map : {A B : Type 0} (test : B → Bool) (f : A → B) (xs : List A) → list_all test (map f xs) ≡ list_all (λ x. test (f x)) xs
-all_map test f [] = refl
-all_map test f (x ∷ xs) = ap (λ b. test (f x) && b) (all_map test f xs)
-
 pub filled_map : {A B : Type 0} (test : B → Bool) (f : A → B) (xs : List A) (r : Bool) → false ≡ (length xs == 0) → r ≡ list_all (λ x. test (f x)) xs → r ≡ are_only test (map f xs)
 filled_map test f [] r h e = absurd (false≢true h)
-filled_map test f (x ∷ xs) r h e = e ∙ sym (all_map test f (x ∷ xs))
+filled_map test f (x ∷ xs) r h e = e ∙ sym (list_all-map test f (x ∷ xs))
 
 -- ---- one day
 

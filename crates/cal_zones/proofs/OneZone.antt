@@ -11,10 +11,12 @@ use Rattle.profile.specs.Trees.{Tree, tree_name, tree_own, tree_inside}
 use Rattle.profile.specs.Values.{SpellsLocal, SpellsOffset, two_digits, four_digits}
 use Rattle.profile.specs.Rules.{RuleText}
 use Rattle.profile.specs.RuleTexts.{SpellsRule, RuleFault}
-use Rattle.profile.specs.Events.{lines_named, StandsAtMostOnce, StandsTwice, IsMissing, BothOrNeither, Says, ends_in_z}
+use Rattle.profile.specs.Events.{lines_named, StandsTwice, IsMissing, BothOrNeither, Says, ends_in_z}
 use Rattle.profile.specs.Zones.{Zone, Constant, Single, Pair, Observance, local_time}
 use Rattle.profile.specs.ZoneTexts.{parts_by, is_part, is_standard, is_daylight, IsLocalLine, IsOffsetLine, SaysTimes, SaysOnce, SaysYearly, IsYearLine, YearRule, HasNoYearRule, TimesFault, PartsSay, PartsFault, OffsetsDiffer, HasForm, SaysZone, ZoneFault, Keeps, AreMatched, AreSpaced, AreClose, year_pattern, is_one_day, time_names, dates, missing, twice, fixed, bad_start, bad_from, bad_to, constant, single, pair, no_part, in_part, ruled, other_parts, unruled, unmatched, close}
 use Rattle.cal_zones.proofs.Named.{one_named, one_day_parts}
+use Rattle.cal_zones.proofs.PartLemmas.{in_more}
+use Rattle.ical_tree.proofs.OneLine.{IsFunctional, same_option, at_one, only_line}
 
 abbrev Lines : Type 0
 Lines = List (List ℕ)
@@ -30,18 +32,6 @@ OneRule = (text : List ℕ) (a b : RuleText) → SpellsRule text a → SpellsRul
 
 -- ---- one line
 
-abbrev IsFunctional : {V : Type 0} → (List ℕ → V → Type 0) → Type 0
-IsFunctional {V} R = (line : List ℕ) (a b : V) → R line a → R line b → a ≡ b
-
-some_same : {V : Type 0} (a b : V) → ◌≡◌ {A = Option V} (Some a) (Some b) → a ≡ b
-some_same a b h = cc
-
-same_option : {V : Type 0} (a b : Option V) → option_to_list a ≡ option_to_list b → a ≡ b
-same_option None None h = refl
-same_option None (Some b) h = cc
-same_option (Some a) None h = cc
-same_option (Some a) (Some b) h = let e : a ≡ b = cc in ap Some e
-
 same_both : {V : Type 0} (R : List ℕ → V → Type 0) → IsFunctional R → (line : Option (List ℕ)) (v w : V) → BothOrNeither R line (Some v) → BothOrNeither R line (Some w) → v ≡ w
 same_both R f None v w h k = absurd h
 same_both R f (Some l) v w h k = f l v w h k
@@ -49,14 +39,6 @@ same_both R f (Some l) v w h k = f l v w h k
 said_same : {V : Type 0} (R : List ℕ → V → Type 0) (name : List ℕ) (lines : Lines) (v w : V) → IsFunctional R → Says name true R lines (Some v) → Says name true R lines (Some w) → v ≡ w
 said_same {V} R name lines v w f s t =
     same_both R f t.line v w (subst (λ (l : Option (List ℕ)). BothOrNeither R l (Some v)) (same_option s.line t.line (sym s.once ∙ t.once)) s.is) t.is
-
-at_one : {A : Type 0} (x line : A) → Contains (x ∷ []) line → x ≡ line
-at_one x line (zero, w, e) = e
-at_one x line (suc k, w, e) = absurd (omega arith)
-
-only_line : (name : List ℕ) (lines : Lines) (l : Option (List ℕ)) (line : List ℕ) → StandsAtMostOnce name lines l → Contains (lines_named name lines) line → l ≡ Some line
-only_line name lines None line e c = let h = subst (λ (ls : Lines). Contains ls line) e c in absurd (omega (arith, h.1))
-only_line name lines (Some x) line e c = ap Some (at_one x line (subst (λ (ls : Lines). Contains ls line) e c))
 
 -- what the line that stands says
 said_by : {V : Type 0} (R : List ℕ → V → Type 0) (name : List ℕ) (lines : Lines) (v : V) (line : List ℕ) → Says name true R lines (Some v) → Contains (lines_named name lines) line → R line v
@@ -105,9 +87,6 @@ sizes [] = refl
 sizes (t ∷ ts) =
     sizes_step (is_standard (tree_name t)) (is_daylight (tree_name t)) t (filter (λ part. is_part (tree_name part)) ts)
     (filter (λ part. is_standard (tree_name part)) ts) (filter (λ part. is_daylight (tree_name part)) ts) (not_both (tree_name t)) (sizes ts)
-
-in_more : (y x : Lines) (xs : List Lines) → Contains xs x → Contains (y ∷ xs) x
-in_more y x xs (k, w, e) = (suc k, omega arith, e)
 
 place : (y x : Lines) (xs : List Lines) → Contains (y ∷ xs) x → (y ≡ x) ⊎ Contains xs x
 place y x xs (zero, w, e) = inl e

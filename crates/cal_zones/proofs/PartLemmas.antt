@@ -1,14 +1,16 @@
 -- The parts of a VTIMEZONE among the components inside.
-use Rattle.std.proofs.Common.{◌≡◌, ◌∙◌, ap, sym, refl, subst, ℕ, zero, suc, ◌+◌, ◌<◌, ◌≤◌, Bool, true, false, cond, List, [], ◌∷◌, ◌++◌, length, map, filter, get_or, take, drop, drop-cons, add-one, arith}
+use Rattle.std.proofs.Common.{◌≡◌, ◌∙◌, ap, sym, refl, subst, ℕ, zero, suc, ◌+◌, ◌<◌, ◌≤◌, Bool, true, false, cond, List, [], ◌∷◌, ◌++◌, length, map, filter, get_or, take, drop, arith}
 use denote.Ref.{Bor}
 use Rattle.std.specs.Prelude.{Option, Some, None, IfSome, IfNone, option_map, Contains, count_by, find}
 use Rattle.std.proofs.lemmas.Bool.{true≢false, or_left, or_right}
 use Rattle.std.proofs.lemmas.List.{map-append, take-append-drop, length-map, drop_all}
 use Rattle.std.proofs.lemmas.List.Elements.{Contains-append_right, filter-append}
 use Rattle.std.proofs.lemmas.List.Sums.{length-filter}
+use Rattle.std.proofs.lemmas.Option.{same_Some}
 use Rattle.ical_tree.specs.Tree.{component_name, component_lines, component_children, tree_of}
 use Rattle.ical_tree.proofs.TreeOfLemmas.{tree_of-name, tree_of-own, tree_of-inside}
 use Rattle.ical_tree.specs.declared.component.Component.{Component}
+use Rattle.ical_tree.proofs.OneLine.{at_place}
 use Rattle.profile.specs.Trees.{Tree, tree_name, tree_own}
 use Rattle.profile.specs.ZoneTexts.{parts_by, is_part, is_standard, is_daylight}
 use Rattle.cal_zones.specs.Read.{parts_in}
@@ -18,12 +20,9 @@ Lines = List (List ℕ)
 
 -- ---- the first that passes a test
 
-some_same : {A : Type 0} (a b : A) → ◌≡◌ {A = Option A} (Some a) (Some b) → a ≡ b
-some_same a b h = cc
-
 first_of : {A : Type 0} (b : Bool) (y x : A) (f : Option A) (zs : List A) → cond b (Some y) f ≡ Some x → (f ≡ Some x → (rest : List A) × (zs ≡ x ∷ rest))
     → (rest : List A) × (cond b (y ∷ zs) zs ≡ x ∷ rest)
-first_of true y x f zs h k = (zs, ap (λ v. v ∷ zs) (some_same y x h))
+first_of true y x f zs h k = (zs, ap (λ v. v ∷ zs) (same_Some y x h))
 first_of false y x f zs h k = k h
 
 find_first : {A : Type 0} (p : A → Bool) (xs : List A) (x : A) → find p xs ≡ Some x → (rest : List A) × (filter p xs ≡ x ∷ rest)
@@ -98,9 +97,6 @@ other_first test c cs h = ap (λ b. map component_lines (cond b (c ∷ filter (n
 part_first : (test : List ℕ → Bool) (c : Component) (cs : List Component) → test (component_name c) ≡ true → parts_in test (c ∷ cs) ≡ component_lines c ∷ parts_in test cs
 part_first test c cs h = ap (λ b. map component_lines (cond b (c ∷ filter (named test) cs) (filter (named test) cs))) h
 
-at_place : (cs : List Component) (i : ℕ) (c : Component) → i < length cs → c ≡ get_or cs i c → drop i cs ≡ c ∷ drop (i + 1) cs
-at_place cs i c w e = rw (add-one) (drop-cons cs i c w ∙ ap (λ x. x ∷ drop (suc i) cs) (sym e))
-
 split : (test : List ℕ → Bool) (cs : List Component) (i : ℕ) → parts_in test cs ≡ parts_in test (take i cs) ++ parts_in test (drop i cs)
 split test cs i =
     ap (parts_in test) (sym (take-append-drop i cs)) ∙ ap (map component_lines) (filter-append (named test) (take i cs) (drop i cs))
@@ -138,7 +134,7 @@ none_left test cs i part done there =
     absurd (omega (arith, h.1))
 
 -- what is one by a narrower test is one by a wider
-in_more : (y x : Lines) (xs : List Lines) → Contains xs x → Contains (y ∷ xs) x
+pub in_more : (y x : Lines) (xs : List Lines) → Contains xs x → Contains (y ∷ xs) x
 in_more y x xs (k, w, e) = (suc k, omega arith, e)
 
 here_or_later : (y x : Lines) (xs ys : List Lines) → (Contains xs x → Contains ys x) → Contains (y ∷ xs) x → Contains (y ∷ ys) x

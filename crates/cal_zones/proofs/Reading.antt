@@ -24,41 +24,17 @@ Lines = List (List ℕ)
 
 -- ---- the exits of a `?`, by the error that it returns
 
-pub refused_exit : {T : Type 0} (r : Result T Fault) (P : ℕ → Type 0) (e : Refusal) → IsErrAnd r (λ f. f ≡ Refused e) → P e.number → IfErr r (StandsIn P)
-refused_exit (Ok x) P e h p = tt
-refused_exit (Err f) P e h p = subst (StandsIn P) (sym h) p
-
 pub fault_exit : {T : Type 0} (r : Result T Fault) (P Q : ℕ → Type 0) (e : Fault) → ((n : ℕ) → Q n → P n) → IsErrAnd r (λ f. f ≡ e) → StandsIn Q e → IfErr r (StandsIn P)
 fault_exit (Ok x) P Q e g h p = tt
 fault_exit (Err f) P Q Memory g h p = subst (StandsIn P) (sym h) tt
 fault_exit (Err f) P Q (Refused x) g h p = subst (StandsIn P) (sym h) (g x.number p)
-
-pub refusal_exit : {T : Type 0} (r : Result T Refusal) (P : ℕ → Type 0) (e : Refusal) → IsErrAnd r (λ f. f ≡ e) → P e.number → IfErr r (λ f. P f.number)
-refusal_exit (Ok x) P e h p = tt
-refusal_exit (Err f) P e h p = subst (λ (x : Refusal). P x.number) (sym h) p
-
-pub weaker_ok : {T E : Type 0} (r : Result T E) (P Q : T → Type 0) → ((x : T) → P x → Q x) → IfOk r P → IfOk r Q
-weaker_ok (Ok x) P Q f p = f x p
-weaker_ok (Err e) P Q f p = tt
-
-pub weaker_err : {T E : Type 0} (r : Result T E) (P Q : E → Type 0) → ((e : E) → P e → Q e) → IfErr r P → IfErr r Q
-weaker_err (Ok x) P Q f p = tt
-weaker_err (Err e) P Q f p = f e p
 
 pub weaker_fault : {T : Type 0} (r : Result T Fault) (P Q : ℕ → Type 0) → ((n : ℕ) → P n → Q n) → IfErr r (StandsIn P) → IfErr r (StandsIn Q)
 weaker_fault (Ok x) P Q f p = tt
 weaker_fault (Err Memory) P Q f p = tt
 weaker_fault (Err (Refused e)) P Q f p = f e.number p
 
--- what two clauses say of an error
-pub err_both : {T E : Type 0} (r : Result T E) (P Q R : E → Type 0) → ((e : E) → P e → Q e → R e) → IfErr r P → IfErr r Q → IfErr r R
-err_both (Ok x) P Q R f p q = tt
-err_both (Err e) P Q R f p q = f e p q
-
 -- ---- lines
-
-pub the_line : (name : List ℕ) (lines : Lines) (line : List ℕ) → StandsAtMostOnce name lines (Some line) → Contains (lines_named name lines) line
-the_line name lines line e = subst (λ (ls : Lines). Contains ls line) (sym e) (zero, omega arith, refl)
 
 pub said : {V : Type 0} (R : List ℕ → V → Type 0) (name : List ℕ) (lines : Lines) (line : List ℕ) (v : V) → StandsAtMostOnce name lines (Some line) → R line v → Says name true R lines (Some v)
 said R name lines line v once is = record { line = Some line; once = once; stands = λ _. refl; is = is }

@@ -1,8 +1,8 @@
 -- Onsets that keep apart through 400 years keep apart for ever.
 use Rattle.std.proofs.Common.{◌≡◌, ◌∙◌, ap, sym, refl, inl, inr, ℕ, zero, suc, ◌+◌, ◌-◌, ◌*◌, ◌/◌, ◌<◌, ◌≤◌, arith, ℤ, unsigned_abs, ◌+ℤ◌, ◌-ℤ◌, ◌⊎◌, pos, true, subst, Some}
-use Rattle.std.specs.Prelude.{Option}
 use Rattle.std.proofs.lemmas.Int.{by_lt_z}
 use Rattle.std.proofs.lemmas.Bool.{cases_order, cases_lt}
+use Rattle.std.proofs.lemmas.Option.{same_Some}
 use Rattle.jiff_core.proofs.SignedLemmas.{signed_arith, one_part}
 use Rattle.profile.specs.Days.{year_of, year_start}
 use Rattle.profile.specs.Values.{IsOffset}
@@ -138,13 +138,10 @@ never_at_once a b first second e f spaced x y h j same =
     absurd (omega (arith, signed_arith))
 
 -- as those who see the rules as they are written say it
-some_same : {A : Type 0} (a b : A) → ◌≡◌ {A = Option A} (Some a) (Some b) → a ≡ b
-some_same a b h = cc
-
 rule_day : (o : Observance) (r : Yearly) (parts : Pattern) (n : ℕ) → o.rule ≡ Some r → rule_of o.day o.rule ≡ Some parts → is_base parts n ≡ true → IsOn r n
 rule_day o r parts n e f b =
     let g : rule_of o.day (Some r) ≡ Some parts = rw e at f in
-    let same : pattern_of r.month r.days o.day ≡ parts = some_same _ _ g in
+    let same : pattern_of r.month r.days o.day ≡ parts = same_Some _ _ g in
     (base_is r o.day n).0 (subst (λ (p : Pattern). is_base p n ≡ true) (sym same) b)
 
 pub pair_spaced : (a b : Observance) (first second : Yearly) → a.rule ≡ Some first → b.rule ≡ Some second → IsSpaced a b first second 801 → AreSpaced (pair_of a b)

@@ -6,3 +6,4 @@ pub mod PairLemmas
 pub mod OneTree
 pub mod ReadsBackLemmas
 pub mod TreeOfLemmas
+pub mod OneLine

@@ -2,7 +2,7 @@ use Rattle.std.proofs.Common.{arith}
 use Rattle.std.proofs.lemmas.Int.{ints}
 use Rattle.cal_events.specs.Events.{TimesFault}
 use Rattle.cal_events.specs.Events.{in_extent, starts_early}
-use Rattle.cal_events.proofs.EventLemmas.{refusal_exit}
+use Rattle.ical_values.proofs.Exits.{refusal_exit}
 use Rattle.cal_events.proofs.component.judge_times.Goals as goal
 
 pub returns-in_err-length-clause-stands : goal.returns-in_err-length-clause-stands

@@ -5,7 +5,8 @@ use Rattle.std.proofs.lemmas.Int.{ints}
 use Rattle.ical_lines.specs.Text.{line_text}
 use Rattle.ical_tree.specs.Tree.{component_lines}
 use Rattle.profile.specs.Events.{EventFault, TimeFault, IsTime, twice, bad_end, end_and_duration}
-use Rattle.cal_events.proofs.EventLemmas.{refusal_exit, some_line, duration_fault}
+use Rattle.cal_events.proofs.EventLemmas.{some_line, duration_fault}
+use Rattle.ical_values.proofs.Exits.{refusal_exit}
 use Rattle.cal_events.proofs.component.read_extent.Goals as goal
 
 pub returns-in_err-end-clause-stands : goal.returns-in_err-end-clause-stands

@@ -7,7 +7,8 @@ use Rattle.ical_tree.specs.Tree.{component_lines}
 use Rattle.profile.specs.Values.{SpellsSequence}
 use Rattle.profile.specs.Events.{EventFault, IsNoSequence}
 use Rattle.profile.specs.Events.{twice, bad_sequence}
-use Rattle.cal_events.proofs.EventLemmas.{refusal_exit, err_both, some_line, sequence_said}
+use Rattle.cal_events.proofs.EventLemmas.{some_line, sequence_said}
+use Rattle.ical_values.proofs.Exits.{refusal_exit, err_both}
 use Rattle.cal_events.proofs.component.read_sequence.Goals as goal
 
 pub returns-in_err-line-clause-stands : goal.returns-in_err-line-clause-stands

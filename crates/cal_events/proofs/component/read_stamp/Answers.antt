@@ -7,7 +7,8 @@ use Rattle.profile.specs.Lines.{line_value}
 use Rattle.profile.specs.Events.{EventFault, IsNoStamp}
 use Rattle.profile.specs.Events.{twice, bad_stamp, no_stamp_given}
 use Rattle.cal_events.specs.Events.{is_message}
-use Rattle.cal_events.proofs.EventLemmas.{refusal_exit, some_line}
+use Rattle.cal_events.proofs.EventLemmas.{some_line}
+use Rattle.ical_values.proofs.Exits.{refusal_exit}
 use Rattle.cal_events.proofs.component.read_stamp.Goals as goal
 
 pub returns-in_err-line-clause-stands : goal.returns-in_err-line-clause-stands

@@ -4,7 +4,8 @@ use Rattle.ical_lines.specs.Text.{line_text}
 use Rattle.ical_tree.specs.Tree.{component_lines}
 use Rattle.profile.specs.Events.{EventFault, TimeFault}
 use Rattle.profile.specs.Events.{twice, no_start, bad_start}
-use Rattle.cal_events.proofs.EventLemmas.{refusal_exit, some_line, start_said}
+use Rattle.cal_events.proofs.EventLemmas.{some_line, start_said}
+use Rattle.ical_values.proofs.Exits.{refusal_exit}
 use Rattle.cal_events.proofs.component.read_start.Goals as goal
 
 pub returns-in_err-line-clause-stands : goal.returns-in_err-line-clause-stands

@@ -3,19 +3,20 @@ use Rattle.ical_lines.specs.Text.{line_text}
 use Rattle.ical_lines.specs.Fault.{RefusesOnly}
 use Rattle.ical_tree.specs.Tree.{component_lines}
 use Rattle.ical_values.specs.Refused.{IfRefused}
+use Rattle.ical_values.proofs.Exits.{err_exit, err_both}
 use Rattle.profile.specs.Faults.{is_uid_fault}
 use Rattle.profile.specs.Lines.{line_value}
 use Rattle.profile.specs.Values.{IsUid, unescaped}
 use Rattle.profile.specs.Events.{EventFault}
 use Rattle.profile.specs.Events.{twice, no_uid, bad_uid}
 use Rattle.cal_events.specs.Events.{StandsIn}
-use Rattle.cal_events.proofs.EventLemmas.{refused_exit, err_both, by_number, some_line, uid_said}
+use Rattle.cal_events.proofs.EventLemmas.{by_number, some_line, uid_said}
 use Rattle.cal_events.proofs.component.read_uid.Goals as goal
 
 pub returns-in_err-line-clause-stands : goal.returns-in_err-line-clause-stands
 returns-in_err-line-clause-stands c = λ m.
     let P = EventFault m (component_lines c.args.component.now) in
-    refused_exit _ P _ c.from_residual.ensures.1
+    err_exit _ (StandsIn P) _ c.from_residual.ensures.1
     (subst P (sym c.in_err-line.ensures.refuses)
     (elim c.in_err-line.ensures.faulty [ inl h ↦ no_uid h | inr h ↦ twice (codes "UID") (0, omega arith, refl) h ]))
 

@@ -5,7 +5,7 @@ use Rattle.ical_tree.specs.declared.component.Component.{Component}
 use Rattle.profile.specs.ZoneTexts.{is_part, Keeps, Strays}
 use Rattle.cal_zones.specs.Read.{SomeTimesFault, parts_of}
 use Rattle.cal_zones.proofs.PartLemmas.{is_among, drop_other, drop_part, all_left, none_left}
-use Rattle.cal_zones.proofs.Reading.{refusal_exit}
+use Rattle.ical_values.proofs.Exits.{refusal_exit}
 use Rattle.cal_zones.proofs.read.all_keep.Goals as goal
 use Rattle.cal_zones.proofs.read.all_keep.Goals.{then-is_part+in_ok-keeps+else-not-branch, else-is_part}
 

@@ -3,7 +3,8 @@ use Rattle.profile.specs.ZoneTexts.{other_parts}
 use Rattle.cal_zones.specs.Kinds.{zone_of}
 use Rattle.cal_zones.specs.Read.{Says, HasFault, SaysBoth, BothFault, parts_of, standards_of, daylights_of}
 use Rattle.cal_zones.proofs.PartLemmas.{standard_is_part, daylight_is_part}
-use Rattle.cal_zones.proofs.Reading.{weaker_ok, weaker_fault, both_say, both_fault}
+use Rattle.cal_zones.proofs.Reading.{weaker_fault, both_say, both_fault}
+use Rattle.std.proofs.lemmas.Result.{IfOk-weaker}
 use Rattle.cal_zones.proofs.read.read_pair.Goals as goal
 
 pub returns-in_default-clause-stands : goal.returns-in_default-clause-stands
@@ -17,7 +18,7 @@ returns-clause-says c =
     let zone = c.args.zone.now in
     let p = component_lines c.in-Some.standard.now in
     let q = component_lines c.in-Some-only_named.daylight.now in
-    weaker_ok _ (λ z. SaysBoth p q (zone_of z)) (λ z. Says zone (zone_of z))
+    IfOk-weaker _ (λ z. SaysBoth p q (zone_of z)) (λ z. Says zone (zone_of z))
     (λ z h. both_say (parts_of zone) (standards_of zone) (daylights_of zone) p q (zone_of z) c.requires.differ c.in-Some.ensures.found c.in-Some-only_named.ensures.found h) c.read_both.ensures.says
 
 pub returns-clause-stands : goal.returns-clause-stands

@@ -3,7 +3,7 @@ use Rattle.ical_lines.specs.Text.{line_text}
 use Rattle.ical_lines.specs.declared.fault.Refusal.{Refusal}
 use Rattle.profile.specs.Values.{SpellsLocal}
 use Rattle.cal_zones.specs.Read.{StartFault}
-use Rattle.cal_zones.proofs.Reading.{err_both}
+use Rattle.ical_values.proofs.Exits.{err_both}
 use Rattle.cal_zones.proofs.times.read_local.Goals as goal
 
 pub returns-clause-stands : goal.returns-clause-stands

@@ -1,13 +1,16 @@
 use Rattle.std.proofs.Common.{◌≡◌, sym, subst, inl, inr, ℤ, List, ℕ}
 use Rattle.std.specs.Prelude.{Some, true}
+use Rattle.std.proofs.lemmas.Result.{IfOk-weaker}
 use Rattle.ical_lines.specs.Text.{line_text}
 use Rattle.ical_lines.specs.declared.fault.Refusal.{Refusal}
 use Rattle.ical_tree.specs.Tree.{component_lines}
+use Rattle.ical_tree.proofs.OneLine.{the_line}
 use Rattle.profile.specs.Values.{SpellsOffset}
 use Rattle.profile.specs.Events.{Says}
 use Rattle.profile.specs.ZoneTexts.{IsOffsetLine}
 use Rattle.cal_zones.specs.Read.{OffsetFault}
-use Rattle.cal_zones.proofs.Reading.{refusal_exit, weaker_ok, err_both, the_line, said}
+use Rattle.cal_zones.proofs.Reading.{said}
+use Rattle.ical_values.proofs.Exits.{refusal_exit, err_both}
 use Rattle.cal_zones.proofs.times.read_offset.Goals as goal
 
 pub returns-in_err-line-clause-stands : goal.returns-in_err-line-clause-stands
@@ -20,7 +23,7 @@ returns-clause-says c =
     let lines = component_lines c.args.part.now in
     let line = line_text c.in_ok-line.line in
     let name = c.args.name.now in
-    weaker_ok _ (SpellsOffset c.value.result.now) (λ t. Says name true IsOffsetLine lines (Some t))
+    IfOk-weaker _ (SpellsOffset c.value.result.now) (λ t. Says name true IsOffsetLine lines (Some t))
     (λ t h. said IsOffsetLine name lines line t c.in_ok-line.ensures.found (subst (λ (s : List ℕ). SpellsOffset s t) c.value.ensures h)) c.read.ensures.reads
 
 pub returns-clause-stands : goal.returns-clause-stands

@@ -1,11 +1,14 @@
 use Rattle.std.proofs.Common.{codes, sym, subst, refl, arith}
 use Rattle.ical_lines.specs.Text.{line_text}
 use Rattle.ical_tree.specs.Tree.{component_lines}
+use Rattle.ical_tree.proofs.OneLine.{the_line}
 use Rattle.profile.specs.Events.{Says}
 use Rattle.profile.specs.ZoneTexts.{IsLocalLine, TimesFault}
 use Rattle.std.specs.Prelude.{Some, true}
+use Rattle.std.proofs.lemmas.Result.{IfOk-weaker, IfErr-weaker}
 use Rattle.cal_zones.specs.Read.{StartFault}
-use Rattle.cal_zones.proofs.Reading.{refusal_exit, weaker_ok, weaker_err, the_line, said, not_one, start_fault}
+use Rattle.cal_zones.proofs.Reading.{said, not_one, start_fault}
+use Rattle.ical_values.proofs.Exits.{refusal_exit}
 use Rattle.cal_zones.proofs.times.read_start.Goals as goal
 
 pub returns-in_err-line-clause-stands : goal.returns-in_err-line-clause-stands
@@ -18,12 +21,12 @@ pub returns-clause-says : goal.returns-clause-says
 returns-clause-says c =
     let lines = component_lines c.args.part.now in
     let line = line_text c.in_ok-line.line in
-    weaker_ok _ (IsLocalLine line) (λ t. Says (codes "DTSTART") true IsLocalLine lines (Some t))
+    IfOk-weaker _ (IsLocalLine line) (λ t. Says (codes "DTSTART") true IsLocalLine lines (Some t))
     (λ t h. said IsLocalLine (codes "DTSTART") lines line t c.in_ok-line.ensures.found h) c.read_local.ensures.says
 
 pub returns-clause-stands : goal.returns-clause-stands
 returns-clause-stands c =
     let lines = component_lines c.args.part.now in
     let line = line_text c.in_ok-line.line in
-    weaker_err _ (λ e. StartFault line e.number) (λ e. TimesFault lines e.number)
+    IfErr-weaker _ (λ e. StartFault line e.number) (λ e. TimesFault lines e.number)
     (λ e h. start_fault lines line e.number (the_line (codes "DTSTART") lines line c.in_ok-line.ensures.found) h) c.read_local.ensures.stands

@@ -3,7 +3,8 @@ use Rattle.std.specs.Prelude.{Some, true}
 use Rattle.ical_tree.specs.Tree.{component_lines}
 use Rattle.profile.specs.Events.{Says}
 use Rattle.profile.specs.ZoneTexts.{IsLocalLine, IsOffsetLine, TimesFault, dates}
-use Rattle.cal_zones.proofs.Reading.{refusal_exit, from_fault, to_fault}
+use Rattle.cal_zones.proofs.Reading.{from_fault, to_fault}
+use Rattle.ical_values.proofs.Exits.{refusal_exit}
 use Rattle.cal_zones.proofs.times.read_times.Goals as goal
 
 pub returns-then-has_line-clause-stands : goal.returns-then-has_line-clause-stands

@@ -2,7 +2,7 @@ use Rattle.std.proofs.Common.{◌≡◌, ◌∙◌, ap, arith, to_z, of_z, w64}
 use Rattle.jiff_core.proofs.SignedLemmas.{signed_arith}
 use Rattle.profile.specs.Days.{day_index}
 use Rattle.profile.specs.Zones.{local_time}
-use Rattle.cal_zones.proofs.Casts.{wide_clock}
+use Rattle.ical_values.proofs.Facts.{wide_clock}
 use Rattle.cal_zones.proofs.kinds.Zone.start_on.Goals as goal
 
 pub returns-clause-meaning : goal.returns-clause-meaning
