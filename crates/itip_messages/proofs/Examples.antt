@@ -27,10 +27,6 @@ a_reply : object_lines (Some (codes "REPLY")) (codes "BEGIN:VEVENT" ∷ codes "E
     ≡ codes "BEGIN:VCALENDAR" ∷ codes "VERSION:2.0" ∷ codes "PRODID:-//iTIP room box//EN" ∷ codes "METHOD:REPLY" ∷ codes "BEGIN:VEVENT" ∷ codes "END:VEVENT" ∷ codes "END:VCALENDAR" ∷ []
 a_reply = refl
 
-a_kept_calendar : object_lines None []
-    ≡ codes "BEGIN:VCALENDAR" ∷ codes "VERSION:2.0" ∷ codes "PRODID:-//iTIP room box//EN" ∷ codes "END:VCALENDAR" ∷ []
-a_kept_calendar = refl
-
 -- ---- methods
 
 a_word_of_method_is_caseless : is_method (codes "request") ≡ true

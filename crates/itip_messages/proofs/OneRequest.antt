@@ -1,5 +1,5 @@
 -- Octets spell a REQUEST for at most one event, and none where a fault stands in them.
-use Rattle.std.proofs.Common.{◌≡◌, ◌∙◌, ℕ, zero, suc, ◌<◌, Bool, true, false, ◌&&◌, ◌||◌, List, [], ◌∷◌, length, get_or, refl, sym, ap, subst, arith, inl, inr}
+use Rattle.std.proofs.Common.{◌≡◌, ◌∙◌, ℕ, ◌<◌, Bool, true, false, ◌&&◌, ◌||◌, List, [], ◌∷◌, length, get_or, refl, sym, ap, subst, arith, inl, inr}
 use Rattle.std.specs.Prelude.{Contains, codes, nat_lt}
 use Rattle.std.specs.List.{AllZip, list_any}
 use Rattle.std.specs.Str.{bytes_eq, str_to_ascii_lowercase}
@@ -7,6 +7,7 @@ use Rattle.std.proofs.lemmas.Bool.{true≢false}
 use Rattle.std.proofs.lemmas.Bool.Decides.{nat_tests}
 use Rattle.std.proofs.lemmas.Slice.Eq.{bytes_eq-Decides}
 use Rattle.ical_lines.proofs.ContentLemmas.{read_fine}
+use Rattle.ical_tree.proofs.OneLine.{at_one}
 use Rattle.profile.specs.Lines.{logical_lines, line_value, is_same_name}
 use Rattle.profile.specs.Objects.{SpellsTree, IsObject, has_version, lines_have, count_inside, most_events}
 use Rattle.profile.specs.Trees.{Tree, tree_name, tree_own, tree_inside, vevents}
@@ -30,10 +31,6 @@ abbrev NoFault : Type 0
 NoFault = (m : Bool) (lines : Lines) (a : Event) (n : ℕ) → SaysEvent m lines a → EventFault m lines n → ⊥
 
 -- ---- lists of one
-
-in_one : {A : Type 0} (x v : A) → Contains (x ∷ []) v → x ≡ v
-in_one x v (zero, w, e) = e
-in_one x v (suc k, w, e) = absurd (omega arith)
 
 one_line : (x y : Lines) → x ∷ [] ≡ y ∷ [] → x ≡ y
 one_line x y e = ap (λ xs. get_or xs 0 []) e
@@ -63,10 +60,10 @@ no_method_fault : (own : Lines) (vs : List Lines) (a : Event) (n : ℕ) → Says
 no_method_fault own vs a n s (two_methods h) =
     let k = ap length s.method in absurd (omega (arith, h, k))
 no_method_fault own vs a n s (bad_method (line, at, h)) =
-    let e = in_one s.method_line line (subst (λ (xs : Lines). Contains xs line) s.method at) in
+    let e = at_one s.method_line line (subst (λ (xs : Lines). Contains xs line) s.method at) in
     true≢false (sym (is_taken (line_value line) (subst (λ (x : List ℕ). is_same_name (line_value x) (codes "REQUEST") ≡ true) e s.request)) ∙ h)
 no_method_fault own vs a n s (unread_method (line, at, h)) =
-    let e = in_one s.method_line line (subst (λ (xs : Lines). Contains xs line) s.method at) in
+    let e = at_one s.method_line line (subst (λ (xs : Lines). Contains xs line) s.method at) in
     true≢false (sym h ∙ not_unread (line_value line) (subst (λ (x : List ℕ). is_same_name (line_value x) (codes "REQUEST") ≡ true) e s.request))
 no_method_fault own vs a n s (no_method h) =
     let k : 0 ≡ 1 = sym (ap length h) ∙ ap length s.method in absurd (omega (arith, k))
@@ -81,7 +78,7 @@ one_said one own vs a b s t =
 no_message_fault : NoFault → (own : Lines) (vs : List Lines) (a : Event) (n : ℕ) → SaysRequest own vs a → MessageFault own vs n → ⊥
 no_message_fault sound own vs a n s (in_method h) = no_method_fault own vs a n s h
 no_message_fault sound own vs a n s (in_event lines at fault) =
-    let e = in_one s.lines lines (subst (λ (xs : List Lines). Contains xs lines) s.one at) in
+    let e = at_one s.lines lines (subst (λ (xs : List Lines). Contains xs lines) s.one at) in
     sound true lines a n (subst (λ (x : Lines). SaysEvent true x a) e s.says) fault
 no_message_fault sound own vs a n s (not_yet h) =
     let k : (has_unread s.lines || false) ≡ true = sym (ap (λ (xs : List Lines). list_any has_unread xs) s.one) ∙ h in
