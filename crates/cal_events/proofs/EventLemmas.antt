@@ -11,7 +11,7 @@ use Rattle.std.proofs.lemmas.Bool.{true≢false}
 use Rattle.std.proofs.Math.Seq.{take-append_seam}
 use Rattle.std.proofs.lemmas.Bool.Decides.{nat_tests}
 use Rattle.std.proofs.lemmas.Int.{ints}
-use Rattle.ical_lines.specs.Fault.{RefusesOnly}
+use Rattle.ical_lines.specs.Fault.{RefusesOnly, RefusesBy}
 use Rattle.ical_lines.specs.declared.fault.Fault.{Fault}
 use Rattle.ical_lines.specs.declared.fault.Fault.TheVariants.{Refused, Memory}
 use Rattle.ical_lines.specs.declared.fault.Refusal.{Refusal}
@@ -25,7 +25,7 @@ use Rattle.ical_values.specs.declared.duration.Duration.{Duration}
 use Rattle.profile.specs.Lines.{line_value}
 use Rattle.profile.specs.Values.{SpellsDate, SpellsLocal, SpellsStamp, SpellsSequence, SpellsDuration, SpellsNegative, SpellsLong, IsUid, unescaped}
 use Rattle.profile.specs.Events.{is_of, lines_named, StandsAtMostOnce, SomeLine, Says, SaysSequence, IsUidLine, TimeKind, DateTime, time_kind, IsTime, IsDateText, IsLocalText, KindFault, TimeFault, EventFault, IsNoDuration, IsNegativeOrLong, IsAttendee, IsNoAddress, SaysLength, IsLength, BothOrNeither, length_seconds, bad_duration, bad_attendee, lasts_long, ends_early, ends_late, starts_early}
-use Rattle.cal_events.specs.Events.{StandsIn, attendee_of, length_of, IsExtent, GivesLength, ExtentFault, TimesFault, ends_early as lies_before, ends_late as lies_late, lasts_long as is_long, in_extent, starts_early as lies_early}
+use Rattle.cal_events.specs.Events.{attendee_of, length_of, IsExtent, GivesLength, ExtentFault, TimesFault, ends_early as lies_before, ends_late as lies_late, lasts_long as is_long, in_extent, starts_early as lies_early}
 use Rattle.ical_tree.proofs.OneLine.{the_line}
 
 -- ---- faults
@@ -35,7 +35,7 @@ is_number : (n k : ℕ) → IsTrue (eqb n k) → n ≡ k
 is_number n k h = grind (arith, nat_tests)
 
 -- what a call says that refuses by one number
-pub by_number : (f : Fault) (P : ℕ → Type 0) (Q : Type 0) (k : ℕ) → (Q → P k) → RefusesOnly (λ n. eqb n k) f → IfRefused Q f → StandsIn P f
+pub by_number : (f : Fault) (P : ℕ → Type 0) (Q : Type 0) (k : ℕ) → (Q → P k) → RefusesOnly (λ n. eqb n k) f → IfRefused Q f → RefusesBy P f
 by_number Memory P Q k g t q = tt
 by_number (Refused r) P Q k g t q = subst P (sym (is_number r.number k t)) (g q)
 
@@ -183,7 +183,7 @@ attendee_pushed all left rest done line old new a e s h zip n is = (
 
 pub attendee_fault : (m : Bool) (all left rest done : List (List ℕ)) (line : List ℕ) (f : Fault)
     → lines_named (codes "ATTENDEE") all ≡ done ++ lines_named (codes "ATTENDEE") left → left ≡ line ∷ rest → is_of (codes "ATTENDEE") line ≡ true
-    → StandsIn (λ n. (n ≡ 15) × IsNoAddress line) f → StandsIn (EventFault m all) f
+    → RefusesBy (λ n. (n ≡ 15) × IsNoAddress line) f → RefusesBy (EventFault m all) f
 attendee_fault m all left rest done line Memory e s h w = tt
 attendee_fault m all left rest done line (Refused r) e s h w =
     subst (EventFault m all) (sym w.0)

@@ -1,5 +1,6 @@
 -- An object's VEVENTs, what they say, and the calendar's entries.
 use Rattle.std.proofs.Common.{◌≡◌, ◌≢◌, ℕ, zero, ◌+◌, ◌<◌, Bool, true, false, cond, List, [], ◌∷◌, ◌++◌, ◌||◌, length, map, filter, get_or, take, drop, subst, sym, refl, ap, ◌∙◌, arith}
+use Rattle.ical_lines.specs.Fault.{RefusesBy}
 use Rattle.std.specs.Prelude.{Contains, AllPairs, Result, Ok, Err, IfOk, IfErr}
 use Rattle.std.specs.List.{list_any}
 use Rattle.std.proofs.lemmas.List.{map-append, take-append-drop, append-nil, length-map}
@@ -13,7 +14,7 @@ use Rattle.profile.specs.Instances.{Booked}
 use Rattle.profile.specs.Events.{Event, SaysEvent, SaysCalendar, EventFault, CalendarFault, in_event, one_meeting, has_unread, booked_by, is_confirmed, confirmed, meeting_said}
 use Rattle.cal_events.specs.declared.calendar.Entry.{Entry}
 use Rattle.cal_events.specs.Calendars.{booked_of, confirmed_in, meeting_of, MeetingsDiffer, IsTwinsFault}
-use Rattle.cal_events.specs.Events.{is_vevent, entry_view, entry_said, AreEntries, StandsIn}
+use Rattle.cal_events.specs.Events.{is_vevent, entry_view, entry_said, AreEntries}
 use Rattle.cal_events.proofs.EventLemmas.{push_zip}
 
 -- ---- the VEVENTs among some components
@@ -121,7 +122,7 @@ calendar_said (Ok c) room vs es (events, zip, are) read is differ = record {
 calendar_said (Err f) room vs es h read is differ = tt
 
 pub twins_stand : (r : Result (List Booked) Fault) (room : List ℕ) (vs : List Lines) (es : List Entry) → AreEntries room vs es → IfErr r (IsTwinsFault es)
-    → IfErr r (StandsIn (CalendarFault vs))
+    → IfErr r (RefusesBy (CalendarFault vs))
 twins_stand (Ok c) room vs es h t = tt
 twins_stand (Err Memory) room vs es h t = tt
 twins_stand (Err (Refused x)) room vs es (events, zip, are) (n, (i, j, d, lt, w, e)) =
@@ -129,6 +130,6 @@ twins_stand (Err (Refused x)) room vs es (events, zip, are) (n, (i, j, d, lt, w,
     let lens : length es ≡ length (map meeting_said events) = sym (length-map es meeting_of) ∙ ap length (same_meetings room es events are) in
     subst (CalendarFault vs) (sym n) (one_meeting events zip (λ apart. apart i j d lt (omega (arith, lens)) e'))
 
-pub event_stands : (vs : List Lines) (lines : Lines) (f : Fault) → Contains vs lines → StandsIn (EventFault false lines) f → StandsIn (CalendarFault vs) f
+pub event_stands : (vs : List Lines) (lines : Lines) (f : Fault) → Contains vs lines → RefusesBy (EventFault false lines) f → RefusesBy (CalendarFault vs) f
 event_stands vs lines Memory h s = tt
 event_stands vs lines (Refused r) h s = in_event lines h s

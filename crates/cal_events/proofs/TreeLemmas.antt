@@ -1,5 +1,6 @@
 -- The tree of a component that lines spell has the same VEVENTs.
 use Rattle.std.proofs.Common.{◌≡◌, ℕ, Bool, true, false, cond, List, [], ◌∷◌, map, filter, codes, subst, sym, refl, ap, ◌∙◌, inl, inr, arith}
+use Rattle.ical_lines.specs.Fault.{RefusesBy}
 use Rattle.std.specs.Prelude.{IsTrue, Result, Ok, Err, IfOk, IfErr}
 use Rattle.std.specs.Result.{IsErrAnd}
 use Rattle.std.proofs.lemmas.Bool.Decides.{nat_tests}
@@ -15,7 +16,7 @@ use Rattle.profile.specs.Trees.{Tree, tree_name, tree_own, vevents}
 use Rattle.profile.specs.Instances.{Booked}
 use Rattle.profile.specs.Events.{SaysCalendar, CalendarFault}
 use Rattle.profile.specs.Calendars.{SpellsCalendar, CalendarTextFault, in_lines, in_tree, no_version, in_vevents}
-use Rattle.cal_events.specs.Events.{is_vevent, vevents_of, StandsIn}
+use Rattle.cal_events.specs.Events.{is_vevent, vevents_of}
 use Rattle.cal_events.proofs.ReadingLemmas.{events_in}
 use Rattle.ical_values.proofs.Exits.{err_exit}
 
@@ -41,7 +42,7 @@ vevents_tree c =
     ap (λ (ts : List Tree). map tree_own (filter (λ t. is_same_name (tree_name t) (codes "VEVENT")) ts)) (tree_of-inside c) ∙ same_events (component_children c)
 
 pub faults_there : (r : Result (List Booked) Fault) (octets : List ℕ) (c : Component) → IsObjectOf false c (logical_lines octets)
-    → IfErr r (StandsIn (CalendarFault (vevents_of c))) → IfErr r (StandsIn (CalendarTextFault octets))
+    → IfErr r (RefusesBy (CalendarFault (vevents_of c))) → IfErr r (RefusesBy (CalendarTextFault octets))
 faults_there (Ok all) octets c object h = tt
 faults_there (Err Memory) octets c object h = tt
 faults_there (Err (Refused x)) octets c object h =
@@ -55,15 +56,15 @@ version_wrong octets n c s h =
     let v : has_version (component_lines c) ≡ false = grind (arith, nat_tests) in
     subst (CalendarTextFault octets) (sym e) (no_version (tree_of c) (spells_tree 7 c (logical_lines octets) s) (ap has_version (tree_of-own c) ∙ v))
 
-no_object : (octets : List ℕ) (f : Fault) → Stands false octets f → StandsIn (CalendarTextFault octets) f
+no_object : (octets : List ℕ) (f : Fault) → Stands false octets f → RefusesBy (CalendarTextFault octets) f
 no_object octets Memory h = tt
 no_object octets (Refused x) (inl h) = in_lines h
 no_object octets (Refused x) (inr (inl h)) = in_tree h
 no_object octets (Refused x) (inr (inr (c, (s, h)))) = version_wrong octets x.number c s h
 
 pub object_refused : (r : Result (List Booked) Fault) (octets : List ℕ) (f : Fault) → IsErrAnd r (λ e. e ≡ f) → Stands false octets f
-    → IfErr r (StandsIn (CalendarTextFault octets))
-object_refused r octets f e h = err_exit r (StandsIn (CalendarTextFault octets)) f e (no_object octets f h)
+    → IfErr r (RefusesBy (CalendarTextFault octets))
+object_refused r octets f e h = err_exit r (RefusesBy (CalendarTextFault octets)) f e (no_object octets f h)
 
 pub calendar_spelled : (r : Result (List Booked) Fault) (room octets : List ℕ) (c : Component) → reads_as_lines false octets ≡ true
     → IsObjectOf false c (logical_lines octets) → IfOk r (SaysCalendar room (vevents_of c)) → IfOk r (SpellsCalendar room octets)

@@ -54,11 +54,6 @@ event_of e = record {
   attendees = map attendee_of e.attendees.items;
 }
 
--- want of memory, or a refusal whose number's fault stands
-abbrev pub StandsIn : (ℕ → Type 0) → Fault → Type 0
-StandsIn P Memory = Unit {0}
-StandsIn P (Refused r) = P r.number
-
 abbrev pub said_kind : TimeKind → profile.TimeKind
 said_kind DateTime = profile.DateTime
 said_kind Date = profile.Date

@@ -2,14 +2,14 @@
 //! together (RFC 5545 3.6.1). By now single events with UTC times alone are read.
 ghost use Rattle.std.specs.Prelude.{ℕ, List, ◌≡◌, ◌⊎◌, ◌↔◌, ◌≤◌, ◌^◌, ◌++◌, ◌<ℤ◌, length, Bool, Some, map, codes, pos, negsuc, ◌+ℤ◌, ◌≤ℤ◌, option_map, true, IfOk, IfErr, OnOk, IsTrue};
 ghost use Rattle.std.specs.List.{AllZip};
-ghost use Rattle.ical_lines.specs.Fault.{RefusesOnly};
+ghost use Rattle.ical_lines.specs.Fault.{RefusesOnly, RefusesBy};
 ghost use Rattle.ical_lines.specs.Text.{line_text};
 ghost use Rattle.ical_tree.specs.Tree.{component_lines};
 ghost use Rattle.ical_values.specs.Octets.{address_octets, text_octets};
 ghost use Rattle.profile.specs.Faults.{is_event_fault};
 ghost use Rattle.profile.specs.Values.{SpellsStamp};
 ghost use Rattle.profile.specs.Events.{Event, answer_named, answer_of, length_seconds, ends_in_z, lines_named, malformed_number, Says, SaysSequence, SaysEvent, IsUidLine, IsAddressLine, IsStampLine, IsAttendee, IsTime, IsDateText, IsLocalText, IsNoAddress, UnfixedOrMalformed, time_kind, DateTime, KindFault, TimeFault, EventFault};
-ghost use Rattle.cal_events.specs.Events.{is_message, participation_of, attendee_of, length_of, event_of, said_kind, StandsIn, IsExtent, GivesLength, ExtentFault, TimesFault};
+ghost use Rattle.cal_events.specs.Events.{is_message, participation_of, attendee_of, length_of, event_of, said_kind, IsExtent, GivesLength, ExtentFault, TimesFault};
 
 use crate::properties::{optional, required};
 use ical_lines::{Fault, Line, Refusal};
@@ -100,7 +100,7 @@ impl EventComponent {
     ) -> Result<EventComponent, Fault>
         ensures says { IfOk result (λ event. SaysEvent (is_message purpose) (component_lines component.now) (event_of event)) }
         ensures refuses { IfErr result (RefusesOnly is_event_fault) }
-        ensures stands { IfErr result (StandsIn (EventFault (is_message purpose) (component_lines component.now))) }
+        ensures stands { IfErr result (RefusesBy (EventFault (is_message purpose) (component_lines component.now))) }
     {
         let uid = read_uid(alloc, component)?;
         let organiser = read_organiser(alloc, component, purpose)?;
@@ -159,7 +159,7 @@ pub fn one_event()
 fn read_uid(alloc: Global, component: &Component) -> Result<Text, Fault>
     ensures reads { IfOk result (λ uid. Says (codes "UID") true IsUidLine (component_lines component.now) (Some (text_octets uid))) }
     ensures refuses { IfErr result (RefusesOnly is_event_fault) }
-    ensures stands { (in_message : Bool) → IfErr result (StandsIn (EventFault in_message (component_lines component.now))) }
+    ensures stands { (in_message : Bool) → IfErr result (RefusesBy (EventFault in_message (component_lines component.now))) }
 {
     let line = required(component, "UID")?;
     Text::read_uid(alloc, line.value())
@@ -172,7 +172,7 @@ fn read_organiser(
 ) -> Result<Option<Address>, Fault>
     ensures reads { IfOk result (λ found. Says (codes "ORGANIZER") (is_message purpose) IsAddressLine (component_lines component.now) (option_map address_octets found)) }
     ensures refuses { IfErr result (RefusesOnly is_event_fault) }
-    ensures stands { IfErr result (StandsIn (EventFault (is_message purpose) (component_lines component.now))) }
+    ensures stands { IfErr result (RefusesBy (EventFault (is_message purpose) (component_lines component.now))) }
 {
     match (optional(component, "ORGANIZER")?, purpose) {
         (Some(line), _) => Ok(Some(Address::read(alloc, line.value())?)),
@@ -383,7 +383,7 @@ fn midnight_of(date: &[u8]) -> [u8; 15]
 fn read_attendees(alloc: Global, component: &Component) -> Result<Vec<Attendee>, Fault>
     ensures reads { IfOk result (λ v. AllZip IsAttendee (lines_named (codes "ATTENDEE") (component_lines component.now)) (map attendee_of v.items)) }
     ensures refuses { IfErr result (RefusesOnly is_event_fault) }
-    ensures stands { (in_message : Bool) → IfErr result (StandsIn (EventFault in_message (component_lines component.now))) }
+    ensures stands { (in_message : Bool) → IfErr result (RefusesBy (EventFault in_message (component_lines component.now))) }
 {
     let mut attendees = Vec::new(alloc);
     for line in component.lines() {
@@ -397,7 +397,7 @@ fn read_attendees(alloc: Global, component: &Component) -> Result<Vec<Attendee>,
 fn read_attendee(alloc: Global, line: Line<'_>) -> Result<Attendee, Fault>
     ensures reads { IfOk result (λ attendee. IsAttendee (line_text line.entry) (attendee_of attendee)) }
     ensures refuses { IfErr result (RefusesOnly is_event_fault) }
-    ensures stands { IfErr result (StandsIn (λ n. (n ≡ 15) × IsNoAddress (line_text line.entry))) }
+    ensures stands { IfErr result (RefusesBy (λ n. (n ≡ 15) × IsNoAddress (line_text line.entry))) }
 {
     let address = Address::read(alloc, line.value())?;
     let status = ParticipationStatus::of(line.param("PARTSTAT"));

@@ -1,13 +1,13 @@
 //! A calendar read from its octets (RFC 5545 3.4), for one room: open limits, METHOD not looked at.
 ghost use Rattle.std.specs.Prelude.{ℕ, List, ◌≡◌, [], true, false, unwrap_or, IfOk, IfErr, OnOk, OnErr, IsTrue};
 ghost use Rattle.std.specs.List.{list_any};
-ghost use Rattle.ical_lines.specs.Fault.{RefusesOnly};
+ghost use Rattle.ical_lines.specs.Fault.{RefusesOnly, RefusesBy};
 ghost use Rattle.ical_values.specs.Octets.{address_octets};
 ghost use Rattle.profile.specs.Faults.{is_calendar_fault};
 ghost use Rattle.profile.specs.Instances.{Booked};
 ghost use Rattle.profile.specs.Calendars.{SpellsCalendar, CalendarTextFault};
 ghost use Rattle.profile.specs.Events.{is_confirmed, SaysCalendar, CalendarFault, has_unread};
-ghost use Rattle.cal_events.specs.Events.{event_of, vevents_of, entry_view, entry_said, AreEntries, StandsIn};
+ghost use Rattle.cal_events.specs.Events.{event_of, vevents_of, entry_view, entry_said, AreEntries};
 
 use crate::calendar::{Calendar, Entry};
 use crate::component::{EventComponent, ParticipationStatus, Purpose, one_event};
@@ -26,7 +26,7 @@ impl Calendar {
     pub fn read(alloc: Global, bytes: &[u8], room: &Address) -> Result<Calendar, Fault>
         ensures spells { IfOk result (SpellsCalendar (address_octets room.now) bytes.now) }
         ensures refuses { IfErr result (RefusesOnly is_calendar_fault) }
-        ensures stands { IfErr result (StandsIn (CalendarTextFault bytes.now)) }
+        ensures stands { IfErr result (RefusesBy (CalendarTextFault bytes.now)) }
     {
         let object = read_object(alloc, bytes, Limits::Open)?;
         Calendar::of_object(alloc, &object, room)
@@ -37,7 +37,7 @@ impl Calendar {
     pub fn of_object(alloc: Global, object: &Component, room: &Address) -> Result<Calendar, Fault>
         ensures says { IfOk result (SaysCalendar (address_octets room.now) (vevents_of object.now)) }
         ensures refuses { IfErr result (RefusesOnly is_calendar_fault) }
-        ensures stands { IfErr result (StandsIn (CalendarFault (vevents_of object.now))) }
+        ensures stands { IfErr result (RefusesBy (CalendarFault (vevents_of object.now))) }
     {
         refuse_unread_events(object)?;
         let entries = entries_of(alloc, object, room)?;
@@ -85,7 +85,7 @@ pub fn refuse_unread_events(object: &Component) -> Result<(), Refusal>
 fn entries_of(alloc: Global, object: &Component, room: &Address) -> Result<Vec<Entry>, Fault>
     ensures says { IfOk result (λ entries. AreEntries (address_octets room.now) (vevents_of object.now) entries.items) }
     ensures refuses { IfErr result (RefusesOnly is_calendar_fault) }
-    ensures stands { IfErr result (StandsIn (CalendarFault (vevents_of object.now))) }
+    ensures stands { IfErr result (RefusesBy (CalendarFault (vevents_of object.now))) }
 {
     let mut entries = Vec::new(alloc);
     for component in object.children() {

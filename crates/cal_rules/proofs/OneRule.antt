@@ -1,5 +1,6 @@
 -- What a text says, all parts together: one rule, each number in its range, and the least fault.
 use Rattle.std.proofs.Common.{◌≡◌, ◌∙◌, ap, sym, refl, ℕ, zero, suc, ◌<◌, ◌≤◌, Bool, true, false, ◌&&◌, ◌||◌, nat_lt, nat_le, inl, inr, ◌⊎◌, List, [], ◌∷◌, length, All, Contains, Option, None, Some, ℤ, pos, neg_ℤ, arith}
+use Rattle.ical_lines.specs.Fault.{RefusesBy}
 use Rattle.std.proofs.lemmas.Bool.Decides.{nat_tests}
 use Rattle.std.proofs.lemmas.List.Elements.{All-contains}
 use Rattle.std.specs.List.{list_all}
@@ -10,7 +11,7 @@ use Rattle.profile.specs.Rules.{RuleText, WeekdayNumber, Until, is_place, is_pla
 use Rattle.profile.specs.RuleTexts.{RuleKey, Interval, Count, EndsAt, WeekStart, ByMonth, ByMonthDay, ByDay, BySetPosition, rule_parts, key_word, values_of, frequency_word, SpellsBetween, SpellsPlace, SpellsEntry, SpellsList, SpellsWeekday, SpellsCount, SpellsUntil, IsGiven, SaysOr, SaysFrequency, IsKnownPart, IsBadValue, SaysParts, SpellsRule, RuleFault, unknown, bad_value, no_frequency, two_frequencies, twice, apart, two_ends, IsLeastRuleFault}
 use Rattle.ical_lines.specs.declared.fault.Fault.{Fault}
 use Rattle.ical_lines.specs.declared.fault.Fault.TheVariants.{Refused, Memory}
-use Rattle.cal_rules.specs.Refused.{RefusesBy, IsPartFault}
+use Rattle.cal_rules.specs.Refused.{IsPartFault}
 use Rattle.cal_rules.proofs.Numbers.{weekday_same, frequency_same, between_same, place_same, entry_same, until_same}
 use Rattle.cal_rules.proofs.Entered.{zip_same, zip_all}
 

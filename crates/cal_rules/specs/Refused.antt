@@ -4,11 +4,6 @@ use Rattle.ical_lines.specs.declared.fault.Fault.{Fault}
 use Rattle.ical_lines.specs.declared.fault.Fault.TheVariants.{Refused, Memory}
 use Rattle.profile.specs.RuleTexts.{RuleFault, RuleKey, key_word, after_key, IsBadValue}
 
--- by a number of which this holds, or for want of memory
-abbrev pub RefusesBy : (ℕ → Type 0) → Fault → Type 0
-RefusesBy Holds (Refused refusal) = Holds refusal.number
-RefusesBy Holds Memory = Unit {0}
-
 -- a fault of the parts one by one; that parts don't fit together comes after them
 abbrev pub IsPartFault : List ℕ → ℕ → Type 0
 IsPartFault text number = RuleFault text number × (number ≤ 32)

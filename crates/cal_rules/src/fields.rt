@@ -1,10 +1,11 @@
 //! What the parts of a rule's text say, one by one: each stands once, or not at all (RFC 5545 3.3.10).
 
 ghost use Rattle.std.specs.Prelude.{None, [], pos, codes, map, option_map, IfOk, IfErr};
+ghost use Rattle.ical_lines.specs.Fault.{RefusesBy};
 ghost use Rattle.profile.specs.RuleTexts.{values_of, SaysFrequency, SaysOr, IsGiven, SpellsInterval, SpellsCount, SpellsUntil, SpellsWeekday, SpellsMonths, SpellsList, SpellsPlace, SpellsMonthDays, SpellsEntries, SpellsPositions};
 ghost use Rattle.cal_days.specs.Views.{frequency_of};
 ghost use Rattle.cal_rules.specs.Views.{entry_of, until_of};
-ghost use Rattle.cal_rules.specs.Refused.{RefusesBy, IsPartFault};
+ghost use Rattle.cal_rules.specs.Refused.{IsPartFault};
 
 use crate::entries::{read_entries, read_months, read_places};
 use crate::keys::value_of;

@@ -2,10 +2,11 @@
 //! one, then each part has to stand once, and then they have to go together: so the least fault is found first.
 
 ghost use Rattle.std.specs.Prelude.{◌≡◌, ℕ, List, All, Contains, MatchBool, IfOk, IfErr, OnOk};
+ghost use Rattle.ical_lines.specs.Fault.{RefusesBy};
 ghost use Rattle.profile.specs.Rules as rules;
 ghost use Rattle.profile.specs.RuleTexts.{rule_parts, values_of, key_word, RuleKey, IsKnownPart, IsBadValue, SaysParts, SpellsRule, RuleFault, IsLeastRuleFault};
 ghost use Rattle.cal_rules.specs.Views.{text_of};
-ghost use Rattle.cal_rules.specs.Refused.{RefusesBy, IsPartFault, HasBadValue};
+ghost use Rattle.cal_rules.specs.Refused.{IsPartFault, HasBadValue};
 
 use crate::fields;
 use crate::keys::{is_bad_value, is_known, split_part};

@@ -1,5 +1,6 @@
 -- What the readers of a VTIMEZONE's parts say, put together.
 use Rattle.std.proofs.Common.{◌≡◌, sym, refl, subst, inl, inr, ℕ, zero, true, List, [], ◌∷◌, codes, arith, unsigned_abs, ◌-ℤ◌, ◌≤◌}
+use Rattle.ical_lines.specs.Fault.{RefusesBy}
 use Rattle.std.specs.Prelude.{Some, None, Result, Ok, Err, IfOk, IfErr, Contains}
 use Rattle.std.specs.Result.{IsErrAnd}
 use Rattle.ical_lines.specs.declared.fault.Fault.{Fault}
@@ -11,7 +12,7 @@ use Rattle.profile.specs.Zones.{Zone, Single, Pair, Observance}
 use Rattle.profile.specs.Events.{lines_named, StandsAtMostOnce, Says}
 use Rattle.profile.specs.ZoneTexts.{parts_by, is_part, is_standard, is_daylight, SaysTimes, SaysOnce, SaysYearly, TimesFault, PartsSay, PartsFault, OffsetsDiffer, SaysZone, ZoneFault, missing, twice, fixed, bad_start, bad_from, bad_to, time_names, single, pair, in_part, ruled, unruled, unmatched, close, HasNoYearRule}
 use Rattle.cal_zones.specs.Read as read
-use Rattle.cal_zones.specs.Read.{StandsIn, parts_in, parts_of, standards_of, daylights_of, HasFault, SomeTimesFault, StartFault, IsNotOne, OffsetFault, YearlyFault, SaysSingle, SingleFault, SaysBoth, BothFault, in_times, has_rule, far, in_standard, in_daylight, no_match, no_space}
+use Rattle.cal_zones.specs.Read.{parts_in, parts_of, standards_of, daylights_of, HasFault, SomeTimesFault, StartFault, IsNotOne, OffsetFault, YearlyFault, SaysSingle, SingleFault, SaysBoth, BothFault, in_times, has_rule, far, in_standard, in_daylight, no_match, no_space}
 use Rattle.cal_zones.specs.Kinds.{zone_of}
 use Rattle.cal_zones.specs.declared.kinds.Zone as kept
 use Rattle.cal_zones.specs.Onsets.{observance_of}
@@ -24,12 +25,12 @@ Lines = List (List ℕ)
 
 -- ---- the exits of a `?`, by the error that it returns
 
-pub fault_exit : {T : Type 0} (r : Result T Fault) (P Q : ℕ → Type 0) (e : Fault) → ((n : ℕ) → Q n → P n) → IsErrAnd r (λ f. f ≡ e) → StandsIn Q e → IfErr r (StandsIn P)
+pub fault_exit : {T : Type 0} (r : Result T Fault) (P Q : ℕ → Type 0) (e : Fault) → ((n : ℕ) → Q n → P n) → IsErrAnd r (λ f. f ≡ e) → RefusesBy Q e → IfErr r (RefusesBy P)
 fault_exit (Ok x) P Q e g h p = tt
-fault_exit (Err f) P Q Memory g h p = subst (StandsIn P) (sym h) tt
-fault_exit (Err f) P Q (Refused x) g h p = subst (StandsIn P) (sym h) (g x.number p)
+fault_exit (Err f) P Q Memory g h p = subst (RefusesBy P) (sym h) tt
+fault_exit (Err f) P Q (Refused x) g h p = subst (RefusesBy P) (sym h) (g x.number p)
 
-pub weaker_fault : {T : Type 0} (r : Result T Fault) (P Q : ℕ → Type 0) → ((n : ℕ) → P n → Q n) → IfErr r (StandsIn P) → IfErr r (StandsIn Q)
+pub weaker_fault : {T : Type 0} (r : Result T Fault) (P Q : ℕ → Type 0) → ((n : ℕ) → P n → Q n) → IfErr r (RefusesBy P) → IfErr r (RefusesBy Q)
 weaker_fault (Ok x) P Q f p = tt
 weaker_fault (Err Memory) P Q f p = tt
 weaker_fault (Err (Refused e)) P Q f p = f e.number p

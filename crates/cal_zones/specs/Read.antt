@@ -1,5 +1,6 @@
 -- What the reader of a VTIMEZONE sees.
 use Rattle.std.specs.Prelude.{◌≡◌, ◌⊎◌, ℕ, Bool, List, map, filter, Contains, codes}
+use Rattle.ical_lines.specs.Fault.{RefusesBy}
 use Rattle.ical_lines.specs.declared.fault.Fault.{Fault}
 use Rattle.ical_lines.specs.declared.fault.Fault.TheVariants.{Refused, Memory}
 use Rattle.ical_tree.specs.Tree.{component_name, component_lines, component_children}
@@ -7,11 +8,6 @@ use Rattle.ical_tree.specs.declared.component.Component.{Component}
 use Rattle.profile.specs.Zones.{Zone, Single, Pair, Observance}
 use Rattle.profile.specs.Events.{IsMissing, StandsTwice, SomeLine}
 use Rattle.profile.specs.ZoneTexts.{is_part, is_standard, is_daylight, PartsSay, PartsFault, TimesFault, SaysOnce, SaysYearly, AreMatched, AreSpaced, AreClose, HasNoYearRule, IsFixedLine, IsNoLocalLine, IsNoOffsetLine}
-
--- want of memory, or a refusal with a fault of this kind
-abbrev pub StandsIn : (ℕ → Type 0) → Fault → Type 0
-StandsIn P Memory = Unit {0}
-StandsIn P (Refused r) = P r.number
 
 -- those of some components whose name passes the test, each as its own lines
 abbrev pub parts_in : (List ℕ → Bool) → List Component → List (List (List ℕ))
@@ -79,4 +75,4 @@ pub data BothFault (standard daylight : List (List ℕ)) : ℕ → Type 0 where
 -- want of memory stays, and any refusal becomes 40
 abbrev pub IsShapeFault : Fault → Fault → Type 0
 IsShapeFault Memory result = result ≡ Memory
-IsShapeFault (Refused _) result = StandsIn (λ n. n ≡ 40) result × (result ≡ Memory → ⊥)
+IsShapeFault (Refused _) result = RefusesBy (λ n. n ≡ 40) result × (result ≡ Memory → ⊥)

@@ -2,6 +2,7 @@
 //! one STANDARD and one DAYLIGHT that each name one day of the year.
 
 ghost use Rattle.std.specs.Prelude.{◌≡◌, ◌⊎◌, ℕ, List, true, false, length, codes, Contains, None, Some, IfOk, IfErr};
+ghost use Rattle.ical_lines.specs.Fault.{RefusesBy};
 ghost use Rattle.ical_tree.specs.Tree.{component_lines, tree_of};
 ghost use Rattle.profile.specs.Trees.{Tree};
 ghost use Rattle.profile.specs.Zones as zones;
@@ -13,7 +14,7 @@ ghost use Rattle.profile.specs.ZoneTexts.{HasNoYearRule, OffsetsDiffer, Keeps, S
 ghost use Rattle.cal_zones.specs.Shapes.{rule_named};
 ghost use Rattle.cal_zones.specs.Onsets.{observance_of};
 ghost use Rattle.cal_zones.specs.Kinds.{zone_of};
-ghost use Rattle.cal_zones.specs.Read.{StandsIn, Says, HasFault, parts_of, SomeTimesFault, YearlyFault, IsShapeFault};
+ghost use Rattle.cal_zones.specs.Read.{Says, HasFault, parts_of, SomeTimesFault, YearlyFault, IsShapeFault};
 ghost use Rattle.cal_zones.specs.Read.{SaysSingle, SingleFault, SaysBoth, BothFault};
 
 use crate::kinds::{Fixed, Kind, Zone};
@@ -37,7 +38,7 @@ impl Zone {
     /// apart.
     pub fn read(alloc: Global, zone: &Component) -> Result<Zone, Fault>
         ensures says { IfOk result (λ z. SaysZone (tree_of zone.now) (zone_of z)) }
-        ensures stands { IfErr result (StandsIn (ZoneFault (tree_of zone.now))) }
+        ensures stands { IfErr result (RefusesBy (ZoneFault (tree_of zone.now))) }
     {
         read_zone(alloc, zone)
     }
@@ -67,7 +68,7 @@ pub fn one_zone()
 
 fn read_zone(alloc: Global, zone: &Component) -> Result<Zone, Fault>
     ensures says { IfOk result (λ z. Says zone.now (zone_of z)) }
-    ensures stands { IfErr result (StandsIn (HasFault zone.now)) }
+    ensures stands { IfErr result (RefusesBy (HasFault zone.now)) }
 {
     let Some(part) = first_part(zone) else {
         return Err(Fault::Refused(SHAPE));
@@ -122,7 +123,7 @@ fn all_keep(zone: &Component, offset: i32) -> Result<bool, Refusal>
 fn read_changing(alloc: Global, zone: &Component) -> Result<Zone, Fault>
     requires { OffsetsDiffer (parts_of zone.now) }
     ensures says { IfOk result (λ z. Says zone.now (zone_of z)) }
-    ensures stands { IfErr result (StandsIn (HasFault zone.now)) }
+    ensures stands { IfErr result (RefusesBy (HasFault zone.now)) }
 {
     match only_part(zone) {
         Some(part) => Ok(read_single(part)?),
@@ -148,7 +149,7 @@ fn read_pair(alloc: Global, zone: &Component) -> Result<Zone, Fault>
     requires differ { OffsetsDiffer (parts_of zone.now) }
     requires several { length (parts_of zone.now) ≡ 1 → ⊥ }
     ensures says { IfOk result (λ z. Says zone.now (zone_of z)) }
-    ensures stands { IfErr result (StandsIn (HasFault zone.now)) }
+    ensures stands { IfErr result (RefusesBy (HasFault zone.now)) }
 {
     let Some(standard) = only_named(zone, "STANDARD") else {
         return Err(Fault::Refused(SHAPE));
@@ -162,7 +163,7 @@ fn read_pair(alloc: Global, zone: &Component) -> Result<Zone, Fault>
 fn read_both(alloc: Global, standard: &Component, daylight: &Component) -> Result<Zone, Fault>
     ensures says { IfOk result
         (λ z. SaysBoth (component_lines standard.now) (component_lines daylight.now) (zone_of z)) }
-    ensures stands { IfErr result (StandsIn (BothFault (component_lines standard.now) (component_lines daylight.now))) }
+    ensures stands { IfErr result (RefusesBy (BothFault (component_lines standard.now) (component_lines daylight.now))) }
 {
     let first = read_yearly(alloc, standard)?;
     let second = read_yearly(alloc, daylight)?;
@@ -173,7 +174,7 @@ fn read_both(alloc: Global, standard: &Component, daylight: &Component) -> Resul
 fn read_yearly(alloc: Global, part: &Component) -> Result<Observance, Fault>
     ensures says { IfOk result (λ o. SaysYearly (component_lines part.now) (observance_of o)) }
     ensures has_rule { IfOk result (λ o. o.rule ≡ None → ⊥) }
-    ensures stands { IfErr result (StandsIn (YearlyFault (component_lines part.now))) }
+    ensures stands { IfErr result (RefusesBy (YearlyFault (component_lines part.now))) }
 {
     let times = read_times(part)?;
     let rule = read_rule(alloc, part)?;
@@ -184,7 +185,7 @@ fn read_yearly(alloc: Global, part: &Component) -> Result<Observance, Fault>
 fn read_rule(alloc: Global, part: &Component) -> Result<Yearly, Fault>
     ensures says { IfOk result (λ r.
         lines.Says (codes "RRULE") true IsYearLine (component_lines part.now) (Some (rule_named r.month r.days))) }
-    ensures stands { IfErr result (StandsIn (λ n. (n ≡ 40) × HasNoYearRule (component_lines part.now))) }
+    ensures stands { IfErr result (RefusesBy (λ n. (n ≡ 40) × HasNoYearRule (component_lines part.now))) }
 {
     let line = the_line(part, "RRULE")?;
     read_year(alloc, line.value())
@@ -193,7 +194,7 @@ fn read_rule(alloc: Global, part: &Component) -> Result<Yearly, Fault>
 /// The one day of the year that the text of a rule names. Refused with 40 where it names none.
 fn read_year(alloc: Global, text: &str) -> Result<Yearly, Fault>
     ensures says { IfOk result (λ r. SpellsYear text.now (rule_named r.month r.days)) }
-    ensures stands { IfErr result (StandsIn (λ n. (n ≡ 40) × SpellsNoYear text.now)) }
+    ensures stands { IfErr result (RefusesBy (λ n. (n ≡ 40) × SpellsNoYear text.now)) }
 {
     let rule = match RuleText::read(alloc, text) {
         Ok(rule) => rule,

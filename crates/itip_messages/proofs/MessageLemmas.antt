@@ -1,5 +1,6 @@
 -- What the lines of a message say, and what is wrong with them.
 use Rattle.std.proofs.Common.{◌≡◌, ◌∙◌, ℕ, Bool, true, false, ◌&&◌, ◌||◌, cond, List, [], ◌∷◌, ◌++◌, length, map, get_or, refl, sym, ap, subst, arith, inl, inr, Option, Some, None, IsSome, is_some, option_map}
+use Rattle.ical_lines.specs.Fault.{RefusesBy}
 use Rattle.std.specs.Prelude.{Result, Ok, Err, IfErr, Contains, codes}
 use Rattle.std.specs.List.{list_all, list_any, AllZip}
 use Rattle.std.specs.Str.{bytes_eq}
@@ -13,7 +14,7 @@ use Rattle.profile.specs.Lines.{line_value}
 use Rattle.profile.specs.Events.{Event, SaysEvent, Says, BothOrNeither, StandsAtMostOnce, EventFault, has_unread, lines_named}
 use Rattle.profile.specs.Messages.{SaysRequest, MethodFault, bad_method, unread_method, MessageFault, in_event, no_event, two_meetings, two_wholes, is_same_meeting, are_one_meeting, is_unread_method, is_method}
 use Rattle.cal_events.specs.declared.component.EventComponent.{EventComponent}
-use Rattle.cal_events.specs.Events.{event_of, StandsIn}
+use Rattle.cal_events.specs.Events.{event_of}
 use Rattle.cal_events.proofs.EventLemmas.{some_line, push_zip}
 use Rattle.cal_events.specs.declared.component.Attendee.{Attendee}
 use Rattle.cal_events.specs.Events.{attendee_of}
@@ -63,7 +64,7 @@ meeting_stands own vevents events n zip w = elim w [
 
 -- ---- VEVENTs
 
-pub event_stands : (own : Lines) (vevents : List Lines) (lines : Lines) (f : Fault) → Contains vevents lines → StandsIn (EventFault true lines) f → StandsIn (MessageFault own vevents) f
+pub event_stands : (own : Lines) (vevents : List Lines) (lines : Lines) (f : Fault) → Contains vevents lines → RefusesBy (EventFault true lines) f → RefusesBy (MessageFault own vevents) f
 event_stands own vevents lines Memory h s = tt
 event_stands own vevents lines (Refused r) h s = in_event lines h s
 

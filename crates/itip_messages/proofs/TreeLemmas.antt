@@ -1,5 +1,6 @@
 -- The message of a component that lines spell is the message of its tree.
 use Rattle.std.proofs.Common.{◌≡◌, ℕ, true, List, subst, sym, inl, inr}
+use Rattle.ical_lines.specs.Fault.{RefusesBy}
 use Rattle.std.specs.Prelude.{Result, Ok, Err, IfOk, IfErr}
 use Rattle.std.specs.Result.{IsErrAnd}
 use Rattle.ical_lines.specs.declared.fault.Fault.{Fault}
@@ -10,7 +11,7 @@ use Rattle.ical_tree.specs.declared.component.Component.{Component}
 use Rattle.profile.specs.Lines.{logical_lines, reads_as_lines}
 use Rattle.profile.specs.Trees.{tree_own, vevents}
 use Rattle.profile.specs.Messages.{SaysRequest, MessageFault}
-use Rattle.cal_events.specs.Events.{vevents_of, StandsIn}
+use Rattle.cal_events.specs.Events.{vevents_of}
 use Rattle.cal_events.proofs.TreeLemmas.{vevents_tree}
 use Rattle.itip_messages.specs.declared.message.Message.{Message}
 use Rattle.itip_messages.specs.Messages.{IsMessageOf, IsSpelled, ReadFault}
@@ -30,7 +31,7 @@ message_spelled (Err e) octets c lines object says = tt
 
 -- the fault that stands in them
 pub faults_there : (r : Result Message Fault) (octets : List ℕ) (c : Component) → IsObjectOf true c (logical_lines octets)
-    → IfErr r (StandsIn (MessageFault (component_lines c) (vevents_of c))) → IfErr r (ReadFault octets)
+    → IfErr r (RefusesBy (MessageFault (component_lines c) (vevents_of c))) → IfErr r (ReadFault octets)
 faults_there (Ok message) octets c object h = tt
 faults_there (Err Memory) octets c object h = inr tt
 faults_there (Err (Refused x)) octets c object h =

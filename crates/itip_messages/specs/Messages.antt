@@ -1,5 +1,6 @@
 -- What a message that was read stands for, and the parts of it.
 use Rattle.std.specs.Prelude.{◌≡◌, ℕ, ◌<◌, ◌⊎◌, Bool, true, false, List, [], ◌∷◌, length, map, codes, Some, if◌then◌else◌}
+use Rattle.ical_lines.specs.Fault.{RefusesBy}
 use Rattle.std.specs.List.{list_any}
 use Rattle.std.specs.Str.{bytes_eq}
 use Rattle.profile.specs.Lines.{line_value, is_same_name}
@@ -7,7 +8,7 @@ use Rattle.profile.specs.Events.{Event, booked_by, lines_named}
 use Rattle.profile.specs.Messages.{IsCanonical, SaysRequest, SpellsRequest, RequestFault, is_method, is_unread_method, are_one_meeting}
 use Rattle.profile.specs.Revisions as revisions
 use Rattle.ical_values.specs.Octets.{text_octets, address_octets}
-use Rattle.cal_events.specs.Events.{attendee_of, StandsIn}
+use Rattle.cal_events.specs.Events.{attendee_of}
 use Rattle.ical_lines.specs.declared.fault.Fault.{Fault}
 use Rattle.ical_tree.specs.Reading.{Stands}
 use Rattle.itip_order.specs.declared.part.Slot.TheVariants.{Whole}
@@ -43,7 +44,7 @@ IsSpelled octets message = (event : Event) × SpellsRequest octets event × Stan
 
 -- want of memory, or a fault of the object or of what it says stands in the octets
 abbrev pub ReadFault : List ℕ → Fault → Type 0
-ReadFault octets fault = Stands true octets fault ⊎ StandsIn (RequestFault octets) fault
+ReadFault octets fault = Stands true octets fault ⊎ RefusesBy (RequestFault octets) fault
 
 -- METHOD stands once, and is REQUEST
 abbrev pub NamesRequest : List (List ℕ) → Type 0

@@ -2,7 +2,7 @@
 //! By now REQUEST alone is read.
 ghost use Rattle.std.specs.Prelude.{◌≡◌, ◌++◌, [], true, codes, length, map, option_map, unwrap_or, IsTrue, IsSome, IfOk, IfErr, OnOk};
 ghost use Rattle.std.specs.List.{list_all, AllZip};
-ghost use Rattle.ical_lines.specs.Fault.{RefusesOnly};
+ghost use Rattle.ical_lines.specs.Fault.{RefusesOnly, RefusesBy};
 ghost use Rattle.ical_lines.specs.Text.{line_text};
 ghost use Rattle.ical_tree.specs.Tree.{component_lines};
 ghost use Rattle.ical_values.specs.Octets.{address_octets};
@@ -11,7 +11,7 @@ ghost use Rattle.profile.specs.Lines.{line_value, is_same_name};
 ghost use Rattle.profile.specs.Values.{duration_text};
 ghost use Rattle.profile.specs.Events.{SaysEvent, StandsAtMostOnce, StandsTwice};
 ghost use Rattle.profile.specs.Messages.{IsCanonical, MethodFault, MessageFault, is_same_meeting, is_unread_method};
-ghost use Rattle.cal_events.specs.Events.{event_of, vevents_of, StandsIn};
+ghost use Rattle.cal_events.specs.Events.{event_of, vevents_of};
 ghost use Rattle.itip_messages.specs.Messages.{IsMessageOf, IsSpelled, MeetingFault, NamesRequest, ReadFault, StandsFor, WordFault, component_names};
 
 use cal_events::{Attendee, EventComponent, Purpose, refuse_unread_events};
@@ -84,7 +84,7 @@ impl Message {
     pub fn of_object(alloc: Global, object: &Component) -> Result<Message, Fault>
         ensures says { IfOk result (IsMessageOf (component_lines object.now) (vevents_of object.now)) }
         ensures refuses { IfErr result (RefusesOnly is_message_fault) }
-        ensures stands { IfErr result (StandsIn (MessageFault (component_lines object.now) (vevents_of object.now))) }
+        ensures stands { IfErr result (RefusesBy (MessageFault (component_lines object.now) (vevents_of object.now))) }
     {
         refuse_unread_events(object)?;
         let method = method_of(object)?;
@@ -215,7 +215,7 @@ fn is_unread_method(word: &str) -> bool
 fn events_of(alloc: Global, object: &Component) -> Result<Vec<EventComponent>, Fault>
     ensures says { IfOk result (λ events. AllZip (SaysEvent true) (vevents_of object.now) (map event_of events.items)) }
     ensures refuses { IfErr result (RefusesOnly is_message_fault) }
-    ensures stands { IfErr result (StandsIn (MessageFault (component_lines object.now) (vevents_of object.now))) }
+    ensures stands { IfErr result (RefusesBy (MessageFault (component_lines object.now) (vevents_of object.now))) }
 {
     let mut events = Vec::new(alloc);
     for component in object.children() {

@@ -1,5 +1,6 @@
 -- A fault that stands in what was read of an object stands in the object.
 use Rattle.std.proofs.Common.{◌≡◌, inl, inr, ℕ, ◌<◌, ◌≤◌, Bool, true, false, not, ◌&&◌, ◌||◌, ◌==◌, nat_lt, List, length, codes, refl, sym, ap, subst, ◌∙◌, arith, take_all, length-take}
+use Rattle.ical_lines.specs.Fault.{RefusesBy}
 use Rattle.std.proofs.lemmas.Bool.{not-true}
 use Rattle.std.proofs.lemmas.Bool.Decides.{nat_tests}
 use Rattle.std.proofs.Math.Bool.{or-true}
@@ -9,7 +10,6 @@ use Rattle.ical_tree.proofs.TreeOfLemmas.{tree_of-own, spells_tree, count_tree}
 use Rattle.ical_tree.specs.Tree.{component_name, component_lines, component_children, tree_of}
 use Rattle.ical_tree.specs.Reading.{SpellsOf, calendar_has, ObjectHas}
 use Rattle.ical_tree.specs.declared.component.Component.{Component}
-use Rattle.cal_events.specs.Events.{StandsIn}
 use Rattle.itip_messages.specs.Messages.{ReadFault}
 use Rattle.profile.specs.Lines.{logical_lines, text_has}
 use Rattle.profile.specs.Objects.{is_calendar_name, count_inside, has_version}
@@ -54,7 +54,7 @@ object_has n octets (inr (inl h)) = inr (inl h)
 object_has n octets (inr (inr h)) = inr (inr (inl (tree_fault n (logical_lines octets) h.0 h.1.0 h.1.1)))
 
 -- what a message that is refused has
-pub object_fault : (octets : List ℕ) (f : Fault) → ReadFault octets f → StandsIn (λ n. ObjectFault n octets) f
+pub object_fault : (octets : List ℕ) (f : Fault) → ReadFault octets f → RefusesBy (λ n. ObjectFault n octets) f
 object_fault octets Memory h = tt
 object_fault octets (Refused r) (inl h) = object_has r.number octets h
 object_fault octets (Refused r) (inr h) = inr (inr (inr h))

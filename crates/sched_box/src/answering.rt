@@ -1,7 +1,7 @@
 //! The answers to one object: each room takes it, or it is refused.
 
 ghost use Rattle.std.specs.Prelude.{◌≡◌, ◌≤◌, ◌++◌, ◌<◌, ℕ, List, option_map, IfOk, IfErr, OnOk};
-ghost use Rattle.cal_events.specs.Events.{StandsIn};
+ghost use Rattle.ical_lines.specs.Fault.{RefusesBy};
 ghost use Rattle.itip_messages.specs.Messages.{IsSpelled};
 ghost use Rattle.profile.specs.Streams.{ObjectFault, refused_line};
 ghost use Rattle.sched_box.specs.Answering.{AnswersKept, RoomTakes, RoomsTake, room_addresses, sent_octets};
@@ -48,7 +48,7 @@ pub(crate) fn answer(
 /// Refused: 6 where so many were, and as by `Message::read`.
 fn read_kept(alloc: Global, octets: &[u8]) -> Result<Message, Fault>
     ensures spells { IfOk result (λ message. (object : List ℕ) → octets.now ≡ kept_of object → IsSpelled object message) }
-    ensures stands { IfErr result (λ fault. (object : List ℕ) → octets.now ≡ kept_of object → StandsIn (λ n. ObjectFault n object) fault) }
+    ensures stands { IfErr result (λ fault. (object : List ℕ) → octets.now ≡ kept_of object → RefusesBy (λ n. ObjectFault n object) fault) }
 {
     if octets.len() >= KEPT {
         return Err(Fault::Refused(Refusal::TOO_LONG));

@@ -1,6 +1,6 @@
 use Rattle.std.proofs.Common.{codes, sym, subst, refl, inl, inr, arith}
 use Rattle.ical_lines.specs.Text.{line_text}
-use Rattle.ical_lines.specs.Fault.{RefusesOnly}
+use Rattle.ical_lines.specs.Fault.{RefusesOnly, RefusesBy}
 use Rattle.ical_tree.specs.Tree.{component_lines}
 use Rattle.ical_values.specs.Refused.{IfRefused}
 use Rattle.ical_values.proofs.Exits.{err_exit, err_both}
@@ -9,14 +9,13 @@ use Rattle.profile.specs.Lines.{line_value}
 use Rattle.profile.specs.Values.{IsUid, unescaped}
 use Rattle.profile.specs.Events.{EventFault}
 use Rattle.profile.specs.Events.{twice, no_uid, bad_uid}
-use Rattle.cal_events.specs.Events.{StandsIn}
 use Rattle.cal_events.proofs.EventLemmas.{by_number, some_line, uid_said}
 use Rattle.cal_events.proofs.component.read_uid.Goals as goal
 
 pub returns-in_err-line-clause-stands : goal.returns-in_err-line-clause-stands
 returns-in_err-line-clause-stands c = λ m.
     let P = EventFault m (component_lines c.args.component.now) in
-    err_exit _ (StandsIn P) _ c.from_residual.ensures.1
+    err_exit _ (RefusesBy P) _ c.from_residual.ensures.1
     (subst P (sym c.in_err-line.ensures.refuses)
     (elim c.in_err-line.ensures.faulty [ inl h ↦ no_uid h | inr h ↦ twice (codes "UID") (0, omega arith, refl) h ]))
 
@@ -29,7 +28,7 @@ returns-clause-stands c = λ m.
     let P = EventFault m (component_lines c.args.component.now) in
     let value = c.value.result.now in
     let line = line_text c.in_ok-line.line in
-    err_both _ (RefusesOnly is_uid_fault) (IfRefused (¬ (IsUid (unescaped value)))) (StandsIn P)
+    err_both _ (RefusesOnly is_uid_fault) (IfRefused (¬ (IsUid (unescaped value)))) (RefusesBy P)
     (λ f t no. by_number f P _ 14
     (λ h. bad_uid (some_line (codes "UID") (λ l. ¬ (IsUid (unescaped (line_value l)))) (component_lines c.args.component.now) line c.in_ok-line.ensures.found (λ u. h (subst (λ t. IsUid (unescaped t)) (sym c.value.ensures) u))))
     t no)

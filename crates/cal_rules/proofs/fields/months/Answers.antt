@@ -1,6 +1,7 @@
 use Rattle.ical_lines.specs.declared.fault.Fault.TheVariants.{Refused}
+use Rattle.ical_lines.specs.Fault.{RefusesBy}
 use Rattle.profile.specs.RuleTexts.{ByMonth}
-use Rattle.cal_rules.specs.Refused.{IsPartFault, RefusesBy}
+use Rattle.cal_rules.specs.Refused.{IsPartFault}
 use Rattle.cal_rules.proofs.Parted.{fault_twice, fault_bad}
 use Rattle.ical_values.proofs.Exits.{err_exit}
 use Rattle.cal_rules.proofs.fields.months.Goals as goal

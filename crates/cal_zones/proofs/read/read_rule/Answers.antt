@@ -1,4 +1,5 @@
 use Rattle.std.proofs.Common.{◌≡◌, codes, subst, inr, List, ℕ}
+use Rattle.ical_lines.specs.Fault.{RefusesBy}
 use Rattle.std.specs.Prelude.{Some, true}
 use Rattle.std.proofs.lemmas.Result.{IfOk-weaker}
 use Rattle.ical_lines.specs.Text.{line_text}
@@ -8,14 +9,13 @@ use Rattle.profile.specs.Events.{Says}
 use Rattle.profile.specs.ZoneTexts.{SpellsYear, SpellsNoYear, IsYearLine, HasNoYearRule}
 use Rattle.cal_zones.specs.Shapes.{rule_named}
 use Rattle.cal_zones.proofs.Reading.{weaker_fault, said, no_rule_there}
-use Rattle.cal_zones.specs.Read.{StandsIn}
 use Rattle.ical_values.proofs.Exits.{err_exit}
 use Rattle.cal_zones.proofs.read.read_rule.Goals as goal
 
 pub returns-in_err-line-clause-stands : goal.returns-in_err-line-clause-stands
 returns-in_err-line-clause-stands c =
     let lines = component_lines c.args.part.now in
-    err_exit _ (StandsIn (λ n. (n ≡ 40) × HasNoYearRule lines)) _ c.from_residual.ensures.1
+    err_exit _ (RefusesBy (λ n. (n ≡ 40) × HasNoYearRule lines)) _ c.from_residual.ensures.1
     (c.in_err-line.ensures.refuses, no_rule_there lines c.in_err-line.ensures.faulty)
 
 pub returns-clause-says : goal.returns-clause-says

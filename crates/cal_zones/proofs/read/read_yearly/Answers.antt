@@ -1,16 +1,17 @@
 use Rattle.std.proofs.Common.{◌≡◌, ap, sym, inl, inr}
+use Rattle.ical_lines.specs.Fault.{RefusesBy}
 use Rattle.ical_tree.specs.Tree.{component_lines}
 use Rattle.profile.specs.ZoneTexts.{HasNoYearRule}
 use Rattle.cal_zones.specs.Shapes.{rule_named}
 use Rattle.cal_zones.specs.Onsets.{observance_of, rule_of}
-use Rattle.cal_zones.specs.Read.{YearlyFault, StandsIn}
+use Rattle.cal_zones.specs.Read.{YearlyFault}
 use Rattle.cal_zones.proofs.Reading.{fault_exit, same_times}
 use Rattle.ical_values.proofs.Exits.{err_exit}
 use Rattle.cal_zones.proofs.read.read_yearly.Goals as goal
 
 pub returns-in_err-times-clause-stands : goal.returns-in_err-times-clause-stands
 returns-in_err-times-clause-stands c =
-    err_exit _ (StandsIn (YearlyFault (component_lines c.args.part.now))) _ c.from_residual.ensures.1 (inl c.in_err-times.ensures.stands)
+    err_exit _ (RefusesBy (YearlyFault (component_lines c.args.part.now))) _ c.from_residual.ensures.1 (inl c.in_err-times.ensures.stands)
 
 pub returns-in_err-rule-clause-stands : goal.returns-in_err-rule-clause-stands
 returns-in_err-rule-clause-stands c =

@@ -1,9 +1,10 @@
 use Rattle.std.proofs.Common.{◌≡◌, sym, subst, ℤ, to_z, of_z, w32}
+use Rattle.ical_lines.specs.Fault.{RefusesBy}
 use Rattle.ical_tree.specs.Tree.{component_lines}
 use Rattle.profile.specs.Zones.{Zone}
 use Rattle.profile.specs.ZoneTexts.{PartsSay, Keeps, Strays, no_part, in_part, constant}
 use Rattle.cal_zones.specs.Onsets.{observance_of}
-use Rattle.cal_zones.specs.Read.{HasFault, parts_of, standards_of, daylights_of, StandsIn}
+use Rattle.cal_zones.specs.Read.{HasFault, parts_of, standards_of, daylights_of}
 use Rattle.cal_zones.proofs.Casts.{narrow}
 use Rattle.cal_zones.proofs.Reading.{some_times_fault}
 use Rattle.ical_values.proofs.Exits.{err_exit}
@@ -14,12 +15,12 @@ returns-in_default-clause-stands c = no_part c.in_default.ensures.none
 
 pub returns-in_err-first-clause-stands : goal.returns-in_err-first-clause-stands
 returns-in_err-first-clause-stands c =
-    err_exit _ (StandsIn (HasFault c.args.zone.now)) _ c.from_residual.ensures.1 (in_part (component_lines c.in-Some.part.now) c.in-Some.ensures.found c.in_err-first.ensures.stands)
+    err_exit _ (RefusesBy (HasFault c.args.zone.now)) _ c.from_residual.ensures.1 (in_part (component_lines c.in-Some.part.now) c.in-Some.ensures.found c.in_err-first.ensures.stands)
 
 pub returns-in_err-all_keep-clause-stands : goal.returns-in_err-all_keep-clause-stands
 returns-in_err-all_keep-clause-stands c =
     let zone = c.args.zone.now in
-    err_exit _ (StandsIn (HasFault zone)) _ c.from_residual-in_err-all_keep.ensures.1
+    err_exit _ (RefusesBy (HasFault zone)) _ c.from_residual-in_err-all_keep.ensures.1
     (some_times_fault (parts_of zone) (standards_of zone) (daylights_of zone) _ c.in_err-all_keep.ensures.stands)
 
 pub returns-then-branch-clause-says : goal.returns-then-branch-clause-says

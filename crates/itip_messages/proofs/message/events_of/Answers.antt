@@ -1,10 +1,11 @@
 use Rattle.std.proofs.Common.{◌<◌, ◌≡◌, ◌∙◌, true, List, length, map, take, get_or, sym, ap, subst}
+use Rattle.ical_lines.specs.Fault.{RefusesBy}
 use Rattle.std.specs.List.{AllZip}
 use Rattle.ical_tree.specs.Tree.{component_lines, component_children}
 use Rattle.ical_tree.specs.declared.component.Component.{Component}
 use Rattle.profile.specs.Events.{SaysEvent}
 use Rattle.profile.specs.Messages.{MessageFault}
-use Rattle.cal_events.specs.Events.{event_of, vevents_of, StandsIn}
+use Rattle.cal_events.specs.Events.{event_of, vevents_of}
 use Rattle.cal_events.proofs.ReadingLemmas.{events_in, is_among, take_event, take_other}
 use Rattle.itip_messages.proofs.MessageLemmas.{event_stands, event_pushed}
 use Rattle.ical_values.proofs.Exits.{err_exit}
@@ -20,7 +21,7 @@ returns-in_err-read-clause-stands c =
     let same = c.children-component-items.ensures in
     let within = subst (λ (l : List Component). i < length l) same c.loop-component-test.true in
     let here = subst (λ (l : List Component). x ≡ get_or l i x) same c.component-item.is in
-    err_exit _ (StandsIn (MessageFault own (vevents_of c.args.object.now))) _ c.from_residual.ensures.1
+    err_exit _ (RefusesBy (MessageFault own (vevents_of c.args.object.now))) _ c.from_residual.ensures.1
     (event_stands own (vevents_of c.args.object.now) (component_lines x) _ (is_among all i x within here (sym c.if-is_named.ensures)) c.in_err-read.ensures.stands)
 
 pub loop-component-preserved : goal.loop-component-preserved

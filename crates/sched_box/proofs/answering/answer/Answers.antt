@@ -1,5 +1,5 @@
 use Rattle.std.proofs.Common.{subst, refl}
-use Rattle.cal_events.specs.Events.{StandsIn}
+use Rattle.ical_lines.specs.Fault.{RefusesBy}
 use Rattle.profile.specs.Streams.{ObjectFault, refused_line}
 use Rattle.sched_box.proofs.AnswerLemmas.{answers_taken, answers_refused, same_addresses}
 use Rattle.sched_box.proofs.answering.answer.Goals as goal
@@ -19,5 +19,5 @@ returns-in_ok-write_refusal-in-Err-Refused-clause-answers c =
     let n = c.in-Err-Refused.refusal.number in (
       refused_line c.args.number n,
       rw c.in-Err-Refused.field-0-is at c.in_ok-write_refusal-in-Err-Refused.ensures,
-      answers_refused c.args.now c.args.number c.args.octets.now n _ _ (λ object is. subst (StandsIn (λ k. ObjectFault k object)) c.in-Err-Refused.field-0-is (c.in-Err-Refused.ensures.stands object is)) refl,
+      answers_refused c.args.now c.args.number c.args.octets.now n _ _ (λ object is. subst (RefusesBy (λ k. ObjectFault k object)) c.in-Err-Refused.field-0-is (c.in-Err-Refused.ensures.stands object is)) refl,
     )

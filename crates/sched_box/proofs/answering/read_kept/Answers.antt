@@ -1,6 +1,6 @@
 use Rattle.std.proofs.Common.{arith, subst}
+use Rattle.ical_lines.specs.Fault.{RefusesBy}
 use Rattle.std.proofs.lemmas.Result.{IfOk-weaker, IfErr-weaker}
-use Rattle.cal_events.specs.Events.{StandsIn}
 use Rattle.itip_messages.specs.Messages.{IsSpelled}
 use Rattle.profile.specs.Streams.{ObjectFault}
 use Rattle.sched_box.proofs.FaultLemmas.{kept_whole, long_fault, object_fault}
@@ -15,4 +15,4 @@ returns-clause-spells c =
 
 pub returns-clause-stands : goal.returns-clause-stands
 returns-clause-stands c =
-    IfErr-weaker c.read.result _ _ (λ f h object is. subst (λ o. StandsIn (λ n. ObjectFault n o) f) (kept_whole c.args.octets.now object is (omega arith)) (object_fault c.args.octets.now f h)) c.read.ensures.stands
+    IfErr-weaker c.read.result _ _ (λ f h object is. subst (λ o. RefusesBy (λ n. ObjectFault n o) f) (kept_whole c.args.octets.now object is (omega arith)) (object_fault c.args.octets.now f h)) c.read.ensures.stands

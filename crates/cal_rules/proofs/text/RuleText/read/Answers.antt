@@ -1,9 +1,9 @@
 use Rattle.std.proofs.Common.{◌∙◌, sym}
+use Rattle.ical_lines.specs.Fault.{RefusesBy}
 use Rattle.profile.specs.RuleTexts.{IsLeastRuleFault}
 use Rattle.ical_lines.specs.declared.fault.Fault.TheVariants.{Refused}
 use Rattle.cal_rules.specs.Views.{text_of}
 use Rattle.cal_rules.proofs.OneRule.{least_30, least_31_fault, least_part_fault, least_32, least_33, is_allowed}
-use Rattle.cal_rules.specs.Refused.{RefusesBy}
 use Rattle.ical_values.proofs.Exits.{err_exit}
 use Rattle.cal_rules.proofs.text.RuleText.read.Goals as goal
 

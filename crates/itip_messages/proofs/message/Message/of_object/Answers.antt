@@ -1,7 +1,8 @@
 use Rattle.std.proofs.Common.{sym, subst, map}
+use Rattle.ical_lines.specs.Fault.{RefusesBy}
 use Rattle.ical_tree.specs.Tree.{component_lines}
 use Rattle.profile.specs.Messages.{MessageFault, in_method, not_yet}
-use Rattle.cal_events.specs.Events.{event_of, vevents_of, StandsIn}
+use Rattle.cal_events.specs.Events.{event_of, vevents_of}
 use Rattle.itip_messages.proofs.MessageLemmas.{meeting_stands, one_said, organiser_given, stamp_given, request_said}
 use Rattle.ical_values.proofs.Exits.{err_exit}
 use Rattle.itip_messages.proofs.message.Message.of_object.Goals as goal
@@ -9,19 +10,19 @@ use Rattle.itip_messages.proofs.message.Message.of_object.Goals as goal
 pub returns-in_err-refuse_unread_events-clause-stands : goal.returns-in_err-refuse_unread_events-clause-stands
 returns-in_err-refuse_unread_events-clause-stands c =
     let P = MessageFault (component_lines c.args.object.now) (vevents_of c.args.object.now) in
-    err_exit _ (StandsIn P) _ c.from_residual.ensures.1 (subst P (sym c.in_err-refuse_unread_events.ensures.refuses) (not_yet c.in_err-refuse_unread_events.ensures.unread))
+    err_exit _ (RefusesBy P) _ c.from_residual.ensures.1 (subst P (sym c.in_err-refuse_unread_events.ensures.refuses) (not_yet c.in_err-refuse_unread_events.ensures.unread))
 
 pub returns-in_err-method-clause-stands : goal.returns-in_err-method-clause-stands
 returns-in_err-method-clause-stands c =
     let P = MessageFault (component_lines c.args.object.now) (vevents_of c.args.object.now) in
-    err_exit _ (StandsIn P) _ c.from_residual-in_err-method.ensures.1 (in_method c.in_err-method.ensures.stands)
+    err_exit _ (RefusesBy P) _ c.from_residual-in_err-method.ensures.1 (in_method c.in_err-method.ensures.stands)
 
 pub returns-in_err-judge_meeting-clause-stands : goal.returns-in_err-judge_meeting-clause-stands
 returns-in_err-judge_meeting-clause-stands c =
     let own = component_lines c.args.object.now in
     let vevents = vevents_of c.args.object.now in
     let wrong = rw c.as_slice.ensures.value at c.in_err-judge_meeting.ensures.stands in
-    err_exit _ (StandsIn (MessageFault own vevents)) _ c.from_residual-in_err-judge_meeting.ensures.1
+    err_exit _ (RefusesBy (MessageFault own vevents)) _ c.from_residual-in_err-judge_meeting.ensures.1
     (meeting_stands own vevents (map event_of c.in_ok-events.events.items) _ c.in_ok-events.ensures.says wrong)
 
 pub of-requires-clause-organiser : goal.of-requires-clause-organiser
