@@ -9,3 +9,4 @@ pub mod PieceLemmas
 pub mod QuoteLemmas
 pub mod ReadBackLemmas
 pub mod SplitLemmas
+pub mod Yields

@@ -1,23 +1,12 @@
 -- Lines that are written one behind another.
 use Rattle.std.proofs.Common.{◌≡◌, ℕ, zero, suc, ◌+◌, List, [], ◌∷◌, ◌++◌, Option, None, Some, refl, sym, ap, ◌∙◌, subst, length, take, arith, append_assoc, append-nil}
 use Rattle.std.specs.Prelude.{slice_get}
-use Rattle.std.specs.Iterator.{AlwaysYields}
 use Rattle.std.specs.List.{flat_map, AllZip}
 use Rattle.std.proofs.lemmas.Grind.{flat_map-append}
 use Rattle.profile.specs.Kept.{written, IsKeptEvent}
 use Rattle.profile.specs.Lines.{folded}
 use Rattle.profile.specs.Rooms.{Answer}
 use Rattle.room_books.specs.Keeping.{WritesAnswers}
-
--- ---- an iterator that gives a list
-
-pub some_more : {S A B : Type 0} (steps : S → Option A → S → Type 0) (v : A → B) (s t : S) (x : A) (left : List B) → AlwaysYields steps v s left → steps s (Some x) t → (rest : List B) × (left ≡ v x ∷ rest) × AlwaysYields steps v t rest
-some_more steps v s t x [] y h = absurd (y x t h)
-some_more steps v s t x (z ∷ zs) y h = let m = y.1 x t h in (zs, ap (λ w. w ∷ zs) (sym m.0), m.1)
-
-pub none_more : {S A B : Type 0} (steps : S → Option A → S → Type 0) (v : A → B) (s t : S) (left : List B) → AlwaysYields steps v s left → steps s None t → left ≡ []
-none_more steps v s t [] y h = refl
-none_more steps v s t (z ∷ zs) y h = absurd (y.0 t h)
 
 -- ---- written lines
 
