@@ -1,21 +1,31 @@
--- The pieces of a text, one after the other.
-use Rattle.std.proofs.Common.{◌≡◌, refl, ℕ, suc, ◌+◌, ◌<◌, Bool, true, false, cond, not, ◌==◌, List, [], ◌∷◌, length, Option, None, Some, option_map, arith}
+-- A text that is cut at an ASCII character, piece after piece.
+use Rattle.std.proofs.Common.{◌≡◌, ◌∙◌, refl, sym, ap, subst, ℕ, ◌<◌, Bool, true, ◌==◌, List, [], ◌∷◌, Option, None, Some}
 use denote.Ref.{Bor}
-use Rattle.std.specs.List.{slice_split, onto_first, position_or_len}
-use Rattle.cal_rules.specs.Piece.{pieces_of, IsFirstPiece}
+use Rattle.std.specs.declared.str.Split.{Split}
+use Rattle.std.specs.Iterator.{AlwaysYields}
+use Rattle.std.specs.List.{slice_split}
+use Rattle.std.specs.Str.Iter.{split_steps, split_text, split_has_more, split_pattern}
+use Rattle.std.specs.Str.Pattern.{FindsChar}
+use Rattle.std.proofs.lemmas.Iterator.Splits.{YieldsList-from_str_split}
+use Rattle.ical_lines.proofs.Yields.{some_more, none_more}
 
--- where no octet passes, the text is the one piece
-pub one_piece : (p : ℕ → Bool) (xs : List ℕ) → position_or_len p xs ≡ length xs → slice_split p xs ≡ xs ∷ []
-one_piece p [] h = refl
-one_piece p (x ∷ xs) h =
-    elim (p x) as (λ b. cond (not b) (1 + position_or_len p xs) 0 ≡ suc (length xs) → cond b ([] ∷ slice_split p xs) (onto_first x (slice_split p xs)) ≡ (x ∷ xs) ∷ []) [
-      | true ↦ λ e. absurd (omega arith)
-      | false ↦ λ e. rw (one_piece p xs (omega arith)) refl
-    ] h
+-- one step of the iterator over the pieces
+abbrev pub cuts : Split ℕ → Option (Bor (List ℕ)) → Split ℕ → Type 0
+cuts = split_steps FindsChar (λ a b. b ≡ a)
 
-pub first_left : (stop : ℕ) (text piece : List ℕ) (rest : Option (Bor (List ℕ))) → IsFirstPiece stop text piece rest → slice_split (λ c. c == stop) text ≡ piece ∷ pieces_of stop (option_map (λ x. x.now) rest)
-first_left stop text piece None h = h
-first_left stop text piece (Some rest) h = h
+-- these pieces are left: they come, and nothing after them
+abbrev pub Leaves : Split ℕ → List (List ℕ) → Type 0
+Leaves s left = AlwaysYields cuts (λ x. x.now) s left
 
-pub shorter_left : (pieces rest : List (List ℕ)) (piece : List ℕ) → pieces ≡ piece ∷ rest → length rest < length pieces
-shorter_left pieces rest piece e = rw e (omega arith)
+-- at the start all pieces of the text are left
+pub all_left : (stop : ℕ) (text : List ℕ) (s t : Split ℕ) → stop < 128 → split_text s ≡ text → split_has_more s ≡ true → split_pattern s ≡ stop → t ≡ s → Leaves t (slice_split (λ c. c == stop) text)
+all_left stop text s t low is more at same =
+    subst (λ u. Leaves u (slice_split (λ c. c == stop) text)) (sym same) (YieldsList-from_str_split stop text low is more at).runs
+
+-- a piece comes
+pub cut_more : (s t : Split ℕ) (piece : Bor (List ℕ)) (left : List (List ℕ)) → Leaves s left → cuts s (Some piece) t → (rest : List (List ℕ)) × (left ≡ piece.now ∷ rest) × Leaves t rest
+cut_more s t piece left y h = some_more cuts (λ x. x.now) s t piece left y h
+
+-- none comes
+pub cut_done : (s t : Split ℕ) (left : List (List ℕ)) → Leaves s left → cuts s None t → left ≡ []
+cut_done s t left y h = none_more cuts (λ x. x.now) s t left y h

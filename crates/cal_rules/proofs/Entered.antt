@@ -1,5 +1,6 @@
 -- Lists of entries, read one after the other.
-use Rattle.std.proofs.Common.{◌≡◌, ◌∙◌, ap, sym, refl, subst, ℕ, suc, ◌<◌, ◌≤◌, Bool, true, List, [], ◌∷◌, ◌++◌, length, All, Contains, append_assoc, append-nil, arith}
+use Rattle.std.proofs.Common.{◌≡◌, ◌∙◌, ap, sym, refl, subst, ℕ, suc, ◌<◌, ◌≤◌, Bool, true, false, List, [], ◌∷◌, ◌++◌, length, Option, None, Some, is_some, option_map, option_to_list, filter_map, All, Contains, append_assoc, append-nil, arith}
+use denote.Ref.{Bor}
 use Rattle.std.proofs.lemmas.List.Elements.{All-nil, All-push, Contains-append_right}
 use Rattle.std.specs.List.{AllZip, list_all}
 
@@ -99,3 +100,32 @@ pub part_there : (Passes : List ℕ → Type 0) (all left rest : List (List ℕ)
 part_there Passes all left rest part r s =
     let h : all ≡ r.done ++ part ∷ rest = r.parted ∙ ap (λ l. r.done ++ l) s in
     rw h (Contains-append_right r.done (part ∷ rest) part (0, omega arith, refl))
+
+-- ---- the one value of a key
+
+-- the first part gives its value, or nothing
+value_first : (f : List ℕ → Option (List ℕ)) (part : List ℕ) (rest : List (List ℕ)) (given : Option (List ℕ)) → f part ≡ given → filter_map f (part ∷ rest) ≡ option_to_list given ++ filter_map f rest
+value_first f part rest None e = rw e refl
+value_first f part rest (Some value) e = rw e refl
+
+module _ (f : List ℕ → Option (List ℕ)) (all left rest : List (List ℕ)) (part : List ℕ) (found : Option (Bor (List ℕ))) (so_far : all ≡ option_to_list (option_map (λ v. v.now) found) ++ filter_map f left) where
+  parted_values : (given : Option (List ℕ)) → left ≡ part ∷ rest → f part ≡ given → all ≡ option_to_list (option_map (λ v. v.now) found) ++ (option_to_list given ++ filter_map f rest)
+  parted_values given s e = so_far ∙ ap (λ l. option_to_list (option_map (λ v. v.now) found) ++ filter_map f l) s ∙ ap (λ l. option_to_list (option_map (λ v. v.now) found) ++ l) (value_first f part rest given e)
+
+  -- a part without this key
+  pub no_value : left ≡ part ∷ rest → f part ≡ None → all ≡ option_to_list (option_map (λ v. v.now) found) ++ filter_map f rest
+  no_value s e = parted_values None s e
+
+  -- all parts were looked at
+  pub all_values : left ≡ [] → all ≡ option_to_list (option_map (λ v. v.now) found)
+  all_values e = so_far ∙ ap (λ l. option_to_list (option_map (λ v. v.now) found) ++ filter_map f l) e ∙ append-nil (option_to_list (option_map (λ v. v.now) found))
+
+-- the first value
+pub first_value : (f : List ℕ → Option (List ℕ)) (all left rest : List (List ℕ)) (part value : List ℕ) (found : Option (Bor (List ℕ))) → all ≡ option_to_list (option_map (λ v. v.now) found) ++ filter_map f left → left ≡ part ∷ rest → f part ≡ Some value → is_some found ≡ false → all ≡ value ∷ filter_map f rest
+first_value f all left rest part value None h s e none = parted_values f all left rest part None h (Some value) s e
+first_value f all left rest part value (Some v) h s e none = let no : true ≡ false = none in cc
+
+-- and a second one
+pub second_value : (f : List ℕ → Option (List ℕ)) (all left rest : List (List ℕ)) (part value : List ℕ) (found : Option (Bor (List ℕ))) → all ≡ option_to_list (option_map (λ v. v.now) found) ++ filter_map f left → left ≡ part ∷ rest → f part ≡ Some value → is_some found ≡ true → 1 < length all
+second_value f all left rest part value None h s e some = let no : false ≡ true = some in cc
+second_value f all left rest part value (Some v) h s e some = rw (parted_values f all left rest part (Some v) h (Some value) s e) (omega arith)

@@ -4,5 +4,3 @@ pub mod Spans
 pub mod Counted
 pub mod Left
 pub mod Refused
-pub mod Cut
-pub mod Piece

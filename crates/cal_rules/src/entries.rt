@@ -4,7 +4,6 @@ ghost use Rattle.std.specs.Prelude.{◌≤◌, map, IfSome, IfNone, IfOk};
 ghost use Rattle.profile.specs.RuleTexts.{SpellsList, SpellsPlace, SpellsMonths, SpellsEntries, SpellsNone};
 ghost use Rattle.cal_rules.specs.Views.{entry_of};
 
-use crate::pieces::Pieces;
 use crate::values::{read_entry, read_month, read_place};
 use crate::written::WeekdayNumber;
 use std::alloc::{AllocError, Global};
@@ -18,7 +17,7 @@ pub(crate) fn read_months(alloc: Global, value: &str) -> Result<Option<Vec<u8>>,
     ensures none { IfOk result (λ read. IfNone read (SpellsNone SpellsMonths value.now)) }
 {
     let mut months = Vec::new(alloc);
-    for entry in Pieces::of(value, ',') {
+    for entry in value.split(',') {
         let Some(month) = read_month(entry) else {
             return Ok(None);
         };
@@ -42,7 +41,7 @@ pub(crate) fn read_places(
     ensures none { IfOk result (λ read. IfNone read (SpellsNone (SpellsList (SpellsPlace most)) value.now)) }
 {
     let mut places = Vec::new(alloc);
-    for entry in Pieces::of(value, ',') {
+    for entry in value.split(',') {
         let Some(place) = read_place(most, entry) else {
             return Ok(None);
         };
@@ -64,7 +63,7 @@ pub(crate) fn read_entries(
     ensures none { IfOk result (λ read. IfNone read (SpellsNone SpellsEntries value.now)) }
 {
     let mut entries = Vec::new(alloc);
-    for entry in Pieces::of(value, ',') {
+    for entry in value.split(',') {
         let Some(read) = read_entry(entry) else {
             return Ok(None);
         };

@@ -5,7 +5,6 @@ ghost use Rattle.profile.specs.RuleTexts.{RuleKey, key_word, after_key, values_o
 ghost use Rattle.cal_rules.specs.Views.{key_of};
 
 use crate::entries::{read_entries, read_months, read_places};
-use crate::pieces::Pieces;
 use crate::refusals::BAD_PARTS;
 use crate::values::{read_count, read_frequency, read_interval, read_until, read_weekday};
 use ical_lines::Refusal;
@@ -104,7 +103,7 @@ pub(crate) fn value_of<'a>(text: &'a str, key: &str) -> Result<Option<&'a str>, 
     ensures twice { IfErr result (λ e. (e.number ≡ 32) × (1 < length (values_of key.now text.now))) }
 {
     let mut found = None;
-    for part in Pieces::of(text, ';') {
+    for part in text.split(';') {
         if let Some(value) = value_after(part, key) {
             if found.is_some() {
                 return Err(BAD_PARTS);

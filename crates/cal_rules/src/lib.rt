@@ -8,7 +8,6 @@ mod entries;
 mod facts;
 mod fields;
 mod keys;
-mod pieces;
 mod place;
 mod position;
 mod read;

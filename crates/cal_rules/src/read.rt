@@ -10,7 +10,6 @@ ghost use Rattle.cal_rules.specs.Refused.{IsPartFault, HasBadValue};
 
 use crate::fields;
 use crate::keys::{is_bad_value, is_known, split_part};
-use crate::pieces::Pieces;
 use crate::refusals::{BAD_PARTS, BAD_VALUE, TWO_ENDS, UNKNOWN_PART};
 use crate::text::RuleText;
 use crate::written::Written;
@@ -50,7 +49,7 @@ fn check_known(text: &str) -> Result<(), Refusal>
     ensures known { OnOk result (All IsKnownPart (rule_parts text.now)) }
     ensures refuses { IfErr result (λ e. (e.number ≡ 30) × RuleFault text.now 30) }
 {
-    for part in Pieces::of(text, ';') {
+    for part in text.split(';') {
         if !is_known(part) {
             return Err(UNKNOWN_PART);
         }
@@ -64,7 +63,7 @@ fn check_values(alloc: Global, text: &str) -> Result<(), Fault>
         → IsBadValue key value → ⊥) }
     ensures refuses { IfErr result (RefusesBy (λ n. (n ≡ 31) × RuleFault text.now 31)) }
 {
-    for part in Pieces::of(text, ';') {
+    for part in text.split(';') {
         if has_bad_value(alloc, part)? {
             return Err(Fault::Refused(BAD_VALUE));
         }
