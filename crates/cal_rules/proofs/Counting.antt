@@ -1,9 +1,8 @@
 -- Days of a rule but for COUNT, counted.
-use Rattle.std.proofs.Common.{◌≡◌, ◌∙◌, sym, refl, inl, inr, ℕ, zero, suc, ◌+◌, ◌-◌, ◌<◌, ◌≤◌, min, max, Bool, true, false, ◌&&◌, nat_le, Option, Some, None, IsSome, IfSome, MatchOption, ℤ, arith}
+use Rattle.std.proofs.Common.{◌≡◌, ◌∙◌, sym, refl, inl, inr, ℕ, zero, suc, ◌+◌, ◌-◌, ◌<◌, ◌≤◌, min, max, Bool, true, false, ◌&&◌, nat_le, Some, None, arith}
 use Rattle.std.proofs.lemmas.Bool.{cases_lt, false≢true, and_cases, and_left, and_right}
 use Rattle.std.proofs.lemmas.Bool.Decides.{nat_tests}
-use Rattle.profile.specs.Rules.{Parts, count_days, is_rule_day, is_within_count, is_counted, is_base, is_placed, last_rule_day, NoDayFrom, IsNextDay}
-use Rattle.profile.specs.Days.{day_index}
+use Rattle.profile.specs.Rules.{Parts, count_days, is_rule_day, is_within_count, is_counted, is_base, is_placed, last_rule_day}
 use Rattle.cal_rules.specs.Counted.{NoneIn, IsFirstIn, NoneFrom, NoneBetween, IsNextCounted, EndsAt, is_chosen}
 
 -- no such day before DTSTART
@@ -36,16 +35,18 @@ counted_is r n a b c =
     rw (x, y, z) refl
 
 -- the least of these days, by the first base day with a set position
-pub next_is : (r : Parts) (from : ℕ) (answer : Option ℕ) → MatchOption answer (NoneIn (is_chosen r.pattern) (max from r.pattern.start) (min r.last last_rule_day + 1)) (IsFirstIn (is_chosen r.pattern) (max from r.pattern.start) (min r.last last_rule_day + 1)) → MatchOption answer (NoneFrom r from) (IsNextCounted r from)
-next_is r from None h =
-    λ n a. elim (cases_lt n r.pattern.start) [
+pub none_counted : (r : Parts) (from : ℕ) → NoneIn (is_chosen r.pattern) (max from r.pattern.start) (min r.last last_rule_day + 1) → NoneFrom r from
+none_counted r from h n a =
+    elim (cases_lt n r.pattern.start) [
       | inl lt ↦ counted_early r n lt
       | inr ge ↦ elim (cases_lt (min r.last last_rule_day) n) [
         | inl past ↦ counted_late r n past
         | inr within ↦ counted_chosen r n (h n (omega arith) (omega arith))
       ]
     ]
-next_is r from (Some day) h =
+
+pub first_counted : (r : Parts) (from day : ℕ) → IsFirstIn (is_chosen r.pattern) (max from r.pattern.start) (min r.last last_rule_day + 1) day → IsNextCounted r from day
+first_counted r from day h =
     let low = h.not_before in
     let high = h.inside in
     record {
@@ -161,18 +162,3 @@ ends_at r count from e low first so_far n =
           let b : nat_le n (from - 1) ≡ false = grind (arith, nat_tests) in
           within_is r count n e ∙ a ∙ sym b
     ])
-
--- THE NEXT RULE DAY
-
-pub next_day : (r : Parts) (end from found : ℕ) → EndsAt r end → IsNextCounted r from found → found ≤ end → IsNextDay r from found
-next_day r end from found ends next low =
-    let within : nat_le found end ≡ true = grind (arith, nat_tests) in
-    record {
-      not_before = next.not_before;
-      holds = ends found ∙ rw (next.counted, within) refl;
-      least = λ n f lt. ends n ∙ rw (next.least n f lt) refl;
-    }
-
-pub found_day : (r : Parts) (from found : ℕ) (answer : Option ℤ) → IsNextDay r from found → IsSome answer → IfSome answer (λ day. day_index day ≡ found) → MatchOption answer (NoDayFrom r from) (λ day. IsNextDay r from (day_index day))
-found_day r from found None next some same = absurd (false≢true some)
-found_day r from found (Some day) next some same = rw same next

@@ -5,6 +5,7 @@ pub mod Tomorrow
 pub mod Periods
 pub mod Positions
 pub mod Strides
+pub mod Cursors
 pub mod Cuts
 pub mod Parted
 pub mod Numbers

@@ -36,15 +36,15 @@ counted_rule_day : (r : Parts) (n : ℕ) → is_rule_day r n ≡ true → is_cou
 unfolding is_rule_day
 counted_rule_day r n h = (and_parts _ _ h).0
 
-pub next_days : (r : Parts) (from day : ℕ) → IsNextDay r from day → rule_days_from r from ≡ day ∷ rule_days_from r (day + 1)
+pub days_after : (r : Parts) (from day after : ℕ) → IsNextDay r from day → after ≡ day + 1 → rule_days_from r from ≡ day ∷ rule_days_from r after
 unfolding rule_days_from
-next_days r from day h =
+days_after r from day after h e =
     let low = h.not_before in
     let high = (counted_bound r day (counted_rule_day r day h.holds)).1 in
     let whole : last_rule_day + 1 - from ≡ day - from + suc (last_rule_day - day) = omega arith in
-    let rest : last_rule_day + 1 - (day + 1) ≡ last_rule_day - day = omega arith in
+    let rest : last_rule_day + 1 - after ≡ last_rule_day - day = omega arith in
     let place : from + (day - from) ≡ day = omega arith in
-    rw (whole, rest) (rw place at (filter_next (is_rule_day r) from (day - from) (last_rule_day - day) (λ n a b. h.least n a (omega arith)) (rw place h.holds)))
+    rw (whole, rest, e) (rw place at (filter_next (is_rule_day r) from (day - from) (last_rule_day - day) (λ n a b. h.least n a (omega arith)) (rw place h.holds)))
 
 pub shorter : (days rest : List ℕ) (day : ℕ) → days ≡ day ∷ rest → length rest < length days
 shorter days rest day e = rw e (omega arith)

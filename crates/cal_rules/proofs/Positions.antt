@@ -1,13 +1,12 @@
 -- Set positions, counted among the days of one period.
-use Rattle.std.proofs.Common.{◌≡◌, ◌∙◌, ap, refl, inl, inr, ℕ, zero, suc, ◌+◌, ◌-◌, ◌<◌, ◌≤◌, Bool, true, false, ◌==◌, nat_le, if◌then◌else◌, Option, None, Some, MatchOption, arith}
-use Rattle.std.proofs.lemmas.Bool.{cases_lt, cases_order, and_left, and_right, ne_eqb, eq-eqb}
+use Rattle.std.proofs.Common.{◌≡◌, ◌∙◌, ap, refl, inl, inr, ℕ, zero, suc, ◌+◌, ◌-◌, ◌<◌, ◌≤◌, Bool, true, false, ◌==◌, nat_le, if◌then◌else◌, arith}
+use Rattle.std.proofs.lemmas.Bool.{cases_lt, and_left, and_right, ne_eqb, eq-eqb}
 use Rattle.std.proofs.lemmas.Bool.Decides.{nat_tests}
 use Rattle.profile.specs.Days.{period_of}
 use Rattle.profile.specs.Rules.{Pattern, allows, is_nth, is_missing, passes, is_in_step, is_base, count_days, reach, is_mate, mates_before, mates_after, is_placed}
 use Rattle.cal_rules.specs.Spans.{IsSpan}
-use Rattle.cal_rules.specs.Counted.{NoneIn, IsFirstIn, is_chosen, has_place}
-use Rattle.cal_rules.proofs.Periods.{reach_max, span_of}
-use Rattle.cal_rules.proofs.Judging.{and_true}
+use Rattle.cal_rules.specs.Counted.{NoneIn, is_chosen}
+use Rattle.cal_rules.proofs.Periods.{reach_max}
 
 -- COUNTS
 
@@ -117,20 +116,20 @@ mates_after_is p n first end s step high =
     let split = count_split (is_mate p n) (n + 1) (end - (n + 1)) (reach p.frequency - (end - (n + 1))) in
     ap (λ k. count_days (is_mate p n) (n + 1) k) whole ∙ split ∙ rw (none, some) (omega arith)
 
--- in a period in step
-chosen_is : (p : Pattern) (n first end m : ℕ) → IsSpan p.frequency p.week_start n first end → is_in_step p n ≡ true → end ≤ 3_653_155 → first ≤ m → m < end → is_chosen p m ≡ has_place p first end m
+-- in a period in step a day that passes each part is chosen by its place among those that do
+pub chosen_by_place : (p : Pattern) (n first end before rest : ℕ) → IsSpan p.frequency p.week_start n first end → is_in_step p n ≡ true → end ≤ 3_653_155 → passes p n ≡ true → before ≡ count_days (passes p) first (n - first) → rest ≡ count_days (passes p) (n + 1) (end - (n + 1)) → is_chosen p n ≡ allows (λ k. is_nth k before rest) p.positions
 unfolding is_base is_placed
-chosen_is p n first end m s step high from to =
-    let here = span_of p.frequency p.week_start n first end m s from to in
-    let stepped : is_in_step p m ≡ true = step_same p n m (s.same m from to) ∙ step in
-    rw (stepped, mates_before_is p m first end here stepped high, mates_after_is p m first end here stepped high) refl
+chosen_by_place p n first end before rest s step high here a b =
+    rw (step, here, mates_before_is p n first end s step high, mates_after_is p n first end s step high, a, b) refl
 
--- where no set position is written
-chosen_plain : (p : Pattern) (n first end m : ℕ) → IsSpan p.frequency p.week_start n first end → is_in_step p n ≡ true → is_missing p.positions ≡ true → first ≤ m → m < end → is_chosen p m ≡ passes p m
+-- and where no set position is written each is
+pub chosen_plain : (p : Pattern) (n : ℕ) → is_in_step p n ≡ true → is_missing p.positions ≡ true → passes p n ≡ true → is_chosen p n ≡ true
 unfolding is_base is_placed
-chosen_plain p n first end m s step none from to =
-    let stepped : is_in_step p m ≡ true = step_same p n m (s.same m from to) ∙ step in
-    rw (stepped, none) (and_true (passes p m))
+chosen_plain p n step none here = rw (step, none, here) refl
+
+pub chosen_passes : (p : Pattern) (n : ℕ) → passes p n ≡ false → is_chosen p n ≡ false
+unfolding is_base
+chosen_passes p n out = and_left _ _ (and_right _ _ out)
 
 pub chosen_step : (p : Pattern) (n : ℕ) → is_in_step p n ≡ false → is_chosen p n ≡ false
 unfolding is_base
@@ -140,91 +139,3 @@ chosen_step p n h = rw h refl
 pub none_away : (p : Pattern) (n first end : ℕ) → IsSpan p.frequency p.week_start n first end → is_in_step p n ≡ false → NoneIn (is_chosen p) n end
 none_away p n first end s away m from to =
     chosen_step p m (step_same p n m (s.same m (omega (arith, s.not_before)) to) ∙ away)
-
-first_same : (test other : ℕ → Bool) (from end : ℕ) (answer : Option ℕ) → ((n : ℕ) → from ≤ n → n < end → test n ≡ other n) → MatchOption answer (NoneIn other from end) (IsFirstIn other from end) → MatchOption answer (NoneIn test from end) (IsFirstIn test from end)
-first_same test other from end None h m = λ n a b. h n a b ∙ m n a b
-first_same test other from end (Some day) h m =
-    record {
-      not_before = m.not_before;
-      inside = m.inside;
-      holds = h day m.not_before m.inside ∙ m.holds;
-      least = λ n a b. h n a (omega (arith, m.inside)) ∙ m.least n a b;
-    }
-
-pub by_parts : (p : Pattern) (n first end : ℕ) (answer : Option ℕ) → IsSpan p.frequency p.week_start n first end → is_in_step p n ≡ true → is_missing p.positions ≡ true → MatchOption answer (NoneIn (passes p) n end) (IsFirstIn (passes p) n end) → MatchOption answer (NoneIn (is_chosen p) n end) (IsFirstIn (is_chosen p) n end)
-by_parts p n first end answer s step none h =
-    first_same (is_chosen p) (passes p) n end answer (λ m from to. chosen_plain p n first end m s step none (omega (arith, s.not_before)) to) h
-
-pub by_place : (p : Pattern) (n first end : ℕ) (answer : Option ℕ) → IsSpan p.frequency p.week_start n first end → is_in_step p n ≡ true → end ≤ 3_653_155 → MatchOption answer (NoneIn (has_place p first end) n end) (IsFirstIn (has_place p first end) n end) → MatchOption answer (NoneIn (is_chosen p) n end) (IsFirstIn (is_chosen p) n end)
-by_place p n first end answer s step high h =
-    first_same (is_chosen p) (has_place p first end) n end answer (λ m from to. chosen_is p n first end m s step high (omega (arith, s.not_before)) to) h
-
--- THE SEARCH THROUGH A PERIOD
-
-pub none_more : (test : ℕ → Bool) (from day : ℕ) → NoneIn test from day → test day ≡ false → NoneIn test from (day + 1)
-none_more test from day none here n a b =
-    elim (cases_order n day) [
-      | inl e ↦ rw e here
-      | inr (inl lt) ↦ none n a lt
-      | inr (inr gt) ↦ absurd (omega arith)
-    ]
-
--- the search has come to a day: so many days of the period passed before it, and so many do from it on
-pub record IsAt (p : Pattern) (from first end day before rest : ℕ) : Type 0 where
-  pub from_first : first ≤ day
-  pub earlier : before ≡ count_days (passes p) first (day - first)
-  pub later : rest ≡ count_days (passes p) day (end - day)
-  pub none : NoneIn (has_place p first end) from day
-
-place_is : (p : Pattern) (first end day before rest : ℕ) → passes p day ≡ true → before ≡ count_days (passes p) first (day - first) → rest ≡ count_days (passes p) (day + 1) (end - (day + 1)) → has_place p first end day ≡ allows (λ k. is_nth k before rest) p.positions
-place_is p first end day before rest here a b = rw (a, b, here) refl
-
-rest_at : (p : Pattern) (from first end day before rest : ℕ) → IsAt p from first end day before rest → day < end → passes p day ≡ true → rest ≡ 1 + count_days (passes p) (day + 1) (end - (day + 1))
-rest_at p from first end day before rest s inside here = s.later ∙ rw here at (count_rest (passes p) day end inside)
-
-pub rest_some : (p : Pattern) (from first end day before rest : ℕ) → IsAt p from first end day before rest → day < end → passes p day ≡ true → 1 ≤ rest
-rest_some p from first end day before rest s inside here =
-    omega (arith, rest_at p from first end day before rest s inside here)
-
-pub at_start : (p : Pattern) (first end day before rest : ℕ) → first ≤ day → before ≡ count_days (passes p) first (day - first) → rest ≡ count_days (passes p) day (end - day) → IsAt p day first end day before rest
-at_start p first end day before rest low a b =
-    record { from_first = low; earlier = a; later = b; none = λ n f lt. absurd (omega arith) }
-
-pub at_other : (p : Pattern) (from first end day before rest : ℕ) → IsAt p from first end day before rest → day < end → passes p day ≡ true → allows (λ k. is_nth k before (rest - 1)) p.positions ≡ false → IsAt p from first end (day + 1) (before + 1) (rest - 1)
-at_other p from first end day before rest s inside here other =
-    let left = rest_at p from first end day before rest s inside here in
-    let less : rest - 1 ≡ count_days (passes p) (day + 1) (end - (day + 1)) = omega arith in
-    let step = rw here at (count_step (passes p) first day s.from_first) in
-    let low = s.from_first in
-    let before_is = s.earlier in
-    record {
-      from_first = omega arith;
-      earlier = omega arith;
-      later = less;
-      none = none_more (has_place p first end) from day s.none (place_is p first end day before (rest - 1) here s.earlier less ∙ other);
-    }
-
-pub at_flat : (p : Pattern) (from first end day before rest : ℕ) → IsAt p from first end day before rest → day < end → passes p day ≡ false → IsAt p from first end (day + 1) before rest
-at_flat p from first end day before rest s inside out =
-    let step = rw out at (count_step (passes p) first day s.from_first) in
-    let left = rw out at (count_rest (passes p) day end inside) in
-    let low = s.from_first in
-    let before_is = s.earlier in
-    let rest_is = s.later in
-    record {
-      from_first = omega arith;
-      earlier = omega arith;
-      later = omega arith;
-      none = none_more (has_place p first end) from day s.none (and_left _ _ out);
-    }
-
-pub at_found : (p : Pattern) (from first end day before rest : ℕ) → IsAt p from first end day before rest → from ≤ day → day < end → passes p day ≡ true → allows (λ k. is_nth k before (rest - 1)) p.positions ≡ true → IsFirstIn (has_place p first end) from end day
-at_found p from first end day before rest s low inside here right =
-    let left = rest_at p from first end day before rest s inside here in
-    let less : rest - 1 ≡ count_days (passes p) (day + 1) (end - (day + 1)) = omega arith in
-    record {
-      not_before = low;
-      inside = inside;
-      holds = place_is p first end day before (rest - 1) here s.earlier less ∙ right;
-      least = s.none;
-    }

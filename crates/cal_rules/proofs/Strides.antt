@@ -1,12 +1,12 @@
 -- Whole periods passed over.
-use Rattle.std.proofs.Common.{◌≡◌, ◌∙◌, sym, inl, inr, ℕ, zero, suc, ◌+◌, ◌-◌, ◌*◌, ◌%◌, ◌<◌, ◌≤◌, Bool, true, false, arith}
+use Rattle.std.proofs.Common.{◌≡◌, ◌∙◌, sym, inl, inr, ℕ, zero, suc, ◌+◌, ◌-◌, ◌*◌, ◌%◌, ◌<◌, ◌≤◌, true, false, arith}
 use Rattle.std.proofs.Math.Nat.{mod-add-mod, mod-eq_of_lt, add-mod_left}
 use Rattle.std.proofs.lemmas.Bool.{cases_lt, ne_eqb, eq-eqb}
 use Rattle.cal_days.specs.Views.{PeriodsAscend, PeriodsLast}
 use Rattle.profile.specs.Days.{period_of, shortest_period}
 use Rattle.profile.specs.Rules.{Pattern, is_in_step}
 use Rattle.cal_rules.specs.Spans.{IsSpan}
-use Rattle.cal_rules.specs.Counted.{NoneIn, IsFirstIn, is_chosen}
+use Rattle.cal_rules.specs.Counted.{NoneIn, is_chosen}
 use Rattle.cal_rules.proofs.Positions.{chosen_step}
 
 -- below the remainder that is looked for
@@ -75,22 +75,4 @@ beyond_none p from n first end (suc ahead) ascend last s before here none m a b 
             let same = s.same (end - 1) (omega arith) (omega arith) in
             chosen_step p m (passed_over p (end - 1) m (suc ahead) ascend last (omega arith) (omega arith) (omega arith) (λ j lt e. none j lt (rw same at e)))
       ]
-    ]
-
--- the first day found, up to the last one that counts
-pub first_found : (test : ℕ → Bool) (from day end found last : ℕ) → from ≤ day → NoneIn test from day → IsFirstIn test day end found → found ≤ last → IsFirstIn test from (last + 1) found
-first_found test from day end found last low before first within =
-    let after = first.not_before in
-    record {
-      not_before = omega arith;
-      inside = omega arith;
-      holds = first.holds;
-      least = λ n a b. elim (cases_lt n day) [ inl lt ↦ before n a lt | inr ge ↦ first.least n ge b ];
-    }
-
-pub none_found : (test : ℕ → Bool) (from day end found last : ℕ) → NoneIn test from day → IsFirstIn test day end found → last < found → NoneIn test from (last + 1)
-none_found test from day end found last before first past n a b =
-    elim (cases_lt n day) [
-      | inl lt ↦ before n a lt
-      | inr ge ↦ first.least n ge (omega arith)
     ]

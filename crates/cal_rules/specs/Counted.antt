@@ -1,6 +1,6 @@
 -- The days of a rule but for COUNT, and where COUNT ends.
-use Rattle.std.specs.Prelude.{◌≡◌, ℕ, ◌+◌, ◌-◌, ◌<◌, ◌≤◌, Bool, true, false, ◌&&◌, nat_le}
-use Rattle.profile.specs.Rules.{Pattern, Parts, allows, count_days, is_nth, passes, is_base, is_placed, is_counted, is_rule_day}
+use Rattle.std.specs.Prelude.{◌≡◌, ℕ, ◌<◌, ◌≤◌, Bool, true, false, ◌&&◌, nat_le}
+use Rattle.profile.specs.Rules.{Pattern, Parts, is_base, is_placed, is_counted, is_rule_day}
 
 -- no day from that one on and before the end passes the test
 abbrev pub NoneIn : (ℕ → Bool) → ℕ → ℕ → Type 0
@@ -17,14 +17,7 @@ pub record IsFirstIn (test : ℕ → Bool) (from end day : ℕ) : Type 0 where
 abbrev pub is_chosen : Pattern → ℕ → Bool
 is_chosen p n = is_base p n && is_placed p n
 
--- a day that passes each part, and has one of the set positions among those from the first day on and before the end that do
--- (RFC 5545 3.3.10, BYSETPOS)
-abbrev pub has_place : Pattern → ℕ → ℕ → ℕ → Bool
-has_place p first end n =
-    passes p n
-    && allows (λ k. is_nth k (count_days (passes p) first (n - first)) (count_days (passes p) (n + 1) (end - (n + 1)))) p.positions
-
--- none of those days from a day on
+-- no rule day but for COUNT from a day on
 abbrev pub NoneFrom : Parts → ℕ → Type 0
 NoneFrom r from = (n : ℕ) → from ≤ n → is_counted r n ≡ false
 

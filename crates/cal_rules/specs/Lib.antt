@@ -2,5 +2,6 @@ pub mod Views
 pub mod Known
 pub mod Spans
 pub mod Counted
+pub mod Standing
 pub mod Left
 pub mod Refused

@@ -1,7 +1,5 @@
 -- How the reading of a rule may fail.
 use Rattle.std.specs.Prelude.{◌≡◌, ℕ, ◌≤◌, List, Some}
-use Rattle.ical_lines.specs.declared.fault.Fault.{Fault}
-use Rattle.ical_lines.specs.declared.fault.Fault.TheVariants.{Refused, Memory}
 use Rattle.profile.specs.RuleTexts.{RuleFault, RuleKey, key_word, after_key, IsBadValue}
 
 -- a fault of the parts one by one; that parts don't fit together comes after them

@@ -4,6 +4,8 @@
 
 mod base;
 mod checks;
+mod cursor;
+mod days;
 mod entries;
 mod facts;
 mod fields;
@@ -21,8 +23,9 @@ mod values;
 mod write;
 mod written;
 
+pub use days::Days;
 pub use read::one_rule;
-pub use rule::{Days, Rule};
+pub use rule::Rule;
 pub use text::RuleText;
 pub use write::{rule_reads_back, values_read_back};
 pub use written::{Until, WeekdayNumber};

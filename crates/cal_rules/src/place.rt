@@ -1,12 +1,14 @@
 //! The days of a rule but for COUNT, and where COUNT ends (RFC 5545 3.3.10).
 
-ghost use Rattle.std.specs.Prelude.{◌≡◌, ◌+◌, ◌-◌, ◌*◌, ◌%◌, ◌<◌, ◌≤◌, true, false, ℕ, IfSome, MatchOption};
+ghost use Rattle.std.specs.Prelude.{◌≡◌, ◌+◌, ◌-◌, ◌*◌, ◌%◌, ◌<◌, ◌≤◌, true, false, ℕ, MatchOption};
 ghost use Rattle.cal_days.specs.Views.{frequency_of};
 ghost use Rattle.profile.specs.Days.{day_index, period_of, shortest_period};
 ghost use Rattle.profile.specs.Rules.{is_counted, is_in_step};
 ghost use Rattle.cal_rules.specs.Views.{pattern_of, parts_of};
-ghost use Rattle.cal_rules.specs.Counted.{NoneIn, IsFirstIn, NoneFrom, IsNextCounted, EndsAt, is_chosen};
+ghost use Rattle.cal_rules.specs.Counted.{NoneIn, NoneFrom, EndsAt, is_chosen};
+ghost use Rattle.cal_rules.specs.Standing.{StandsAt, IsPastFirst, IsPastNext};
 
+use crate::cursor::Cursor;
 use crate::facts::DayFacts;
 use crate::span::Span;
 use crate::written::Written;
@@ -76,13 +78,13 @@ impl Written {
         span.end + self.shortest() * (ahead - 1)
     }
 
-    /// The index of the first base day with a set position, from that index on and up to the last one.
-    fn next_chosen(&self, start: Day, from: u32, last: u32) -> Option<u32>
+    /// The cursor after the first base day with a set position, from the day of that index on and up to the last one.
+    fn first_chosen(&self, start: Day, from: u32, last: u32) -> Option<Cursor>
         requires interval { 1 ≤ self.now.interval }
         requires from { 366 ≤ from }
         requires last { last ≤ 3_652_424 }
-        ensures { let chosen = is_chosen (pattern_of self.now (day_index start)) in
-            MatchOption result (NoneIn chosen from (last + 1)) (IsFirstIn chosen from (last + 1)) }
+        ensures { let p = pattern_of self.now (day_index start) in
+            MatchOption result (NoneIn (is_chosen p) from (last + 1)) (IsPastFirst p from (last + 1)) }
     {
         cal_days::periods_grow();
         let begin = DayFacts::of(start);
@@ -94,15 +96,32 @@ impl Written {
             let here = DayFacts::of(day);
             let span = Span::of(self.frequency, self.week_start, here);
             let ahead = self.periods_to_step(start, day);
-            if let Some(found) = self.first_in_period(begin, here, span, ahead) {
-                if found > last {
+            if let Some(after) = self.first_in_period(begin, here, span, ahead) {
+                if after.day.index > last + 1 {
                     return None;
                 }
-                return Some(found);
+                return Some(after);
             }
             index = self.beyond(span, ahead);
         }
         None
+    }
+
+    /// The cursor after the first base day with a set position, from that cursor on and up to the last day.
+    fn next_chosen(&self, start: Day, from: Cursor, last: u32) -> Option<Cursor>
+        requires interval { 1 ≤ self.now.interval }
+        requires stands { StandsAt (pattern_of self.now (day_index start)) from }
+        requires last { last ≤ 3_652_424 }
+        ensures { let p = pattern_of self.now (day_index start) in MatchOption result
+            (NoneIn (is_chosen p) from.day.index (last + 1)) (IsPastFirst p from.day.index (last + 1)) }
+    {
+        let Some(after) = self.go_on(DayFacts::of(start), from) else {
+            return self.first_chosen(start, from.span.end, last);
+        };
+        if after.day.index > last + 1 {
+            return None;
+        }
+        Some(after)
     }
 
     /// Is this a rule day but for COUNT?
@@ -130,21 +149,21 @@ impl Written {
         requires range { (366 ≤ index) × (index ≤ 3_652_424) }
         ensures { result ≡ is_chosen (pattern_of self.now (day_index start)) index }
     {
-        match self.next_chosen(start, index, index) {
-            Some(_found) => true,
+        match self.first_chosen(start, index, index) {
+            Some(_after) => true,
             None => false,
         }
     }
 
-    /// The index of the least rule day but for COUNT, from that index on.
-    pub fn next_counted(&self, start: Day, last: Day, from: u32) -> Option<u32>
-        requires { 1 ≤ self.now.interval }
-        ensures least { let parts = parts_of self.now (day_index start) (day_index last) in
-            MatchOption result (NoneFrom parts from) (IsNextCounted parts from) }
-        ensures range { IfSome result (λ day. (366 ≤ day) × (day ≤ 3_652_424)) }
+    /// The cursor after the least rule day but for COUNT, from that cursor on.
+    pub fn next_counted(&self, start: Day, last: Day, from: Cursor) -> Option<Cursor>
+        requires interval { 1 ≤ self.now.interval }
+        requires stands { StandsAt (pattern_of self.now (day_index start)) from }
+        ensures { let parts = parts_of self.now (day_index start) (day_index last) in
+            MatchOption result (NoneFrom parts from.day.index) (IsPastNext parts from.day.index) }
     {
         let limit = last.index().min(LAST_RULE_DAY);
-        let begin = from.max(start.index());
+        let begin = from.not_before(start);
         self.next_chosen(start, begin, limit)
     }
 
@@ -156,13 +175,13 @@ impl Written {
         let Some(count) = self.count else {
             return LAST_RULE_DAY;
         };
-        let mut from = start.index();
+        let mut cursor = Cursor::at(start);
         for done in 0..count {
-            let Some(found) = self.next_counted(start, last, from) else {
+            let Some(after) = self.next_counted(start, last, cursor) else {
                 return LAST_RULE_DAY;
             };
-            from = found + 1;
+            cursor = after;
         }
-        from - 1
+        cursor.day.index - 1
     }
 }

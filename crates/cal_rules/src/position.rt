@@ -1,14 +1,16 @@
 //! The days of one period that a rule has, by what is written and by set positions (RFC 5545 3.3.10, BYSETPOS).
 
-ghost use Rattle.std.specs.Prelude.{◌≡◌, ◌-◌, ◌<◌, ◌≤◌, true, false, MatchOption};
+ghost use Rattle.std.specs.Prelude.{◌≡◌, ◌+◌, ◌-◌, ◌<◌, ◌≤◌, true, false, MatchOption};
 ghost use Rattle.cal_days.specs.Views.{frequency_of};
 ghost use Rattle.profile.specs.Rules.{count_days, passes, is_in_step};
 ghost use Rattle.cal_rules.specs.Views.{pattern_of};
 ghost use Rattle.cal_rules.specs.Known.{AreFacts};
 ghost use Rattle.cal_rules.specs.Spans.{IsSpan};
-ghost use Rattle.cal_rules.specs.Counted.{NoneIn, IsFirstIn, is_chosen, has_place};
+ghost use Rattle.cal_rules.specs.Counted.{NoneIn, is_chosen};
+ghost use Rattle.cal_rules.specs.Standing.{StandsAt, IsPastFirst};
 
 use crate::base::allows_nth;
+use crate::cursor::Cursor;
 use crate::facts::DayFacts;
 use crate::span::Span;
 use crate::written::Written;
@@ -47,88 +49,101 @@ impl Written {
         self.count_passing(start, first, day.index)
     }
 
-    /// The first day from that one on and before the end that passes each part.
-    fn next_passing(&self, start: DayFacts, from: DayFacts, end: u32) -> Option<u32>
+    /// The cursor at a day whose period is in step.
+    fn enter(&self, start: DayFacts, day: DayFacts, span: Span) -> Cursor
         requires start { AreFacts start }
-        requires from { AreFacts from }
-        requires range { (366 ≤ from.index) × (from.index ≤ end) × (end ≤ 3_653_155) }
-        ensures { let passing = passes (pattern_of self.now start.index) in
-            MatchOption result (NoneIn passing from.index end) (IsFirstIn passing from.index end) }
+        requires day { AreFacts day }
+        requires end { span.end ≤ 3_653_155 }
+        requires span { IsSpan (frequency_of self.now.frequency) self.now.week_start day.index span.first span.end }
+        requires in_step { is_in_step (pattern_of self.now start.index) day.index ≡ true }
+        ensures day { result.day ≡ day }
+        ensures span { result.span ≡ span }
+        ensures stands { StandsAt (pattern_of self.now start.index) result }
     {
-        let mut day = from;
-        while day.index < end {
-            if self.passes(start, day) {
-                return Some(day.index);
+        if self.positions.is_empty() {
+            return Cursor {
+                day,
+                span,
+                earlier: 0,
+                later: 0,
+            };
+        }
+        Cursor {
+            day,
+            span,
+            earlier: self.count_before(start, day, span),
+            later: self.count_passing(start, day, span.end),
+        }
+    }
+
+    /// Is the cursor's day a base day with a set position? And the cursor at the day after it.
+    fn pass(&self, start: DayFacts, cursor: Cursor) -> (bool, Cursor)
+        requires start { AreFacts start }
+        requires stands { StandsAt (pattern_of self.now start.index) cursor }
+        requires inside { cursor.day.index < cursor.span.end }
+        ensures chosen { result.0 ≡ is_chosen (pattern_of self.now start.index) cursor.day.index }
+        ensures index { result.1.day.index ≡ cursor.day.index + 1 }
+        ensures span { result.1.span ≡ cursor.span }
+        ensures stands { StandsAt (pattern_of self.now start.index) result.1 }
+    {
+        let day = cursor.day.tomorrow(cursor.span.end);
+        if !self.passes(start, cursor.day) {
+            return (false, Cursor { day, ..cursor });
+        }
+        if self.positions.is_empty() {
+            return (true, Cursor { day, ..cursor });
+        }
+        let later = cursor.later - 1;
+        let placed = allows_nth(&self.positions, cursor.earlier, later);
+        let after = Cursor {
+            day,
+            span: cursor.span,
+            earlier: cursor.earlier + 1,
+            later,
+        };
+        (placed, after)
+    }
+
+    /// The cursor after the first base day with a set position from that cursor to the end of its period.
+    pub fn go_on(&self, start: DayFacts, from: Cursor) -> Option<Cursor>
+        requires start { AreFacts start }
+        requires stands { StandsAt (pattern_of self.now start.index) from }
+        ensures { let p = pattern_of self.now start.index in MatchOption result
+            (NoneIn (is_chosen p) from.day.index from.span.end) (IsPastFirst p from.day.index from.span.end) }
+    {
+        let mut cursor = from;
+        while cursor.day.index < cursor.span.end {
+            let (chosen, after) = self.pass(start, cursor);
+            if chosen {
+                return Some(after);
             }
-            day = day.tomorrow(end);
+            cursor = after;
         }
         None
     }
 
-    /// The first day from that one to the end of its period that passes each part and has a set position,
-    /// where so many days of the period pass before it, and so many from it on.
-    fn next_placed(
-        &self,
-        start: DayFacts,
-        from: DayFacts,
-        span: Span,
-        before: u32,
-        rest: u32,
-    ) -> Option<u32>
-        requires start { AreFacts start }
-        requires from { AreFacts from }
-        requires range { (366 ≤ span.first) × (span.first ≤ from.index) × (from.index ≤ span.end)
-            × (span.end ≤ 3_653_155) }
-        requires before { before
-            ≡ count_days (passes (pattern_of self.now start.index)) span.first (from.index - span.first) }
-        requires rest { rest
-            ≡ count_days (passes (pattern_of self.now start.index)) from.index (span.end - from.index) }
-        ensures { let placed = has_place (pattern_of self.now start.index) span.first span.end in
-            MatchOption result (NoneIn placed from.index span.end) (IsFirstIn placed from.index span.end) }
-    {
-        let mut day = from;
-        let mut earlier = before;
-        let mut later = rest;
-        while day.index < span.end {
-            if self.passes(start, day) {
-                later -= 1;
-                if allows_nth(&self.positions, earlier, later) {
-                    return Some(day.index);
-                }
-                earlier += 1;
-            }
-            day = day.tomorrow(span.end);
-        }
-        None
-    }
-
-    /// The first base day with a set position from that day to the end of its period, which is in step
-    /// where no period has to be passed to the next one that is.
+    /// The cursor after the first base day with a set position from that day to the end of its period, which
+    /// is in step where no period has to be passed to the next one that is.
     pub fn first_in_period(
         &self,
         start: DayFacts,
         day: DayFacts,
         span: Span,
         ahead: u32,
-    ) -> Option<u32>
+    ) -> Option<Cursor>
         requires start { AreFacts start }
         requires day { AreFacts day }
-        requires range { day.index ≤ 3_652_424 }
         requires end { span.end ≤ 3_652_790 }
         requires span { IsSpan (frequency_of self.now.frequency) self.now.week_start day.index span.first span.end }
         requires here { ahead ≡ 0 → is_in_step (pattern_of self.now start.index) day.index ≡ true }
         requires away { 1 ≤ ahead → is_in_step (pattern_of self.now start.index) day.index ≡ false }
-        ensures { let chosen = is_chosen (pattern_of self.now start.index) in
-            MatchOption result (NoneIn chosen day.index span.end) (IsFirstIn chosen day.index span.end) }
+        ensures { let p = pattern_of self.now start.index in MatchOption result
+            (NoneIn (is_chosen p) day.index span.end) (IsPastFirst p day.index span.end) }
     {
         if ahead > 0 {
             return None;
         }
-        if self.positions.is_empty() {
-            return self.next_passing(start, day, span.end);
-        }
-        let before = self.count_before(start, day, span);
-        let rest = self.count_passing(start, day, span.end);
-        self.next_placed(start, day, span, before, rest)
+        let cursor = self.enter(start, day, span);
+        self.go_on(start, cursor)
     }
 }

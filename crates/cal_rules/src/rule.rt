@@ -1,13 +1,16 @@
-//! A rule from a day on: its days, tested, jumped to and listed.
+//! A rule from a day on: its days, tested and jumped to.
 
-ghost use Rattle.std.specs.Prelude.{◌≡◌, true, false, map, MatchOption, IfOk, IfErr};
+ghost use Rattle.std.specs.Prelude.{◌≡◌, ◌+◌, true, false, map, MatchOption, IfOk, IfErr};
 ghost use Rattle.cal_days.specs.Views.{frequency_of};
 ghost use Rattle.cal_rules.specs.Views.{entry_of};
 ghost use Rattle.profile.specs.Days.{day_index};
 ghost use Rattle.profile.specs.Rules.{rule_of, is_rule_day, rule_days_from, NoDayFrom, IsNextDay};
 ghost use Rattle.cal_rules.specs.Left.{days_left};
+ghost use Rattle.cal_rules.specs.Standing.{StandsAt};
 ghost use Rattle.ical_lines.specs.declared.fault.Fault.TheVariants.{Refused};
 
+use crate::cursor::Cursor;
+use crate::days::Days;
 use crate::refusals::START_OUTSIDE;
 use crate::text::RuleText;
 use crate::written::{WeekdayNumber, Written};
@@ -40,33 +43,6 @@ impl Model for Rule {
         × EndsAt (parts_of r.written (day_index r.start) (day_index r.last)) r.end };
 }
 
-/// The days of a rule from a day on, ascending.
-#[derive(Drop)]
-pub struct Days<'a> {
-    rule: &'a Rule,
-    from: u32,
-}
-
-impl<'a> Iterator for Days<'a> {
-    ghost use Rattle.std.specs.Iterator.{YieldsFirstBy, item_count};
-    ghost use Rattle.profile.specs.Days.{day_index};
-    ghost use Rattle.cal_rules.specs.Left.{days_left};
-
-    type Item = Day;
-
-    ghost next_gives = { YieldsFirstBy day_index days_left };
-
-    ghost remaining = { item_count days_left };
-
-    fn next(&mut self) -> Option<Day> {
-        let Some(day) = self.rule.seek_index(self.from) else {
-            return None;
-        };
-        self.from = day.index() + 1;
-        Some(day)
-    }
-}
-
 impl Rule {
     /// The rule of that text, from the day of DTSTART to `last`, the last day that UNTIL allows. Refused
     /// where the start isn't a day of the rule (34).
@@ -94,10 +70,7 @@ impl Rule {
     pub fn days(&self, from: Day) -> Days<'_>
         ensures { days_left result ≡ rule_days_from self.now (day_index from) }
     {
-        Days {
-            rule: self,
-            from: from.index(),
-        }
+        Days::of(self, Cursor::at(from))
     }
 
     /// Is this a day of the rule?
@@ -115,21 +88,26 @@ impl Rule {
         ensures { MatchOption result (NoDayFrom self.now (day_index from))
             (λ day. IsNextDay self.now (day_index from) (day_index day)) }
     {
-        self.seek_index(from.index())
-    }
-
-    /// The first day of the rule that isn't before that index.
-    fn seek_index(&self, from: u32) -> Option<Day>
-        ensures { MatchOption result (NoDayFrom self.now from)
-            (λ day. IsNextDay self.now from (day_index day)) }
-    {
-        let Some(found) = self.written.next_counted(self.start, self.last, from) else {
+        let Some((day, _after)) = self.next_day(Cursor::at(from)) else {
             return None;
         };
+        Some(day)
+    }
+
+    /// The first day of the rule from that cursor on, and the cursor after it.
+    pub(crate) fn next_day(&self, from: Cursor) -> Option<(Day, Cursor)>
+        requires { StandsAt self.now.pattern from }
+        ensures { MatchOption result (NoDayFrom self.now from.day.index) (λ found. IsNextDay self.now from.day.index (day_index found.0)
+            × (found.1.day.index ≡ day_index found.0 + 1) × StandsAt self.now.pattern found.1) }
+    {
+        let Some(after) = self.written.next_counted(self.start, self.last, from) else {
+            return None;
+        };
+        let found = after.day.index - 1;
         if found > self.end {
             return None;
         }
-        Day::at_index(found)
+        Some((Day::at_index(found).unwrap(), after))
     }
 
     /// FREQ.

@@ -1,10 +1,13 @@
 use Rattle.std.proofs.Common.{◌≡◌, ◌≤◌, ◌-◌}
 use Rattle.profile.specs.Days.{day_index}
 use Rattle.profile.specs.Rules.{is_counted, count_days}
-use Rattle.cal_rules.specs.Views.{parts_of}
+use Rattle.cal_rules.specs.Views.{pattern_of, parts_of}
+use Rattle.cal_rules.specs.Standing.{StandsAt}
 use Rattle.cal_rules.proofs.written.Written.find_end.Given as goal
 
 abbrev pub invariant-loop-done : goal.invariant-loop-done
-invariant-loop-done l =
-    (day_index l.start ≤ l.from) × (366 ≤ l.from)
-    × (count_days (is_counted (parts_of l.self (day_index l.start) (day_index l.last))) (day_index l.start) (l.from - day_index l.start) ≡ l.done)
+invariant-loop-done l = record {
+  stands : StandsAt (pattern_of l.self (day_index l.start)) l.cursor;
+  low : day_index l.start ≤ l.cursor.day.index;
+  count : count_days (is_counted (parts_of l.self (day_index l.start) (day_index l.last))) (day_index l.start) (l.cursor.day.index - day_index l.start) ≡ l.done;
+}

@@ -2,7 +2,7 @@ use Rattle.std.proofs.Common.{◌≤◌, ◌-◌}
 use Rattle.profile.specs.Days.{day_index}
 use Rattle.cal_rules.specs.Views.{pattern_of}
 use Rattle.cal_rules.specs.Counted.{NoneIn, is_chosen}
-use Rattle.cal_rules.proofs.written.Written.next_chosen.Given as goal
+use Rattle.cal_rules.proofs.written.Written.first_chosen.Given as goal
 
 abbrev pub invariant-loop-index : goal.invariant-loop-index
 invariant-loop-index l = record {

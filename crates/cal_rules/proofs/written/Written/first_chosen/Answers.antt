@@ -2,7 +2,7 @@ use Rattle.std.proofs.Common.{arith}
 use Rattle.profile.specs.Days.{day_index}
 use Rattle.cal_rules.specs.Views.{pattern_of}
 use Rattle.cal_rules.proofs.Strides.{out_of_step, beyond_none}
-use Rattle.cal_rules.proofs.written.Written.next_chosen.Goals as goal
+use Rattle.cal_rules.proofs.written.Written.first_chosen.Goals as goal
 
 pub loop-index-init : goal.loop-index-init
 loop-index-init c = record { first = c.requires.from; low = omega arith; none = λ n a b. absurd (omega arith) }

@@ -1,0 +1,32 @@
+-- Where a listing of the days of a rule stands.
+use Rattle.std.specs.Prelude.{◌≡◌, ℕ, ◌-◌, ◌<◌, ◌≤◌, true, false}
+use Rattle.profile.specs.Rules.{Pattern, Parts, passes, count_days, is_in_step, is_missing}
+use Rattle.cal_rules.specs.declared.cursor.Cursor.{Cursor}
+use Rattle.cal_rules.specs.Known.{AreFacts}
+use Rattle.cal_rules.specs.Spans.{IsSpan}
+use Rattle.cal_rules.specs.Counted.{IsFirstIn, IsNextCounted, is_chosen}
+
+-- the days are those of the period of the day, which is in step; where BYSETPOS is written, so many of them pass each part
+-- before the day, and so many from it on
+pub record IsInside (p : Pattern) (c : Cursor) : Type 0 where
+  pub facts : AreFacts c.day
+  pub period : IsSpan p.frequency p.week_start c.day.index c.span.first c.span.end
+  pub in_step : is_in_step p c.day.index ≡ true
+  pub earlier : is_missing p.positions ≡ false → c.earlier ≡ count_days (passes p) c.span.first (c.day.index - c.span.first)
+  pub later : is_missing p.positions ≡ false → c.later ≡ count_days (passes p) c.day.index (c.span.end - c.day.index)
+
+-- it stands in its period, or where that ends
+pub record StandsAt (p : Pattern) (c : Cursor) : Type 0 where
+  pub range : (366 ≤ c.day.index) × (c.day.index ≤ c.span.end) × (c.span.end ≤ 3_653_155)
+  pub inside : c.day.index < c.span.end → IsInside p c
+
+-- it stands after the first base day with a set position from one day on and before another
+pub record IsPastFirst (p : Pattern) (from end : ℕ) (c : Cursor) : Type 0 where
+  pub stands : StandsAt p c
+  pub first : IsFirstIn (is_chosen p) from end (c.day.index - 1)
+
+-- it stands after the least rule day but for COUNT from a day on
+pub record IsPastNext (r : Parts) (from : ℕ) (c : Cursor) : Type 0 where
+  pub stands : StandsAt r.pattern c
+  pub next : IsNextCounted r from (c.day.index - 1)
+  pub range : (367 ≤ c.day.index) × (c.day.index ≤ 3_652_425)
