@@ -1,6 +1,6 @@
 //! Where a listing of the days of a rule stands: a day of a period, and what is known of it.
 
-ghost use Rattle.std.specs.Prelude.{◌≡◌, max};
+ghost use Rattle.std.specs.Prelude.{◌≡◌, ◌+◌, ◌<◌, ◌≤◌, ◌↔◌, IsTrue, max};
 ghost use Rattle.profile.specs.Days.{day_index};
 ghost use Rattle.profile.specs.Rules.{Pattern};
 
@@ -49,5 +49,13 @@ impl Cursor {
             return Cursor::at(day);
         }
         self
+    }
+
+    /// Does the day before it lie after that one?
+    pub fn is_past(self, last: u32) -> bool
+        requires { last ≤ 3_652_424 }
+        ensures { IsTrue result ↔ last + 1 < self.day.index }
+    {
+        self.day.index > last + 1
     }
 }

@@ -97,7 +97,7 @@ impl Written {
             let span = Span::of(self.frequency, self.week_start, here);
             let ahead = self.periods_to_step(start, day);
             if let Some(after) = self.first_in_period(begin, here, span, ahead) {
-                if after.day.index > last + 1 {
+                if after.is_past(last) {
                     return None;
                 }
                 return Some(after);
@@ -118,7 +118,7 @@ impl Written {
         let Some(after) = self.go_on(DayFacts::of(start), from) else {
             return self.first_chosen(start, from.span.end, last);
         };
-        if after.day.index > last + 1 {
+        if after.is_past(last) {
             return None;
         }
         Some(after)

@@ -19,10 +19,10 @@ fn day_of(digits: u32) -> Day {
     day.unwrap_or(Day::of(1970, 1, 1).unwrap())
 }
 
-/// The days of a rule as digits, at most so many; `end` where there are no more.
-fn days_of(alloc: Global, rule: &Rule, limit: usize) -> Result<String, Fail> {
+/// The days of a rule from a day on, as digits, at most so many; `end` where there are no more.
+fn days_from(alloc: Global, rule: &Rule, from: Day, limit: usize) -> Result<String, Fail> {
     let mut text = String::new(alloc);
-    let mut next = rule.days(day_of(19_700_101));
+    let mut next = rule.days(from);
     for _ in 0..limit {
         match next.next() {
             Some(day) => {
@@ -275,8 +275,71 @@ fn days_of_rules(rt: HostRuntime) -> Result<(), Fail> {
         let read = RuleText::read(rt.alloc(), text)?;
         let rule = Rule::new(read, day_of(start), day_of(last))?;
         let limit = want.split(' ').count();
-        let found = days_of(rt.alloc(), &rule, limit)?;
+        let found = days_from(rt.alloc(), &rule, day_of(19_700_101), limit)?;
         assert_eq!(rt; found.as_str().trim(), want, "{text}");
+    }
+    Ok(())
+}
+
+/// Over several periods, from the first day and from one inside a period (by dateutil, a library of Python).
+#[test]
+fn days_over_periods(rt: HostRuntime) -> Result<(), Fail> {
+    let rows = [
+        (
+            "FREQ=MONTHLY;BYDAY=MO,TU,WE,TH,FR;BYSETPOS=1,-2,-1",
+            20250101,
+            20250101,
+            "20250101 20250130 20250131 20250203 20250227 20250228 20250303 20250328 20250331 20250401 20250429 20250430",
+        ),
+        (
+            "FREQ=MONTHLY;BYDAY=MO,TU,WE,TH,FR;BYSETPOS=1,-2,-1",
+            20250101,
+            20250304,
+            "20250328 20250331 20250401 20250429 20250430 20250501 20250529",
+        ),
+        (
+            "FREQ=YEARLY;INTERVAL=2;BYMONTH=2,6;BYDAY=TU,SU;BYSETPOS=1,3,-1",
+            20240204,
+            20240204,
+            "20240204 20240211 20240630 20260201 20260208 20260630 20280201 20280208 20280627",
+        ),
+        (
+            "FREQ=YEARLY;INTERVAL=2;BYMONTH=2,6;BYDAY=TU,SU;BYSETPOS=1,3,-1",
+            20240204,
+            20240207,
+            "20240211 20240630 20260201 20260208 20260630 20280201",
+        ),
+        (
+            "FREQ=WEEKLY;INTERVAL=2;WKST=SU;BYDAY=SU,MO,WE,FR;BYSETPOS=1,-1",
+            20250105,
+            20250121,
+            "20250124 20250202 20250207 20250216 20250221",
+        ),
+        (
+            "FREQ=MONTHLY;COUNT=7;BYDAY=SU,SA;BYSETPOS=2,-1",
+            20250105,
+            20250105,
+            "20250105 20250126 20250202 20250223 20250302 20250330 20250406 end",
+        ),
+        (
+            "FREQ=MONTHLY;COUNT=7;BYDAY=SU,SA;BYSETPOS=2,-1",
+            20250105,
+            20250331,
+            "20250406 end",
+        ),
+        (
+            "FREQ=DAILY;INTERVAL=3;BYMONTH=1,2",
+            20250101,
+            20250125,
+            "20250125 20250128 20250131 20250203 20250206 20250209 20250212 20250215",
+        ),
+    ];
+    for (text, start, from, want) in rows {
+        let read = RuleText::read(rt.alloc(), text)?;
+        let rule = Rule::new(read, day_of(start), day_of(0))?;
+        let limit = want.split(' ').count();
+        let found = days_from(rt.alloc(), &rule, day_of(from), limit)?;
+        assert_eq!(rt; found.as_str().trim(), want, "{text} from {from}");
     }
     Ok(())
 }
