@@ -5,6 +5,7 @@ ghost use Rattle.cal_days.specs.Views.{frequency_of};
 ghost use Rattle.profile.specs.Days.{day_index, period_of, shortest_period};
 ghost use Rattle.profile.specs.Rules.{is_counted, is_in_step};
 ghost use Rattle.cal_rules.specs.Views.{pattern_of, parts_of};
+ghost use Rattle.cal_rules.specs.Known.{AreFacts};
 ghost use Rattle.cal_rules.specs.Counted.{NoneIn, NoneFrom, EndsAt, is_chosen};
 ghost use Rattle.cal_rules.specs.Standing.{StandsAt, IsPastFirst, IsPastNext};
 
@@ -79,15 +80,16 @@ impl Written {
     }
 
     /// The cursor after the first base day with a set position, from the day of that index on and up to the last one.
-    fn first_chosen(&self, start: Day, from: u32, last: u32) -> Option<Cursor>
+    fn first_chosen(&self, start: Day, begin: DayFacts, from: u32, last: u32) -> Option<Cursor>
         requires interval { 1 ≤ self.now.interval }
+        requires facts { AreFacts begin }
+        requires begin { begin.index ≡ day_index start }
         requires from { 366 ≤ from }
         requires last { last ≤ 3_652_424 }
         ensures { let p = pattern_of self.now (day_index start) in
             MatchOption result (NoneIn (is_chosen p) from (last + 1)) (IsPastFirst p from (last + 1)) }
     {
         cal_days::periods_grow();
-        let begin = DayFacts::of(start);
         let mut index = from;
         while index <= last {
             let Some(day) = Day::at_index(index) else {
@@ -115,8 +117,9 @@ impl Written {
         ensures { let p = pattern_of self.now (day_index start) in MatchOption result
             (NoneIn (is_chosen p) from.day.index (last + 1)) (IsPastFirst p from.day.index (last + 1)) }
     {
-        let Some(after) = self.go_on(DayFacts::of(start), from) else {
-            return self.first_chosen(start, from.span.end, last);
+        let begin = DayFacts::of(start);
+        let Some(after) = self.go_on(begin, from) else {
+            return self.first_chosen(start, begin, from.span.end, last);
         };
         if after.is_past(last) {
             return None;
@@ -149,7 +152,7 @@ impl Written {
         requires range { (366 ≤ index) × (index ≤ 3_652_424) }
         ensures { result ≡ is_chosen (pattern_of self.now (day_index start)) index }
     {
-        match self.first_chosen(start, index, index) {
+        match self.first_chosen(start, DayFacts::of(start), index, index) {
             Some(_after) => true,
             None => false,
         }
