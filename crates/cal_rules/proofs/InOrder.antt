@@ -16,7 +16,7 @@ use Rattle.cal_rules.proofs.Parted.{same_octet}
 
 -- ---- candidates that a list has
 
-abbrev kept : {A : Type 0} → (A → A → Bool) → List A → List A → List A
+abbrev pub kept : {A : Type 0} → (A → A → Bool) → List A → List A → List A
 kept same zs xs = filter (λ c. list_any (λ z. same z c) zs) xs
 
 any_test : {A : Type 0} (same : A → A → Bool) (test : A → Bool) → ((z c : A) → same z c ≡ true → z ≡ c) → (zs : List A) (c : A) → list_any (λ z. same z c) zs ≡ true → list_all test zs ≡ true → test c ≡ true
@@ -98,16 +98,16 @@ stands_at nth n k z h e = (k, omega (arith, length-map-range_with_len nth 0 n), 
 
 -- ---- numbers
 
-int_one : (z c : ℤ) → int_eq z c ≡ true → z ≡ c
+pub int_one : (z c : ℤ) → int_eq z c ≡ true → z ≡ c
 int_one z c e = (Decides-int_eq z c).0 e
 
-int_itself : (z : ℤ) → int_eq z z ≡ true
+pub int_itself : (z : ℤ) → int_eq z z ≡ true
 int_itself z = (Decides-int_eq z z).1 refl
 
 number_apart : (a b : ℕ) → nth_number a ≡ nth_number b → a ≡ b
 number_apart a b e = omega (arith, ints)
 
-number_there : (most : ℕ) → most ≤ 366 → (z : ℤ) → is_place most z ≡ true → Contains (map nth_number (range_with_len 0 733)) z
+pub number_there : (most : ℕ) → most ≤ 366 → (z : ℤ) → is_place most z ≡ true → Contains (map nth_number (range_with_len 0 733)) z
 number_there most h (pos n) e =
     let u = up_to most n e in stands_at nth_number 733 (n + 366) (pos n) (omega arith) (omega (arith, ints))
 number_there most h (negsuc n) e =
@@ -127,7 +127,7 @@ numbers_missing most zs h all = kept_missing int_eq (is_place most) int_itself (
 
 -- ---- entries
 
-entry_one : (z c : WeekdayNumber) → is_same_entry z c ≡ true → z ≡ c
+pub entry_one : (z c : WeekdayNumber) → is_same_entry z c ≡ true → z ≡ c
 entry_one z c e =
     let p = and_parts (int_eq z.number c.number) (z.weekday == c.weekday) e in
     let number : z.number ≡ c.number = int_one z.number c.number p.0 in
@@ -135,7 +135,7 @@ entry_one z c e =
     let make : ℤ → ℕ → WeekdayNumber = λ n w. record { number = n; weekday = w } in
     ap (λ n. make n z.weekday) number ∙ ap (make c.number) weekday
 
-entry_itself : (z : WeekdayNumber) → is_same_entry z z ≡ true
+pub entry_itself : (z : WeekdayNumber) → is_same_entry z z ≡ true
 entry_itself z = and_from (int_eq z.number z.number) (z.weekday == z.weekday) (int_itself z.number) (same_octet z.weekday)
 
 entry_apart : (a b : ℕ) → nth_entry a ≡ nth_entry b → a ≡ b
@@ -168,7 +168,7 @@ entry_at (negsuc n) w h e =
     let u = below 53 n e in
     stands_at nth_entry 749 (7 * (52 - n) + w) (record { number = negsuc n; weekday = w }) (omega arith) (same_entry (7 * (52 - n) + w) w (negsuc n) (omega (arith, ints)) (omega arith))
 
-entry_there : (z : WeekdayNumber) → is_entry z ≡ true → Contains (map nth_entry (range_with_len 0 749)) z
+pub entry_there : (z : WeekdayNumber) → is_entry z ≡ true → Contains (map nth_entry (range_with_len 0 749)) z
 entry_there z e =
     let p = and_parts (nat_lt z.weekday 7) (is_plain z.number || is_place 53 z.number) e in
     entry_at z.number z.weekday (below 7 z.weekday p.0) p.1
@@ -179,7 +179,7 @@ entries_missing zs all = kept_missing is_same_entry is_entry entry_itself (map n
 
 -- ---- months
 
-nat_one : (m n : ℕ) → nat_eq m n ≡ true → m ≡ n
+pub nat_one : (m n : ℕ) → nat_eq m n ≡ true → m ≡ n
 nat_one m n e = grind (arith, nat_tests)
 
 pub months_test : (test : ℕ → Bool) (zs : List ℕ) → list_all test zs ≡ true → list_all test (months_from 1 zs) ≡ true
@@ -193,7 +193,7 @@ months_short zs = kept_short nat_eq zs (range_with_len 1 12) (at_most_once nat_e
 month_bounds : (m : ℕ) → is_between 1 12 m ≡ true → (1 ≤ m) × (m ≤ 12)
 month_bounds m e = (grind (arith, nat_tests), grind (arith, nat_tests))
 
-month_there : (m : ℕ) → is_between 1 12 m ≡ true → Contains (range_with_len 1 12) m
+pub month_there : (m : ℕ) → is_between 1 12 m ≡ true → Contains (range_with_len 1 12) m
 month_there m e =
     let b = month_bounds m e in
     (m - 1, omega (arith, length-range_with_len 1 12), get_or-range_with_len 1 12 (m - 1) m (omega arith) ∙ omega arith)

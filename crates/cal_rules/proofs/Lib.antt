@@ -15,3 +15,4 @@ pub mod Listing
 pub mod ReadBack
 pub mod WholeRule
 pub mod InOrder
+pub mod SameDays

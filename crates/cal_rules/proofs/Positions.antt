@@ -50,7 +50,7 @@ count_rest test day end h =
     let e : end - day ≡ 1 + (end - (day + 1)) = omega arith in
     ap (λ k. count_days test day k) e ∙ count_split test day 1 (end - (day + 1)) ∙ ap (λ k. k + count_days test (day + 1) (end - (day + 1))) (count_one test day)
 
-count_same : (test other : ℕ → Bool) (from days : ℕ) → ((n : ℕ) → from ≤ n → n < from + days → test n ≡ other n) → count_days test from days ≡ count_days other from days
+pub count_same : (test other : ℕ → Bool) (from days : ℕ) → ((n : ℕ) → from ≤ n → n < from + days → test n ≡ other n) → count_days test from days ≡ count_days other from days
 unfolding count_days
 count_same test other from zero h = refl
 count_same test other from (suc days) h =

@@ -282,3 +282,12 @@ pub fn rule_reads_back()
         → texts.HandsIn rule.until until end
         → texts.SpellsRule (texts.rule_text rule until) (texts.as_written rule end) }
 {}
+
+/// A rule whose lists are put in order, each entry once, has the same days. With `rule_reads_back`: what was written of
+/// a rule and is read again has the days of that rule.
+pub fn written_means_the_same()
+    ensures { (rule : rules.RuleText) (end : Option rules.Until) (start last day : ℕ)
+        → rules.IsAllowed rule
+        → rules.is_rule_day (rules.rule_of (texts.as_written rule end) start last) day
+        ≡ rules.is_rule_day (rules.rule_of rule start last) day }
+{}
