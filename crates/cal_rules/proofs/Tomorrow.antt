@@ -93,13 +93,15 @@ month_left n = omega arith
 pub month_has : (n : ℕ) → suc (month_days_before n) ≤ days_in_month (year_of n) (month_of n)
 month_has n = omega (arith, in_month n)
 
-pub facts_on : (f : DayFacts) → AreFacts f → 1 ≤ f.month_after → AreFacts (record { index = f.index + 1; weekday = (f.weekday + 1) % 7; month = f.month; month_before = f.month_before + 1; month_after = f.month_after - 1; year_before = f.year_before + 1; year_after = f.year_after - 1 })
-facts_on f h more =
+pub facts_on : (f : DayFacts) → AreFacts f → 1 ≤ f.month_after → f.index < 3_653_155 → AreFacts (record { index = f.index + 1; weekday = (f.weekday + 1) % 7; month = f.month; month_before = f.month_before + 1; month_after = f.month_after - 1; year_before = f.year_before + 1; year_after = f.year_after - 1 })
+facts_on f h more few =
     let left : 1 ≤ month_days_after f.index = omega (arith, h.month_after) in
     let k = next f.index left in
     let r = ranges (f.index + 1) in
     let bounds = h.ranges in
+    let low = h.day in
     record {
+      day = (omega arith, omega arith);
       weekday = rw h.weekday (sym k.weekday);
       month = h.month ∙ sym k.month;
       month_before = rw h.month_before (sym k.month_before);

@@ -5,6 +5,7 @@ use Rattle.cal_rules.specs.declared.facts.DayFacts.{DayFacts}
 
 -- the facts are those of the day of that index
 pub record AreFacts (f : DayFacts) : Type 0 where
+  pub day : (366 ≤ f.index) × (f.index ≤ 3_653_155)
   pub weekday : f.weekday ≡ weekday_of f.index
   pub month : f.month ≡ month_of f.index
   pub month_before : f.month_before ≡ month_days_before f.index

@@ -1,12 +1,10 @@
 //! Where a listing of the days of a rule stands: a day of a period, and what is known of it.
 
 ghost use Rattle.std.specs.Prelude.{◌≡◌, ◌+◌, ◌<◌, ◌≤◌, ◌↔◌, IsTrue, max};
-ghost use Rattle.profile.specs.Days.{day_index};
 ghost use Rattle.profile.specs.Rules.{Pattern};
 
 use crate::facts::DayFacts;
 use crate::span::Span;
-use cal_days::Day;
 
 /// The next day to look at, in a period that is in step; or the day after that period.
 #[derive(Clone, Copy, Debug)]
@@ -21,14 +19,15 @@ pub(crate) struct Cursor {
 }
 
 impl Cursor {
+    ghost use Rattle.cal_rules.specs.Known.{AreFacts};
     ghost use Rattle.cal_rules.specs.Standing.{StandsAt};
 
     /// At a day, with no period: it is looked up where the listing goes on.
-    pub fn at(day: Day) -> Cursor
-        ensures index { result.day.index ≡ day_index day }
+    pub fn at(day: DayFacts) -> Cursor
+        requires { AreFacts day }
+        ensures index { result.day.index ≡ day.index }
         ensures stands { (p : Pattern) → StandsAt p result }
     {
-        let day = DayFacts::of(day);
         Cursor {
             day,
             span: Span {
@@ -41,11 +40,12 @@ impl Cursor {
     }
 
     /// The cursor; where it is before that day, one at that day.
-    pub fn not_before(self, day: Day) -> Cursor
-        ensures index { result.day.index ≡ max self.day.index (day_index day) }
+    pub fn not_before(self, day: DayFacts) -> Cursor
+        requires { AreFacts day }
+        ensures index { result.day.index ≡ max self.day.index day.index }
         ensures stands { (p : Pattern) → StandsAt p self → StandsAt p result }
     {
-        if self.day.index < day.index() {
+        if self.day.index < day.index {
             return Cursor::at(day);
         }
         self

@@ -44,6 +44,14 @@ impl DayFacts {
         }
     }
 
+    /// The day.
+    pub fn day(self) -> Day
+        requires { AreFacts self }
+        ensures { day_index result ≡ self.index }
+    {
+        Day::at_index(self.index).unwrap()
+    }
+
     /// Those of the day after it; where that is the end, its index alone.
     pub fn tomorrow(self, end: u32) -> DayFacts
         requires facts { AreFacts self }

@@ -49,11 +49,12 @@ impl Written {
 
     /// How many periods after that of a day the next one is that lies a multiple of INTERVAL from that
     /// of DTSTART: 0 where its own does.
-    fn periods_to_step(&self, start: Day, day: Day) -> u32
-        requires { 1 ≤ self.now.interval }
+    fn periods_to_step(&self, start: DayFacts, day: Day) -> u32
+        requires interval { 1 ≤ self.now.interval }
+        requires start { AreFacts start }
         ensures range { result ≤ 65_535 }
-        ensures here { result ≡ 0 → is_in_step (pattern_of self.now (day_index start)) (day_index day) ≡ true }
-        ensures none_sooner { let p = pattern_of self.now (day_index start) in (j : ℕ) → j < result
+        ensures here { result ≡ 0 → is_in_step (pattern_of self.now start.index) (day_index day) ≡ true }
+        ensures none_sooner { let p = pattern_of self.now start.index in (j : ℕ) → j < result
             → (period_of p.frequency p.week_start (day_index day) % p.interval + j) % p.interval
             ≡ period_of p.frequency p.week_start p.start % p.interval → ⊥ }
     {
@@ -62,7 +63,7 @@ impl Written {
             return 0;
         }
         let here = self.period(day).number() % interval;
-        let there = self.period(start).number() % interval;
+        let there = self.period(start.day()).number() % interval;
         periods_ahead(interval, here, there)
     }
 
@@ -80,13 +81,12 @@ impl Written {
     }
 
     /// The cursor after the first base day with a set position, from the day of that index on and up to the last one.
-    fn first_chosen(&self, start: Day, begin: DayFacts, from: u32, last: u32) -> Option<Cursor>
+    fn first_chosen(&self, start: DayFacts, from: u32, last: u32) -> Option<Cursor>
         requires interval { 1 ≤ self.now.interval }
-        requires facts { AreFacts begin }
-        requires begin { begin.index ≡ day_index start }
+        requires start { AreFacts start }
         requires from { 366 ≤ from }
         requires last { last ≤ 3_652_424 }
-        ensures { let p = pattern_of self.now (day_index start) in
+        ensures { let p = pattern_of self.now start.index in
             MatchOption result (NoneIn (is_chosen p) from (last + 1)) (IsPastFirst p from (last + 1)) }
     {
         cal_days::periods_grow();
@@ -98,7 +98,7 @@ impl Written {
             let here = DayFacts::of(day);
             let span = Span::of(self.frequency, self.week_start, here);
             let ahead = self.periods_to_step(start, day);
-            if let Some(after) = self.first_in_period(begin, here, span, ahead) {
+            if let Some(after) = self.first_in_period(start, here, span, ahead) {
                 if after.is_past(last) {
                     return None;
                 }
@@ -110,16 +110,16 @@ impl Written {
     }
 
     /// The cursor after the first base day with a set position, from that cursor on and up to the last day.
-    fn next_chosen(&self, start: Day, from: Cursor, last: u32) -> Option<Cursor>
+    fn next_chosen(&self, start: DayFacts, from: Cursor, last: u32) -> Option<Cursor>
         requires interval { 1 ≤ self.now.interval }
-        requires stands { StandsAt (pattern_of self.now (day_index start)) from }
+        requires start { AreFacts start }
+        requires stands { StandsAt (pattern_of self.now start.index) from }
         requires last { last ≤ 3_652_424 }
-        ensures { let p = pattern_of self.now (day_index start) in MatchOption result
+        ensures { let p = pattern_of self.now start.index in MatchOption result
             (NoneIn (is_chosen p) from.day.index (last + 1)) (IsPastFirst p from.day.index (last + 1)) }
     {
-        let begin = DayFacts::of(start);
-        let Some(after) = self.go_on(begin, from) else {
-            return self.first_chosen(start, begin, from.span.end, last);
+        let Some(after) = self.go_on(start, from) else {
+            return self.first_chosen(start, from.span.end, last);
         };
         if after.is_past(last) {
             return None;
@@ -129,12 +129,13 @@ impl Written {
 
     /// Is this a rule day but for COUNT?
     #[tactic(auto, using(std::proofs::lemmas::Bool::Decides::nat_tests), unfolding(profile::specs::Rules::is_counted))]
-    pub fn is_counted(&self, start: Day, last: Day, day: Day) -> bool
-        requires { 1 ≤ self.now.interval }
-        ensures { result ≡ is_counted (parts_of self.now (day_index start) (day_index last)) (day_index day) }
+    pub fn is_counted(&self, start: DayFacts, last: Day, day: Day) -> bool
+        requires interval { 1 ≤ self.now.interval }
+        requires start { AreFacts start }
+        ensures { result ≡ is_counted (parts_of self.now start.index (day_index last)) (day_index day) }
     {
         let index = day.index();
-        if index < start.index() {
+        if index < start.index {
             return false;
         }
         if index > last.index() {
@@ -147,22 +148,24 @@ impl Written {
     }
 
     /// Is this a base day with a set position?
-    fn is_chosen(&self, start: Day, index: u32) -> bool
+    fn is_chosen(&self, start: DayFacts, index: u32) -> bool
         requires interval { 1 ≤ self.now.interval }
+        requires start { AreFacts start }
         requires range { (366 ≤ index) × (index ≤ 3_652_424) }
-        ensures { result ≡ is_chosen (pattern_of self.now (day_index start)) index }
+        ensures { result ≡ is_chosen (pattern_of self.now start.index) index }
     {
-        match self.first_chosen(start, DayFacts::of(start), index, index) {
+        match self.first_chosen(start, index, index) {
             Some(_after) => true,
             None => false,
         }
     }
 
     /// The cursor after the least rule day but for COUNT, from that cursor on.
-    pub fn next_counted(&self, start: Day, last: Day, from: Cursor) -> Option<Cursor>
+    pub fn next_counted(&self, start: DayFacts, last: Day, from: Cursor) -> Option<Cursor>
         requires interval { 1 ≤ self.now.interval }
-        requires stands { StandsAt (pattern_of self.now (day_index start)) from }
-        ensures { let parts = parts_of self.now (day_index start) (day_index last) in
+        requires start { AreFacts start }
+        requires stands { StandsAt (pattern_of self.now start.index) from }
+        ensures { let parts = parts_of self.now start.index (day_index last) in
             MatchOption result (NoneFrom parts from.day.index) (IsPastNext parts from.day.index) }
     {
         let limit = last.index().min(LAST_RULE_DAY);
@@ -171,9 +174,10 @@ impl Written {
     }
 
     /// The last day that COUNT allows: where it is never reached, 9999-12-31.
-    pub fn find_end(&self, start: Day, last: Day) -> u32
-        requires { 1 ≤ self.now.interval }
-        ensures { EndsAt (parts_of self.now (day_index start) (day_index last)) result }
+    pub fn find_end(&self, start: DayFacts, last: Day) -> u32
+        requires interval { 1 ≤ self.now.interval }
+        requires start { AreFacts start }
+        ensures { EndsAt (parts_of self.now start.index (day_index last)) result }
     {
         let Some(count) = self.count else {
             return LAST_RULE_DAY;

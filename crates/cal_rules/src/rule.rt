@@ -11,6 +11,7 @@ ghost use Rattle.ical_lines.specs.declared.fault.Fault.TheVariants.{Refused};
 
 use crate::cursor::Cursor;
 use crate::days::Days;
+use crate::facts::DayFacts;
 use crate::refusals::START_OUTSIDE;
 use crate::text::RuleText;
 use crate::written::{WeekdayNumber, Written};
@@ -22,7 +23,7 @@ use std::marker::Model;
 #[derive(Debug, Drop)]
 pub struct Rule {
     written: Written,
-    start: Day,
+    start: DayFacts,
     last: Day,
     /// The last day that COUNT allows.
     end: u32,
@@ -33,14 +34,15 @@ impl Model for Rule {
     ghost use Rattle.profile.specs.Days.{day_index};
     ghost use Rattle.profile.specs.Rules.{Parts};
     ghost use Rattle.cal_rules.specs.Views.{parts_of};
+    ghost use Rattle.cal_rules.specs.Known.{AreFacts};
     ghost use Rattle.cal_rules.specs.Counted.{EndsAt};
 
     ghost Value = { Parts };
 
-    ghost view = { λ r. parts_of r.written (day_index r.start) (day_index r.last) };
+    ghost view = { λ r. parts_of r.written (r.start.index) (day_index r.last) };
 
-    ghost invariant = { λ r. (1 ≤ r.written.interval)
-        × EndsAt (parts_of r.written (day_index r.start) (day_index r.last)) r.end };
+    ghost invariant = { λ r. (1 ≤ r.written.interval) × AreFacts r.start
+        × EndsAt (parts_of r.written (r.start.index) (day_index r.last)) r.end };
 }
 
 impl Rule {
@@ -53,10 +55,11 @@ impl Rule {
             × (is_rule_day (rule_of text (day_index start) (day_index last)) (day_index start) ≡ false)) }
     {
         let written = text.written;
-        let end = written.find_end(start, last);
+        let begin = DayFacts::of(start);
+        let end = written.find_end(begin, last);
         let rule = Rule {
             written,
-            start,
+            start: begin,
             last,
             end,
         };
@@ -70,7 +73,7 @@ impl Rule {
     pub fn days(&self, from: Day) -> Days<'_>
         ensures { days_left result ≡ rule_days_from self.now (day_index from) }
     {
-        Days::of(self, Cursor::at(from))
+        Days::of(self, Cursor::at(DayFacts::of(from)))
     }
 
     /// Is this a day of the rule?
@@ -88,7 +91,7 @@ impl Rule {
         ensures { MatchOption result (NoDayFrom self.now (day_index from))
             (λ day. IsNextDay self.now (day_index from) (day_index day)) }
     {
-        let Some((day, _after)) = self.next_day(Cursor::at(from)) else {
+        let Some((day, _after)) = self.next_day(Cursor::at(DayFacts::of(from))) else {
             return None;
         };
         Some(day)
@@ -170,7 +173,7 @@ impl Rule {
     pub fn start(&self) -> Day
         ensures { day_index result ≡ self.now.pattern.start }
     {
-        self.start
+        self.start.day()
     }
 
     /// The last day that UNTIL allows.

@@ -12,7 +12,9 @@ returns-clause-facts c =
     let e = c.index.ensures.value in
     let parts = c.civil-civil.ensures.parts in
     let bounds = ranges (day_index c.args.day) in
+    let range = c.index.ensures.range in
     record {
+      day = (omega arith, omega arith);
       weekday = rw e c.weekday.ensures.value;
       month = rw e parts.1;
       month_before = rw e (omega (arith, parts.2));

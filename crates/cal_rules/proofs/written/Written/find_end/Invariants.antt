@@ -7,7 +7,7 @@ use Rattle.cal_rules.proofs.written.Written.find_end.Given as goal
 
 abbrev pub invariant-loop-done : goal.invariant-loop-done
 invariant-loop-done l = record {
-  stands : StandsAt (pattern_of l.self (day_index l.start)) l.cursor;
-  low : day_index l.start ≤ l.cursor.day.index;
-  count : count_days (is_counted (parts_of l.self (day_index l.start) (day_index l.last))) (day_index l.start) (l.cursor.day.index - day_index l.start) ≡ l.done;
+  stands : StandsAt (pattern_of l.self l.start.index) l.cursor;
+  low : l.start.index ≤ l.cursor.day.index;
+  count : count_days (is_counted (parts_of l.self l.start.index (day_index l.last))) l.start.index (l.cursor.day.index - l.start.index) ≡ l.done;
 }

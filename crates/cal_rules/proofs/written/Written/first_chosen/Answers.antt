@@ -9,16 +9,16 @@ loop-index-init c = record { first = c.requires.from; low = omega arith; none = 
 
 pub first_in_period-requires-clause-away : goal.first_in_period-requires-clause-away
 first_in_period-requires-clause-away c =
-    λ some. rw (c.requires.begin, c.of-here.ensures.index) (
-    out_of_step (pattern_of c.args.self.now (day_index c.args.start)) (day_index c.in-Some.day) c.periods_to_step-ahead.result c.periods_grow.ensures.ascend c.periods_grow.ensures.last some c.periods_to_step-ahead.ensures.none_sooner)
+    λ some. rw c.of-here.ensures.index (
+    out_of_step (pattern_of c.args.self.now c.args.start.index) (day_index c.in-Some.day) c.periods_to_step-ahead.result c.periods_grow.ensures.ascend c.periods_grow.ensures.last some c.periods_to_step-ahead.ensures.none_sooner)
 
 pub loop-index-preserved : goal.loop-index-preserved
 loop-index-preserved c =
-    let p = pattern_of c.args.self.now (day_index c.args.start) in
+    let p = pattern_of c.args.self.now c.args.start.index in
     let span = rw c.of-here.ensures.index at c.of-span.ensures.days in
     let value = c.in-Some.ensures.value in
     let before = rw (← value) at c.loop-index.invariant.none in
-    let here = rw (c.requires.begin, c.of-here.ensures.index) at c.in_default-first_in_period.ensures in
+    let here = rw c.of-here.ensures.index at c.in_default-first_in_period.ensures in
     let none = beyond_none p c.args.from (day_index c.in-Some.day) c.of-span.result.first c.of-span.result.end c.periods_to_step-ahead.result c.periods_grow.ensures.ascend c.periods_grow.ensures.last span before here c.periods_to_step-ahead.ensures.none_sooner in
     let inside = span.not_after in
     record {

@@ -8,7 +8,7 @@ abbrev pub invariant-loop-index : goal.invariant-loop-index
 invariant-loop-index l = record {
   first : 366 ≤ l.index;
   low : l.from ≤ l.index;
-  none : NoneIn (is_chosen (pattern_of l.self (day_index l.start))) l.from l.index;
+  none : NoneIn (is_chosen (pattern_of l.self l.start.index)) l.from l.index;
 }
 
 abbrev pub decreases-loop-index : goal.decreases-loop-index

@@ -10,4 +10,4 @@ next_chosen-requires-clause-stands c =
 pub returns : goal.returns
 returns c =
     let h = rw (c.min-limit.ensures, c.not_before-begin.ensures.index, c.index.ensures.value) at c.next_chosen.ensures in
-    past_next (parts_of c.args.self.now (day_index c.args.start) (day_index c.args.last)) c.args.from.day.index c.next_chosen.result c.requires.stands.range.0 h
+    past_next (parts_of c.args.self.now c.args.start.index (day_index c.args.last)) c.args.from.day.index c.next_chosen.result c.requires.stands.range.0 h

@@ -5,13 +5,13 @@ use Rattle.cal_rules.proofs.written.Written.periods_to_step.Goals as goal
 
 pub returns-then-interval-eq1-clause-here : goal.returns-then-interval-eq1-clause-here
 returns-then-interval-eq1-clause-here c =
-    λ _. step_of_one (pattern_of c.args.self.now (day_index c.args.start)) (day_index c.args.day) c.if-interval-eq1.true
+    λ _. step_of_one (pattern_of c.args.self.now c.args.start.index) (day_index c.args.day) c.if-interval-eq1.true
 
 pub returns-clause-here : goal.returns-clause-here
 returns-clause-here c =
-    λ none. step_here (pattern_of c.args.self.now (day_index c.args.start)) (day_index c.args.day)
-    (rw (c.number.ensures, c.period.ensures, c.number-2.ensures, c.period-2.ensures) at (c.periods_ahead.ensures.none_left none))
+    λ none. step_here (pattern_of c.args.self.now c.args.start.index) (day_index c.args.day)
+    (rw (c.number.ensures, c.period.ensures, c.number-2.ensures, c.period-2.ensures, c.day.ensures) at (c.periods_ahead.ensures.none_left none))
 
 pub returns-clause-none_sooner : goal.returns-clause-none_sooner
 returns-clause-none_sooner c =
-    rw (c.number.ensures, c.period.ensures, c.number-2.ensures, c.period-2.ensures) at c.periods_ahead.ensures.none_sooner
+    rw (c.number.ensures, c.period.ensures, c.number-2.ensures, c.period-2.ensures, c.day.ensures) at c.periods_ahead.ensures.none_sooner
