@@ -39,10 +39,10 @@ impl Model for Rule {
 
     ghost Value = { Parts };
 
-    ghost view = { λ r. parts_of r.written (r.start.index) (day_index r.last) };
+    ghost view = { λ r. parts_of r.written r.start.index (day_index r.last) };
 
     ghost invariant = { λ r. (1 ≤ r.written.interval) × AreFacts r.start
-        × EndsAt (parts_of r.written (r.start.index) (day_index r.last)) r.end };
+        × EndsAt (parts_of r.written r.start.index (day_index r.last)) r.end };
 }
 
 impl Rule {

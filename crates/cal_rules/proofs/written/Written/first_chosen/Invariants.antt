@@ -1,5 +1,4 @@
 use Rattle.std.proofs.Common.{◌≤◌, ◌-◌}
-use Rattle.profile.specs.Days.{day_index}
 use Rattle.cal_rules.specs.Views.{pattern_of}
 use Rattle.cal_rules.specs.Counted.{NoneIn, is_chosen}
 use Rattle.cal_rules.proofs.written.Written.first_chosen.Given as goal
