@@ -3,3 +3,4 @@ mod RuleExamples
 mod ZoneExamples
 mod RuleTextExamples
 mod ZoneTextExamples
+mod WrittenZoneExamples

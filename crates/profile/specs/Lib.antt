@@ -18,3 +18,4 @@ pub mod Kept
 pub mod Trees
 pub mod Streams
 pub mod ZoneTexts
+pub mod WrittenZones
