@@ -10,3 +10,4 @@ pub mod QuoteLemmas
 pub mod ReadBackLemmas
 pub mod SplitLemmas
 pub mod Yields
+pub mod CleanLines

@@ -7,3 +7,4 @@ pub mod OneTree
 pub mod ReadsBackLemmas
 pub mod TreeOfLemmas
 pub mod OneLine
+pub mod OwnLines

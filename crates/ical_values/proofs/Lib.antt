@@ -10,3 +10,5 @@ pub mod Readings
 pub mod Spans
 pub mod Exits
 pub mod Facts
+pub mod ShownValues
+pub mod EscapedText

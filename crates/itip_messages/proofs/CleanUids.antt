@@ -10,16 +10,12 @@ use Rattle.std.proofs.lemmas.Str.{IsUtf8-append, IsUtf8-nil, IsUtf8-encode, enco
 use Rattle.profile.specs.Lines.{is_control}
 use Rattle.profile.specs.Values.{escaped, escaped_octet, unescaped, is_escape, meant}
 use Rattle.ical_values.proofs.Escapes.{unescaped_front, unescaped_pair, unescaped_lone}
-use Rattle.itip_messages.proofs.TextLemmas.{utf8_escaped, utf8_one}
+use Rattle.ical_values.proofs.EscapedText.{is_read, utf8_escaped, utf8_one, escaped_calm}
 use lib.Utf8.{encode, encodes, scalars}
 use Rattle.itip_messages.specs.ReadBack.{IsTextValue}
-use Rattle.itip_messages.proofs.CleanText.{IsClean}
+use Rattle.ical_lines.proofs.CleanLines.{IsClean}
 
 -- ---- control octets
-
--- an octet of a text that was read: LF, or no control octet
-abbrev is_read : ℕ → Bool
-is_read c = eqb c 10 || not (is_control c)
 
 read_octet : (c : ℕ) → is_control c ≡ false → is_read c ≡ true
 read_octet c h = grind (arith, nat_tests)
@@ -41,15 +37,6 @@ read_all (c ∷ d ∷ cs) h =
     read_either (eqb c 92 && is_escape d) (meant d ∷ unescaped cs) (c ∷ unescaped (d ∷ cs))
     (and_from _ _ (read_meant d rest.0) (read_all cs rest.1))
     (and_from _ _ (read_octet c both.0) (read_all (d ∷ cs) both.1))
-
-octet_calm : (c : ℕ) → is_read c ≡ true → list_any is_control (escaped_octet c) ≡ false
-octet_calm c h = grind (arith, nat_tests)
-
-escaped_calm : (text : List ℕ) → list_all is_read text ≡ true → list_any is_control (escaped text) ≡ false
-escaped_calm [] h = refl
-escaped_calm (c ∷ cs) h =
-    let both = and_parts (is_read c) (list_all is_read cs) h in
-    list_any-append is_control (escaped_octet c) (escaped cs) ∙ or_from _ _ (octet_calm c both.0) (escaped_calm cs both.1)
 
 -- ---- UTF-8
 

@@ -6,24 +6,8 @@ use Rattle.std.proofs.lemmas.List.Folds.{list_all-append}
 use Rattle.std.proofs.lemmas.Str.{is_utf8-from_IsUtf8}
 use Rattle.profile.specs.Lines.{is_content, folded, logical_lines, reads_as_lines, lacks_colon, has_bad_name, has_bad_quote, has_stop}
 use Rattle.profile.specs.Messages.{method_lines, object_lines}
-use Rattle.itip_messages.proofs.CleanText.{IsClean, clean_append, clean_shown, is_shown}
+use Rattle.ical_lines.proofs.CleanLines.{IsClean, valued, fixed}
 use Rattle.itip_messages.proofs.ObjectTree.{Lines, vevent_lines}
-
-lacks_none : (line : List ℕ) → has_stop 58 line ≡ true → lacks_colon line ≡ false
-lacks_none line h = and_left _ _ (ap not h)
-
--- a clean line with a colon, whose names and quotes are right
-content : (line : List ℕ) → has_stop 58 line ≡ true → has_bad_name line ≡ false → has_bad_quote line ≡ false → IsClean line → is_content line ≡ true
-content line stop name quote clean =
-    and_from _ _ (not_from_false _ (or_from _ _ (or_from _ _ (or_from _ _ (lacks_none line stop) name) quote) clean.calm)) (is_utf8-from_IsUtf8 line clean.utf8)
-
--- a head that is printable, and a clean value
-pub valued : (head v : List ℕ) → has_stop 58 (head ++ v) ≡ true → has_bad_name (head ++ v) ≡ false → has_bad_quote (head ++ v) ≡ false → list_all is_shown head ≡ true → IsClean v → is_content (head ++ v) ≡ true
-valued head v stop name quote h c = content (head ++ v) stop name quote (clean_append head v (clean_shown head h) c)
-
--- a printable line
-pub fixed : (line : List ℕ) → has_stop 58 line ≡ true → has_bad_name line ≡ false → has_bad_quote line ≡ false → list_all is_shown line ≡ true → is_content line ≡ true
-fixed line s n q h = content line s n q (clean_shown line h)
 
 -- ---- the lines of an event
 

@@ -1,4 +1,3 @@
-pub mod TextLemmas
 pub mod CleanText
 pub mod CleanUids
 pub mod ObjectTree

@@ -4,6 +4,7 @@ use Rattle.std.specs.List.{flat_map, list_all, filter}
 use Rattle.std.specs.Prelude.{map}
 use Rattle.std.proofs.lemmas.Bool.{and_parts}
 use Rattle.ical_tree.proofs.TreeOfLemmas.{BodyT}
+use Rattle.ical_tree.proofs.OwnLines.{own_body}
 use Rattle.profile.specs.Lines.{is_same_name}
 use Rattle.profile.specs.Trees.{Tree, Trees, tree, none, more, trees_list, tree_name, tree_own, tree_inside, vevents}
 use Rattle.profile.specs.Objects.{is_property, has_version, Opens, Closes, IsObject}
@@ -38,16 +39,6 @@ vevents_are (own ∷ owns) = ap (λ x. own ∷ x) (vevents_are owns)
 
 pub calendar_vevents : (method : Option (List ℕ)) (owns : List Lines) → vevents (calendar_tree method owns) ≡ owns
 calendar_vevents method owns = vevents_are owns
-
--- properties, one after another
-own_more : (depth : ℕ) (before own : Lines) → BodyT depth before [] before → list_all is_property own ≡ true → BodyT depth (before ++ own) [] (before ++ own)
-own_more depth before [] b h = subst (λ (l : Lines). BodyT depth l [] l) (sym (append-nil before)) b
-own_more depth before (line ∷ own) b h =
-    let both = and_parts (is_property line) (list_all is_property own) h in
-    subst (λ (l : Lines). BodyT depth l [] l) (append_assoc before (line ∷ []) own) (own_more depth (before ++ line ∷ []) own (property line both.0 b) both.1)
-
-pub own_body : (depth : ℕ) (own : Lines) → list_all is_property own ≡ true → BodyT depth own [] own
-own_body depth own h = own_more depth [] own nothing h
 
 opens : Opens (codes "BEGIN:VEVENT") (codes "VEVENT")
 opens = record { begins = refl; names = refl }

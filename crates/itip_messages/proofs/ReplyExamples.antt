@@ -7,7 +7,7 @@ use Rattle.profile.specs.Messages.{Accept, Busy}
 use Rattle.profile.specs.Revisions.{Part, Whole, Absent}
 use Rattle.profile.specs.Values.{WritesStamp, IsUid}
 use Rattle.itip_messages.specs.ReadBack.{IsTextAddress, IsReadAddress, IsAnswer}
-use Rattle.itip_messages.proofs.CleanText.{clean_shown}
+use Rattle.ical_lines.proofs.CleanLines.{clean_shown}
 use Rattle.itip_messages.proofs.ObjectTree.{Lines, vevent_lines}
 
 pub stamp : WritesStamp (codes "20250301T120000Z") (pos 1_740_830_400)

@@ -10,10 +10,12 @@ use Rattle.profile.specs.Values.{escaped}
 use Rattle.profile.specs.Messages.{Outcome, Accept, Busy, SeriesLimit, SinglesLimit, TellsSlot, TellsOutcome, partstat}
 use Rattle.itip_order.proofs.Lists.{in_head, in_tail}
 use Rattle.itip_messages.specs.ReadBack.{IsTextAddress, IsTextOutcome, IsAnswer, IsVevent}
-use Rattle.itip_messages.proofs.CleanText.{IsClean, is_shown, shown_append, clean_shown, shown_stamp, shown_decimal, clean_address}
+use Rattle.ical_lines.proofs.CleanLines.{IsClean, is_shown, shown_append, clean_shown, shown_decimal, valued, fixed}
+use Rattle.ical_values.proofs.ShownValues.{shown_stamp}
+use Rattle.itip_messages.proofs.CleanText.{clean_address}
 use Rattle.itip_messages.proofs.CleanUids.{clean_text}
 use Rattle.itip_messages.proofs.ObjectTree.{Lines, vevent_lines}
-use Rattle.itip_messages.proofs.ContentLines.{valued, fixed, uid_line, sequence_line, stamp_line, organiser_line, accepted_line}
+use Rattle.itip_messages.proofs.ContentLines.{uid_line, sequence_line, stamp_line, organiser_line, accepted_line}
 use Rattle.itip_messages.proofs.WordText.{shown_key}
 
 -- content lines, and properties

@@ -9,7 +9,8 @@ use Rattle.std.proofs.lemmas.List.Folds.{list_all-append}
 use lib.Utf8.{encode, encodes, scalars}
 use Rattle.profile.specs.Instances.{Key}
 use Rattle.profile.specs.Messages.{is_plain, hexadecimal, word_octet, word, IsKeyText}
-use Rattle.itip_messages.proofs.CleanText.{is_shown, shown_append, shown_stamp}
+use Rattle.ical_lines.proofs.CleanLines.{is_shown, shown_append}
+use Rattle.ical_values.proofs.ShownValues.{shown_stamp}
 
 -- ---- octets
 

@@ -16,7 +16,9 @@ use Rattle.profile.specs.Kept.{is_unbroken}
 use Rattle.profile.specs.Messages.{IsCanonical}
 use Rattle.profile.specs.Revisions.{Body, Set, Absent, Cancelled}
 use Rattle.profile.specs.Values.{duration_text}
-use Rattle.itip_messages.proofs.CleanText.{is_shown, clean_shown, shown_stamp, shown_duration}
+use Rattle.ical_lines.proofs.CleanLines.{is_shown, clean_shown}
+use Rattle.ical_values.proofs.ShownValues.{shown_stamp}
+use Rattle.itip_messages.proofs.CleanText.{shown_duration}
 use Rattle.itip_messages.proofs.ObjectTree.{Lines}
 
 -- lines with a CRLF behind each

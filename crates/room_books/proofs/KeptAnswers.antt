@@ -18,7 +18,9 @@ use Rattle.ical_values.proofs.Escapes.{read_back}
 use Rattle.ical_values.proofs.Readings.{stamp_written, sequence_written}
 use Rattle.ical_values.proofs.Spans.{duration_written}
 use Rattle.itip_messages.specs.ReadBack.{IsTextAddress, IsTextValue}
-use Rattle.itip_messages.proofs.CleanText.{IsClean, clean_shown, clean_address, text_address, shown_decimal, shown_duration, shown_stamp}
+use Rattle.ical_lines.proofs.CleanLines.{IsClean, clean_shown, shown_decimal}
+use Rattle.ical_values.proofs.ShownValues.{shown_stamp}
+use Rattle.itip_messages.proofs.CleanText.{clean_address, text_address, shown_duration}
 use Rattle.itip_messages.proofs.CleanUids.{clean_text, text_value}
 use Rattle.itip_messages.proofs.ObjectTree.{Lines, vevent_lines}
 use Rattle.room_books.proofs.KeptEvents.{kept_own, kept_event, Spell, kept_says, kept_read, kept_confirmed, kept_booked}

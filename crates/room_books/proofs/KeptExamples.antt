@@ -21,7 +21,8 @@ use Rattle.itip_order.proofs.Lists.{in_cons, none_in_nil}
 use Rattle.ical_values.proofs.Readings.{stamp_written}
 use Rattle.room_books.proofs.Bodies.{with_ends}
 use Rattle.itip_messages.proofs.ReplyExamples.{stamp, start}
-use Rattle.itip_messages.proofs.ObjectTree.{Lines, vevent_lines, own_body, parts_more}
+use Rattle.profile.specs.Objects.SpellsBody.{nothing, property}
+use Rattle.itip_messages.proofs.ObjectTree.{Lines, vevent_lines, parts_more}
 
 -- ---- the message
 
@@ -118,7 +119,7 @@ object = record {
     are = refl;
     opens = record { begins = refl; names = refl };
     closes = record { ends = refl; names = refl };
-    holds = parts_more 6 head_lines [] head_lines (own_lines ∷ []) (own_body 7 head_lines refl) refl;
+    holds = parts_more 6 head_lines [] head_lines (own_lines ∷ []) (property _ refl (property _ refl (property _ refl nothing))) refl;
   };
   calendar = refl;
   version = refl;

@@ -4,8 +4,8 @@ use Rattle.std.specs.List.{list_all}
 use Rattle.std.proofs.lemmas.Bool.{and_from}
 use Rattle.profile.specs.Lines.{is_content}
 use Rattle.profile.specs.Objects.{is_property}
-use Rattle.itip_messages.proofs.CleanText.{IsClean}
-use Rattle.itip_messages.proofs.ContentLines.{valued, uid_line, sequence_line, stamp_line, organiser_line, accepted_line}
+use Rattle.ical_lines.proofs.CleanLines.{IsClean, valued}
+use Rattle.itip_messages.proofs.ContentLines.{uid_line, sequence_line, stamp_line, organiser_line, accepted_line}
 use Rattle.room_books.proofs.KeptEvents.{kept_own}
 
 start_line : (v : List ℕ) → IsClean v → is_content (codes "DTSTART:" ++ v) ≡ true

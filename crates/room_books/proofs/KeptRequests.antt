@@ -13,7 +13,7 @@ use Rattle.profile.specs.Trees.{Tree, tree_name, tree_own, tree_inside, vevents}
 use Rattle.profile.specs.Objects.{SpellsBody, IsObject}
 use Rattle.profile.specs.Objects.SpellsBody.{nothing, property, component}
 use Rattle.itip_order.proofs.Lists.{in_cons, in_tail, none_in_nil, filter_at}
-use Rattle.itip_messages.proofs.CleanText.{IsClean}
+use Rattle.ical_lines.proofs.CleanLines.{IsClean}
 use Rattle.itip_messages.proofs.ObjectTree.{Lines}
 use Rattle.room_books.proofs.Pairs.{map_at}
 

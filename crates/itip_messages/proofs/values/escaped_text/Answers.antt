@@ -1,5 +1,5 @@
 use Rattle.std.proofs.lemmas.Str.{IsUtf8-string_bytes}
-use Rattle.itip_messages.proofs.TextLemmas.{utf8_escaped}
+use Rattle.ical_values.proofs.EscapedText.{utf8_escaped}
 use Rattle.itip_messages.proofs.values.escaped_text.Goals as goal
 
 pub text_of-requires : goal.text_of-requires

@@ -1,4 +1,4 @@
-use Rattle.itip_messages.proofs.CleanText.{utf8_stamp}
+use Rattle.ical_values.proofs.ShownValues.{utf8_stamp}
 use Rattle.itip_messages.proofs.values.stamp_text.Goals as goal
 
 pub text_of-requires : goal.text_of-requires

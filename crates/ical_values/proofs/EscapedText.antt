@@ -1,12 +1,15 @@
--- Escapes keep UTF-8.
-use Rattle.std.proofs.Common.{◌≡◌, ℕ, ◌<◌, ◌≤◌, Bool, true, false, nat_eq, ◌||◌, cond, List, [], ◌∷◌, ◌++◌, refl, arith, inl, inr, ltb, codes}
-use Rattle.std.proofs.lemmas.Bool.{cases_order}
+-- Escapes keep UTF-8, and make no control octet.
+use Rattle.std.proofs.Common.{◌≡◌, ◌∙◌, ℕ, ◌<◌, ◌≤◌, Bool, true, false, not, nat_eq, ◌||◌, cond, List, [], ◌∷◌, ◌++◌, refl, arith, inl, inr, ltb, codes}
+use Rattle.std.specs.List.{list_any, list_all}
+use Rattle.std.proofs.lemmas.Bool.{and_parts, or_from, cases_order}
 use Rattle.std.proofs.lemmas.Bool.Decides.{nat_tests}
+use Rattle.std.proofs.lemmas.List.Folds.{list_any-append}
 use Rattle.std.proofs.lemmas.Grind.{flat_map-append}
 use Rattle.std.proofs.lemmas.Str.{IsUtf8-append, IsUtf8-nil, IsUtf8-encode, encode_ascii}
 use Rattle.std.specs.Str.{IsUtf8}
 use Rattle.std.specs.Char.{IsScalar}
 use lib.Utf8.{encode, encodes, scalars}
+use Rattle.profile.specs.Lines.{is_control}
 use Rattle.profile.specs.Values.{escaped, escaped_octet}
 
 -- one ASCII octet
@@ -60,3 +63,18 @@ utf8_characters (c ∷ cs) h =
 -- a text with its escapes
 pub utf8_escaped : (text : List ℕ) → IsUtf8 text → IsUtf8 (escaped text)
 utf8_escaped text u = rw (← u.1.1) (utf8_characters u.0 u.1.0)
+
+-- ---- control octets
+
+-- an octet that a TEXT value can stand for: LF, or no control octet but TAB
+abbrev pub is_read : ℕ → Bool
+is_read c = nat_eq c 10 || not (is_control c)
+
+octet_calm : (c : ℕ) → is_read c ≡ true → list_any is_control (escaped_octet c) ≡ false
+octet_calm c h = grind (arith, nat_tests)
+
+pub escaped_calm : (text : List ℕ) → list_all is_read text ≡ true → list_any is_control (escaped text) ≡ false
+escaped_calm [] h = refl
+escaped_calm (c ∷ cs) h =
+    let both = and_parts (is_read c) (list_all is_read cs) h in
+    list_any-append is_control (escaped_octet c) (escaped cs) ∙ or_from _ _ (octet_calm c both.0) (escaped_calm cs both.1)
