@@ -16,3 +16,4 @@ pub mod ReadBack
 pub mod WholeRule
 pub mod InOrder
 pub mod SameDays
+pub mod PlainRule

@@ -41,10 +41,10 @@ semi_digits : (ds : List ℕ) → AllDigits 10 ds → no_semicolon ds ≡ true
 semi_digits [] a = refl
 semi_digits (c ∷ ds) a = and_from (not (c == 59)) (no_semicolon ds) (no_digit c (digit_from_value c a.0)) (semi_digits ds a.1)
 
-semi_decimal : (n : ℕ) → n < 2 ^ 64 → no_semicolon (decimal n) ≡ true
+pub semi_decimal : (n : ℕ) → n < 2 ^ 64 → no_semicolon (decimal n) ≡ true
 semi_decimal n h = semi_digits (decimal n) (number_back n h).1
 
-semi_place : (most : ℕ) (place : ℤ) → most ≤ 366 → is_place most place ≡ true → no_semicolon (signed_decimal place) ≡ true
+pub semi_place : (most : ℕ) (place : ℤ) → most ≤ 366 → is_place most place ≡ true → no_semicolon (signed_decimal place) ≡ true
 semi_place most (pos n) h e =
     let small = up_to most n e in semi_decimal n (omega arith)
 semi_place most (negsuc n) h e =
@@ -64,7 +64,7 @@ semi_front : (number : ℤ) (plain : Bool) → is_plain number ≡ plain → (is
 semi_front number true e h = refl
 semi_front number false e h = semi_place 53 number (omega arith) (or_other (is_plain number) (is_place 53 number) h e)
 
-semi_entry : (entry : WeekdayNumber) → is_entry entry ≡ true → no_semicolon (entry_text entry) ≡ true
+pub semi_entry : (entry : WeekdayNumber) → is_entry entry ≡ true → no_semicolon (entry_text entry) ≡ true
 semi_entry entry e =
     let p = and_parts (nat_lt entry.weekday 7) (is_plain entry.number || is_place 53 entry.number) e in
     semi_append (cond (is_plain entry.number) [] (signed_decimal entry.number)) (weekday_word entry.weekday) (semi_front entry.number (is_plain entry.number) refl p.1) (semi_weekday entry.weekday (below 7 entry.weekday p.0))
@@ -325,26 +325,26 @@ start_known Weekly = All-from_recursion IsKnownPart (rule_parts (codes "FREQ=" +
 start_known Monthly = All-from_recursion IsKnownPart (rule_parts (codes "FREQ=" ++ frequency_word Monthly)) (inl (Monthly, refl), tt)
 start_known Yearly = All-from_recursion IsKnownPart (rule_parts (codes "FREQ=" ++ frequency_word Yearly)) (inl (Yearly, refl), tt)
 
-built_values : (f : Frequency) (text : List ℕ) (ps : List (RuleKey × List (List ℕ))) → Built f text ps → (k : RuleKey) → values_of (key_word k) text ≡ gathered k ps
+pub built_values : (f : Frequency) (text : List ℕ) (ps : List (RuleKey × List (List ℕ))) → Built f text ps → (k : RuleKey) → values_of (key_word k) text ≡ gathered k ps
 built_values f text ps start k = start_values f k
 built_values f text ps (more before piece key values qs b p) k =
     piece_values before piece key values k p ∙ ap (λ l. cond (same_key k key) (l ++ values) l) (built_values f before qs b k)
 
-built_frequency : (f : Frequency) (text : List ℕ) (ps : List (RuleKey × List (List ℕ))) → Built f text ps → values_of (codes "FREQ=") text ≡ frequency_word f ∷ []
+pub built_frequency : (f : Frequency) (text : List ℕ) (ps : List (RuleKey × List (List ℕ))) → Built f text ps → values_of (codes "FREQ=") text ≡ frequency_word f ∷ []
 built_frequency f text ps start = start_frequency f
 built_frequency f text ps (more before piece key values qs b p) = piece_frequency before piece key values p ∙ built_frequency f before qs b
 
-built_known : (f : Frequency) (text : List ℕ) (ps : List (RuleKey × List (List ℕ))) → Built f text ps → All IsKnownPart (rule_parts text)
+pub built_known : (f : Frequency) (text : List ℕ) (ps : List (RuleKey × List (List ℕ))) → Built f text ps → All IsKnownPart (rule_parts text)
 built_known f text ps start = start_known f
 built_known f text ps (more before piece key values qs b p) = piece_known before piece key values p (built_known f before qs b)
 
 -- ---- the pieces of a rule
 
-abbrev list_values : List (List ℕ) → List (List ℕ)
+abbrev pub list_values : List (List ℕ) → List (List ℕ)
 list_values [] = []
 list_values (entry ∷ entries) = (entry ++ listed (codes ",") entries) ∷ []
 
-list_piece : {A : Type 0} (f : A → List ℕ) (test : A → Bool) → ((x : A) → test x ≡ true → no_semicolon (f x) ≡ true) → (key : RuleKey) (xs : List A) → list_all test xs ≡ true → Piece (listed (59 ∷ key_word key) (map f xs)) key (list_values (map f xs))
+pub list_piece : {A : Type 0} (f : A → List ℕ) (test : A → Bool) → ((x : A) → test x ≡ true → no_semicolon (f x) ≡ true) → (key : RuleKey) (xs : List A) → list_all test xs ≡ true → Piece (listed (59 ∷ key_word key) (map f xs)) key (list_values (map f xs))
 list_piece f test clean key [] h = absent key
 list_piece f test clean key (x ∷ xs) h =
     let p = and_parts (test x) (list_all test xs) h in
@@ -355,7 +355,7 @@ list_piece f test clean key (x ∷ xs) h =
 short_enough : (n : ℕ) → nat_le n 366 ≡ true → n ≤ 366
 short_enough n e = grind (arith, nat_tests)
 
-list_says : {A : Type 0} (Is : List ℕ → A → Type 0) (f : A → List ℕ) (test : A → Bool) → ((x : A) → test x ≡ true → Is (f x) x) → ((x : A) → test x ≡ true → no_comma (f x) ≡ true)
+pub list_says : {A : Type 0} (Is : List ℕ → A → Type 0) (f : A → List ℕ) (test : A → Bool) → ((x : A) → test x ≡ true → Is (f x) x) → ((x : A) → test x ≡ true → no_comma (f x) ≡ true)
     → (xs : List A) → (list_all test xs && is_short xs) ≡ true → SaysOr (SpellsList Is) [] (list_values (map f xs)) xs
 list_says Is f test spells clean [] h = refl
 list_says Is f test spells clean (x ∷ xs) h =
@@ -469,7 +469,7 @@ built t until end r h =
     (list_piece signed_decimal (is_place 366) (λ z b. semi_place 366 z (omega arith) b) BySetPosition (numbers_from 0 t.positions) p.0))
     (week_piece t.week_start (t.week_start == 0) r.week)
 
-says_at : {A : Type 0} (Is : List ℕ → A → Type 0) (missing : A) (x : A) (values found : List (List ℕ)) → values ≡ found → SaysOr Is missing found x → SaysOr Is missing values x
+pub says_at : {A : Type 0} (Is : List ℕ → A → Type 0) (missing : A) (x : A) (values found : List (List ℕ)) → values ≡ found → SaysOr Is missing found x → SaysOr Is missing values x
 says_at Is missing x values found e h = rw e h
 
 pub rule_back : (t : RuleText) (until : Option (List ℕ)) (end : Option Until) → is_in_range (as_written t end) ≡ true → go_together (as_written t end) ≡ true → has_one_end (as_written t end) ≡ true → HandsIn t.until until end → SpellsRule (rule_text t until) (as_written t end)

@@ -27,5 +27,5 @@ pub use days::Days;
 pub use read::one_rule;
 pub use rule::Rule;
 pub use text::RuleText;
-pub use write::{rule_reads_back, values_read_back, written_means_the_same};
+pub use write::{rule_reads_back, values_read_back, weekday_word, written_means_the_same};
 pub use written::{Until, WeekdayNumber};

@@ -241,7 +241,7 @@ fn frequency_word(frequency: Frequency) -> &'static str
 }
 
 /// The two letters of a weekday, 0 for Monday; those past Saturday are Sunday's.
-fn weekday_word(weekday: u8) -> &'static str
+pub fn weekday_word(weekday: u8) -> &'static str
     ensures { result.now ≡ texts.weekday_word weekday }
 {
     match weekday {

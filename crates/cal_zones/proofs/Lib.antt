@@ -12,3 +12,8 @@ pub mod PartLemmas
 pub mod Reading
 pub mod OneZone
 pub mod YearLemmas
+pub mod WrittenRules
+pub mod WrittenParts
+pub mod ZoneReads
+pub mod RuleWords
+pub mod WrittenLines

@@ -21,13 +21,13 @@ use Rattle.ical_tree.proofs.OneLine.{IsFunctional, same_option, at_one, only_lin
 abbrev Lines : Type 0
 Lines = List (List ℕ)
 
-abbrev OneLocal : Type 0
+abbrev pub OneLocal : Type 0
 OneLocal = (text : List ℕ) (a b : ℤ) → SpellsLocal text a → SpellsLocal text b → a ≡ b
 
-abbrev OneOffset : Type 0
+abbrev pub OneOffset : Type 0
 OneOffset = (text : List ℕ) (a b : ℤ) → SpellsOffset text a → SpellsOffset text b → a ≡ b
 
-abbrev OneRule : Type 0
+abbrev pub OneRule : Type 0
 OneRule = (text : List ℕ) (a b : RuleText) → SpellsRule text a → SpellsRule text b → a ≡ b
 
 -- ---- one line
@@ -125,7 +125,7 @@ pub record AreParts (parts standards daylights : List Lines) : Type 0 where
   pub sizes : length parts ≡ length standards + length daylights
   pub which : (x : Lines) → Contains parts x → Contains standards x ⊎ Contains daylights x
 
-tree_parts : (t : Tree) → AreParts (parts_by is_part t) (parts_by is_standard t) (parts_by is_daylight t)
+pub tree_parts : (t : Tree) → AreParts (parts_by is_part t) (parts_by is_standard t) (parts_by is_daylight t)
 tree_parts t = record { sizes = sizes (tree_inside t); which = λ x c. which (tree_inside t) x c }
 
 -- ---- local times
@@ -202,7 +202,7 @@ module _ (local : OneLocal) (offset : OneOffset) (rules : OneRule) (sound : (tex
       let e = times_same lines o h.0 s h.1 in
       (e.from ∙ h.2, e.to ∙ h.3)
 
-  all_differ : (parts : List Lines) (k : ℤ) → ((other : Lines) → Contains parts other → Keeps k other) → OffsetsDiffer parts → ⊥
+  pub all_differ : (parts : List Lines) (k : ℤ) → ((other : Lines) → Contains parts other → Keeps k other) → OffsetsDiffer parts → ⊥
   all_differ parts k all d =
       let here = keeps_one d.one k d.o (all d.one d.one_in) d.says in
       let there = keeps_one d.other k d.strays.0 (all d.other d.other_in) d.strays.1 in

@@ -1,4 +1,5 @@
 pub mod Shapes
+pub mod Written
 pub mod Yearly
 pub mod Bases
 pub mod Onsets

@@ -47,7 +47,7 @@ fn latest_day(second: u32, offset: i32, until: i64) -> u32
 }
 
 /// The local time at a second of a day, by its index.
-fn local_seconds(index: u32, second: u32) -> i64
+pub(crate) fn local_seconds(index: u32, second: u32) -> i64
     requires index { (366 ≤ index) × (index ≤ 3_652_424) }
     requires second { second < 86_400 }
     ensures value { result ≡ local_time index second }

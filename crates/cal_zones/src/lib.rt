@@ -11,15 +11,18 @@ mod observance;
 mod one_day;
 mod parts;
 mod read;
+mod rule_text;
 mod shape;
 mod spaced;
 mod times;
+mod write;
 mod yearly;
 mod zone;
 
 pub use kinds::Zone;
 pub use read::one_zone;
 pub use shape::{MonthDays, Observance, Yearly};
+pub use write::zone_reads_back;
 
 #[cfg(test)]
 mod tests;

@@ -565,3 +565,101 @@ RRULE:FREQ=YEARLY;COUNT=2;BYMONTH=3;BYDAY=2SU\r\nTZOFFSETFROM:-0400\r\nTZOFFSETT
         40
     );
 }
+
+/// What is written of a zone, behind an octet that stands there already.
+fn written(alloc: Global, zone: &Zone, name: &str) -> Result<Vec<u8>, Fault> {
+    let mut out = Vec::new(alloc);
+    out.push(b'!')?;
+    zone.write(name, &mut out)?;
+    Ok(out)
+}
+
+#[test]
+fn new_york_written(rt: HostRuntime) -> Result<(), Fault> {
+    let zone = read(rt.alloc(), SPRING, AUTUMN)?;
+    let want = b"!BEGIN:VTIMEZONE\r\nTZID:America/New_York\r\n\
+BEGIN:STANDARD\r\nDTSTART:20071104T020000\r\nRRULE:FREQ=YEARLY;BYMONTH=11;BYDAY=1SU\r\n\
+TZOFFSETFROM:-0400\r\nTZOFFSETTO:-0500\r\nEND:STANDARD\r\n\
+BEGIN:DAYLIGHT\r\nDTSTART:20070311T020000\r\nRRULE:FREQ=YEARLY;BYMONTH=3;BYDAY=2SU\r\n\
+TZOFFSETFROM:-0500\r\nTZOFFSETTO:-0400\r\nEND:DAYLIGHT\r\nEND:VTIMEZONE\r\n";
+    let out = written(rt.alloc(), &zone, "America/New_York")?;
+    assert_eq!(rt; out.as_slice(), want.as_slice());
+    Ok(())
+}
+
+#[test]
+fn one_offset_written(rt: HostRuntime) -> Result<(), Fault> {
+    // a comma in the name is escaped; an offset of 19 minutes and 32 seconds has six digits
+    let amsterdam = Zone::constant(UtcOffset::read("+001932")?);
+    let want = b"!BEGIN:VTIMEZONE\r\nTZID:Amsterdam\\, before 1937\r\n\
+BEGIN:STANDARD\r\nDTSTART:19700101T000000\r\nTZOFFSETFROM:+001932\r\nTZOFFSETTO:+001932\r\n\
+END:STANDARD\r\nEND:VTIMEZONE\r\n";
+    let out = written(rt.alloc(), &amsterdam, "Amsterdam, before 1937")?;
+    assert_eq!(rt; out.as_slice(), want.as_slice());
+    let utc = b"!BEGIN:VTIMEZONE\r\nTZID:UTC\r\n\
+BEGIN:STANDARD\r\nDTSTART:19700101T000000\r\nTZOFFSETFROM:+0000\r\nTZOFFSETTO:+0000\r\n\
+END:STANDARD\r\nEND:VTIMEZONE\r\n";
+    let out = written(rt.alloc(), &Zone::utc(), "UTC")?;
+    assert_eq!(rt; out.as_slice(), utc.as_slice());
+    Ok(())
+}
+
+#[test]
+fn long_name_is_folded(rt: HostRuntime) -> Result<(), Fault> {
+    // TZID: and 70 octets of the name are 75 octets
+    let want = b"!BEGIN:VTIMEZONE\r\nTZID:abcdefghijabcdefghijabcdefghijabcdefghijabcdefghijabcdefghijabcdefghij\r\n \
+klm\r\nBEGIN:STANDARD\r\nDTSTART:19700101T000000\r\nTZOFFSETFROM:+0000\r\nTZOFFSETTO:+0000\r\n\
+END:STANDARD\r\nEND:VTIMEZONE\r\n";
+    let out = written(
+        rt.alloc(),
+        &Zone::utc(),
+        "abcdefghijabcdefghijabcdefghijabcdefghijabcdefghijabcdefghijabcdefghijklm",
+    )?;
+    assert_eq!(rt; out.as_slice(), want.as_slice());
+    Ok(())
+}
+
+/// STANDARD from -0400 to -0500 and DAYLIGHT back, with these rules.
+fn with_rules(alloc: Global, standard: &str, daylight: &str) -> Result<Zone, Fault> {
+    let first = format!(in alloc; "BEGIN:STANDARD\r\nDTSTART:20071104T020000\r\nRRULE:{standard}\r\nTZOFFSETFROM:-0400\r\nTZOFFSETTO:-0500\r\nEND:STANDARD\r\n")?;
+    let second = format!(in alloc; "BEGIN:DAYLIGHT\r\nDTSTART:20070311T013015\r\nRRULE:{daylight}\r\nTZOFFSETFROM:-0500\r\nTZOFFSETTO:-0400\r\nEND:DAYLIGHT\r\n")?;
+    read(alloc, first.as_str().as_bytes(), second.as_str().as_bytes())
+}
+
+#[test]
+fn rules_written(rt: HostRuntime) -> Result<(), Fault> {
+    for (standard, daylight, first, second) in [
+        (
+            "BYDAY=SU;BYMONTH=11;FREQ=YEARLY;BYMONTHDAY=7,6,5,4,3,2,1",
+            "FREQ=YEARLY;BYMONTH=03;BYDAY=-1SU",
+            "FREQ=YEARLY;BYMONTH=11;BYMONTHDAY=1,2,3,4,5,6,7;BYDAY=SU",
+            "FREQ=YEARLY;BYMONTH=3;BYDAY=-1SU",
+        ),
+        (
+            "FREQ=YEARLY;WKST=SU;BYMONTH=12;BYMONTHDAY=+25",
+            "FREQ=YEARLY;BYMONTH=4;BYDAY=+4FR,04FR",
+            "FREQ=YEARLY;BYMONTH=12;BYMONTHDAY=25",
+            "FREQ=YEARLY;BYMONTH=4;BYDAY=4FR",
+        ),
+    ] {
+        let zone = with_rules(rt.alloc(), standard, daylight)?;
+        let want = format!(in rt.alloc(); "!BEGIN:VTIMEZONE\r\nTZID:Z\r\nBEGIN:STANDARD\r\nDTSTART:20071104T020000\r\nRRULE:{first}\r\nTZOFFSETFROM:-0400\r\nTZOFFSETTO:-0500\r\nEND:STANDARD\r\nBEGIN:DAYLIGHT\r\nDTSTART:20070311T013015\r\nRRULE:{second}\r\nTZOFFSETFROM:-0500\r\nTZOFFSETTO:-0400\r\nEND:DAYLIGHT\r\nEND:VTIMEZONE\r\n")?;
+        let out = written(rt.alloc(), &zone, "Z")?;
+        assert_eq!(rt; out.as_slice(), want.as_str().as_bytes(), "{standard}");
+    }
+    Ok(())
+}
+
+#[test]
+fn once_written(rt: HostRuntime) -> Result<(), Fault> {
+    // its one part was a DAYLIGHT
+    let once =
+        b"BEGIN:DAYLIGHT\r\nDTSTART:20200101T000000\r\nTZOFFSETFROM:+0100\r\nTZOFFSETTO:+0200\r\n\
+END:DAYLIGHT\r\n";
+    let zone = read(rt.alloc(), once, b"")?;
+    let want = b"!BEGIN:VTIMEZONE\r\nTZID:Z\r\nBEGIN:STANDARD\r\nDTSTART:20200101T000000\r\n\
+TZOFFSETFROM:+0100\r\nTZOFFSETTO:+0200\r\nEND:STANDARD\r\nEND:VTIMEZONE\r\n";
+    let out = written(rt.alloc(), &zone, "Z")?;
+    assert_eq!(rt; out.as_slice(), want.as_slice());
+    Ok(())
+}

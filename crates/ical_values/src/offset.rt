@@ -1,7 +1,7 @@
 //! UTC offsets (RFC 5545 3.3.14): `+hhmm`, `-hhmm`, or with seconds. Hours go to 23. `-0000` and
 //! `-000000` are none.
 
-ghost use Rattle.std.specs.Prelude.{List, ◌≡◌, ◌<◌, ℕ, ℤ, IfSome, IfNone, IfOk, IfErr, OnOk, OnErr};
+ghost use Rattle.std.specs.Prelude.{List, ◌≡◌, ◌↔◌, ◌<◌, ℕ, ℤ, IsSome, IfSome, IfNone, IfOk, IfErr, OnOk, OnErr};
 ghost use Rattle.profile.specs.Values.{SpellsOffset, WritesOffset, SpellsSize, IsOffset};
 ghost use Rattle.ical_values.specs.Written.{Appends};
 
@@ -58,6 +58,17 @@ impl UtcOffset {
         } else {
             append_all(out, &[&sign, &time])
         }
+    }
+
+    /// The offset of those seconds. None for a day and more to either side.
+    pub fn of_seconds(seconds: i32) -> Option<UtcOffset>
+        ensures found { IsSome result ↔ IsOffset seconds }
+        ensures value { IfSome result (λ offset. offset ≡ seconds) }
+    {
+        if seconds.unsigned_abs() >= 86_400 {
+            return None;
+        }
+        Some(UtcOffset { seconds })
     }
 
     /// Seconds that local time is ahead of UTC, from -86,399 to 86,399.
