@@ -12,7 +12,7 @@ use Rattle.profile.specs.Rules.{Pattern}
 use Rattle.profile.specs.Zones.{Observance, local_time}
 use Rattle.profile.specs.ZoneTexts.{SaysTimes, SaysOnce, SaysYearly, YearRule, is_each_year, year_pattern}
 use Rattle.profile.specs.WrittenZones.{rule_lines, WritesPart}
-use Rattle.ical_lines.proofs.CleanLines.{IsClean, is_shown, clean_shown, valued}
+use Rattle.ical_lines.proofs.CleanLines.{IsClean, is_shown, clean_shown, valued, start_line}
 use Rattle.ical_values.proofs.ShownValues.{shown_local, shown_offset}
 use Rattle.cal_zones.proofs.WrittenRules.{year_rule_text, year_back, shown_year}
 
@@ -75,9 +75,6 @@ part_yearly local offset own o r w h rule each = record {
 }
 
 -- ---- what lines they are
-
-start_line : (v : List ℕ) → IsClean v → is_content (codes "DTSTART:" ++ v) ≡ true
-start_line v c = valued (codes "DTSTART:") v (lt-ltb 7 (length (codes "DTSTART:" ++ v)) (omega arith)) refl refl refl c
 
 rule_line : (v : List ℕ) → IsClean v → is_content (codes "RRULE:" ++ v) ≡ true
 rule_line v c = valued (codes "RRULE:") v (lt-ltb 5 (length (codes "RRULE:" ++ v)) (omega arith)) refl refl refl c

@@ -1,5 +1,5 @@
 -- A rule of one day a year that is written is text, and names that day.
-use Rattle.std.proofs.Common.{◌≡◌, ◌∙◌, refl, sym, ap, subst, ℕ, zero, suc, ◌+◌, ◌-◌, ◌^◌, ◌<◌, ◌≤◌, Bool, true, false, cond, ◌&&◌, ◌||◌, ◌==◌, nat_lt, nat_le, List, [], ◌∷◌, ◌++◌, map, take, drop, codes, decimal, arith, ℤ, pos, negsuc, neg_ℤ}
+use Rattle.std.proofs.Common.{◌≡◌, ◌∙◌, refl, sym, ap, subst, ℕ, zero, suc, ◌+◌, ◌-◌, ◌<◌, ◌≤◌, Bool, true, false, cond, ◌&&◌, ◌||◌, nat_lt, nat_le, List, [], ◌∷◌, ◌++◌, map, take, drop, codes, decimal, arith, ℤ, pos, negsuc, neg_ℤ}
 use Rattle.std.specs.List.{list_all, list_any, range_with_len}
 use Rattle.std.specs.Ordering.{int_eq}
 use Rattle.std.specs.Fmt.{signed_decimal}
@@ -9,10 +9,10 @@ use Rattle.profile.specs.Faults.{is_between}
 use Rattle.profile.specs.Days.{Yearly, days_in_month}
 use Rattle.profile.specs.Rules.{WeekdayNumber, is_place, is_plain, is_entry, is_short, go_together}
 use Rattle.profile.specs.RuleTexts.{weekday_word, listed, entry_text}
-use Rattle.profile.specs.ZoneTexts.{MonthDays, OnDay, FromStart, FromEnd, InWeek, YearRule, month_days_of, weekdays_of, is_each_year, is_of_seven, are_seven, names_days, is_one_day, SpellsYear, year_pattern}
-use Rattle.profile.specs.WrittenZones.{rule_lines}
+use Rattle.profile.specs.ZoneTexts.{MonthDays, OnDay, FromStart, FromEnd, InWeek, YearRule, month_days_of, weekdays_of, is_each_year, is_of_seven, names_days, SpellsYear}
 use Rattle.ical_lines.proofs.CleanLines.{is_shown, shown_append, shown_decimal}
 use Rattle.cal_rules.proofs.Parted.{same_octet}
+use Rattle.cal_rules.proofs.OneRule.{weekday_test}
 use Rattle.cal_rules.proofs.ReadBack.{month_small, up_to, below}
 use Rattle.cal_rules.proofs.InOrder.{int_itself}
 use Rattle.cal_rules.proofs.PlainRule.{plain_text, plain_rule, plain_back}
@@ -85,9 +85,6 @@ days_short (FromStart number weekday) = refl
 days_short (FromEnd number weekday) = refl
 days_short (InWeek first weekday) = refl
 
-weekday_there : (weekday : ℕ) → weekday < 7 → nat_lt weekday 7 ≡ true
-weekday_there weekday h = grind (arith, nat_tests)
-
 number_there : (n : ℕ) → 1 ≤ n → n ≤ 4 → is_between 1 53 n ≡ true
 number_there n a b = grind (arith, nat_tests)
 
@@ -98,11 +95,11 @@ entries_there : (month : ℕ) (days : MonthDays) → is_each_year month days ≡
 entries_there month (OnDay day) h = refl
 entries_there month (FromStart number weekday) h =
     let n = numbered month number weekday h in
-    and_from _ _ (and_from _ _ (weekday_there weekday n.small) (later (is_plain (pos number)) _ (number_there number n.low n.high))) refl
+    and_from _ _ (and_from _ _ (weekday_test weekday n.small) (later (is_plain (pos number)) _ (number_there number n.low n.high))) refl
 entries_there month (FromEnd number weekday) h =
     let n = numbered month number weekday h in
-    and_from _ _ (and_from _ _ (weekday_there weekday n.small) (back_there number n.high)) refl
-entries_there month (InWeek first weekday) h = let w = week month first weekday h in and_from _ _ (and_from _ _ (weekday_there weekday w.small) refl) refl
+    and_from _ _ (and_from _ _ (weekday_test weekday n.small) (back_there number n.high)) refl
+entries_there month (InWeek first weekday) h = let w = week month first weekday h in and_from _ _ (and_from _ _ (weekday_test weekday w.small) refl) refl
 
 entries_short : (days : MonthDays) → is_short (weekdays_of days) ≡ true
 entries_short (OnDay day) = refl

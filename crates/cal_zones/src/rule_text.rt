@@ -13,7 +13,9 @@ pub(crate) fn rule_text(alloc: Global, rule: Yearly) -> Result<String, AllocErro
 {
     let month = rule.month;
     match rule.days {
-        MonthDays::Day(day) => Ok(format!(in alloc; "FREQ=YEARLY;BYMONTH={month};BYMONTHDAY={day}")?),
+        MonthDays::Day(day) => Ok(format!(in alloc;
+            "FREQ=YEARLY;BYMONTH={month};BYMONTHDAY={day}"
+        )?),
         MonthDays::FromStart { number, weekday } => {
             let word = weekday_word(weekday);
             Ok(format!(in alloc; "FREQ=YEARLY;BYMONTH={month};BYDAY={number}{word}")?)

@@ -607,7 +607,8 @@ END:STANDARD\r\nEND:VTIMEZONE\r\n";
 #[test]
 fn long_name_is_folded(rt: HostRuntime) -> Result<(), Fault> {
     // TZID: and 70 octets of the name are 75 octets
-    let want = b"!BEGIN:VTIMEZONE\r\nTZID:abcdefghijabcdefghijabcdefghijabcdefghijabcdefghijabcdefghijabcdefghij\r\n \
+    let want =
+        b"!BEGIN:VTIMEZONE\r\nTZID:abcdefghijabcdefghijabcdefghijabcdefghijabcdefghijabcdefghijabcdefghij\r\n \
 klm\r\nBEGIN:STANDARD\r\nDTSTART:19700101T000000\r\nTZOFFSETFROM:+0000\r\nTZOFFSETTO:+0000\r\n\
 END:STANDARD\r\nEND:VTIMEZONE\r\n";
     let out = written(
@@ -621,8 +622,12 @@ END:STANDARD\r\nEND:VTIMEZONE\r\n";
 
 /// STANDARD from -0400 to -0500 and DAYLIGHT back, with these rules.
 fn with_rules(alloc: Global, standard: &str, daylight: &str) -> Result<Zone, Fault> {
-    let first = format!(in alloc; "BEGIN:STANDARD\r\nDTSTART:20071104T020000\r\nRRULE:{standard}\r\nTZOFFSETFROM:-0400\r\nTZOFFSETTO:-0500\r\nEND:STANDARD\r\n")?;
-    let second = format!(in alloc; "BEGIN:DAYLIGHT\r\nDTSTART:20070311T013015\r\nRRULE:{daylight}\r\nTZOFFSETFROM:-0500\r\nTZOFFSETTO:-0400\r\nEND:DAYLIGHT\r\n")?;
+    let first = format!(in alloc;
+        "BEGIN:STANDARD\r\nDTSTART:20071104T020000\r\nRRULE:{standard}\r\nTZOFFSETFROM:-0400\r\nTZOFFSETTO:-0500\r\nEND:STANDARD\r\n"
+    )?;
+    let second = format!(in alloc;
+        "BEGIN:DAYLIGHT\r\nDTSTART:20070311T013015\r\nRRULE:{daylight}\r\nTZOFFSETFROM:-0500\r\nTZOFFSETTO:-0400\r\nEND:DAYLIGHT\r\n"
+    )?;
     read(alloc, first.as_str().as_bytes(), second.as_str().as_bytes())
 }
 
@@ -643,7 +648,9 @@ fn rules_written(rt: HostRuntime) -> Result<(), Fault> {
         ),
     ] {
         let zone = with_rules(rt.alloc(), standard, daylight)?;
-        let want = format!(in rt.alloc(); "!BEGIN:VTIMEZONE\r\nTZID:Z\r\nBEGIN:STANDARD\r\nDTSTART:20071104T020000\r\nRRULE:{first}\r\nTZOFFSETFROM:-0400\r\nTZOFFSETTO:-0500\r\nEND:STANDARD\r\nBEGIN:DAYLIGHT\r\nDTSTART:20070311T013015\r\nRRULE:{second}\r\nTZOFFSETFROM:-0500\r\nTZOFFSETTO:-0400\r\nEND:DAYLIGHT\r\nEND:VTIMEZONE\r\n")?;
+        let want = format!(in rt.alloc();
+            "!BEGIN:VTIMEZONE\r\nTZID:Z\r\nBEGIN:STANDARD\r\nDTSTART:20071104T020000\r\nRRULE:{first}\r\nTZOFFSETFROM:-0400\r\nTZOFFSETTO:-0500\r\nEND:STANDARD\r\nBEGIN:DAYLIGHT\r\nDTSTART:20070311T013015\r\nRRULE:{second}\r\nTZOFFSETFROM:-0500\r\nTZOFFSETTO:-0400\r\nEND:DAYLIGHT\r\nEND:VTIMEZONE\r\n"
+        )?;
         let out = written(rt.alloc(), &zone, "Z")?;
         assert_eq!(rt; out.as_slice(), want.as_str().as_bytes(), "{standard}");
     }

@@ -1,5 +1,5 @@
 -- Texts that may stand in a line: no control octet, and UTF-8. Lines that are written from them are content lines.
-use Rattle.std.proofs.Common.{◌≡◌, ◌∙◌, ℕ, ◌^◌, ◌<◌, ◌≤◌, Bool, true, false, not, ◌&&◌, nat_lt, nat_le, List, [], ◌∷◌, ◌++◌, codes, decimal, refl, ap, arith}
+use Rattle.std.proofs.Common.{◌≡◌, ◌∙◌, ℕ, ◌^◌, ◌<◌, ◌≤◌, Bool, true, false, not, ◌&&◌, nat_lt, nat_le, List, [], ◌∷◌, ◌++◌, length, codes, decimal, refl, ap, arith, lt-ltb}
 use Rattle.std.specs.List.{list_any, list_all}
 use Rattle.std.specs.Str.{IsAscii, IsUtf8}
 use Rattle.std.specs.Str.Parse.{AllDigits}
@@ -73,3 +73,7 @@ valued head v stop name quote h c = content (head ++ v) stop name quote (clean_a
 -- a printable line
 pub fixed : (line : List ℕ) → has_stop 58 line ≡ true → has_bad_name line ≡ false → has_bad_quote line ≡ false → list_all is_shown line ≡ true → is_content line ≡ true
 fixed line s n q h = content line s n q (clean_shown line h)
+
+-- DTSTART without parameters
+pub start_line : (v : List ℕ) → IsClean v → is_content (codes "DTSTART:" ++ v) ≡ true
+start_line v c = valued (codes "DTSTART:") v (lt-ltb 7 (length (codes "DTSTART:" ++ v)) (omega arith)) refl refl refl c

@@ -4,12 +4,9 @@ use Rattle.std.specs.List.{list_all}
 use Rattle.std.proofs.lemmas.Bool.{and_from}
 use Rattle.profile.specs.Lines.{is_content}
 use Rattle.profile.specs.Objects.{is_property}
-use Rattle.ical_lines.proofs.CleanLines.{IsClean, valued}
+use Rattle.ical_lines.proofs.CleanLines.{IsClean, valued, start_line}
 use Rattle.itip_messages.proofs.ContentLines.{uid_line, sequence_line, stamp_line, organiser_line, accepted_line}
 use Rattle.room_books.proofs.KeptEvents.{kept_own}
-
-start_line : (v : List ℕ) → IsClean v → is_content (codes "DTSTART:" ++ v) ≡ true
-start_line v c = valued (codes "DTSTART:") v (lt-ltb 7 (length (codes "DTSTART:" ++ v)) (omega arith)) refl refl refl c
 
 duration_line : (v : List ℕ) → IsClean v → is_content (codes "DURATION:" ++ v) ≡ true
 duration_line v c = valued (codes "DURATION:") v (lt-ltb 8 (length (codes "DURATION:" ++ v)) (omega arith)) refl refl refl c

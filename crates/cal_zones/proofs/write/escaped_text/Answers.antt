@@ -1,4 +1,3 @@
-use Rattle.std.proofs.lemmas.Str.{IsUtf8-string_bytes}
 use Rattle.ical_values.proofs.EscapedText.{utf8_escaped}
 use Rattle.cal_zones.proofs.write.escaped_text.Goals as goal
 
