@@ -19,3 +19,4 @@ pub mod Trees
 pub mod Streams
 pub mod ZoneTexts
 pub mod WrittenZones
+pub mod ZonedTimes
