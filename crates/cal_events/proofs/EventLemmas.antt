@@ -130,7 +130,7 @@ time_said (Err x) line text k e h = tt
 
 -- ---- durations
 
-long_length : (line : List ℕ) → SpellsLong (line_value line) → IsNegativeOrLong line
+pub long_length : (line : List ℕ) → SpellsLong (line_value line) → IsNegativeOrLong line
 long_length line (d, s, spells, inl h) = inr (record { days = d; seconds = s }, spells, omega arith)
 long_length line (d, s, spells, inr h) = inr (record { days = d; seconds = s }, spells, omega arith)
 

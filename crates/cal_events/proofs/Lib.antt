@@ -5,6 +5,9 @@ pub mod TreeLemmas
 pub mod OneEvent
 pub mod OneCalendar
 pub mod OneText
+pub mod OneZoned
+pub mod TimesLemmas
+pub mod ZonedLemmas
 pub mod CalendarLemmas
 pub mod ClashLemmas
 pub mod Distinct

@@ -2,3 +2,4 @@ pub mod Calendars
 pub mod Clashes
 pub mod Sweep
 pub mod Events
+pub mod Zoned

@@ -10,6 +10,7 @@ ghost use Rattle.profile.specs.Faults.{is_event_fault};
 ghost use Rattle.profile.specs.Values.{SpellsStamp};
 ghost use Rattle.profile.specs.Events.{Event, answer_named, answer_of, length_seconds, ends_in_z, lines_named, malformed_number, Says, SaysSequence, SaysEvent, IsUidLine, IsAddressLine, IsStampLine, IsAttendee, IsTime, IsDateText, IsLocalText, IsNoAddress, UnfixedOrMalformed, time_kind, DateTime, KindFault, TimeFault, EventFault};
 ghost use Rattle.cal_events.specs.Events.{is_message, participation_of, attendee_of, length_of, event_of, said_kind, IsExtent, GivesLength, ExtentFault, TimesFault};
+ghost use Rattle.cal_events.specs.Zoned.{SaysHeading, SayAttendees};
 
 use crate::properties::{optional, required};
 use ical_lines::{Fault, Line, Refusal};
@@ -27,7 +28,7 @@ const DAY: i64 = 86_400;
 const LONGEST: i64 = 366 * DAY;
 
 /// The first second that an event may name, 1969-12-31T00:00:00Z: a local time of 1970 may be as early.
-const FIRST_SECOND: i64 = -DAY;
+pub(crate) const FIRST_SECOND: i64 = -DAY;
 
 /// What a VEVENT is read for: this says which properties have to stand.
 #[derive(Clone, Copy, Debug, PartialEq, Eq)]
@@ -120,6 +121,36 @@ impl EventComponent {
             length,
             attendees,
         })
+    }
+
+    /// Judges the properties of a VEVENT that come before its times: UID, ORGANIZER, DTSTAMP, SEQUENCE and STATUS.
+    /// Refused: 10 and 14 to 16 for a value, 61 and 63 for a property that is missing or stands twice.
+    pub fn judge_heading(
+        alloc: Global,
+        component: &Component,
+        purpose: Purpose,
+    ) -> Result<(), Fault>
+        ensures judged { OnOk result (SaysHeading (is_message purpose) (component_lines component.now)) }
+        ensures refuses { IfErr result (RefusesOnly is_event_fault) }
+        ensures stands { IfErr result (RefusesBy (EventFault (is_message purpose) (component_lines component.now))) }
+    {
+        read_uid(alloc, component)?;
+        read_organiser(alloc, component, purpose)?;
+        read_stamp(component, purpose)?;
+        read_sequence(component)?;
+        optional(component, "STATUS")?;
+        Ok(())
+    }
+
+    /// Judges the ATTENDEE lines of a VEVENT.
+    /// Refused: 15 for an address that is none.
+    pub fn judge_attendees(alloc: Global, component: &Component) -> Result<(), Fault>
+        ensures judged { OnOk result (SayAttendees (component_lines component.now)) }
+        ensures refuses { IfErr result (RefusesOnly is_event_fault) }
+        ensures stands { (in_message : Bool) → IfErr result (RefusesBy (EventFault in_message (component_lines component.now))) }
+    {
+        read_attendees(alloc, component)?;
+        Ok(())
     }
 
     /// The first second after the event, in seconds from 1970-01-01T00:00:00Z.
@@ -216,7 +247,7 @@ fn read_start(component: &Component) -> Result<Stamp, Refusal>
 
 /// How long an event is said to last.
 #[derive(Clone, Copy)]
-enum Extent {
+pub(crate) enum Extent {
     /// DTEND: seconds from DTSTART, negative where it lies before.
     ToEnd(i64),
     /// DURATION, or nothing where neither stands.
@@ -249,7 +280,7 @@ fn seconds_between(start: Stamp, end: Stamp) -> i64
 }
 
 /// A duration in seconds, days as 86,400: in UTC no day is longer or shorter.
-fn seconds_of(duration: Duration) -> i64
+pub(crate) fn seconds_of(duration: Duration) -> i64
     ensures value { result ≡ pos (length_seconds (length_of duration)) }
     ensures range { result <ℤ pos (2 ^ 49) }
 {
@@ -257,14 +288,14 @@ fn seconds_of(duration: Duration) -> i64
 }
 
 /// What a line of a date-time says by its VALUE parameter (RFC 5545 3.2.20).
-enum TimeKind {
+pub(crate) enum TimeKind {
     Date,
     DateTime,
     Period,
     Other,
 }
 
-fn kind_of(line: Line<'_>) -> TimeKind
+pub(crate) fn kind_of(line: Line<'_>) -> TimeKind
     ensures { said_kind result ≡ time_kind (line_text line.entry) }
 {
     match line.param("VALUE") {
@@ -279,7 +310,7 @@ fn kind_of(line: Line<'_>) -> TimeKind
 /// The UTC time that a line spells (RFC 5545 3.3.5, form 2).
 /// Refused: 10 where the text ends in `Z` and is no UTC date-time, 11 where it is no date-time, 55 where it is a
 /// date or a floating time, 56 where VALUE is PERIOD.
-fn read_time(line: Line<'_>) -> Result<Stamp, Refusal>
+pub(crate) fn read_time(line: Line<'_>) -> Result<Stamp, Refusal>
     ensures reads { IfOk result (IsTime (line_text line.entry)) }
     ensures refuses { IfErr result (λ e. IsTrue (is_event_fault e.number)) }
     ensures stands { IfErr result (λ e. TimeFault (line_text line.entry) e.number) }
@@ -356,7 +387,7 @@ fn is_local(text: &str) -> bool
 }
 
 /// Whether a text is a date (RFC 5545 3.3.4): with midnight behind it, it is a local time.
-fn is_date(text: &str) -> bool
+pub(crate) fn is_date(text: &str) -> bool
     ensures { IsTrue result ↔ IsDateText text.now }
 {
     let octets = text.as_bytes();
@@ -420,7 +451,7 @@ fn judge_times(start: Stamp, extent: Extent) -> Result<Duration, Refusal>
     Ok(length)
 }
 
-fn judge_extent(extent: Extent) -> Result<Duration, Refusal>
+pub(crate) fn judge_extent(extent: Extent) -> Result<Duration, Refusal>
     ensures length { IfOk result (GivesLength extent) }
     ensures most { IfOk result (λ length. length_seconds (length_of length) ≤ 31_622_400) }
     ensures refuses { IfErr result (λ e. IsTrue (is_event_fault e.number)) }

@@ -1,17 +1,21 @@
-//! Events, instances and calendars.
+//! Events, instances and calendars, and starts and ends with their zones.
 #![tactic(auto)]
 
 pub mod calendar;
 pub mod component;
+mod event_times;
 pub mod instance;
 mod properties;
 mod reading;
 pub mod sweep;
 #[cfg(test)]
 mod tests;
+mod zoned;
 
 pub use calendar::{Calendar, Entry, Singles};
 pub use component::{Attendee, EventComponent, ParticipationStatus, Purpose, one_event};
+pub use event_times::{EventTimes, SaidTimes, refuse_nominal_length};
 pub use instance::{Booking, HORIZON, Instance, InstanceKey};
 pub use reading::{one_calendar, one_calendar_text, refuse_unread_events};
 pub use sweep::{Overlap, Span, first_overlap};
+pub use zoned::{ZonedTime, one_zoned_time};

@@ -1,30 +1,34 @@
 //! `expand`: the instances of one event, one line each: its original start, its start, and how many seconds it lasts.
-//! By now an event in UTC, alone in its object; RDATE, EXDATE, RECURRENCE-ID and TZID aren't read yet (99).
+//! By now an event alone in its object; RDATE, EXDATE, RECURRENCE-ID, and days in a DURATION beside a DTSTART with TZID
+//! aren't read yet (99).
 
 use crate::status::{DONE, report_device, report_memory, report_refused};
 use cal_days::Day;
-use cal_events::{EventComponent, Purpose};
+use cal_events::{
+    EventComponent, EventTimes, Purpose, SaidTimes, ZonedTime, refuse_nominal_length,
+};
 use cal_rules::{Rule, RuleText, Until};
 use ical_lines::{Fault, Limits, Line, Refusal};
 use ical_tree::{Component, read_object};
-use ical_values::Stamp;
+use ical_values::{LocalTime, Stamp};
 use itoa::Buffer;
 use std::alloc::{AllocError, Global};
 use std::io::Write;
 
-/// Seconds of a day in UTC.
+/// Seconds of a day on a clock that isn't set anew.
 const DAY: i64 = 86_400;
 
 /// Lines are handed to the writer once they have so many octets.
 const FULL: usize = 65_536;
 
+/// DTSTART isn't a day of its own rule (RFC 5545 3.8.5.3).
+const START_OUTSIDE: Refusal = Refusal { number: 34 };
+
 /// An event with all its starts.
 #[derive(Drop)]
 struct Series {
-    start: Stamp,
-    /// How long each instance lasts, in seconds.
-    seconds: i64,
-    /// None where it happens once.
+    times: EventTimes,
+    /// None where it happens once. Its days are those of DTSTART's own clock.
     rule: Option<Rule>,
 }
 
@@ -56,23 +60,23 @@ pub fn run_expand<W: Write, E: Write>(
 
 impl Series {
     /// The event of an object.
-    /// Refused: 1 to 6 and 20 to 25 for the object, 66 for no VEVENT, 99 for what isn't read yet, 61 for two
-    /// RRULEs, 30 to 33 for the rule, then as by `EventComponent::read`, and 34 for a DTSTART that its rule doesn't give.
+    /// Refused: 1 to 6 and 20 to 25 for the object, 66 for no VEVENT, 99 for what isn't read yet; then its properties in
+    /// order, UID to STATUS and ATTENDEE as by `EventComponent::read`, DTSTART, DTEND and DURATION as by `SaidTimes::read`,
+    /// 61 for two RRULEs and 30 to 33 for the rule; then 50 to 52, and 34 for a DTSTART that its rule doesn't give.
     fn read(alloc: Global, octets: &[u8]) -> Result<Series, Fault> {
         let object = read_object(alloc, octets, Limits::Message)?;
         let component = one_event(&object)?;
         refuse_unread(component)?;
+        EventComponent::judge_heading(alloc, component, Purpose::Calendar)?;
+        let said = SaidTimes::read(alloc, component, &object)?;
         let text = rule_text(alloc, component)?;
-        let event = EventComponent::read(alloc, component, Purpose::Calendar)?;
+        EventComponent::judge_attendees(alloc, component)?;
+        let times = said.judge()?;
         let rule = match text {
-            Some(text) => Some(rule_from(text, event.start)?),
+            Some(text) => Some(rule_from(text, &times.start)?),
             None => None,
         };
-        Ok(Series {
-            start: event.start,
-            seconds: event.end().saturating_sub(event.start.instant()),
-            rule,
-        })
+        Ok(Series { times, rule })
     }
 
     fn print<W: Write>(
@@ -81,27 +85,34 @@ impl Series {
         limit: usize,
         writer: &mut W,
     ) -> Result<(), PrintFault> {
-        let mut lines = Lines::new(alloc, self.seconds)?;
-        let Some(rule) = &self.rule else {
-            lines.append(self.start)?;
-            lines.hand_over(writer)?;
-            return flush(writer);
-        };
-        let second = second_of(self.start.instant());
-        let Some(first) = day_of(self.start.instant()) else {
-            return flush(writer);
-        };
-        for day in rule.days(first).take(limit) {
-            let instant = day.number().saturating_mul(DAY).saturating_add(second);
-            if let Some(start) = Stamp::of_instant(instant) {
-                lines.append(start)?;
+        let mut lines = Lines::new(alloc, i64::from(self.times.seconds))?;
+        match &self.rule {
+            Some(rule) => self.print_days(rule, limit, &mut lines, writer)?,
+            None => lines.append_instant(self.times.instant)?,
+        }
+        lines.hand_over(writer)?;
+        flush(writer)
+    }
+
+    /// The lines of the first days of the rule. The starts ascend, as two offsets of a zone lie at most 12 hours apart,
+    /// so no line follows the first start that no stamp writes: that of the year 10000.
+    fn print_days<W: Write>(
+        &self,
+        rule: &Rule,
+        limit: usize,
+        lines: &mut Lines,
+        writer: &mut W,
+    ) -> Result<(), PrintFault> {
+        let second = second_of(self.times.start.local);
+        for day in rule.days(rule.start()).take(limit) {
+            if let Some(instant) = start_on(&self.times.start, day, second) {
+                lines.append_instant(instant)?;
                 if lines.text.len() >= FULL {
                     lines.hand_over(writer)?;
                 }
             }
         }
-        lines.hand_over(writer)?;
-        flush(writer)
+        Ok(())
     }
 }
 
@@ -135,7 +146,14 @@ impl Lines {
         })
     }
 
-    /// One more instance; its original start is its start.
+    /// One more instance, if it starts before the year 10000; its original start is its start.
+    fn append_instant(&mut self, instant: i64) -> Result<(), AllocError> {
+        match Stamp::of_instant(instant) {
+            Some(start) => self.append(start),
+            None => Ok(()),
+        }
+    }
+
     fn append(&mut self, start: Stamp) -> Result<(), AllocError> {
         self.start.clear();
         start.write(&mut self.start)?;
@@ -185,18 +203,11 @@ fn refuse_unread(component: &Component) -> Result<(), Refusal> {
             return Err(Refusal::NOT_YET);
         }
     }
-    Ok(())
+    refuse_nominal_length(component)
 }
 
 fn is_unread(line: Line<'_>) -> bool {
-    if line.is_named("RDATE") || line.is_named("EXDATE") || line.is_named("RECURRENCE-ID") {
-        return true;
-    }
-    is_in_zone(line)
-}
-
-fn is_in_zone(line: Line<'_>) -> bool {
-    (line.is_named("DTSTART") || line.is_named("DTEND")) && line.param("TZID").is_some()
+    line.is_named("RDATE") || line.is_named("EXDATE") || line.is_named("RECURRENCE-ID")
 }
 
 /// What the RRULE of a VEVENT says, None where there is none.
@@ -217,39 +228,52 @@ fn rule_text(alloc: Global, component: &Component) -> Result<Option<RuleText>, F
     }
 }
 
-/// The rule of a text, for an event that starts then.
+/// The rule of a text, for an event that starts then. Its days are those of the start's own clock.
 /// Refused: 34 where the start isn't one of its days.
-fn rule_from(text: RuleText, start: Stamp) -> Result<Rule, Fault> {
-    let instant = start.instant();
-    let Some(day) = day_of(instant) else {
+fn rule_from(text: RuleText, start: &ZonedTime) -> Result<Rule, Fault> {
+    let Some(day) = day_of(start.local) else {
         return Err(Fault::Refused(Refusal::OUT_OF_DATES));
     };
-    let last = last_day(text.until(), second_of(instant)).unwrap_or(day);
-    Rule::new(text, day, last)
+    match last_day(text.until(), start) {
+        Some(last) => Rule::new(text, day, last),
+        None => Err(Fault::Refused(START_OUTSIDE)),
+    }
 }
 
-/// The last day whose start isn't past UNTIL, at this second of the day; None where that is before the year 1.
-fn last_day(until: Option<Until>, second: i64) -> Option<Day> {
+/// The last day whose start isn't past UNTIL; None where that is before the year 1.
+fn last_day(until: Option<Until>, start: &ZonedTime) -> Option<Day> {
     match until {
-        Some(until) => day_until(&until, second),
+        Some(until) => day_until(&until, start),
         None => Day::of(9999, 12, 31),
     }
 }
 
-fn day_until(until: &Until, second: i64) -> Option<Day> {
+/// A date bounds the day itself, a local time is read in the start's zone.
+fn day_until(until: &Until, start: &ZonedTime) -> Option<Day> {
     match until {
         Until::Date(day) => Some(*day),
-        Until::Local(local) => day_of(local.seconds().saturating_sub(second)),
-        Until::Utc(stamp) => day_of(stamp.instant().saturating_sub(second)),
+        Until::Local(local) => last_day_at(start, start.zone.resolve(*local)),
+        Until::Utc(stamp) => last_day_at(start, stamp.instant()),
     }
 }
 
-/// The day of an instant in UTC.
-fn day_of(instant: i64) -> Option<Day> {
-    Day::of_number(instant.div_euclid(DAY))
+/// The last day whose start isn't past an instant.
+fn last_day_at(start: &ZonedTime, until: i64) -> Option<Day> {
+    start.zone.last_day(second_of(start.local), until)
+}
+
+/// The instant at which an instance starts on a day: at that second of the day on the clock of the zone.
+fn start_on(start: &ZonedTime, day: Day, second: u32) -> Option<i64> {
+    let local = LocalTime::of_seconds(day.number() * DAY + i64::from(second))?;
+    Some(start.zone.resolve(local))
+}
+
+/// The day of a local time.
+fn day_of(local: LocalTime) -> Option<Day> {
+    Day::of_number(local.seconds().div_euclid(DAY))
 }
 
 /// The second of its day.
-fn second_of(instant: i64) -> i64 {
-    instant.rem_euclid(DAY)
+fn second_of(local: LocalTime) -> u32 {
+    local.seconds().rem_euclid(DAY) as u32
 }

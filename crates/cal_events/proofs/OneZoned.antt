@@ -1,0 +1,53 @@
+-- A line says at most one local time in one zone, and none where a fault stands in it.
+use Rattle.std.proofs.Common.{◌≡◌, ◌∙◌, sym, subst, inl, inr, ℕ, List, ℤ, codes}
+use Rattle.std.specs.Prelude.{Option, Some, None}
+use Rattle.profile.specs.Lines.{line_param, line_value}
+use Rattle.profile.specs.Trees.{Tree}
+use Rattle.profile.specs.Values.{SpellsStamp, SpellsLocal}
+use Rattle.profile.specs.Zones.{Zone}
+use Rattle.profile.specs.ZoneTexts.{SaysZone, ZoneFault}
+use Rattle.profile.specs.Events.{TimeKind, DateTime, time_kind, KindFault}
+use Rattle.profile.specs.ZonedTimes.{zone_named, SaysZoneOf, SpellsZoned, SaysZonedTime, LocalFault, NamedFault, FaultIn, ZonedTimeFault}
+
+abbrev OneStamp : Type 0
+OneStamp = (text : List ℕ) (a b : ℤ) → SpellsStamp text a → SpellsStamp text b → a ≡ b
+
+abbrev OneLocal : Type 0
+OneLocal = (text : List ℕ) (a b : ℤ) → SpellsLocal text a → SpellsLocal text b → a ≡ b
+
+abbrev OneZone : Type 0
+OneZone = (t : Tree) (a b : Zone) → SaysZone t a → SaysZone t b → a ≡ b
+
+abbrev NoFault : Type 0
+NoFault = (t : Tree) (a : Zone) (n : ℕ) → SaysZone t a → ZoneFault t n → ⊥
+
+same_zone : OneZone → (o : Option Tree) (a b : Zone) → SaysZoneOf o a → SaysZoneOf o b → a ≡ b
+same_zone f None a b h k = absurd h
+same_zone f (Some t) a b h k = f t a b h k
+
+same_spelled : OneStamp → OneLocal → OneZone → (object : Tree) (o : Option (List ℕ)) (text : List ℕ) (a b : Zone) (s t : ℤ)
+    → SpellsZoned object o text a s → SpellsZoned object o text b t → (a ≡ b) × (s ≡ t)
+same_spelled f g z object None text a b s t (e, h) (d, k) = (e ∙ sym d, f text s t h k)
+same_spelled f g z object (Some name) text a b s t (h, p) (k, q) = (same_zone z (zone_named name object) a b p q, g text s t h k)
+
+pub one : OneStamp → OneLocal → OneZone → (object : Tree) (line : List ℕ) (a b : Zone) (s t : ℤ) → SaysZonedTime object line a s → SaysZonedTime object line b t → (a ≡ b) × (s ≡ t)
+one f g z object line a b s t h k = same_spelled f g z object (line_param (codes "TZID") line) (line_value line) a b s t h.1 k.1
+
+no_named : NoFault → (o : Option Tree) (a : Zone) (n : ℕ) → SaysZoneOf o a → NamedFault o n → ⊥
+no_named f None a n h k = h
+no_named f (Some t) a n h k = f t a n h k
+
+no_local : (kind : TimeKind) (text : List ℕ) (s : ℤ) (n : ℕ) → kind ≡ DateTime → SpellsLocal text s → LocalFault kind text n → ⊥
+no_local kind text s n e h f = (subst (λ k. LocalFault k text n) e f).0 (s, h)
+
+no_stamp : (kind : TimeKind) (text : List ℕ) (s : ℤ) (n : ℕ) → kind ≡ DateTime → SpellsStamp text s → KindFault kind text n → ⊥
+no_stamp kind text s n e h f = (subst (λ k. KindFault k text n) e f).0 s h
+
+no_spelled : NoFault → (object : Tree) (o : Option (List ℕ)) (line : List ℕ) (a : Zone) (s : ℤ) (n : ℕ) → time_kind line ≡ DateTime
+    → SpellsZoned object o (line_value line) a s → FaultIn object o line n → ⊥
+no_spelled z object None line a s n k (e, h) f = no_stamp (time_kind line) (line_value line) s n k h f
+no_spelled z object (Some name) line a s n k (h, p) (inl f) = no_local (time_kind line) (line_value line) s n k h f
+no_spelled z object (Some name) line a s n k (h, p) (inr (_, _, f)) = no_named z (zone_named name object) a n p f
+
+pub or_a_fault : NoFault → (object : Tree) (line : List ℕ) (a : Zone) (s : ℤ) (n : ℕ) → SaysZonedTime object line a s → ZonedTimeFault object line n → ⊥
+or_a_fault z object line a s n h f = no_spelled z object (line_param (codes "TZID") line) line a s n h.0 h.1 f

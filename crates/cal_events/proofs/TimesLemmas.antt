@@ -1,0 +1,121 @@
+-- What DTSTART, DTEND and DURATION say, put together.
+use Rattle.std.proofs.Common.{◌≡◌, ◌∙◌, ℕ, ◌+◌, ◌*◌, ◌<◌, ◌≤◌, Bool, true, List, codes, subst, sym, refl, ap, inl, inr, arith, ℤ, pos, ◌+ℤ◌, ◌<ℤ◌, negsuc, ◌≤ℤ◌}
+use Rattle.std.specs.Prelude.{Option, Some, None, ◌⊎◌}
+use Rattle.std.proofs.lemmas.Int.{ints}
+use Rattle.profile.specs.Trees.{Tree}
+use Rattle.profile.specs.Lines.{line_value}
+use Rattle.profile.specs.Values.{SpellsNegative, SpellsLong}
+use Rattle.profile.specs.Events.{StandsAtMostOnce, SomeLine, IsLength, length_seconds, IsNoDuration, IsNegativeOrLong}
+use Rattle.profile.specs.ZonedTimes.{EventTimes, LastsSo, SaysInstant, SaysEventTimes, EventTimesFault, is_in_zone, HasDays, bad_duration, ends_early, ends_late, lasts_long, starts_early, nominal}
+use Rattle.cal_events.specs.declared.component.Extent.{Extent}
+use Rattle.cal_events.specs.declared.component.Extent.TheVariants.{ToEnd, For}
+use Rattle.cal_events.specs.declared.event_times.SaidTimes.{SaidTimes}
+use Rattle.ical_values.specs.declared.duration.Duration.{Duration}
+use Rattle.cal_zones.specs.Kinds.{zone_of}
+use Rattle.cal_events.specs.Events.{length_of, GivesLength, ExtentFault, ends_early as lies_before, ends_late as lies_late, lasts_long as is_long}
+use Rattle.cal_events.specs.Zoned.{IsExtentIn, IsExact, IsNominal, AreSaid}
+use Rattle.cal_events.proofs.EventLemmas.{some_line, IsNone, long_length}
+
+abbrev Lines : Type 0
+Lines = List (List ℕ)
+
+-- DURATION, or nothing
+long_given : (object : Tree) (lines : Lines) (start : ℤ) (d : Duration) (line : Option (List ℕ)) → StandsAtMostOnce (codes "DURATION") lines line
+    → IsLength start None line (length_of d) → 31_622_400 < length_seconds (length_of d) → EventTimesFault object lines 51
+long_given object lines start d None once is h =
+    let zero' : length_seconds (length_of d) ≡ 0 = ap length_seconds is in
+    absurd (omega arith)
+long_given object lines start d (Some line) once is h =
+    lasts_long (some_line (codes "DURATION") IsNegativeOrLong lines line once (inr (length_of d, is, h)))
+
+days_given : (object : Tree) (lines : Lines) (start : ℤ) (begin : List ℕ) (d : Duration) (line : Option (List ℕ)) → StandsAtMostOnce (codes "DTSTART") lines (Some begin)
+    → StandsAtMostOnce (codes "DURATION") lines line → IsLength start None line (length_of d) → is_in_zone begin ≡ true → 0 < d.days → EventTimesFault object lines 99
+days_given object lines start begin d None first once is zoned h =
+    let zero' : d.days ≡ 0 = ap (λ l. l.days) is in
+    absurd (omega arith)
+days_given object lines start begin d (Some line) first once is zoned h =
+    nominal (some_line (codes "DTSTART") (λ l. is_in_zone l ≡ true) lines begin first zoned) (some_line (codes "DURATION") HasDays lines line once (length_of d, is, h))
+
+pub nominal_given : (object : Tree) (lines : Lines) (start : ℤ) (begin : List ℕ) (extent : Extent) → StandsAtMostOnce (codes "DTSTART") lines (Some begin)
+    → IsExtentIn object lines start extent → IsNominal (is_in_zone begin) extent → EventTimesFault object lines 99
+nominal_given object lines start begin (ToEnd s) first x h = absurd h
+nominal_given object lines start begin (For d) first (line, none, once, is) (zoned, h) = days_given object lines start begin d line first once is zoned h
+
+-- ---- the times together
+
+seconds_lasted : (object : Tree) (in_zone : Bool) (start : ℤ) (d : Duration) (line : Option (List ℕ)) → IsLength start None line (length_of d) → (in_zone ≡ true → d.days ≡ 0)
+    → LastsSo object in_zone start None line (length_seconds (length_of d))
+seconds_lasted object in_zone start d None is exact = ap length_seconds is
+seconds_lasted object in_zone start d (Some line) is exact = (length_of d, is, exact, refl)
+
+abbrev judged : SaidTimes → Duration → EventTimes
+judged said length = record { zone = zone_of said.start.zone; local = said.start.local; start = said.instant; seconds = length_seconds (length_of length) }
+
+pub times_said : (object : Tree) (lines : Lines) (said : SaidTimes) (length : Duration) → AreSaid object lines said → GivesLength said.extent length
+    → length_seconds (length_of length) ≤ 31_622_400 → negsuc 86_399 ≤ℤ said.instant → SaysEventTimes object lines (judged said length)
+times_said object lines said length a gives most from = go said.extent a.extent a.exact gives
+  where
+    go : (extent : Extent) → IsExtentIn object lines said.instant extent → IsExact (is_in_zone a.line) extent → GivesLength extent length → SaysEventTimes object lines (judged said length)
+    go (ToEnd s) (line, once, none, time) exact (days, seconds) =
+        let n : length.seconds ≡ 86_400 * length.days + length.seconds = omega arith in
+        record {
+          line = a.line;
+          once = a.once;
+          says = a.says;
+          means = a.means;
+          end_line = Some line;
+          duration_line = None;
+          end_once = once;
+          duration_once = none;
+          lasts = subst (λ (x : ℤ). SaysInstant object line (said.instant +ℤ x)) (seconds ∙ ap pos n) time;
+          most = most;
+          from_1970 = from;
+        }
+    go (For d) (line, none, once, is) exact e = record {
+      line = a.line;
+      once = a.once;
+      says = a.says;
+      means = a.means;
+      end_line = None;
+      duration_line = line;
+      end_once = none;
+      duration_once = once;
+      lasts = subst (λ (x : Duration). LastsSo object (is_in_zone a.line) said.instant None line (length_seconds (length_of x))) (sym e) (seconds_lasted object (is_in_zone a.line) said.instant d line is exact);
+      most = most;
+      from_1970 = from;
+    }
+
+-- the instant that DTSTART says
+begins : (object : Tree) (lines : Lines) (said : SaidTimes) → AreSaid object lines said → SomeLine (codes "DTSTART") (λ line. SaysInstant object line said.instant) lines
+begins object lines said a =
+    some_line (codes "DTSTART") (λ line. SaysInstant object line said.instant) lines a.line a.once (zone_of said.start.zone, said.start.local, a.says, a.means)
+
+extent_fault : (object : Tree) (lines : Lines) (start : ℤ) (extent : Extent) (n : ℕ) → SomeLine (codes "DTSTART") (λ line. SaysInstant object line start) lines
+    → ExtentFault extent n → IsExtentIn object lines start extent → EventTimesFault object lines n
+extent_fault object lines start extent n first (lies_before s h) (line, once, none, time) =
+    let early : (start +ℤ s) <ℤ start = omega (arith, ints) in
+    ends_early (start, start +ℤ s, first, some_line (codes "DTEND") (λ l. SaysInstant object l (start +ℤ s)) lines line once time, early)
+extent_fault object lines start extent n first (lies_late s h) (line, once, none, time) =
+    let late : (start +ℤ pos 31_622_400) <ℤ (start +ℤ s) = omega (arith, ints) in
+    ends_late (start, start +ℤ s, first, some_line (codes "DTEND") (λ l. SaysInstant object l (start +ℤ s)) lines line once time, late)
+extent_fault object lines start extent n first (is_long d h) (line, none, once, is) = long_given object lines start d line once is h
+
+pub extent_judged : (object : Tree) (lines : Lines) (said : SaidTimes) (n : ℕ) → AreSaid object lines said → ExtentFault said.extent n → EventTimesFault object lines n
+extent_judged object lines said n a h = extent_fault object lines said.instant said.extent n (begins object lines said a) h a.extent
+
+pub early_judged : (object : Tree) (lines : Lines) (said : SaidTimes) → AreSaid object lines said → said.instant <ℤ negsuc 86_399 → EventTimesFault object lines 52
+early_judged object lines said a h = starts_early said.instant (begins object lines said a) h
+
+-- ---- DURATION alone
+
+pub duration_fault : (object : Tree) (lines : Lines) (line text : List ℕ) (n : ℕ) → StandsAtMostOnce (codes "DURATION") lines (Some line) → text ≡ line_value line
+    → (n ≡ 12) ⊎ (n ≡ 51) → (n ≡ 12 → IsNone text) → (n ≡ 12 → SpellsNegative text → ⊥) → (n ≡ 51 → SpellsNegative text ⊎ SpellsLong text)
+    → EventTimesFault object lines n
+duration_fault object lines line text n once e (inl k) none positive long =
+    let none' = subst IsNone e (none k) in
+    let no' = subst (λ (t : List ℕ). SpellsNegative t → ⊥) e (positive k) in
+    subst (EventTimesFault object lines) (sym k) (bad_duration (some_line (codes "DURATION") IsNoDuration lines line once (none', no')))
+duration_fault object lines line text n once e (inr k) none positive long =
+    let long' = subst (λ (t : List ℕ). SpellsNegative t ⊎ SpellsLong t) e (long k) in
+    subst (EventTimesFault object lines) (sym k)
+    (lasts_long (some_line (codes "DURATION") IsNegativeOrLong lines line once (elim long' [ inl h ↦ inl h | inr h ↦ long_length line h ])))

@@ -1,0 +1,94 @@
+-- The VTIMEZONE that a name means, among the components of an object, and what is read of it.
+use Rattle.std.proofs.Common.{◌≡◌, ◌∙◌, ap, sym, refl, subst, ℕ, Bool, true, false, cond, ◌&&◌, List, [], ◌∷◌, map, filter, codes, ℤ, pos}
+use Rattle.std.specs.Prelude.{Option, Some, None, option_map, find}
+use Rattle.ical_lines.specs.Fault.{RefusesBy}
+use Rattle.ical_lines.specs.declared.fault.Fault.{Fault}
+use Rattle.ical_lines.specs.declared.fault.Fault.TheVariants.{Refused, Memory}
+use Rattle.ical_tree.specs.Tree.{component_name, component_lines, component_children, tree_of}
+use Rattle.ical_tree.specs.declared.component.Component.{Component}
+use Rattle.ical_tree.proofs.TreeOfLemmas.{tree_of-name, tree_of-own, tree_of-inside}
+use Rattle.profile.specs.Lines.{line_param, line_value, is_same_name}
+use Rattle.profile.specs.Trees.{Tree, tree_name, tree_own}
+use Rattle.profile.specs.Zones.{Zone, Constant}
+use Rattle.profile.specs.ZoneTexts.{SaysZone, ZoneFault}
+use Rattle.profile.specs.Values.{SpellsStamp}
+use Rattle.profile.specs.Events.{TimeKind, DateTime, time_kind, IsTime, TimeFault}
+use Rattle.profile.specs.ZonedTimes.{vtimezones, has_zone_name, zone_named, SaysZoneOf, SpellsZoned, SaysZonedTime, LocalFault, NamedFault, InZoneFault, FaultIn, ZonedTimeFault}
+use Rattle.cal_events.specs.Zoned.{is_zone_called}
+
+-- ---- the first component of a name
+
+find_kept : (q : Tree → Bool) (p : Bool) (c : Component) (ts : List Tree) (y : Option Component) → find q ts ≡ option_map tree_of y
+    → find q (cond p (tree_of c ∷ ts) ts) ≡ option_map tree_of (cond (p && q (tree_of c)) (Some c) y)
+find_kept q true c ts y h = go (q (tree_of c))
+  where
+    go : (b : Bool) → cond b (Some (tree_of c)) (find q ts) ≡ option_map tree_of (cond b (Some c) y)
+    go true = refl
+    go false = h
+find_kept q false c ts y h = h
+
+find_both : (p q : Tree → Bool) (r : Component → Bool) → ((c : Component) → (p (tree_of c) && q (tree_of c)) ≡ r c) → (cs : List Component)
+    → find q (filter p (map tree_of cs)) ≡ option_map tree_of (find r cs)
+find_both p q r e [] = refl
+find_both p q r e (c ∷ cs) =
+    find_kept q (p (tree_of c)) c (filter p (map tree_of cs)) (find r cs) (find_both p q r e cs)
+    ∙ ap (λ b. option_map tree_of (cond b (Some c) (find r cs))) (e c)
+
+called : (name : List ℕ) (c : Component) → (is_same_name (tree_name (tree_of c)) (codes "VTIMEZONE") && has_zone_name name (tree_own (tree_of c))) ≡ is_zone_called name c
+called name c =
+    ap (λ n. is_same_name n (codes "VTIMEZONE") && has_zone_name name (tree_own (tree_of c))) (tree_of-name c)
+    ∙ ap (λ own. is_same_name (component_name c) (codes "VTIMEZONE") && has_zone_name name own) (tree_of-own c)
+
+-- the VTIMEZONE of a name is the first component that is one of this name
+pub zone_among : (name : List ℕ) (object : Component) → zone_named name (tree_of object) ≡ option_map tree_of (find (is_zone_called name) (component_children object))
+zone_among name object =
+    ap (λ (ts : List Tree). find (λ part. has_zone_name name (tree_own part)) (filter (λ part. is_same_name (tree_name part) (codes "VTIMEZONE")) ts)) (tree_of-inside object)
+    ∙ find_both (λ part. is_same_name (tree_name part) (codes "VTIMEZONE")) (λ part. has_zone_name name (tree_own part)) (is_zone_called name) (called name) (component_children object)
+
+-- a search goes on where the first doesn't pass, and ends where it does
+pub find_past : {A : Type 0} (p : A → Bool) (x : A) (xs ys : List A) → ys ≡ x ∷ xs → p x ≡ false → find p ys ≡ find p xs
+find_past p x xs ys e h = ap (find p) e ∙ ap (λ b. cond b (Some x) (find p xs)) h
+
+pub find_here : {A : Type 0} (p : A → Bool) (x : A) (xs ys : List A) → ys ≡ x ∷ xs → p x ≡ true → find p ys ≡ Some x
+find_here p x xs ys e h = ap (find p) e ∙ ap (λ b. cond b (Some x) (find p xs)) h
+
+-- ---- the zone that it says
+
+pub says_named : (o : Option Tree) (t : Tree) (z : Zone) → o ≡ Some t → SaysZone t z → SaysZoneOf o z
+says_named o t z e h = subst (λ (x : Option Tree). SaysZoneOf x z) (sym e) h
+
+pub fault_of_named : (o : Option Tree) (t : Tree) (n : ℕ) → o ≡ Some t → ZoneFault t n → NamedFault o n
+fault_of_named o t n e h = subst (λ (x : Option Tree). NamedFault x n) (sym e) h
+
+pub none_named : (o : Option Tree) (n : ℕ) → (n ≡ 43) × (o ≡ None) → NamedFault o n
+none_named o n h = subst (λ (x : Option Tree). NamedFault x n) (sym h.1) h.0
+
+-- ---- refusals
+
+pub weaker_fault : (f : Fault) (P Q : ℕ → Type 0) → ((n : ℕ) → P n → Q n) → RefusesBy P f → RefusesBy Q f
+weaker_fault Memory P Q g h = tt
+weaker_fault (Refused e) P Q g h = g e.number h
+
+-- ---- one line
+
+pub local_fault : (line text : List ℕ) (kind : TimeKind) (n : ℕ) → kind ≡ time_kind line → text ≡ line_value line → LocalFault kind text n
+    → LocalFault (time_kind line) (line_value line) n
+local_fault line text kind n k e f = subst (λ (x : TimeKind). LocalFault x (line_value line) n) k (subst (λ (t : List ℕ). LocalFault kind t n) e f)
+
+-- a line with TZID
+pub zoned_said : (object : Tree) (line name : List ℕ) (zone : Zone) (local : ℤ) → line_param (codes "TZID") line ≡ Some name
+    → (time_kind line ≡ DateTime) × SpellsZoned object (Some name) (line_value line) zone local → SaysZonedTime object line zone local
+zoned_said object line name zone local e h = (h.0, subst (λ (o : Option (List ℕ)). SpellsZoned object o (line_value line) zone local) (sym e) h.1)
+
+pub zoned_fault : (object : Tree) (line name : List ℕ) (n : ℕ) → line_param (codes "TZID") line ≡ Some name → InZoneFault object name (time_kind line) (line_value line) n
+    → ZonedTimeFault object line n
+zoned_fault object line name n e h = subst (λ (o : Option (List ℕ)). FaultIn object o line n) (sym e) h
+
+-- one without
+pub utc_said : (object : Tree) (line : List ℕ) (zone : Zone) (local instant : ℤ) → line_param (codes "TZID") line ≡ None → zone ≡ Constant (pos 0) → local ≡ instant
+    → IsTime line instant → SaysZonedTime object line zone local
+utc_said object line zone local instant e z l h =
+    (h.0, subst (λ (o : Option (List ℕ)). SpellsZoned object o (line_value line) zone local) (sym e) (z, subst (λ t. SpellsStamp (line_value line) t) (sym l) h.1))
+
+pub utc_fault : (object : Tree) (line : List ℕ) (n : ℕ) → line_param (codes "TZID") line ≡ None → TimeFault line n → ZonedTimeFault object line n
+utc_fault object line n e h = subst (λ (o : Option (List ℕ)). FaultIn object o line n) (sym e) h

@@ -1,0 +1,57 @@
+use Rattle.std.proofs.Common.{◌≡◌, codes, sym, subst, refl, inl, inr, arith, to_z, of_z, w64, ℤ}
+use Rattle.std.proofs.lemmas.Int.{ints}
+use Rattle.profile.specs.Zones.{Means}
+use Rattle.cal_zones.specs.Kinds.{zone_of}
+use Rattle.ical_lines.specs.Fault.{RefusesBy}
+use Rattle.ical_lines.specs.Text.{line_text}
+use Rattle.ical_tree.specs.Tree.{component_lines, tree_of}
+use Rattle.profile.specs.ZonedTimes.{EventTimesFault, ZonedTimeFault, no_start, twice, bad_start}
+use Rattle.ical_values.proofs.Exits.{err_exit}
+use Rattle.cal_events.proofs.EventLemmas.{some_line}
+use Rattle.cal_events.proofs.TimesLemmas.{nominal_given}
+use Rattle.cal_events.proofs.ZonedLemmas.{weaker_fault}
+use Rattle.cal_events.specs.Zoned.{IsNominal, IsExact}
+use Rattle.cal_events.proofs.event_times.SaidTimes.read.Goals as goal
+
+pub returns-in_err-line-clause-stands : goal.returns-in_err-line-clause-stands
+returns-in_err-line-clause-stands c =
+    let P = EventTimesFault (tree_of c.args.object.now) (component_lines c.args.component.now) in
+    err_exit _ (RefusesBy P) _ c.from_residual.ensures.1
+    (subst P (sym c.in_err-line.ensures.refuses)
+    (elim c.in_err-line.ensures.faulty [ inl h ↦ no_start h | inr h ↦ twice (codes "DTSTART") (0, omega arith, refl) h ]))
+
+pub returns-in_err-start-clause-stands : goal.returns-in_err-start-clause-stands
+returns-in_err-start-clause-stands c =
+    let object = tree_of c.args.object.now in
+    let lines = component_lines c.args.component.now in
+    let line = line_text c.in_ok-line.line in
+    let P = EventTimesFault object lines in
+    err_exit _ (RefusesBy P) _ c.from_residual-in_err-start.ensures.1
+    (weaker_fault _ (ZonedTimeFault object line) P (λ n h. bad_start (some_line (codes "DTSTART") (λ l. ZonedTimeFault object l n) lines line c.in_ok-line.ensures.found h)) c.in_err-start.ensures.stands)
+
+pub returns-in_err-extent-clause-stands : goal.returns-in_err-extent-clause-stands
+returns-in_err-extent-clause-stands c =
+    err_exit _ (RefusesBy (EventTimesFault (tree_of c.args.object.now) (component_lines c.args.component.now))) _ c.from_residual-in_err-extent.ensures.1 c.in_err-extent.ensures.stands
+
+pub returns-in_err-refuse_nominal-clause-stands : goal.returns-in_err-refuse_nominal-clause-stands
+returns-in_err-refuse_nominal-clause-stands c =
+    let object = tree_of c.args.object.now in
+    let lines = component_lines c.args.component.now in
+    let P = EventTimesFault object lines in
+    let zoned = subst (λ b. IsNominal b c.in_ok-extent.extent) c.is_in_zone.ensures c.in_err-refuse_nominal.ensures.nominal in
+    err_exit _ (RefusesBy P) _ c.from_residual-in_err-refuse_nominal.ensures.1
+    (subst P (sym c.in_err-refuse_nominal.ensures.refuses)
+    (nominal_given object lines _ (line_text c.in_ok-line.line) c.in_ok-extent.extent c.in_ok-line.ensures.found c.in_ok-extent.ensures.reads zoned))
+
+pub returns-clause-said : goal.returns-clause-said
+returns-clause-said c =
+    let start = c.in_ok-start.start in
+    let same : to_z w64 (of_z w64 c.instant-instant.result) ≡ c.instant-instant.result = omega (arith, ints, c.instant-instant.ensures.range) in
+    record {
+      line = line_text c.in_ok-line.line;
+      once = c.in_ok-line.ensures.found;
+      says = c.in_ok-start.ensures.says;
+      means = subst (λ (x : ℤ). Means (zone_of start.zone) start.local x) (sym same) c.instant-instant.ensures.meaning;
+      extent = c.in_ok-extent.ensures.reads;
+      exact = subst (λ b. IsExact b c.in_ok-extent.extent) c.is_in_zone.ensures c.in_ok-refuse_nominal.ensures.exact;
+    }

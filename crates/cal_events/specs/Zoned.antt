@@ -1,0 +1,67 @@
+-- What the readers of times in zones see of components.
+use Rattle.std.specs.Prelude.{◌≡◌, ℕ, ◌<◌, Bool, true, ◌&&◌, List, codes, Option, Some, None, ℤ, ◌+ℤ◌}
+use Rattle.ical_tree.specs.Tree.{component_name, component_lines}
+use Rattle.ical_tree.specs.declared.component.Component.{Component}
+use Rattle.profile.specs.Lines.{is_same_name}
+use Rattle.profile.specs.Trees.{Tree}
+use Rattle.profile.specs.Zones.{Means}
+use Rattle.std.specs.List.{AllZip}
+use Rattle.profile.specs.Events.{StandsAtMostOnce, IsLength, Says, SaysSequence, IsUidLine, IsAddressLine, IsStampLine, Attendee, IsAttendee, lines_named}
+use Rattle.profile.specs.ZonedTimes.{has_zone_name, is_in_zone, EventTimes, SaysZonedTime, SaysInstant}
+use Rattle.cal_zones.specs.Kinds.{zone_of}
+use Rattle.cal_events.specs.Events.{length_of}
+use Rattle.cal_events.specs.declared.component.Extent.{Extent}
+use Rattle.cal_events.specs.declared.component.Extent.TheVariants.{ToEnd, For}
+use Rattle.cal_events.specs.declared.event_times.EventTimes as rust
+use Rattle.cal_events.specs.declared.event_times.SaidTimes.{SaidTimes}
+
+-- a VTIMEZONE of this name
+abbrev pub is_zone_called : List ℕ → Component → Bool
+is_zone_called name c = is_same_name (component_name c) (codes "VTIMEZONE") && has_zone_name name (component_lines c)
+
+-- the times of a VEVENT that were read
+abbrev pub times_of : rust.EventTimes → EventTimes
+times_of t = record { zone = zone_of t.start.zone; local = t.start.local; start = t.instant; seconds = t.seconds }
+
+-- DTEND lies so many seconds from the start, or DURATION is so, or neither stands
+abbrev pub IsExtentIn : Tree → List (List ℕ) → ℤ → Extent → Type 0
+IsExtentIn object lines start (ToEnd seconds) =
+    (line : List ℕ) × StandsAtMostOnce (codes "DTEND") lines (Some line) × StandsAtMostOnce (codes "DURATION") lines None
+    × SaysInstant object line (start +ℤ seconds)
+IsExtentIn object lines start (For duration) =
+    (line : Option (List ℕ)) × StandsAtMostOnce (codes "DTEND") lines None × StandsAtMostOnce (codes "DURATION") lines line
+    × IsLength start None line (length_of duration)
+
+-- in a zone a DURATION has no days
+abbrev pub IsExact : Bool → Extent → Type 0
+IsExact in_zone (ToEnd _) = Unit {0}
+IsExact in_zone (For duration) = in_zone ≡ true → duration.days ≡ 0
+
+abbrev pub IsNominal : Bool → Extent → Type 0
+IsNominal in_zone (ToEnd _) = ⊥
+IsNominal in_zone (For duration) = (in_zone ≡ true) × (0 < duration.days)
+
+-- what DTSTART, DTEND and DURATION say
+pub record AreSaid (object : Tree) (lines : List (List ℕ)) (said : SaidTimes) : Type 0 where
+  pub line : List ℕ
+  pub once : StandsAtMostOnce (codes "DTSTART") lines (Some line)
+  pub says : SaysZonedTime object line (zone_of said.start.zone) said.start.local
+  pub means : Means (zone_of said.start.zone) said.start.local said.instant
+  pub extent : IsExtentIn object lines said.instant said.extent
+  pub exact : IsExact (is_in_zone line) said.extent
+
+-- the properties before the times are there as they have to be, and say something
+pub record SaysHeading (in_message : Bool) (lines : List (List ℕ)) : Type 0 where
+  pub uid : List ℕ
+  pub organiser : Option (List ℕ)
+  pub stamp : Option ℤ
+  pub sequence : ℕ
+  pub says_uid : Says (codes "UID") true IsUidLine lines (Some uid)
+  pub says_organiser : Says (codes "ORGANIZER") in_message IsAddressLine lines organiser
+  pub says_stamp : Says (codes "DTSTAMP") in_message IsStampLine lines stamp
+  pub says_sequence : SaysSequence lines sequence
+  pub status : (line : Option (List ℕ)) × StandsAtMostOnce (codes "STATUS") lines line
+
+-- so are the ATTENDEE lines
+abbrev pub SayAttendees : List (List ℕ) → Type 0
+SayAttendees lines = (attendees : List Attendee) × AllZip IsAttendee (lines_named (codes "ATTENDEE") lines) attendees

@@ -1,0 +1,176 @@
+//! When an event starts and how long it lasts, where DTSTART and DTEND may have TZID (RFC 5545 3.6.1): first its three
+//! properties as they are said, then all of them together. By now days in a DURATION aren't read beside a DTSTART with TZID.
+
+ghost use Rattle.std.specs.Prelude.{◌≡◌, ℕ, List, true, Some, ◌+ℤ◌, IfOk, IfErr, OnOk, IfSome};
+ghost use Rattle.ical_lines.specs.Fault.{RefusesBy};
+ghost use Rattle.ical_lines.specs.Text.{line_text};
+ghost use Rattle.ical_tree.specs.Tree.{component_lines, tree_of};
+ghost use Rattle.profile.specs.Trees.{Tree};
+ghost use Rattle.profile.specs.Events.{StandsAtMostOnce};
+ghost use Rattle.profile.specs.ZonedTimes.{is_in_zone, SaysInstant, ZonedTimeFault, HasDays, SaysEventTimes, EventTimesFault};
+ghost use Rattle.cal_zones.specs.LastDay.{IsNearEpoch};
+ghost use Rattle.cal_events.specs.Zoned.{times_of, IsExtentIn, IsExact, IsNominal, AreSaid};
+
+use crate::component::{Extent, FIRST_SECOND, judge_extent, seconds_of};
+use crate::properties::{optional, required};
+use crate::zoned::ZonedTime;
+use ical_lines::{Fault, Line, Refusal};
+use ical_tree::Component;
+use ical_values::Duration;
+use std::alloc::Global;
+
+/// The times of an event, judged together.
+#[derive(Clone, Copy, Debug)]
+pub struct EventTimes {
+    /// DTSTART.
+    pub start: ZonedTime,
+    /// The instant that DTSTART means, in seconds from 1970-01-01T00:00:00Z.
+    pub instant: i64,
+    /// How long each instance lasts in exact seconds, at most 366 days.
+    pub seconds: u32,
+}
+
+/// What DTSTART, DTEND and DURATION say, each judged alone.
+#[derive(Clone, Copy)]
+pub struct SaidTimes {
+    start: ZonedTime,
+    instant: i64,
+    extent: Extent,
+}
+
+impl SaidTimes {
+    /// Reads the start of a VEVENT of an object, and its end or its length.
+    /// Refused: 61 where DTSTART is missing, one of the three stands twice, or DTEND beside DURATION; as by
+    /// `ZonedTime::read` for the two times; 12 and 51 for DURATION; 99 for days in it beside a DTSTART with TZID.
+    pub fn read(
+        alloc: Global,
+        component: &Component,
+        object: &Component,
+    ) -> Result<SaidTimes, Fault>
+        ensures said { IfOk result (AreSaid (tree_of object.now) (component_lines component.now)) }
+        ensures stands { IfErr result (RefusesBy (EventTimesFault (tree_of object.now) (component_lines component.now))) }
+    {
+        let line = required(component, "DTSTART")?;
+        let start = ZonedTime::read(alloc, line, object)?;
+        let instant = start.instant();
+        let extent = read_extent(alloc, component, object, instant)?;
+        refuse_nominal(is_in_zone(line), extent)?;
+        Ok(SaidTimes {
+            start,
+            instant,
+            extent,
+        })
+    }
+
+    /// Judges the times together.
+    /// Refused: 50 where the event ends before it starts, 51 past 366 days, 52 where it starts before
+    /// 1969-12-31T00:00:00Z.
+    pub fn judge(self) -> Result<EventTimes, Refusal>
+        ensures says { (object : Tree) (lines : List (List ℕ)) → AreSaid object lines self
+            → IfOk result (λ times. SaysEventTimes object lines (times_of times)) }
+        ensures stands { (object : Tree) (lines : List (List ℕ)) → AreSaid object lines self
+            → IfErr result (λ e. EventTimesFault object lines e.number) }
+    {
+        let length = judge_extent(self.extent)?;
+        if self.instant < FIRST_SECOND {
+            return Err(Refusal::OUT_OF_DATES);
+        }
+        Ok(EventTimes {
+            start: self.start,
+            instant: self.instant,
+            seconds: seconds_of(length) as u32,
+        })
+    }
+}
+
+/// Refuses a VEVENT with days in its DURATION beside a DTSTART with TZID: by such days a later instance may last longer
+/// or shorter than the first. Where one of the two stands twice nothing is refused here.
+/// Refused: 99.
+pub fn refuse_nominal_length(component: &Component) -> Result<(), Refusal>
+    ensures stands { (object : Tree) → IfErr result (λ e. EventTimesFault object (component_lines component.now) e.number) }
+{
+    let Some(start) = only_line(component, "DTSTART") else {
+        return Ok(());
+    };
+    let Some(duration) = only_line(component, "DURATION") else {
+        return Ok(());
+    };
+    if is_in_zone(start) && has_days(duration) {
+        return Err(Refusal::NOT_YET);
+    }
+    Ok(())
+}
+
+/// The line of a property that stands once.
+fn only_line<'a>(component: &'a Component, name: &str) -> Option<Line<'a>>
+    ensures { IfSome result (λ line. StandsAtMostOnce name.now (component_lines component.now) (Some (line_text line))) }
+{
+    match required(component, name) {
+        Ok(line) => Some(line),
+        Err(_) => None,
+    }
+}
+
+/// Whether TZID stands on a line.
+fn is_in_zone(line: Line<'_>) -> bool
+    ensures { result ≡ is_in_zone (line_text line.entry) }
+{
+    line.param("TZID").is_some()
+}
+
+/// Whether a line is a duration with days.
+fn has_days(line: Line<'_>) -> bool
+    ensures { result ≡ true → HasDays (line_text line.entry) }
+{
+    match Duration::read(line.value()) {
+        Ok(duration) => duration.days > 0,
+        Err(_) => false,
+    }
+}
+
+/// Refuses days in a DURATION of an event whose start is in a zone.
+/// Refused: 99.
+fn refuse_nominal(in_zone: bool, extent: Extent) -> Result<(), Refusal>
+    ensures exact { OnOk result (IsExact in_zone extent) }
+    ensures refuses { IfErr result (λ e. e.number ≡ 99) }
+    ensures nominal { IfErr result (λ _. IsNominal in_zone extent) }
+{
+    match extent {
+        Extent::For(duration) if in_zone && duration.days > 0 => Err(Refusal::NOT_YET),
+        _ => Ok(()),
+    }
+}
+
+/// What DTEND or DURATION say of an event that starts at an instant.
+fn read_extent(
+    alloc: Global,
+    component: &Component,
+    object: &Component,
+    start: i64,
+) -> Result<Extent, Fault>
+    requires { IsNearEpoch start }
+    ensures reads { IfOk result (IsExtentIn (tree_of object.now) (component_lines component.now) start) }
+    ensures stands { IfErr result (RefusesBy (EventTimesFault (tree_of object.now) (component_lines component.now))) }
+{
+    let end = optional(component, "DTEND")?;
+    let duration = optional(component, "DURATION")?;
+    match (end, duration) {
+        (Some(_), Some(_)) => Err(Fault::Refused(Refusal::BAD_PROPERTY)),
+        (Some(line), None) => Ok(Extent::ToEnd(seconds_to(alloc, line, object, start)?)),
+        (None, Some(line)) => Ok(Extent::For(Duration::read(line.value())?)),
+        (None, None) => Ok(Extent::For(Duration {
+            days: 0,
+            seconds: 0,
+        })),
+    }
+}
+
+/// The seconds from an instant to the end that a line says.
+fn seconds_to(alloc: Global, line: Line<'_>, object: &Component, start: i64) -> Result<i64, Fault>
+    requires { IsNearEpoch start }
+    ensures says { IfOk result (λ seconds. SaysInstant (tree_of object.now) (line_text line.entry) (start +ℤ seconds)) }
+    ensures stands { IfErr result (RefusesBy (ZonedTimeFault (tree_of object.now) (line_text line.entry))) }
+{
+    let end = ZonedTime::read(alloc, line, object)?;
+    Ok(end.instant() - start)
+}

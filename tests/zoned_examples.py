@@ -1,0 +1,208 @@
+#!/usr/bin/env python3
+"""Makes the cases of crates/worked_examples whose DTSTART or DTEND has TZID: files `zone-*` and `zoned-*` of its `data`,
+and the lines of `cases.txt` and `stdout` after the line `# times in zones`. It is run by hand, in the top folder:
+`python3 tests/zoned_examples.py`.
+
+What must come out is written here by hand, or is what Python's zoneinfo says of the local times (with fold=0: the first of
+two, and in a gap the offset before it).
+"""
+import datetime as dt
+import pathlib
+import zoneinfo
+
+CRATE = pathlib.Path("crates/worked_examples")
+DATA = CRATE / "data"
+MARK = "# times in zones"
+
+BEGIN = ["BEGIN:VCALENDAR", "VERSION:2.0", "PRODID:-//test//EN"]
+
+
+def part(name, start, rule, offset_from, offset_to):
+    lines = ["BEGIN:" + name, "DTSTART:" + start]
+    if rule:
+        lines.append("RRULE:FREQ=YEARLY;" + rule)
+    return lines + ["TZOFFSETFROM:" + offset_from, "TZOFFSETTO:" + offset_to, "END:" + name]
+
+
+def zone(name, *parts):
+    return ["BEGIN:VTIMEZONE", "TZID:" + name] + sum(parts, []) + ["END:VTIMEZONE"]
+
+
+NOVEMBER = "BYMONTH=11;BYDAY=1SU"
+MARCH = "BYMONTH=3;BYDAY=2SU"
+STANDARD = part("STANDARD", "20071104T020000", NOVEMBER, "-0400", "-0500")
+DAYLIGHT = part("DAYLIGHT", "20070311T020000", MARCH, "-0500", "-0400")
+NEW_YORK = "America/New_York"
+
+ZONES = {
+    "new-york": zone(NEW_YORK, STANDARD, DAYLIGHT),
+    "from-1601": zone(NEW_YORK, part("STANDARD", "16010101T020000", NOVEMBER, "-0400", "-0500"),
+                      part("DAYLIGHT", "16010101T020000", MARCH, "-0500", "-0400")),
+    "with-rdate": zone(NEW_YORK, STANDARD, DAYLIGHT[:1] + ["RDATE:20250309T020000"] + DAYLIGHT[1:]),
+    "unmatched": zone(NEW_YORK, STANDARD, part("DAYLIGHT", "20070311T020000", MARCH, "-0500", "-0300")),
+    "at-once": zone(NEW_YORK, part("STANDARD", "20071104T020000", MARCH, "-0400", "-0500"), DAYLIGHT),
+    "bad-offset": zone(NEW_YORK, STANDARD, part("DAYLIGHT", "20070311T020000", MARCH, "-0500", "-4")),
+    "one-hour-east": zone(NEW_YORK, part("STANDARD", "19700101T000000", "", "+0100", "+0100")),
+    "without-parts": zone(NEW_YORK),
+    "of-another-name": zone("America/New_York2"),
+    "without-name": ["BEGIN:VTIMEZONE"] + STANDARD + ["END:VTIMEZONE"],
+    "of-two-names": zone(NEW_YORK, ["TZID:Other"], STANDARD, DAYLIGHT),
+    "escaped": zone(r"Here\, there", part("STANDARD", "19700101T000000", "", "+0545", "+0545")),
+    "lord-howe": zone("Australia/Lord_Howe",
+                      part("STANDARD", "20080406T020000", "BYMONTH=4;BYDAY=1SU", "+1100", "+1030"),
+                      part("DAYLIGHT", "20081005T020000", "BYMONTH=10;BYDAY=1SU", "+1030", "+1100")),
+}
+
+
+def starts(name, first, days, length):
+    """The lines of a start on each day by zoneinfo."""
+    tz = zoneinfo.ZoneInfo(name)
+    begin = dt.datetime.strptime(first, "%Y%m%dT%H%M%S")
+    lines = []
+    for k in range(days):
+        local = begin + dt.timedelta(days=k)
+        stamp = local.replace(tzinfo=tz, fold=0).astimezone(dt.timezone.utc).strftime("%Y%m%dT%H%M%SZ")
+        lines.append("%s %s %d" % (stamp, stamp, length))
+    return lines
+
+
+def at(*stamps, length=3600):
+    return ["%s %s %d" % (stamp, stamp, length) for stamp in stamps]
+
+
+IN = "TZID=America/New_York:"
+HOUR = "DURATION:PT1H"
+ROW_F = ["DTSTART;" + IN + "20251102T013000", HOUR]
+NOON = ["DTSTART;" + IN + "20250308T120000", HOUR]
+NOONS = ["20250308T170000Z", "20250309T160000Z", "20250310T160000Z"]
+NY = ["new-york"]
+
+# name | zones | the VEVENT's lines after UID | the lines that come out, or the number of the refusal
+CASES = [
+    ("a start in a gap is read with the offset before", NY,
+     ["DTSTART;" + IN + "20250301T023000", "DTEND;" + IN + "20250301T030000", "RRULE:FREQ=DAILY;COUNT=10"],
+     starts(NEW_YORK, "20250301T023000", 8, 1800) + at("20250309T073000Z", "20250310T063000Z", length=1800)),
+    ("a time that occurs twice means the first", NY, ROW_F, at("20251102T053000Z")),
+    ("a zone since 1601", ["from-1601"], ROW_F, at("20251102T053000Z")),
+    ("no VTIMEZONE of that name", [], ROW_F, 43),
+    ("a name that begins another is another", ["of-another-name"], ROW_F, 43),
+    ("a VTIMEZONE without TZID has no name", ["without-name"], ROW_F, 43),
+    ("of two TZIDs the first counts", ["of-two-names"], ROW_F, at("20251102T053000Z")),
+    ("and not the second", ["of-two-names"], ["DTSTART;TZID=Other:20251102T013000", HOUR], 43),
+    ("RDATE in a zone", ["with-rdate"], ROW_F, 40),
+    ("offsets that don't match", ["unmatched"], ROW_F, 41),
+    ("both parts begin at once", ["at-once"], ROW_F, 42),
+    ("an offset that is none", ["bad-offset"], ROW_F, 13),
+    ("a zone without parts", ["without-parts"], ROW_F, 40),
+    ("of two VTIMEZONEs of one name the first counts", ["new-york", "one-hour-east"], ROW_F, at("20251102T053000Z")),
+    ("so does the other where it is the first", ["one-hour-east", "new-york"], ROW_F, at("20251102T003000Z")),
+    ("the first is judged", ["without-parts", "new-york"], ROW_F, 40),
+    ("the second is not", ["new-york", "without-parts"], ROW_F, at("20251102T053000Z")),
+    ("a zone that no line names is not judged", ["of-another-name", "new-york"], ROW_F, at("20251102T053000Z")),
+    ("a zone beside a start in UTC is not judged", ["without-parts"], ["DTSTART:20250310T090000Z", HOUR],
+     at("20250310T090000Z")),
+    ("a TZID with an escaped comma", ["escaped"], ['DTSTART;TZID="Here, there":20250310T090000', HOUR],
+     at("20250310T031500Z")),
+    ("a parameter has no escapes", ["escaped"], [r'DTSTART;TZID="Here\, there":20250310T090000', HOUR], 43),
+    ("names of zones have a case", NY, ["DTSTART;TZID=america/new_york:20250310T090000", HOUR], 43),
+    ("UNTIL in UTC at the last start", NY, NOON + ["RRULE:FREQ=DAILY;UNTIL=20250310T160000Z"], at(*NOONS)),
+    ("UNTIL in UTC a second before it", NY, NOON + ["RRULE:FREQ=DAILY;UNTIL=20250310T155959Z"], at(*NOONS[:2])),
+    ("UNTIL as a local time at the last start", NY, NOON + ["RRULE:FREQ=DAILY;UNTIL=20250310T120000"], at(*NOONS)),
+    ("UNTIL as a local time a second before it", NY, NOON + ["RRULE:FREQ=DAILY;UNTIL=20250310T115959"], at(*NOONS[:2])),
+    ("UNTIL as a date bounds the local date", NY,
+     ["DTSTART;" + IN + "20250308T220000", HOUR, "RRULE:FREQ=DAILY;UNTIL=20250310"],
+     at("20250309T030000Z", "20250310T020000Z", "20250311T020000Z")),
+    ("UNTIL before the start", NY, NOON + ["RRULE:FREQ=DAILY;UNTIL=20250308T165959Z"], 34),
+    ("UNTIL in the year 1", [], ["DTSTART:20250310T090000Z", HOUR, "RRULE:FREQ=DAILY;UNTIL=00010101T000000Z"], 34),
+    ("the weekday is that of the local day", NY,
+     ["DTSTART;" + IN + "20250309T230000", HOUR, "RRULE:FREQ=WEEKLY;BYDAY=SU;COUNT=2"],
+     at("20250310T030000Z", "20250317T030000Z")),
+    ("and not that of the day in UTC", NY, ["DTSTART;" + IN + "20250309T230000", HOUR, "RRULE:FREQ=WEEKLY;BYDAY=MO"], 34),
+    ("a hundred days over a fold", NY, ["DTSTART;" + IN + "20250801T013000", HOUR, "RRULE:FREQ=DAILY"],
+     starts(NEW_YORK, "20250801T013000", 100, 3600)),
+    ("a hundred days over a fold of half an hour", ["lord-howe"],
+     ["DTSTART;TZID=Australia/Lord_Howe:20250301T014500", HOUR, "RRULE:FREQ=DAILY"],
+     starts("Australia/Lord_Howe", "20250301T014500", 100, 3600)),
+    ("a hundred days over a gap of half an hour", ["lord-howe"],
+     ["DTSTART;TZID=Australia/Lord_Howe:20250801T021500", HOUR, "RRULE:FREQ=DAILY"],
+     starts("Australia/Lord_Howe", "20250801T021500", 100, 3600)),
+    ("an end in UTC", NY, ["DTSTART;" + IN + "20251102T013000", "DTEND:20251102T063000Z"], at("20251102T053000Z")),
+    ("an end in another zone", ["new-york", "lord-howe"],
+     ["DTSTART;" + IN + "20250310T090000", "DTEND;TZID=Australia/Lord_Howe:20250311T010000"],
+     at("20250310T130000Z")),
+    ("a start in UTC and an end in a zone", NY, ["DTSTART:20251102T043000Z", "DTEND;" + IN + "20251102T013000"],
+     at("20251102T043000Z")),
+    ("the zone of an end is wanted", [], ["DTSTART:20251102T043000Z", "DTEND;" + IN + "20251102T013000"], 43),
+    ("an end in exact seconds over a fold", NY, ["DTSTART;" + IN + "20251102T003000", "DTEND;" + IN + "20251102T020000"],
+     at("20251102T043000Z", length=9000)),
+    ("a start in a gap past an end behind it", NY,
+     ["DTSTART;" + IN + "20250309T023000", "DTEND;" + IN + "20250309T030000"], 50),
+    ("366 days over two gaps are an hour less", NY,
+     ["DTSTART;" + IN + "20240309T120000", "DTEND;" + IN + "20250310T120000"],
+     at("20240309T170000Z", length=31618800)),
+    ("an hour more than 366 days", NY, ["DTSTART;" + IN + "20241027T120000", "DTEND;" + IN + "20251028T130000"], 51),
+    ("TZID beside a UTC time", NY, ["DTSTART;" + IN + "20250310T090000Z", HOUR], 11),
+    ("TZID beside no time", NY, ["DTSTART;" + IN + "20250310T250000", HOUR], 11),
+    ("TZID beside a date", NY, ["DTSTART;" + IN + "20250310", HOUR], 55),
+    ("TZID beside VALUE=DATE", NY, ["DTSTART;VALUE=DATE;" + IN + "20250310", HOUR], 55),
+    ("TZID beside VALUE=DATE and a UTC time", NY, ["DTSTART;VALUE=DATE;" + IN + "20250310T090000Z", HOUR], 11),
+    ("TZID beside VALUE=PERIOD", NY, ["DTSTART;VALUE=PERIOD;" + IN + "20250310T090000", HOUR], 56),
+    ("TZID beside VALUE=TEXT", NY, ["DTSTART;VALUE=TEXT;" + IN + "20250310T090000", HOUR], 11),
+    ("the text is judged before the zone", [], ["DTSTART;" + IN + "20250310", HOUR], 55),
+    ("the zone of a start before the text of an end", [], ["DTSTART;" + IN + "20250310T090000", "DTEND:2025"], 43),
+    ("days in a DURATION beside TZID", NY, ["DTSTART;" + IN + "20250308T120000", "DURATION:P1D"], 99),
+    ("a week in a DURATION beside TZID before any other fault", [], ["DTSTART;" + IN + "2025", "DURATION:P1W"], 99),
+    ("24 hours beside TZID", NY, ["DTSTART;" + IN + "20250308T120000", "DURATION:PT24H"],
+     at("20250308T170000Z", length=86400)),
+    ("a day beside UTC", [], ["DTSTART:20250308T170000Z", "DURATION:P1D"], at("20250308T170000Z", length=86400)),
+    ("no length beside TZID", NY, ["DTSTART;" + IN + "20250308T120000"], at("20250308T170000Z", length=0)),
+    ("the first second", NY, ["DTSTART;" + IN + "19691230T190000", HOUR], at("19691231T000000Z")),
+    ("a second before it", NY, ["DTSTART;" + IN + "19691230T185959", HOUR], 52),
+    ("no start from the year 10000 on", NY, ["DTSTART;" + IN + "99991230T190000", HOUR, "RRULE:FREQ=DAILY"],
+     at("99991231T000000Z")),
+    ("a single start in the year 10000", NY, ["DTSTART;" + IN + "99991231T190000", HOUR], []),
+    ("RRULE is judged before ATTENDEE", NY, ROW_F + ["ATTENDEE:none", "RRULE:FREQ=HOURLY"], 30),
+    ("RRULE is judged before the times together", NY,
+     ["DTSTART:20250310T090000Z", "DTEND:20250309T090000Z", "RRULE:FREQ=HOURLY"], 30),
+    ("ATTENDEE is judged before the times together", NY,
+     ["DTSTART:20250310T090000Z", "DTEND:20250309T090000Z", "ATTENDEE:none"], 15),
+    ("the times together are judged before the rule's days", NY,
+     ["DTSTART:20250310T090000Z", "DTEND:20250309T090000Z", "RRULE:FREQ=WEEKLY;BYDAY=SU"], 50),
+    ("UID is judged before RRULE", [], ["UID:b", "DTSTART:20250310T090000Z", "RRULE:FREQ=HOURLY"], 61),
+    ("DTSTART is judged before RRULE", [], ["DTSTART:20250310", "RRULE:FREQ=HOURLY"], 55),
+]
+
+
+def write(name, lines, end="\r\n"):
+    (DATA / name).write_bytes("".join(line + end for line in lines).encode())
+
+
+def main():
+    for old in list(DATA.glob("zone-*")) + list(DATA.glob("zoned-*")):
+        old.unlink()
+    write("zoned-begin", BEGIN)
+    for name, lines in ZONES.items():
+        write("zone-" + name, lines)
+    table = []
+    for number, (name, zones, lines, outcome) in enumerate(CASES, 1):
+        event = "zoned-%02d" % number
+        write(event, ["BEGIN:VEVENT", "UID:a"] + lines + ["END:VEVENT", "END:VCALENDAR"])
+        files = " ".join(["zoned-begin"] + ["zone-" + z for z in zones] + [event])
+        if isinstance(outcome, int):
+            said = "said-refused-%d" % outcome
+            (DATA / said).write_text("roombox: refused %d\n" % outcome)
+            table.append("%s | expand | %s |  | nothing | %s | 3" % (name, files, said))
+        else:
+            output = "nothing"
+            if outcome:
+                output = event + "-days"
+                write(output, outcome, "\n")
+            table.append("%s | expand | %s |  | %s | nothing | 0" % (name, files, output))
+    cases = (DATA / "cases.txt").read_text().split(MARK)[0]
+    (DATA / "cases.txt").write_text(cases + MARK + "\n" + "\n".join(table) + "\n")
+    names = [line.split("|")[0].strip() for line in (cases + "\n".join(table)).split("\n") if "|" in line and line[0] != "#"]
+    assert len(names) == len(set(names)), sorted(n for n in names if names.count(n) > 1)
+    (CRATE / "stdout").write_text("".join("ok %s\n" % name for name in names))
+
+
+main()
