@@ -24,9 +24,6 @@ use ical_values::stamp::one_stamp;
 use ical_values::{LocalTime, Stamp, Text};
 use std::alloc::{AllocError, Global};
 
-/// No VTIMEZONE of the object has the name that TZID gives (RFC 5545 3.2.19).
-const NO_ZONE: Refusal = Refusal { number: 43 };
-
 /// A local time, and the zone whose clocks show it. A UTC time is one of UTC.
 #[derive(Clone, Copy, Debug)]
 pub struct ZonedTime {
@@ -155,7 +152,7 @@ fn find_zone<'a>(alloc: Global, object: &'a Component, name: &str) -> Result<&'a
             return Ok(child);
         }
     }
-    Err(Fault::Refused(NO_ZONE))
+    Err(Fault::Refused(Refusal::NO_ZONE))
 }
 
 /// Whether a component is a VTIMEZONE of this name.

@@ -9,7 +9,6 @@ ghost use Rattle.cal_rules.specs.Refused.{IsPartFault};
 
 use crate::entries::{read_entries, read_months, read_places};
 use crate::keys::value_of;
-use crate::refusals::{BAD_PARTS, BAD_VALUE, UNKNOWN_PART};
 use crate::values::{read_count, read_frequency, read_interval, read_until, read_weekday};
 use crate::written::{Until, WeekdayNumber};
 use cal_days::Frequency;
@@ -22,10 +21,10 @@ pub(crate) fn frequency(text: &str) -> Result<Frequency, Refusal>
     ensures refuses { IfErr result (λ e. IsPartFault text.now e.number) }
 {
     let Some(value) = value_of(text, "FREQ=")? else {
-        return Err(BAD_PARTS);
+        return Err(Refusal::BAD_RULE_PARTS);
     };
     let Some(frequency) = read_frequency(value) else {
-        return Err(UNKNOWN_PART);
+        return Err(Refusal::UNKNOWN_RULE_PART);
     };
     Ok(frequency)
 }
@@ -39,7 +38,7 @@ pub(crate) fn interval(text: &str) -> Result<u16, Refusal>
         return Ok(1);
     };
     let Some(interval) = read_interval(value) else {
-        return Err(BAD_VALUE);
+        return Err(Refusal::BAD_RULE_VALUE);
     };
     Ok(interval)
 }
@@ -53,7 +52,7 @@ pub(crate) fn count(text: &str) -> Result<Option<u32>, Refusal>
         return Ok(None);
     };
     let Some(count) = read_count(value) else {
-        return Err(BAD_VALUE);
+        return Err(Refusal::BAD_RULE_VALUE);
     };
     Ok(Some(count))
 }
@@ -68,7 +67,7 @@ pub(crate) fn until(alloc: Global, text: &str) -> Result<Option<Until>, Fault>
         return Ok(None);
     };
     let Some(end) = read_until(alloc, value)? else {
-        return Err(Fault::Refused(BAD_VALUE));
+        return Err(Fault::Refused(Refusal::BAD_RULE_VALUE));
     };
     Ok(Some(end))
 }
@@ -83,7 +82,7 @@ pub(crate) fn week_start(text: &str) -> Result<u8, Refusal>
         return Ok(0);
     };
     let Some(weekday) = read_weekday(value) else {
-        return Err(BAD_VALUE);
+        return Err(Refusal::BAD_RULE_VALUE);
     };
     Ok(weekday)
 }
@@ -98,7 +97,7 @@ pub(crate) fn months(alloc: Global, text: &str) -> Result<Vec<u8>, Fault>
         return Ok(Vec::new(alloc));
     };
     let Some(months) = read_months(alloc, value)? else {
-        return Err(Fault::Refused(BAD_VALUE));
+        return Err(Fault::Refused(Refusal::BAD_RULE_VALUE));
     };
     Ok(months)
 }
@@ -113,7 +112,7 @@ pub(crate) fn month_days(alloc: Global, text: &str) -> Result<Vec<i16>, Fault>
         return Ok(Vec::new(alloc));
     };
     let Some(month_days) = read_places(alloc, 31, value)? else {
-        return Err(Fault::Refused(BAD_VALUE));
+        return Err(Fault::Refused(Refusal::BAD_RULE_VALUE));
     };
     Ok(month_days)
 }
@@ -128,7 +127,7 @@ pub(crate) fn weekdays(alloc: Global, text: &str) -> Result<Vec<WeekdayNumber>, 
         return Ok(Vec::new(alloc));
     };
     let Some(weekdays) = read_entries(alloc, value)? else {
-        return Err(Fault::Refused(BAD_VALUE));
+        return Err(Fault::Refused(Refusal::BAD_RULE_VALUE));
     };
     Ok(weekdays)
 }
@@ -143,7 +142,7 @@ pub(crate) fn positions(alloc: Global, text: &str) -> Result<Vec<i16>, Fault>
         return Ok(Vec::new(alloc));
     };
     let Some(positions) = read_places(alloc, 366, value)? else {
-        return Err(Fault::Refused(BAD_VALUE));
+        return Err(Fault::Refused(Refusal::BAD_RULE_VALUE));
     };
     Ok(positions)
 }

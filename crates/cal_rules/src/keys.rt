@@ -5,7 +5,6 @@ ghost use Rattle.profile.specs.RuleTexts.{RuleKey, key_word, after_key, values_o
 ghost use Rattle.cal_rules.specs.Views.{key_of};
 
 use crate::entries::{read_entries, read_months, read_places};
-use crate::refusals::BAD_PARTS;
 use crate::values::{read_count, read_frequency, read_interval, read_until, read_weekday};
 use ical_lines::Refusal;
 use std::alloc::{AllocError, Global};
@@ -106,7 +105,7 @@ pub(crate) fn value_of<'a>(text: &'a str, key: &str) -> Result<Option<&'a str>, 
     for part in text.split(';') {
         if let Some(value) = value_after(part, key) {
             if found.is_some() {
-                return Err(BAD_PARTS);
+                return Err(Refusal::BAD_RULE_PARTS);
             }
             found = Some(value);
         }

@@ -13,7 +13,6 @@ mod keys;
 mod place;
 mod position;
 mod read;
-mod refusals;
 mod rule;
 mod span;
 #[cfg(test)]

@@ -10,7 +10,6 @@ ghost use Rattle.cal_rules.specs.Refused.{IsPartFault, HasBadValue};
 
 use crate::fields;
 use crate::keys::{is_bad_value, is_known, split_part};
-use crate::refusals::{BAD_PARTS, BAD_VALUE, TWO_ENDS, UNKNOWN_PART};
 use crate::text::RuleText;
 use crate::written::Written;
 use ical_lines::{Fault, Refusal};
@@ -28,10 +27,10 @@ impl RuleText {
         check_values(alloc, text)?;
         let written = read_written(alloc, text)?;
         if !written.go_together() {
-            return Err(Fault::Refused(BAD_PARTS));
+            return Err(Fault::Refused(Refusal::BAD_RULE_PARTS));
         }
         if !written.has_one_end() {
-            return Err(Fault::Refused(TWO_ENDS));
+            return Err(Fault::Refused(Refusal::TWO_RULE_ENDS));
         }
         Ok(RuleText { written })
     }
@@ -51,7 +50,7 @@ fn check_known(text: &str) -> Result<(), Refusal>
 {
     for part in text.split(';') {
         if !is_known(part) {
-            return Err(UNKNOWN_PART);
+            return Err(Refusal::UNKNOWN_RULE_PART);
         }
     }
     Ok(())
@@ -65,7 +64,7 @@ fn check_values(alloc: Global, text: &str) -> Result<(), Fault>
 {
     for part in text.split(';') {
         if has_bad_value(alloc, part)? {
-            return Err(Fault::Refused(BAD_VALUE));
+            return Err(Fault::Refused(Refusal::BAD_RULE_VALUE));
         }
     }
     Ok(())

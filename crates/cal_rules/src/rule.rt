@@ -12,11 +12,10 @@ ghost use Rattle.ical_lines.specs.declared.fault.Fault.TheVariants.{Refused};
 use crate::cursor::Cursor;
 use crate::days::Days;
 use crate::facts::DayFacts;
-use crate::refusals::START_OUTSIDE;
 use crate::text::RuleText;
 use crate::written::{WeekdayNumber, Written};
 use cal_days::{Day, Frequency};
-use ical_lines::Fault;
+use ical_lines::{Fault, Refusal};
 use std::marker::Model;
 
 /// A rule from the day of DTSTART on (RFC 5545 3.8.5.3). Its days go to 9999-12-31.
@@ -64,7 +63,7 @@ impl Rule {
             end,
         };
         if !rule.holds(start) {
-            return Err(Fault::Refused(START_OUTSIDE));
+            return Err(Fault::Refused(Refusal::START_OUTSIDE_RULE));
         }
         Ok(rule)
     }

@@ -22,15 +22,6 @@ const EPOCH: i64 = 62_167_219_200;
 /// The seconds by which the offsets of a zone differ at most.
 const HALF_DAY: u32 = 43_200;
 
-/// A zone of a shape that isn't one of those accepted.
-pub(crate) const SHAPE: Refusal = Refusal { number: 40 };
-
-/// TZOFFSETFROM and TZOFFSETTO that don't match, or lie more than 12 hours apart.
-const OFFSETS: Refusal = Refusal { number: 41 };
-
-/// Onsets less than two days apart.
-const TOO_CLOSE: Refusal = Refusal { number: 42 };
-
 /// The days of a month in the shortest of its years.
 fn least_length(month: u8) -> u8
     ensures { result ≡ days_in_month 1 month }
@@ -150,10 +141,10 @@ impl Zone {
         ensures refuses { IfErr result (λ e. IsSingleFault e.number observance) }
     {
         if observance.rule.is_some() {
-            return Err(SHAPE);
+            return Err(Refusal::ZONE_SHAPE);
         }
         if observance.offset_from.abs_diff(observance.offset_to) > HALF_DAY {
-            return Err(OFFSETS);
+            return Err(Refusal::ZONE_OFFSETS);
         }
         Ok(Zone {
             kind: Kind::Single(observance),
@@ -169,16 +160,16 @@ impl Zone {
         ensures refuses { IfErr result (λ e. IsPairFault e.number standard daylight) }
     {
         let Some(first) = standard.rule else {
-            return Err(SHAPE);
+            return Err(Refusal::ZONE_SHAPE);
         };
         let Some(second) = daylight.rule else {
-            return Err(SHAPE);
+            return Err(Refusal::ZONE_SHAPE);
         };
         if !are_matched(&standard, &daylight) {
-            return Err(OFFSETS);
+            return Err(Refusal::ZONE_OFFSETS);
         }
         if !is_spaced(&standard, &daylight, first, second) {
-            return Err(TOO_CLOSE);
+            return Err(Refusal::ZONE_ONSETS);
         }
         Ok(Zone {
             kind: Kind::Pair(Pair { standard, daylight }),

@@ -18,7 +18,6 @@ ghost use Rattle.cal_zones.specs.Read.{Says, HasFault, parts_of, SomeTimesFault,
 ghost use Rattle.cal_zones.specs.Read.{SaysSingle, SingleFault, SaysBoth, BothFault};
 
 use crate::kinds::{Fixed, Kind, Zone};
-use crate::make::SHAPE;
 use crate::one_day::day_of_year;
 use crate::parts::{first_part, is_part, only_named, only_part};
 use crate::shape::{Observance, Yearly};
@@ -71,7 +70,7 @@ fn read_zone(alloc: Global, zone: &Component) -> Result<Zone, Fault>
     ensures stands { IfErr result (RefusesBy (HasFault zone.now)) }
 {
     let Some(part) = first_part(zone) else {
-        return Err(Fault::Refused(SHAPE));
+        return Err(Fault::Refused(Refusal::ZONE_SHAPE));
     };
     let first = read_times(part)?;
     if all_keep(zone, first.offset_from)? {
@@ -139,7 +138,7 @@ fn read_single(part: &Component) -> Result<Zone, Refusal>
 {
     let observance = read_times(part)?;
     if has_line(part, "RRULE") {
-        return Err(SHAPE);
+        return Err(Refusal::ZONE_SHAPE);
     }
     Zone::single(observance)
 }
@@ -152,10 +151,10 @@ fn read_pair(alloc: Global, zone: &Component) -> Result<Zone, Fault>
     ensures stands { IfErr result (RefusesBy (HasFault zone.now)) }
 {
     let Some(standard) = only_named(zone, "STANDARD") else {
-        return Err(Fault::Refused(SHAPE));
+        return Err(Fault::Refused(Refusal::ZONE_SHAPE));
     };
     let Some(daylight) = only_named(zone, "DAYLIGHT") else {
-        return Err(Fault::Refused(SHAPE));
+        return Err(Fault::Refused(Refusal::ZONE_SHAPE));
     };
     read_both(alloc, standard, daylight)
 }
@@ -202,7 +201,7 @@ fn read_year(alloc: Global, text: &str) -> Result<Yearly, Fault>
     };
     match day_of_year(&rule) {
         Some(day) => Ok(day),
-        None => Err(Fault::Refused(SHAPE)),
+        None => Err(Fault::Refused(Refusal::ZONE_SHAPE)),
     }
 }
 
@@ -212,6 +211,6 @@ fn shape_fault(fault: Fault) -> Fault
 {
     match fault {
         Fault::Memory => Fault::Memory,
-        Fault::Refused(_) => Fault::Refused(SHAPE),
+        Fault::Refused(_) => Fault::Refused(Refusal::ZONE_SHAPE),
     }
 }

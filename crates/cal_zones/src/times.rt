@@ -8,7 +8,6 @@ ghost use Rattle.profile.specs.ZoneTexts.{IsLocalLine, IsOffsetLine, SaysTimes, 
 ghost use Rattle.cal_zones.specs.Onsets.{observance_of};
 ghost use Rattle.cal_zones.specs.Read.{StartFault, OffsetFault, IsNotOne};
 
-use crate::make::SHAPE;
 use crate::shape::Observance;
 use ical_lines::{Line, Refusal};
 use ical_tree::Component;
@@ -39,7 +38,7 @@ fn line_or_none<'a>(part: &'a Component, name: &str) -> Result<Option<Line<'a>>,
     for line in part.lines() {
         if line.is_named(name) {
             if found.is_some() {
-                return Err(SHAPE);
+                return Err(Refusal::ZONE_SHAPE);
             }
             found = Some(line);
         }
@@ -53,7 +52,7 @@ pub(crate) fn the_line<'a>(part: &'a Component, name: &str) -> Result<Line<'a>, 
     ensures refuses { IfErr result (λ e. e.number ≡ 40) }
     ensures faulty { IfErr result (λ _. IsNotOne name.now (component_lines part.now)) }
 {
-    line_or_none(part, name)?.ok_or(SHAPE)
+    line_or_none(part, name)?.ok_or(Refusal::ZONE_SHAPE)
 }
 
 fn is_date_time(line: Line<'_>) -> bool
@@ -80,10 +79,10 @@ fn read_local(line: Line<'_>) -> Result<LocalTime, Refusal>
     ensures stands { IfErr result (λ e. StartFault (line_text line.entry) e.number) }
 {
     if line.param("TZID").is_some() {
-        return Err(SHAPE);
+        return Err(Refusal::ZONE_SHAPE);
     }
     if ends_in_z(line.value()) {
-        return Err(SHAPE);
+        return Err(Refusal::ZONE_SHAPE);
     }
     if !is_date_time(line) {
         return Err(Refusal::BAD_DATE_TIME);
@@ -117,7 +116,7 @@ pub(crate) fn read_times(part: &Component) -> Result<Observance, Refusal>
     ensures stands { IfErr result (λ e. TimesFault (component_lines part.now) e.number) }
 {
     if has_line(part, "RDATE") {
-        return Err(SHAPE);
+        return Err(Refusal::ZONE_SHAPE);
     }
     let start = read_start(part)?;
     let from = read_offset(part, "TZOFFSETFROM")?;

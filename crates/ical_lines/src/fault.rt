@@ -51,6 +51,24 @@ impl Refusal {
     pub const BAD_VERSION: Refusal = Refusal { number: 24 };
     /// More than 200 VEVENTs in one message; this profile's choice.
     pub const TOO_MANY_EVENTS: Refusal = Refusal { number: 25 };
+    /// A part of a rule that is unknown or left out here, or a text that isn't parts (RFC 5545 3.3.10).
+    pub const UNKNOWN_RULE_PART: Refusal = Refusal { number: 30 };
+    /// A value of a rule's part that isn't one, is out of its range, or is a list that is too long (RFC 5545 3.3.10).
+    pub const BAD_RULE_VALUE: Refusal = Refusal { number: 31 };
+    /// Parts of a rule that don't go together, a part twice, or no FREQ (RFC 5545 3.3.10).
+    pub const BAD_RULE_PARTS: Refusal = Refusal { number: 32 };
+    /// COUNT beside UNTIL (RFC 5545 3.3.10).
+    pub const TWO_RULE_ENDS: Refusal = Refusal { number: 33 };
+    /// A DTSTART that its own rule doesn't give; the standard calls that set undefined (RFC 5545 3.8.5.3).
+    pub const START_OUTSIDE_RULE: Refusal = Refusal { number: 34 };
+    /// A VTIMEZONE of a shape that isn't one of those accepted (RFC 5545 3.6.5; the shapes are this profile's choice).
+    pub const ZONE_SHAPE: Refusal = Refusal { number: 40 };
+    /// TZOFFSETFROM and TZOFFSETTO that don't match, or lie more than 12 hours apart; this profile's choice.
+    pub const ZONE_OFFSETS: Refusal = Refusal { number: 41 };
+    /// Onsets of a VTIMEZONE less than two days apart; this profile's choice.
+    pub const ZONE_ONSETS: Refusal = Refusal { number: 42 };
+    /// No VTIMEZONE of the object has the name that TZID gives (RFC 5545 3.2.19).
+    pub const NO_ZONE: Refusal = Refusal { number: 43 };
     /// DTEND before DTSTART (RFC 5545 3.8.2.2).
     pub const END_BEFORE_START: Refusal = Refusal { number: 50 };
     /// A duration past 366 days, or a negative one; this profile's choice.

@@ -21,9 +21,6 @@ const DAY: i64 = 86_400;
 /// Lines are handed to the writer once they have so many octets.
 const FULL: usize = 65_536;
 
-/// DTSTART isn't a day of its own rule (RFC 5545 3.8.5.3).
-const START_OUTSIDE: Refusal = Refusal { number: 34 };
-
 /// An event with all its starts.
 #[derive(Drop)]
 struct Series {
@@ -236,7 +233,7 @@ fn rule_from(text: RuleText, start: &ZonedTime) -> Result<Rule, Fault> {
     };
     match last_day(text.until(), start) {
         Some(last) => Rule::new(text, day, last),
-        None => Err(Fault::Refused(START_OUTSIDE)),
+        None => Err(Fault::Refused(Refusal::START_OUTSIDE_RULE)),
     }
 }
 
