@@ -1,21 +1,15 @@
 -- Durations and addresses in lower case may stand in a line: no control octet, and UTF-8.
-use Rattle.std.proofs.Common.{◌≡◌, ◌∙◌, ℕ, ℤ, ◌+◌, ◌/◌, ◌%◌, ◌^◌, ◌<◌, ◌≤◌, Bool, true, false, ◌&&◌, ◌||◌, cond, nat_eq, nat_lt, nat_le, List, [], ◌∷◌, ◌++◌, map, codes, decimal, refl, ap, arith}
+use Rattle.std.proofs.Common.{◌≡◌, ◌∙◌, ℕ, ◌^◌, ◌<◌, Bool, true, false, cond, nat_eq, List, [], ◌∷◌, ◌++◌, map, codes, decimal, refl, ap, arith}
 use Rattle.std.specs.List.{list_any, list_all}
 use Rattle.std.specs.Str.{IsUtf8, chars}
-use Rattle.std.specs.Str.Parse.{AllDigits}
 use Rattle.std.specs.Char.{to_ascii_lowercase, IsScalar, is_ascii_alphabetic}
 use Rattle.std.proofs.lemmas.Bool.{and_parts, and_from, or_from}
 use Rattle.std.proofs.lemmas.Bool.Decides.{nat_tests}
-use Rattle.std.proofs.lemmas.Fmt.{decimal_is_IsNumeral}
-use Rattle.std.proofs.lemmas.List.Folds.{list_any-append, list_all-append}
-use Rattle.std.proofs.lemmas.Str.{IsUtf8-append, IsUtf8-from_ascii, scalars-chars}
-use Rattle.std.proofs.lemmas.Str.Ascii.{IsAscii-cons, IsAscii-nil}
-use Rattle.std.proofs.lemmas.Str.Parse.{digit_from_value}
-use Rattle.std.specs.Str.{IsAscii}
+use Rattle.std.proofs.lemmas.List.Folds.{list_any-append}
+use Rattle.std.proofs.lemmas.Str.{scalars-chars}
 use lib.Utf8.{scalars}
 use Rattle.profile.specs.Lines.{is_control}
-use Rattle.profile.specs.Days.{IsDate, is_leap_year}
-use Rattle.profile.specs.Values.{two_digits, four_digits, SpellsDate, SpellsTime, WritesStamp, duration_text, IsAddress, is_scheme, is_scheme_octet, is_path_octet, lower_case}
+use Rattle.profile.specs.Values.{duration_text, IsAddress, is_scheme, is_scheme_octet, is_path_octet, lower_case}
 use Rattle.ical_values.proofs.Addresses.{lower_text, lower_address}
 use Rattle.ical_lines.proofs.CleanLines.{IsClean, is_shown, shown_append, shown_decimal}
 use Rattle.itip_messages.specs.ReadBack.{IsTextAddress}

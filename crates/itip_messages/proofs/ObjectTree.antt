@@ -8,7 +8,7 @@ use Rattle.ical_tree.proofs.OwnLines.{own_body}
 use Rattle.profile.specs.Lines.{is_same_name}
 use Rattle.profile.specs.Trees.{Tree, Trees, tree, none, more, trees_list, tree_name, tree_own, tree_inside, vevents}
 use Rattle.profile.specs.Objects.{is_property, has_version, Opens, Closes, IsObject}
-use Rattle.profile.specs.Objects.SpellsBody.{nothing, property, component}
+use Rattle.profile.specs.Objects.SpellsBody.{component}
 use Rattle.profile.specs.Messages.{method_lines, object_lines}
 
 abbrev pub Lines : Type 0

@@ -1,5 +1,5 @@
 -- Octets spell a REQUEST for at most one event, and none where a fault stands in them.
-use Rattle.std.proofs.Common.{◌≡◌, ◌∙◌, ℕ, ◌<◌, Bool, true, false, ◌&&◌, ◌||◌, List, [], ◌∷◌, length, get_or, refl, sym, ap, subst, arith, inl, inr}
+use Rattle.std.proofs.Common.{◌≡◌, ◌∙◌, ℕ, ◌<◌, Bool, true, false, ◌||◌, List, [], ◌∷◌, length, get_or, refl, sym, ap, subst, arith, inl, inr}
 use Rattle.std.specs.Prelude.{Contains, codes, nat_lt}
 use Rattle.std.specs.List.{AllZip, list_any}
 use Rattle.std.specs.Str.{bytes_eq, str_to_ascii_lowercase}
@@ -11,8 +11,8 @@ use Rattle.ical_tree.proofs.OneLine.{at_one}
 use Rattle.profile.specs.Lines.{logical_lines, line_value, is_same_name}
 use Rattle.profile.specs.Objects.{SpellsTree, IsObject, has_version, lines_have, count_inside, most_events}
 use Rattle.profile.specs.Trees.{Tree, tree_name, tree_own, tree_inside, vevents}
-use Rattle.profile.specs.Events.{Event, SaysEvent, EventFault, has_unread, lines_named}
-use Rattle.profile.specs.Messages.{SaysRequest, SpellsRequest, RequestFault, MethodFault, two_methods, bad_method, unread_method, no_method, MessageFault, in_method, in_event, not_yet, no_event, two_meetings, two_wholes, is_unread_method, is_method, are_one_meeting}
+use Rattle.profile.specs.Events.{Event, SaysEvent, EventFault, has_unread}
+use Rattle.profile.specs.Messages.{SaysRequest, SpellsRequest, MethodFault, two_methods, bad_method, unread_method, no_method, MessageFault, in_method, in_event, not_yet, no_event, two_meetings, two_wholes, is_unread_method, is_method, are_one_meeting}
 use Rattle.profile.specs.Streams.{ObjectFault}
 
 abbrev Lines : Type 0
