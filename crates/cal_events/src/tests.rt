@@ -1,6 +1,6 @@
 //! Each call that takes memory, once with enough of it. Instants by `date -u -d .. +%s`.
 
-use crate::{Calendar, EventComponent, ParticipationStatus, Purpose};
+use crate::{Calendar, EventComponent, ParticipationStatus, Purpose, SaidTimes, ZonedTime};
 use ical_lines::{Fault, Limits, Refusal};
 use ical_tree::read_object;
 use ical_values::Address;
@@ -9,6 +9,16 @@ const TEXT: &[u8] =
     b"BEGIN:VCALENDAR\r\nVERSION:2.0\r\nBEGIN:VEVENT\r\nUID:a\r\nORGANIZER:mailto:Ann@example.com\r\n\
 DTSTAMP:20250301T120000Z\r\nDTSTART:20250310T090000Z\r\nDTEND:20250310T100000Z\r\n\
 ATTENDEE;PARTSTAT=ACCEPTED:mailto:room@example.com\r\nATTENDEE;PARTSTAT=DECLINED:mailto:room@example.com\r\n\
+END:VEVENT\r\nEND:VCALENDAR\r\n";
+
+const IN_NEW_YORK: &[u8] =
+    b"BEGIN:VCALENDAR\r\nVERSION:2.0\r\nBEGIN:VTIMEZONE\r\nTZID:New York\\, NY\r\n\
+BEGIN:STANDARD\r\nDTSTART:20071104T020000\r\nRRULE:FREQ=YEARLY;BYMONTH=11;BYDAY=1SU\r\n\
+TZOFFSETFROM:-0400\r\nTZOFFSETTO:-0500\r\nEND:STANDARD\r\n\
+BEGIN:DAYLIGHT\r\nDTSTART:20070311T020000\r\nRRULE:FREQ=YEARLY;BYMONTH=3;BYDAY=2SU\r\n\
+TZOFFSETFROM:-0500\r\nTZOFFSETTO:-0400\r\nEND:DAYLIGHT\r\nEND:VTIMEZONE\r\n\
+BEGIN:VEVENT\r\nUID:a\r\nATTENDEE:mailto:room@example.com\r\n\
+DTSTART;TZID=\"New York, NY\":20250309T023000\r\nDTEND;TZID=\"New York, NY\":20250309T040000\r\n\
 END:VEVENT\r\nEND:VCALENDAR\r\n";
 
 // 2025-03-10T09:00:00Z
@@ -57,5 +67,42 @@ fn a_start_that_is_missing(rt: HostRuntime) -> Result<(), Fault> {
         read.map(|calendar| calendar.single_count()),
         Err(Fault::Refused(Refusal::BAD_PROPERTY))
     );
+    Ok(())
+}
+
+#[test]
+fn a_start_that_the_clocks_skip(rt: HostRuntime) -> Result<(), Fault> {
+    let object = read_object(rt.alloc(), IN_NEW_YORK, Limits::Open)?;
+    let mut is_judged = false;
+    for component in object.children() {
+        if component.is_named("VEVENT") {
+            EventComponent::judge_heading(rt.alloc(), component, Purpose::Calendar)?;
+            let said = SaidTimes::read(rt.alloc(), component, &object)?;
+            EventComponent::judge_attendees(rt.alloc(), component)?;
+            let times = said.judge()?;
+            // 2025-03-09T07:30:00Z, by `zoneinfo` with fold 0
+            assert_eq!(rt; (times.instant, times.seconds), (1_741_505_400, 1800));
+            is_judged = true;
+        }
+    }
+    assert!(rt; is_judged);
+    Ok(())
+}
+
+#[test]
+fn an_end_in_a_zone(rt: HostRuntime) -> Result<(), Fault> {
+    let object = read_object(rt.alloc(), IN_NEW_YORK, Limits::Open)?;
+    let mut is_read = false;
+    for component in object.children() {
+        for line in component.lines() {
+            if line.is_named("DTEND") {
+                let end = ZonedTime::read(rt.alloc(), line, &object)?;
+                // 2025-03-09T08:00:00Z
+                assert_eq!(rt; end.instant(), 1_741_507_200);
+                is_read = true;
+            }
+        }
+    }
+    assert!(rt; is_read);
     Ok(())
 }
