@@ -8,7 +8,7 @@ ghost use Rattle.ical_tree.specs.Tree.{component_lines};
 ghost use Rattle.ical_values.specs.Octets.{address_octets, text_octets};
 ghost use Rattle.profile.specs.Faults.{is_event_fault};
 ghost use Rattle.profile.specs.Values.{SpellsStamp};
-ghost use Rattle.profile.specs.Events.{Event, answer_named, answer_of, length_seconds, ends_in_z, lines_named, malformed_number, Says, SaysSequence, SaysEvent, IsUidLine, IsAddressLine, IsStampLine, IsAttendee, IsTime, IsDateText, IsLocalText, IsNoAddress, UnfixedOrMalformed, time_kind, DateTime, KindFault, TimeFault, EventFault};
+ghost use Rattle.profile.specs.Events.{Event, answer_named, answer_of, length_seconds, lines_named, malformed_number, Says, SaysSequence, SaysEvent, IsUidLine, IsAddressLine, IsStampLine, IsAttendee, IsTime, IsDateText, IsLocalText, IsNoAddress, UnfixedOrMalformed, time_kind, DateTime, KindFault, TimeFault, EventFault};
 ghost use Rattle.cal_events.specs.Events.{is_message, participation_of, attendee_of, length_of, event_of, said_kind, IsExtent, GivesLength, ExtentFault, TimesFault};
 ghost use Rattle.cal_events.specs.Zoned.{SaysHeading, SayAttendees};
 
@@ -17,7 +17,7 @@ use ical_lines::{Fault, Line, Refusal};
 use ical_tree::Component;
 use ical_values::duration::one_duration;
 use ical_values::sequence::one_sequence;
-use ical_values::stamp::one_stamp;
+use ical_values::stamp::{ends_in_z, one_stamp};
 use ical_values::{Address, Duration, LocalTime, Sequence, Stamp, Text};
 use std::alloc::Global;
 
@@ -367,15 +367,6 @@ fn malformed(text: &str) -> Refusal
         Refusal::BAD_STAMP
     } else {
         Refusal::BAD_DATE_TIME
-    }
-}
-
-fn ends_in_z(text: &str) -> bool
-    ensures { result ≡ ends_in_z text.now }
-{
-    match text.as_bytes().last() {
-        Some(octet) => *octet == b'Z',
-        None => false,
     }
 }
 

@@ -3,7 +3,7 @@
 ghost use Rattle.std.specs.Prelude.{◌≡◌, ◌⊎◌, true, false, codes, None, Some, option_map, IfOk, IfErr};
 ghost use Rattle.ical_lines.specs.Text.{line_text};
 ghost use Rattle.ical_tree.specs.Tree.{component_lines};
-ghost use Rattle.profile.specs.Events.{Says, IsMissing, StandsAtMostOnce, StandsTwice, is_date_time, ends_in_z};
+ghost use Rattle.profile.specs.Events.{Says, IsMissing, StandsAtMostOnce, StandsTwice, is_date_time};
 ghost use Rattle.profile.specs.ZoneTexts.{IsLocalLine, IsOffsetLine, SaysTimes, TimesFault};
 ghost use Rattle.cal_zones.specs.Onsets.{observance_of};
 ghost use Rattle.cal_zones.specs.Read.{StartFault, OffsetFault, IsNotOne};
@@ -11,6 +11,7 @@ ghost use Rattle.cal_zones.specs.Read.{StartFault, OffsetFault, IsNotOne};
 use crate::shape::Observance;
 use ical_lines::{Line, Refusal};
 use ical_tree::Component;
+use ical_values::stamp::ends_in_z;
 use ical_values::{LocalTime, UtcOffset};
 
 /// Does a property stand there? Names are compared caseless.
@@ -61,15 +62,6 @@ fn is_date_time(line: Line<'_>) -> bool
     match line.param("VALUE") {
         None => true,
         Some(word) => word.eq_ignore_ascii_case("DATE-TIME"),
-    }
-}
-
-fn ends_in_z(text: &str) -> bool
-    ensures { result ≡ ends_in_z text.now }
-{
-    match text.as_bytes().last() {
-        Some(octet) => *octet == b'Z',
-        None => false,
     }
 }
 

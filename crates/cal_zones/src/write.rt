@@ -1,7 +1,6 @@
 //! VTIMEZONEs as they are written (RFC 5545 3.6.5): each line folded, and ended by CRLF.
 
-ghost use Rattle.std.specs.Prelude.{◌≡◌, ◌++◌, ℕ, List, codes, string_bytes, IfOk, OnOk, OnErr};
-ghost use Rattle.std.specs.Str.{IsUtf8};
+ghost use Rattle.std.specs.Prelude.{◌≡◌, ◌++◌, ℕ, List, codes, OnOk, OnErr};
 ghost use Rattle.profile.specs.Lines.{folded};
 ghost use Rattle.profile.specs.Trees.{Tree};
 ghost use Rattle.profile.specs.Values.{IsOffset, WritesLocal, WritesOffset, escaped};
@@ -23,9 +22,10 @@ use cal_rules::one_rule;
 use ical_lines::{lines_read_back, write_line, write_property};
 use ical_values::local_time::one_local_time;
 use ical_values::offset::one_offset;
+use ical_values::shown::{escaped_text, local_text, offset_text};
 use ical_values::text::text_reads_back;
 use ical_values::{LocalTime, Text, UtcOffset};
-use std::alloc::{AllocError, Global};
+use std::alloc::AllocError;
 
 /// The index of 1970-01-01, the DTSTART of a zone of one offset.
 const FIRST_DAY: u32 = 719_528;
@@ -88,7 +88,8 @@ fn keeping(fixed: &Fixed) -> Observance
 fn write_name(out: &mut Vec<u8>, name: &str) -> Result<(), AllocError>
     ensures { OnOk result (out.new.items ≡ out.old.items ++ folded (codes "TZID:" ++ escaped name.now)) }
 {
-    let text = escaped_text(*out.allocator(), name)?;
+    let name = Text::of(*out.allocator(), name)?;
+    let text = escaped_text(*out.allocator(), &name)?;
     write_property(out, "TZID", text.as_str())?;
     Ok(())
 }
@@ -142,45 +143,6 @@ fn write_offset(out: &mut Vec<u8>, name: &str, seconds: i32) -> Result<(), Alloc
     let text = offset_text(*out.allocator(), offset)?;
     write_property(out, name, text.as_str())?;
     Ok(())
-}
-
-/// A text with its escapes.
-fn escaped_text(alloc: Global, text: &str) -> Result<String, AllocError>
-    ensures { IfOk result (λ line. string_bytes line ≡ escaped text.now) }
-{
-    let text = Text::of(alloc, text)?;
-    let mut octets = Vec::new(alloc);
-    text.write(&mut octets)?;
-    Ok(text_of(octets))
-}
-
-/// A local time, as text.
-fn local_text(alloc: Global, time: LocalTime) -> Result<String, AllocError>
-    ensures { IfOk result (λ text. WritesLocal (string_bytes text) time) }
-{
-    let mut octets = Vec::new(alloc);
-    time.write(&mut octets)?;
-    Ok(text_of(octets))
-}
-
-/// An offset, as text.
-fn offset_text(alloc: Global, offset: UtcOffset) -> Result<String, AllocError>
-    ensures { IfOk result (λ text. WritesOffset (string_bytes text) offset) }
-{
-    let mut octets = Vec::new(alloc);
-    offset.write(&mut octets)?;
-    Ok(text_of(octets))
-}
-
-/// Octets that are text.
-fn text_of(octets: Vec<u8>) -> String
-    requires { IsUtf8 octets.items }
-    ensures { string_bytes result ≡ octets.items }
-{
-    match String::from_utf8(octets) {
-        Ok(text) => text,
-        Err(_) => unreachable!(),
-    }
 }
 
 /// What is written of a zone that may be read, as some VTIMEZONE says it, reads back: the octets read as lines, and these

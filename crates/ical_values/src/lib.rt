@@ -9,6 +9,7 @@ pub mod duration;
 pub mod local_time;
 pub mod offset;
 pub mod sequence;
+pub mod shown;
 pub mod stamp;
 #[cfg(test)]
 mod tests;

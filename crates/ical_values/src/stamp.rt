@@ -3,6 +3,7 @@
 
 ghost use Rattle.std.specs.Prelude.{ℕ, List, ◌≡◌, ◌↔◌, ◌++◌, negsuc, IsSome, IfSome, ℤ, IfOk, IfErr, OnOk, OnErr};
 ghost use Rattle.profile.specs.Values.{SpellsStamp, WritesStamp, IsClockSeconds};
+ghost use Rattle.profile.specs.Events.{ends_in_z};
 ghost use Rattle.ical_values.specs.Written.{Appends};
 
 use crate::clock;
@@ -91,4 +92,14 @@ pub fn one_stamp()
     ensures form { (x y : List ℕ) (a : ℤ) → WritesStamp x a → WritesStamp y a → x ≡ y }
 {
     cal_days::one_date();
+}
+
+/// Whether a text ends as a UTC date-time does, with `Z`.
+pub fn ends_in_z(text: &str) -> bool
+    ensures { result ≡ ends_in_z text.now }
+{
+    match text.as_bytes().last() {
+        Some(octet) => *octet == b'Z',
+        None => false,
+    }
 }

@@ -217,3 +217,26 @@ fn addresses(rt: HostRuntime) -> Result<(), Fail> {
     }
     Ok(())
 }
+
+// The examples of RFC 5545 3.3.5, 3.3.14, 3.8.7.4 and 3.3.11.
+#[test]
+fn values_as_text(rt: HostRuntime) -> Result<(), Fail> {
+    let alloc = rt.alloc();
+    let stamp = shown::stamp_text(alloc, Stamp::read("19980119T070000Z")?)?;
+    assert_eq!(rt; stamp.as_str(), "19980119T070000Z");
+    let local = shown::local_text(alloc, LocalTime::read("19980118T230000")?)?;
+    assert_eq!(rt; local.as_str(), "19980118T230000");
+    let offset = shown::offset_text(alloc, UtcOffset::read("-0500")?)?;
+    assert_eq!(rt; offset.as_str(), "-0500");
+    let sequence = shown::sequence_text(alloc, Sequence::read("2")?)?;
+    assert_eq!(rt; sequence.as_str(), "2");
+    let text = Text::of(alloc, "Final Review\nConference Room, 3B; Come Prepared.")?;
+    assert_eq!(rt;
+        shown::escaped_text(alloc, &text)?.as_str(),
+        "Final Review\\nConference Room\\, 3B\\; Come Prepared."
+    );
+    assert!(rt; stamp::ends_in_z(stamp.as_str()));
+    assert!(rt; !stamp::ends_in_z(local.as_str()));
+    assert!(rt; !stamp::ends_in_z(""));
+    Ok(())
+}

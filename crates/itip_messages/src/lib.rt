@@ -5,7 +5,6 @@ pub mod law;
 pub mod message;
 mod parts;
 pub mod reply;
-mod values;
 pub mod writer;
 
 pub use law::{answers_read_back, one_request, replies_read_back};

@@ -7,9 +7,9 @@ ghost use Rattle.cal_events.specs.Calendars.{key_of as instance_key};
 ghost use Rattle.ical_values.specs.Written.{Appends};
 ghost use Rattle.itip_messages.specs.Replies.{IsConflict, IsReplyText, IsWrittenEvent, WritesEvents, WritesLines, attendee_line, busy, key_of, outcome_of, slot_of};
 
-use crate::values::stamp_text;
 use crate::writer::ObjectWriter;
 use cal_events::InstanceKey;
+use ical_values::shown::stamp_text;
 use ical_values::{Address, Sequence, Stamp, Text};
 use std::alloc::{AllocError, Global};
 

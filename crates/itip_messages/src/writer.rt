@@ -8,8 +8,8 @@ ghost use Rattle.ical_values.specs.Octets.{text_octets};
 ghost use Rattle.ical_values.specs.Written.{Appends};
 ghost use Rattle.itip_messages.specs.Replies.{IsStampLine, text_now};
 
-use crate::values::{escaped_text, sequence_text, stamp_text};
 use ical_lines::write_line;
+use ical_values::shown::{escaped_text, sequence_text, stamp_text};
 use ical_values::{Sequence, Stamp, Text};
 use std::alloc::{AllocError, Global};
 use std::marker::Model;

@@ -1,5 +1,5 @@
 use Rattle.ical_values.proofs.ShownValues.{utf8_stamp}
-use Rattle.itip_messages.proofs.values.stamp_text.Goals as goal
+use Rattle.ical_values.proofs.shown.stamp_text.Goals as goal
 
 pub text_of-requires : goal.text_of-requires
 text_of-requires c =

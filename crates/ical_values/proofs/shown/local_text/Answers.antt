@@ -1,6 +1,6 @@
 use Rattle.ical_lines.proofs.CleanLines.{clean_shown}
 use Rattle.ical_values.proofs.ShownValues.{shown_local}
-use Rattle.cal_zones.proofs.write.local_text.Goals as goal
+use Rattle.ical_values.proofs.shown.local_text.Goals as goal
 
 pub text_of-requires : goal.text_of-requires
 text_of-requires c =
