@@ -2,6 +2,7 @@
 
     python3 bench/gate_figures.py > docs/GATE.md
     python3 bench/gate_figures.py --minutes 61 > docs/GATE.md
+    python3 bench/gate_figures.py --minutes 61 --of "an earlier tree with 400 edits" > docs/GATE.md
     (time rt ci) > /tmp/ci.log 2>&1; python3 bench/gate_figures.py --log /tmp/ci.log > docs/GATE.md
 
 The processor minutes of the gate come from --minutes, or from a log of the gate under `time`: its lines `user` and `sys` are
@@ -66,9 +67,10 @@ def measured(given):
             sys.exit(f"{given.log}: no `user` and `sys` lines; run the gate as (time rt ci) > LOG 2>&1")
     if minutes is None:
         return "Processor time of the gate: not measured. Measure it with `(time rt ci) > LOG 2>&1`; it is user and sys together."
+    of = f" Measured on {given.of}." if given.of else ""
     return (
         f"Processor time of the gate: {minutes:.0f} minutes, user and sys together, of `(time rt ci)` at the top of the repository: "
-        "every proof from nothing, each must-fail edit, the tests and the programs."
+        f"every proof from nothing, each must-fail edit, the tests and the programs.{of}"
     )
 
 
@@ -80,6 +82,7 @@ def main():
     parser = argparse.ArgumentParser(description=__doc__.splitlines()[0])
     parser.add_argument("--minutes", type=float, help="the gate's processor minutes")
     parser.add_argument("--log", help="a log of `(time rt ci)`")
+    parser.add_argument("--of", help="the tree that was measured, where it isn't this one")
     given = parser.parse_args()
     names = [line.split(":")[0].split()[0] for line in (ROOT / "crates.txt").read_text().splitlines() if line.split("#")[0].strip()]
     table = {name: figures(ROOT / "crates" / name) for name in names}
