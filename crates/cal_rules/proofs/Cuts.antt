@@ -1,5 +1,5 @@
 -- A text that is cut at an ASCII character, piece after piece.
-use Rattle.std.proofs.Common.{◌≡◌, ◌∙◌, refl, sym, ap, subst, ℕ, ◌<◌, Bool, true, ◌==◌, List, [], ◌∷◌, Option, None, Some}
+use Rattle.std.proofs.Common.{◌≡◌, sym, subst, ℕ, ◌<◌, true, ◌==◌, List, [], ◌∷◌, Option, None, Some}
 use denote.Ref.{Bor}
 use Rattle.std.specs.declared.str.Split.{Split}
 use Rattle.std.specs.Iterator.{AlwaysYields}

@@ -4,6 +4,7 @@ pub mod Lists
 pub mod Tomorrow
 pub mod Periods
 pub mod Positions
+pub mod Places
 pub mod Strides
 pub mod Cursors
 pub mod Cuts

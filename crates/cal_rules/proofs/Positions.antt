@@ -32,7 +32,7 @@ count_step test from day h =
     let k : from + (day - from) ≡ day = omega arith in
     rw e (rw k refl)
 
-count_split : (test : ℕ → Bool) (from a b : ℕ) → count_days test from (a + b) ≡ count_days test from a + count_days test (from + a) b
+pub count_split : (test : ℕ → Bool) (from a b : ℕ) → count_days test from (a + b) ≡ count_days test from a + count_days test (from + a) b
 unfolding count_days
 count_split test from a zero = let e : a + 0 ≡ a = omega arith in rw e (omega arith)
 count_split test from a (suc b) =

@@ -1,4 +1,4 @@
--- The day after a day, in the same month.
+-- The day after a day, and the day before it, in the same month.
 use Rattle.std.proofs.Common.{◌≡◌, ◌∙◌, sym, ℕ, suc, ◌+◌, ◌-◌, ◌%◌, ◌<◌, ◌≤◌, arith}
 use Rattle.profile.specs.Days.{days_in_month, year_of, month_of, weekday_of, month_days_before, month_days_after, year_days_before, year_days_after}
 use Rattle.cal_days.proofs.Dates.{Named, named, date_counts, in_month, in_year, month_length_max, month_range, year_begins, year_length_max}
@@ -110,3 +110,48 @@ facts_on f h more few =
       year_after = rw h.year_after (sym k.year_after);
       ranges = (omega arith, omega (arith, h.month_before, k.month_before, r.month_before), omega arith, omega (arith, h.year_before, k.year_before, r.year_before), omega arith);
     }
+
+-- where the day isn't the first of its month, that of the day before goes on
+pub month_went_on : (n : ℕ) → 1 ≤ n → 1 ≤ month_days_before n → 1 ≤ month_days_after (n - 1)
+month_went_on n low h =
+    let k = same_month n (n - 1) (omega arith) (omega arith) in
+    let left = rw (k.year, k.month) at (month_left (n - 1)) in
+    omega (arith, k.day, left, month_has n)
+
+pub facts_back : (f : DayFacts) → AreFacts f → 1 ≤ f.month_before → 367 ≤ f.index → AreFacts (record { index = f.index - 1; weekday = (f.weekday + 6) % 7; month = f.month; month_before = f.month_before - 1; month_after = f.month_after + 1; year_before = f.year_before - 1; year_after = f.year_after + 1 })
+facts_back f h more low =
+    let m = f.index - 1 in
+    let on : m + 1 ≡ f.index = omega arith in
+    let went : 1 ≤ month_days_after m = month_went_on f.index (omega arith) (omega (arith, h.month_before)) in
+    let k = next m went in
+    let left = year_goes_on m went in
+    let r = ranges m in
+    let weekday : weekday_of f.index ≡ (weekday_of m + 1) % 7 = rw on at k.weekday in
+    let month : month_of f.index ≡ month_of m = rw on at k.month in
+    let month_before : month_days_before f.index ≡ month_days_before m + 1 = rw on at k.month_before in
+    let month_after : month_days_after f.index ≡ month_days_after m - 1 = rw on at k.month_after in
+    let year_before : year_days_before f.index ≡ year_days_before m + 1 = rw on at k.year_before in
+    let year_after : year_days_after f.index ≡ year_days_after m - 1 = rw on at k.year_after in
+    let high = h.day in
+    let before : f.month_before - 1 ≡ month_days_before m = omega (arith, h.month_before, month_before) in
+    let after : f.month_after + 1 ≡ month_days_after m = omega (arith, h.month_after, month_after, went) in
+    let year_first : f.year_before - 1 ≡ year_days_before m = omega (arith, h.year_before, year_before) in
+    let year_left : f.year_after + 1 ≡ year_days_after m = omega (arith, h.year_after, year_after, left) in
+    record {
+      day = (omega arith, omega arith);
+      weekday = omega (arith, h.weekday, weekday, r.weekday);
+      month = h.month ∙ month;
+      month_before = before;
+      month_after = after;
+      year_before = year_first;
+      year_after = year_left;
+      ranges = (omega arith, omega (arith, before, r.month_before), omega (arith, after, r.month_after), omega (arith, year_first, r.year_before), omega (arith, year_left, r.year_after));
+    }
+
+-- and so does its year
+pub year_went_on : (n : ℕ) → 1 ≤ n → 1 ≤ month_days_before n → 1 ≤ year_days_before n
+year_went_on n low h =
+    let on : n - 1 + 1 ≡ n = omega arith in
+    let k = next (n - 1) (month_went_on n low h) in
+    let before : year_days_before n ≡ year_days_before (n - 1) + 1 = rw on at k.year_before in
+    omega (arith, before)

@@ -1,18 +1,30 @@
 -- Where a listing of the days of a rule stands.
-use Rattle.std.specs.Prelude.{◌≡◌, ℕ, ◌-◌, ◌<◌, ◌≤◌, true, false}
+use Rattle.std.specs.Prelude.{◌≡◌, ℕ, ◌-◌, ◌<◌, ◌≤◌, Bool, true, false, nat_lt, ℤ, pos, negsuc}
+use Rattle.std.specs.List.{list_any}
 use Rattle.profile.specs.Rules.{Pattern, Parts, passes, count_days, is_in_step, is_missing}
 use Rattle.cal_rules.specs.declared.cursor.Cursor.{Cursor}
 use Rattle.cal_rules.specs.Known.{AreFacts}
 use Rattle.cal_rules.specs.Spans.{IsSpan}
 use Rattle.cal_rules.specs.Counted.{IsFirstIn, IsNextCounted, is_chosen}
 
--- the days are those of the period of the day, which is in step; where BYSETPOS is written, so many of them pass each part
--- before the day, and so many from it on
+-- a set position counts from the first day, not from the last
+abbrev pub is_from_first : ℤ → Bool
+is_from_first (pos _) = true
+is_from_first (negsuc _) = false
+
+-- a set position lies among so many last ones
+abbrev pub is_among_last : ℕ → ℤ → Bool
+is_among_last depth (pos _) = false
+is_among_last depth (negsuc n) = nat_lt n depth
+
+-- the days are those of the period of the day, which is in step; where BYSETPOS is written, so many of them pass each part from
+-- the day on, and at least so many before it: exactly so many, where a set position counts from the first day
 pub record IsInside (p : Pattern) (c : Cursor) : Type 0 where
   pub facts : AreFacts c.day
   pub period : IsSpan p.frequency p.week_start c.day.index c.span.first c.span.end
   pub in_step : is_in_step p c.day.index ≡ true
-  pub earlier : is_missing p.positions ≡ false → c.earlier ≡ count_days (passes p) c.span.first (c.day.index - c.span.first)
+  pub earlier : is_missing p.positions ≡ false → c.earlier ≤ count_days (passes p) c.span.first (c.day.index - c.span.first)
+  pub exact : list_any is_from_first p.positions ≡ true → c.earlier ≡ count_days (passes p) c.span.first (c.day.index - c.span.first)
   pub later : is_missing p.positions ≡ false → c.later ≡ count_days (passes p) c.day.index (c.span.end - c.day.index)
 
 -- it stands in its period, or where that ends

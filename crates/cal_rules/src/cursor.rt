@@ -12,9 +12,9 @@ pub(crate) struct Cursor {
     pub day: DayFacts,
     /// The days of its period.
     pub span: Span,
-    /// How many days of the period before it pass each part. Counted where BYSETPOS is written.
+    /// How many days of the period before it pass each part. Counted where an entry of BYSETPOS counts from the first day.
     pub earlier: u32,
-    /// How many from it on do.
+    /// How many from it on do. Counted where BYSETPOS is written.
     pub later: u32,
 }
 

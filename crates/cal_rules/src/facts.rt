@@ -1,6 +1,6 @@
-//! What the parts of a rule ask of a day: looked up once a month, and counted on from day to day.
+//! What the parts of a rule ask of a day: looked up once a month, and counted on from day to day, or back.
 
-ghost use Rattle.std.specs.Prelude.{◌≡◌, ◌+◌, ◌<◌, ◌≤◌};
+ghost use Rattle.std.specs.Prelude.{◌≡◌, ◌+◌, ◌-◌, ◌<◌, ◌≤◌};
 ghost use Rattle.profile.specs.Days.{day_index};
 ghost use Rattle.cal_rules.specs.Known.{AreFacts};
 
@@ -63,7 +63,7 @@ impl DayFacts {
             return DayFacts { index: end, ..self };
         }
         if self.month_after == 0 {
-            return first_of_month(self.index + 1);
+            return looked_up(self.index + 1);
         }
         DayFacts {
             index: self.index + 1,
@@ -75,10 +75,31 @@ impl DayFacts {
             year_after: self.year_after - 1,
         }
     }
+
+    /// Those of the day before it.
+    pub fn yesterday(self) -> DayFacts
+        requires facts { AreFacts self }
+        requires range { 367 ≤ self.index }
+        ensures index { result.index ≡ self.index - 1 }
+        ensures facts { AreFacts result }
+    {
+        if self.month_before == 0 {
+            return looked_up(self.index - 1);
+        }
+        DayFacts {
+            index: self.index - 1,
+            weekday: (self.weekday + 6) % 7,
+            month: self.month,
+            month_before: self.month_before - 1,
+            month_after: self.month_after + 1,
+            year_before: self.year_before - 1,
+            year_after: self.year_after + 1,
+        }
+    }
 }
 
 /// Those of the day of an index, looked up.
-fn first_of_month(index: u32) -> DayFacts
+pub(crate) fn looked_up(index: u32) -> DayFacts
     requires { (366 ≤ index) × (index ≤ 3_653_155) }
     ensures index { result.index ≡ index }
     ensures facts { AreFacts result }

@@ -9,6 +9,7 @@ mod days;
 mod entries;
 mod facts;
 mod fields;
+mod from_end;
 mod keys;
 mod place;
 mod position;

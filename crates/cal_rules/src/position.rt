@@ -11,10 +11,10 @@ ghost use Rattle.cal_rules.specs.Standing.{StandsAt, IsPastFirst};
 
 use crate::base::allows_nth;
 use crate::cursor::Cursor;
-use crate::facts::DayFacts;
+use crate::facts::{DayFacts, looked_up};
+use crate::from_end::depth_from_end;
 use crate::span::Span;
 use crate::written::Written;
-use cal_days::Day;
 
 impl Written {
     /// How many days from that one on and before the end pass each part.
@@ -45,19 +45,20 @@ impl Written {
         if span.first == day.index {
             return 0;
         }
-        let first = DayFacts::of(Day::at_index(span.first).unwrap());
+        let first = looked_up(span.first);
         self.count_passing(start, first, day.index)
     }
 
-    /// The cursor at a day whose period is in step.
+    /// The cursor at a day whose period is in step; or at a later one, where no day before that has a set position.
     fn enter(&self, start: DayFacts, day: DayFacts, span: Span) -> Cursor
         requires start { AreFacts start }
         requires day { AreFacts day }
         requires end { span.end ≤ 3_653_155 }
         requires span { IsSpan (frequency_of self.now.frequency) self.now.week_start day.index span.first span.end }
         requires in_step { is_in_step (pattern_of self.now start.index) day.index ≡ true }
-        ensures day { result.day ≡ day }
+        ensures not_before { day.index ≤ result.day.index }
         ensures span { result.span ≡ span }
+        ensures none { NoneIn (is_chosen (pattern_of self.now start.index)) day.index result.day.index }
         ensures stands { StandsAt (pattern_of self.now start.index) result }
     {
         if self.positions.is_empty() {
@@ -67,6 +68,9 @@ impl Written {
                 earlier: 0,
                 later: 0,
             };
+        }
+        if let Some(depth) = depth_from_end(&self.positions) {
+            return self.enter_from_end(start, day, span, depth);
         }
         Cursor {
             day,
