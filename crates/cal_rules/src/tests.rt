@@ -328,6 +328,36 @@ fn days_over_periods(rt: HostRuntime) -> Result<(), Fail> {
             "20250406 end",
         ),
         (
+            "FREQ=MONTHLY;BYDAY=MO,WE,FR;BYSETPOS=-3,-1",
+            20250127,
+            20250127,
+            "20250127 20250131 20250224 20250228 20250326 20250331 20250425 20250430",
+        ),
+        (
+            "FREQ=MONTHLY;BYDAY=MO,WE,FR;BYSETPOS=-3,-1",
+            20250127,
+            20250228,
+            "20250228 20250326 20250331 20250425 20250430",
+        ),
+        (
+            "FREQ=YEARLY;INTERVAL=3;BYMONTH=2,11;BYMONTHDAY=28,29,30;BYSETPOS=-2,-5",
+            20231129,
+            20231129,
+            "20231129 20261129 20291129 20320228 20321129 20351129 20381129 20411129",
+        ),
+        (
+            "FREQ=WEEKLY;INTERVAL=2;WKST=SU;BYDAY=SU,MO,WE,FR;BYSETPOS=-4",
+            20250105,
+            20250105,
+            "20250105 20250119 20250202 20250216 20250302",
+        ),
+        (
+            "FREQ=MONTHLY;COUNT=4;BYDAY=5MO,5TU;BYSETPOS=-1",
+            20250331,
+            20250331,
+            "20250331 20250429 20250630 20250729 end",
+        ),
+        (
             "FREQ=DAILY;INTERVAL=3;BYMONTH=1,2",
             20250101,
             20250125,
