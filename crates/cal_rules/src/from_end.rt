@@ -32,7 +32,8 @@ fn are_among_last(depth: u32, positions: &[i16]) -> bool
         .all(|position| is_among_last(depth, *position))
 }
 
-/// Among how many last ones all the positions lie. None where one counts from the first day, and where there is none.
+/// Among how many last ones all the positions lie. None where one counts from the first day, and where there is none;
+/// then the whole period is counted, which is always right and takes longer.
 pub(crate) fn depth_from_end(positions: &[i16]) -> Option<u32>
     ensures { IfSome result (λ depth. list_all (is_among_last depth) positions.now ≡ true) }
 {
