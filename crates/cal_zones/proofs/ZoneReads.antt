@@ -14,13 +14,12 @@ use Rattle.profile.specs.Events.{BothOrNeither}
 use Rattle.profile.specs.RuleTexts.{SpellsRule, RuleFault}
 use Rattle.profile.specs.Zones.{Zone, Constant, Single, Pair, Observance}
 use Rattle.profile.specs.ZoneTexts.{parts_by, is_part, is_standard, is_daylight, SaysTimes, SaysOnce, SaysYearly, IsYearLine, OffsetsDiffer, HasForm, PartsSay, SaysZone, Keeps, AreMatched, AreSpaced, is_plain_yearly, are_only, names_days, is_each_year, constant, single, pair}
-use Rattle.profile.specs.WrittenZones.{WritesPart, WritesParts, IsZoneText, component_lines, keeping}
+use Rattle.profile.specs.WrittenZones.{WritesPart, WritesParts, IsZoneText, IsTextName, ReadsAsZone, component_lines, keeping}
 use Rattle.ical_lines.proofs.CleanLines.{IsClean, fixed}
 use Rattle.ical_values.proofs.EscapedText.{utf8_escaped, escaped_calm}
 use Rattle.ical_tree.proofs.TreeOfLemmas.{BodyT}
 use Rattle.ical_tree.proofs.OwnLines.{own_body}
 use Rattle.ical_tree.proofs.OneLine.{at_one}
-use Rattle.cal_zones.specs.Written.{IsTextName, ReadsAsZone}
 use Rattle.cal_zones.proofs.OneZone.{OneLocal, OneOffset, OneRule, AreParts, tree_parts, all_differ}
 use Rattle.cal_zones.proofs.WrittenParts.{Lines, LocalBack, OffsetBack, part_times, part_once, part_yearly, name_line, IsRuled, unruled, ruled, part_content, part_properties}
 

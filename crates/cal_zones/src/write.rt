@@ -8,11 +8,11 @@ ghost use Rattle.profile.specs.Zones as zones;
 ghost use Rattle.profile.specs.Zones.{local_time};
 ghost use Rattle.profile.specs.ZoneTexts.{SaysZone};
 ghost use Rattle.profile.specs.Kept.{written};
-ghost use Rattle.profile.specs.WrittenZones.{rule_lines, keeping, WritesParts, WritesZone, IsZoneText};
+ghost use Rattle.profile.specs.WrittenZones.{rule_lines, keeping, WritesParts, WritesZone, IsZoneText, IsTextName, ReadsAsZone};
 ghost use Rattle.ical_values.specs.Written.{Appends};
 ghost use Rattle.cal_zones.specs.Onsets.{observance_of};
 ghost use Rattle.cal_zones.specs.Kinds.{zone_of};
-ghost use Rattle.cal_zones.specs.Written.{AppendsLines, IsPartText, IsLineOf, IsTextName, ReadsAsZone};
+ghost use Rattle.cal_zones.specs.Written.{AppendsLines, IsPartText, IsLineOf};
 
 use crate::kinds::{Fixed, Kind, Zone};
 use crate::last::local_seconds;

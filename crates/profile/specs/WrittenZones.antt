@@ -1,11 +1,18 @@
--- VTIMEZONEs as they are written (RFC 5545 3.6.5). The order of the lines, and which date stands where a zone needs none, are this
--- profile's choice.
-use Rattle.std.specs.Prelude.{◌≡◌, ℕ, List, [], ◌∷◌, ◌++◌, map, codes, decimal, Option, Some, None, ℤ}
+-- VTIMEZONEs as they are written (RFC 5545 3.6.5), and what they read back as. The order of the lines, and which date stands where a
+-- zone needs none, are this profile's choice.
+use Rattle.std.specs.Prelude.{◌≡◌, ℕ, suc, true, false, not, ◌||◌, ◌==◌, List, [], ◌∷◌, ◌++◌, map, codes, decimal, Option, Some, None, ℤ}
+use Rattle.std.specs.List.{list_all}
+use Rattle.std.specs.Str.{IsUtf8}
 use Rattle.std.specs.Fmt.{signed_decimal}
-use Rattle.profile.specs.Values.{WritesLocal, WritesOffset, escaped}
+use Rattle.profile.specs.Lines.{is_control, line_value, logical_lines, reads_as_lines}
+use Rattle.profile.specs.Objects.{SpellsTree}
+use Rattle.profile.specs.Trees.{Tree, tree_name, tree_own, tree_inside}
+use Rattle.profile.specs.Values.{WritesLocal, WritesOffset, escaped, unescaped}
+use Rattle.profile.specs.Events.{Says}
 use Rattle.profile.specs.Rules.{Pattern}
 use Rattle.profile.specs.RuleTexts.{listed, entry_text}
 use Rattle.profile.specs.Zones.{Observance, Zone, Constant, Single, Pair, local_time}
+use Rattle.profile.specs.ZoneTexts.{SaysZone}
 use Rattle.profile.specs.Kept.{written}
 
 -- the RRULE of an observance, where it has one: FREQ=YEARLY, BYMONTH, BYMONTHDAY and BYDAY, as their lists stand
@@ -52,3 +59,23 @@ WritesZone lines name zone =
 -- the octets are those lines, folded
 abbrev pub IsZoneText : List ℕ → List ℕ → Zone → Type 0
 IsZoneText octets name zone = (lines : List (List ℕ)) × WritesZone lines name zone × (octets ≡ written lines)
+
+-- ---- what they read back as
+
+-- a text that a TEXT value can stand for: UTF-8, with no control octet but TAB and LF (RFC 5545 3.3.11)
+pub record IsTextName (name : List ℕ) : Type 0 where
+  pub calm : list_all (λ c. (c == 10) || not (is_control c)) name ≡ true
+  pub utf8 : IsUtf8 name
+
+-- the value of the line stands for this name
+abbrev pub IsNameLine : List ℕ → List ℕ → Type 0
+IsNameLine line name = unescaped (line_value line) ≡ name
+
+-- the octets read as the lines of one VTIMEZONE of this name that says this zone, however deep others may stand in it
+pub record ReadsAsZone (octets name : List ℕ) (zone : Zone) : Type 0 where
+  pub reads : reads_as_lines false octets ≡ true
+  pub tree : Tree
+  pub kind : tree_name tree ≡ codes "VTIMEZONE"
+  pub spelled : (depth : ℕ) → SpellsTree tree_name tree_own tree_inside (suc depth) tree (logical_lines octets)
+  pub named : Says (codes "TZID") true IsNameLine (tree_own tree) (Some name)
+  pub says : SaysZone tree zone
