@@ -6,9 +6,9 @@ ghost use Rattle.ical_lines.specs.Fault.{RefusesBy};
 ghost use Rattle.ical_lines.specs.Text.{line_text};
 ghost use Rattle.ical_tree.specs.Tree.{component_lines, tree_of};
 ghost use Rattle.profile.specs.Trees.{Tree};
+ghost use Rattle.profile.specs.Zones.{IsNearEpoch};
 ghost use Rattle.profile.specs.Events.{StandsAtMostOnce};
 ghost use Rattle.profile.specs.ZonedTimes.{is_in_zone, SaysInstant, ZonedTimeFault, HasDays, SaysEventTimes, EventTimesFault};
-ghost use Rattle.cal_zones.specs.LastDay.{IsNearEpoch};
 ghost use Rattle.cal_events.specs.Zoned.{times_of, IsExtentIn, IsExact, IsNominal, AreSaid};
 
 use crate::component::{Extent, FIRST_SECOND, judge_extent, seconds_of};

@@ -3,9 +3,7 @@ use Rattle.std.proofs.Common.{inl, inr, ℕ, ◌+◌, ◌<◌, ◌≤◌, arith,
 use Rattle.std.specs.Int.Signed.{◌<ℤ◌}
 use Rattle.std.proofs.lemmas.Bool.{cases_order}
 use Rattle.jiff_core.proofs.SignedLemmas.{signed_arith}
-use Rattle.profile.specs.Zones.{Zone, Means, local_time}
-use Rattle.cal_zones.specs.Kinds.{IsBounds}
-use Rattle.cal_zones.specs.LastDay.{NoneFrom}
+use Rattle.profile.specs.Zones.{Zone, Means, IsBounds, NoneFrom, local_time}
 use Rattle.cal_zones.proofs.Zones.{one_meaning}
 
 -- no meaning lies before the one with the greatest offset

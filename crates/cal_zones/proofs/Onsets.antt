@@ -3,10 +3,10 @@ use Rattle.std.proofs.Common.{◌≡◌, refl, ℕ, ◌+◌, ◌-◌, ◌*◌, �
 use Rattle.std.proofs.lemmas.Bool.Decides.{nat_tests}
 use Rattle.jiff_core.proofs.SignedLemmas.{signed_arith, one_part}
 use Rattle.profile.specs.Rules.{is_base}
-use Rattle.profile.specs.Zones.{IsOnset, IsLatest, begins_on, local_time}
+use Rattle.profile.specs.Zones.{IsOnset, IsLatest, IsFirstOf, onset_at, begins_on, local_time}
 use Rattle.cal_zones.specs.Shapes.{pattern_of}
 use Rattle.cal_zones.specs.Yearly.{IsOn, IsLatestDay, IsFirstDay}
-use Rattle.cal_zones.specs.Onsets.{observance_of, onset_at, IsFirstDayOf, IsFirstOf, IsLatestAfter}
+use Rattle.cal_zones.specs.Onsets.{observance_of, IsFirstDayOf, IsLatestAfter}
 use Rattle.cal_zones.proofs.Bases.{base_is}
 use Rattle.cal_zones.specs.declared.shape.Yearly.{Yearly}
 use Rattle.cal_zones.specs.declared.shape.Observance.{Observance}

@@ -1,9 +1,8 @@
 -- The offset of a zone, and what a local time means in it.
 use Rattle.std.proofs.Common.{◌≡◌, ◌∙◌, sym, refl, inl, inr, ◌⊎◌, arith, ℤ, ◌+ℤ◌, ◌≤ℤ◌}
 use Rattle.jiff_core.proofs.SignedLemmas.{signed_arith}
-use Rattle.profile.specs.Zones.{Observance, Zone, Constant, Single, Pair, Onset, IsOnset, IsZoneOnset, IsLatest, InForce, Since, Until, IsOffsetAt, IsShownFirst, IsSkipped, Means}
-use Rattle.cal_zones.specs.Onsets.{onset_at, IsFirstOf, NoneBegun}
-use Rattle.cal_zones.specs.Kinds.{IsOrdered, IsBounds}
+use Rattle.profile.specs.Zones.{Observance, Zone, Constant, Single, Pair, Onset, IsOnset, IsZoneOnset, IsLatest, IsFirstOf, NoneBegun, InForce, Since, Until, IsOffsetAt, IsBounds, IsShownFirst, IsSkipped, Means, onset_at}
+use Rattle.cal_zones.specs.Kinds.{IsOrdered}
 use Rattle.cal_zones.proofs.Force.{OneAtOnce, one_offset, Between, between}
 
 -- of two observances the one with the later onset

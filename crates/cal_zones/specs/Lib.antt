@@ -7,6 +7,5 @@ pub mod Apart
 pub mod Kinds
 pub mod Spaced
 pub mod Made
-pub mod LastDay
 pub mod Named
 pub mod Read

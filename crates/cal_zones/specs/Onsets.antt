@@ -1,8 +1,7 @@
 -- The onsets of one observance.
 use Rattle.std.specs.Prelude.{◌≡◌, ℕ, ◌*◌, ◌≤◌, true, Option, Some, None, ℤ, pos, ◌+ℤ◌, ◌≤ℤ◌}
-use Rattle.std.specs.Int.Signed.{◌<ℤ◌}
 use Rattle.profile.specs.Rules.{Pattern}
-use Rattle.profile.specs.Zones.{Observance, Onset, IsOnset, begins_on}
+use Rattle.profile.specs.Zones.{Observance, begins_on}
 use Rattle.cal_zones.specs.Shapes.{pattern_of}
 use Rattle.cal_zones.specs.Yearly.{IsOn}
 use Rattle.cal_zones.specs.declared.shape.Yearly.{Yearly}
@@ -23,23 +22,10 @@ observance_of o = record {
   offset_to = o.offset_to;
 }
 
--- its onset at an instant
-abbrev pub onset_at : Observance → ℤ → Onset
-onset_at o instant = record { instant = instant; before = o.offset_from; after = o.offset_to }
-
 -- the first day on which it begins
 pub record IsFirstDayOf (o : Observance) (day : ℕ) : Type 0 where
   pub begins : begins_on o day ≡ true
   pub least : (other : ℕ) → begins_on o other ≡ true → day ≤ other
-
--- its first onset
-pub record IsFirstOf (o : Observance) (instant : ℤ) : Type 0 where
-  pub listed : IsOnset o (onset_at o instant)
-  pub least : (other : Onset) → IsOnset o other → instant ≤ℤ other.instant
-
--- none of its onsets has come
-abbrev pub NoneBegun : Observance → ℤ → Type 0
-NoneBegun o instant = (first : ℤ) × IsFirstOf o first × (instant <ℤ first)
 
 -- of the days of a rule, one onset a day, so many days after the first onset, the latest up to an instant
 pub record IsLatestAfter (r : Yearly) (first_day : ℕ) (first instant result : ℤ) : Type 0 where

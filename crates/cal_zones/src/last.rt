@@ -4,9 +4,8 @@ ghost use Rattle.std.specs.Prelude.{◌≡◌, ℕ, ◌<◌, ◌≤◌, ◌≤�
 ghost use Rattle.std.specs.Int.Signed.{◌<ℤ◌};
 ghost use Rattle.profile.specs.Days.{day_index};
 ghost use Rattle.profile.specs.Values.{IsOffset, IsClockSeconds};
-ghost use Rattle.profile.specs.Zones.{Means, local_time};
+ghost use Rattle.profile.specs.Zones.{Means, IsNearEpoch, IsLastDay, NoneFrom, local_time};
 ghost use Rattle.cal_zones.specs.Kinds.{zone_of};
-ghost use Rattle.cal_zones.specs.LastDay.{IsLastDay, NoneFrom, IsNearEpoch};
 
 use crate::kinds::Zone;
 use cal_days::Day;

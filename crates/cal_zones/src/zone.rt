@@ -2,11 +2,10 @@
 
 ghost use Rattle.std.specs.Prelude.{◌≡◌};
 ghost use Rattle.profile.specs.Values.{IsOffset};
-ghost use Rattle.profile.specs.Zones.{IsOffsetAt, IsOnset, IsLatest, Means, Single};
-ghost use Rattle.cal_zones.specs.Onsets.{observance_of, onset_at, NoneBegun};
-ghost use Rattle.cal_zones.specs.Kinds.{zone_of, pair_of, IsOrdered, IsBounds, AreFirstOnsets};
-ghost use Rattle.cal_zones.specs.Kinds.{IsOneOffset, IsOneMeaning};
-ghost use Rattle.cal_zones.specs.LastDay.{IsNearEpoch};
+ghost use Rattle.profile.specs.Zones.{IsOffsetAt, IsOnset, IsLatest, Means, Single, onset_at, NoneBegun, AreFirstOnsets};
+ghost use Rattle.profile.specs.Zones.{IsBounds, IsOneOffset, IsOneMeaning, IsNearEpoch};
+ghost use Rattle.cal_zones.specs.Onsets.{observance_of};
+ghost use Rattle.cal_zones.specs.Kinds.{zone_of, pair_of, IsOrdered};
 
 use crate::kinds::{Kind, Zone};
 use crate::shape::Observance;

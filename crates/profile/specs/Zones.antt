@@ -1,7 +1,7 @@
 -- Zones: what a VTIMEZONE makes of instants and of local times (RFC 5545 3.6.5 and 3.3.5).
 -- An instant is a number of seconds from 1970-01-01T00:00:00Z. A local time is a number of seconds from 1970-01-01T00:00:00 on the
 -- local clock. An offset is a number of seconds, positive east of Greenwich.
-use Rattle.std.specs.Prelude.{◌≡◌, ℕ, ◌+◌, ◌*◌, ◌⊎◌, Bool, true, ◌&&◌, ◌==◌, nat_le, Option, Some, None, ℤ, pos, ◌+ℤ◌, ◌-ℤ◌, ◌≤ℤ◌}
+use Rattle.std.specs.Prelude.{◌≡◌, ℕ, ◌+◌, ◌*◌, ◌≤◌, ◌⊎◌, Bool, true, ◌&&◌, ◌==◌, nat_le, Option, Some, None, ℤ, pos, negsuc, ◌+ℤ◌, ◌-ℤ◌, ◌≤ℤ◌}
 use Rattle.std.specs.Int.Signed.{◌<ℤ◌}
 use Rattle.profile.specs.Rules.{Pattern, is_base}
 
@@ -58,8 +58,28 @@ IsZoneOnset (Constant _) onset = ⊥
 IsZoneOnset (Single a) onset = IsOnset a onset
 IsZoneOnset (Pair a b) onset = IsOnset a onset ⊎ IsOnset b onset
 
+-- an observance's onset at an instant
+abbrev pub onset_at : Observance → ℤ → Onset
+onset_at o instant = record { instant = instant; before = o.offset_from; after = o.offset_to }
+
+-- its first onset
+pub record IsFirstOf (o : Observance) (instant : ℤ) : Type 0 where
+  pub listed : IsOnset o (onset_at o instant)
+  pub least : (other : Onset) → IsOnset o other → instant ≤ℤ other.instant
+
+-- none of its onsets has come
+abbrev pub NoneBegun : Observance → ℤ → Type 0
+NoneBegun o instant = (first : ℤ) × IsFirstOf o first × (instant <ℤ first)
+
+-- the first onset of each observance: of none, of one, or of two
+abbrev pub AreFirstOnsets : Zone → Option ℤ → Option ℤ → Type 0
+AreFirstOnsets (Constant _) x y = (x ≡ None) × (y ≡ None)
+AreFirstOnsets (Single a) x y = (first : ℤ) × IsFirstOf a first × (x ≡ Some first) × (y ≡ None)
+AreFirstOnsets (Pair a b) x y =
+    (first : ℤ) × (second : ℤ) × IsFirstOf a first × IsFirstOf b second × (x ≡ Some first) × (y ≡ Some second)
+
 -- THE OFFSET IN FORCE
--- The definitions from here on are about any set of onsets.
+-- Its definitions are about any set of onsets, up to the offset of a zone.
 
 -- the greatest onset that isn't later than an instant
 pub record IsLatest (Is : Onset → Type 0) (instant : ℤ) (onset : Onset) : Type 0 where
@@ -84,6 +104,16 @@ IsOffsetAt (Constant k) instant offset = offset ≡ k
 IsOffsetAt (Single a) instant offset = InForce (IsZoneOnset (Single a)) instant offset
 IsOffsetAt (Pair a b) instant offset = InForce (IsZoneOnset (Pair a b)) instant offset
 
+-- one offset is in force at an instant
+abbrev pub IsOneOffset : Zone → Type 0
+IsOneOffset z = (instant p q : ℤ) → IsOffsetAt z instant p → IsOffsetAt z instant q → p ≡ q
+
+-- each onset of the zone sets one of two offsets to the other, and at each instant one of them is in force
+pub record IsBounds (z : Zone) (least greatest : ℤ) : Type 0 where
+  pub ordered : least ≤ℤ greatest
+  pub sides : (x : Onset) → IsZoneOnset z x → ((x.before ≡ least) × (x.after ≡ greatest)) ⊎ ((x.before ≡ greatest) × (x.after ≡ least))
+  pub one : (instant offset : ℤ) → IsOffsetAt z instant offset → (offset ≡ least) ⊎ (offset ≡ greatest)
+
 -- WHAT A LOCAL TIME MEANS
 
 -- at this instant the clocks of the zone show this local time
@@ -107,3 +137,25 @@ pub record IsSkipped (zone : Zone) (local instant : ℤ) : Type 0 where
 -- the instant that a local time means (RFC 5545 3.3.5)
 abbrev pub Means : Zone → ℤ → ℤ → Type 0
 Means zone local instant = IsShownFirst zone local instant ⊎ IsSkipped zone local instant
+
+-- a local time means one instant
+abbrev pub IsOneMeaning : Zone → Type 0
+IsOneMeaning z = (local t u : ℤ) → Means z local t → Means z local u → t ≡ u
+
+-- what local times mean lies in this range
+abbrev pub IsNearEpoch : ℤ → Type 0
+IsNearEpoch t = (negsuc 100_000_000_000 ≤ℤ t) × (t ≤ℤ pos 1_000_000_000_000)
+
+-- THE LAST DAY OF A TIME OF DAY
+
+-- on each day from one on, up to 9999-12-31, that second of it is past the instant
+abbrev pub NoneFrom : Zone → ℕ → ℤ → ℕ → Type 0
+NoneFrom z second until from =
+    (other : ℕ) → from ≤ other → other ≤ 3_652_424 → (start : ℤ) → Means z (local_time other second) start → until <ℤ start
+
+-- on that day it isn't, and on each later one it is
+pub record IsLastDay (z : Zone) (second : ℕ) (until : ℤ) (day : ℕ) : Type 0 where
+  pub start : ℤ
+  pub means : Means z (local_time day second) start
+  pub not_past : start ≤ℤ until
+  pub last : NoneFrom z second until (day + 1)

@@ -1,6 +1,6 @@
 use Rattle.std.proofs.Common.{◌+◌, ◌≤◌}
+use Rattle.profile.specs.Zones.{NoneFrom}
 use Rattle.cal_zones.specs.Kinds.{zone_of}
-use Rattle.cal_zones.specs.LastDay.{NoneFrom}
 use Rattle.cal_zones.proofs.kinds.Zone.last_day_at.Given as goal
 
 abbrev pub invariant-loop-index : goal.invariant-loop-index
