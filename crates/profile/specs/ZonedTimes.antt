@@ -1,6 +1,6 @@
 -- Times in zones: what a start or an end says where TZID names a VTIMEZONE of its object (RFC 5545 3.2.19, 3.3.5, 3.6.5).
 -- A line is its octets here; its object, the VCALENDAR that it stands in, is a tree.
-use Rattle.std.specs.Prelude.{◌≡◌, ℕ, ◌+◌, ◌<◌, ◌≤◌, ◌⊎◌, Bool, true, false, List, [], ◌∷◌, filter, Contains, codes, Option, Some, None, is_some, option_map, unwrap_or, ℤ, pos, ◌+ℤ◌, ◌≤ℤ◌, ◌<ℤ◌}
+use Rattle.std.specs.Prelude.{◌≡◌, ℕ, ◌<◌, ◌≤◌, ◌⊎◌, Bool, true, false, List, [], ◌∷◌, filter, Contains, codes, Option, Some, None, is_some, option_map, unwrap_or, ℤ, pos, ◌+ℤ◌, ◌≤ℤ◌, ◌<ℤ◌}
 use Rattle.std.specs.List.{find}
 use Rattle.std.specs.Str.{bytes_eq}
 use Rattle.profile.specs.Lines.{line_value, line_param, is_same_name}
