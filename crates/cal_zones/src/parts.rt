@@ -1,6 +1,6 @@
 //! The parts of a VTIMEZONE: the components named STANDARD or DAYLIGHT directly inside (RFC 5545 3.6.5).
 
-ghost use Rattle.std.specs.Prelude.{◌≡◌, ◌∷◌, [], length, count_by, find, option_map, Contains, IfSome, IfNone};
+ghost use Rattle.std.specs.Prelude.{◌≡◌, ◌↔◌, ◌∷◌, [], length, count_by, find, option_map, Contains, IsTrue, IfSome, IfNone};
 ghost use Rattle.ical_tree.specs.Tree.{component_name, component_lines, component_children};
 ghost use Rattle.profile.specs.Lines.{is_same_name};
 ghost use Rattle.profile.specs.ZoneTexts.{is_part};
@@ -12,6 +12,13 @@ pub(crate) fn is_part(component: &Component) -> bool
     ensures { result ≡ is_part (component_name component.now) }
 {
     component.is_named("STANDARD") || component.is_named("DAYLIGHT")
+}
+
+// A function, so that the goals of its callers have no number in their names.
+fn is_one(count: usize) -> bool
+    ensures { IsTrue result ↔ count ≡ 1 }
+{
+    count == 1
 }
 
 fn count_parts(zone: &Component) -> usize
@@ -42,7 +49,7 @@ pub(crate) fn only_part(zone: &Component) -> Option<&Component>
     ensures found { IfSome result (λ part. parts_of zone.now ≡ component_lines part.now ∷ []) }
     ensures none { IfNone result (length (parts_of zone.now) ≡ 1 → ⊥) }
 {
-    if count_parts(zone) != 1 {
+    if !is_one(count_parts(zone)) {
         return None;
     }
     find_part(zone)
@@ -71,7 +78,7 @@ pub(crate) fn only_named<'a>(zone: &'a Component, name: &str) -> Option<&'a Comp
     ensures none { IfNone result
         (length (parts_in (λ n. is_same_name n name.now) (component_children zone.now)) ≡ 1 → ⊥) }
 {
-    if count_named(zone, name) != 1 {
+    if !is_one(count_named(zone, name)) {
         return None;
     }
     find_named(zone, name)

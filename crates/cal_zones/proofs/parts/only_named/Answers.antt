@@ -1,16 +1,20 @@
-use Rattle.std.proofs.Common.{◌∙◌, sym}
+use Rattle.std.proofs.Common.{◌≡◌, ◌∙◌, sym, arith}
+use Rattle.std.proofs.lemmas.Bool.{true≢false}
 use Rattle.ical_tree.specs.Tree.{component_children}
 use Rattle.profile.specs.Lines.{is_same_name}
 use Rattle.cal_zones.proofs.PartLemmas.{count_in, only_found, not_found}
 use Rattle.cal_zones.proofs.parts.only_named.Goals as goal
 
-pub returns-then-count_named-ne1-clause-none : goal.returns-then-count_named-ne1-clause-none
-returns-then-count_named-ne1-clause-none c h =
-    c.if-count_named-ne1.true (c.count_named.ensures ∙ sym (count_in (λ n. is_same_name n c.args.name.now) (component_children c.args.zone.now)) ∙ h)
+-- omega as in only_part
+pub returns-then-not-is_one-clause-none : goal.returns-then-not-is_one-clause-none
+returns-then-not-is_one-clause-none c h =
+    let one : c.count_named.result ≡ 1 = c.count_named.ensures ∙ sym (count_in (λ n. is_same_name n c.args.name.now) (component_children c.args.zone.now)) ∙ h in
+    true≢false (sym (c.is_one.ensures.1 (omega (arith, one))) ∙ c.if-not-is_one.true)
 
 pub returns-clause-found : goal.returns-clause-found
 returns-clause-found c =
-    only_found (λ n. is_same_name n c.args.name.now) (component_children c.args.zone.now) c.find_named.result c.find_named.ensures (sym c.count_named.ensures ∙ c.if-count_named-ne1.false)
+    let one : c.count_named.result ≡ 1 = omega (arith, c.is_one.ensures.0 c.if-not-is_one.false) in
+    only_found (λ n. is_same_name n c.args.name.now) (component_children c.args.zone.now) c.find_named.result c.find_named.ensures (sym c.count_named.ensures ∙ one)
 
 pub returns-clause-none : goal.returns-clause-none
 returns-clause-none c =
