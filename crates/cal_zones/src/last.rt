@@ -1,6 +1,6 @@
 //! The last day of a rule that has an UNTIL.
 
-ghost use Rattle.std.specs.Prelude.{◌≡◌, ℕ, ◌<◌, ◌≤◌, ◌≤ℤ◌, ◌+ℤ◌, MatchOption};
+ghost use Rattle.std.specs.Prelude.{◌≡◌, ℕ, ◌<◌, ◌≤◌, ◌+ℤ◌, MatchOption};
 ghost use Rattle.std.specs.Int.Signed.{◌<ℤ◌};
 ghost use Rattle.profile.specs.Days.{day_index};
 ghost use Rattle.profile.specs.Values.{IsOffset, IsClockSeconds};

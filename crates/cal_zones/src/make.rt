@@ -1,6 +1,6 @@
 //! Rules, observances and zones from their parts.
 
-ghost use Rattle.std.specs.Prelude.{◌≡◌, ◌↔◌, ◌⊎◌, ◌<◌, ◌≤◌, true, None};
+ghost use Rattle.std.specs.Prelude.{◌≡◌, ◌↔◌, ◌<◌, ◌≤◌, true, None};
 ghost use Rattle.std.specs.Prelude.{pos, unsigned_abs, ◌-ℤ◌, IsSome, IfSome, IfOk, IfErr};
 ghost use Rattle.profile.specs.Days.{days_in_month};
 ghost use Rattle.profile.specs.Zones.{Constant, Single, local_time};

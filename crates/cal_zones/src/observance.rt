@@ -1,7 +1,7 @@
 //! The onsets of one observance.
 
-ghost use Rattle.std.specs.Prelude.{◌≡◌, ℕ, ◌+◌, ◌*◌, ◌<◌, ◌≤◌, true, IfSome, MatchOption, pos, negsuc, ◌+ℤ◌, ◌≤ℤ◌};
-ghost use Rattle.profile.specs.Zones.{IsOnset, IsLatest, IsFirstOf, NoneBegun, onset_at, begins_on, local_time};
+ghost use Rattle.std.specs.Prelude.{◌≡◌, ◌+◌, ◌*◌, ◌<◌, ◌≤◌, IfSome, MatchOption, pos, negsuc, ◌+ℤ◌, ◌≤ℤ◌};
+ghost use Rattle.profile.specs.Zones.{IsOnset, IsLatest, IsFirstOf, NoneBegun, onset_at, local_time};
 ghost use Rattle.cal_zones.specs.Yearly.{IsOn};
 ghost use Rattle.cal_zones.specs.Onsets.{observance_of, IsFirstDayOf, IsLatestAfter};
 

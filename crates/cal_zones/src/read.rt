@@ -1,14 +1,13 @@
 //! Reading a VTIMEZONE (RFC 5545 3.6.5). Read are: parts that all say one offset; one part without a rule;
 //! one STANDARD and one DAYLIGHT that each name one day of the year.
 
-ghost use Rattle.std.specs.Prelude.{◌≡◌, ◌⊎◌, ℕ, List, true, false, length, codes, Contains, None, Some, IfOk, IfErr};
+ghost use Rattle.std.specs.Prelude.{◌≡◌, ℕ, List, true, false, length, codes, Contains, None, Some, IfOk, IfErr};
 ghost use Rattle.ical_lines.specs.Fault.{RefusesBy};
 ghost use Rattle.ical_tree.specs.Tree.{component_lines, tree_of};
 ghost use Rattle.profile.specs.Trees.{Tree};
 ghost use Rattle.profile.specs.Zones as zones;
 ghost use Rattle.profile.specs.Zones.{Constant};
 ghost use Rattle.profile.specs.Events as lines;
-ghost use Rattle.profile.specs.Events.{IsMissing};
 ghost use Rattle.profile.specs.ZoneTexts.{SaysZone, ZoneFault, SaysYearly, SpellsYear, SpellsNoYear, IsYearLine};
 ghost use Rattle.profile.specs.ZoneTexts.{HasNoYearRule, OffsetsDiffer, Keeps, Strays, TimesFault};
 ghost use Rattle.cal_zones.specs.Shapes.{rule_named};

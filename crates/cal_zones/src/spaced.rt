@@ -1,6 +1,6 @@
 //! Two observances whose onsets keep two days apart, in every year of both rules.
 
-ghost use Rattle.std.specs.Prelude.{◌≡◌, ℕ, ◌+◌, ◌<◌, ◌≤◌, true, false, Some};
+ghost use Rattle.std.specs.Prelude.{◌≡◌, ◌+◌, ◌≤◌, true, false};
 ghost use Rattle.cal_zones.specs.Spaced.{IsApart, IsYearSpaced, IsSpaced, AreNear, HasNear};
 
 use crate::shape::{Observance, Yearly};

@@ -1,6 +1,6 @@
 //! The lines of a part, STANDARD or DAYLIGHT: DTSTART, TZOFFSETFROM and TZOFFSETTO (RFC 5545 3.6.5).
 
-ghost use Rattle.std.specs.Prelude.{◌≡◌, ◌⊎◌, true, false, codes, None, Some, option_map, IfOk, IfErr};
+ghost use Rattle.std.specs.Prelude.{◌≡◌, true, false, codes, None, Some, option_map, IfOk, IfErr};
 ghost use Rattle.ical_lines.specs.Text.{line_text};
 ghost use Rattle.ical_tree.specs.Tree.{component_lines};
 ghost use Rattle.profile.specs.Events.{Says, IsMissing, StandsAtMostOnce, StandsTwice, is_date_time};

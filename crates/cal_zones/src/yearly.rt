@@ -1,9 +1,8 @@
 //! Rules that name one day of one month, every year.
 
-ghost use Rattle.std.specs.Prelude.{◌≡◌, ℕ, ◌+◌, ◌-◌, ◌*◌, ◌%◌, ◌<◌, ◌≤◌};
-ghost use Rattle.profile.specs.Days.{year_of};
+ghost use Rattle.std.specs.Prelude.{◌≡◌, ◌+◌, ◌-◌, ◌*◌, ◌%◌, ◌<◌, ◌≤◌};
 ghost use Rattle.cal_zones.specs.Shapes.{IsPlace};
-ghost use Rattle.cal_zones.specs.Yearly.{IsOn, IsDayOfYear, IsLatestDay, IsFirstDay, HasEarlier};
+ghost use Rattle.cal_zones.specs.Yearly.{IsDayOfYear, IsLatestDay, IsFirstDay, HasEarlier};
 
 use crate::shape::{MonthDays, Yearly};
 use cal_days::Day;

@@ -1,6 +1,5 @@
 //! The offset in force, and what a local time means.
 
-ghost use Rattle.std.specs.Prelude.{◌≡◌};
 ghost use Rattle.profile.specs.Values.{IsOffset};
 ghost use Rattle.profile.specs.Zones.{IsOffsetAt, IsOnset, IsLatest, Means, Single, onset_at, NoneBegun, AreFirstOnsets};
 ghost use Rattle.profile.specs.Zones.{IsBounds, IsOneOffset, IsOneMeaning, IsNearEpoch};
