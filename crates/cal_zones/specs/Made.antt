@@ -1,19 +1,13 @@
 -- When two observances make no zone.
-use Rattle.std.specs.Prelude.{◌≡◌, ℕ, ◌<◌, ◌≤◌, ◌⊎◌, None, unsigned_abs, ◌-ℤ◌}
-use Rattle.profile.specs.ZoneTexts.{AreClose}
+use Rattle.std.specs.Prelude.{◌≡◌, ℕ, ◌<◌, ◌⊎◌, None, unsigned_abs, ◌-ℤ◌}
+use Rattle.profile.specs.ZoneTexts.{AreMatched, AreClose}
 use Rattle.cal_zones.specs.Kinds.{pair_of}
 use Rattle.cal_zones.specs.declared.shape.Observance.{Observance}
-
--- each TZOFFSETFROM is the other's TZOFFSETTO, and they lie at most 12 hours apart
-abbrev pub AreMatched : Observance → Observance → Type 0
-AreMatched a b =
-    (a.offset_to ≡ b.offset_from) × (b.offset_to ≡ a.offset_from)
-    × (unsigned_abs (a.offset_from -ℤ a.offset_to) ≤ 43_200)
 
 -- a rule is missing, the offsets don't match, or two onsets of the rules lie too close
 abbrev pub IsPairFault : ℕ → Observance → Observance → Type 0
 IsPairFault number a b =
-    ((number ≡ 40) × ((a.rule ≡ None) ⊎ (b.rule ≡ None))) ⊎ ((number ≡ 41) × (AreMatched a b → ⊥))
+    ((number ≡ 40) × ((a.rule ≡ None) ⊎ (b.rule ≡ None))) ⊎ ((number ≡ 41) × (AreMatched (pair_of a b) → ⊥))
     ⊎ ((number ≡ 42) × AreClose (pair_of a b))
 
 -- one observance has a rule, or its offsets lie more than 12 hours apart

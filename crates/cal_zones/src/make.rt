@@ -4,11 +4,11 @@ ghost use Rattle.std.specs.Prelude.{◌≡◌, ◌↔◌, ◌<◌, ◌≤◌, tr
 ghost use Rattle.std.specs.Prelude.{pos, unsigned_abs, ◌-ℤ◌, IsSome, IfSome, IfOk, IfErr};
 ghost use Rattle.profile.specs.Days.{days_in_month};
 ghost use Rattle.profile.specs.Zones.{Constant, Single, local_time};
+ghost use Rattle.profile.specs.ZoneTexts.{AreMatched, AreSpaced};
 ghost use Rattle.cal_zones.specs.Shapes.{is_yearly};
 ghost use Rattle.cal_zones.specs.Onsets.{observance_of};
 ghost use Rattle.cal_zones.specs.Kinds.{zone_of, pair_of};
-ghost use Rattle.profile.specs.ZoneTexts.{AreSpaced};
-ghost use Rattle.cal_zones.specs.Made.{AreMatched, IsSingleFault, IsPairFault};
+ghost use Rattle.cal_zones.specs.Made.{IsSingleFault, IsPairFault};
 
 use crate::kinds::{Fixed, Kind, Pair, Zone};
 use crate::shape::{MonthDays, Observance, Yearly};
@@ -99,8 +99,8 @@ impl Observance {
 
 /// Does each TZOFFSETFROM equal the other's TZOFFSETTO, and do they lie at most 12 hours apart?
 fn are_matched(a: &Observance, b: &Observance) -> bool
-    ensures yes { result ≡ true → AreMatched a.now b.now }
-    ensures no { AreMatched a.now b.now → result ≡ true }
+    ensures yes { result ≡ true → AreMatched (pair_of a.now b.now) }
+    ensures no { AreMatched (pair_of a.now b.now) → result ≡ true }
 {
     if a.offset_to != b.offset_from {
         return false;
@@ -156,7 +156,7 @@ impl Zone {
     /// of their rules lie less than 172,800 seconds apart, in any year.
     pub fn pair(standard: Observance, daylight: Observance) -> Result<Zone, Refusal>
         ensures ok { IfOk result (λ z. zone_of z ≡ pair_of standard daylight) }
-        ensures accepted { IfOk result (λ _. AreMatched standard daylight × AreSpaced (pair_of standard daylight)) }
+        ensures accepted { IfOk result (λ _. AreMatched (pair_of standard daylight) × AreSpaced (pair_of standard daylight)) }
         ensures refuses { IfErr result (λ e. IsPairFault e.number standard daylight) }
     {
         let Some(first) = standard.rule else {
