@@ -1,7 +1,7 @@
 -- What the readers of a VTIMEZONE's parts say, put together.
-use Rattle.std.proofs.Common.{◌≡◌, sym, refl, subst, inl, inr, ℕ, zero, true, List, [], ◌∷◌, codes, arith, unsigned_abs, ◌-ℤ◌, ◌≤◌}
+use Rattle.std.proofs.Common.{◌≡◌, ap, sym, refl, subst, inl, inr, ℕ, zero, true, List, [], ◌∷◌, codes, arith, unsigned_abs, ◌-ℤ◌, ◌≤◌}
 use Rattle.ical_lines.specs.Fault.{RefusesBy}
-use Rattle.std.specs.Prelude.{Some, None, Result, Ok, Err, IfOk, IfErr, Contains}
+use Rattle.std.specs.Prelude.{Option, Some, None, Result, Ok, Err, IfOk, IfErr, Contains}
 use Rattle.std.specs.Result.{IsErrAnd}
 use Rattle.ical_lines.specs.declared.fault.Fault.{Fault}
 use Rattle.ical_lines.specs.declared.fault.Fault.TheVariants.{Refused, Memory}
@@ -10,13 +10,13 @@ use Rattle.ical_tree.specs.Tree.{tree_of}
 use Rattle.ical_tree.specs.declared.component.Component.{Component}
 use Rattle.profile.specs.Zones.{Zone, Single, Pair, Observance}
 use Rattle.profile.specs.Events.{lines_named, StandsAtMostOnce, Says}
-use Rattle.profile.specs.ZoneTexts.{parts_by, is_part, is_standard, is_daylight, SaysTimes, SaysOnce, SaysYearly, TimesFault, PartsSay, PartsFault, OffsetsDiffer, SaysZone, ZoneFault, missing, twice, fixed, bad_start, bad_from, bad_to, time_names, single, pair, in_part, ruled, unruled, unmatched, close, HasNoYearRule}
+use Rattle.profile.specs.ZoneTexts.{parts_by, is_part, is_standard, is_daylight, SaysTimes, SaysOnce, SaysYearly, TimesFault, PartsSay, PartsFault, OffsetsDiffer, SaysZone, ZoneFault, missing, twice, fixed, bad_start, bad_from, bad_to, time_names, single, pair, in_part, ruled, unruled, unmatched, close, HasNoYearRule, IsPairFault, IsSingleFault}
 use Rattle.cal_zones.specs.Read as read
 use Rattle.cal_zones.specs.Read.{parts_in, parts_of, standards_of, daylights_of, HasFault, SomeTimesFault, StartFault, IsNotOne, OffsetFault, YearlyFault, SaysSingle, SingleFault, SaysBoth, BothFault, in_times, has_rule, far, in_standard, in_daylight, no_match, no_space}
 use Rattle.cal_zones.specs.Kinds.{zone_of}
 use Rattle.cal_zones.specs.declared.kinds.Zone as kept
-use Rattle.cal_zones.specs.Onsets.{observance_of}
-use Rattle.cal_zones.specs.Made.{IsPairFault, IsSingleFault}
+use Rattle.cal_zones.specs.Onsets.{observance_of, rule_of}
+use Rattle.cal_zones.specs.declared.shape.Yearly.{Yearly}
 use Rattle.cal_zones.specs.declared.shape.Observance as rust
 use Rattle.cal_zones.proofs.PartLemmas.{parts_tree}
 
@@ -72,17 +72,22 @@ pub no_rule_there : (lines : Lines) → IsNotOne (codes "RRULE") lines → HasNo
 no_rule_there lines (inl h) = inl h
 no_rule_there lines (inr h) = inr (inl h)
 
+-- where no rule is written there is none
+pub unwritten : (day : ℕ) (rule : Option Yearly) → rule_of day rule ≡ None → rule ≡ None
+unwritten day None h = refl
+unwritten day (Some r) h = cc
+
 -- a pair that is refused
 pub both_refused : (p q : Lines) (a b : rust.Observance) (n : ℕ) → SaysYearly p (observance_of a) → SaysYearly q (observance_of b) → (a.rule ≡ None → ⊥) → (b.rule ≡ None → ⊥)
-    → IsPairFault n a b → BothFault p q n
-both_refused p q a b n s t f g (inl (e, inl h)) = absurd (f h)
-both_refused p q a b n s t f g (inl (e, inr h)) = absurd (g h)
+    → IsPairFault n (observance_of a) (observance_of b) → BothFault p q n
+both_refused p q a b n s t f g (inl (e, inl h)) = absurd (f (unwritten a.day a.rule h))
+both_refused p q a b n s t f g (inl (e, inr h)) = absurd (g (unwritten b.day b.rule h))
 both_refused p q a b n s t f g (inr (inl (e, h))) = subst (BothFault p q) (sym e) (no_match (observance_of a) (observance_of b) s t h)
 both_refused p q a b n s t f g (inr (inr (e, h))) = subst (BothFault p q) (sym e) (no_space (observance_of a) (observance_of b) s t h)
 
 -- a single part that is refused
-pub single_refused : (lines : Lines) (a : rust.Observance) (n : ℕ) → SaysOnce lines (observance_of a) → a.rule ≡ None → IsSingleFault n a → SingleFault lines n
-single_refused lines a n s none (inl (e, h)) = absurd (h none)
+pub single_refused : (lines : Lines) (a : rust.Observance) (n : ℕ) → SaysOnce lines (observance_of a) → a.rule ≡ None → IsSingleFault n (observance_of a) → SingleFault lines n
+single_refused lines a n s none (inl (e, h)) = absurd (h (ap (rule_of a.day) none))
 single_refused lines a n s none (inr (e, h)) = subst (SingleFault lines) (sym e) (far (observance_of a) s (λ near. absurd (omega arith)))
 
 pub single_said : (r : Result kept.Zone Refusal) (lines : Lines) (a : rust.Observance) → SaysOnce lines (observance_of a) → IfOk r (λ z. zone_of z ≡ Single (observance_of a))

@@ -6,6 +6,5 @@ pub mod Onsets
 pub mod Apart
 pub mod Kinds
 pub mod Spaced
-pub mod Made
 pub mod Named
 pub mod Read

@@ -4,11 +4,10 @@ ghost use Rattle.std.specs.Prelude.{◌≡◌, ◌↔◌, ◌<◌, ◌≤◌, tr
 ghost use Rattle.std.specs.Prelude.{pos, unsigned_abs, ◌-ℤ◌, IsSome, IfSome, IfOk, IfErr};
 ghost use Rattle.profile.specs.Days.{days_in_month};
 ghost use Rattle.profile.specs.Zones.{Constant, Single, local_time};
-ghost use Rattle.profile.specs.ZoneTexts.{AreMatched, AreSpaced};
+ghost use Rattle.profile.specs.ZoneTexts.{AreMatched, AreSpaced, IsSingleFault, IsPairFault};
 ghost use Rattle.cal_zones.specs.Shapes.{is_yearly};
 ghost use Rattle.cal_zones.specs.Onsets.{observance_of};
 ghost use Rattle.cal_zones.specs.Kinds.{zone_of, pair_of};
-ghost use Rattle.cal_zones.specs.Made.{IsSingleFault, IsPairFault};
 
 use crate::kinds::{Fixed, Kind, Pair, Zone};
 use crate::shape::{MonthDays, Observance, Yearly};
@@ -138,7 +137,7 @@ impl Zone {
         ensures ok { IfOk result (λ z. zone_of z ≡ Single (observance_of observance)) }
         ensures accepted { IfOk result (λ _. (observance.rule ≡ None)
             × (unsigned_abs (observance.offset_from -ℤ observance.offset_to) ≤ 43_200)) }
-        ensures refuses { IfErr result (λ e. IsSingleFault e.number observance) }
+        ensures refuses { IfErr result (λ e. IsSingleFault e.number (observance_of observance)) }
     {
         if observance.rule.is_some() {
             return Err(Refusal::ZONE_SHAPE);
@@ -157,7 +156,7 @@ impl Zone {
     pub fn pair(standard: Observance, daylight: Observance) -> Result<Zone, Refusal>
         ensures ok { IfOk result (λ z. zone_of z ≡ pair_of standard daylight) }
         ensures accepted { IfOk result (λ _. AreMatched (pair_of standard daylight) × AreSpaced (pair_of standard daylight)) }
-        ensures refuses { IfErr result (λ e. IsPairFault e.number standard daylight) }
+        ensures refuses { IfErr result (λ e. IsPairFault e.number (observance_of standard) (observance_of daylight)) }
     {
         let Some(first) = standard.rule else {
             return Err(Refusal::ZONE_SHAPE);

@@ -220,6 +220,17 @@ pub record PartsSay (parts standards daylights : List (List (List ℕ))) (zone :
   pub matched : AreMatched zone
   pub spaced : AreSpaced zone
 
+-- a rule is missing, the offsets don't match, or two onsets of the rules lie too close
+abbrev pub IsPairFault : ℕ → Observance → Observance → Type 0
+IsPairFault number a b =
+    ((number ≡ 40) × ((a.rule ≡ None) ⊎ (b.rule ≡ None))) ⊎ ((number ≡ 41) × (AreMatched (Pair a b) → ⊥))
+    ⊎ ((number ≡ 42) × AreClose (Pair a b))
+
+-- one observance has a rule, or its offsets lie more than 12 hours apart
+abbrev pub IsSingleFault : ℕ → Observance → Type 0
+IsSingleFault number a =
+    ((number ≡ 40) × (a.rule ≡ None → ⊥)) ⊎ ((number ≡ 41) × (43_200 < unsigned_abs (a.offset_from -ℤ a.offset_to)))
+
 -- the VTIMEZONE says this zone
 abbrev pub SaysZone : Tree → Zone → Type 0
 SaysZone t zone = PartsSay (parts_by is_part t) (parts_by is_standard t) (parts_by is_daylight t) zone

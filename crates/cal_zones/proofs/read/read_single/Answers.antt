@@ -3,8 +3,7 @@ use Rattle.std.proofs.lemmas.Result.{IfErr-weaker}
 use Rattle.ical_tree.specs.Tree.{component_lines}
 use Rattle.cal_zones.specs.Onsets.{observance_of, rule_of}
 use Rattle.cal_zones.specs.Read.{SingleFault, in_times, has_rule}
-use Rattle.cal_zones.specs.Made.{IsSingleFault}
-use Rattle.profile.specs.ZoneTexts.{SaysOnce}
+use Rattle.profile.specs.ZoneTexts.{SaysOnce, IsSingleFault}
 use Rattle.cal_zones.proofs.Reading.{single_refused, single_said}
 use Rattle.ical_values.proofs.Exits.{refusal_exit}
 use Rattle.cal_zones.proofs.read.read_single.Goals as goal
@@ -36,5 +35,5 @@ returns-clause-stands c =
       no_rule = c.has_line.ensures.missing c.if-has_line.false;
       is = ap (rule_of o.day) c.in_ok-observance.ensures.no_rule;
     } in
-    IfErr-weaker _ (λ e. IsSingleFault e.number o) (λ e. SingleFault lines e.number)
+    IfErr-weaker _ (λ e. IsSingleFault e.number (observance_of o)) (λ e. SingleFault lines e.number)
     (λ e h. single_refused lines o e.number once c.in_ok-observance.ensures.no_rule h) c.single.ensures.refuses
