@@ -4,8 +4,8 @@ ghost use Rattle.std.specs.Prelude.{◌≡◌, ◌↔◌, ◌<◌, ◌≤◌, tr
 ghost use Rattle.std.specs.Prelude.{pos, unsigned_abs, ◌-ℤ◌, IsSome, IfSome, IfOk, IfErr};
 ghost use Rattle.profile.specs.Days.{days_in_month};
 ghost use Rattle.profile.specs.Zones.{Constant, Single, local_time};
-ghost use Rattle.profile.specs.ZoneTexts.{AreMatched, AreSpaced, IsSingleFault, IsPairFault};
-ghost use Rattle.cal_zones.specs.Shapes.{is_yearly};
+ghost use Rattle.profile.specs.ZoneTexts.{is_each_year, AreMatched, AreSpaced, IsSingleFault, IsPairFault};
+ghost use Rattle.cal_zones.specs.Shapes.{days_of, is_yearly};
 ghost use Rattle.cal_zones.specs.Onsets.{observance_of};
 ghost use Rattle.cal_zones.specs.Kinds.{zone_of, pair_of};
 
@@ -52,7 +52,7 @@ fn is_yearly(month: u8, days: MonthDays) -> bool
 impl Yearly {
     /// The rule of that month and these days of it. None where a year lacks the day or has two of it.
     pub fn new(month: u8, days: MonthDays) -> Option<Yearly>
-        ensures found { IsSome result ↔ (is_yearly month days ≡ true) }
+        ensures found { IsSome result ↔ (is_each_year month (days_of days) ≡ true) }
         ensures value { IfSome result (λ r. (r.month ≡ month) × (r.days ≡ days)) }
     {
         if !is_yearly(month, days) {
