@@ -1,10 +1,10 @@
 -- What DTSTART, DTEND and DURATION say, put together.
-use Rattle.std.proofs.Common.{◌≡◌, ◌∙◌, ℕ, ◌+◌, ◌*◌, ◌<◌, ◌≤◌, Bool, true, List, codes, subst, sym, refl, ap, inl, inr, arith, ℤ, pos, ◌+ℤ◌, ◌<ℤ◌, negsuc, ◌≤ℤ◌}
+use Rattle.std.proofs.Common.{◌≡◌, ◌∙◌, ℕ, ◌+◌, ◌*◌, ◌<◌, ◌≤◌, ◌^◌, Bool, true, List, codes, subst, sym, refl, ap, inl, inr, arith, ℤ, pos, ◌+ℤ◌, ◌<ℤ◌, negsuc, ◌≤ℤ◌}
 use Rattle.std.specs.Prelude.{Option, Some, None, ◌⊎◌}
 use Rattle.std.proofs.lemmas.Int.{ints}
 use Rattle.profile.specs.Trees.{Tree}
 use Rattle.profile.specs.Lines.{line_value}
-use Rattle.profile.specs.Values.{SpellsNegative, SpellsLong}
+use Rattle.profile.specs.Values.{SpellsDuration, SpellsNegative, SpellsLong}
 use Rattle.profile.specs.Events.{StandsAtMostOnce, SomeLine, IsLength, length_seconds, IsNoDuration, IsNegativeOrLong}
 use Rattle.profile.specs.ZonedTimes.{EventTimes, LastsSo, SaysInstant, SaysEventTimes, EventTimesFault, is_in_zone, HasDays, bad_duration, ends_early, ends_late, lasts_long, starts_early, nominal}
 use Rattle.cal_events.specs.declared.component.Extent.{Extent}
@@ -119,3 +119,22 @@ duration_fault object lines line text n once e (inr k) none positive long =
     let long' = subst (λ (t : List ℕ). SpellsNegative t ⊎ SpellsLong t) e (long k) in
     subst (EventTimesFault object lines) (sym k)
     (lasts_long (some_line (codes "DURATION") IsNegativeOrLong lines line once (elim long' [ inl h ↦ inl h | inr h ↦ long_length line h ])))
+
+-- ---- the days of a DURATION
+
+abbrev OneReading : List ℕ → Type 0
+OneReading text = (days seconds other_days other_seconds : ℕ) → SpellsDuration text days seconds → SpellsDuration text other_days other_seconds
+    → (days ≡ other_days) × (seconds ≡ other_seconds)
+
+not_long : (text : List ℕ) (days seconds : ℕ) → OneReading text → SpellsDuration text days seconds → days < 2 ^ 32 → seconds < 2 ^ 32 → SpellsLong text → ⊥
+not_long text days seconds one spelled d s (other_days, other_seconds, other, past) =
+    let same = one days seconds other_days other_seconds spelled other in
+    elim past [ inl p ↦ absurd (omega (arith, same.0, d, p)) | inr p ↦ absurd (omega (arith, same.1, s, p)) ]
+
+-- a text that is refused is no duration that 32 bits count
+pub not_counted : (text : List ℕ) (n days seconds : ℕ) → OneReading text → (SpellsDuration text days seconds → SpellsNegative text → ⊥)
+    → (n ≡ 12) ⊎ (n ≡ 51) → (n ≡ 12 → IsNone text) → (n ≡ 51 → SpellsNegative text ⊎ SpellsLong text)
+    → SpellsDuration text days seconds → days < 2 ^ 32 → seconds < 2 ^ 32 → ⊥
+not_counted text n days seconds one positive (inl k) none long spelled d s = none k days seconds spelled
+not_counted text n days seconds one positive (inr k) none long spelled d s =
+    elim (long k) [ inl h ↦ positive spelled h | inr h ↦ not_long text days seconds one spelled d s h ]

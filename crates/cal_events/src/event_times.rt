@@ -1,14 +1,14 @@
 //! When an event starts and how long it lasts, where DTSTART and DTEND may have TZID (RFC 5545 3.6.1): first its three
 //! properties as they are said, then all of them together. By now days in a DURATION aren't read beside a DTSTART with TZID.
 
-ghost use Rattle.std.specs.Prelude.{◌≡◌, ℕ, List, true, Some, ◌+ℤ◌, IfOk, IfErr, OnOk, IfSome};
+ghost use Rattle.std.specs.Prelude.{◌≡◌, ◌↔◌, ℕ, List, Some, ◌+ℤ◌, IfOk, IfErr, OnOk, OnErr, IfSome, IfNone, IsTrue};
 ghost use Rattle.ical_lines.specs.Fault.{RefusesBy};
 ghost use Rattle.ical_lines.specs.Text.{line_text};
 ghost use Rattle.ical_tree.specs.Tree.{component_lines, tree_of};
 ghost use Rattle.profile.specs.Trees.{Tree};
 ghost use Rattle.profile.specs.Zones.{IsNearEpoch};
 ghost use Rattle.profile.specs.Events.{StandsAtMostOnce};
-ghost use Rattle.profile.specs.ZonedTimes.{is_in_zone, SaysInstant, ZonedTimeFault, HasDays, SaysEventTimes, EventTimesFault};
+ghost use Rattle.profile.specs.ZonedTimes.{is_in_zone, SaysInstant, ZonedTimeFault, HasCountedDays, HasNominalLength, SaysEventTimes, EventTimesFault};
 ghost use Rattle.cal_events.specs.Zoned.{times_of, IsExtentIn, IsExact, IsNominal, AreSaid};
 
 use crate::component::{Extent, FIRST_SECOND, judge_extent, seconds_of};
@@ -17,6 +17,7 @@ use crate::zoned::ZonedTime;
 use ical_lines::{Fault, Line, Refusal};
 use ical_tree::Component;
 use ical_values::Duration;
+use ical_values::duration::one_duration;
 use std::alloc::Global;
 
 /// The times of an event, judged together.
@@ -84,9 +85,13 @@ impl SaidTimes {
 }
 
 /// Refuses a VEVENT with days in its DURATION beside a DTSTART with TZID: by such days a later instance may last longer
-/// or shorter than the first. Where one of the two stands twice nothing is refused here.
+/// or shorter than the first. Where one of the two stands twice nothing is refused here, nor for a DURATION past 32 bits,
+/// which is refused when it is read (51).
 /// Refused: 99.
 pub fn refuse_nominal_length(component: &Component) -> Result<(), Refusal>
+    ensures passes { OnOk result (HasNominalLength (component_lines component.now) → ⊥) }
+    ensures refuses { OnErr result (HasNominalLength (component_lines component.now)) }
+    ensures number { IfErr result (λ e. e.number ≡ 99) }
     ensures stands { (object : Tree) → IfErr result (λ e. EventTimesFault object (component_lines component.now) e.number) }
 {
     let Some(start) = only_line(component, "DTSTART") else {
@@ -101,9 +106,10 @@ pub fn refuse_nominal_length(component: &Component) -> Result<(), Refusal>
     Ok(())
 }
 
-/// The line of a property that stands once.
+/// The line of a property that stands once, None where it is missing or stands twice.
 fn only_line<'a>(component: &'a Component, name: &str) -> Option<Line<'a>>
-    ensures { IfSome result (λ line. StandsAtMostOnce name.now (component_lines component.now) (Some (line_text line))) }
+    ensures found { IfSome result (λ line. StandsAtMostOnce name.now (component_lines component.now) (Some (line_text line))) }
+    ensures none { IfNone result ((line : List ℕ) → StandsAtMostOnce name.now (component_lines component.now) (Some line) → ⊥) }
 {
     match required(component, name) {
         Ok(line) => Some(line),
@@ -118,10 +124,11 @@ fn is_in_zone(line: Line<'_>) -> bool
     line.param("TZID").is_some()
 }
 
-/// Whether a line is a duration with days.
+/// Whether a line is a duration with days that 32 bits count.
 fn has_days(line: Line<'_>) -> bool
-    ensures { result ≡ true → HasDays (line_text line.entry) }
+    ensures { IsTrue result ↔ HasCountedDays (line_text line.entry) }
 {
+    one_duration();
     match Duration::read(line.value()) {
         Ok(duration) => duration.days > 0,
         Err(_) => false,

@@ -5,10 +5,11 @@ use Rattle.profile.specs.ZonedTimes.{is_in_zone, HasDays, nominal}
 use Rattle.cal_events.proofs.EventLemmas.{some_line}
 use Rattle.cal_events.proofs.event_times.refuse_nominal_length.Goals as goal
 
-pub returns-then-has_days : goal.returns-then-has_days
-returns-then-has_days c =
+pub returns-then-has_days-clause-stands : goal.returns-then-has_days-clause-stands
+returns-then-has_days-clause-stands c object =
     let lines = component_lines c.args.component.now in
     let zoned : is_in_zone (line_text c.in-Some.start) ≡ true = sym c.if-is_in_zone.ensures in
-    let starts = some_line (codes "DTSTART") (λ l. is_in_zone l ≡ true) lines (line_text c.in-Some.start) c.in-Some.ensures zoned in
-    let lasts = some_line (codes "DURATION") HasDays lines (line_text c.in-Some-only_line.duration) c.in-Some-only_line.ensures (c.if-has_days.ensures refl) in
-    record { stands = λ object. nominal starts lasts }
+    let days = c.if-has_days.ensures.0 refl in
+    let starts = some_line (codes "DTSTART") (λ l. is_in_zone l ≡ true) lines (line_text c.in-Some.start) c.in-Some.ensures.found zoned in
+    let lasts = some_line (codes "DURATION") HasDays lines (line_text c.in-Some-only_line.duration) c.in-Some-only_line.ensures.found (days.0, days.1, days.2) in
+    nominal starts lasts
