@@ -4,7 +4,7 @@ use Rattle.std.specs.Prelude.{Option, Some, None, option_map, find}
 use Rattle.ical_lines.specs.Fault.{RefusesBy}
 use Rattle.ical_lines.specs.declared.fault.Fault.{Fault}
 use Rattle.ical_lines.specs.declared.fault.Fault.TheVariants.{Refused, Memory}
-use Rattle.ical_tree.specs.Tree.{component_name, component_lines, component_children, tree_of}
+use Rattle.ical_tree.specs.Tree.{component_name, component_children, tree_of}
 use Rattle.ical_tree.specs.declared.component.Component.{Component}
 use Rattle.ical_tree.proofs.TreeOfLemmas.{tree_of-name, tree_of-own, tree_of-inside}
 use Rattle.profile.specs.Lines.{line_param, line_value, is_same_name}
@@ -13,7 +13,7 @@ use Rattle.profile.specs.Zones.{Zone, Constant}
 use Rattle.profile.specs.ZoneTexts.{SaysZone, ZoneFault}
 use Rattle.profile.specs.Values.{SpellsStamp}
 use Rattle.profile.specs.Events.{TimeKind, DateTime, time_kind, IsTime, TimeFault}
-use Rattle.profile.specs.ZonedTimes.{vtimezones, has_zone_name, zone_named, SaysZoneOf, SpellsZoned, SaysZonedTime, LocalFault, NamedFault, InZoneFault, FaultIn, ZonedTimeFault}
+use Rattle.profile.specs.ZonedTimes.{has_zone_name, zone_named, SaysZoneOf, SpellsZoned, SaysZonedTime, LocalFault, NamedFault, InZoneFault, FaultIn, ZonedTimeFault}
 use Rattle.cal_events.specs.Zoned.{is_zone_called}
 
 -- ---- the first component of a name

@@ -1,7 +1,5 @@
 -- What the types of a VEVENT that was read stand for.
 use Rattle.std.specs.Prelude.{ℕ, Bool, true, false, List, map, filter, option_map, codes, Option, Some, None, ◌≡◌, ◌<◌, ℤ, pos, negsuc, ◌+ℤ◌, ◌<ℤ◌}
-use Rattle.ical_lines.specs.declared.fault.Fault.{Fault}
-use Rattle.ical_lines.specs.declared.fault.Fault.TheVariants.{Refused, Memory}
 use Rattle.ical_values.specs.Octets.{address_octets, text_octets}
 use Rattle.ical_values.specs.declared.duration.Duration.{Duration}
 use Rattle.std.specs.List.{AllZip}

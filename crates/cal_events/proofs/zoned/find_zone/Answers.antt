@@ -1,4 +1,4 @@
-use Rattle.std.proofs.Common.{◌≡◌, ◌∙◌, ◌<◌, ◌≤◌, ℕ, List, length, get_or, drop, ◌+◌, ap, sym, refl, subst, true}
+use Rattle.std.proofs.Common.{◌≡◌, ◌∙◌, ◌<◌, ◌≤◌, List, length, get_or, drop, ◌+◌, ap, sym, refl, subst, true}
 use Rattle.std.specs.Prelude.{find, option_map}
 use Rattle.std.proofs.lemmas.List.{drop_all}
 use Rattle.ical_tree.specs.Tree.{component_children, tree_of}
