@@ -1,6 +1,9 @@
 //! Each call that takes memory, once with enough of it. Instants by `date -u -d .. +%s`.
 
-use crate::{Calendar, EventComponent, ParticipationStatus, Purpose, SaidTimes, ZonedTime};
+use crate::{
+    Calendar, EventComponent, ParticipationStatus, Purpose, SaidTimes, ZonedTime,
+    refuse_nominal_length,
+};
 use ical_lines::{Fault, Limits, Refusal};
 use ical_tree::read_object;
 use ical_values::Address;
@@ -104,5 +107,41 @@ fn an_end_in_a_zone(rt: HostRuntime) -> Result<(), Fault> {
         }
     }
     assert!(rt; is_read);
+    Ok(())
+}
+
+#[test]
+fn days_beside_tzid(rt: HostRuntime) -> Result<(), Fault> {
+    for (start, duration, refused) in [
+        ("DTSTART;TZID=A:20250308T120000", "DURATION:P1D", true),
+        ("DTSTART;TZID=A:20250308T120000", "DURATION:P1W", true),
+        ("DTSTART;TZID=A:20250308T120000", "DURATION:P1DT1S", true),
+        ("DTSTART;TZID=A:20250308T120000", "DURATION:P0D", false),
+        ("DTSTART;TZID=A:20250308T120000", "DURATION:PT24H", false),
+        ("DTSTART;TZID=A:20250308T120000", "DURATION:-P1D", false),
+        ("DTSTART;TZID=A:20250308T120000", "DURATION;TZID=A:P", false),
+        (
+            "DTSTART;TZID=A:20250308T120000",
+            "DURATION:P1D\r\nDURATION:P1D",
+            false,
+        ),
+        ("DTSTART;TZID=A:20250308T120000", "DTEND:P1D", false),
+        ("DTSTART:20250308T170000Z", "DURATION:P1D", false),
+        ("DTSTART:20250308T170000Z", "DURATION;TZID=A:P1D", false),
+        ("UID:a", "DURATION:P1D", false),
+    ] {
+        let text = format!(in rt.alloc();
+            "BEGIN:VCALENDAR\r\nVERSION:2.0\r\nBEGIN:VEVENT\r\n{start}\r\n{duration}\r\nEND:VEVENT\r\nEND:VCALENDAR\r\n"
+        )?;
+        let object = read_object(rt.alloc(), text.as_bytes(), Limits::Open)?;
+        for component in object.children() {
+            let number = match refuse_nominal_length(component) {
+                Ok(()) => 0,
+                Err(refusal) => refusal.number,
+            };
+            let expected = if refused { 99 } else { 0 };
+            assert_eq!(rt; number, expected, "{start} {duration}");
+        }
+    }
     Ok(())
 }
