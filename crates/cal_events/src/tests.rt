@@ -119,6 +119,11 @@ fn days_beside_tzid(rt: HostRuntime) -> Result<(), Fault> {
         ("DTSTART;TZID=A:20250308T120000", "DURATION:P0D", false),
         ("DTSTART;TZID=A:20250308T120000", "DURATION:PT24H", false),
         ("DTSTART;TZID=A:20250308T120000", "DURATION:-P1D", false),
+        (
+            "DTSTART;TZID=A:20250308T120000",
+            "DURATION:P5000000000D",
+            false,
+        ),
         ("DTSTART;TZID=A:20250308T120000", "DURATION;TZID=A:P", false),
         (
             "DTSTART;TZID=A:20250308T120000",
