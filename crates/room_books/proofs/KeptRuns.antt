@@ -23,7 +23,7 @@ use Rattle.room_books.proofs.KeptMeetings.{AnswersApart}
 
 -- a delivery's claims: at most one, which its octets ask for
 pub record OneAsked (room : List ℕ) (claims : List Claim) : Type 0 where
-  few : length claims ≤ 1
+  pub few : length claims ≤ 1
   each : (c : Claim) → Contains claims c → IsAsked room c
 
 pub one_asked : (room octets : List ℕ) (event : Event) (parts : List Part) → SpellsRequest octets event → AreParts room event parts → OneAsked room (map (claim event) parts)
@@ -38,7 +38,7 @@ one_asked room octets event (part ∷ []) s h = record {
 }
 one_asked room octets event (part ∷ other ∷ parts) s h = absurd h
 
-delivered_asked : (room : List ℕ) (d : Delivery) → IsDelivered room d → OneAsked room d.claims
+pub delivered_asked : (room : List ℕ) (d : Delivery) → IsDelivered room d → OneAsked room d.claims
 delivered_asked room d h = subst (OneAsked room) (sym h.claims) (one_asked room h.octets h.event h.parts h.spells h.are)
 
 -- ---- the view
@@ -59,11 +59,12 @@ pub record KeepsAll (room : List ℕ) (book : Book) : Type 0 where
   pub apart : Pairwise AnswersApart (filter (is_confirmed book.taken) book.answers)
 
 -- a new answer is to one of the claims, whose part is fresh
-record IsNew (before after : List Part) (claims : List Claim) (a : Answer) : Type 0 where
-  among : Contains claims a.claim
-  gone : in_view before a.claim.part ≡ false
+pub record IsNew (before after : List Part) (claims : List Claim) (a : Answer) : Type 0 where
+  pub among : Contains claims a.claim
+  pub gone : in_view before a.claim.part ≡ false
+  pub seen : in_view after a.claim.part ≡ true
 
-new_answer : (before after : List Part) (moment : ℤ) (outcome : Outcome) (claims : List Claim) (a : Answer) → Contains (answered moment outcome (asked before after claims)) a → IsNew before after claims a
+pub new_answer : (before after : List Part) (moment : ℤ) (outcome : Outcome) (claims : List Claim) (a : Answer) → Contains (answered moment outcome (asked before after claims)) a → IsNew before after claims a
 new_answer before after moment outcome claims a c =
     let found = map_at _ (asked before after claims) a c in
     let is : found.0 ≡ a.claim = ap (λ (x : Answer). x.claim) found.2 in
@@ -72,6 +73,7 @@ new_answer before after moment outcome claims a c =
     record {
       among = subst (λ (x : Claim). Contains claims x) is from.0;
       gone = subst (λ (x : Claim). in_view before x.part ≡ false) is (not-true _ fresh.1);
+      seen = subst (λ (x : Claim). in_view after x.part ≡ true) is fresh.0;
     }
 
 -- a step with claims that octets ask for

@@ -24,3 +24,4 @@ pub mod KeptRuns
 pub mod KeptCalendars
 pub mod KeptStreams
 pub mod KeptExamples
+pub mod OneAnswer

@@ -2,7 +2,7 @@
 
 ghost use Rattle.std.specs.Prelude.{◌≡◌, ◌≤◌, ◌↔◌, ℕ, ℤ, List, length, Contains};
 ghost use Rattle.profile.specs.Instances.{Booked, IsClear};
-ghost use Rattle.profile.specs.Rooms.{Book, Delivery, Runs, empty_book, confirmed, most_singles};
+ghost use Rattle.profile.specs.Rooms.{Answer, Book, Delivery, Runs, empty_book, confirmed, most_singles};
 ghost use Rattle.profile.specs.Streams.{IsDelivered, AllAnswers, HasBook, empty_books};
 ghost use Rattle.profile.specs.Kept.{IsKeptCalendar, kept_certificate};
 ghost use Rattle.profile.specs.Calendars.{CertificateHolds, SpellsCalendar};
@@ -12,6 +12,16 @@ ghost use Rattle.profile.specs.Calendars.{CertificateHolds, SpellsCalendar};
 pub fn runs_stay_clear()
     ensures clear { (deliveries : List Delivery) (book : Book) → Runs empty_book deliveries book → IsClear (confirmed book) }
     ensures few { (deliveries : List Delivery) (book : Book) → Runs empty_book deliveries book → length (confirmed book) ≤ most_singles }
+{}
+
+/// An answer is final. Whatever a room takes later, the answer stays; and no part is answered twice. So where the same
+/// octets are answered again, it is with the answer that they got.
+pub fn answers_stay()
+    ensures stays { (before after : Book) (deliveries : List Delivery) → Runs before deliveries after
+        → (answer : Answer) → Contains before.answers answer → Contains after.answers answer }
+    ensures once { (room : List ℕ) (deliveries : List Delivery) (book : Book)
+        → ((taken : Delivery) → Contains deliveries taken → IsDelivered room taken) → Runs empty_book deliveries book
+        → (a b : Answer) → Contains book.answers a → Contains book.answers b → a.claim.part ≡ b.claim.part → a ≡ b }
 {}
 
 /// Whatever messages come, in any order and repeated: the calendar that a room keeps after them spells what it has

@@ -11,5 +11,7 @@ mod taking;
 mod texts;
 
 pub use answer::{Answer, Kind, LimitKind};
-pub use laws::{kept_texts_pass, kept_texts_spell, runs_stay_clear, served_texts_pass};
+pub use laws::{
+    answers_stay, kept_texts_pass, kept_texts_spell, runs_stay_clear, served_texts_pass,
+};
 pub use room::Room;
