@@ -1,6 +1,7 @@
 //! The exit statuses of `roombox`, and what it says on standard error.
 
 ghost use Rattle.std.specs.Prelude.{◌≡◌};
+ghost use Rattle.sched_cli.specs.Commands.{fault_status};
 
 use ical_lines::Refusal;
 use sched_box::{ServeFault, StreamFault};
@@ -20,7 +21,9 @@ pub const DEVICE: u8 = 4;
 pub const MEMORY: u8 = 5;
 
 /// Says why a stream ended early, and gives the status for it.
-pub fn report_stream<E: Write>(errors: &mut E, fault: StreamFault) -> u8 {
+pub fn report_stream<E: Write>(errors: &mut E, fault: StreamFault) -> u8
+    ensures { result ≡ fault_status fault }
+{
     match fault {
         StreamFault::Refused(refusal) => report_refused(errors, refusal),
         StreamFault::Serve(ServeFault::Read) => report_device(errors),
@@ -31,13 +34,17 @@ pub fn report_stream<E: Write>(errors: &mut E, fault: StreamFault) -> u8 {
 }
 
 /// Says that the input is refused.
-pub fn report_refused<E: Write>(errors: &mut E, refusal: Refusal) -> u8 {
+pub fn report_refused<E: Write>(errors: &mut E, refusal: Refusal) -> u8
+    ensures { result ≡ 3 }
+{
     let _ = writeln!(errors, "roombox: refused {}", refusal.number);
     REFUSED
 }
 
 /// Says that the input is too long.
-pub fn report_too_long<E: Write>(errors: &mut E) -> u8 {
+pub fn report_too_long<E: Write>(errors: &mut E) -> u8
+    ensures { result ≡ 3 }
+{
     let _ = writeln!(errors, "roombox: too long");
     REFUSED
 }
