@@ -2,6 +2,15 @@
 //! By now an event alone in its object; RDATE, EXDATE, RECURRENCE-ID, and days in a DURATION beside a DTSTART with TZID
 //! aren't read yet (99).
 
+ghost use Rattle.std.specs.Prelude.{◌≡◌, ◌++◌, ◌∷◌, ◌<◌, ℕ, List, [], decimal, Some, None, OnOk, IfOk, IfSome, IfNone};
+ghost use Rattle.std.specs.Io.KnownBytes.{Appends, Keeps};
+ghost use Rattle.profile.specs.Days.{day_index};
+ghost use Rattle.profile.specs.Values.{IsClockSeconds};
+ghost use Rattle.profile.specs.Rules.{Parts, rule_days_from};
+ghost use Rattle.profile.specs.Zones.{Means, IsNearEpoch, local_time};
+ghost use Rattle.cal_zones.specs.Kinds.{zone_of};
+ghost use Rattle.sched_cli.specs.Expanding.{IsInstanceLine, IsPrinted, IsPrintedOn, IsHandedOver, IsSecondOf, PrintsFirst, PrintsRule, PrintsOne};
+
 use crate::status::{DONE, report_device, report_memory, report_refused};
 use cal_days::Day;
 use cal_events::{
@@ -76,19 +85,20 @@ impl Series {
         Ok(Series { times, rule })
     }
 
-    fn print<W: Write>(
-        &self,
-        alloc: Global,
-        limit: usize,
-        writer: &mut W,
-    ) -> Result<(), PrintFault> {
-        let mut lines = Lines::new(alloc, i64::from(self.times.seconds))?;
-        match &self.rule {
-            Some(rule) => self.print_days(rule, limit, &mut lines, writer)?,
-            None => lines.append_instant(self.times.instant)?,
-        }
-        lines.hand_over(writer)?;
-        flush(writer)
+    fn print<W: Write>(&self, alloc: Global, limit: usize, writer: &mut W) -> Result<(), PrintFault>
+        ensures rule { OnOk result ((rule : Parts) → self.now.rule ≡ Some rule
+            → PrintsRule (zone_of self.now.times.start.zone) self.now.times.start.local self.now.times.seconds limit rule (W.contents writer.old) (W.contents writer.new)) }
+        ensures one { OnOk result (self.now.rule ≡ None → PrintsOne (zone_of self.now.times.start.zone) self.now.times.start.local self.now.times.seconds (W.contents writer.old) (W.contents writer.new)) }
+    {
+        let mut lines = Lines::new(alloc, self.times.seconds)?;
+        let Some(rule) = &self.rule else {
+            lines.append_instant(self.times.start.instant())?;
+            lines.finish(writer)?;
+            return Ok(());
+        };
+        self.print_days(rule, limit, &mut lines, writer)?;
+        lines.finish(writer)?;
+        Ok(())
     }
 
     /// The lines of the first days of the rule. The starts ascend, as two offsets of a zone lie at most 12 hours apart,
@@ -99,16 +109,54 @@ impl Series {
         limit: usize,
         lines: &mut Lines,
         writer: &mut W,
-    ) -> Result<(), PrintFault> {
+    ) -> Result<(), PrintFault>
+        requires text { lines.old.text.items ≡ [] }
+        requires length { lines.old.length.items ≡ decimal self.now.times.seconds ++ 10 ∷ [] }
+        ensures { OnOk result ((second : ℕ) × IsSecondOf self.now.times.start.local second × PrintsFirst (zone_of self.now.times.start.zone) second self.now.times.seconds limit
+            (rule_days_from rule.now rule.now.pattern.start) (W.contents writer.old) (W.contents writer.new) lines.new.text.items) }
+    {
         let second = second_of(self.times.start.local);
-        for day in rule.days(rule.start()).take(limit) {
-            if let Some(instant) = start_on(&self.times.start, day, second) {
-                lines.append_instant(instant)?;
-                if lines.text.len() >= FULL {
-                    lines.hand_over(writer)?;
-                }
-            }
+        let mut days = rule.days(rule.start());
+        for count in 0..limit {
+            let Some(day) = days.next() else {
+                return Ok(());
+            };
+            self.print_day(day, second, lines, writer)?;
         }
+        Ok(())
+    }
+
+    /// The line of the instance of a day.
+    fn print_day<W: Write>(
+        &self,
+        day: Day,
+        second: u32,
+        lines: &mut Lines,
+        writer: &mut W,
+    ) -> Result<(), PrintFault>
+        requires { lines.old.length.items ≡ decimal self.now.times.seconds ++ 10 ∷ [] }
+        ensures length { lines.new.length.items ≡ lines.old.length.items }
+        ensures line { OnOk result ((line : List ℕ) × IsPrintedOn (zone_of self.now.times.start.zone) second self.now.times.seconds (day_index day) line
+            × IsHandedOver (W.contents writer.old) (W.contents writer.new) lines.new.text.items (lines.old.text.items ++ line)) }
+    {
+        self.append_day(day, second, lines)?;
+        if lines.text.len() >= FULL {
+            lines.hand_over(writer)?;
+        }
+        Ok(())
+    }
+
+    /// Adds the line of the instance of a day.
+    fn append_day(&self, day: Day, second: u32, lines: &mut Lines) -> Result<(), AllocError>
+        requires { lines.old.length.items ≡ decimal self.now.times.seconds ++ 10 ∷ [] }
+        ensures length { lines.new.length.items ≡ lines.old.length.items }
+        ensures line { OnOk result ((line : List ℕ) × IsPrintedOn (zone_of self.now.times.start.zone) second self.now.times.seconds (day_index day) line
+            × (lines.new.text.items ≡ lines.old.text.items ++ line)) }
+    {
+        let Some(instant) = start_on(&self.times.start, day, second) else {
+            return Ok(());
+        };
+        lines.append_instant(instant)?;
         Ok(())
     }
 }
@@ -131,7 +179,10 @@ struct Lines {
 
 impl Lines {
     /// None yet.
-    fn new(alloc: Global, seconds: i64) -> Result<Lines, AllocError> {
+    fn new(alloc: Global, seconds: u32) -> Result<Lines, AllocError>
+        ensures text { IfOk result (λ lines. lines.text.items ≡ []) }
+        ensures length { IfOk result (λ lines. lines.length.items ≡ decimal seconds ++ 10 ∷ []) }
+    {
         let mut length = Vec::new(alloc);
         let mut digits = Buffer::new();
         length.extend_from_slice(digits.format(seconds).as_bytes())?;
@@ -144,14 +195,23 @@ impl Lines {
     }
 
     /// One more instance, if it starts before the year 10000; its original start is its start.
-    fn append_instant(&mut self, instant: i64) -> Result<(), AllocError> {
+    fn append_instant(&mut self, instant: i64) -> Result<(), AllocError>
+        ensures length { self.new.length.items ≡ self.old.length.items }
+        ensures line { OnOk result ((seconds : ℕ) → self.old.length.items ≡ decimal seconds ++ 10 ∷ []
+            → (line : List ℕ) × IsPrinted seconds instant line × (self.new.text.items ≡ self.old.text.items ++ line)) }
+    {
         match Stamp::of_instant(instant) {
             Some(start) => self.append(start),
             None => Ok(()),
         }
     }
 
-    fn append(&mut self, start: Stamp) -> Result<(), AllocError> {
+    /// One more instance, whose original start is its start.
+    fn append(&mut self, start: Stamp) -> Result<(), AllocError>
+        ensures length { self.new.length.items ≡ self.old.length.items }
+        ensures line { OnOk result ((seconds : ℕ) → self.old.length.items ≡ decimal seconds ++ 10 ∷ []
+            → (line : List ℕ) × IsInstanceLine seconds start line × (self.new.text.items ≡ self.old.text.items ++ line)) }
+    {
         self.start.clear();
         start.write(&mut self.start)?;
         self.start.push(b' ')?;
@@ -161,16 +221,31 @@ impl Lines {
     }
 
     /// Writes the lines, and forgets them.
-    fn hand_over<W: Write>(&mut self, writer: &mut W) -> Result<(), PrintFault> {
+    fn hand_over<W: Write>(&mut self, writer: &mut W) -> Result<(), PrintFault>
+        ensures written { OnOk result (Appends (W.contents writer.old) (W.contents writer.new) self.old.text.items) }
+        ensures text { OnOk result (self.new.text.items ≡ []) }
+        ensures length { self.new.length.items ≡ self.old.length.items }
+    {
         if writer.write_all(self.text.as_slice()).is_err() {
             return Err(PrintFault::Device);
         }
         self.text.clear();
         Ok(())
     }
+
+    /// Writes the lines that are left, and flushes.
+    fn finish<W: Write>(&mut self, writer: &mut W) -> Result<(), PrintFault>
+        ensures { OnOk result (Appends (W.contents writer.old) (W.contents writer.new) self.old.text.items) }
+    {
+        self.hand_over(writer)?;
+        flush(writer)?;
+        Ok(())
+    }
 }
 
-fn flush<W: Write>(writer: &mut W) -> Result<(), PrintFault> {
+fn flush<W: Write>(writer: &mut W) -> Result<(), PrintFault>
+    ensures { Keeps (W.contents writer.old) (W.contents writer.new) }
+{
     match writer.flush() {
         Ok(()) => Ok(()),
         Err(_) => Err(PrintFault::Device),
@@ -260,8 +335,14 @@ fn last_day_at(start: &ZonedTime, until: i64) -> Option<Day> {
 }
 
 /// The instant at which an instance starts on a day: at that second of the day on the clock of the zone.
-fn start_on(start: &ZonedTime, day: Day, second: u32) -> Option<i64> {
-    let local = LocalTime::of_seconds(day.number() * DAY + i64::from(second))?;
+fn start_on(start: &ZonedTime, day: Day, second: u32) -> Option<i64>
+    ensures means { IfSome result (Means (zone_of start.now.zone) (local_time (day_index day) second)) }
+    ensures range { IfSome result IsNearEpoch }
+    ensures none { IfNone result (IsClockSeconds (local_time (day_index day) second) → ⊥) }
+{
+    let Some(local) = LocalTime::of_seconds(day.number() * DAY + i64::from(second)) else {
+        return None;
+    };
     Some(start.zone.resolve(local))
 }
 
@@ -271,6 +352,8 @@ fn day_of(local: LocalTime) -> Option<Day> {
 }
 
 /// The second of its day.
-fn second_of(local: LocalTime) -> u32 {
+fn second_of(local: LocalTime) -> u32
+    ensures { IsSecondOf local result }
+{
     local.seconds().rem_euclid(DAY) as u32
 }

@@ -1,0 +1,19 @@
+use Rattle.std.proofs.Common.{◌∙◌}
+use Rattle.profile.specs.Days.{day_index}
+use Rattle.profile.specs.Rules.{rule_days_from}
+use Rattle.cal_rules.specs.Left.{days_left}
+use Rattle.cal_zones.specs.Kinds.{zone_of}
+use Rattle.sched_cli.proofs.Printing.{one_more}
+use Rattle.sched_cli.proofs.expand.Series.print_days.Goals as goal
+
+pub loop-count-preserved : goal.loop-count-preserved
+loop-count-preserved g c =
+    let i = c.loop-count.invariant in
+    let moved = c.in_ok-print_day.ensures.line in
+    record {
+      length = c.print_day.ensures.length ∙ i.length;
+      printed = one_more (zone_of c.args.self.now.times.start.zone) c.second_of-second.result c.args.self.now.times.seconds c.loop-count.count (day_index c.in-Some.day)
+          (rule_days_from c.args.rule.now c.args.rule.now.pattern.start) (days_left c.loop-count.days) (days_left c.next.new.self)
+          (g.W.Write.contents c.args.writer.now) (g.W.Write.contents c.loop-count.writer) (g.W.Write.contents c.print_day.new.writer)
+          c.loop-count.lines.text.items c.print_day.new.lines.text.items moved.0 c.in-Some.ensures.steps moved.1 moved.2 i.printed;
+    }
