@@ -236,4 +236,5 @@ def main():
         line(work, 1, seconds, f"{size / seconds / 1e6:.0f} MB/s", peak)
 
 
-main()
+if __name__ == "__main__":
+    main()

@@ -14,25 +14,16 @@ import subprocess
 import sys
 from datetime import datetime
 from itertools import islice
+from pathlib import Path
 
 from dateutil.rrule import rrulestr
+
+sys.path.append(str(Path(__file__).resolve().parent.parent / "bench"))
+from bench import SERIES, crlf  # the object with one rule, which bench lists too
 
 DAYS = ["MO", "TU", "WE", "TH", "FR", "SA", "SU"]
 LISTED = 40
 YEARS = 8
-OBJECT = """BEGIN:VCALENDAR
-VERSION:2.0
-PRODID:-//test//EN
-BEGIN:VEVENT
-UID:series@example.com
-DTSTAMP:20250101T000000Z
-ORGANIZER:mailto:ann@example.com
-DTSTART:{start}
-DURATION:PT1H
-RRULE:{rule}
-END:VEVENT
-END:VCALENDAR
-"""
 
 
 class TooSlow(Exception):
@@ -105,7 +96,7 @@ def case():
 
 
 def by_roombox(program, rule, start):
-    octets = OBJECT.format(start=start.strftime("%Y%m%dT%H%M%SZ"), rule=rule).replace("\n", "\r\n").encode()
+    octets = crlf(SERIES.format(start=start.strftime("%Y%m%dT%H%M%SZ"), rule=rule))
     done = subprocess.run([program, "expand", "--limit", str(LISTED)], input=octets, capture_output=True, check=False)
     lines = done.stdout.decode().splitlines()
     return [line.split()[0] for line in lines], done.stderr.decode().strip()

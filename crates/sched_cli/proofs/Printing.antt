@@ -1,5 +1,5 @@
 -- What `expand` prints, put together.
-use Rattle.std.proofs.Common.{◌≡◌, ◌∙◌, ap, sym, refl, ℕ, ◌+◌, List, [], ◌∷◌, ◌++◌, append_assoc, append-nil, length-append, Option, Some, None, ℤ, pos, ◌+ℤ◌, ◌-ℤ◌, ◌*◌, ◌/◌, ◌%◌, subst, arith}
+use Rattle.std.proofs.Common.{◌≡◌, ◌∙◌, ap, sym, refl, ℕ, ◌+◌, List, [], ◌∷◌, ◌++◌, append_assoc, append-nil, length-append, Option, ℤ, pos, ◌+ℤ◌, ◌-ℤ◌, ◌*◌, ◌/◌, ◌%◌, subst, arith}
 use Rattle.std.proofs.lemmas.Int.{ints, int_rem_euclid_is}
 use Rattle.std.specs.Int.{int_rem_euclid}
 use Rattle.std.specs.Prelude.{unsigned_abs}
@@ -20,10 +20,6 @@ second_is local rest range is =
     (m % 86_400, is ∙ int_rem_euclid_is local (pos 86_400) 86_400 719_162 m (omega arith) refl e, (omega arith, (pos (m / 86_400) -ℤ pos 719_162, omega (arith, ints, e))))
 
 -- ---- what was handed over
-
-pub appends_nothing : (known : Option (List ℕ)) → Appends known known []
-appends_nothing None = tt
-appends_nothing (Some xs) = sym (append-nil xs)
 
 -- one piece after another
 pub handed_on : (a b c : Option (List ℕ)) (text after piece octets : List ℕ) → IsHandedOver a b text octets → IsHandedOver b c after (text ++ piece) → IsHandedOver a c after (octets ++ piece)
