@@ -2,7 +2,12 @@
 RT ?= rt
 EXAMPLE := examples/first-request.ics-stream
 
-.PHONY: run try test bench clean
+.PHONY: try run test attack bench clean
+
+# Answers the first request within about a minute. Nothing is proved this way.
+try:
+	@cd crates/roombox && $(RT) try < ../../$(EXAMPLE)
+	@echo "(nothing was proved: 'make run' proves what it runs)"
 
 # Proves and builds the program, leaves it as bin/roombox, and answers the first request.
 run: bin/roombox
@@ -10,21 +15,20 @@ run: bin/roombox
 
 bin/roombox: FORCE
 	@mkdir -p bin out
-	@test -f bin/roombox || echo "proving and building: about a quarter of an hour the first time; out/build.log tells how far" >&2
-	@cd crates/roombox && $(RT) run < ../../$(EXAMPLE) > ../../out/first-reply 2> ../../out/build.log \
+	@RT=$(RT) python3 bench/prove.py roombox
+	@cd crates/roombox && $(RT) run < ../../$(EXAMPLE) > ../../out/first-reply 2>> ../../out/build.log \
 		|| { cat ../../out/build.log; exit 1; }
 	@cp crates/roombox/out/roombox bin/roombox
 
 FORCE:
 
-# Answers the first request within about a minute. Nothing is proved this way.
-try:
-	@cd crates/roombox && $(RT) try < ../../$(EXAMPLE)
-	@echo "(nothing was proved: 'make run' proves what it runs)"
-
 # The whole gate: every proof from nothing, the edits that must fail, the tests and the programs.
 test:
 	$(RT) ci
+
+# The planted edits that the gate doesn't try, in rounds: all, those of CRATE, or those of the crates that changed since a commit (SINCE).
+attack:
+	@RT=$(RT) python3 bench/attack.py $(CRATE) $(if $(SINCE),--since $(SINCE))
 
 # Jumps in the days of rules, for bench.
 bin/rule_seeks: bin/roombox FORCE

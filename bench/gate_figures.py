@@ -1,26 +1,20 @@
-"""Counts what the gate proves, for each crate and for all, and prints it as a page (docs/GATE.md).
+"""Counts what the gate proves and what it costs, for each crate and for all, and prints it as a page (docs/GATE.md).
 
-    python3 bench/gate_figures.py > docs/GATE.md
-    python3 bench/gate_figures.py --minutes 61 > docs/GATE.md
-    python3 bench/gate_figures.py --minutes 61 --of "an earlier tree with 400 edits" > docs/GATE.md
-    (time rt ci) > /tmp/ci.log 2>&1; python3 bench/gate_figures.py --log /tmp/ci.log > docs/GATE.md
+    python3 bench/gate.py > out/gate.tsv; python3 bench/dear_functions.py > out/functions.tsv
+    python3 bench/gate_figures.py --gate out/gate.tsv --functions out/functions.tsv --machine "four fast processors" > docs/GATE.md
 
-The processor minutes of the gate come from --minutes, or from a log of the gate under `time`: its lines `user` and `sys` are
-added up. A line counts where it isn't blank; comments count. With neither, the page says that the gate wasn't measured.
+A line counts where it isn't blank; comments count. Without --gate the page says that the gate wasn't measured.
 """
 
 import argparse
 import re
-import sys
 from pathlib import Path
 
-ROOT = Path(__file__).resolve().parent.parent
+from repository import ROOT, crates_below
+
 TEST_MODULE = "#[cfg(test)]"
 TEST = re.compile(r"^\s*#\[test\]", re.MULTILINE)
-# `time` of bash (user 1m2.3s), of POSIX (user 62.30), and of GNU with -v
-BASH_TIME = re.compile(r"^(?:user|sys)\s+(?:(\d+)m)?([\d.]+)s?\s*$", re.MULTILINE)
-GNU_TIME = re.compile(r"^\s*(?:User|System) time \(seconds\): ([\d.]+)\s*$", re.MULTILINE)
-COLUMNS = ("Crate", "Code", "Definitions and specs", "Proofs", "Must-fail edits", "Tests")
+COLUMNS = ("Crate", "Code", "Definitions and specs", "Proofs", "Must-fail edits", "Planted edits", "Tests")
 
 
 def filled(text):
@@ -38,7 +32,7 @@ def code_of(file, text):
 
 
 def figures(crate):
-    """The five counts of a crate's folder."""
+    """The six counts of a crate's folder."""
     sources = {file: file.read_text(encoding="utf-8") for file in sorted((crate / "src").rglob("*.rt"))}
     specs = sorted((crate / "specs").rglob("*.antt"))
     proofs = sorted((crate / "proofs").rglob("*.antt"))
@@ -47,55 +41,64 @@ def figures(crate):
         sum(filled(file.read_text(encoding="utf-8")) for file in specs),
         sum(filled(file.read_text(encoding="utf-8")) for file in proofs),
         len(list((crate / "must-fail").glob("*.edit"))),
+        len(list((crate / "planted").glob("*.edit"))),
         sum(len(TEST.findall(text)) for text in sources.values()),
     )
 
 
-def processor_minutes(log):
-    """The minutes of processor time that a log's `user` and `sys` lines add up to; None where it has none."""
-    seconds = [60 * int(minutes or 0) + float(rest) for minutes, rest in BASH_TIME.findall(log)]
-    seconds += [float(it) for it in GNU_TIME.findall(log)]
-    return sum(seconds) / 60 if seconds else None
+def rows_of(file):
+    """The lines of a file of columns parted by TABs."""
+    return [line.split("\t") for line in Path(file).read_text(encoding="utf-8").splitlines()]
 
 
-def measured(given):
-    """The line that tells what the gate took."""
-    minutes = given.minutes
-    if given.log:
-        minutes = processor_minutes(Path(given.log).read_text(encoding="utf-8", errors="replace"))
-        if minutes is None:
-            sys.exit(f"{given.log}: no `user` and `sys` lines; run the gate as (time rt ci) > LOG 2>&1")
-    if minutes is None:
-        return "Processor time of the gate: not measured. Measure it with `(time rt ci) > LOG 2>&1`; it is user and sys together."
-    of = f" Measured on {given.of}." if given.of else ""
-    return (
-        f"Processor time of the gate: {minutes:.0f} minutes, user and sys together, of `(time rt ci)` at the top of the repository: "
-        f"every proof from nothing, each must-fail edit, the tests and the programs.{of}"
-    )
+def costs(given, lines):
+    """What the gate took, by kind, and for 1,000 lines of code."""
+    if not given.gate:
+        return ["Not measured. Measure it with `python3 bench/gate.py > out/gate.tsv`."]
+    seconds = {kind: float(it) for kind, it in rows_of(given.gate)}
+    clock, whole = seconds.pop("minutes on the clock"), seconds["all"]
+    said = f"Measured on {given.machine}, with nothing beside it: {whole / 60:.0f} processor minutes, user and sys together, in {clock:.0f} minutes on the clock; "
+    said += f"{whole / 60 / lines * 1000:.1f} processor minutes for 1,000 lines of code."
+    table = [row(("Kind", "Processor minutes", "Share")), "|---|---:|---:|"]
+    return [said, "", *table, *[row((kind, f"{it / 60:.1f}", f"{100 * it / whole:.0f} %")) for kind, it in seconds.items()]]
 
 
-def row(cells):
-    return "| " + " | ".join(f"{cell:,}" if isinstance(cell, int) else cell for cell in cells) + " |"
+def dearest(file):
+    """The ten dearest functions of each crate."""
+    functions = {}
+    for crate, name, seconds in rows_of(file):
+        functions.setdefault(crate, []).append((float(seconds), name.removeprefix(f"{crate}::")))
+    for crate, found in functions.items():
+        start = sum(it for it, name in found if name == "start")
+        ten = sorted((it for it in found if it[1] != "start"), reverse=True)[:10]
+        yield row((f"`{crate}`", f"{start:.0f}", f"{sum(it for it, _ in found) - start:.0f}", ", ".join(f"`{name}` {it:.1f}" for it, name in ten)))
 
 
 def main():
     parser = argparse.ArgumentParser(description=__doc__.splitlines()[0])
-    parser.add_argument("--minutes", type=float, help="the gate's processor minutes")
-    parser.add_argument("--log", help="a log of `(time rt ci)`")
-    parser.add_argument("--of", help="the tree that was measured, where it isn't this one")
+    parser.add_argument("--gate", help="what bench/gate.py printed")
+    parser.add_argument("--functions", help="what bench/dear_functions.py printed")
+    parser.add_argument("--machine", default="this machine", help="what it was measured on")
     given = parser.parse_args()
-    names = [line.split(":")[0].split()[0] for line in (ROOT / "crates.txt").read_text().splitlines() if line.split("#")[0].strip()]
-    table = {name: figures(ROOT / "crates" / name) for name in names}
+    table = {name: figures(ROOT / "crates" / name) for name in crates_below()}
     total = [sum(column) for column in zip(*table.values())]
-    print("# The gate in figures\n")
-    print("Made by `python3 bench/gate_figures.py > docs/GATE.md`. Code, definitions, specs and proofs are lines that aren't blank;")
-    print("code is without its tests. The crate `profile` holds the definitions that all contracts cite.\n")
-    print(measured(given) + "\n")
+    print((ROOT / "bench" / "gate_head.md").read_text(encoding="utf-8"))
+    print("## What it costs\n")
+    print(*costs(given, total[0]), sep="\n")
+    print("\n## What it proves\n")
+    print("Code, definitions, specs and proofs are lines that aren't blank; code is without its tests. The crate `profile` holds the definitions that all contracts cite.\n")
     print(row(COLUMNS))
     print("|---|" + "---:|" * (len(COLUMNS) - 1))
     for name, counts in table.items():
         print(row((f"`{name}`", *counts)))
     print(row(("all", *total)))
+    if given.functions:
+        print("\n## The dearest functions\n")
+        print(f"Processor seconds on {given.machine}, by the progress lines of `rt check --jobs 1`: up to the first function of a crate (which loads the libraries), for")
+        print("all its others, and for its ten dearest. A function's time holds that of the lemma files that are first cited there.\n")
+        print(row(("Crate", "Start", "Functions", "The ten dearest")))
+        print("|---|---:|---:|---|")
+        print(*dearest(given.functions), sep="\n")
 
 
 if __name__ == "__main__":

@@ -1,0 +1,183 @@
+"""Tries planted edits: wrong programs, one small change each, that the prover must refuse.
+
+    python3 bench/attack.py [CRATE ..] [--since COMMIT] [--folder must-fail] [--lanes N]
+
+With no crate: all that have a folder planted/. --since takes the crates that changed since a commit, and those above them.
+
+The edits stand in crates/NAME/planted/*.edit, in the form of must-fail/: a line `file: src/lib.rt`, then pairs of lines `old: TEXT` and
+`new: TEXT`, where the old text stands once in the file. `rt ci` tries those of must-fail/ one by one; these are tried in rounds, for a
+fifth of the time or less. A round is one `rt check --jobs 1` of a fresh copy of the proved crate with edits of different functions in it. Each
+edit is judged by the goals of its own function: a function that fails only because it calls another one doesn't count. What lies outside
+src/, or in no function, is tried alone, and so is each edit that its round didn't refuse. An edit is let through where the crate is
+still proved with it alone; one that can't be applied or read shows nothing, and counts as let through.
+
+The last line is `N refused, M let through`. The status is 0 where none was let through, 1 where one was, 2 where nothing could be tried.
+"""
+
+import argparse
+import os
+import re
+import resource
+import subprocess
+import sys
+import tempfile
+from collections import namedtuple
+from concurrent.futures import ThreadPoolExecutor
+
+from repository import ROOT, RT, copied, crates_below
+
+FUNCTION = re.compile(r"^( *)(?:pub(?:\([^)]*\))? )?(?:const )?(?:unsafe )?fn (\w+)")
+IMPL = re.compile(r"^impl(?:<[^{]*?>)? (?:([\w:]+)(?:<.*>)? for )?&?(?:'\w+ )?(?:mut )?(\w+)")
+VERDICT = re.compile(r"^fn (\S+): (.*)$", re.MULTILINE)
+BY_A_CALL = re.compile(r"no proof: it calls .* not proved")
+# what a proof file says where an edit took away a name that it cites; such a refusal shows little
+BY_A_NAME = re.compile(r"has no field|is not in scope|has no `|was not admitted")
+
+# An edit: its crate, its name, its (file, old, new), and the functions that it changes, in the words of rt check; None where one isn't known.
+Edit = namedtuple("Edit", "crate name pairs functions")
+
+
+def function_at(crate, file, text, place):
+    """The name of the function round a place of a source text, as rt check prints it."""
+    lines = text[:place].count("\n") + 1
+    kind, found = "", None
+    for line in text.split("\n")[:lines]:
+        if line.startswith("impl"):
+            match = IMPL.match(line)
+            kind = match[2] + (match[1] or "").rpartition(":")[2] if match else "?"
+        elif line.startswith("}"):
+            kind, found = "", None
+        if match := FUNCTION.match(line):
+            found = (match[1], match[2])
+        elif found and line == found[0] + "}":
+            found = None
+    module = [] if file in ("src/lib.rt", "src/main.rt") else file[len("src/") : -len(".rt")].split("/")
+    return "::".join([crate, *module, *([kind] if kind else []), found[1]]) if found else None
+
+
+def read_edit(crate, path):
+    """An edit of a file, and why it can't be applied, if so."""
+    pairs, functions, texts, file, old, wrong = [], set(), {}, "", None, None
+    for line in path.read_text(encoding="utf-8").split("\n"):
+        if line.startswith("file: "):
+            file = line[len("file: ") :].strip()
+        elif line.startswith("old: "):
+            old = line[len("old: ") :]
+        elif line.startswith("new:") and old is not None:
+            new = line[len("new:") :].removeprefix(" ")
+            source = ROOT / "crates" / crate / file
+            text = texts.get(file) or (source.read_text(encoding="utf-8") if source.is_file() else "")
+            if text.count(old) != 1:
+                wrong = wrong or f"an old text stands in {file} {text.count(old)} times"
+            functions.add(function_at(crate, file, text, text.find(old)) if file.startswith("src/") else None)
+            # a further pair applies to what the earlier ones made
+            texts[file] = text.replace(old, new)
+            pairs.append((file, old, new))
+            old = None
+    return Edit(crate, path.stem, pairs, None if None in functions else frozenset(functions)), wrong if pairs else "it has no pair"
+
+
+def rounds_of(edits):
+    """Edits of different functions together; those of no known function alone."""
+    rounds = []
+    for edit in edits:
+        fits = lambda it: all(other.functions and not other.functions & edit.functions for other in it)
+        room = next((it for it in rounds if edit.functions and fits(it)), None)
+        rounds.append([edit]) if room is None else room.append(edit)
+    return rounds
+
+
+def checked(crate, below, edits):
+    """What rt check says of a copy of the crate with these edits, and whether it is proved."""
+    with tempfile.TemporaryDirectory(prefix="attack-") as room:
+        folder = copied(crate, below, room)
+        for edit in edits:
+            for file, old, new in edit.pairs:
+                text = (folder / file).read_text(encoding="utf-8")
+                if text.count(old) != 1:
+                    return "beside another edit an old text doesn't stand once", False
+                (folder / file).write_text(text.replace(old, new), encoding="utf-8")
+        how = {"stdin": subprocess.DEVNULL, "stdout": subprocess.PIPE, "stderr": subprocess.STDOUT, "errors": "replace"}
+        ran = subprocess.run([RT, "check", "--jobs", "1"], cwd=folder, **how)
+        return ran.stdout, ran.returncode == 0
+
+
+def refusal(said, functions):
+    """How the goals of one of these functions refuse it; None where they don't."""
+    for name, verdict in VERDICT.findall(said):
+        if name in functions and verdict != "proved" and not BY_A_CALL.match(verdict):
+            at = re.escape("proofs/" + "/".join(name.split("::")[1:]) + "/")
+            errors = re.findall(rf"^(?:\./)?{at}\S+: error: (.*)$", said, re.MULTILINE)
+            is_named = errors and all(BY_A_NAME.search(it) for it in errors) and "did not prove" not in verdict
+            return "by a name alone" if is_named else "by its goals"
+    return None
+
+
+def tried(crate, below, edits):
+    """Yields each edit of a round with what came of it: how it was refused, or why it was let through."""
+    said, is_proved = checked(crate, below, edits)
+    if len(edits) == 1:
+        edit, functions = edits[0], {name for name, _ in VERDICT.findall(said)}
+        if is_proved:
+            yield edit, None, "the crate is still proved with it"
+        elif "logic=not-proved" not in said:
+            yield edit, None, "it didn't reach the prover: " + next((it for it in said.splitlines() if "error" in it), said[:200])
+        else:
+            yield edit, refusal(said, edit.functions or functions) or refusal(said, functions) or "in a definition", ""
+        return
+    for edit in edits:
+        how = refusal(said, edit.functions) if "logic=not-proved" in said else None
+        # what the round didn't refuse is tried alone
+        yield from [(edit, how, "")] if how else tried(crate, below, [edit])
+
+
+def attack(crate, below, edits):
+    """Tries a round, and prints what came of it."""
+    results = list(tried(crate, below, edits))
+    for edit, how, why in results:
+        if how != "by its goals":
+            print(f"{crate}/{edit.name}: " + (f"refused {how}" if how else f"LET THROUGH: {why}"), flush=True)
+    print(f"{crate}: {sum(1 for it in results if it[1])} of {len(edits)} refused", flush=True)
+    return results
+
+
+def changed_since(commit, below):
+    """The crates of which a file changed since a commit, and those above them."""
+    said = subprocess.run(["git", "diff", "--name-only", commit, "--", "crates"], cwd=ROOT, stdout=subprocess.PIPE, text=True, check=True).stdout
+    changed = {line.split("/")[1] for line in said.splitlines()}
+    return [name for name in below if changed & below[name]]
+
+
+def main():
+    parser = argparse.ArgumentParser(description=__doc__.split("\n")[0])
+    parser.add_argument("crates", nargs="*")
+    parser.add_argument("--since", metavar="COMMIT")
+    parser.add_argument("--folder", default="planted")
+    parser.add_argument("--lanes", type=int, default=max(1, (os.cpu_count() or 1) // 2), help="rounds side by side, of up to 4 GB each")
+    given = parser.parse_args()
+    below = crates_below()
+    names = given.crates or (changed_since(given.since, below) if given.since else list(below))
+    rounds, bad = [], []
+    for crate in names:
+        read = [read_edit(crate, it) for it in sorted((ROOT / "crates" / crate / given.folder).glob("*.edit"))]
+        bad += [(edit, None, why) for edit, why in read if why]
+        if not read:
+            continue
+        print(f"{crate}: {len(read)} edits", flush=True)
+        if subprocess.run([RT, "check"], cwd=ROOT / "crates" / crate, stdin=subprocess.DEVNULL, stdout=subprocess.DEVNULL, stderr=subprocess.STDOUT).returncode:
+            print(f"{crate} isn't proved without an edit: see rt check in its folder", file=sys.stderr)
+            return 2
+        rounds += [(crate, it) for it in rounds_of([edit for edit, why in read if not why])]
+    with ThreadPoolExecutor(given.lanes) as lanes:
+        results = sum(lanes.map(lambda it: attack(it[0], below, it[1]), rounds), bad)
+    through = [(edit, why) for edit, how, why in results if how is None]
+    used = resource.getrusage(resource.RUSAGE_CHILDREN)
+    print(f"{len(rounds)} rounds, {used.ru_utime + used.ru_stime:.0f} processor seconds with the check of what is proved")
+    for edit, why in through:
+        print(f"let through: {edit.crate}/{edit.name}: {why}")
+    print(f"{len(results) - len(through)} refused, {len(through)} let through")
+    return 1 if through else 0
+
+
+if __name__ == "__main__":
+    sys.exit(main())

@@ -1,0 +1,35 @@
+"""The crates of the repository, for the scripts beside this file: who uses whom, and copies of one with its kept proofs."""
+
+import os
+import shutil
+from pathlib import Path
+
+ROOT = Path(__file__).resolve().parent.parent
+RT = os.environ.get("RT", "rt")
+PARTS = ("src", "specs", "proofs", "data", "stdin", "stdout", "args", "status")
+
+
+def crates_below():
+    """The libraries of this repository that each crate uses, itself included; lowest first."""
+    used = {}
+    for line in (ROOT / "crates.txt").read_text(encoding="utf-8").splitlines():
+        name, mark, rest = line.partition(":")
+        if mark and not line.startswith("#"):
+            used[name] = rest.split()
+    below = lambda name: {name}.union(*(below(it) for it in used[name] if it in used))
+    return dict(sorted(((name, below(name)) for name in used), key=lambda it: len(it[1])))
+
+
+def copied(crate, below, room, kept="out"):
+    """Copies a crate into an empty folder, with what its checks kept, and the built libraries below it; the other crates are only named."""
+    for name in ("crates.txt", "HANDLES"):
+        shutil.copy(ROOT / name, room)
+    for name in below:
+        source, target = ROOT / "crates" / name, Path(room) / "crates" / name
+        is_used = name in below[crate]
+        for part in (*PARTS, kept if name == crate else "out/rlib") if is_used else ("src",):
+            if (source / part).is_dir():
+                shutil.copytree(source / part, target / part)
+            elif (source / part).is_file():
+                shutil.copy(source / part, target / part)
+    return Path(room) / "crates" / crate
