@@ -16,8 +16,6 @@ mod position;
 mod read;
 mod rule;
 mod span;
-#[cfg(test)]
-mod tests;
 mod text;
 mod values;
 mod write;

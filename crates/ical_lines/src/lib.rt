@@ -21,6 +21,3 @@ pub use limits::Limits;
 pub use line::{Line, Param, Params};
 pub use object_end::{Cutter, cut};
 pub use text::{Lines, Unfolded};
-
-#[cfg(test)]
-mod tests;

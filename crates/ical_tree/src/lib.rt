@@ -11,6 +11,3 @@ pub use component::Component;
 pub use law::one_tree;
 pub use read::read_object;
 pub use write::write_object;
-
-#[cfg(test)]
-mod tests;

@@ -11,8 +11,6 @@ pub mod offset;
 pub mod sequence;
 pub mod shown;
 pub mod stamp;
-#[cfg(test)]
-mod tests;
 pub mod text;
 
 pub use address::Address;
