@@ -33,12 +33,12 @@ BY_A_CALL = re.compile(r"no proof: it calls .* not proved")
 # what a proof file says where an edit took away a name that it cites; such a refusal shows little
 BY_A_NAME = re.compile(r"has no field|is not in scope|has no `|was not admitted")
 
-# An edit: its crate, its name, its (file, old, new), and the functions that it changes, in the words of rt check; None where one isn't known.
+# An edit: its crate, its name, its (file, old, new), and the ends of the names of the functions that it changes; None where one isn't known.
 Edit = namedtuple("Edit", "crate name pairs functions")
 
 
 def function_at(crate, file, text, place):
-    """The name of the function round a place of a source text, as rt check prints it."""
+    """The end of the name of the function round a place of a source text, as rt check prints it: a method is named after its type's module."""
     lines = text[:place].count("\n") + 1
     kind, found = "", None
     for line in text.split("\n")[:lines]:
@@ -52,7 +52,7 @@ def function_at(crate, file, text, place):
         elif found and line == found[0] + "}":
             found = None
     module = [] if file in ("src/lib.rt", "src/main.rt") else file[len("src/") : -len(".rt")].split("/")
-    return "::".join([crate, *module, *([kind] if kind else []), found[1]]) if found else None
+    return "::".join(["", kind, found[1]] if kind else [crate, *module, found[1]]) if found else None
 
 
 def read_edit(crate, path):
@@ -102,10 +102,15 @@ def checked(crate, below, edits):
         return ran.stdout, ran.returncode == 0
 
 
+def is_in(name, functions):
+    """Is the name that of one of these functions, or of a closure in one?"""
+    return any(name.endswith(it) or f"::fn::{it.rpartition('::')[2]}::" in name for it in functions)
+
+
 def refusal(said, functions):
-    """How the goals of one of these functions refuse it; None where they don't."""
+    """How the goals of one of these functions refuse it; None where they don't. Of no functions: of any."""
     for name, verdict in VERDICT.findall(said):
-        if name in functions and verdict != "proved" and not BY_A_CALL.match(verdict):
+        if (not functions or is_in(name, functions)) and verdict != "proved" and not BY_A_CALL.match(verdict):
             at = re.escape("proofs/" + "/".join(name.split("::")[1:]) + "/")
             errors = re.findall(rf"^(?:\./)?{at}\S+: error: (.*)$", said, re.MULTILINE)
             is_named = errors and all(BY_A_NAME.search(it) for it in errors) and "did not prove" not in verdict
@@ -116,19 +121,24 @@ def refusal(said, functions):
 def tried(crate, below, edits):
     """Yields each edit of a round with what came of it: how it was refused, or why it was let through."""
     said, is_proved = checked(crate, below, edits)
+    is_read = is_proved or "logic=not-proved" in said
     if len(edits) == 1:
-        edit, functions = edits[0], {name for name, _ in VERDICT.findall(said)}
         if is_proved:
-            yield edit, None, "the crate is still proved with it"
-        elif "logic=not-proved" not in said:
-            yield edit, None, "it didn't reach the prover: " + next((it for it in said.splitlines() if "error" in it), said[:200])
+            yield edits[0], None, "the crate is still proved with it"
+        elif not is_read:
+            yield edits[0], None, "it didn't reach the prover: " + next((it for it in said.splitlines() if "error" in it), said[:200])
         else:
-            yield edit, refusal(said, edit.functions or functions) or refusal(said, functions) or "in a definition", ""
-        return
-    for edit in edits:
-        how = refusal(said, edit.functions) if "logic=not-proved" in said else None
-        # what the round didn't refuse is tried alone
-        yield from [(edit, how, "")] if how else tried(crate, below, [edit])
+            how = refusal(said, edits[0].functions) or (refusal(said, None) and "by the goals of another function")
+            yield edits[0], how or "in a definition", ""
+    elif not is_read:
+        # one of them can't be read, or not beside the others
+        yield from tried(crate, below, edits[: len(edits) // 2])
+        yield from tried(crate, below, edits[len(edits) // 2 :])
+    else:
+        for edit in edits:
+            how = refusal(said, edit.functions)
+            # what the round didn't refuse is tried alone
+            yield from [(edit, how, "")] if how else tried(crate, below, [edit])
 
 
 def attack(crate, below, edits):

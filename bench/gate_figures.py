@@ -52,15 +52,20 @@ def rows_of(file):
 
 
 def costs(given, lines):
-    """What the gate took, by kind, and for 1,000 lines of code."""
+    """What the gate took, by kind and for 1,000 lines of code, and its dearest edits."""
     if not given.gate:
         return ["Not measured. Measure it with `python3 bench/gate.py > out/gate.tsv`."]
-    seconds = {kind: float(it) for kind, it in rows_of(given.gate)}
+    rows = rows_of(given.gate)
+    seconds = {kind[0]: float(kind[1]) for kind in rows if kind[0] != "edit"}
     clock, whole = seconds.pop("minutes on the clock"), seconds["all"]
+    edits = sorted(((float(it[2]), it[1]) for it in rows if it[0] == "edit"), reverse=True)
     said = f"Measured on {given.machine}, with nothing beside it: {whole / 60:.0f} processor minutes, user and sys together, in {clock:.0f} minutes on the clock; "
     said += f"{whole / 60 / lines * 1000:.1f} processor minutes for 1,000 lines of code."
     table = [row(("Kind", "Processor minutes", "Share")), "|---|---:|---:|"]
-    return [said, "", *table, *[row((kind, f"{it / 60:.1f}", f"{100 * it / whole:.0f} %")) for kind, it in seconds.items()]]
+    table += [row((kind, f"{it / 60:.1f}", f"{100 * it / whole:.0f} %")) for kind, it in seconds.items()]
+    dear = "The dearest further edits, in processor seconds: " + ", ".join(f"`{name}` {it:.0f}" for it, name in edits[:5])
+    dear += f"; the median is {edits[len(edits) // 2][0]:.0f}." if edits else ""
+    return [said, "", *table, "", dear]
 
 
 def dearest(file):

@@ -136,7 +136,9 @@ def main():
         names.append(name)
         outcome.append("ok %s %d" % (name, len(lines)))
     (HERE / "data" / "names.txt").write_text("".join(x + "\n" for x in names))
-    (HERE / "stdout").write_text("".join(x + "\n" for x in outcome))
+    # the lines after these are the answers to the cases of data/cases.txt, which are written by hand
+    rest = [line for line in (HERE / "stdout").read_text().splitlines() if not line.startswith("ok ")]
+    (HERE / "stdout").write_text("".join(x + "\n" for x in outcome + rest))
 
 
 main()

@@ -8,8 +8,6 @@ pub mod instance;
 mod properties;
 mod reading;
 pub mod sweep;
-#[cfg(test)]
-mod tests;
 mod zoned;
 
 pub use calendar::{Calendar, Entry, Singles};

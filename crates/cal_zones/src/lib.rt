@@ -23,6 +23,3 @@ pub use kinds::Zone;
 pub use read::one_zone;
 pub use shape::{MonthDays, Observance, Yearly};
 pub use write::zone_reads_back;
-
-#[cfg(test)]
-mod tests;

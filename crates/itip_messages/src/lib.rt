@@ -11,6 +11,3 @@ pub use law::{answers_read_back, one_request, replies_read_back};
 pub use message::{Message, MessageComponent, Method};
 pub use reply::{Conflict, ConflictKey, Decision, ReplyEvent, write_reply};
 pub use writer::ObjectWriter;
-
-#[cfg(test)]
-mod tests;

@@ -12,6 +12,3 @@ pub use held::{
     Freshness, Held, View, same_parts_same_view, stands_for_its_registers, view_is_lasting,
 };
 pub use part::{Body, Part, Revision, Slot};
-
-#[cfg(test)]
-mod tests;

@@ -14,6 +14,3 @@ pub use config::Config;
 pub use fault::{ServeFault, StreamFault};
 pub use preamble::read_preamble;
 pub use serving::{ServeReport, keep, serve, serve_stream};
-
-#[cfg(test)]
-mod tests;

@@ -1,9 +1,17 @@
 //! Zones against another program: what Python's zoneinfo says of the current rules of fifteen zones, as
 //! `tests/zone_table.py` writes it down. For each zone whose rows all agree `ok NAME` and how many they are is
 //! printed, else `differs NAME` and the first row that doesn't.
+//!
+//! Then worked zones: for each line of `cases.txt` its name and what is answered (`zones.rt` says how the lines read).
 #![tactic(auto)]
 
+mod case;
+mod escapes;
+mod no_answer;
+mod zones;
+
 use cal_zones::Zone;
+use case::Case;
 use ical_lines::{Fault, Limits};
 use ical_tree::read_object;
 use ical_values::LocalTime;
@@ -24,7 +32,20 @@ fn main(rt: HostRuntime) -> io::Result<()> {
             None => println!(rt; "ok {name} {}", rows.lines().count())?,
         }
     }
+    let cases = fs::read_to_string(&rt, "cases.txt")?;
+    for line in cases.lines() {
+        if let Some(case) = Case::of(line) {
+            print_case(&rt, &case)?;
+        }
+    }
     Ok(())
+}
+
+fn print_case<R: Print + AllocGlobal>(rt: &R, case: &Case<'_>) -> io::Result<()> {
+    match zones::answers(rt.alloc(), case) {
+        Ok(answers) => println!(rt; "{}: {answers}", case.name),
+        Err(fault) => println!(rt; "{}: {fault}", case.name),
+    }
 }
 
 /// The zone of the one component of an object, or the number of its refusal; 0 where there is none.
