@@ -8,7 +8,7 @@ The edits stand in crates/NAME/planted/*.edit, in the form of must-fail/: a line
 `new: TEXT`, where the old text stands once in the file. `rt ci` tries those of must-fail/ one by one; these are tried in rounds, for a
 fifth of the time or less. A round is one `rt check --jobs 1` of a fresh copy of the proved crate with edits of different functions in it. Each
 edit is judged by the goals of its own function: a function that fails only because it calls another one doesn't count. What lies outside
-src/, or in no function, is tried alone, and so is each edit that its round didn't refuse. An edit is let through where the crate is
+src/, or in no function's body, is tried alone, and so is each edit that its round didn't refuse. An edit is let through where the crate is
 still proved with it alone; one that can't be applied or read shows nothing, and counts as let through.
 
 The last line is `N refused, M let through`. The status is 0 where none was let through, 1 where one was, 2 where nothing could be tried.
@@ -38,21 +38,23 @@ Edit = namedtuple("Edit", "crate name pairs functions")
 
 
 def function_at(crate, file, text, place):
-    """The end of the name of the function round a place of a source text, as rt check prints it: a method is named after its type's module."""
-    lines = text[:place].count("\n") + 1
-    kind, found = "", None
-    for line in text.split("\n")[:lines]:
+    """The end of the name of the function whose body holds a place of a source text, as rt check prints it: a method is named after its type's module."""
+    kind, found, is_body = "", None, False
+    for line in text.split("\n")[: text[:place].count("\n") + 1]:
         if line.startswith("impl"):
             match = IMPL.match(line)
             kind = match[2] + (match[1] or "").rpartition(":")[2] if match else "?"
         elif line.startswith("}"):
             kind, found = "", None
         if match := FUNCTION.match(line):
-            found = (match[1], match[2])
+            # the body begins at the end of a line, or below the clauses
+            found, is_body = (match[1], match[2]), line.endswith("{")
         elif found and line == found[0] + "}":
             found = None
+        elif found and line == found[0] + "{":
+            is_body = True
     module = [] if file in ("src/lib.rt", "src/main.rt") else file[len("src/") : -len(".rt")].split("/")
-    return "::".join(["", kind, found[1]] if kind else [crate, *module, found[1]]) if found else None
+    return "::".join(["", kind, found[1]] if kind else [crate, *module, found[1]]) if found and is_body else None
 
 
 def read_edit(crate, path):
@@ -103,8 +105,13 @@ def checked(crate, below, edits):
 
 
 def is_in(name, functions):
-    """Is the name that of one of these functions, or of a closure in one?"""
-    return any(name.endswith(it) or f"::fn::{it.rpartition('::')[2]}::" in name for it in functions)
+    """Is the name that of one of these functions, or of a closure in one (`module::fn::FUNCTION::any`; of a method, of any module)?"""
+    for it in functions:
+        above, _, own = it.rpartition("::")
+        closure = f"::fn::{own}::" if it.startswith("::") else f"{above}::fn::{own}::"
+        if name.endswith(it) or closure in name:
+            return True
+    return False
 
 
 def refusal(said, functions):

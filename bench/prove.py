@@ -1,24 +1,32 @@
-"""Proves a program's crates, side by side where they don't stand on each other, and tells on standard error how far it is.
+"""Proves the libraries that a program stands on, side by side where they don't stand on each other, and tells on standard error how far it is.
 
     python3 bench/prove.py [CRATE]
 
-What was proved before is kept: with nothing changed this takes seconds. All that the prover says is in out/build.log.
+It is for a first run: only libraries that were never built are proved here, as many at once as there are processors and memory. What changed since
+is proved by `rt run`, which comes next. `rt` locks a crate with all that it uses, so each is proved in a copy, and what it made is taken over.
+What the prover says is in out/build/.
 """
 
 import os
+import shutil
 import subprocess
 import sys
+import tempfile
 import time
+from concurrent.futures import FIRST_COMPLETED, ThreadPoolExecutor, wait
+from pathlib import Path
 
-from repository import ROOT, RT, crates_below
+from repository import ROOT, RT, copied, crates_below
 
-# what a check may take, in octets
-LARGEST = 4 << 30
+LOGS = ROOT / "out" / "build"
+# what a job of a check may take, in octets
+LARGEST = 3 << 30
 
 
 def lanes():
-    """How many checks may run side by side: one a processor, as many as memory holds."""
-    memory = os.sysconf("SC_AVPHYS_PAGES") * os.sysconf("SC_PAGE_SIZE")
+    """How many jobs may run side by side: one a processor, as many as memory holds."""
+    lines = Path("/proc/meminfo").read_text(encoding="utf-8").splitlines()
+    memory = next(int(it.split()[1]) << 10 for it in lines if it.startswith("MemAvailable:"))
     return max(1, min(len(os.sched_getaffinity(0)), memory // LARGEST))
 
 
@@ -27,25 +35,50 @@ def spent(since):
     return f"{minutes} min {seconds:02} s" if minutes else f"{seconds} s"
 
 
+def is_built(crate):
+    return (ROOT / "crates" / crate / "out" / "rlib" / f"{crate}.rlib").is_file()
+
+
+def proved(crate, below, jobs):
+    """Proves and builds a library in a copy, and takes over what came of it; its status."""
+    with tempfile.TemporaryDirectory(prefix="prove-") as room, open(LOGS / f"{crate}.log", "w", encoding="utf-8") as log:
+        folder = copied(crate, below, room)
+        words = [RT, "lib", "--jobs", str(jobs)]
+        status = subprocess.run(words, cwd=folder, stdin=subprocess.DEVNULL, stdout=log, stderr=subprocess.STDOUT).returncode
+        if not status:
+            shutil.rmtree(ROOT / "crates" / crate / "out", ignore_errors=True)
+            shutil.move(folder / "out", ROOT / "crates" / crate / "out")
+    return status
+
+
 def main():
     crate = sys.argv[1] if len(sys.argv) > 1 else "roombox"
-    count, done, start = len(crates_below()[crate]), 0, time.monotonic()
-    log = ROOT / "out" / "build.log"
-    log.parent.mkdir(exist_ok=True)
-    words = [RT, "all", "check", "--jobs", str(lanes())]
-    print(f"proving {count} crates, {lanes()} side by side; {log.relative_to(ROOT)} has the details", file=sys.stderr)
-    how = {"stdin": subprocess.DEVNULL, "stdout": subprocess.PIPE, "stderr": subprocess.STDOUT, "text": True, "errors": "replace"}
-    with open(log, "w", encoding="utf-8") as kept, subprocess.Popen(words, cwd=ROOT / "crates" / crate, **how) as ran:
-        for line in ran.stdout:
-            kept.write(line)
-            # a crate's lines come together, once it has ended
-            if line.startswith("== ") and line != "== summary\n":
-                done += 1
-                print(f"{done} of {count}: {line[3:].strip()}, {spent(start)}", file=sys.stderr)
-    if ran.returncode:
-        print(*log.read_text(encoding="utf-8").splitlines()[-30:], sep="\n", file=sys.stderr)
-        print(f"not proved: see {log.relative_to(ROOT)}", file=sys.stderr)
-    return ran.returncode
+    below, start = crates_below(), time.monotonic()
+    left = [it for it in below if it in below[crate] - {crate} and not is_built(it)]
+    count, room, running = len(left), lanes(), {}
+    if not left:
+        return 0
+    LOGS.mkdir(parents=True, exist_ok=True)
+    print(f"proving {count} libraries with {room} jobs side by side; {LOGS.relative_to(ROOT)}/ has the details", file=sys.stderr)
+    with ThreadPoolExecutor(count) as pool:
+        while left or running:
+            busy = {name for name, _ in running.values()}
+            ready = [it for it in left if not (below[it] - {it}) & {*left, *busy}]
+            for place, name in enumerate(ready):
+                idle = room - sum(jobs for _, jobs in running.values())
+                if idle > 0:
+                    # what no other library waits for goes into more jobs of one
+                    jobs = max(1, idle // (len(ready) - place))
+                    left.remove(name)
+                    running[pool.submit(proved, name, below, jobs)] = name, jobs
+            for done in wait(running, return_when=FIRST_COMPLETED).done:
+                name, _ = running.pop(done)
+                if done.result():
+                    left.clear()
+                    print(f"{name} isn't proved: see {LOGS.relative_to(ROOT)}/{name}.log", file=sys.stderr)
+                    return 1
+                print(f"{count - len(left) - len(running)} of {count}: {name}, {spent(start)}", file=sys.stderr)
+    return 0
 
 
 if __name__ == "__main__":
