@@ -46,12 +46,16 @@ def figures(crate):
     )
 
 
+def row(cells):
+    return "| " + " | ".join(f"{cell:,}" if isinstance(cell, int) else cell for cell in cells) + " |"
+
+
 def rows_of(file):
     """The lines of a file of columns parted by TABs."""
     return [line.split("\t") for line in Path(file).read_text(encoding="utf-8").splitlines()]
 
 
-def costs(given, lines):
+def costs(given, lines, own):
     """What the gate took, by kind and for 1,000 lines of code, and its dearest edits."""
     if not given.gate:
         return ["Not measured. Measure it with `python3 bench/gate.py > out/gate.tsv`."]
@@ -60,7 +64,7 @@ def costs(given, lines):
     clock, whole = seconds.pop("minutes on the clock"), seconds["all"]
     edits = sorted(((float(it[2]), it[1]) for it in rows if it[0] == "edit"), reverse=True)
     said = f"Measured on {given.machine}, with nothing beside it: {whole / 60:.0f} processor minutes, user and sys together, in {clock:.0f} minutes on the clock; "
-    said += f"{whole / 60 / lines * 1000:.1f} processor minutes for 1,000 lines of code."
+    said += f"{whole / 60 / lines * 1000:.1f} processor minutes for 1,000 lines of code ({whole / 60 / own * 1000:.1f} where the lines of examples and tests aren't counted)."
     table = [row(("Kind", "Processor minutes", "Share")), "|---|---:|---:|"]
     table += [row((kind, f"{it / 60:.1f}", f"{100 * it / whole:.0f} %")) for kind, it in seconds.items()]
     dear = "The dearest further edits, in processor seconds: " + ", ".join(f"`{name}` {it:.0f}" for it, name in edits[:5])
@@ -89,7 +93,8 @@ def main():
     total = [sum(column) for column in zip(*table.values())]
     print((ROOT / "bench" / "gate_head.md").read_text(encoding="utf-8"))
     print("## What it costs\n")
-    print(*costs(given, total[0]), sep="\n")
+    own = sum(counts[0] for name, counts in table.items() if not re.search(r"_(examples|tests|seeks)$", name))
+    print(*costs(given, total[0], own), sep="\n")
     print("\n## What it proves\n")
     print("Code, definitions, specs and proofs are lines that aren't blank; code is without its tests. The crate `profile` holds the definitions that all contracts cite.\n")
     print(row(COLUMNS))
