@@ -63,7 +63,7 @@ def costs(given, lines, own):
     seconds = {kind[0]: float(kind[1]) for kind in rows if kind[0] != "edit"}
     clock, whole = seconds.pop("minutes on the clock"), seconds["all"]
     edits = sorted(((float(it[2]), it[1]) for it in rows if it[0] == "edit"), reverse=True)
-    said = f"Measured on {given.machine}, with nothing beside it: {whole / 60:.0f} processor minutes, user and sys together, in {clock:.0f} minutes on the clock; "
+    said = f"Measured on {given.machine}: {whole / 60:.0f} processor minutes, user and sys together, in {clock:.0f} minutes on the clock; "
     said += f"{whole / 60 / lines * 1000:.1f} processor minutes for 1,000 lines of code ({whole / 60 / own * 1000:.1f} where the lines of examples and tests aren't counted)."
     table = [row(("Kind", "Processor minutes", "Share")), "|---|---:|---:|"]
     table += [row((kind, f"{it / 60:.1f}", f"{100 * it / whole:.0f} %")) for kind, it in seconds.items()]
