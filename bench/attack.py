@@ -10,7 +10,6 @@ fifth of the time or less. A round is one `rt check --jobs 1` of a fresh copy of
 edit is judged by the goals of its own function: a function that fails only because it calls another one doesn't count. What lies outside
 src/, or in no function's body, is tried alone, and so is each edit that its round didn't refuse. An edit is let through where the crate is
 still proved with it alone; one that can't be applied or read shows nothing, and counts as let through.
-
 The last line is `N refused, M let through`. The status is 0 where none was let through, 1 where one was, 2 where nothing could be tried.
 """
 
@@ -144,7 +143,6 @@ def tried(crate, below, edits):
     else:
         for edit in edits:
             how = refusal(said, edit.functions)
-            # what the round didn't refuse is tried alone
             yield from [(edit, how, "")] if how else tried(crate, below, [edit])
 
 
@@ -173,6 +171,8 @@ def main():
     parser.add_argument("--lanes", type=int, default=max(1, (os.cpu_count() or 1) // 2), help="rounds side by side, of up to 4 GB each")
     given = parser.parse_args()
     below = crates_below()
+    if unknown := {*given.crates} - {*below}:
+        parser.error(f"no such crate: {' '.join(sorted(unknown))}")
     names = given.crates or (changed_since(given.since, below) if given.since else list(below))
     rounds, bad = [], []
     for crate in names:

@@ -37,7 +37,7 @@ def prover_seconds(folder):
 
 
 def timed(crate, below):
-    """The functions of a crate with the seconds that each took."""
+    """The functions of a crate with the seconds that each took; None where the crate isn't proved."""
     rows = []
     with tempfile.TemporaryDirectory(prefix="dear-") as room:
         folder, last = copied(crate, below, room, kept="out/rlib"), 0.0
@@ -48,9 +48,7 @@ def timed(crate, below):
                     now = prover_seconds(folder.resolve())
                     rows.append((crate, found[1] if rows else "start", now - last))
                     last = now
-    if ran.returncode:
-        print(f"{crate} isn't proved", file=sys.stderr)
-    return rows
+    return None if ran.returncode else rows
 
 
 def main():
@@ -61,9 +59,12 @@ def main():
     below = crates_below()
     names = given.crates or [name for name in below if (ROOT / "crates" / name / "src" / "lib.rt").is_file()]
     with ThreadPoolExecutor(given.lanes) as lanes:
-        for rows in lanes.map(lambda it: timed(it, below), names):
-            for crate, function, seconds in rows:
-                print(f"{crate}\t{function}\t{seconds:.1f}", flush=True)
+        timings = list(lanes.map(lambda it: timed(it, below), names))
+    for crate, function, seconds in (row for rows in timings for row in rows or []):
+        print(f"{crate}\t{function}\t{seconds:.1f}")
+    failed = [name for name, rows in zip(names, timings) if rows is None]
+    if failed:
+        sys.exit(f"not proved, or not built below: {' '.join(failed)}")
 
 
 if __name__ == "__main__":

@@ -8,6 +8,7 @@ A line counts where it isn't blank; comments count. Without --gate the page says
 
 import argparse
 import re
+import textwrap
 from pathlib import Path
 
 from repository import ROOT, crates_below
@@ -50,6 +51,11 @@ def row(cells):
     return "| " + " | ".join(f"{cell:,}" if isinstance(cell, int) else cell for cell in cells) + " |"
 
 
+def paragraph(text, indent=""):
+    """A paragraph in lines of at most 140 columns."""
+    return textwrap.fill(text, 140, subsequent_indent=indent, break_long_words=False, break_on_hyphens=False)
+
+
 def rows_of(file):
     """The lines of a file of columns parted by TABs."""
     return [line.split("\t") for line in Path(file).read_text(encoding="utf-8").splitlines()]
@@ -69,7 +75,7 @@ def costs(given, lines, own):
     table += [row((kind, f"{it / 60:.1f}", f"{100 * it / whole:.0f} %")) for kind, it in seconds.items()]
     dear = "The dearest further edits, in processor seconds: " + ", ".join(f"`{name}` {it:.0f}" for it, name in edits[:5])
     dear += f"; the median is {edits[len(edits) // 2][0]:.0f}." if edits else ""
-    return [said, "", *table, "", dear]
+    return [paragraph(said), "", *table, "", paragraph(dear)]
 
 
 def dearest(file):
@@ -80,7 +86,8 @@ def dearest(file):
     for crate, found in functions.items():
         start = sum(it for it, name in found if name == "start")
         ten = sorted((it for it in found if it[1] != "start"), reverse=True)[:10]
-        yield row((f"`{crate}`", f"{start:.0f}", f"{sum(it for it, _ in found) - start:.0f}", ", ".join(f"`{name}` {it:.1f}" for it, name in ten)))
+        whole = sum(it for it, _ in found) - start
+        yield paragraph(f"- `{crate}`: start {start:.0f}, functions {whole:.0f}: " + ", ".join(f"`{name}` {it:.1f}" for it, name in ten) + ".", "  ")
 
 
 def main():
@@ -96,7 +103,8 @@ def main():
     own = sum(counts[0] for name, counts in table.items() if not re.search(r"_(examples|tests|seeks)$", name))
     print(*costs(given, total[0], own), sep="\n")
     print("\n## What it proves\n")
-    print("Code, definitions, specs and proofs are lines that aren't blank; code is without its tests. The crate `profile` holds the definitions that all contracts cite.\n")
+    print("Code, definitions, specs and proofs are lines that aren't blank; code is without its tests. The crate `profile` holds the")
+    print("definitions that all contracts cite.\n")
     print(row(COLUMNS))
     print("|---|" + "---:|" * (len(COLUMNS) - 1))
     for name, counts in table.items():
@@ -104,10 +112,9 @@ def main():
     print(row(("all", *total)))
     if given.functions:
         print("\n## The dearest functions\n")
-        print(f"Processor seconds on {given.machine}, by the progress lines of `rt check --jobs 1`: up to the first function of a crate (which loads the libraries), for")
-        print("all its others, and for its ten dearest. A function's time holds that of the lemma files that are first cited there.\n")
-        print(row(("Crate", "Start", "Functions", "The ten dearest")))
-        print("|---|---:|---:|---|")
+        said = f"Processor seconds on {given.machine.partition(' (')[0]}, other work beside it, by the progress lines of `rt check --jobs 1`: up to the first function of "
+        said += "a crate (which loads the libraries), for all its others, and for its ten dearest. A function's time holds that of the lemma files that are first cited there."
+        print(paragraph(said) + "\n")
         print(*dearest(given.functions), sep="\n")
 
 
