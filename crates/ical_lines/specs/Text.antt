@@ -3,8 +3,8 @@ use Rattle.std.specs.Prelude.{ℕ, List, map}
 use Rattle.profile.specs.Lines.{param_name, param_value}
 use Rattle.ical_lines.specs.Pieces.{pieces_left}
 use Rattle.ical_lines.specs.declared.line.Line.{Line}
-use Rattle.ical_lines.specs.declared.line.Param.{Param}
-use Rattle.ical_lines.specs.declared.line.Params.{Params}
+use Rattle.ical_lines.specs.declared.param.Param.{Param}
+use Rattle.ical_lines.specs.declared.param.Params.{Params}
 use Rattle.ical_lines.specs.declared.text.Lines.{Lines}
 use Rattle.ical_lines.specs.Breaks.{lines_of}
 

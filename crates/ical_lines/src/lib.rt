@@ -4,12 +4,12 @@
 
 pub mod fault;
 pub mod fold;
-mod judge;
 pub mod law;
 pub mod limits;
 pub mod line;
+mod name;
 pub mod object_end;
-mod parts;
+pub mod param;
 mod pieces;
 pub mod text;
 mod unfold;
@@ -18,6 +18,7 @@ pub use fault::{Fault, Refusal};
 pub use fold::{write_line, write_property};
 pub use law::{lines_read_back, read_lines_are_content};
 pub use limits::Limits;
-pub use line::{Line, Param, Params};
+pub use line::Line;
 pub use object_end::{Cutter, cut};
+pub use param::{Param, Params};
 pub use text::{Lines, Unfolded};

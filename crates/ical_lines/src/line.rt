@@ -1,31 +1,33 @@
 //! One content line: `name *(";" param) ":" value` (RFC 5545 3.1).
-ghost use Rattle.std.specs.Prelude.{◌≡◌, true};
-ghost use Rattle.ical_lines.specs.Breaks.{is_one_line};
+ghost use Rattle.std.specs.Prelude.{◌≡◌, ◌==◌, ◌%◌, count_by, option_map, true};
+ghost use Rattle.std.specs.List.{list_any};
+ghost use Rattle.profile.specs.Lines.{line_name, line_params, is_quote, has_control, is_control};
+ghost use Rattle.ical_lines.specs.Breaks.{is_one_line, value_or_none};
+ghost use Rattle.ical_lines.specs.Pieces.{pieces_left};
 
 use crate::fault::Refusal;
-use crate::judge::{has_bad_name, has_bad_quote, has_control, lacks_colon};
-use crate::parts::{first_value, has_param_name, name_of, param_pieces, value_of};
-use crate::pieces::{Pieces, back, front};
+use crate::name::is_name;
+use crate::param::{Param, Params, fault_of};
+use crate::pieces::{Pieces, split_outside};
 
-/// A content line, unfolded, without its line break. It borrows its text.
-#[derive(Clone, Copy, Debug)]
+/// A content line, unfolded, without its line break. It borrows its text; its parts are found once, when it is made.
+#[derive(Clone, Copy)]
 pub struct Line<'a> {
     text: &'a str,
+    /// What stands before the parameters and the colon.
+    name: &'a str,
+    params: Pieces<'a>,
+    /// What stands after the colon; None where there is none.
+    value: Option<&'a str>,
     ghost one_line: { is_one_line text.now ≡ true },
-}
-
-/// One parameter of a line, as it is written.
-#[derive(Clone, Copy, Debug)]
-pub struct Param<'a> {
-    /// The name, in the case that it is written in.
-    pub name: &'a str,
-    /// The octets after the `=`, with their quotes and commas.
-    pub value: &'a str,
+    ghost has_name: { name.now ≡ line_name text.now },
+    ghost has_params: { pieces_left params ≡ line_params text.now },
+    ghost has_value: { option_map (λ after. after.now) value ≡ value_or_none text.now },
 }
 
 impl<'a> Line<'a> {
     ghost use Rattle.std.specs.Prelude.{◌≡◌, true, false, map, option_map, MatchOption, IfSome, IsTrue};
-    ghost use Rattle.profile.specs.Lines.{line_name, line_value, line_params, line_param, is_same_name, is_faulty, line_has};
+    ghost use Rattle.profile.specs.Lines.{line_name, line_value, line_params, line_param, is_same_name, is_faulty, lacks_colon, line_has};
     ghost use Rattle.profile.specs.Faults.{is_line_fault};
     ghost use Rattle.profile.specs.First.{least_fault};
     ghost use Rattle.ical_lines.specs.Breaks.{is_one_line};
@@ -36,7 +38,14 @@ impl<'a> Line<'a> {
         requires { is_one_line text.now ≡ true }
         ensures { line_text result ≡ text.now }
     {
-        Line { text }
+        let (head, value) = split_outside(text, b':');
+        let (name, params) = Pieces::split(head, b';');
+        Line {
+            text,
+            name,
+            params,
+            value,
+        }
     }
 
     /// The whole line, without its line break.
@@ -51,30 +60,28 @@ impl<'a> Line<'a> {
     pub fn name(&self) -> &'a str
         ensures { result.now ≡ line_name (line_text self.now) }
     {
-        name_of(self.text)
+        self.name
     }
 
     /// The parameters, in order. It takes no memory.
     pub fn params(&self) -> Params<'a>
         ensures { params_left result ≡ map param_of (line_params (line_text self.now)) }
     {
-        Params {
-            pieces: param_pieces(self.text),
-        }
+        Params::of(self.params)
     }
 
     /// The octets after the colon, as they are written.
     pub fn value(&self) -> &'a str
         ensures { result.now ≡ line_value (line_text self.now) }
     {
-        value_of(self.text)
+        self.value.unwrap_or("")
     }
 
     /// Whether the line's name is this one; ASCII letters are compared caseless.
     pub fn is_named(&self, name: &str) -> bool
         ensures { result ≡ is_same_name (line_name (line_text self.now)) name.now }
     {
-        self.name().eq_ignore_ascii_case(name)
+        self.name.eq_ignore_ascii_case(name)
     }
 
     /// The first value of the first parameter of this name, its quotes taken off.
@@ -82,9 +89,10 @@ impl<'a> Line<'a> {
     pub fn param(&self, name: &str) -> Option<&'a str>
         ensures { option_map (λ x. x.now) result ≡ line_param name.now (line_text self.now) }
     {
-        for piece in param_pieces(self.text) {
-            if has_param_name(piece, name) {
-                return Some(first_value(piece));
+        for piece in self.params {
+            let param = Param::of(piece);
+            if param.name.eq_ignore_ascii_case(name) {
+                return Some(param.first_value());
             }
         }
         None
@@ -97,43 +105,53 @@ impl<'a> Line<'a> {
         ensures least { option_map (λ refusal. refusal.number) result ≡ least_fault (line_text self.now) }
         ensures refuses { IfSome result (λ refusal. IsTrue (is_line_fault refusal.number)) }
     {
-        if lacks_colon(self.text) {
-            Some(Refusal::NO_COLON)
-        } else if has_bad_name(self.text) {
-            Some(Refusal::BAD_NAME)
-        } else if has_bad_quote(self.text) {
-            Some(Refusal::BAD_QUOTE)
-        } else if has_control(self.text) {
-            Some(Refusal::CONTROL)
-        } else {
-            None
+        if self.lacks_colon() {
+            return Some(Refusal::NO_COLON);
         }
+        if !is_name(self.name) {
+            return Some(Refusal::BAD_NAME);
+        }
+        if let Some(refusal) = fault_of(self.params) {
+            return Some(refusal);
+        }
+        if has_control(self.text) {
+            return Some(Refusal::CONTROL);
+        }
+        None
+    }
+
+    /// Whether no colon ends the head: there is none, or none but in closed quotes.
+    fn lacks_colon(&self) -> bool
+        ensures { result ≡ lacks_colon (line_text self.now) }
+    {
+        self.value.is_none() && (!has_open_quote(self.text) || !has_colon(self.text))
     }
 }
 
-/// The parameters of a line that are left, in order. It takes no memory.
-#[derive(Clone, Copy)]
-pub struct Params<'a> {
-    pieces: Pieces<'a>,
+/// Whether a colon stands in a text.
+fn has_colon(text: &str) -> bool
+    ensures { result ≡ list_any (λ c. c == 58) text.now }
+{
+    text.as_bytes().contains(&b':')
 }
 
-impl<'a> Iterator for Params<'a> {
-    ghost use Rattle.std.specs.Iterator.{YieldsFirstBy, item_count};
-    ghost use Rattle.ical_lines.specs.Text.{param_view, params_left};
+/// Whether the last quote of a text isn't closed.
+fn has_open_quote(text: &str) -> bool
+    ensures { result ≡ (count_by is_quote text.now % 2 == 1) }
+{
+    text.bytes().filter(|octet| *octet == b'"').count() % 2 == 1
+}
 
-    type Item = Param<'a>;
+/// Whether a control octet other than TAB stands in a text.
+fn has_control(line: &str) -> bool
+    ensures { result ≡ has_control line.now }
+{
+    line.bytes().any(|octet| is_control(octet))
+}
 
-    ghost next_gives = { YieldsFirstBy param_view params_left };
-
-    ghost remaining = { item_count params_left };
-
-    fn next(&mut self) -> Option<Param<'a>> {
-        match self.pieces.next() {
-            Some(piece) => Some(Param {
-                name: front(piece, b'='),
-                value: back(piece, b'='),
-            }),
-            None => None,
-        }
-    }
+/// Whether an octet is a control octet other than TAB.
+fn is_control(octet: u8) -> bool
+    ensures { result ≡ is_control octet }
+{
+    (octet < 0x20 && octet != b'\t') || octet == 0x7F
 }

@@ -45,18 +45,6 @@ pub fn front(text: &str, stop: u8) -> &str
     front
 }
 
-/// The text after the first `stop` outside quotes; empty where there is none.
-pub fn back(text: &str, stop: u8) -> &str
-    requires { stop < 128 }
-    ensures { result.now ≡ back stop text.now }
-{
-    let (_front, after) = split_outside(text, stop);
-    match after {
-        Some(after) => after,
-        None => "",
-    }
-}
-
 /// The pieces of a text between the octets `stop` outside quotes, in order. It takes no memory.
 #[derive(Clone, Copy)]
 pub struct Pieces<'a> {
@@ -66,8 +54,8 @@ pub struct Pieces<'a> {
 }
 
 impl<'a> Pieces<'a> {
-    ghost use Rattle.std.specs.Prelude.{◌≡◌, ◌<◌};
-    ghost use Rattle.profile.specs.Lines.{pieces};
+    ghost use Rattle.std.specs.Prelude.{◌≡◌, ◌<◌, ◌∷◌};
+    ghost use Rattle.profile.specs.Lines.{pieces, front};
     ghost use Rattle.ical_lines.specs.Pieces.{pieces_left};
 
     /// The pieces of a text; of an empty text one, which is empty.
@@ -79,6 +67,16 @@ impl<'a> Pieces<'a> {
             rest: Some(text),
             stop,
         }
+    }
+
+    /// The first piece of a text, and the others.
+    pub fn split(text: &'a str, stop: u8) -> (&'a str, Pieces<'a>)
+        requires { stop < 128 }
+        ensures pieces { pieces stop text.now ≡ result.0.now ∷ pieces_left result.1 }
+        ensures front { result.0.now ≡ front stop text.now }
+    {
+        let (first, rest) = split_outside(text, stop);
+        (first, Pieces { rest, stop })
     }
 }
 

@@ -3,7 +3,7 @@ use Rattle.std.proofs.lemmas.Iterator.Search.{any_from_yields_List}
 use Rattle.std.proofs.lemmas.Iterator.Consumers.{YieldsList-from_first}
 use Rattle.profile.specs.Lines.{is_item}
 use Rattle.ical_lines.specs.Pieces.{pieces_left}
-use Rattle.ical_lines.proofs.judge.any_is_no_item.Goals as goal
+use Rattle.ical_lines.proofs.param.has_no_item.Goals as goal
 
 pub returns : goal.returns
 returns c = any_from_yields_List (λ item. not (is_item item)) c.any.new.self _ _ c.any.ensures.ran (YieldsList-from_first (λ x. x.now) pieces_left _ refl) (λ x b q k. search (rules, tests))
