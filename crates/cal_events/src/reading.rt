@@ -13,7 +13,7 @@ use crate::calendar::{Calendar, Entry};
 use crate::component::{EventComponent, ParticipationStatus, Purpose, one_event};
 use crate::instance::Booking;
 use crate::properties::has_unread_line;
-use ical_lines::{Fault, Limits, Refusal};
+use ical_lines::{Fault, Limits, Refusal, Unfolded};
 use ical_tree::{Component, one_tree, read_object};
 use ical_values::Address;
 use std::alloc::{AllocError, Global};
@@ -28,7 +28,8 @@ impl Calendar {
         ensures refuses { IfErr result (RefusesOnly is_calendar_fault) }
         ensures stands { IfErr result (RefusesBy (CalendarTextFault bytes.now)) }
     {
-        let object = read_object(alloc, bytes, Limits::Open)?;
+        let text = Unfolded::read(alloc, bytes, Limits::Open)?;
+        let object = read_object(alloc, &text, Limits::Open)?;
         Calendar::of_object(alloc, &object, room)
     }
 

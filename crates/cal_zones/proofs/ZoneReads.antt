@@ -18,7 +18,7 @@ use Rattle.profile.specs.WrittenZones.{WritesPart, WritesParts, IsZoneText, IsTe
 use Rattle.ical_lines.proofs.CleanLines.{IsClean, fixed}
 use Rattle.ical_values.proofs.EscapedText.{utf8_escaped, escaped_calm}
 use Rattle.ical_tree.proofs.TreeOfLemmas.{BodyT}
-use Rattle.ical_tree.proofs.OwnLines.{own_body}
+use Rattle.ical_tree.proofs.PropertyLemmas.{own_body}
 use Rattle.ical_tree.proofs.OneLine.{at_one}
 use Rattle.cal_zones.proofs.OneZone.{OneLocal, OneOffset, OneRule, AreParts, tree_parts, all_differ}
 use Rattle.cal_zones.proofs.WrittenParts.{Lines, LocalBack, OffsetBack, part_times, part_once, part_yearly, name_line, IsRuled, unruled, ruled, part_content, part_properties}

@@ -30,14 +30,14 @@ fn count_parts(zone: &Component) -> usize
         .count()
 }
 
-fn find_part(zone: &Component) -> Option<&Component>
+fn find_part<'c, 'a>(zone: &'c Component<'a>) -> Option<&'c Component<'a>>
     ensures { option_map (λ c. c.now) result ≡ find (λ c. is_part (component_name c)) (component_children zone.now) }
 {
     zone.children().iter().find(|child| is_part(child))
 }
 
 /// The first part.
-pub(crate) fn first_part(zone: &Component) -> Option<&Component>
+pub(crate) fn first_part<'c, 'a>(zone: &'c Component<'a>) -> Option<&'c Component<'a>>
     ensures found { IfSome result (λ part. Contains (parts_of zone.now) (component_lines part.now)) }
     ensures none { IfNone result (parts_of zone.now ≡ []) }
 {
@@ -45,7 +45,7 @@ pub(crate) fn first_part(zone: &Component) -> Option<&Component>
 }
 
 /// The one part, where there is one alone.
-pub(crate) fn only_part(zone: &Component) -> Option<&Component>
+pub(crate) fn only_part<'c, 'a>(zone: &'c Component<'a>) -> Option<&'c Component<'a>>
     ensures found { IfSome result (λ part. parts_of zone.now ≡ component_lines part.now ∷ []) }
     ensures none { IfNone result (length (parts_of zone.now) ≡ 1 → ⊥) }
 {
@@ -64,7 +64,7 @@ fn count_named(zone: &Component, name: &str) -> usize
         .count()
 }
 
-fn find_named<'a>(zone: &'a Component, name: &str) -> Option<&'a Component>
+fn find_named<'c, 'a>(zone: &'c Component<'a>, name: &str) -> Option<&'c Component<'a>>
     ensures { option_map (λ c. c.now) result
         ≡ find (λ c. is_same_name (component_name c) name.now) (component_children zone.now) }
 {
@@ -72,7 +72,7 @@ fn find_named<'a>(zone: &'a Component, name: &str) -> Option<&'a Component>
 }
 
 /// The one component of that name, where there is one alone.
-pub(crate) fn only_named<'a>(zone: &'a Component, name: &str) -> Option<&'a Component>
+pub(crate) fn only_named<'c, 'a>(zone: &'c Component<'a>, name: &str) -> Option<&'c Component<'a>>
     ensures found { IfSome result (λ part.
         parts_in (λ n. is_same_name n name.now) (component_children zone.now) ≡ component_lines part.now ∷ []) }
     ensures none { IfNone result

@@ -8,6 +8,8 @@ ghost use Rattle.std.specs.Prelude.{
   ◌&&◌,
   ◌||◌,
   ◌==◌,
+  ◌<◌,
+  ◌^◌,
   nat_lt,
   length,
   false,
@@ -146,6 +148,20 @@ fn check_lines(text: &str, limits: Limits) -> Result<(), Refusal>
 #[derive(Clone, Copy, Debug)]
 pub struct Lines<'a> {
     rest: &'a str,
+    // a text in memory: a number of its lines fits `usize`
+    ghost is_in_memory: { length rest.now < 2 ^ 63 },
+}
+
+impl<'a> Lines<'a> {
+    ghost use Rattle.std.specs.Prelude.{◌≡◌, []};
+    ghost use Rattle.ical_lines.specs.Text.{lines_left};
+
+    /// No lines.
+    pub fn none() -> Lines<'a>
+        ensures { lines_left result ≡ [] }
+    {
+        Lines { rest: "" }
+    }
 }
 
 impl<'a> Iterator for Lines<'a> {

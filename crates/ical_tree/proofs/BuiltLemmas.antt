@@ -1,16 +1,44 @@
 -- One line more, and what the open components are then.
-use Rattle.std.proofs.Common.{◌≡◌, ℕ, suc, ◌-◌, ◌≤◌, Bool, true, false, not, ◌&&◌, Option, None, Some, is_some, List, [], ◌∷◌, ◌++◌, length, reverse, refl, ap, sym, subst, ◌∙◌, arith}
-use Rattle.std.proofs.lemmas.List.{append_assoc, reverse-append, length-reverse, nil_from_length}
-use Rattle.std.proofs.lemmas.Bool.{not-true}
+use Rattle.std.proofs.Common.{◌≡◌, ℕ, zero, suc, ◌-◌, ◌<◌, ◌≤◌, Bool, true, false, not, ◌&&◌, Option, None, Some, is_some, List, [], ◌∷◌, ◌++◌, map, length, reverse, refl, ap, sym, subst, ◌∙◌, arith}
+use Rattle.std.proofs.lemmas.List.{append_assoc, append-nil, reverse-append, length-reverse, length-map, map-append, nil_from_length}
+use Rattle.std.proofs.lemmas.Bool.{not-true, false≢true}
 use Rattle.profile.specs.Lines.{line_value, is_same_name}
-use Rattle.profile.specs.Objects.{Opens, Closes, is_property, is_end, is_calendar_name, may_begin}
+use Rattle.profile.specs.Objects.{SpellsBody, Opens, Closes, is_begin, is_none, is_property, is_end, is_calendar_name, may_begin}
 use Rattle.profile.specs.Objects.SpellsBody.{nothing, property, component}
 use Rattle.ical_tree.specs.declared.component.Component.{Component}
 use Rattle.ical_tree.specs.Tree.{component_name, component_lines, component_children}
-use Rattle.ical_tree.specs.Reading.{BodyOf, Built, names_of}
+use Rattle.ical_tree.specs.Reading.{Built, Open, open_of, with_lines, names_of}
 
-pub reverse-push : (xs : List Component) (x : Component) → reverse (xs ++ x ∷ []) ≡ x ∷ reverse xs
-reverse-push xs x = reverse-append xs (x ∷ [])
+abbrev Lines : Type 0
+Lines = List (List ℕ)
+
+-- the open components, from the innermost on, without the lines of the run
+abbrev pub opens : List Component → List Open
+opens items = map open_of (reverse items)
+
+pub opens-push : (xs : List Component) (x : Component) → opens (xs ++ x ∷ []) ≡ open_of x ∷ opens xs
+opens-push xs x = ap (map open_of) (reverse-append xs (x ∷ []))
+
+opens-length : (xs : List Component) → length (opens xs) ≡ length xs
+opens-length xs = length-map (reverse xs) open_of ∙ length-reverse xs
+
+abbrev with_own : Lines → Open → Open
+with_own own c = record { name = c.name; own = own; inside = c.inside }
+
+pub with_none : (cs : List Open) (run : Lines) → run ≡ [] → with_lines run cs ≡ cs
+with_none [] run e = refl
+with_none (c ∷ cs) run e = ap (λ own. with_own own c ∷ cs) (ap (λ r. c.own ++ r) e ∙ append-nil c.own)
+
+-- the lines of the run have moved to the innermost component
+pub with_moved : (items : List Component) (c d : Component) (run : Lines) → component_name d ≡ component_name c → component_children d ≡ component_children c → component_lines d ≡ component_lines c ++ run → with_lines [] (opens (items ++ d ∷ [])) ≡ with_lines run (opens (items ++ c ∷ []))
+with_moved items c d run n k l =
+    ap (with_lines []) (opens-push items d)
+    ∙ (rw (n, k, l, append-nil (component_lines c ++ run)) refl
+    ∙ sym (ap (with_lines run) (opens-push items c)))
+
+pub names-with : (cs : List Open) (run : Lines) → names_of (with_lines run cs) ≡ names_of cs
+names-with [] run = refl
+names-with (c ∷ cs) run = refl
 
 -- ---- BEGIN
 
@@ -20,44 +48,46 @@ outermost None false h = cc
 outermost (Some c) true h = cc
 outermost (Some c) false h = cc
 
-pub begun : (old : List Component) (c : Component) (closed : Option Component) (done : List (List ℕ)) (line : List ℕ) → Opens line (component_name c) → component_lines c ≡ [] → component_children c ≡ [] → may_begin (names_of (reverse old)) (is_some closed) (component_name c) ≡ true → length old ≤ 7 → Built (reverse old) closed done → Built (reverse (old ++ c ∷ [])) closed (done ++ line ∷ [])
-begun old c closed done line o l k h n b =
-    let lines = λ (xs : List Component). Built xs closed (done ++ line ∷ []) in
-    let size : length (reverse old) ≡ length old = length-reverse old in
-    let empty : BodyOf (7 - length (reverse old)) c [] = rw (l, k) nothing in
-    rw (reverse-push old c) (done, record { begin = line; body = []; are = refl; opens = o; holds = empty }, b, omega arith, h)
+begun_in : (around : List Open) (c : Component) (closed : Option Component) (done : Lines) (line : List ℕ) → Opens line (component_name c) → component_lines c ≡ [] → component_children c ≡ [] → may_begin (names_of around) (is_some closed) (component_name c) ≡ true → length around ≤ 7 → Built around closed done → Built (open_of c ∷ around) closed (done ++ line ∷ [])
+begun_in around c closed done line o l k h n b =
+    let empty : SpellsBody component_name component_lines component_children (7 - length around) (component_lines c) (component_children c) [] = rw (l, k) nothing in
+    (done, record { begin = line; body = []; are = refl; opens = o; holds = empty }, b, n, h)
+
+pub begun : (items : List Component) (run : Lines) (c : Component) (closed : Option Component) (done : Lines) (line : List ℕ) → run ≡ [] → Opens line (component_name c) → component_lines c ≡ [] → component_children c ≡ [] → may_begin (names_of (with_lines run (opens items))) (is_some closed) (component_name c) ≡ true → length items ≤ 7 → Built (with_lines run (opens items)) closed done → Built (with_lines run (opens (items ++ c ∷ []))) closed (done ++ line ∷ [])
+begun items run c closed done line e o l k h n b =
+    let old : with_lines run (opens items) ≡ opens items = with_none (opens items) run e in
+    let new : with_lines run (opens (items ++ c ∷ [])) ≡ open_of c ∷ opens items = with_none (opens (items ++ c ∷ [])) run e ∙ opens-push items c in
+    let few : length (opens items) ≤ 7 = omega (arith, opens-length items) in
+    rw new (begun_in (opens items) c closed done line o l k (rw old at h) few (subst (λ cs. Built cs closed done) old b))
 
 -- ---- a property
 
-pub added : (rest : List Component) (c d : Component) (closed : Option Component) (done : List (List ℕ)) (line : List ℕ) → component_name d ≡ component_name c → component_children d ≡ component_children c → component_lines d ≡ component_lines c ++ line ∷ [] → is_property line ≡ true → Built (reverse (rest ++ c ∷ [])) closed done → Built (reverse (rest ++ d ∷ [])) closed (done ++ line ∷ [])
-added rest c d closed done line n k l p b =
-    let h : Built (c ∷ reverse rest) closed done = rw reverse-push at b in
-    rw (reverse-push rest d) (
+pub added : (cs : List Open) (run more : Lines) (closed : Option Component) (done : Lines) (line : List ℕ) → 0 < length cs → more ≡ run ++ line ∷ [] → is_property line ≡ true → Built (with_lines run cs) closed done → Built (with_lines more cs) closed (done ++ line ∷ [])
+added [] run more closed done line l e p b = absurd (omega arith)
+added (c ∷ around) run more closed done line l e p h =
+    let own : (c.own ++ run) ++ line ∷ [] ≡ c.own ++ more = append_assoc c.own run (line ∷ []) ∙ ap (λ z. c.own ++ z) (sym e) in (
       h.0,
       record {
         begin = h.1.begin;
         body = h.1.body ++ line ∷ [];
         are = ap (λ z. z ++ line ∷ []) h.1.are ∙ append_assoc h.0 (h.1.begin ∷ h.1.body) (line ∷ []);
-        opens = rw n h.1.opens;
-        holds = rw (l, k) (property line p h.1.holds);
+        opens = h.1.opens;
+        holds = subst (λ (ls : Lines). SpellsBody component_name component_lines component_children (7 - length around) ls c.inside (h.1.body ++ line ∷ [])) own (property line p h.1.holds);
       },
       h.2,
       h.3,
-      rw n h.4,
+      h.4,
     )
 
 -- ---- END
 
-pub ended_child : (rest : List Component) (p q c : Component) (closed : Option Component) (done : List (List ℕ)) (line : List ℕ) → is_end line ≡ true → is_same_name (component_name c) (line_value line) ≡ true → component_name q ≡ component_name p → component_lines q ≡ component_lines p → component_children q ≡ component_children p ++ c ∷ [] → Built (reverse ((rest ++ p ∷ []) ++ c ∷ [])) closed done → Built (reverse (rest ++ q ∷ [])) closed (done ++ line ∷ [])
-ended_child rest p q c closed done line e s n l k b =
-    let turned : reverse ((rest ++ p ∷ []) ++ c ∷ []) ≡ c ∷ p ∷ reverse rest = reverse-push (rest ++ p ∷ []) c ∙ ap (λ z. c ∷ z) (reverse-push rest p) in
-    let h : Built (c ∷ p ∷ reverse rest) closed done = subst (λ xs. Built xs closed done) turned b in
+ended_in : (around : List Open) (p q c : Component) (closed : Option Component) (done : Lines) (line : List ℕ) → is_end line ≡ true → is_same_name (component_name c) (line_value line) ≡ true → component_name q ≡ component_name p → component_lines q ≡ component_lines p → component_children q ≡ component_children p ++ c ∷ [] → Built (open_of c ∷ open_of p ∷ around) closed done → Built (open_of q ∷ around) closed (done ++ line ∷ [])
+ended_in around p q c closed done line e s n l k h =
     let g = h.2 in
-    let deep : 7 - length (reverse rest) ≡ suc (7 - length (p ∷ reverse rest)) = omega (arith, h.3) in
-    let outer : BodyOf (suc (7 - length (p ∷ reverse rest))) p g.1.body = subst (λ d. BodyOf d p g.1.body) deep g.1.holds in
+    let deep : 7 - length around ≡ suc (7 - length (open_of p ∷ around)) = omega (arith, h.3) in
+    let outer : SpellsBody component_name component_lines component_children (suc (7 - length (open_of p ∷ around))) (component_lines p) (component_children p) g.1.body = subst (λ d. SpellsBody component_name component_lines component_children d (component_lines p) (component_children p) g.1.body) deep g.1.holds in
     let closes : Closes line (component_name c) = record { ends = e; names = s } in
-    let all : done ++ line ∷ [] ≡ g.0 ++ g.1.begin ∷ (g.1.body ++ h.1.begin ∷ (h.1.body ++ line ∷ [])) = ap (λ z. z ++ line ∷ []) (h.1.are ∙ ap (λ z. z ++ h.1.begin ∷ h.1.body) g.1.are) ∙ (append_assoc (g.0 ++ g.1.begin ∷ g.1.body) (h.1.begin ∷ h.1.body) (line ∷ []) ∙ append_assoc g.0 (g.1.begin ∷ g.1.body) (h.1.begin ∷ (h.1.body ++ line ∷ []))) in
-    rw (reverse-push rest q) (
+    let all : done ++ line ∷ [] ≡ g.0 ++ g.1.begin ∷ (g.1.body ++ h.1.begin ∷ (h.1.body ++ line ∷ [])) = ap (λ z. z ++ line ∷ []) (h.1.are ∙ ap (λ z. z ++ h.1.begin ∷ h.1.body) g.1.are) ∙ (append_assoc (g.0 ++ g.1.begin ∷ g.1.body) (h.1.begin ∷ h.1.body) (line ∷ []) ∙ append_assoc g.0 (g.1.begin ∷ g.1.body) (h.1.begin ∷ (h.1.body ++ line ∷ []))) in (
       g.0,
       record {
         begin = g.1.begin;
@@ -71,7 +101,13 @@ ended_child rest p q c closed done line e s n l k b =
       rw n g.4,
     )
 
-pub ended_last : (c : Component) (closed : Option Component) (done : List (List ℕ)) (line : List ℕ) → is_end line ≡ true → is_same_name (component_name c) (line_value line) ≡ true → Built (c ∷ []) closed done → Built [] (Some c) (done ++ line ∷ [])
+pub ended_child : (items : List Component) (run : Lines) (p q c : Component) (closed : Option Component) (done : Lines) (line : List ℕ) → run ≡ [] → is_end line ≡ true → is_same_name (component_name c) (line_value line) ≡ true → component_name q ≡ component_name p → component_lines q ≡ component_lines p → component_children q ≡ component_children p ++ c ∷ [] → Built (with_lines run (opens ((items ++ p ∷ []) ++ c ∷ []))) closed done → Built (with_lines run (opens (items ++ q ∷ []))) closed (done ++ line ∷ [])
+ended_child items run p q c closed done line r e s n l k b =
+    let old : with_lines run (opens ((items ++ p ∷ []) ++ c ∷ [])) ≡ open_of c ∷ open_of p ∷ opens items = with_none (opens ((items ++ p ∷ []) ++ c ∷ [])) run r ∙ (opens-push (items ++ p ∷ []) c ∙ ap (λ z. open_of c ∷ z) (opens-push items p)) in
+    let new : with_lines run (opens (items ++ q ∷ [])) ≡ open_of q ∷ opens items = with_none (opens (items ++ q ∷ [])) run r ∙ opens-push items q in
+    rw new (ended_in (opens items) p q c closed done line e s n l k (subst (λ cs. Built cs closed done) old b))
+
+ended_last : (c : Component) (closed : Option Component) (done : Lines) (line : List ℕ) → is_end line ≡ true → is_same_name (component_name c) (line_value line) ≡ true → Built (open_of c ∷ []) closed done → Built [] (Some c) (done ++ line ∷ [])
 ended_last c closed done line e s h =
     let outer = outermost closed (is_calendar_name (component_name c)) h.4 in
     let none : h.0 ≡ [] = subst (λ o. Built [] o h.0) outer.0 h.2 in (
@@ -87,13 +123,27 @@ ended_last c closed done line e s h =
       outer.1,
     )
 
-pub ended_only : (old rest after : List Component) (c : Component) (closed : Option Component) (done : List (List ℕ)) (line : List ℕ) → is_end line ≡ true → is_same_name (component_name c) (line_value line) ≡ true → old ≡ rest ++ c ∷ [] → length rest ≡ 0 → length after ≡ 0 → Built (reverse old) closed done → Built (reverse after) (Some c) (done ++ line ∷ [])
-ended_only old rest after c closed done line e s p r a b =
-    let bare : old ≡ c ∷ [] = p ∙ ap (λ z. z ++ c ∷ []) (nil_from_length rest r) in
-    let h : Built (c ∷ []) closed done = subst (λ xs. Built (reverse xs) closed done) bare b in
-    subst (λ xs. Built (reverse xs) (Some c) (done ++ line ∷ [])) (sym (nil_from_length after a)) (ended_last c closed done line e s h)
+pub ended_only : (old rest after : List Component) (run : Lines) (c : Component) (closed : Option Component) (done : Lines) (line : List ℕ) → run ≡ [] → is_end line ≡ true → is_same_name (component_name c) (line_value line) ≡ true → old ≡ rest ++ c ∷ [] → length rest ≡ 0 → length after ≡ 0 → Built (with_lines run (opens old)) closed done → Built (with_lines run (opens after)) (Some c) (done ++ line ∷ [])
+ended_only old rest after run c closed done line r e s p l a b =
+    let bare : old ≡ c ∷ [] = p ∙ ap (λ z. z ++ c ∷ []) (nil_from_length rest l) in
+    let only : with_lines run (opens old) ≡ open_of c ∷ [] = with_none (opens old) run r ∙ ap opens bare in
+    let none : after ≡ [] = nil_from_length after a in
+    subst (λ xs. Built (with_lines run (opens xs)) (Some c) (done ++ line ∷ [])) (sym none) (ended_last c closed done line e s (subst (λ cs. Built cs closed done) only b))
 
 -- ---- the names of the open components
 
-pub names-push : (xs : List Component) (x : Component) → names_of (reverse (xs ++ x ∷ [])) ≡ component_name x ∷ names_of (reverse xs)
-names-push xs x = ap names_of (reverse-push xs x)
+pub names-push : (xs : List Component) (x : Component) → names_of (opens (xs ++ x ∷ [])) ≡ component_name x ∷ names_of (opens xs)
+names-push xs x = ap names_of (opens-push xs x)
+
+-- ---- small facts of the reader
+
+pub some_open : (cs : List Open) (run : Lines) → is_none (names_of (with_lines run cs)) ≡ false → 0 < length cs
+some_open [] run h = cc
+some_open (c ∷ cs) run h = omega arith
+
+pub plain : (line : List ℕ) → is_begin line ≡ false → is_end line ≡ false → is_property line ≡ true
+plain line b e = rw (b, e) refl
+
+pub none_left : (n : ℕ) → (0 < n → false ≡ true) → n ≡ 0
+none_left zero h = refl
+none_left (suc n) h = absurd (false≢true (h (omega arith)))

@@ -7,4 +7,5 @@ pub mod OneTree
 pub mod ReadsBackLemmas
 pub mod TreeOfLemmas
 pub mod OneLine
-pub mod OwnLines
+pub mod PropertyLemmas
+mod RunLemmas

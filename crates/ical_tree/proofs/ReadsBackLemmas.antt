@@ -1,17 +1,17 @@
 -- What a component is written with reads back as the same tree.
-use Rattle.std.proofs.Common.{◌≡◌, ℕ, ◌+◌, suc, zero, Bool, true, false, not, ◌||◌, ltb, eqb, List, [], ◌∷◌, ◌++◌, length, drop, codes, subst, sym, refl, ap, ◌∙◌, inl, inr, arith}
+use Rattle.std.proofs.Common.{◌≡◌, ℕ, ◌+◌, suc, zero, Bool, true, false, not, ◌||◌, ltb, eqb, List, [], ◌∷◌, ◌++◌, length, drop, codes, subst, sym, refl, ap, ◌∙◌, inl, inr, arith, ◌<◌, ◌≤◌, ◌&&◌, cond, get_or}
 use Rattle.std.specs.List.{flat_map, list_all, list_any}
 use Rattle.std.specs.Str.{IsUtf8, is_utf8, str_to_ascii_lowercase}
 use Rattle.std.proofs.Math.Bool.{and-false}
-use Rattle.std.proofs.lemmas.Bool.{true≢false, or_parts, and_parts, not-true}
+use Rattle.std.proofs.lemmas.Bool.{eqb-true, ltb-true, ltb-false, true≢false, or_parts, and_parts, not-true}
 use Rattle.std.proofs.lemmas.Bool.Decides.{nat_tests}
 use Rattle.std.proofs.lemmas.Slice.Eq.{bytes_eq-Decides}
-use Rattle.std.proofs.lemmas.List.{append_assoc, append-nil}
+use Rattle.std.proofs.lemmas.List.{append_assoc, append-nil, drop_all}
 use Rattle.std.proofs.lemmas.List.Concat.{flat_map-append}
 use Rattle.std.proofs.lemmas.List.Folds.{list_all-append}
-use Rattle.std.proofs.lemmas.Str.{IsUtf8-string_bytes, IsUtf8-from_ascii, is_utf8-from_IsUtf8}
+use Rattle.std.proofs.lemmas.Str.{IsUtf8-from_ascii, is_utf8-from_IsUtf8, IsUtf8-from_is_utf8, IsUtf8-drop, IsUtf8-nil, IsCharBoundary-after_ascii}
 use Rattle.std.proofs.lemmas.Str.Ascii.{IsAscii-cons, IsAscii-nil}
-use Rattle.profile.specs.Lines.{outside, line_value, is_same_name, is_control, has_control, lacks_colon, has_bad_name, has_bad_quote, is_faulty, is_content, logical_lines, reads_as_lines}
+use Rattle.profile.specs.Lines.{outside_from, outside, line_value, is_same_name, is_control, has_control, lacks_colon, has_bad_name, has_bad_quote, is_faulty, is_content, logical_lines, reads_as_lines}
 use Rattle.profile.specs.Objects.{SpellsBody, nothing, property, component, is_property, Opens, Closes, has_version}
 use Rattle.profile.specs.Trees.{tree_own}
 use Rattle.ical_lines.proofs.ContentLemmas.{lines_back, lines_fine, read_content, read_fine}
@@ -70,13 +70,41 @@ end_content name h u =
     let utf8 : is_utf8 (codes "END" ++ 58 ∷ name) ≡ true = is_utf8-from_IsUtf8 (codes "END" ++ 58 ∷ name) (property_utf8 (codes "END") name (IsUtf8-from_ascii (codes "END") (IsAscii-cons 69 (codes "ND") (omega arith) (IsAscii-cons 78 (codes "D") (omega arith) (IsAscii-cons 68 [] (omega arith) IsAscii-nil)))) u) in
     rw (colon, h, utf8) refl
 
+at_by : (stop c : ℕ) (cs : List ℕ) (m n : ℕ) (b d : Bool) → (d ≡ true → c ≡ stop) → (m < length cs → get_or cs m 0 ≡ stop) → (n < length cs → get_or cs n 0 ≡ stop) → cond b (1 + m) (cond d 0 (1 + n)) < length (c ∷ cs) → get_or (c ∷ cs) (cond b (1 + m) (cond d 0 (1 + n))) 0 ≡ stop
+at_by stop c cs m n true d h f g l = let e : 1 + m ≡ suc m = omega arith in rw e (f (omega arith))
+at_by stop c cs m n false true h f g l = h refl
+at_by stop c cs m n false false h f g l = let e : 1 + n ≡ suc n = omega arith in rw e (g (omega arith))
+
+outside_at : (stop : ℕ) (q : Bool) (text : List ℕ) → outside_from stop q text < length text → get_or text (outside_from stop q text) 0 ≡ stop
+outside_at stop q [] l = absurd (omega arith)
+outside_at stop q (c ∷ cs) l =
+    at_by stop c cs (outside_from stop (not q) cs) (outside_from stop q cs) (eqb c 34) (eqb c stop && not q) (λ h. eqb-true c stop (and_parts (eqb c stop) (not q) h).0) (outside_at stop (not q) cs) (outside_at stop q cs) l
+
+value_from : (text : List ℕ) (b : Bool) → ltb (outside 58 text) (length text) ≡ b → IsUtf8 text → IsUtf8 (line_value text)
+value_from text true e u =
+    let l = ltb-true (outside 58 text) (length text) e in
+    let a : get_or text (outside 58 text) 0 < 128 = omega (arith, outside_at 58 false text l) in
+    IsUtf8-drop text (outside 58 text + 1) u (IsCharBoundary-after_ascii text (outside 58 text) u l a)
+value_from text false e u =
+    let l : length text ≤ outside 58 text + 1 = omega (arith, ltb-false (outside 58 text) (length text) e) in
+    rw (drop_all (outside 58 text + 1) text l) IsUtf8-nil
+
+back_utf8 : (text : List ℕ) → IsUtf8 text → IsUtf8 (line_value text)
+back_utf8 text u = value_from text (ltb (outside 58 text) (length text)) refl u
+
+-- the value of a content line is a text
+value_utf8 : (line : List ℕ) → is_content line ≡ true → IsUtf8 (line_value line)
+value_utf8 line h =
+    let fine = not-true (is_faulty line) (and_parts (not (is_faulty line)) (is_utf8 line) h).0 in
+    back_utf8 line (IsUtf8-from_is_utf8 line (and_parts (not (is_faulty line)) (is_utf8 line) h).1)
+
 name_clean : (c : Component) (begin : List ℕ) → is_content begin ≡ true → Opens begin (component_name c) → has_control (component_name c) ≡ false
 name_clean c begin h o = ap has_control (sym o.names) ∙ value_clean begin h
 
 whole_content : (c : Component) (begin : List ℕ) → is_content begin ≡ true → Opens begin (component_name c) → list_all is_content (component_lines c) ≡ true → list_all is_content (all_written (component_children c)) ≡ true → list_all is_content (written_lines c) ≡ true
 whole_content c begin h o own inside =
     let clean = name_clean c begin h o in
-    let utf8 : IsUtf8 (component_name c) = IsUtf8-string_bytes (out-Component c).name in
+    let utf8 : IsUtf8 (component_name c) = subst IsUtf8 o.names (value_utf8 begin h) in
     let middle = component_lines c ++ all_written (component_children c) in
     ap (list_all is_content) (written_out c) ∙ all_more is_content (begin_of c) (middle ++ end_of c ∷ []) (begin_content (component_name c) clean utf8) (all_both is_content middle (end_of c ∷ []) (all_both is_content (component_lines c) (all_written (component_children c)) own inside) (all_more is_content (end_of c) [] (end_content (component_name c) clean utf8) refl))
 

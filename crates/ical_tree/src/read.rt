@@ -14,7 +14,8 @@ ghost use Rattle.std.specs.Prelude.{
   ℕ,
   List,
   codes,
-  reverse,
+  length,
+  ◌<◌,
   nat_lt,
   true,
   false,
@@ -24,18 +25,19 @@ ghost use Rattle.std.specs.Prelude.{
   IsTrue,
 };
 ghost use Rattle.profile.specs.Faults.{is_object_fault};
-ghost use Rattle.profile.specs.First.{text_fault, comes_after};
-ghost use Rattle.profile.specs.Lines.{logical_lines, line_value, reads_as_lines};
+ghost use Rattle.profile.specs.Lines.{line_value};
 ghost use Rattle.profile.specs.Objects.{is_end, is_property, is_calendar_name, has_version, count_inside, may_begin, Opens, is_none, now_open, misplaced, misplaced_begin, misplaced_end, misplaced_property};
-ghost use Rattle.ical_lines.specs.Fault.{RefusesOnly};
+ghost use Rattle.ical_lines.specs.Fault.{RefusesOnly, RefusesBy};
 ghost use Rattle.ical_lines.specs.Limits.{is_bounded};
-ghost use Rattle.ical_lines.specs.Text.{line_text};
+ghost use Rattle.ical_lines.specs.Text.{line_text, lines_left};
+ghost use Rattle.ical_tree.specs.Runs.{lines_after, run_lines};
 ghost use Rattle.ical_tree.specs.Tree.{IsObjectOf, component_name, component_lines, component_children};
-ghost use Rattle.ical_tree.specs.Reading.{Built, SpellsOf, IsCalendar, Stands, calendar_has, names_of};
+ghost use Rattle.ical_tree.specs.Reading.{Built, SpellsOf, IsCalendar, TreeHas, calendar_has, names_of, open_view};
 
 use crate::component::Component;
-use ical_lines::{Fault, Limits, Line, Refusal, Unfolded};
-use std::alloc::Global;
+use crate::own_lines::Run;
+use ical_lines::{Fault, Limits, Line, Lines, Refusal, Unfolded};
+use std::alloc::{AllocError, Global};
 
 /// The deepest nesting of components, VCALENDAR counted; this profile's choice.
 const MAX_DEPTH: usize = 8;
@@ -43,24 +45,26 @@ const MAX_DEPTH: usize = 8;
 /// The most VEVENTs of one message; this profile's choice.
 const MAX_EVENTS: usize = 200;
 
-/// Reads octets as one object: a VCALENDAR with all that stands inside.
+/// Reads an unfolded text as one object: a VCALENDAR with all that stands inside, which borrows the text.
 ///
-/// It refuses first what `Unfolded::read` refuses (1 to 6). Then, in text order: an END with nothing open or of
-/// another name than the open component (20), a component more than 8 deep (22), a property or a component outside
-/// the one VCALENDAR, or a VCALENDAR inside a component (23). Then, at the end: a component that is still open (21),
-/// no VCALENDAR at all (23), a VERSION of VCALENDAR that is missing, stands twice or isn't `2.0` (24), and for
-/// `Limits::Message` more than 200 VEVENTs directly inside VCALENDAR (25).
-pub fn read_object(alloc: Global, bytes: &[u8], limits: Limits) -> Result<Component, Fault>
-    ensures spelled { IfOk result (λ c. IsObjectOf (is_bounded limits) c (logical_lines bytes.now)) }
-    ensures reads { OnOk result (reads_as_lines (is_bounded limits) bytes.now ≡ true) }
-    ensures stands { IfErr result (Stands (is_bounded limits) bytes.now) }
-    ensures first { IfErr result (RefusesOnly (comes_after (text_fault (is_bounded limits) bytes.now))) }
+/// It refuses, in text order: an END with nothing open or of another name than the open component (20), a component
+/// more than 8 deep (22), a property or a component outside the one VCALENDAR, or a VCALENDAR inside a component (23).
+/// Then, at the end: a component that is still open (21), no VCALENDAR at all (23), a VERSION of VCALENDAR that is
+/// missing, stands twice or isn't `2.0` (24), and for `Limits::Message` more than 200 VEVENTs directly inside
+/// VCALENDAR (25).
+pub fn read_object<'a>(
+    alloc: Global,
+    text: &'a Unfolded,
+    limits: Limits,
+) -> Result<Component<'a>, Fault>
+    ensures spelled { IfOk result (λ c. IsObjectOf (is_bounded limits) c text.now) }
+    ensures stands { IfErr result (RefusesBy (λ n. TreeHas (is_bounded limits) n text.now)) }
     ensures refuses { IfErr result (RefusesOnly is_object_fault) }
 {
-    let text = Unfolded::read(alloc, bytes, limits)?;
-    let mut reader = Reader::new(alloc);
-    for line in text.lines() {
-        reader.take(alloc, line)?;
+    let mut lines = text.lines();
+    let mut reader = Reader::new(alloc, lines);
+    while let Some(line) = lines.next() {
+        reader.take(alloc, line, lines)?;
     }
     let calendar = reader.finish()?;
     check_calendar(&calendar, limits)?;
@@ -69,51 +73,58 @@ pub fn read_object(alloc: Global, bytes: &[u8], limits: Limits) -> Result<Compon
 
 /// What the lines so far have spelled.
 #[derive(Drop)]
-struct Reader {
+struct Reader<'a> {
     /// The components that are open, from the outermost on.
-    open: Vec<Component>,
+    open: Vec<Component<'a>>,
+    /// The properties since the last BEGIN or END. The innermost component doesn't have them yet.
+    run: Run<'a>,
     /// The VCALENDAR, once it is closed.
-    closed: Option<Component>,
+    closed: Option<Component<'a>>,
 }
 
-impl Reader {
-    /// No lines yet.
-    fn new(alloc: Global) -> Reader
+impl<'a> Reader<'a> {
+    /// No lines yet, but these to come.
+    fn new(alloc: Global, lines: Lines<'a>) -> Reader<'a>
         ensures open { result.open.items ≡ [] }
         ensures closed { result.closed ≡ None }
+        ensures follows { lines_after result.run ≡ lines_left lines.entry }
     {
         Reader {
             open: Vec::new(alloc),
+            run: Run::empty(lines),
             closed: None,
         }
     }
 
-    /// Takes the next line. After an error the reader is spent.
-    fn take(&mut self, alloc: Global, line: Line<'_>) -> Result<(), Fault>
+    /// Takes the next line; `rest` are the lines after it. After an error the reader is spent.
+    fn take(&mut self, alloc: Global, line: Line<'a>, rest: Lines<'a>) -> Result<(), Fault>
+        requires { lines_after self.old.run ≡ line_text line ∷ lines_left rest }
+        ensures follows { OnOk result (lines_after self.new.run ≡ lines_left rest.entry) }
         ensures built { OnOk result ((done : List (List ℕ))
-            → Built (reverse self.old.open.items) self.old.closed done
-            → Built (reverse self.new.open.items) self.new.closed (done ++ line_text line.entry ∷ [])) }
-        ensures names { OnOk result (names_of (reverse self.new.open.items) ≡ now_open (names_of (reverse self.old.open.items)) (line_text line.entry)) }
-        ensures stands { IfErr result (RefusesOnly (λ n. misplaced n (names_of (reverse self.old.open.items)) (is_some self.old.closed) (line_text line.entry))) }
+            → Built (open_view self.old) self.old.closed done
+            → Built (open_view self.new) self.new.closed (done ++ line_text line.entry ∷ [])) }
+        ensures names { OnOk result (names_of (open_view self.new) ≡ now_open (names_of (open_view self.old)) (line_text line.entry)) }
+        ensures stands { IfErr result (RefusesOnly (λ n. misplaced n (names_of (open_view self.old)) (is_some self.old.closed) (line_text line.entry))) }
         ensures refuses { IfErr result (RefusesOnly is_object_fault) }
     {
         if line.is_named("BEGIN") {
-            self.begin(alloc, line.value())
+            self.begin(alloc, line.value(), rest)
         } else if line.is_named("END") {
-            self.end(line.value())
+            self.end(line.value(), rest)
         } else {
-            self.add(line)
+            Ok(self.add()?)
         }
     }
 
-    /// Opens a component.
-    fn begin(&mut self, alloc: Global, name: &str) -> Result<(), Fault>
+    /// Opens a component; `rest` are the lines after its BEGIN.
+    fn begin(&mut self, alloc: Global, name: &'a str, rest: Lines<'a>) -> Result<(), Fault>
+        ensures follows { OnOk result (lines_after self.new.run ≡ lines_left rest.entry) }
         ensures built { OnOk result ((done : List (List ℕ)) (line : List ℕ)
             → Opens line name.now
-            → Built (reverse self.old.open.items) self.old.closed done
-            → Built (reverse self.new.open.items) self.new.closed (done ++ line ∷ [])) }
-        ensures names { OnOk result (names_of (reverse self.new.open.items) ≡ name.now ∷ names_of (reverse self.old.open.items)) }
-        ensures stands { IfErr result (RefusesOnly (λ n. misplaced_begin n (names_of (reverse self.old.open.items)) (is_some self.old.closed) name.now)) }
+            → Built (open_view self.old) self.old.closed done
+            → Built (open_view self.new) self.new.closed (done ++ line ∷ [])) }
+        ensures names { OnOk result (names_of (open_view self.new) ≡ name.now ∷ names_of (open_view self.old)) }
+        ensures stands { IfErr result (RefusesOnly (λ n. misplaced_begin n (names_of (open_view self.old)) (is_some self.old.closed) name.now)) }
         ensures refuses { IfErr result (RefusesOnly is_object_fault) }
     {
         if self.open.len() >= MAX_DEPTH {
@@ -122,14 +133,14 @@ impl Reader {
         if !self.may_begin(name) {
             return Err(Fault::Refused(Refusal::NOT_ONE_CALENDAR));
         }
-        let component = Component::new(alloc, name)?;
-        self.open.push(component)?;
+        self.end_run(rest)?;
+        self.open.push(Component::new(alloc, name))?;
         Ok(())
     }
 
     /// Whether a component of this name may begin here: a VCALENDAR first of all, any other inside another.
     fn may_begin(&self, name: &str) -> bool
-        ensures { result ≡ may_begin (names_of (reverse self.now.open.items)) (is_some self.now.closed) name.now }
+        ensures { result ≡ may_begin (names_of (open_view self.now)) (is_some self.now.closed) name.now }
     {
         if self.is_outside() {
             is_calendar(name) && self.closed.is_none()
@@ -140,22 +151,24 @@ impl Reader {
 
     /// Whether no component is open.
     fn is_outside(&self) -> bool
-        ensures { result ≡ is_none (names_of (reverse self.now.open.items)) }
+        ensures { result ≡ is_none (names_of (open_view self.now)) }
     {
         self.open.is_empty()
     }
 
-    /// Closes the innermost component.
-    fn end(&mut self, name: &str) -> Result<(), Fault>
+    /// Closes the innermost component; `rest` are the lines after its END.
+    fn end(&mut self, name: &str, rest: Lines<'a>) -> Result<(), Fault>
+        ensures follows { OnOk result (lines_after self.new.run ≡ lines_left rest.entry) }
         ensures built { OnOk result ((done : List (List ℕ)) (line : List ℕ)
             → is_end line ≡ true
             → line_value line ≡ name.now
-            → Built (reverse self.old.open.items) self.old.closed done
-            → Built (reverse self.new.open.items) self.new.closed (done ++ line ∷ [])) }
-        ensures names { OnOk result (names_of (reverse self.new.open.items) ≡ drop 1 (names_of (reverse self.old.open.items))) }
-        ensures stands { IfErr result (RefusesOnly (λ n. misplaced_end n (names_of (reverse self.old.open.items)) name.now)) }
+            → Built (open_view self.old) self.old.closed done
+            → Built (open_view self.new) self.new.closed (done ++ line ∷ [])) }
+        ensures names { OnOk result (names_of (open_view self.new) ≡ drop 1 (names_of (open_view self.old))) }
+        ensures stands { IfErr result (RefusesOnly (λ n. misplaced_end n (names_of (open_view self.old)) name.now)) }
         ensures refuses { IfErr result (RefusesOnly is_object_fault) }
     {
+        self.end_run(rest)?;
         let Some(component) = self.open.pop() else {
             return Err(Fault::Refused(Refusal::STRAY_END));
         };
@@ -171,31 +184,51 @@ impl Reader {
         Ok(())
     }
 
-    /// Adds a property to the innermost component.
-    fn add(&mut self, line: Line<'_>) -> Result<(), Fault>
-        ensures built { OnOk result ((done : List (List ℕ))
-            → is_property (line_text line.entry) ≡ true
-            → Built (reverse self.old.open.items) self.old.closed done
-            → Built (reverse self.new.open.items) self.new.closed (done ++ line_text line.entry ∷ [])) }
-        ensures names { OnOk result (names_of (reverse self.new.open.items) ≡ names_of (reverse self.old.open.items)) }
-        ensures stands { IfErr result (RefusesOnly (λ n. misplaced_property n (names_of (reverse self.old.open.items)))) }
-        ensures refuses { IfErr result (RefusesOnly is_object_fault) }
+    /// Gives the innermost component its properties since the last BEGIN or END. Those to come are among `rest`.
+    fn end_run(&mut self, rest: Lines<'a>) -> Result<(), AllocError>
+        ensures view { OnOk result (open_view self.new ≡ open_view self.old) }
+        ensures follows { OnOk result (lines_after self.new.run ≡ lines_left rest.entry) }
+        ensures closed { self.new.closed ≡ self.old.closed }
+        ensures empty { OnOk result (run_lines self.new.run ≡ []) }
+        ensures open { OnOk result (length self.new.open.items ≡ length self.old.open.items) }
     {
-        let Some(mut component) = self.open.pop() else {
-            return Err(Fault::Refused(Refusal::NOT_ONE_CALENDAR));
-        };
-        component.push_line(line)?;
-        self.open.push(component)?;
+        if !self.run.is_empty() {
+            if let Some(mut component) = self.open.pop() {
+                component.push_run(self.run)?;
+                self.open.push(component)?;
+            }
+        }
+        self.run = Run::empty(rest);
+        Ok(())
+    }
+
+    /// Adds the next line, a property, to the innermost component.
+    fn add(&mut self) -> Result<(), Refusal>
+        requires { 0 < length (lines_after self.old.run) }
+        ensures follows { OnOk result (lines_after self.new.run ≡ drop 1 (lines_after self.old.run)) }
+        ensures built { OnOk result ((done : List (List ℕ)) (line : List ℕ) (rest : List (List ℕ))
+            → is_property line ≡ true
+            → lines_after self.old.run ≡ line ∷ rest
+            → Built (open_view self.old) self.old.closed done
+            → Built (open_view self.new) self.new.closed (done ++ line ∷ [])) }
+        ensures names { OnOk result (names_of (open_view self.new) ≡ names_of (open_view self.old)) }
+        ensures stands { IfErr result (λ e. IsTrue (misplaced_property e.number (names_of (open_view self.old)))) }
+        ensures refuses { IfErr result (λ e. IsTrue (is_object_fault e.number)) }
+    {
+        if self.is_outside() {
+            return Err(Refusal::NOT_ONE_CALENDAR);
+        }
+        self.run.grow();
         Ok(())
     }
 
     /// The VCALENDAR, after the last line.
-    fn finish(self) -> Result<Component, Refusal>
+    fn finish(self) -> Result<Component<'a>, Refusal>
         ensures spelled { IfOk result (λ c. (done : List (List ℕ))
-            → Built (reverse self.open.items) self.closed done
+            → Built (open_view self.entry) self.entry.closed done
             → SpellsOf 7 c done × IsCalendar c) }
-        ensures stands { IfErr result (λ r. IsTrue ((r.number == 21 && not (is_none (names_of (reverse self.open.items))))
-            || (r.number == 23 && (is_none (names_of (reverse self.open.items)) && not (is_some self.closed))))) }
+        ensures stands { IfErr result (λ r. IsTrue ((r.number == 21 && not (is_none (names_of (open_view self.entry))))
+            || (r.number == 23 && (is_none (names_of (open_view self.entry)) && not (is_some self.entry.closed))))) }
         ensures refuses { IfErr result (λ r. IsTrue (is_object_fault r.number)) }
     {
         if !self.open.is_empty() {

@@ -4,7 +4,7 @@ use Rattle.std.specs.List.{flat_map, list_all, filter}
 use Rattle.std.specs.Prelude.{map}
 use Rattle.std.proofs.lemmas.Bool.{and_parts}
 use Rattle.ical_tree.proofs.TreeOfLemmas.{BodyT}
-use Rattle.ical_tree.proofs.OwnLines.{own_body}
+use Rattle.ical_tree.proofs.PropertyLemmas.{own_body}
 use Rattle.profile.specs.Lines.{is_same_name}
 use Rattle.profile.specs.Trees.{Tree, Trees, tree, none, more, trees_list, tree_name, tree_own, tree_inside, vevents}
 use Rattle.profile.specs.Objects.{is_property, has_version, Opens, Closes, IsObject}

@@ -15,7 +15,7 @@ ghost use Rattle.cal_events.specs.Events.{event_of, vevents_of};
 ghost use Rattle.itip_messages.specs.Messages.{IsMessageOf, IsSpelled, MeetingFault, NamesRequest, ReadFault, StandsFor, WordFault, component_names};
 
 use cal_events::{Attendee, EventComponent, Purpose, refuse_unread_events};
-use ical_lines::{Fault, Limits, Line, Refusal};
+use ical_lines::{Fault, Limits, Line, Refusal, Unfolded};
 use ical_tree::{Component, read_object};
 use ical_values::{Address, Duration, Sequence, Stamp, Text};
 use itip_order::{Revision, Slot};
@@ -75,7 +75,8 @@ impl Message {
         ensures refuses { IfErr result (RefusesOnly is_message_fault) }
         ensures stands { IfErr result (ReadFault bytes.now) }
     {
-        let object = read_object(alloc, bytes, Limits::Message)?;
+        let text = Unfolded::read(alloc, bytes, Limits::Message)?;
+        let object = read_object(alloc, &text, Limits::Message)?;
         Message::of_object(alloc, &object)
     }
 

@@ -17,7 +17,7 @@ use cal_events::{
     EventComponent, EventTimes, Purpose, SaidTimes, ZonedTime, refuse_nominal_length,
 };
 use cal_rules::{Rule, RuleText, Until};
-use ical_lines::{Fault, Limits, Line, Refusal};
+use ical_lines::{Fault, Limits, Line, Refusal, Unfolded};
 use ical_tree::{Component, read_object};
 use ical_values::{LocalTime, Stamp};
 use itoa::Buffer;
@@ -70,7 +70,8 @@ impl Series {
     /// order, UID to STATUS and ATTENDEE as by `EventComponent::read`, DTSTART, DTEND and DURATION as by `SaidTimes::read`,
     /// 61 for two RRULEs and 30 to 33 for the rule; then 50 to 52, and 34 for a DTSTART that its rule doesn't give.
     fn read(alloc: Global, octets: &[u8]) -> Result<Series, Fault> {
-        let object = read_object(alloc, octets, Limits::Message)?;
+        let text = Unfolded::read(alloc, octets, Limits::Message)?;
+        let object = read_object(alloc, &text, Limits::Message)?;
         let component = one_event(&object)?;
         refuse_unread(component)?;
         EventComponent::judge_heading(alloc, component, Purpose::Calendar)?;
@@ -254,7 +255,7 @@ fn flush<W: Write>(writer: &mut W) -> Result<(), PrintFault>
 
 /// The one VEVENT of an object.
 /// Refused: 66 where there is none, 99 where there are several: overrides aren't read yet.
-fn one_event(object: &Component) -> Result<&Component, Refusal> {
+fn one_event<'c, 'a>(object: &'c Component<'a>) -> Result<&'c Component<'a>, Refusal> {
     let mut found = None;
     for component in object.children() {
         if component.is_named("VEVENT") {

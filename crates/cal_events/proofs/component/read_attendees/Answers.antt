@@ -1,6 +1,7 @@
 use Rattle.std.proofs.Common.{sym}
 use Rattle.ical_lines.specs.Fault.{RefusesBy}
-use Rattle.ical_lines.specs.Text.{line_text, lines_left}
+use Rattle.ical_lines.specs.Text.{line_text}
+use Rattle.ical_tree.specs.Runs.{lines_left}
 use Rattle.ical_tree.specs.Tree.{component_lines}
 use Rattle.profile.specs.Events.{EventFault}
 use Rattle.cal_events.proofs.EventLemmas.{attendee_pushed, attendee_fault}

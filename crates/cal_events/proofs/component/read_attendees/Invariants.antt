@@ -1,6 +1,6 @@
 use Rattle.std.proofs.Common.{◌≡◌, ◌++◌, ℕ, List, map, codes}
 use Rattle.std.specs.List.{AllZip}
-use Rattle.ical_lines.specs.Text.{lines_left}
+use Rattle.ical_tree.specs.Runs.{lines_left}
 use Rattle.ical_tree.specs.Tree.{component_lines}
 use Rattle.profile.specs.Events.{lines_named, IsAttendee}
 use Rattle.cal_events.specs.Events.{attendee_of}

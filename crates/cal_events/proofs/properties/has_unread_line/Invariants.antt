@@ -1,5 +1,5 @@
 use Rattle.std.proofs.Common.{◌≡◌}
-use Rattle.ical_lines.specs.Text.{lines_left}
+use Rattle.ical_tree.specs.Runs.{lines_left}
 use Rattle.ical_tree.specs.Tree.{component_lines}
 use Rattle.profile.specs.Events.{has_unread}
 use Rattle.cal_events.proofs.properties.has_unread_line.Given as goal

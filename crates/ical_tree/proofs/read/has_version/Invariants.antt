@@ -1,7 +1,8 @@
 use Rattle.std.proofs.Common.{◌≡◌, ◌++◌, filter, map}
 use Rattle.std.specs.Option.{option_to_list}
 use Rattle.profile.specs.Objects.{is_version}
-use Rattle.ical_lines.specs.Text.{line_text, lines_left}
+use Rattle.ical_lines.specs.Text.{line_text}
+use Rattle.ical_tree.specs.Runs.{lines_left}
 use Rattle.ical_tree.specs.Tree.{component_lines}
 use Rattle.ical_tree.proofs.read.has_version.Given as goal
 

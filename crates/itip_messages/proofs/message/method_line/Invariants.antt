@@ -1,6 +1,7 @@
 use Rattle.std.proofs.Common.{◌≡◌, ◌++◌, option_map, codes}
 use Rattle.std.specs.Option.{option_to_list}
-use Rattle.ical_lines.specs.Text.{line_text, lines_left}
+use Rattle.ical_lines.specs.Text.{line_text}
+use Rattle.ical_tree.specs.Runs.{lines_left}
 use Rattle.ical_tree.specs.Tree.{component_lines}
 use Rattle.profile.specs.Events.{lines_named}
 use Rattle.itip_messages.proofs.message.method_line.Given as goal

@@ -1,14 +1,16 @@
-use Rattle.std.proofs.Common.{◌<◌, ◌≤◌, length, is_some, sym, ◌∙◌, arith}
+use Rattle.std.proofs.Common.{◌≡◌, ◌≤◌, length, is_some, true, subst, sym, ◌∙◌, arith}
+use Rattle.profile.specs.Objects.{may_begin}
+use Rattle.ical_tree.specs.Reading.{Built, names_of, open_view}
+use Rattle.ical_tree.specs.Runs.{run_lines}
+use Rattle.ical_tree.specs.Tree.{component_name}
 use Rattle.ical_tree.proofs.BuiltLemmas.{begun}
-use Rattle.ical_tree.proofs.StandsLemmas.{stray}
 use Rattle.ical_tree.proofs.read.Reader.begin.Goals as goal
-
-pub returns-then-not-may_begin-clause-stands : goal.returns-then-not-may_begin-clause-stands
-returns-then-not-may_begin-clause-stands c =
-    let room : length c.args.self.now.open.items < 8 = omega (arith, c.args.self.now.open.ok.0) in
-    stray c.args.self.now.open.items (is_some c.args.self.now.closed) c.args.name.now room (sym c.may_begin.ensures ∙ c.if-not-may_begin.true)
 
 pub returns-clause-built : goal.returns-clause-built
 returns-clause-built c = λ done line o b.
-    let room : length c.args.self.now.open.items ≤ 7 = omega (arith, c.args.self.now.open.ok.0) in
-    rw c.in_ok-push.ensures.items (begun c.args.self.now.open.items c.in_ok-component.component c.args.self.now.closed done line (rw c.in_ok-component.ensures.name o) c.in_ok-component.ensures.lines c.in_ok-component.ensures.children (rw c.in_ok-component.ensures.name (sym c.may_begin.ensures ∙ c.if-not-may_begin.false)) room b)
+    let mid = c.end_run.new.self in
+    let moved = c.in_ok-end_run.ensures in
+    let few : length mid.«open».items ≤ 7 = omega (arith, moved.«open», c.args.self.now.«open».ok.0) in
+    let may : may_begin (names_of (open_view mid)) (is_some mid.closed) (component_name c.new.result) ≡ true = rw (moved.view, moved.closed, c.new.ensures.name) (sym c.may_begin.ensures ∙ c.if-not-may_begin.false) in
+    let built : Built (open_view mid) mid.closed done = rw (moved.view, moved.closed) b in
+    rw c.in_ok-push.ensures.items (begun mid.«open».items (run_lines mid.run) c.new.result mid.closed done line moved.empty (rw c.new.ensures.name o) c.new.ensures.lines c.new.ensures.children may few built)
