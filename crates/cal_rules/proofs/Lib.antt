@@ -11,6 +11,7 @@ pub mod Cuts
 pub mod Parted
 pub mod Numbers
 pub mod Entered
+pub mod Taking
 pub mod OneRule
 pub mod Listing
 pub mod ReadBack

@@ -1,5 +1,5 @@
 -- Numbers, weekdays and dates as they are spelled.
-use Rattle.std.proofs.Common.{to_z, of_z, w16, w64, ◌≡◌, ◌∙◌, ◌≢◌, ap, sym, refl, ℕ, zero, suc, ◌+◌, ◌-◌, ◌*◌, ◌^◌, ◌<◌, ◌≤◌, lit<, lit≤, true, false, cond, nat_eq, inl, inr, ◌⊎◌, List, [], ◌∷◌, ◌++◌, length, get_or, take, drop, codes, Option, None, Some, IsSome, is_some, IfSome, IfNone, MatchOption, ℤ, pos, neg_ℤ, ◌*ℤ◌, ◌+ℤ◌, arith}
+use Rattle.std.proofs.Common.{to_z, of_z, w16, w64, ◌≡◌, ◌∙◌, ◌≢◌, ap, sym, refl, ℕ, zero, suc, ◌+◌, ◌-◌, ◌*◌, ◌^◌, ◌<◌, ◌≤◌, lit<, lit≤, true, false, cond, nat_eq, inl, inr, ◌⊎◌, List, [], ◌∷◌, ◌++◌, length, get_or, take, drop, codes, Option, None, Some, IsSome, is_some, IfSome, IfNone, MatchOption, ℤ, pos, neg_ℤ, ◌*ℤ◌, ◌+ℤ◌, arith, Result, Ok, Err}
 use Rattle.std.proofs.lemmas.Bool.Decides.{nat_tests}
 use Rattle.std.proofs.lemmas.Int.{ints}
 use Rattle.std.proofs.lemmas.List.{append_assoc, take-append-drop, take_at, drop_at, get_or_at, length-append}
@@ -8,7 +8,8 @@ use Rattle.std.proofs.lemmas.Str.Parse.{without_leading_plus_none, digit_from_va
 use Rattle.std.specs.Int.{IsInRange}
 use denote.Ref.{Bor}
 use Rattle.std.specs.Str.{IsCharBoundary}
-use Rattle.std.specs.Str.Parse.{AllDigits, IsNumeral, digits_value, without_leading_plus}
+use Rattle.std.specs.Str.Parse.{AllDigits, IsNumeral, digits_value, without_leading_plus, ParsesUnsigned}
+use Rattle.std.specs.Result.{result_ok}
 use Rattle.profile.specs.Faults.{is_between}
 use Rattle.profile.specs.Days.{Frequency, Daily, Weekly, Monthly, Yearly, IsDayNumber}
 use Rattle.profile.specs.Values.{IsNumber, IsClockSeconds, SpellsDate, SpellsTime, SpellsLocal, SpellsStamp}
@@ -108,11 +109,15 @@ stripped_none bs None e h = h
 stripped_none bs (Some x) e h = cc
 
 -- what `parse` reads where no `+` stands
-pub plain_number : (bs : List ℕ) (n : ℕ) → ((rest : List ℕ) → bs ≡ 43 ∷ rest → ⊥) → IsNumeral 10 (without_leading_plus bs) → n ≡ digits_value 10 (without_leading_plus bs) → IsNumber bs n
+plain_number : (bs : List ℕ) (n : ℕ) → ((rest : List ℕ) → bs ≡ 43 ∷ rest → ⊥) → IsNumeral 10 (without_leading_plus bs) → n ≡ digits_value 10 (without_leading_plus bs) → IsNumber bs n
 plain_number bs n h p e =
     let same = without_leading_plus_none bs (not_plus bs h) in
     let q = rw same at p in
     (q.0, q.1, sym (rw same at e))
+
+pub parsed : {E : Type 0} (bs : List ℕ) (r : Result ℕ E) → ((rest : List ℕ) → bs ≡ 43 ∷ rest → ⊥) → ParsesUnsigned 32 10 bs r → IfSome (result_ok r) (IsNumber bs)
+parsed bs (Ok n) h p = plain_number bs n h p.0.0 p.1
+parsed bs (Err e) h p = tt
 
 pub between_small : (low high : ℕ) (value : List ℕ) → high < 2 ^ 32 → ((n : ℕ) → n < 2 ^ 32 → IsNumber value n → ⊥) → SpellsNone (SpellsBetween low high) value
 between_small low high value bound none n s =

@@ -1,5 +1,5 @@
 -- What a text says, all parts together: one rule, each number in its range, and the least fault.
-use Rattle.std.proofs.Common.{◌≡◌, ◌∙◌, ap, sym, refl, ℕ, zero, suc, ◌<◌, ◌≤◌, Bool, true, false, ◌&&◌, ◌||◌, nat_lt, nat_le, inl, inr, ◌⊎◌, List, [], ◌∷◌, length, All, Contains, Option, None, Some, ℤ, pos, neg_ℤ, arith}
+use Rattle.std.proofs.Common.{◌≡◌, ◌∙◌, ap, sym, refl, ℕ, zero, suc, ◌<◌, ◌≤◌, Bool, true, false, ◌&&◌, ◌||◌, nat_lt, nat_le, inl, inr, ◌⊎◌, List, [], ◌∷◌, length, codes, subst, All, Contains, Option, None, Some, ℤ, pos, neg_ℤ, arith}
 use Rattle.ical_lines.specs.Fault.{RefusesBy}
 use Rattle.std.proofs.lemmas.Bool.Decides.{nat_tests}
 use Rattle.std.proofs.lemmas.List.Elements.{All-contains}
@@ -11,7 +11,10 @@ use Rattle.profile.specs.Rules.{RuleText, WeekdayNumber, Until, is_place, is_pla
 use Rattle.profile.specs.RuleTexts.{RuleKey, Interval, Count, EndsAt, WeekStart, ByMonth, ByMonthDay, ByDay, BySetPosition, rule_parts, key_word, values_of, frequency_word, SpellsBetween, SpellsPlace, SpellsEntry, SpellsList, SpellsWeekday, SpellsCount, SpellsUntil, IsGiven, SaysOr, SaysFrequency, IsKnownPart, IsBadValue, SaysParts, SpellsRule, RuleFault, unknown, bad_value, no_frequency, two_frequencies, twice, apart, two_ends, IsLeastRuleFault}
 use Rattle.ical_lines.specs.declared.fault.Fault.{Fault}
 use Rattle.ical_lines.specs.declared.fault.Fault.TheVariants.{Refused, Memory}
-use Rattle.cal_rules.specs.Refused.{IsPartFault}
+use Rattle.ical_lines.specs.declared.fault.Refusal.{Refusal}
+use Rattle.cal_rules.specs.declared.parts.Parts as rust
+use Rattle.cal_rules.specs.Taken.{Keeps, AreTaken}
+use Rattle.cal_rules.proofs.Parted.{all_good, bad_there, twice_there}
 use Rattle.cal_rules.proofs.Numbers.{weekday_same, frequency_same, between_same, place_same, entry_same, until_same}
 use Rattle.cal_rules.proofs.Entered.{zip_same, zip_all}
 
@@ -224,11 +227,8 @@ least_30 text n e h = rw e (record { stands = h; least = from_30 text })
 pub least_31 : (text : List ℕ) (n : ℕ) → All IsKnownPart (rule_parts text) → n ≡ 31 → RuleFault text 31 → IsLeastRuleFault text n
 least_31 text n known e h = rw e (record { stands = h; least = from_31 text known })
 
-pub least_part : (text : List ℕ) (n : ℕ) → All IsKnownPart (rule_parts text) → AllGood text → RuleFault text n → n ≤ 32 → IsLeastRuleFault text n
-least_part text n known good h low = record {
-  stands = h;
-  least = λ other f. let high : 32 ≤ other = from_32 text known good other f in omega arith;
-}
+pub least_no_frequency : (text : List ℕ) → All IsKnownPart (rule_parts text) → AllGood text → values_of (codes "FREQ=") text ≡ [] → IsLeastRuleFault text 32
+least_no_frequency text known good none = record { stands = no_frequency none; least = from_32 text known good }
 
 pub least_32 : (text : List ℕ) (t : RuleText) → All IsKnownPart (rule_parts text) → AllGood text → SaysParts text t → go_together t ≡ false → IsLeastRuleFault text 32
 least_32 text t known good says h = record { stands = apart t says h; least = from_32 text known good }
@@ -236,13 +236,18 @@ least_32 text t known good says h = record { stands = apart t says h; least = fr
 pub least_33 : (text : List ℕ) (t : RuleText) → All IsKnownPart (rule_parts text) → SaysParts text t → go_together t ≡ true → has_one_end t ≡ false → IsLeastRuleFault text 33
 least_33 text t known says together h = record { stands = two_ends t says h; least = from_33 text t known says together }
 
-pub least_31_fault : (text : List ℕ) (e : Fault) → All IsKnownPart (rule_parts text) → RefusesBy (λ n. (n ≡ 31) × RuleFault text 31) e → RefusesBy (IsLeastRuleFault text) e
-least_31_fault text (Refused r) known h = least_31 text r.number known h.0 h.1
-least_31_fault text Memory known h = tt
+-- an unknown part
+pub least_unknown : (text part : List ℕ) (e : Fault) → Contains (rule_parts text) part → RefusesBy (λ n. (n ≡ 30) × (IsKnownPart part → ⊥)) e → RefusesBy (IsLeastRuleFault text) e
+least_unknown text part (Refused r) there h = least_30 text r.number h.0 (unknown part there h.1)
+least_unknown text part Memory there h = tt
 
-pub least_part_fault : (text : List ℕ) (e : Fault) → All IsKnownPart (rule_parts text) → AllGood text → RefusesBy (IsPartFault text) e → RefusesBy (IsLeastRuleFault text) e
-least_part_fault text (Refused r) known good h = least_part text r.number known good h.0 h.1
-least_part_fault text Memory known good h = tt
+-- the fault that was kept
+pub least_kept : (text : List ℕ) (p : rust.Parts) (f : Refusal) → AreTaken (rule_parts text) p → p.fault ≡ Some f → IsLeastRuleFault text f.number
+least_kept text p f taken e =
+    elim (subst (Keeps (rule_parts text) p) e taken.kept) [
+      | inl (n, part, there, bad) ↦ least_31 text f.number taken.known n (bad_there text part there bad)
+      | inr (n, again, good) ↦ rw n (record { stands = twice_there text again; least = from_32 text taken.known (all_good text good) })
+    ]
 
 -- ---- the law
 

@@ -1,13 +1,12 @@
--- The keys of parts, and the values after them.
-use Rattle.std.proofs.Common.{◌≡◌, ◌∙◌, ap, sym, refl, ℕ, zero, suc, ◌<◌, Bool, true, false, cond, nat_eq, is_some, if◌then◌else◌, inl, inr, ◌⊎◌, List, [], ◌∷◌, ◌++◌, length, codes, filter_map, All, Contains, Option, None, Some, option_map, MatchOption, MatchBool, arith}
+-- The names of parts, and the values after them.
+use Rattle.std.proofs.Common.{◌≡◌, ◌∙◌, ap, sym, refl, ℕ, zero, suc, ◌<◌, true, false, cond, nat_eq, ◌==◌, is_some, if◌then◌else◌, inl, inr, ◌⊎◌, List, [], ◌∷◌, ◌++◌, length, codes, filter_map, All, Contains, Option, None, Some, append_assoc, arith}
 use Rattle.std.proofs.lemmas.Bool.Decides.{nat_tests}
 use Rattle.std.proofs.lemmas.List.Elements.{All-contains, Contains-append_right}
-use Rattle.std.specs.List.{cons_option}
-use Rattle.std.specs.Str.Pattern.{FindsTextPrefix, StripsPrefix}
+use Rattle.std.proofs.lemmas.Str.Pattern.{IsSplitOnceResult, split_once_first, split_parts}
 use denote.Ref.{Bor}
-use Rattle.profile.specs.Days.{Frequency}
-use Rattle.profile.specs.RuleTexts.{RuleKey, Interval, Count, EndsAt, WeekStart, ByMonth, ByMonthDay, ByDay, BySetPosition, rule_parts, after_key, key_word, values_of, frequency_word, SpellsFrequency, SpellsNone, IsKnownPart, IsBadValue, RuleFault, unknown, bad_value, no_frequency, two_frequencies, twice}
-use Rattle.cal_rules.specs.Refused.{IsPartFault, HasBadValue}
+use Rattle.std.specs.List.{cons_option, before_first, position_or_len}
+use Rattle.profile.specs.RuleTexts.{RuleKey, Interval, Count, EndsAt, WeekStart, ByMonth, ByMonthDay, ByDay, BySetPosition, rule_parts, after_key, key_word, values_of, frequency_word, SpellsFrequency, SpellsNone, IsKnownPart, IsBadValue, RuleFault, bad_value, two_frequencies, twice}
+use Rattle.cal_rules.specs.Taken.{word, Said, Spells, HasBadValue, HasNoBadValue, HaveOneTwice}
 
 -- ---- what follows a key
 
@@ -31,19 +30,6 @@ after_sound (k ∷ key) (c ∷ part) value e =
           rw (same, rest) refl
       | false ↦ λ t h. cc
     ] refl e
-
-by_option : (o : Option (List ℕ)) → ((v : List ℕ) → o ≡ Some v → ⊥) → o ≡ None
-by_option None h = refl
-by_option (Some v) h = absurd (h v refl)
-
-pub after_none : (key part : List ℕ) → ((rest : List ℕ) → part ≡ key ++ rest → ⊥) → after_key key part ≡ None
-after_none key part h = by_option (after_key key part) (λ v e. h v (after_sound key part v e))
-
-pub stripped : (key part : List ℕ) (r : Option (Bor (List ℕ))) → MatchOption r (FindsTextPrefix key part None) (λ x. StripsPrefix (FindsTextPrefix key) part x.now) → option_map (λ x. x.now) r ≡ after_key key part
-stripped key part None h = sym (after_none key part h)
-stripped key part (Some x) (n, found, rest, long) =
-    let e : part ≡ key ++ x.now = found.1 ∙ ap (λ t. key ++ t) (sym rest) in
-    sym (ap (after_key key) e ∙ after_append key x.now)
 
 -- ---- the values with a key
 
@@ -79,110 +65,173 @@ value_there f (p ∷ parts) part value (suc k, l, e) h =
       | Some v ↦ later v value (filter_map f parts) g
     ]
 
--- ---- one key for a part
+-- ---- one name for a part
 
-first_key : List ℕ → Option RuleKey
-first_key part =
-    if is_some (after_key (codes "INTERVAL=") part) then Some Interval
-    else (if is_some (after_key (codes "COUNT=") part) then Some Count
-    else (if is_some (after_key (codes "UNTIL=") part) then Some EndsAt
-    else (if is_some (after_key (codes "WKST=") part) then Some WeekStart
-    else (if is_some (after_key (codes "BYMONTH=") part) then Some ByMonth
-    else (if is_some (after_key (codes "BYMONTHDAY=") part) then Some ByMonthDay
-    else (if is_some (after_key (codes "BYDAY=") part) then Some ByDay
-    else (if is_some (after_key (codes "BYSETPOS=") part) then Some BySetPosition else None)))))))
+first_name : List ℕ → Option (Option RuleKey)
+first_name part =
+    if is_some (after_key (codes "FREQ=") part) then Some None
+    else (if is_some (after_key (codes "INTERVAL=") part) then Some (Some Interval)
+    else (if is_some (after_key (codes "COUNT=") part) then Some (Some Count)
+    else (if is_some (after_key (codes "UNTIL=") part) then Some (Some EndsAt)
+    else (if is_some (after_key (codes "WKST=") part) then Some (Some WeekStart)
+    else (if is_some (after_key (codes "BYMONTH=") part) then Some (Some ByMonth)
+    else (if is_some (after_key (codes "BYMONTHDAY=") part) then Some (Some ByMonthDay)
+    else (if is_some (after_key (codes "BYDAY=") part) then Some (Some ByDay)
+    else (if is_some (after_key (codes "BYSETPOS=") part) then Some (Some BySetPosition) else None))))))))
 
-first_of : (key : RuleKey) (value : List ℕ) → first_key (key_word key ++ value) ≡ Some key
-unfolding first_key after_key
-first_of Interval value = refl
-first_of Count value = refl
-first_of EndsAt value = refl
-first_of WeekStart value = refl
-first_of ByMonth value = refl
-first_of ByMonthDay value = refl
-first_of ByDay value = refl
-first_of BySetPosition value = refl
+first_of : (name : Option RuleKey) (value : List ℕ) → first_name (word name ++ value) ≡ Some name
+unfolding first_name after_key
+first_of None value = refl
+first_of (Some Interval) value = refl
+first_of (Some Count) value = refl
+first_of (Some EndsAt) value = refl
+first_of (Some WeekStart) value = refl
+first_of (Some ByMonth) value = refl
+first_of (Some ByMonthDay) value = refl
+first_of (Some ByDay) value = refl
+first_of (Some BySetPosition) value = refl
 
-first_at : (key : RuleKey) (part value : List ℕ) → after_key (key_word key) part ≡ Some value → first_key part ≡ Some key
-first_at key part value e = ap first_key (after_sound (key_word key) part value e) ∙ first_of key value
+first_at : (name : Option RuleKey) (part value : List ℕ) → after_key (word name) part ≡ Some value → first_name part ≡ Some name
+first_at name part value e = ap first_name (after_sound (word name) part value e) ∙ first_of name value
 
-one_key : (key other : RuleKey) (part v w : List ℕ) → after_key (key_word key) part ≡ Some v → after_key (key_word other) part ≡ Some w → other ≡ key
-one_key key other part v w e f =
-    let p : Some other ≡ Some key = sym (first_at other part w f) ∙ first_at key part v e in cc
+pub one_name : (name other : Option RuleKey) (part v w : List ℕ) → after_key (word name) part ≡ Some v → after_key (word other) part ≡ Some w → other ≡ name
+one_name name other part v w e f =
+    let p : Some other ≡ Some name = sym (first_at other part w f) ∙ first_at name part v e in cc
 
--- a part with FREQ has none of the other keys
-no_other : (value : List ℕ) → first_key (codes "FREQ=" ++ value) ≡ None
-unfolding first_key after_key
-no_other value = refl
+-- ---- a part that is cut at its first `=`
 
-pub freq_alone : (key : RuleKey) (part v w : List ℕ) → after_key (codes "FREQ=") part ≡ Some v → after_key (key_word key) part ≡ Some w → ⊥
-freq_alone key part v w e f =
-    let p : None ≡ Some key = sym (no_other v) ∙ ap first_key (sym (after_sound (codes "FREQ=") part v e)) ∙ first_at key part w f in cc
+-- what stands before the `=`
+abbrev pub front_word : Option RuleKey → List ℕ
+front_word None = codes "FREQ"
+front_word (Some Interval) = codes "INTERVAL"
+front_word (Some Count) = codes "COUNT"
+front_word (Some EndsAt) = codes "UNTIL"
+front_word (Some WeekStart) = codes "WKST"
+front_word (Some ByMonth) = codes "BYMONTH"
+front_word (Some ByMonthDay) = codes "BYMONTHDAY"
+front_word (Some ByDay) = codes "BYDAY"
+front_word (Some BySetPosition) = codes "BYSETPOS"
+
+front_of : (name : Option RuleKey) (value : List ℕ) → before_first (λ b. b == 61) (word name ++ value) ≡ front_word name
+front_of None value = refl
+front_of (Some Interval) value = refl
+front_of (Some Count) value = refl
+front_of (Some EndsAt) value = refl
+front_of (Some WeekStart) value = refl
+front_of (Some ByMonth) value = refl
+front_of (Some ByMonthDay) value = refl
+front_of (Some ByDay) value = refl
+front_of (Some BySetPosition) value = refl
+
+-- and it is there
+mark_in : (name : Option RuleKey) (value : List ℕ) → position_or_len (λ b. b == 61) (word name ++ value) < length (word name ++ value)
+mark_in None value = omega arith
+mark_in (Some Interval) value = omega arith
+mark_in (Some Count) value = omega arith
+mark_in (Some EndsAt) value = omega arith
+mark_in (Some WeekStart) value = omega arith
+mark_in (Some ByMonth) value = omega arith
+mark_in (Some ByMonthDay) value = omega arith
+mark_in (Some ByDay) value = omega arith
+mark_in (Some BySetPosition) value = omega arith
+
+-- the name of a known part
+name_of : (part : List ℕ) → IsKnownPart part → (name : Option RuleKey) × (value : List ℕ) × (part ≡ word name ++ value)
+name_of part (inl (f, e)) = (None, frequency_word f, after_sound (codes "FREQ=") part (frequency_word f) e)
+name_of part (inr (key, value, e)) = (Some key, value, after_sound (key_word key) part value e)
+
+-- a part without `=`
+pub unmarked : (part : List ℕ) → IsSplitOnceResult 61 part None → IsKnownPart part → ⊥
+unmarked part cut known =
+    let n = name_of part known in
+    let low : position_or_len (λ b. b == 61) part < length part = rw n.2 (mark_in n.0 n.1) in
+    let none : position_or_len (λ b. b == 61) part ≡ length part = split_once_first 61 part None cut (omega arith) in omega arith
+
+-- a part with another name
+pub unnamed : (part : List ℕ) (front value : Bor (List ℕ)) → IsSplitOnceResult 61 part (Some (front, value)) → ((name : Option RuleKey) → front.now ≡ front_word name → ⊥) → IsKnownPart part → ⊥
+unnamed part front value cut other known =
+    let n = name_of part known in
+    let first : front.now ≡ before_first (λ b. b == 61) part = (split_once_first 61 part (Some (front, value)) cut (omega arith)).1 in
+    other n.0 (first ∙ ap (before_first (λ b. b == 61)) n.2 ∙ front_of n.0 n.1)
+
+-- none of the names
+pub no_name : (front : List ℕ) → (front ≡ front_word None → ⊥) → (front ≡ front_word (Some Interval) → ⊥) → (front ≡ front_word (Some Count) → ⊥) → (front ≡ front_word (Some EndsAt) → ⊥) → (front ≡ front_word (Some WeekStart) → ⊥) → (front ≡ front_word (Some ByMonth) → ⊥) → (front ≡ front_word (Some ByMonthDay) → ⊥) → (front ≡ front_word (Some ByDay) → ⊥) → (front ≡ front_word (Some BySetPosition) → ⊥) → (name : Option RuleKey) → front ≡ front_word name → ⊥
+no_name front f i c u w m d e s None = f
+no_name front f i c u w m d e s (Some Interval) = i
+no_name front f i c u w m d e s (Some Count) = c
+no_name front f i c u w m d e s (Some EndsAt) = u
+no_name front f i c u w m d e s (Some WeekStart) = w
+no_name front f i c u w m d e s (Some ByMonth) = m
+no_name front f i c u w m d e s (Some ByMonthDay) = d
+no_name front f i c u w m d e s (Some ByDay) = e
+no_name front f i c u w m d e s (Some BySetPosition) = s
+
+marked : (name : Option RuleKey) → front_word name ++ 61 ∷ [] ≡ word name
+marked None = refl
+marked (Some Interval) = refl
+marked (Some Count) = refl
+marked (Some EndsAt) = refl
+marked (Some WeekStart) = refl
+marked (Some ByMonth) = refl
+marked (Some ByMonthDay) = refl
+marked (Some ByDay) = refl
+marked (Some BySetPosition) = refl
+
+-- a part with this name
+pub named : (name : Option RuleKey) (part : List ℕ) (front value : Bor (List ℕ)) → IsSplitOnceResult 61 part (Some (front, value)) → front.now ≡ front_word name → after_key (word name) part ≡ Some value.now
+named name part front value cut e =
+    let parted : part ≡ front.now ++ 61 ∷ value.now = (split_parts 61 part (Some (front, value)) cut (omega arith)).0 in
+    let w : front.now ++ 61 ∷ [] ≡ word name = ap (λ l. l ++ 61 ∷ []) e ∙ marked name in
+    let whole : part ≡ word name ++ value.now = parted ∙ sym (append_assoc front.now (61 ∷ []) value.now) ∙ ap (λ l. l ++ value.now) w in
+    ap (after_key (word name)) whole ∙ after_append (word name) value.now
 
 -- ---- what is judged of a part
 
-pub part_judged : (part value : List ℕ) (key : RuleKey) (b : Bool) → after_key (key_word key) part ≡ Some value → MatchBool b (IsBadValue key value) (IsBadValue key value → ⊥) → MatchBool b (HasBadValue part) (HasBadValue part → ⊥)
-part_judged part value key true e h = (key, value, e, h)
-part_judged part value key false e h = λ (other, w, f, bad).
-    let k : other ≡ key = one_key key other part value w e f in
-    let g : after_key (key_word key) part ≡ Some w = ap (λ (x : RuleKey). after_key (key_word x) part) (sym k) ∙ f in
-    let same : Some w ≡ Some value = sym g ∙ e in
+good_of : (key : RuleKey) (value : List ℕ) (x : Said (Some key)) → Spells (Some key) value x → IsBadValue key value → ⊥
+good_of Interval value x s bad = bad x s
+good_of Count value x s bad = bad x s
+good_of EndsAt value x s bad = bad x s
+good_of WeekStart value x s bad = bad x s
+good_of ByMonth value x s bad = bad x s
+good_of ByMonthDay value x s bad = bad x s
+good_of ByDay value x s bad = bad x s
+good_of BySetPosition value x s bad = bad x s
+
+-- a value that spells something is that of a good part
+pub good_part : (name : Option RuleKey) (part value : List ℕ) (x : Said name) → after_key (word name) part ≡ Some value → Spells name value x → HasNoBadValue part
+good_part None part value x e s = λ (key, w, f, bad).
+    let no : Some key ≡ None = one_name None (Some key) part value w e f in cc
+good_part (Some k) part value x e s = λ (key, w, f, bad).
+    let same : Some key ≡ Some k = one_name (Some k) (Some key) part value w e f in
+    let here : key ≡ k = cc in
+    let g : after_key (key_word k) part ≡ Some w = ap (λ (y : RuleKey). after_key (key_word y) part) (sym here) ∙ f in
+    let both : Some w ≡ Some value = sym g ∙ e in
     let v : w ≡ value = cc in
-    h (rw v at (rw k at bad))
+    good_of k value x s (rw v at (rw here at bad))
 
-pub known_frequency : (part value : List ℕ) (f : Frequency) → after_key (codes "FREQ=") part ≡ Some value → SpellsFrequency value f → IsKnownPart part
-known_frequency part value f e s = inl (f, e ∙ ap Some s)
+pub known_part : (name : Option RuleKey) (part value : List ℕ) (x : Said name) → after_key (word name) part ≡ Some value → Spells name value x → IsKnownPart part
+known_part None part value x e s = inl (x, e ∙ ap Some s)
+known_part (Some key) part value x e s = inr (key, value, e)
 
-pub known_other : (part value : List ℕ) (key : RuleKey) → after_key (key_word key) part ≡ Some value → IsKnownPart part
-known_other part value key e = inr (key, value, e)
+pub known_bad : (part : List ℕ) → HasBadValue part → IsKnownPart part
+known_bad part (key, value, e, bad) = inr (key, value, e)
 
 pub no_frequency_part : (part value : List ℕ) → after_key (codes "FREQ=") part ≡ Some value → SpellsNone SpellsFrequency value → IsKnownPart part → ⊥
 no_frequency_part part value e none (inl (f, h)) =
     let same : Some value ≡ Some (frequency_word f) = sym e ∙ h in none f cc
-no_frequency_part part value e none (inr (key, w, h)) = freq_alone key part value w e h
-
-pub no_known_part : (part : List ℕ) → after_key (codes "FREQ=") part ≡ None → ((key : RuleKey) (value : List ℕ) → after_key (key_word key) part ≡ Some value → ⊥) → IsKnownPart part → ⊥
-no_known_part part e none (inl (f, h)) = let same : None ≡ Some (frequency_word f) = sym e ∙ h in cc
-no_known_part part e none (inr (key, w, h)) = none key w h
-
--- no key of the eight
-pub no_key : (part : List ℕ) → after_key (codes "INTERVAL=") part ≡ None → after_key (codes "COUNT=") part ≡ None → after_key (codes "UNTIL=") part ≡ None → after_key (codes "WKST=") part ≡ None → after_key (codes "BYMONTH=") part ≡ None → after_key (codes "BYMONTHDAY=") part ≡ None → after_key (codes "BYDAY=") part ≡ None → after_key (codes "BYSETPOS=") part ≡ None
-    → (key : RuleKey) (value : List ℕ) → after_key (key_word key) part ≡ Some value → ⊥
-no_key part a b c d e f g h Interval value s = let same : None ≡ Some value = sym a ∙ s in cc
-no_key part a b c d e f g h Count value s = let same : None ≡ Some value = sym b ∙ s in cc
-no_key part a b c d e f g h EndsAt value s = let same : None ≡ Some value = sym c ∙ s in cc
-no_key part a b c d e f g h WeekStart value s = let same : None ≡ Some value = sym d ∙ s in cc
-no_key part a b c d e f g h ByMonth value s = let same : None ≡ Some value = sym e ∙ s in cc
-no_key part a b c d e f g h ByMonthDay value s = let same : None ≡ Some value = sym f ∙ s in cc
-no_key part a b c d e f g h ByDay value s = let same : None ≡ Some value = sym g ∙ s in cc
-no_key part a b c d e f g h BySetPosition value s = let same : None ≡ Some value = sym h ∙ s in cc
+no_frequency_part part value e none (inr (key, w, h)) =
+    let no : Some key ≡ None = one_name None (Some key) part value w e h in cc
 
 -- ---- from parts to the text
 
-pub all_good : (text : List ℕ) → All (λ part. HasBadValue part → ⊥) (rule_parts text) → (key : RuleKey) (value : List ℕ) → Contains (values_of (key_word key) text) value → IsBadValue key value → ⊥
+pub all_good : (text : List ℕ) → All HasNoBadValue (rule_parts text) → (key : RuleKey) (value : List ℕ) → Contains (values_of (key_word key) text) value → IsBadValue key value → ⊥
 all_good text h key value c bad =
     let r = value_in (after_key (key_word key)) (rule_parts text) value c in
-    All-contains (λ p. HasBadValue p → ⊥) (rule_parts text) r.0 h r.1 (key, value, r.2, bad)
+    All-contains HasNoBadValue (rule_parts text) r.0 h r.1 (key, value, r.2, bad)
 
 pub bad_there : (text part : List ℕ) → Contains (rule_parts text) part → HasBadValue part → RuleFault text 31
 bad_there text part there (key, value, e, bad) = bad_value key value (value_there (after_key (key_word key)) (rule_parts text) part value there e) bad
 
--- ---- faults of one key
-
-pub fault_twice : (key : RuleKey) (text : List ℕ) (n : ℕ) → n ≡ 32 → 1 < length (values_of (key_word key) text) → IsPartFault text n
-fault_twice key text n e h = rw e (twice key h, omega arith)
-
-pub fault_bad : (key : RuleKey) (text value : List ℕ) → values_of (key_word key) text ≡ value ∷ [] → IsBadValue key value → IsPartFault text 31
-fault_bad key text value e bad = (bad_value key value (rw e (0, omega arith, refl)) bad, omega arith)
-
-pub fault_two_frequencies : (text : List ℕ) (n : ℕ) → n ≡ 32 → 1 < length (values_of (codes "FREQ=") text) → IsPartFault text n
-fault_two_frequencies text n e h = rw e (two_frequencies h, omega arith)
-
-pub fault_no_frequency : (text : List ℕ) → values_of (codes "FREQ=") text ≡ [] → IsPartFault text 32
-fault_no_frequency text e = (no_frequency e, omega arith)
-
-pub fault_frequency : (text value : List ℕ) → values_of (codes "FREQ=") text ≡ value ∷ [] → SpellsNone SpellsFrequency value → IsPartFault text 30
-fault_frequency text value e none =
-    let c : Contains (values_of (codes "FREQ=") text) value = rw e (0, omega arith, refl) in
-    let r = value_in (after_key (codes "FREQ=")) (rule_parts text) value c in
-    (unknown r.0 r.1 (no_frequency_part r.0 value r.2 none), omega arith)
+pub twice_there : (text : List ℕ) → HaveOneTwice (rule_parts text) → RuleFault text 32
+twice_there text (None, h) = two_frequencies h
+twice_there text (Some key, h) = twice key h

@@ -4,4 +4,4 @@ pub mod Spans
 pub mod Counted
 pub mod Standing
 pub mod Left
-pub mod Refused
+pub mod Taken

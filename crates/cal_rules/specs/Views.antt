@@ -5,10 +5,7 @@ use Rattle.cal_rules.specs.declared.written.WeekdayNumber as rust_entry
 use Rattle.cal_rules.specs.declared.written.Written as rust
 use Rattle.cal_rules.specs.declared.written.Until as rust_until
 use Rattle.cal_rules.specs.declared.written.Until.TheVariants as the
-use Rattle.cal_rules.specs.declared.keys.Key as rust_key
-use Rattle.cal_rules.specs.declared.keys.Key.TheVariants as the_key
 use Rattle.profile.specs.Rules.{WeekdayNumber, Pattern, Parts, RuleText, Until, UntilDay, UntilLocal, UntilInstant}
-use Rattle.profile.specs.RuleTexts.{RuleKey, Interval, Count, EndsAt, WeekStart, ByMonth, ByMonthDay, ByDay, BySetPosition}
 
 abbrev pub entry_of : rust_entry.WeekdayNumber → WeekdayNumber
 entry_of entry = record { number = entry.number; weekday = entry.weekday }
@@ -48,13 +45,3 @@ text_of written = record {
   count = written.count;
   until = option_map until_of written.until;
 }
-
-abbrev pub key_of : rust_key.Key → RuleKey
-key_of the_key.Interval = Interval
-key_of the_key.Count = Count
-key_of the_key.Until = EndsAt
-key_of the_key.WeekStart = WeekStart
-key_of the_key.Months = ByMonth
-key_of the_key.MonthDays = ByMonthDay
-key_of the_key.Weekdays = ByDay
-key_of the_key.Positions = BySetPosition

@@ -42,9 +42,7 @@ impl<'a> Iterator for Days<'a> {
     ghost remaining = { item_count days_left };
 
     fn next(&mut self) -> Option<Day> {
-        let Some((day, after)) = self.rule.next_day(self.cursor) else {
-            return None;
-        };
+        let (day, after) = self.rule.next_day(self.cursor)?;
         self.cursor = after;
         Some(day)
     }

@@ -21,10 +21,10 @@ pub(crate) fn read_months(alloc: Global, value: &str) -> Result<Option<Vec<u8>>,
         let Some(month) = read_month(entry) else {
             return Ok(None);
         };
+        if months.len() == MOST {
+            return Ok(None);
+        }
         months.push(month)?;
-    }
-    if months.len() > MOST {
-        return Ok(None);
     }
     Ok(Some(months))
 }
@@ -45,10 +45,10 @@ pub(crate) fn read_places(
         let Some(place) = read_place(most, entry) else {
             return Ok(None);
         };
+        if places.len() == MOST {
+            return Ok(None);
+        }
         places.push(place)?;
-    }
-    if places.len() > MOST {
-        return Ok(None);
     }
     Ok(Some(places))
 }
@@ -67,10 +67,10 @@ pub(crate) fn read_entries(
         let Some(read) = read_entry(entry) else {
             return Ok(None);
         };
+        if entries.len() == MOST {
+            return Ok(None);
+        }
         entries.push(read)?;
-    }
-    if entries.len() > MOST {
-        return Ok(None);
     }
     Ok(Some(entries))
 }

@@ -90,9 +90,7 @@ impl Rule {
         ensures { MatchOption result (NoDayFrom self.now (day_index from))
             (λ day. IsNextDay self.now (day_index from) (day_index day)) }
     {
-        let Some((day, _after)) = self.next_day(Cursor::at(DayFacts::of(from))) else {
-            return None;
-        };
+        let (day, _after) = self.next_day(Cursor::at(DayFacts::of(from)))?;
         Some(day)
     }
 
@@ -102,9 +100,7 @@ impl Rule {
         ensures { MatchOption result (NoDayFrom self.now from.day.index) (λ found. IsNextDay self.now from.day.index (day_index found.0)
             × (found.1.day.index ≡ day_index found.0 + 1) × StandsAt self.now.pattern found.1) }
     {
-        let Some(after) = self.written.next_counted(self.start, self.last, from) else {
-            return None;
-        };
+        let after = self.written.next_counted(self.start, self.last, from)?;
         let found = after.day.index - 1;
         if found > self.end {
             return None;

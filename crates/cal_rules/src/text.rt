@@ -1,11 +1,17 @@
 //! The text of a rule (RFC 5545 3.3.10), read and written.
 
-ghost use Rattle.std.specs.Prelude.{◌≡◌, map, option_map};
+ghost use Rattle.std.specs.Prelude.{◌≡◌, ℕ, List, map, option_map, IfOk, IfErr};
+ghost use Rattle.ical_lines.specs.Fault.{RefusesBy};
+ghost use Rattle.profile.specs.Rules as rules;
+ghost use Rattle.profile.specs.RuleTexts.{SpellsRule, RuleFault, IsLeastRuleFault};
 ghost use Rattle.cal_days.specs.Views.{frequency_of};
 ghost use Rattle.cal_rules.specs.Views.{entry_of, until_of};
 
+use crate::parts::Parts;
 use crate::written::{Until, WeekdayNumber, Written};
 use cal_days::Frequency;
+use ical_lines::Fault;
+use std::alloc::Global;
 use std::marker::Model;
 
 /// The text of a rule, as it was read.
@@ -26,6 +32,21 @@ impl Model for RuleText {
 }
 
 impl RuleText {
+    /// Reads the text of an RRULE. Refused are, the least number that applies: a part that is unknown or
+    /// left out (30), a value that is bad or out of range (31), parts that don't go together, a part
+    /// twice or no FREQ (32), COUNT beside UNTIL (33).
+    pub fn read(alloc: Global, text: &str) -> Result<RuleText, Fault>
+        ensures reads { IfOk result (λ rule. SpellsRule text.now rule) }
+        ensures refuses { IfErr result (RefusesBy (IsLeastRuleFault text.now)) }
+    {
+        let mut parts = Parts::new();
+        for part in text.split(';') {
+            parts.take(alloc, part)?;
+        }
+        let written = parts.finish(alloc)?;
+        Ok(RuleText { written })
+    }
+
     /// FREQ.
     pub fn frequency(&self) -> Frequency
         ensures { frequency_of result ≡ self.now.frequency }
@@ -89,3 +110,10 @@ impl RuleText {
         self.written.until
     }
 }
+
+/// A text spells at most one rule, and none where a fault stands in it. With the contract of `RuleText::read`: what
+/// is taken is the one rule that the text spells, and what is refused spells none.
+pub fn one_rule()
+    ensures reading { (text : List ℕ) (a b : rules.RuleText) → SpellsRule text a → SpellsRule text b → a ≡ b }
+    ensures none { (text : List ℕ) (number : ℕ) (a : rules.RuleText) → RuleFault text number → SpellsRule text a → ⊥ }
+{}

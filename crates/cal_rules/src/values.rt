@@ -51,10 +51,7 @@ fn read_number(value: &str) -> Option<u32>
     if value.strip_prefix('+').is_some() {
         return None;
     }
-    match value.parse::<u32>() {
-        Ok(number) => Some(number),
-        Err(_) => None,
-    }
+    value.parse().ok()
 }
 
 /// A number from low to high in decimal digits, without a sign.
@@ -62,9 +59,7 @@ pub(crate) fn read_between(low: u32, high: u32, value: &str) -> Option<u32>
     ensures reads { IfSome result (SpellsBetween low high value.now) }
     ensures none { IfNone result (SpellsNone (SpellsBetween low high) value.now) }
 {
-    let Some(number) = read_number(value) else {
-        return None;
-    };
+    let number = read_number(value)?;
     if !is_between(low, high, number) {
         return None;
     }
@@ -76,9 +71,7 @@ pub(crate) fn read_interval(value: &str) -> Option<u16>
     ensures reads { IfSome result (SpellsInterval value.now) }
     ensures none { IfNone result (SpellsNone SpellsInterval value.now) }
 {
-    let Some(number) = read_between(1, 9999, value) else {
-        return None;
-    };
+    let number = read_between(1, 9999, value)?;
     Some(number as u16)
 }
 
@@ -95,9 +88,7 @@ pub(crate) fn read_month(value: &str) -> Option<u8>
     ensures reads { IfSome result (SpellsBetween 1 12 value.now) }
     ensures none { IfNone result (SpellsNone (SpellsBetween 1 12) value.now) }
 {
-    let Some(number) = read_between(1, 12, value) else {
-        return None;
-    };
+    let number = read_between(1, 12, value)?;
     Some(number as u8)
 }
 
@@ -107,9 +98,7 @@ fn read_from_start(most: u16, digits: &str) -> Option<i16>
     ensures reads { IfSome result (λ place. (size : ℕ) × SpellsBetween 1 most digits.now size × (place ≡ pos size)) }
     ensures none { IfNone result (SpellsNone (SpellsBetween 1 most) digits.now) }
 {
-    let Some(size) = read_between(1, most as u32, digits) else {
-        return None;
-    };
+    let size = read_between(1, most as u32, digits)?;
     Some(size as i16)
 }
 
@@ -120,9 +109,7 @@ fn read_from_end(most: u16, digits: &str) -> Option<i16>
         (λ place. (size : ℕ) × SpellsBetween 1 most digits.now size × (place ≡ neg_ℤ (pos size))) }
     ensures none { IfNone result (SpellsNone (SpellsBetween 1 most) digits.now) }
 {
-    let Some(size) = read_between(1, most as u32, digits) else {
-        return None;
-    };
+    let size = read_between(1, most as u32, digits)?;
     Some(-(size as i16))
 }
 
@@ -153,15 +140,11 @@ pub(crate) fn read_entry(value: &str) -> Option<WeekdayNumber>
         return None;
     }
     let (front, letters) = value.split_at(value.len() - 2);
-    let Some(weekday) = read_weekday(letters) else {
-        return None;
-    };
+    let weekday = read_weekday(letters)?;
     if front.is_empty() {
         return Some(WeekdayNumber { number: 0, weekday });
     }
-    let Some(number) = read_place(53, front) else {
-        return None;
-    };
+    let number = read_place(53, front)?;
     Some(WeekdayNumber { number, weekday })
 }
 

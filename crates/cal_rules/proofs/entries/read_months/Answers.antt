@@ -23,18 +23,17 @@ loop-entry-preserved c =
     let more = cut_more c.loop-entry.entry-iterator c.next.new.self c.in-Some.entry i.0 i.1 c.in-Some.ensures.steps in (
       more.0,
       more.2,
-      one_more (SpellsBetween 1 12) (slice_split (λ x. x == 44) c.args.value.now) i.0 more.0 c.in-Some.entry.now c.loop-entry.months.items c.push.new.self.items c.in-Some-read_month.month i.2 more.1
+      one_more (SpellsBetween 1 12) (slice_split (λ x. x == 44) c.args.value.now) i.0 more.0 c.in-Some.entry.now c.loop-entry.months.items c.push.new.self.items c.in-Some-read_month.month i.2 more.1 (omega (arith, c.len.ensures, c.if-len-eq-MOST.false))
           c.in_ok-push.ensures.items c.in-Some-read_month.ensures.reads,
     )
 
-pub returns-then-len-gt-MOST-clause-none : goal.returns-then-len-gt-MOST-clause-none
-returns-then-len-gt-MOST-clause-none c =
+pub returns-then-len-eq-MOST-clause-none : goal.returns-then-len-eq-MOST-clause-none
+returns-then-len-eq-MOST-clause-none c =
     let i = c.loop-entry.invariant in
-    list_long (SpellsBetween 1 12) (slice_split (λ x. x == 44) c.args.value.now) i.0 c.loop-entry.months.items i.2 (cut_done c.loop-entry.entry-iterator c.next.new.self i.0 i.1 c.in-None.ensures.steps)
-    (omega (arith, c.len.ensures, c.if-len-gt-MOST.true))
+    let more = cut_more c.loop-entry.entry-iterator c.next.new.self c.in-Some.entry i.0 i.1 c.in-Some.ensures.steps in
+    list_long (SpellsBetween 1 12) (slice_split (λ x. x == 44) c.args.value.now) i.0 more.0 c.in-Some.entry.now c.loop-entry.months.items i.2 more.1 (omega (arith, c.len.ensures, c.if-len-eq-MOST.true))
 
 pub returns-clause-reads : goal.returns-clause-reads
 returns-clause-reads c =
     let i = c.loop-entry.invariant in
     list_read (SpellsBetween 1 12) (slice_split (λ x. x == 44) c.args.value.now) i.0 c.loop-entry.months.items i.2 (cut_done c.loop-entry.entry-iterator c.next.new.self i.0 i.1 c.in-None.ensures.steps)
-    (omega (arith, c.len.ensures, c.if-len-gt-MOST.false))

@@ -24,18 +24,17 @@ loop-entry-preserved c =
     let fits : FitsSigned w16 c.in-Some-read_place.place = search rules in (
       more.0,
       more.2,
-      one_more (SpellsPlace c.args.most) (slice_split (λ x. x == 44) c.args.value.now) i.0 more.0 c.in-Some.entry.now c.loop-entry.places.items c.push.new.self.items c.in-Some-read_place.place i.2 more.1
+      one_more (SpellsPlace c.args.most) (slice_split (λ x. x == 44) c.args.value.now) i.0 more.0 c.in-Some.entry.now c.loop-entry.places.items c.push.new.self.items c.in-Some-read_place.place i.2 more.1 (omega (arith, c.len.ensures, c.if-len-eq-MOST.false))
           (c.in_ok-push.ensures.items ∙ ap (λ p. c.loop-entry.places.items ++ p ∷ []) (to_z-of_z fits)) c.in-Some-read_place.ensures.reads,
     )
 
-pub returns-then-len-gt-MOST-clause-none : goal.returns-then-len-gt-MOST-clause-none
-returns-then-len-gt-MOST-clause-none c =
+pub returns-then-len-eq-MOST-clause-none : goal.returns-then-len-eq-MOST-clause-none
+returns-then-len-eq-MOST-clause-none c =
     let i = c.loop-entry.invariant in
-    list_long (SpellsPlace c.args.most) (slice_split (λ x. x == 44) c.args.value.now) i.0 c.loop-entry.places.items i.2 (cut_done c.loop-entry.entry-iterator c.next.new.self i.0 i.1 c.in-None.ensures.steps)
-    (omega (arith, c.len.ensures, c.if-len-gt-MOST.true))
+    let more = cut_more c.loop-entry.entry-iterator c.next.new.self c.in-Some.entry i.0 i.1 c.in-Some.ensures.steps in
+    list_long (SpellsPlace c.args.most) (slice_split (λ x. x == 44) c.args.value.now) i.0 more.0 c.in-Some.entry.now c.loop-entry.places.items i.2 more.1 (omega (arith, c.len.ensures, c.if-len-eq-MOST.true))
 
 pub returns-clause-reads : goal.returns-clause-reads
 returns-clause-reads c =
     let i = c.loop-entry.invariant in
     list_read (SpellsPlace c.args.most) (slice_split (λ x. x == 44) c.args.value.now) i.0 c.loop-entry.places.items i.2 (cut_done c.loop-entry.entry-iterator c.next.new.self i.0 i.1 c.in-None.ensures.steps)
-    (omega (arith, c.len.ensures, c.if-len-gt-MOST.false))

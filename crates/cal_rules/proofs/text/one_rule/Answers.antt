@@ -1,5 +1,5 @@
 use Rattle.cal_rules.proofs.OneRule.{one_rule_read, no_fault}
-use Rattle.cal_rules.proofs.read.one_rule.Goals as goal
+use Rattle.cal_rules.proofs.text.one_rule.Goals as goal
 
 pub returns-clause-reading : goal.returns-clause-reading
 returns-clause-reading c = one_rule_read

@@ -1,0 +1,94 @@
+use Rattle.std.proofs.Common.{refl, map, None, Some}
+use Rattle.profile.specs.RuleTexts.{Interval, Count, EndsAt, WeekStart, ByMonth, ByMonthDay, ByDay, BySetPosition}
+use Rattle.cal_days.specs.Views.{frequency_of}
+use Rattle.cal_rules.specs.Views.{entry_of, until_of}
+use Rattle.cal_rules.proofs.Parted.{named, unmarked, unnamed, no_name, no_frequency_part}
+use Rattle.cal_rules.proofs.Taking.{seen, agree, took}
+use Rattle.cal_rules.proofs.parts.Parts.enter.Goals as goal
+
+pub returns-in_default-clause-refuses : goal.returns-in_default-clause-refuses
+returns-in_default-clause-refuses c = (refl, unmarked c.args.part.now c.in_default.ensures.cases)
+
+pub returns-in_default-read_frequency-clause-refuses :
+    goal.returns-in_default-read_frequency-clause-refuses
+returns-in_default-read_frequency-clause-refuses c =
+    (refl, no_frequency_part c.args.part.now c.in-Some.value.now (named None c.args.part.now c.in-Some.name c.in-Some.value c.in-Some.ensures.cases c.in-FREQ.is) c.in_default-read_frequency.ensures.none)
+
+pub returns-in-Some-read_frequency-clause-enters :
+    goal.returns-in-Some-read_frequency-clause-enters
+returns-in-Some-read_frequency-clause-enters c =
+    let here = named None c.args.part.now c.in-Some.name c.in-Some.value c.in-Some.ensures.cases c.in-FREQ.is in
+    let others = agree None c.args.self.now (record c.args.self.now { frequency = c.put.new.field }) (λ d. absurd (d refl)) (λ _. refl) (λ _. refl) (λ _. refl) (λ _. refl) (λ _. refl) (λ _. refl) (λ _. refl) (λ _. refl) in
+    took None c.args.part.now c.in-Some.value.now c.args.self.now (record c.args.self.now { frequency = c.put.new.field }) here frequency_of (Some c.in-Some-read_frequency.frequency) c.args.self.now.frequency c.put.new.field c.put.result
+    (λ none. absurd (none _ c.in-Some-read_frequency.ensures.reads)) c.in-Some-read_frequency.ensures.reads tt refl refl others c.put.ensures
+
+pub returns-in-INTERVAL-clause-enters :
+    goal.returns-in-INTERVAL-clause-enters
+returns-in-INTERVAL-clause-enters c =
+    let here = named (Some Interval) c.args.part.now c.in-Some.name c.in-Some.value c.in-Some.ensures.cases c.in-INTERVAL.is in
+    let others = agree (Some Interval) c.args.self.now (record c.args.self.now { interval = c.put-in-INTERVAL.new.field }) (λ _. refl) (λ d. absurd (d refl)) (λ _. refl) (λ _. refl) (λ _. refl) (λ _. refl) (λ _. refl) (λ _. refl) (λ _. refl) in
+    took (Some Interval) c.args.part.now c.in-Some.value.now c.args.self.now (record c.args.self.now { interval = c.put-in-INTERVAL.new.field }) here (λ x. x) c.read_interval.result c.args.self.now.interval c.put-in-INTERVAL.new.field c.put-in-INTERVAL.result
+    (λ none. (Interval, c.in-Some.value.now, here, none)) c.read_interval.ensures.reads c.read_interval.ensures.none (seen c.args.self.now.interval) (seen c.put-in-INTERVAL.new.field) others c.put-in-INTERVAL.ensures
+
+pub returns-in-COUNT-clause-enters :
+    goal.returns-in-COUNT-clause-enters
+returns-in-COUNT-clause-enters c =
+    let here = named (Some Count) c.args.part.now c.in-Some.name c.in-Some.value c.in-Some.ensures.cases c.in-COUNT.is in
+    let others = agree (Some Count) c.args.self.now (record c.args.self.now { count = c.put-in-COUNT.new.field }) (λ _. refl) (λ _. refl) (λ d. absurd (d refl)) (λ _. refl) (λ _. refl) (λ _. refl) (λ _. refl) (λ _. refl) (λ _. refl) in
+    took (Some Count) c.args.part.now c.in-Some.value.now c.args.self.now (record c.args.self.now { count = c.put-in-COUNT.new.field }) here (λ x. x) c.read_count.result c.args.self.now.count c.put-in-COUNT.new.field c.put-in-COUNT.result
+    (λ none. (Count, c.in-Some.value.now, here, none)) c.read_count.ensures.reads c.read_count.ensures.none (seen c.args.self.now.count) (seen c.put-in-COUNT.new.field) others c.put-in-COUNT.ensures
+
+pub returns-in_ok-read_until-in-UNTIL-clause-enters :
+    goal.returns-in_ok-read_until-in-UNTIL-clause-enters
+returns-in_ok-read_until-in-UNTIL-clause-enters c =
+    let here = named (Some EndsAt) c.args.part.now c.in-Some.name c.in-Some.value c.in-Some.ensures.cases c.in-UNTIL.is in
+    let others = agree (Some EndsAt) c.args.self.now (record c.args.self.now { until = c.put-in-UNTIL.new.field }) (λ _. refl) (λ _. refl) (λ _. refl) (λ d. absurd (d refl)) (λ _. refl) (λ _. refl) (λ _. refl) (λ _. refl) (λ _. refl) in
+    took (Some EndsAt) c.args.part.now c.in-Some.value.now c.args.self.now (record c.args.self.now { until = c.put-in-UNTIL.new.field }) here until_of c.in_ok-read_until-in-UNTIL.field-0 c.args.self.now.until c.put-in-UNTIL.new.field c.put-in-UNTIL.result
+    (λ none. (EndsAt, c.in-Some.value.now, here, none)) c.in_ok-read_until-in-UNTIL.ensures.reads c.in_ok-read_until-in-UNTIL.ensures.none refl refl others c.put-in-UNTIL.ensures
+
+pub returns-in-WKST-clause-enters :
+    goal.returns-in-WKST-clause-enters
+returns-in-WKST-clause-enters c =
+    let here = named (Some WeekStart) c.args.part.now c.in-Some.name c.in-Some.value c.in-Some.ensures.cases c.in-WKST.is in
+    let others = agree (Some WeekStart) c.args.self.now (record c.args.self.now { week_start = c.put-in-WKST.new.field }) (λ _. refl) (λ _. refl) (λ _. refl) (λ _. refl) (λ d. absurd (d refl)) (λ _. refl) (λ _. refl) (λ _. refl) (λ _. refl) in
+    took (Some WeekStart) c.args.part.now c.in-Some.value.now c.args.self.now (record c.args.self.now { week_start = c.put-in-WKST.new.field }) here (λ x. x) c.read_weekday.result c.args.self.now.week_start c.put-in-WKST.new.field c.put-in-WKST.result
+    (λ none. (WeekStart, c.in-Some.value.now, here, none)) c.read_weekday.ensures.reads c.read_weekday.ensures.none (seen c.args.self.now.week_start) (seen c.put-in-WKST.new.field) others c.put-in-WKST.ensures
+
+pub returns-in_ok-read_months-in-BYMONTH-clause-enters :
+    goal.returns-in_ok-read_months-in-BYMONTH-clause-enters
+returns-in_ok-read_months-in-BYMONTH-clause-enters c =
+    let here = named (Some ByMonth) c.args.part.now c.in-Some.name c.in-Some.value c.in-Some.ensures.cases c.in-BYMONTH.is in
+    let others = agree (Some ByMonth) c.args.self.now (record c.args.self.now { months = c.put-in-BYMONTH.new.field }) (λ _. refl) (λ _. refl) (λ _. refl) (λ _. refl) (λ _. refl) (λ d. absurd (d refl)) (λ _. refl) (λ _. refl) (λ _. refl) in
+    took (Some ByMonth) c.args.part.now c.in-Some.value.now c.args.self.now (record c.args.self.now { months = c.put-in-BYMONTH.new.field }) here (λ xs. xs.items) c.in_ok-read_months-in-BYMONTH.field-0 c.args.self.now.months c.put-in-BYMONTH.new.field c.put-in-BYMONTH.result
+    (λ none. (ByMonth, c.in-Some.value.now, here, none)) c.in_ok-read_months-in-BYMONTH.ensures.reads c.in_ok-read_months-in-BYMONTH.ensures.none refl refl others c.put-in-BYMONTH.ensures
+
+pub returns-in_ok-read_places-in-BYMONTHDAY-clause-enters :
+    goal.returns-in_ok-read_places-in-BYMONTHDAY-clause-enters
+returns-in_ok-read_places-in-BYMONTHDAY-clause-enters c =
+    let here = named (Some ByMonthDay) c.args.part.now c.in-Some.name c.in-Some.value c.in-Some.ensures.cases c.in-BYMONTHDAY.is in
+    let others = agree (Some ByMonthDay) c.args.self.now (record c.args.self.now { month_days = c.put-in-BYMONTHDAY.new.field }) (λ _. refl) (λ _. refl) (λ _. refl) (λ _. refl) (λ _. refl) (λ _. refl) (λ d. absurd (d refl)) (λ _. refl) (λ _. refl) in
+    took (Some ByMonthDay) c.args.part.now c.in-Some.value.now c.args.self.now (record c.args.self.now { month_days = c.put-in-BYMONTHDAY.new.field }) here (λ xs. xs.items) c.in_ok-read_places-in-BYMONTHDAY.field-0 c.args.self.now.month_days c.put-in-BYMONTHDAY.new.field c.put-in-BYMONTHDAY.result
+    (λ none. (ByMonthDay, c.in-Some.value.now, here, none)) c.in_ok-read_places-in-BYMONTHDAY.ensures.reads c.in_ok-read_places-in-BYMONTHDAY.ensures.none refl refl others c.put-in-BYMONTHDAY.ensures
+
+pub returns-in_ok-read_entries-in-BYDAY-clause-enters :
+    goal.returns-in_ok-read_entries-in-BYDAY-clause-enters
+returns-in_ok-read_entries-in-BYDAY-clause-enters c =
+    let here = named (Some ByDay) c.args.part.now c.in-Some.name c.in-Some.value c.in-Some.ensures.cases c.in-BYDAY.is in
+    let others = agree (Some ByDay) c.args.self.now (record c.args.self.now { weekdays = c.put-in-BYDAY.new.field }) (λ _. refl) (λ _. refl) (λ _. refl) (λ _. refl) (λ _. refl) (λ _. refl) (λ _. refl) (λ d. absurd (d refl)) (λ _. refl) in
+    took (Some ByDay) c.args.part.now c.in-Some.value.now c.args.self.now (record c.args.self.now { weekdays = c.put-in-BYDAY.new.field }) here (λ xs. map entry_of xs.items) c.in_ok-read_entries-in-BYDAY.field-0 c.args.self.now.weekdays c.put-in-BYDAY.new.field c.put-in-BYDAY.result
+    (λ none. (ByDay, c.in-Some.value.now, here, none)) c.in_ok-read_entries-in-BYDAY.ensures.reads c.in_ok-read_entries-in-BYDAY.ensures.none refl refl others c.put-in-BYDAY.ensures
+
+pub returns-in_ok-read_places-in-BYSETPOS-clause-enters :
+    goal.returns-in_ok-read_places-in-BYSETPOS-clause-enters
+returns-in_ok-read_places-in-BYSETPOS-clause-enters c =
+    let here = named (Some BySetPosition) c.args.part.now c.in-Some.name c.in-Some.value c.in-Some.ensures.cases c.in-BYSETPOS.is in
+    let others = agree (Some BySetPosition) c.args.self.now (record c.args.self.now { positions = c.put-in-BYSETPOS.new.field }) (λ _. refl) (λ _. refl) (λ _. refl) (λ _. refl) (λ _. refl) (λ _. refl) (λ _. refl) (λ _. refl) (λ d. absurd (d refl)) in
+    took (Some BySetPosition) c.args.part.now c.in-Some.value.now c.args.self.now (record c.args.self.now { positions = c.put-in-BYSETPOS.new.field }) here (λ xs. xs.items) c.in_ok-read_places-in-BYSETPOS.field-0 c.args.self.now.positions c.put-in-BYSETPOS.new.field c.put-in-BYSETPOS.result
+    (λ none. (BySetPosition, c.in-Some.value.now, here, none)) c.in_ok-read_places-in-BYSETPOS.ensures.reads c.in_ok-read_places-in-BYSETPOS.ensures.none refl refl others c.put-in-BYSETPOS.ensures
+
+pub returns-in_default-name-clause-refuses : goal.returns-in_default-name-clause-refuses
+returns-in_default-name-clause-refuses c = (
+  refl,
+  unnamed c.args.part.now c.in-Some.name c.in-Some.value c.in-Some.ensures.cases (no_name c.in-Some.name.now c.in_default-name.not-FREQ c.in_default-name.not-INTERVAL c.in_default-name.not-COUNT c.in_default-name.not-UNTIL c.in_default-name.not-WKST
+      c.in_default-name.not-BYMONTH c.in_default-name.not-BYMONTHDAY c.in_default-name.not-BYDAY c.in_default-name.not-BYSETPOS),
+)
