@@ -1,7 +1,7 @@
 -- Parts that are taken one after the other, and the least fault of them.
-use Rattle.std.proofs.Common.{◌≡◌, ◌∙◌, ap, sym, refl, subst, ℕ, ◌+◌, ◌<◌, ◌≤◌, true, false, is_some, inl, inr, ◌⊎◌, List, [], ◌∷◌, ◌++◌, length, map, All, Contains, Option, None, Some, option_map, option_to_list, IfSome, IfNone, MatchOption, append_assoc, append-nil, length-append, arith}
+use Rattle.std.proofs.Common.{◌≡◌, ◌∙◌, ap, sym, refl, subst, ℕ, ◌+◌, ◌<◌, ◌≤◌, true, false, is_some, inl, inr, ◌⊎◌, List, [], ◌∷◌, ◌++◌, length, map, All, Contains, Option, None, Some, Result, Err, option_map, option_to_list, IfSome, IfNone, MatchOption, append_assoc, append-nil, length-append, arith}
 use Rattle.std.proofs.lemmas.List.Elements.{All-nil, All-push, Contains-append_left, Contains-append_right, filter_map-append}
-use Rattle.std.specs.Option.{unwrap_or}
+use Rattle.std.specs.Option.{unwrap_or, ok_or}
 use Rattle.ical_lines.specs.declared.fault.Refusal.{Refusal}
 use Rattle.profile.specs.Days.{Frequency}
 use Rattle.profile.specs.Rules.{RuleText, Until}
@@ -222,3 +222,8 @@ all_taken all done left p h none taken =
 -- without a fault all values are good, and the fields say them
 pub kept_none : (parts : List (List ℕ)) (p : rust.Parts) → AreTaken parts p → p.fault ≡ None → All HasNoBadValue parts × SayParts parts p
 kept_none parts p taken e = subst (Keeps parts p) e taken.kept
+
+-- the refusal that `ok_or` gives where there is no value
+pub missing_number : {T : Type 0} (r : Result T Refusal) (o : Option T) (other e : Refusal) → r ≡ ok_or o other → r ≡ Err e → o ≡ None → e.number ≡ other.number
+missing_number {T} r o other e is err none =
+    let same : Err e ≡ Err other = sym err ∙ is ∙ ap (λ (p : Option T). ok_or p other) none in cc

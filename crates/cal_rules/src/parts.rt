@@ -106,9 +106,7 @@ impl Parts {
         if let Some(fault) = self.fault {
             return Err(fault);
         }
-        let Some(frequency) = self.frequency else {
-            return Err(Refusal::BAD_RULE_PARTS);
-        };
+        let frequency = self.frequency.ok_or(Refusal::BAD_RULE_PARTS)?;
         let written = self.written(alloc, frequency);
         if !written.go_together() {
             return Err(Refusal::BAD_RULE_PARTS);
