@@ -104,7 +104,7 @@ int_one z c e = (Decides-int_eq z c).0 e
 pub int_itself : (z : ℤ) → int_eq z z ≡ true
 int_itself z = (Decides-int_eq z z).1 refl
 
-number_apart : (a b : ℕ) → nth_number a ≡ nth_number b → a ≡ b
+pub number_apart : (a b : ℕ) → nth_number a ≡ nth_number b → a ≡ b
 number_apart a b e = omega (arith, ints)
 
 pub number_there : (most : ℕ) → most ≤ 366 → (z : ℤ) → is_place most z ≡ true → Contains (map nth_number (range_with_len 0 733)) z
@@ -138,7 +138,7 @@ entry_one z c e =
 pub entry_itself : (z : WeekdayNumber) → is_same_entry z z ≡ true
 entry_itself z = and_from (int_eq z.number z.number) (z.weekday == z.weekday) (int_itself z.number) (same_octet z.weekday)
 
-entry_apart : (a b : ℕ) → nth_entry a ≡ nth_entry b → a ≡ b
+pub entry_apart : (a b : ℕ) → nth_entry a ≡ nth_entry b → a ≡ b
 entry_apart a b e =
     let n : (pos (a / 7) -ℤ pos 53) ≡ (pos (b / 7) -ℤ pos 53) = ap (λ (x : WeekdayNumber). x.number) e in
     let w : a % 7 ≡ b % 7 = ap (λ (x : WeekdayNumber). x.weekday) e in

@@ -14,6 +14,7 @@ pub mod Entered
 pub mod Taking
 pub mod OneRule
 pub mod Listing
+pub mod Sorting
 pub mod ReadBack
 pub mod WholeRule
 pub mod InOrder

@@ -1,8 +1,9 @@
 //! The text of a rule, written in one form (RFC 5545 3.3.10).
 
-ghost use Rattle.std.specs.Prelude.{Option, ◌≡◌, ◌++◌, ◌<◌, ◌≤◌, ◌^◌, ◌==◌, ℕ, ℤ, List, [], ◌∷◌, length, true, map, option_map, codes, decimal, string_bytes, if◌then◌else◌, IfOk, OnOk, OnErr};
+ghost use Rattle.std.specs.Prelude.{Option, ◌≡◌, ◌++◌, ◌<◌, ◌≤◌, ◌^◌, ◌==◌, ℕ, ℤ, List, [], ◌∷◌, length, true, All, Contains, map, option_map, codes, decimal, string_bytes, if◌then◌else◌, IfOk, OnOk, OnErr};
 ghost use Rattle.std.specs.Fmt.{signed_decimal};
-ghost use Rattle.std.specs.List.{list_any, list_all};
+ghost use Rattle.std.specs.List.{list_all};
+ghost use Rattle.std.specs.List.Sorted.{IsStrictlyIncreasing};
 ghost use Rattle.profile.specs.Faults.{is_between};
 ghost use Rattle.profile.specs.Rules as rules;
 ghost use Rattle.profile.specs.Rules.{is_place, is_entry};
@@ -33,6 +34,7 @@ impl RuleText {
 impl Written {
     /// The text in its one form.
     fn text(&self, alloc: Global, until: Option<&str>) -> Result<String, AllocError>
+        requires { rules.is_in_range (text_of self.now) ≡ true }
         ensures { IfOk result
             (λ text. string_bytes text
             ≡ texts.rule_text (text_of self.now) (option_map (λ text. text.now) until.entry)) }
@@ -110,58 +112,124 @@ impl Written {
 
 /// Appends BYMONTH.
 fn push_months(text: &mut String, months: &[u8]) -> Result<(), AllocError>
+    requires { list_all (is_between 1 12) months.now ≡ true }
     ensures { OnOk result
         (string_bytes text.new ≡ string_bytes text.old
         ++ texts.listed (codes ";BYMONTH=") (map decimal (texts.months_from 1 months.now))) }
 {
+    let places = months_in_order(*text.allocator(), months)?;
     let mut is_first = true;
-    for month in 1..13u8 {
-        if months.contains(&month) {
-            push_lead(text, is_first, ";BYMONTH=")?;
-            push_number(text, month as u32)?;
-            is_first = false;
-        }
+    for place in &places {
+        push_lead(text, is_first, ";BYMONTH=")?;
+        push_number(text, *place as u32)?;
+        is_first = false;
     }
     Ok(())
 }
 
 /// Appends a list of numbers from -366 to 366 under its name.
 fn push_numbers(text: &mut String, name: &str, numbers: &[i16]) -> Result<(), AllocError>
+    requires { list_all (is_place 366) numbers.now ≡ true }
     ensures { OnOk result
         (string_bytes text.new ≡ string_bytes text.old
         ++ texts.listed name.now (map signed_decimal (texts.numbers_from 0 numbers.now))) }
 {
+    let places = numbers_in_order(*text.allocator(), numbers)?;
     let mut is_first = true;
-    for place in 0..733u16 {
-        let number = place as i16 - 366;
-        if numbers.contains(&number) {
-            push_lead(text, is_first, name)?;
-            push_signed(text, number)?;
-            is_first = false;
-        }
+    for place in &places {
+        push_lead(text, is_first, name)?;
+        push_signed(text, *place as i16 - 366)?;
+        is_first = false;
     }
     Ok(())
 }
 
 /// Appends BYDAY.
 fn push_weekdays(text: &mut String, entries: &[WeekdayNumber]) -> Result<(), AllocError>
+    requires { list_all is_entry (map entry_of entries.now) ≡ true }
     ensures { OnOk result
         (string_bytes text.new ≡ string_bytes text.old
         ++ texts.listed (codes ";BYDAY=") (map texts.entry_text (texts.entries_from 0 (map entry_of entries.now)))) }
 {
+    let places = entries_in_order(*text.allocator(), entries)?;
     let mut is_first = true;
-    for place in 0..749u16 {
-        let entry = nth_entry(place);
-        if has_entry(entries, entry) {
-            push_lead(text, is_first, ";BYDAY=")?;
-            push_entry(text, entry)?;
-            is_first = false;
-        }
+    for place in &places {
+        push_lead(text, is_first, ";BYDAY=")?;
+        push_entry(text, nth_entry(*place))?;
+        is_first = false;
     }
     Ok(())
 }
 
-/// The entry at a place in the order in which BYDAY is written: by number, then from Monday on.
+/// The months, ascending, each once.
+fn months_in_order(alloc: Global, months: &[u8]) -> Result<Vec<u16>, AllocError>
+    requires { list_all (is_between 1 12) months.now ≡ true }
+    ensures { IfOk result (λ places. places.items ≡ texts.months_from 1 months.now) }
+{
+    let mut places = Vec::new(alloc);
+    for month in months {
+        places.push(*month as u16)?;
+    }
+    put_in_order(&mut places);
+    Ok(places)
+}
+
+/// The places of the numbers, counted from -366 on: ascending, each once.
+fn numbers_in_order(alloc: Global, numbers: &[i16]) -> Result<Vec<u16>, AllocError>
+    requires { list_all (is_place 366) numbers.now ≡ true }
+    ensures lists { IfOk result (λ places. map texts.nth_number places.items ≡ texts.numbers_from 0 numbers.now) }
+    ensures below { IfOk result (λ places. All (λ place. place < 733) places.items) }
+{
+    let mut places = Vec::new(alloc);
+    for number in numbers {
+        places.push(place_of_number(*number))?;
+    }
+    put_in_order(&mut places);
+    Ok(places)
+}
+
+/// The places of the entries in the order in which BYDAY is written: ascending, each once.
+fn entries_in_order(alloc: Global, entries: &[WeekdayNumber]) -> Result<Vec<u16>, AllocError>
+    requires { list_all is_entry (map entry_of entries.now) ≡ true }
+    ensures lists { IfOk result
+        (λ places. map texts.nth_entry places.items ≡ texts.entries_from 0 (map entry_of entries.now)) }
+    ensures below { IfOk result (λ places. All (λ place. place < 749) places.items) }
+{
+    let mut places = Vec::new(alloc);
+    for entry in entries {
+        places.push(place_of_entry(*entry))?;
+    }
+    put_in_order(&mut places);
+    Ok(places)
+}
+
+/// Puts numbers into ascending order, each once.
+fn put_in_order(places: &mut Vec<u16>)
+    ensures rises { IsStrictlyIncreasing places.new.items }
+    ensures keeps { (x : ℕ) → Contains places.old.items x → Contains places.new.items x }
+    ensures adds_none { (x : ℕ) → Contains places.new.items x → Contains places.old.items x }
+{
+    places.sort_unstable();
+    places.dedup();
+}
+
+/// The place of a number, counted from -366 on.
+fn place_of_number(number: i16) -> u16
+    requires { is_place 366 number ≡ true }
+    ensures { (result < 733) × (texts.nth_number result ≡ number) }
+{
+    (number + 366) as u16
+}
+
+/// The place of an entry in the order in which BYDAY is written: by number, then from Monday on.
+fn place_of_entry(entry: WeekdayNumber) -> u16
+    requires { is_entry (entry_of entry) ≡ true }
+    ensures { (result < 749) × (texts.nth_entry result ≡ entry_of entry) }
+{
+    (entry.number + 53) as u16 * 7 + entry.weekday as u16
+}
+
+/// The entry at a place in that order.
 fn nth_entry(place: u16) -> WeekdayNumber
     requires { place < 749 }
     ensures { entry_of result ≡ texts.nth_entry place }
@@ -170,20 +238,6 @@ fn nth_entry(place: u16) -> WeekdayNumber
         number: (place / 7) as i16 - 53,
         weekday: (place % 7) as u8,
     }
-}
-
-/// Is that one of the entries?
-fn has_entry(entries: &[WeekdayNumber], wanted: WeekdayNumber) -> bool
-    ensures { result ≡ list_any (λ entry. texts.is_same_entry (entry_of entry) (entry_of wanted)) entries.now }
-{
-    entries.iter().any(|entry| is_same_entry(*entry, wanted))
-}
-
-/// Have both the same number and the same weekday?
-fn is_same_entry(entry: WeekdayNumber, other: WeekdayNumber) -> bool
-    ensures { result ≡ texts.is_same_entry (entry_of entry) (entry_of other) }
-{
-    entry.number == other.number && entry.weekday == other.weekday
 }
 
 /// Appends an entry of BYDAY.

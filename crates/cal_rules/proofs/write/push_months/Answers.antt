@@ -1,17 +1,18 @@
-use Rattle.std.proofs.Common.{◌∙◌, sym, codes, string_bytes, if◌then◌else◌}
-use Rattle.cal_rules.proofs.Listing.{months_hit, months_miss, months_done}
+use Rattle.std.proofs.Common.{◌∙◌, ◌++◌, ap, sym, refl, codes, decimal, map, string_bytes, if◌then◌else◌}
+use Rattle.profile.specs.RuleTexts.{listed}
+use Rattle.cal_rules.proofs.Sorting.{next_listed, none_listed}
 use Rattle.cal_rules.proofs.write.push_months.Goals as goal
-use Rattle.cal_rules.proofs.write.push_months.Goals.{then-contains+in_ok-push_lead+in_ok-push_number, else-contains}
 
-pub loop-month-preserved : goal.loop-month-preserved
-loop-month-preserved c =
-    elim c.if-contains.branch [
-      | then-contains+in_ok-push_lead+in_ok-push_number w ↦
-          rw (w.text-is, w.is_first-is) (months_hit (string_bytes c.loop-month.text) (string_bytes w.push_lead.new.text) (string_bytes w.push_number.new.text) (if c.loop-month.is_first then codes ";BYMONTH=" else codes ",") c.loop-month.month-counter c.args.months.now c.loop-month-test.true (sym c.contains.ensures.value ∙ w.if-contains.true) w.in_ok-push_lead.ensures w.in_ok-push_number.ensures ∙ c.loop-month.invariant)
-      | else-contains w ↦
-          rw (w.text-is, w.is_first-is) (months_miss (string_bytes c.loop-month.text) (if c.loop-month.is_first then codes ";BYMONTH=" else codes ",") c.loop-month.month-counter c.args.months.now c.loop-month-test.true (sym c.contains.ensures.value ∙ w.if-contains.false) ∙ c.loop-month.invariant)
-    ]
+pub loop-place-init : goal.loop-place-init
+loop-place-init c = refl
+
+pub loop-place-preserved : goal.loop-place-preserved
+loop-place-preserved c =
+    next_listed decimal (string_bytes c.loop-place.text) (string_bytes c.push_lead.new.text) (string_bytes c.push_number.new.text) (if c.loop-place.is_first then codes ";BYMONTH=" else codes ",") c.deref-place-items.result.now c.loop-place.place-index 0 c.loop-place-test.true c.in_ok-push_lead.ensures c.in_ok-push_number.ensures
+    ∙ c.loop-place.invariant
 
 pub returns : goal.returns
 returns c =
-    sym (months_done (string_bytes c.loop-month.text) (if c.loop-month.is_first then codes ";BYMONTH=" else codes ",") c.loop-month.month-counter c.args.months.now c.loop-month-test.false) ∙ c.loop-month.invariant
+    sym (none_listed decimal (string_bytes c.loop-place.text) (if c.loop-place.is_first then codes ";BYMONTH=" else codes ",") c.deref-place-items.result.now c.loop-place.place-index c.loop-place-test.false)
+    ∙ c.loop-place.invariant
+    ∙ ap (λ ms. string_bytes c.args.text.now ++ listed (codes ";BYMONTH=") (map decimal ms)) (c.deref-place-items.ensures.value ∙ c.in_ok-places.ensures)

@@ -1,18 +1,24 @@
-use Rattle.std.proofs.Common.{◌∙◌, sym, codes, map, string_bytes, if◌then◌else◌}
+use Rattle.std.proofs.Common.{◌∙◌, ◌++◌, ap, sym, refl, codes, map, string_bytes, if◌then◌else◌}
+use Rattle.profile.specs.RuleTexts.{nth_entry, entry_text, entries_from}
 use Rattle.cal_rules.specs.Views.{entry_of}
-use Rattle.cal_rules.proofs.Listing.{entries_hit, entries_miss, entries_done}
+use Rattle.cal_rules.proofs.Sorting.{next_listed, none_listed, all_listed}
 use Rattle.cal_rules.proofs.write.push_weekdays.Goals as goal
-use Rattle.cal_rules.proofs.write.push_weekdays.Goals.{then-has_entry+in_ok-push_lead+in_ok-push_entry, else-has_entry}
+
+pub loop-place-init : goal.loop-place-init
+loop-place-init c = refl
+
+pub nth_entry-requires : goal.nth_entry-requires
+nth_entry-requires c =
+    rw c.deref-place-items.ensures.value (c.in_ok-places.ensures.below c.loop-place.place-index 0 (rw c.deref-place-items.ensures.value at c.loop-place-test.true))
 
 pub loop-place-preserved : goal.loop-place-preserved
 loop-place-preserved c =
-    elim c.if-has_entry.branch [
-      | then-has_entry+in_ok-push_lead+in_ok-push_entry w ↦
-          rw (w.text-is, w.is_first-is) (entries_hit entry_of (string_bytes c.loop-place.text) (string_bytes w.push_lead.new.text) (string_bytes w.push_entry.new.text) (if c.loop-place.is_first then codes ";BYDAY=" else codes ",") c.loop-place.place (entry_of c.nth_entry-entry.result) c.args.entries.now c.loop-place-test.true c.nth_entry-entry.ensures (sym c.has_entry.ensures ∙ w.if-has_entry.true) w.in_ok-push_lead.ensures w.in_ok-push_entry.ensures ∙ c.loop-place.invariant)
-      | else-has_entry w ↦
-          rw (w.text-is, w.is_first-is) (entries_miss entry_of (string_bytes c.loop-place.text) (if c.loop-place.is_first then codes ";BYDAY=" else codes ",") c.loop-place.place (entry_of c.nth_entry-entry.result) c.args.entries.now c.loop-place-test.true c.nth_entry-entry.ensures (sym c.has_entry.ensures ∙ w.if-has_entry.false) ∙ c.loop-place.invariant)
-    ]
+    next_listed (λ p. entry_text (nth_entry p)) (string_bytes c.loop-place.text) (string_bytes c.push_lead.new.text) (string_bytes c.push_entry.new.text) (if c.loop-place.is_first then codes ";BYDAY=" else codes ",") c.deref-place-items.result.now c.loop-place.place-index 0 c.loop-place-test.true c.in_ok-push_lead.ensures
+    (c.in_ok-push_entry.ensures ∙ ap (λ e. string_bytes c.push_lead.new.text ++ entry_text e) c.nth_entry.ensures)
+    ∙ c.loop-place.invariant
 
 pub returns : goal.returns
 returns c =
-    sym (entries_done (string_bytes c.loop-place.text) (if c.loop-place.is_first then codes ";BYDAY=" else codes ",") c.loop-place.place (map entry_of c.args.entries.now) c.loop-place-test.false) ∙ c.loop-place.invariant
+    sym (none_listed (λ p. entry_text (nth_entry p)) (string_bytes c.loop-place.text) (if c.loop-place.is_first then codes ";BYDAY=" else codes ",") c.deref-place-items.result.now c.loop-place.place-index c.loop-place-test.false)
+    ∙ c.loop-place.invariant
+    ∙ all_listed entry_text nth_entry (string_bytes c.args.text.now) (codes ";BYDAY=") c.deref-place-items.result.now c.in_ok-places.places.items (entries_from 0 (map entry_of c.args.entries.now)) c.deref-place-items.ensures.value c.in_ok-places.ensures.lists
