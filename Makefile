@@ -30,14 +30,14 @@ test:
 attack:
 	@RT=$(RT) python3 bench/attack.py $(CRATE) $(if $(SINCE),--since $(SINCE))
 
-# Jumps in the days of rules, for bench.
-bin/rule_seeks: bin/roombox FORCE
-	@cd crates/rule_seeks && $(RT) run < stdin > ../../out/seeks 2> ../../out/build.log || { cat ../../out/build.log; exit 1; }
-	@cp crates/rule_seeks/out/rule_seeks bin/rule_seeks
+# The worked examples, of which bench takes the jumps in the days of rules.
+bin/worked_examples: bin/roombox FORCE
+	@cd crates/worked_examples && $(RT) run -- seeks < /dev/null 2> ../../out/build.log || { cat ../../out/build.log; exit 1; }
+	@cp crates/worked_examples/out/worked_examples bin/worked_examples
 
 # One table: serving, reading, rules and checking, with sizes, times, peak memory and growth. It takes about half a minute.
-bench: bin/roombox bin/rule_seeks
-	python3 bench/bench.py bin/roombox bin/rule_seeks
+bench: bin/roombox bin/worked_examples
+	python3 bench/bench.py bin/roombox bin/worked_examples
 
 clean:
 	rm -rf bin out crates/*/out

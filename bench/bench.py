@@ -2,11 +2,12 @@
 growth of the time from a tenth of the size. The peak counts the moment before the program begins too, so it is never less than
 this script's own, about 15 MiB.
 
-    python3 bench/bench.py bin/roombox bin/rule_seeks
+    python3 bench/bench.py bin/roombox bin/worked_examples
 """
 
 import os
 import random
+import re
 import subprocess
 import sys
 import tempfile
@@ -58,18 +59,18 @@ RULES = (
     ("instances of a day each", "19700101T090000Z", "FREQ=DAILY"),
     ("last weekdays of the month", "19700130T090000Z", "FREQ=MONTHLY;BYDAY=MO,TU,WE,TH,FR;BYSETPOS=-1"),
 )
-# Rules to jump in, each with the day in 1970 on which it begins; 1971-01-01 and 9000-01-01 are the days to jump to.
+# Rules to jump in, each with the day on which it begins; and the days to jump to.
 SEEKS = (
-    (0, "FREQ=DAILY"),
-    (0, "FREQ=DAILY;BYMONTH=1;BYDAY=TH,SU"),
-    (0, "FREQ=WEEKLY"),
-    (0, "FREQ=WEEKLY;BYDAY=TU,TH"),
-    (0, "FREQ=MONTHLY"),
-    (29, "FREQ=MONTHLY;BYDAY=MO,TU,WE,TH,FR;BYSETPOS=-1"),
-    (0, "FREQ=YEARLY"),
-    (59, "FREQ=YEARLY;BYMONTH=3;BYDAY=1SU"),
+    ("19700101", "FREQ=DAILY"),
+    ("19700101", "FREQ=DAILY;BYMONTH=1;BYDAY=TH,SU"),
+    ("19700101", "FREQ=WEEKLY"),
+    ("19700101", "FREQ=WEEKLY;BYDAY=TU,TH"),
+    ("19700101", "FREQ=MONTHLY"),
+    ("19700130", "FREQ=MONTHLY;BYDAY=MO,TU,WE,TH,FR;BYSETPOS=-1"),
+    ("19700101", "FREQ=YEARLY"),
+    ("19700301", "FREQ=YEARLY;BYMONTH=3;BYDAY=1SU"),
 )
-NEAR, FAR = 365, 2_567_655
+NEAR, FAR = "19710101", "90000101"
 TIMES = 100_000
 
 
@@ -160,10 +161,10 @@ def expand(program, start, rule, count):
 def seek(program, start, rule, target):
     """The seconds of many jumps from a rule's first day to a day, without those of the program itself."""
     with tempfile.TemporaryFile() as stream:
-        stream.write(f"{TIMES} {start} {target} {rule}\n".encode())
+        stream.write(f"jumps | seek | {rule} | {start} | 99991231 | {target} | {TIMES}\n".encode())
         stream.seek(0)
-        seconds, peak, status, output = run([program], stream)
-    if status != 0 or output == b"none\n":
+        seconds, peak, status, output = run([program, "seeks"], stream)
+    if status != 0 or not re.fullmatch(rb"jumps: \d{8}\n", output):
         sys.exit(f"seek: status {status}, {output!r} for {rule}")
     return seconds, peak
 

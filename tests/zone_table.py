@@ -1,12 +1,13 @@
 #!/usr/bin/env python3
-"""Makes the data of crates/zone_examples: the current rules of fifteen zones as VTIMEZONEs, and what Python's
+"""Makes the known zones of crates/worked_examples: the current rules of fifteen zones as VTIMEZONEs, and what Python's
 zoneinfo says of them. It is run by hand, in the top folder: `python3 tests/zone_table.py`.
 
 NAME.ics is an object whose one component is the VTIMEZONE, by the POSIX rule at the end of the system's file of
 that zone. NAME.txt has a row for each onset of 2025 to 2037, one second before it, at it and after it
 (`at INSTANT OFFSET`), and for local times half an hour and a day around each (`local LOCAL INSTANT`, the first of
 two, and in a gap read with the offset before it, as PEP 495 has it with fold=0). A zone of no onsets has rows of
-each year's first day. A rule that no accepted form can say gets the row `refused 40`.
+each year's first day. A rule that no accepted form can say gets the row `refused 40`. zone-names.txt lists the names,
+and for each of them `stdout` has the line `ok NAME ROWS`.
 """
 import datetime as dt
 import pathlib
@@ -18,7 +19,10 @@ ZONES = [
     "Asia/Tokyo", "Australia/Sydney", "Australia/Lord_Howe", "Pacific/Auckland", "America/Santiago",
     "Africa/Cairo", "Asia/Kathmandu", "America/St_Johns", "Pacific/Honolulu",
 ]
-HERE = pathlib.Path("crates/zone_examples")
+CRATE = pathlib.Path("crates/worked_examples")
+DATA = CRATE / "data"
+NAMES = DATA / "zone-names.txt"
+HEAD = "# name: the zone of NAME.ics against the rows of NAME.txt (tests/zone_table.py makes all three)\n"
 FILES = pathlib.Path("/usr/share/zoneinfo")
 WEEKDAYS = ["SU", "MO", "TU", "WE", "TH", "FR", "SA"]
 EPOCH = dt.datetime(1970, 1, 1)
@@ -124,21 +128,28 @@ def rows(zone):
             yield local_row(zone, onset + offset_at(zone, onset - 1) + step)
 
 
+def replace_outcome(before, outcome):
+    """Puts new lines into stdout where those of the names before stand."""
+    lines = (CRATE / "stdout").read_text().splitlines()
+    old = [place for place, line in enumerate(lines) if re.fullmatch(r"ok (%s) \d+" % "|".join(before), line)]
+    assert old == list(range(old[0], old[0] + len(before))), old
+    lines[old[0]:old[-1] + 1] = outcome
+    (CRATE / "stdout").write_text("".join(x + "\n" for x in lines))
+
+
 def main():
-    (HERE / "data").mkdir(parents=True, exist_ok=True)
+    before = [x for x in NAMES.read_text().splitlines() if not x.startswith("#")]
     names, outcome = [], []
     for place in ZONES:
         name = place.split("/")[1].lower()
         rule = (FILES / place).read_bytes().split(b"\n")[-2].decode()
         lines = list(rows(zoneinfo.ZoneInfo(place))) if parts(rule)[1] else ["refused 40"]
-        (HERE / "data" / (name + ".ics")).write_bytes(object_text(rule).encode())
-        (HERE / "data" / (name + ".txt")).write_text("".join(x + "\n" for x in lines))
+        (DATA / (name + ".ics")).write_bytes(object_text(rule).encode())
+        (DATA / (name + ".txt")).write_text("".join(x + "\n" for x in lines))
         names.append(name)
         outcome.append("ok %s %d" % (name, len(lines)))
-    (HERE / "data" / "names.txt").write_text("".join(x + "\n" for x in names))
-    # the lines after these are the answers to the cases of data/cases.txt, which are written by hand
-    rest = [line for line in (HERE / "stdout").read_text().splitlines() if not line.startswith("ok ")]
-    (HERE / "stdout").write_text("".join(x + "\n" for x in outcome + rest))
+    NAMES.write_text(HEAD + "".join(x + "\n" for x in names))
+    replace_outcome(before, outcome)
 
 
 main()

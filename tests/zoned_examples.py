@@ -1,7 +1,7 @@
 #!/usr/bin/env python3
-"""Makes the cases of crates/worked_examples whose DTSTART or DTEND has TZID: files `zone-*` and `zoned-*` of its `data`,
-and the lines of `cases.txt` and `stdout` after the line `# times in zones`. It is run by hand, in the top folder:
-`python3 tests/zoned_examples.py`.
+"""Makes the cases of crates/worked_examples whose DTSTART or DTEND has TZID: files `zone-*` and `zoned-*` of its `data`
+(those without an ending), the lines of `commands.txt` after the line `# times in zones`, and the lines of `stdout` for all
+of `commands.txt`, which are its last ones. It is run by hand, in the top folder: `python3 tests/zoned_examples.py`.
 
 What must come out is written here by hand, or is what Python's zoneinfo says of the local times (with fold=0: the first of
 two, and in a gap the offset before it).
@@ -12,6 +12,7 @@ import zoneinfo
 
 CRATE = pathlib.Path("crates/worked_examples")
 DATA = CRATE / "data"
+TABLE = DATA / "commands.txt"
 MARK = "# times in zones"
 
 BEGIN = ["BEGIN:VCALENDAR", "VERSION:2.0", "PRODID:-//test//EN"]
@@ -177,9 +178,19 @@ def write(name, lines, end="\r\n"):
     (DATA / name).write_bytes("".join(line + end for line in lines).encode())
 
 
+def names_of(table):
+    """The names of the cases of a table."""
+    return [line.split("|")[0].strip() for line in table.split("\n") if "|" in line and line[0] != "#"]
+
+
+def ok_lines(names):
+    return ["ok %s\n" % name for name in names]
+
+
 def main():
     for old in list(DATA.glob("zone-*")) + list(DATA.glob("zoned-*")):
-        old.unlink()
+        if not old.suffix:
+            old.unlink()
     write("zoned-begin", BEGIN)
     for name, lines in ZONES.items():
         write("zone-" + name, lines)
@@ -198,11 +209,14 @@ def main():
                 output = event + "-days"
                 write(output, outcome, "\n")
             table.append("%s | expand | %s |  | %s | nothing | 0" % (name, files, output))
-    cases = (DATA / "cases.txt").read_text().split(MARK)[0]
-    (DATA / "cases.txt").write_text(cases + MARK + "\n" + "\n".join(table) + "\n")
-    names = [line.split("|")[0].strip() for line in (cases + "\n".join(table)).split("\n") if "|" in line and line[0] != "#"]
+    before = TABLE.read_text()
+    after = before.split(MARK)[0] + MARK + "\n" + "\n".join(table) + "\n"
+    names = names_of(after)
     assert len(names) == len(set(names)), sorted(n for n in names if names.count(n) > 1)
-    (CRATE / "stdout").write_text("".join("ok %s\n" % name for name in names))
+    told, old = (CRATE / "stdout").read_text().splitlines(keepends=True), ok_lines(names_of(before))
+    assert told[-len(old):] == old
+    TABLE.write_text(after)
+    (CRATE / "stdout").write_text("".join(told[:-len(old)] + ok_lines(names)))
 
 
 main()

@@ -1,52 +1,51 @@
-//! One line of the table: `name | command | input | certificate | output | errors | status`. The middle columns
-//! are names of files, put one behind another.
+//! One line of a table: `name | call | input | column ..`. How the input reads, and which columns there are, is the call's to say.
 
-/// A worked example.
+use std::alloc::{AllocError, Global};
+
+/// A case.
 #[derive(Clone, Copy, Debug)]
 pub struct Case<'a> {
-    pub name: &'a str,
-    pub command: &'a str,
-    pub input: &'a str,
-    pub certificate: &'a str,
-    pub output: &'a str,
-    pub errors: &'a str,
-    pub status: u8,
-}
-
-/// What a command wrote, and its status.
-#[derive(Debug, PartialEq, Eq, Drop)]
-pub struct Outcome {
-    pub status: u8,
-    pub output: Vec<u8>,
-    pub errors: Vec<u8>,
+    line: &'a str,
 }
 
 impl<'a> Case<'a> {
     /// The case of a line, None for an empty line or a comment.
     pub fn of(line: &'a str) -> Option<Case<'a>> {
-        if line.starts_with('#') {
+        if line.trim().is_empty() || line.starts_with('#') {
             return None;
         }
-        let (name, rest) = column(line)?;
-        let (command, rest) = column(rest)?;
-        let (input, rest) = column(rest)?;
-        let (certificate, rest) = column(rest)?;
-        let (output, rest) = column(rest)?;
-        let (errors, rest) = column(rest)?;
-        let status = rest.trim().parse::<u8>().ok()?;
-        Some(Case {
-            name,
-            command,
-            input,
-            certificate,
-            output,
-            errors,
-            status,
-        })
+        Some(Case { line })
     }
-}
 
-fn column(line: &str) -> Option<(&str, &str)> {
-    let (first, rest) = line.split_once('|')?;
-    Some((first.trim(), rest))
+    /// What the case shows.
+    pub fn name(self) -> &'a str {
+        self.column(0)
+    }
+
+    pub fn call(self) -> &'a str {
+        self.column(1)
+    }
+
+    pub fn input(self) -> &'a str {
+        self.column(2)
+    }
+
+    /// The column of that place, from 0. A line that has no such column has no text in it.
+    pub fn column(self, place: usize) -> &'a str {
+        self.line.split('|').nth(place).unwrap_or("").trim()
+    }
+
+    /// The columns behind the input: steps or questions.
+    pub fn steps(self, alloc: Global) -> Result<Vec<&'a str>, AllocError> {
+        self.columns_from(alloc, 3)
+    }
+
+    /// The columns from that place on.
+    pub fn columns_from(self, alloc: Global, place: usize) -> Result<Vec<&'a str>, AllocError> {
+        let mut columns = Vec::new(alloc);
+        for column in self.line.split('|').skip(place) {
+            columns.push(column.trim())?;
+        }
+        Ok(columns)
+    }
 }

@@ -1,104 +1,72 @@
-//! Worked examples: each line of `cases.txt` names a command, what goes in and what must come out.
-//! A line `ok NAME` is printed for each that comes out so.
+//! Worked examples, one subject after another. Each line of a subject's table names a call and gives its input; the case's name and what
+//! the call answers are printed. `rt ci` compares that with the file `stdout`, whose lines come from the RFCs, by hand or from another
+//! program.
+//!
+//! With the argument `seeks` the cases of rules are read from standard input instead, to be timed (`make bench`).
 #![tactic(auto)]
 
+mod addresses;
+mod answers;
+mod calendar_files;
+mod calendars;
 mod case;
+mod certificates;
+mod commands;
+mod days;
+mod files;
+mod known_zones;
+mod lines;
+mod message_files;
+mod messages;
+mod no_answer;
+mod objects;
+mod parts;
+mod rules;
+mod spelled;
+mod streams;
+mod subject;
+mod trees;
+mod values;
+mod words;
+mod written;
+mod zones;
 
-use case::{Case, Outcome};
-use ical_values::Address;
-use sched_cli::commands::{Kept, run_check, run_keep, run_serve};
-use sched_cli::run_expand;
-use std::alloc::Global;
+use case::Case;
+use std::env::{self, Env};
+use std::fs;
+use std::io::{self, Read};
 use std::rt::Files;
-use std::{fs, io};
-
-const ROOM: &str = "mailto:r1@example.com";
+use subject::Subject;
 
 fn main(rt: HostRuntime) -> io::Result<()> {
-    let alloc = rt.alloc();
-    let table = fs::read_to_string(&rt, "cases.txt")?;
-    for line in table.lines() {
-        if let Some(case) = Case::of(line) {
-            let outcome = run(&rt, alloc, &case)?;
-            let expected = expected(&rt, alloc, &case)?;
-            if outcome == expected {
-                println!(rt; "ok {}", case.name)?;
-            } else {
-                println!(rt; "differs {}", case.name)?;
-                print_outcome(&rt, &outcome)?;
-            }
-        }
+    if is_asked_for_seeks(&rt)? {
+        let mut table = String::new(rt.alloc());
+        rt.stdin().read_to_string(&mut table)?;
+        return print_cases(&rt, Subject::Rules, table.as_str());
+    }
+    for subject in Subject::ALL {
+        let table = fs::read_to_string(&rt, subject.file())?;
+        print_cases(&rt, subject, table.as_str())?;
     }
     Ok(())
 }
 
-fn print_outcome<R: Print + AllocGlobal>(rt: &R, outcome: &Outcome) -> io::Result<()> {
-    let text = String::from_utf8_lossy(rt.alloc(), outcome.output.as_slice())?;
-    println!(rt; "status {}", outcome.status)?;
-    println!(rt; "{text:?}")
-}
-
-/// Runs a case's command on its files, with readers and writers in memory.
-fn run<R: Files + AllocGlobal>(rt: &R, alloc: Global, case: &Case<'_>) -> io::Result<Outcome> {
-    let input = read_all(rt, alloc, case.input)?;
-    let mut reader = input.as_slice();
-    let mut output = Vec::new(alloc);
-    let mut errors = Vec::new(alloc);
-    let Ok(room) = Address::read(alloc, ROOM) else {
-        return Err(io::Error::from(io::ErrorKind::InvalidInput));
-    };
-    let status = match case.command {
-        "serve" => run_serve(alloc, &mut reader, &mut output, &mut errors),
-        "calendar" => run_keep(
-            alloc,
-            &room,
-            Kept::Calendar,
-            &mut reader,
-            &mut output,
-            &mut errors,
-        ),
-        "certificate" => run_keep(
-            alloc,
-            &room,
-            Kept::Certificate,
-            &mut reader,
-            &mut output,
-            &mut errors,
-        ),
-        "expand" => run_expand(alloc, input.as_slice(), 100, &mut output, &mut errors),
-        _ => {
-            let certificate = read_all(rt, alloc, case.certificate)?;
-            run_check(
-                alloc,
-                input.as_slice(),
-                certificate.as_slice(),
-                &room,
-                &mut output,
-                &mut errors,
-            )
-        }
-    };
-    Ok(Outcome {
-        status,
-        output,
-        errors,
-    })
-}
-
-fn expected<R: Files + AllocGlobal>(rt: &R, alloc: Global, case: &Case<'_>) -> io::Result<Outcome> {
-    Ok(Outcome {
-        status: case.status,
-        output: read_all(rt, alloc, case.output)?,
-        errors: read_all(rt, alloc, case.errors)?,
-    })
-}
-
-/// The octets of files, one behind another; their names are words.
-fn read_all<R: Files + AllocGlobal>(rt: &R, alloc: Global, names: &str) -> io::Result<Vec<u8>> {
-    let mut all = Vec::new(alloc);
-    for name in names.split_whitespace() {
-        let octets = fs::read(rt, name)?;
-        all.extend_from_slice(octets.as_slice())?;
+fn is_asked_for_seeks<R: Env + AllocGlobal>(rt: &R) -> io::Result<bool> {
+    match env::args(rt)?.nth(1) {
+        Some(word) => Ok(word.as_str() == "seeks"),
+        None => Ok(false),
     }
-    Ok(all)
+}
+
+fn print_cases<R: Files + Print + AllocGlobal>(
+    rt: &R,
+    subject: Subject,
+    table: &str,
+) -> io::Result<()> {
+    for line in table.lines() {
+        if let Some(case) = Case::of(line) {
+            subject.print(rt, case)?;
+        }
+    }
+    Ok(())
 }

@@ -1,0 +1,48 @@
+//! The answers of a case, and the words that several of them take.
+
+use std::alloc::{AllocError, Global};
+
+/// What is printed of a case: its answers, with ` | ` between them.
+#[derive(Debug, Drop)]
+pub struct Answers {
+    text: String,
+}
+
+impl Answers {
+    pub fn new(alloc: Global) -> Answers {
+        Answers {
+            text: String::new(alloc),
+        }
+    }
+
+    pub fn add(&mut self, answer: &str) -> Result<(), AllocError> {
+        append(&mut self.text, " | ", answer)
+    }
+
+    pub fn finish(self) -> String {
+        self.text
+    }
+}
+
+/// Appends an item to a list.
+pub fn append(list: &mut String, between: &str, item: &str) -> Result<(), AllocError> {
+    if !list.is_empty() {
+        list.push_str(between)?;
+    }
+    list.push_str(item)
+}
+
+/// What is said of a question.
+pub fn yes_or_no(is: bool) -> &'static str {
+    if is { "yes" } else { "no" }
+}
+
+/// What is said where there is nothing.
+pub fn none(alloc: Global) -> Result<String, AllocError> {
+    String::from_str(alloc, "none")
+}
+
+/// What is said of two values that are to be the same.
+pub fn equality(equal: bool) -> &'static str {
+    if equal { "equal" } else { "different" }
+}

@@ -1,0 +1,110 @@
+//! What is answered about an object as a calendar.
+
+use crate::answers::append;
+use crate::certificates::verdict_text;
+use crate::no_answer::NoAnswer;
+use crate::spelled::octets_of;
+use cal_events::{
+    Calendar, EventComponent, ParticipationStatus, Purpose, SaidTimes, ZonedTime,
+    refuse_nominal_length,
+};
+use clash_check::check;
+use ical_lines::Limits;
+use ical_tree::{Component, read_object};
+use ical_values::Address;
+use std::alloc::Global;
+
+pub fn kept(alloc: Global, octets: &[u8], room: &Address) -> Result<String, NoAnswer> {
+    let calendar = Calendar::read(alloc, octets, room)?;
+    let mut list = calendar.single_count().to_string(alloc)?;
+    for booking in calendar.bookings() {
+        let organiser = booking.organiser.as_str();
+        let item = format!(in alloc;
+            "{organiser} {} {} {}",
+            booking.slot, booking.start, booking.end
+        )?;
+        append(&mut list, ", ", item.as_str())?;
+    }
+    Ok(list)
+}
+
+pub fn counted(alloc: Global, octets: &[u8], room: &Address) -> Result<String, NoAnswer> {
+    let object = read_object(alloc, octets, Limits::Open)?;
+    let calendar = Calendar::of_object(alloc, &object, room)?;
+    Ok(calendar.single_count().to_string(alloc)?)
+}
+
+pub fn answered(alloc: Global, octets: &[u8], room: &Address) -> Result<String, NoAnswer> {
+    let object = read_object(alloc, octets, Limits::Open)?;
+    let mut list = String::new(alloc);
+    for component in object.children() {
+        let event = EventComponent::read(alloc, component, Purpose::Request)?;
+        let word = status_word(event.status_of(room));
+        let item = format!(in alloc; "ends {} {word}", event.end())?;
+        append(&mut list, ", ", item.as_str())?;
+    }
+    Ok(list)
+}
+
+fn status_word(status: Option<ParticipationStatus>) -> &'static str {
+    match status {
+        Some(ParticipationStatus::Accepted) => "accepted",
+        Some(ParticipationStatus::Declined) => "declined",
+        Some(_) => "otherwise",
+        None => "not asked",
+    }
+}
+
+pub fn times(alloc: Global, octets: &[u8]) -> Result<String, NoAnswer> {
+    let object = read_object(alloc, octets, Limits::Open)?;
+    let mut list = String::new(alloc);
+    for component in object.children() {
+        if component.is_named("VEVENT") {
+            let item = times_of(alloc, component, &object)?;
+            append(&mut list, ", ", item.as_str())?;
+        }
+    }
+    Ok(list)
+}
+
+fn times_of(alloc: Global, component: &Component, object: &Component) -> Result<String, NoAnswer> {
+    EventComponent::judge_heading(alloc, component, Purpose::Calendar)?;
+    let said = SaidTimes::read(alloc, component, object)?;
+    EventComponent::judge_attendees(alloc, component)?;
+    let times = said.judge()?;
+    Ok(format!(in alloc; "from {} for {}", times.instant, times.seconds)?)
+}
+
+pub fn ends(alloc: Global, octets: &[u8]) -> Result<String, NoAnswer> {
+    let object = read_object(alloc, octets, Limits::Open)?;
+    let mut list = String::new(alloc);
+    for component in object.children() {
+        for line in component.lines() {
+            if line.is_named("DTEND") {
+                let end = ZonedTime::read(alloc, line, &object)?;
+                let item = end.instant().to_string(alloc)?;
+                append(&mut list, ", ", item.as_str())?;
+            }
+        }
+    }
+    Ok(list)
+}
+
+pub fn nominal(alloc: Global, octets: &[u8]) -> Result<String, NoAnswer> {
+    let object = read_object(alloc, octets, Limits::Open)?;
+    for component in object.children() {
+        refuse_nominal_length(component)?;
+    }
+    Ok(String::from_str(alloc, "not refused")?)
+}
+
+pub fn checked(
+    alloc: Global,
+    octets: &[u8],
+    room: &Address,
+    certificate: &str,
+) -> Result<String, NoAnswer> {
+    let certificate = octets_of(alloc, certificate)?;
+    let checked = check(alloc, octets, certificate.as_slice(), room)?;
+    verdict_text(alloc, checked)
+}

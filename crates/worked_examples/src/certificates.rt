@@ -1,0 +1,52 @@
+//! Cases of the texts of certificates: `certificate | TEXT` reads one, `certificate-of | COUNT` writes one, behind an octet that stands
+//! there already.
+
+use crate::case::Case;
+use crate::no_answer::NoAnswer;
+use crate::spelled::{escaped, octets_of};
+use clash_cert::{CertFault, Certificate};
+use clash_check::{Checked, Verdict};
+use std::alloc::Global;
+
+/// What a text says as a certificate, or its first wrong line.
+pub fn read_answer(alloc: Global, case: Case<'_>) -> Result<String, NoAnswer> {
+    let text = octets_of(alloc, case.input())?;
+    match Certificate::read(alloc, text.as_slice()) {
+        Ok(certificate) => content(alloc, &certificate),
+        Err(CertFault::Line(line)) => Ok(format!(in alloc; "line {line}")?),
+        Err(CertFault::Memory) => Err(NoAnswer::Memory),
+    }
+}
+
+/// What is written of a certificate, and what it says.
+pub fn write_answer(alloc: Global, case: Case<'_>) -> Result<String, NoAnswer> {
+    let singles = case
+        .input()
+        .parse::<u64>()
+        .ok()
+        .ok_or(NoAnswer::Unreadable)?;
+    let certificate = Certificate::of(singles);
+    let mut out = Vec::from_slice(alloc, b"x")?;
+    certificate.write(&mut out)?;
+    let text = escaped(alloc, out.as_slice())?;
+    let content = content(alloc, &certificate)?;
+    Ok(format!(in alloc; "{text} | {content}")?)
+}
+
+fn content(alloc: Global, certificate: &Certificate) -> Result<String, NoAnswer> {
+    let singles = certificate.singles();
+    let series = certificate.series();
+    Ok(format!(in alloc; "{singles} singles, {series} series")?)
+}
+
+/// The checker's answer in words: for a no its number and the two that it names; then how many instances were made.
+pub fn verdict_text(alloc: Global, checked: Checked) -> Result<String, NoAnswer> {
+    let made = checked.made;
+    match checked.verdict {
+        Verdict::Yes => Ok(format!(in alloc; "yes, {made} made")?),
+        Verdict::No(why) => Ok(format!(in alloc;
+            "no {} {} {}, {made} made",
+            why.number, why.first, why.second
+        )?),
+    }
+}

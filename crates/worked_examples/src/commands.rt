@@ -1,0 +1,81 @@
+//! Cases of the commands: `name | command | input | certificate | output | errors | status`. The middle columns are names of files, put one
+//! behind another. A command runs on them with a reader and writers in memory.
+
+use crate::addresses::ROOM;
+use crate::case::Case;
+use crate::files::read_all;
+use ical_values::Address;
+use sched_cli::commands::{Kept, run_check, run_keep, run_serve};
+use sched_cli::run_expand;
+use std::io::{self, ErrorKind};
+use std::rt::Files;
+
+/// What a command wrote, and its status.
+#[derive(Debug, PartialEq, Eq, Drop)]
+struct Outcome {
+    status: u8,
+    output: Vec<u8>,
+    errors: Vec<u8>,
+}
+
+/// Prints `ok NAME` where what came out is what the table says, else `differs NAME` and what came out.
+pub fn print<R: Files + Print + AllocGlobal>(rt: &R, case: Case<'_>) -> io::Result<()> {
+    let outcome = run(rt, case)?;
+    if outcome == expected(rt, case)? {
+        return println!(rt; "ok {}", case.name());
+    }
+    let text = String::from_utf8_lossy(rt.alloc(), outcome.output.as_slice())?;
+    println!(rt; "differs {}", case.name())?;
+    println!(rt; "status {}", outcome.status)?;
+    println!(rt; "{text:?}")
+}
+
+fn run<R: Files + AllocGlobal>(rt: &R, case: Case<'_>) -> io::Result<Outcome> {
+    let alloc = rt.alloc();
+    let input = read_all(rt, case.input())?;
+    let certificate = read_all(rt, case.column(3))?;
+    let mut reader = input.as_slice();
+    let mut output = Vec::new(alloc);
+    let mut errors = Vec::new(alloc);
+    let Ok(room) = Address::read(alloc, ROOM) else {
+        return Err(io::Error::from(ErrorKind::InvalidInput));
+    };
+    let status = match case.call() {
+        "serve" => run_serve(alloc, &mut reader, &mut output, &mut errors),
+        "calendar" | "certificate" => {
+            let kept = kept_of(case);
+            run_keep(alloc, &room, kept, &mut reader, &mut output, &mut errors)
+        }
+        "expand" => run_expand(alloc, reader, 100, &mut output, &mut errors),
+        "check" => {
+            let certificate = certificate.as_slice();
+            run_check(alloc, reader, certificate, &room, &mut output, &mut errors)
+        }
+        _ => return Err(io::Error::from(ErrorKind::InvalidData)),
+    };
+    Ok(Outcome {
+        status,
+        output,
+        errors,
+    })
+}
+
+fn kept_of(case: Case<'_>) -> Kept {
+    if case.call() == "calendar" {
+        Kept::Calendar
+    } else {
+        Kept::Certificate
+    }
+}
+
+/// What the table says must come out.
+fn expected<R: Files + AllocGlobal>(rt: &R, case: Case<'_>) -> io::Result<Outcome> {
+    let Ok(status) = case.column(6).parse::<u8>() else {
+        return Err(io::Error::from(ErrorKind::InvalidData));
+    };
+    Ok(Outcome {
+        status,
+        output: read_all(rt, case.column(4))?,
+        errors: read_all(rt, case.column(5))?,
+    })
+}

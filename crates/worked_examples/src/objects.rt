@@ -1,0 +1,75 @@
+//! Cases of objects that stand in files: `object | FILE`, and then steps. With `lines | TEXT` the object is a VEVENT of these lines.
+//!
+//!     kept ROOM               how many singles the calendar has for a room, and their organisers, slots, starts and ends
+//!     counted ROOM            how many singles, where the object was read before
+//!     answers ROOM            when each event ends, and what the room answered
+//!     times                   the start and the length of each VEVENT, in seconds
+//!     ends                    the instant of each DTEND
+//!     nominal                 nothing, or that days in a length aren't read yet
+//!     check ROOM TEXT         whether the text is a certificate of the room's calendar
+//!     message                 what the message says
+//!     components              how many components the message has, where the object was read before
+//!     parts ROOM              the parts for a room
+//!     addressed ROOM          whether the message names the room
+
+use crate::answers::Answers;
+use crate::calendar_files::{answered, checked, counted, ends, kept, nominal, times};
+use crate::case::Case;
+use crate::message_files::{addressed, components, message, parts};
+use crate::no_answer::NoAnswer;
+use crate::spelled::octets_of;
+use crate::words::first_word;
+use ical_values::Address;
+use std::alloc::Global;
+
+/// The answers of a case of one VEVENT.
+pub fn line_answers(alloc: Global, case: Case<'_>) -> Result<String, NoAnswer> {
+    let lines = octets_of(alloc, case.input())?;
+    let mut octets = Vec::new(alloc);
+    octets.extend_from_slice(b"BEGIN:VCALENDAR\r\nVERSION:2.0\r\nBEGIN:VEVENT\r\n")?;
+    octets.extend_from_slice(lines.as_slice())?;
+    octets.extend_from_slice(b"\r\nEND:VEVENT\r\nEND:VCALENDAR\r\n")?;
+    answers(alloc, octets.as_slice(), case)
+}
+
+/// The answers to steps about an object.
+pub fn answers(alloc: Global, octets: &[u8], case: Case<'_>) -> Result<String, NoAnswer> {
+    let mut answers = Answers::new(alloc);
+    for step in case.steps(alloc)? {
+        let (call, input) = first_word(step);
+        let answer = if input.is_empty() {
+            plain_answer(alloc, octets, call)?
+        } else {
+            room_answer(alloc, octets, call, input)?
+        };
+        answers.add(answer.as_str())?;
+    }
+    Ok(answers.finish())
+}
+
+/// The answer to a step of one word.
+fn plain_answer(alloc: Global, octets: &[u8], call: &str) -> Result<String, NoAnswer> {
+    match call {
+        "times" => times(alloc, octets),
+        "ends" => ends(alloc, octets),
+        "nominal" => nominal(alloc, octets),
+        "message" => message(alloc, octets),
+        "components" => components(alloc, octets),
+        _ => Err(NoAnswer::Unreadable),
+    }
+}
+
+/// The answer to a step about a room.
+fn room_answer(alloc: Global, octets: &[u8], call: &str, input: &str) -> Result<String, NoAnswer> {
+    let (room, text) = first_word(input);
+    let room = Address::read(alloc, room)?;
+    match call {
+        "kept" => kept(alloc, octets, &room),
+        "counted" => counted(alloc, octets, &room),
+        "answers" => answered(alloc, octets, &room),
+        "check" => checked(alloc, octets, &room, text),
+        "parts" => parts(alloc, octets, &room),
+        "addressed" => addressed(alloc, octets, &room),
+        _ => Err(NoAnswer::Unreadable),
+    }
+}

@@ -1,0 +1,82 @@
+//! Cases of trees: an object is read, and each question after it is answered.
+
+use crate::answers::{Answers, none, yes_or_no};
+use crate::case::Case;
+use crate::lines;
+use crate::no_answer::NoAnswer;
+use crate::spelled::{octets_of, shown};
+use ical_lines::Limits;
+use ical_tree::{Component, read_object, write_object};
+use std::alloc::{AllocError, Global};
+
+pub fn answer(alloc: Global, case: Case<'_>) -> Result<String, NoAnswer> {
+    match case.call() {
+        "read object" => read(alloc, case, Limits::Message),
+        "read object without limits" => read(alloc, case, Limits::Open),
+        _ => Err(NoAnswer::Unreadable),
+    }
+}
+
+/// `read`, and what is answered to each question.
+fn read(alloc: Global, case: Case<'_>, limits: Limits) -> Result<String, NoAnswer> {
+    let octets = octets_of(alloc, case.input())?;
+    let object = read_object(alloc, octets.as_slice(), limits)?;
+    let mut answers = Answers::new(alloc);
+    answers.add("read")?;
+    for question in case.steps(alloc)? {
+        let answer = answer_of(alloc, &object, question)?;
+        answers.add(answer.as_str())?;
+    }
+    Ok(answers.finish())
+}
+
+fn answer_of(alloc: Global, object: &Component, question: &str) -> Result<String, NoAnswer> {
+    match question {
+        "write" => Ok(shown(alloc, written(alloc, object)?.as_slice())?),
+        "write, read and write" => written_again(alloc, object),
+        _ => Ok(answer_of_component(alloc, object, question)?),
+    }
+}
+
+/// Of the object, or of its first component where the question begins so.
+fn answer_of_component(
+    alloc: Global,
+    object: &Component,
+    question: &str,
+) -> Result<String, AllocError> {
+    match question.strip_prefix("child ") {
+        None => answer_of_parts(alloc, object, question),
+        Some(asked) => match object.children().first() {
+            Some(child) => answer_of_parts(alloc, child, asked),
+            None => none(alloc),
+        },
+    }
+}
+
+fn answer_of_parts(
+    alloc: Global,
+    component: &Component,
+    question: &str,
+) -> Result<String, AllocError> {
+    if let Some(name) = question.strip_prefix("is ") {
+        return String::from_str(alloc, yes_or_no(component.is_named(name)));
+    }
+    match question {
+        "name" => shown(alloc, component.name().as_bytes()),
+        "children" => format!(in alloc; "{}", component.children().len()),
+        _ => lines::all(alloc, component.lines()),
+    }
+}
+
+fn written(alloc: Global, object: &Component) -> Result<Vec<u8>, AllocError> {
+    let mut out = Vec::new(alloc);
+    write_object(object, &mut out)?;
+    Ok(out)
+}
+
+/// What is written of the object that reads from what is written of this one.
+fn written_again(alloc: Global, object: &Component) -> Result<String, NoAnswer> {
+    let out = written(alloc, object)?;
+    let again = read_object(alloc, out.as_slice(), Limits::Open)?;
+    Ok(shown(alloc, written(alloc, &again)?.as_slice())?)
+}
