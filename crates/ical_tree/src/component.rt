@@ -66,6 +66,10 @@ impl<'a> Component<'a> {
         ensures added { OnOk result (component_lines self.new ≡ component_lines self.old ++ run_lines run.entry) }
         ensures unchanged { OnErr result (component_lines self.new ≡ component_lines self.old) }
     {
+        if self.runs.is_empty() {
+            // nearly every component has one run alone: no room for more
+            self.runs.reserve_exact(1)?;
+        }
         self.runs.push(run)?;
         Ok(())
     }
