@@ -9,7 +9,7 @@ use cal_events::{
     refuse_nominal_length,
 };
 use clash_check::check;
-use ical_lines::Limits;
+use ical_lines::{Limits, Unfolded};
 use ical_tree::{Component, read_object};
 use ical_values::Address;
 use std::alloc::Global;
@@ -29,13 +29,15 @@ pub fn kept(alloc: Global, octets: &[u8], room: &Address) -> Result<String, NoAn
 }
 
 pub fn counted(alloc: Global, octets: &[u8], room: &Address) -> Result<String, NoAnswer> {
-    let object = read_object(alloc, octets, Limits::Open)?;
+    let text = Unfolded::read(alloc, octets, Limits::Open)?;
+    let object = read_object(alloc, &text, Limits::Open)?;
     let calendar = Calendar::of_object(alloc, &object, room)?;
     Ok(calendar.single_count().to_string(alloc)?)
 }
 
 pub fn answered(alloc: Global, octets: &[u8], room: &Address) -> Result<String, NoAnswer> {
-    let object = read_object(alloc, octets, Limits::Open)?;
+    let text = Unfolded::read(alloc, octets, Limits::Open)?;
+    let object = read_object(alloc, &text, Limits::Open)?;
     let mut list = String::new(alloc);
     for component in object.children() {
         let event = EventComponent::read(alloc, component, Purpose::Request)?;
@@ -56,7 +58,8 @@ fn status_word(status: Option<ParticipationStatus>) -> &'static str {
 }
 
 pub fn times(alloc: Global, octets: &[u8]) -> Result<String, NoAnswer> {
-    let object = read_object(alloc, octets, Limits::Open)?;
+    let text = Unfolded::read(alloc, octets, Limits::Open)?;
+    let object = read_object(alloc, &text, Limits::Open)?;
     let mut list = String::new(alloc);
     for component in object.children() {
         if component.is_named("VEVENT") {
@@ -76,7 +79,8 @@ fn times_of(alloc: Global, component: &Component, object: &Component) -> Result<
 }
 
 pub fn ends(alloc: Global, octets: &[u8]) -> Result<String, NoAnswer> {
-    let object = read_object(alloc, octets, Limits::Open)?;
+    let text = Unfolded::read(alloc, octets, Limits::Open)?;
+    let object = read_object(alloc, &text, Limits::Open)?;
     let mut list = String::new(alloc);
     for component in object.children() {
         for line in component.lines() {
@@ -91,7 +95,8 @@ pub fn ends(alloc: Global, octets: &[u8]) -> Result<String, NoAnswer> {
 }
 
 pub fn nominal(alloc: Global, octets: &[u8]) -> Result<String, NoAnswer> {
-    let object = read_object(alloc, octets, Limits::Open)?;
+    let text = Unfolded::read(alloc, octets, Limits::Open)?;
+    let object = read_object(alloc, &text, Limits::Open)?;
     for component in object.children() {
         refuse_nominal_length(component)?;
     }

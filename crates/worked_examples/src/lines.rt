@@ -64,7 +64,7 @@ fn all_of_copy(alloc: Global, lines: Lines<'_>) -> Result<String, AllocError> {
 }
 
 /// How many lines there are, and each line's parts.
-pub fn all(alloc: Global, lines: Lines<'_>) -> Result<String, AllocError> {
+fn all(alloc: Global, lines: Lines<'_>) -> Result<String, AllocError> {
     let mut text = String::new(alloc);
     let mut count = 0u64;
     for line in lines {
@@ -74,7 +74,8 @@ pub fn all(alloc: Global, lines: Lines<'_>) -> Result<String, AllocError> {
     format!(in alloc; "{count}:{text}")
 }
 
-fn push_line(text: &mut String, line: Line<'_>) -> Result<(), AllocError> {
+/// A line: its name, its parameters and its value.
+pub fn push_line(text: &mut String, line: Line<'_>) -> Result<(), AllocError> {
     let name = line.name();
     let value = line.value();
     write!(text, " {name}")?;

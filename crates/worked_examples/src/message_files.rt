@@ -3,7 +3,7 @@
 use crate::answers::{append, yes_or_no};
 use crate::no_answer::NoAnswer;
 use crate::parts::{body_text, slot_text};
-use ical_lines::Limits;
+use ical_lines::{Limits, Unfolded};
 use ical_tree::read_object;
 use ical_values::Address;
 use itip_messages::{Message, Method};
@@ -25,7 +25,8 @@ pub fn message(alloc: Global, octets: &[u8]) -> Result<String, NoAnswer> {
 }
 
 pub fn components(alloc: Global, octets: &[u8]) -> Result<String, NoAnswer> {
-    let object = read_object(alloc, octets, Limits::Message)?;
+    let text = Unfolded::read(alloc, octets, Limits::Message)?;
+    let object = read_object(alloc, &text, Limits::Message)?;
     let message = Message::of_object(alloc, &object)?;
     Ok(message.components().len().to_string(alloc)?)
 }

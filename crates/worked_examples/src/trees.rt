@@ -2,10 +2,10 @@
 
 use crate::answers::{Answers, none, yes_or_no};
 use crate::case::Case;
-use crate::lines;
+use crate::lines::push_line;
 use crate::no_answer::NoAnswer;
 use crate::spelled::{octets_of, shown};
-use ical_lines::Limits;
+use ical_lines::{Limits, Unfolded};
 use ical_tree::{Component, read_object, write_object};
 use std::alloc::{AllocError, Global};
 
@@ -20,7 +20,8 @@ pub fn answer(alloc: Global, case: Case<'_>) -> Result<String, NoAnswer> {
 /// `read`, and what is answered to each question.
 fn read(alloc: Global, case: Case<'_>, limits: Limits) -> Result<String, NoAnswer> {
     let octets = octets_of(alloc, case.input())?;
-    let object = read_object(alloc, octets.as_slice(), limits)?;
+    let text = Unfolded::read(alloc, octets.as_slice(), limits)?;
+    let object = read_object(alloc, &text, limits)?;
     let mut answers = Answers::new(alloc);
     answers.add("read")?;
     for question in case.steps(alloc)? {
@@ -64,8 +65,18 @@ fn answer_of_parts(
     match question {
         "name" => shown(alloc, component.name().as_bytes()),
         "children" => format!(in alloc; "{}", component.children().len()),
-        _ => lines::all(alloc, component.lines()),
+        _ => own_lines(alloc, component),
     }
+}
+
+fn own_lines(alloc: Global, component: &Component) -> Result<String, AllocError> {
+    let mut text = String::new(alloc);
+    let mut count = 0u64;
+    for line in component.lines() {
+        count = count.saturating_add(1);
+        push_line(&mut text, line)?;
+    }
+    format!(in alloc; "{count}:{text}")
 }
 
 fn written(alloc: Global, object: &Component) -> Result<Vec<u8>, AllocError> {
@@ -77,6 +88,7 @@ fn written(alloc: Global, object: &Component) -> Result<Vec<u8>, AllocError> {
 /// What is written of the object that reads from what is written of this one.
 fn written_again(alloc: Global, object: &Component) -> Result<String, NoAnswer> {
     let out = written(alloc, object)?;
-    let again = read_object(alloc, out.as_slice(), Limits::Open)?;
+    let text = Unfolded::read(alloc, out.as_slice(), Limits::Open)?;
+    let again = read_object(alloc, &text, Limits::Open)?;
     Ok(shown(alloc, written(alloc, &again)?.as_slice())?)
 }

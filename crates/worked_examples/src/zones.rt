@@ -16,7 +16,7 @@ use crate::no_answer::NoAnswer;
 use crate::spelled::{escaped, octets_of};
 use crate::words::{count, first_word, number, small};
 use cal_zones::{MonthDays, Observance, Yearly, Zone};
-use ical_lines::Limits;
+use ical_lines::{Limits, Unfolded};
 use ical_tree::read_object;
 use ical_values::{LocalTime, UtcOffset};
 use std::alloc::Global;
@@ -71,7 +71,8 @@ fn zone_of_parts(alloc: Global, parts: &str) -> Result<Zone, NoAnswer> {
 
 /// The zone of the one component of an object.
 pub fn zone_of_object(alloc: Global, octets: &[u8]) -> Result<Zone, NoAnswer> {
-    let object = read_object(alloc, octets, Limits::Open)?;
+    let text = Unfolded::read(alloc, octets, Limits::Open)?;
+    let object = read_object(alloc, &text, Limits::Open)?;
     let zone = object.children().first().ok_or(NoAnswer::Unreadable)?;
     Ok(Zone::read(alloc, zone)?)
 }
