@@ -142,7 +142,11 @@ fn read_zone(alloc: Global, object: &Component, name: &str) -> Result<Zone, Faul
 
 /// The first VTIMEZONE of an object that has this name.
 /// Refused: 43 where there is none.
-fn find_zone<'c, 'a>(alloc: Global, object: &'c Component<'a>, name: &str) -> Result<&'c Component<'a>, Fault>
+fn find_zone<'c, 'a>(
+    alloc: Global,
+    object: &'c Component<'a>,
+    name: &str,
+) -> Result<&'c Component<'a>, Fault>
     ensures found { IfOk result (λ part. zone_named name.now (tree_of object.now) ≡ Some (tree_of part.now)) }
     ensures none { IfErr result (RefusesBy (λ n. (n ≡ 43) × (zone_named name.now (tree_of object.now) ≡ None))) }
 {
