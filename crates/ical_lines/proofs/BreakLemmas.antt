@@ -1,16 +1,13 @@
--- Lines kept as one text in which each ends with an LF.
-use Rattle.std.proofs.Common.{◌≡◌, Result, Ok, Err, OnOk, OnErr, map, filter, ℕ, suc, zero, ◌+◌, ◌-◌, ◌<◌, ◌≤◌, Bool, true, false, not, ◌&&◌, ◌||◌, cond, eqb, ltb, None, Some, List, [], ◌∷◌, ◌++◌, length, take, drop, get_or, refl, ap, sym, subst, ◌∙◌, arith, count_by}
+-- The lines of a text that is split at LFs.
+use Rattle.std.proofs.Common.{◌≡◌, map, filter, ℕ, suc, zero, ◌+◌, ◌-◌, ◌<◌, ◌≤◌, Bool, true, false, not, ◌&&◌, ◌||◌, cond, eqb, ltb, None, Some, List, [], ◌∷◌, ◌++◌, length, take, drop, get_or, refl, ap, sym, subst, ◌∙◌, arith}
 use Rattle.std.specs.List.{slice_split, onto_first, list_any, list_all}
-use Rattle.std.proofs.lemmas.List.{append_assoc, append-nil, length-take, length-drop, drop-drop, get_or-take}
-use Rattle.std.proofs.lemmas.List.Concat.{flat_map-append}
-use Rattle.std.proofs.lemmas.List.Folds.{list_all-append, list_any-append}
-use Rattle.std.proofs.lemmas.List.Splits.{length-slice_split, slice_split_at}
-use Rattle.std.proofs.lemmas.List.Sums.{count_by-le-length}
+use Rattle.std.proofs.lemmas.List.{append-nil, length-take, length-drop, drop-drop, get_or-take}
+use Rattle.std.proofs.lemmas.List.Elements.{filter-append}
+use Rattle.std.proofs.lemmas.List.Folds.{list_any-append}
 use Rattle.memchr.specs.Find.{IsFirstByte, is_byte}
 use Rattle.profile.specs.Lines.{ended, without_return, physical_lines, is_continuation, gather, unfolded, is_filled, logical_lines, without_mark, line_has, is_faulty, text_has, reads_as_lines}
 use Rattle.ical_lines.specs.Breaks.{is_break, is_one_line, lines_of}
 use Rattle.std.specs.Str.{IsUtf8, is_utf8, IsCharBoundary}
-use Rattle.std.proofs.lemmas.Str.{IsUtf8-from_is_utf8, is_utf8-from_IsUtf8}
 use Rattle.std.proofs.Math.Bool.{or-true}
 use Rattle.std.proofs.lemmas.Bool.Decides.{Decides-eqb}
 use Rattle.std.proofs.lemmas.Bool.{or_parts, and_parts, false_from_ne_true, not-true, not_from_false}
@@ -19,23 +16,34 @@ use Rattle.ical_lines.proofs.SplitLemmas.{split_at_byte, split_no_byte}
 
 -- ---- the lines of a text
 
-cut_last : (x : List ℕ) (s : List (List ℕ)) (n : ℕ) → length s ≡ n + 1 → take (length (x ∷ s) - 1) (x ∷ s) ≡ x ∷ take (length s - 1) s
-cut_last x s n e =
-    let a : length (x ∷ s) - 1 ≡ suc n = omega (arith, e) in
-    let b : length s - 1 ≡ n = omega (arith, e) in
-    rw (a, b) refl
+filter_first : (x : List ℕ) (s : List (List ℕ)) → filter is_filled (x ∷ s) ≡ filter is_filled (x ∷ []) ++ filter is_filled s
+filter_first x s = filter-append is_filled (x ∷ []) s
 
-pub lines_of_first : (xs : List ℕ) (i : ℕ) → IsFirstByte (is_byte 10) xs (Some i) → lines_of xs ≡ take i xs ∷ lines_of (drop (i + 1) xs)
+pub lines_of_first : (xs : List ℕ) (i : ℕ) → IsFirstByte (is_byte 10) xs (Some i) → lines_of xs ≡ filter is_filled (without_return (take i xs) ∷ []) ++ lines_of (drop (i + 1) xs)
 lines_of_first xs i h =
-    ap (λ s. take (length s - 1) s) (split_at_byte 10 xs i h) ∙ cut_last (take i xs) (slice_split is_break (drop (i + 1) xs)) (count_by is_break (drop (i + 1) xs)) (length-slice_split is_break (drop (i + 1) xs))
+    ap (λ s. filter is_filled (map without_return s)) (split_at_byte 10 xs i h) ∙ filter_first (without_return (take i xs)) (physical_lines (drop (i + 1) xs))
 
-pub lines_of_none : (xs : List ℕ) → IsFirstByte (is_byte 10) xs None → lines_of xs ≡ []
-lines_of_none xs h = ap (λ s. take (length s - 1) s) (split_no_byte 10 xs h)
+pub lines_of_none : (xs : List ℕ) → IsFirstByte (is_byte 10) xs None → lines_of xs ≡ filter is_filled (without_return xs ∷ [])
+lines_of_none xs h = ap (λ s. filter is_filled (map without_return s)) (split_no_byte 10 xs h)
+
+filled_more : (b : Bool) (l : List ℕ) (s : List (List ℕ)) (n : ℕ) → length s ≤ n → length (cond b (l ∷ s) s) ≤ suc n
+filled_more true l s n h = omega (arith, h)
+filled_more false l s n h = omega (arith, h)
+
+filled_less : (b : Bool) (l : List ℕ) (s : List (List ℕ)) (n : ℕ) → length (cond b (l ∷ s) s) ≤ n → length s ≤ n
+filled_less true l s n h = omega (arith, h)
+filled_less false l s n h = omega (arith, h)
+
+le_by : (b : Bool) (x : ℕ) (s : List (List ℕ)) (n : ℕ) → length (filter is_filled (map without_return s)) ≤ n → length (filter is_filled (map without_return (cond b ([] ∷ s) (onto_first x s)))) ≤ suc n
+le_by true x s n h = omega (arith, h)
+le_by false x [] n h = filled_more (is_filled (without_return (x ∷ []))) (without_return (x ∷ [])) [] n h
+le_by false x (p ∷ ps) n h =
+    let rest = filter is_filled (map without_return ps) in
+    filled_more (is_filled (without_return (x ∷ p))) (without_return (x ∷ p)) rest n (filled_less (is_filled (without_return p)) (without_return p) rest n h)
 
 pub lines_of-le : (xs : List ℕ) → length (lines_of xs) ≤ length xs
-lines_of-le xs =
-    let s = slice_split is_break xs in
-    omega (arith, length-take (length s - 1) s, length-slice_split is_break xs, count_by-le-length is_break xs)
+lines_of-le [] = omega arith
+lines_of-le (x ∷ xs) = le_by (is_break x) x (slice_split is_break xs) (length xs) (lines_of-le xs)
 
 -- ---- texts without a break
 
@@ -59,16 +67,6 @@ one_line_front xs i h =
     let e : list_any is_break (take i xs) ≡ false = not_any is_break (take i xs) (λ k l. front_at xs i h k (omega (arith, length-take i xs))) in
     rw e refl
 
--- ---- the lines of lines that are ended
-
-pub lines_of-ended : (lines : List (List ℕ)) → list_all is_one_line lines ≡ true → lines_of (ended lines) ≡ lines
-lines_of-ended [] h = refl
-lines_of-ended (x ∷ ls) h =
-    let parts = and_parts (is_one_line x) (list_all is_one_line ls) h in
-    let none = none_at is_break x (not-true (list_any is_break x) parts.0) in
-    let split : slice_split is_break (ended (x ∷ ls)) ≡ x ∷ slice_split is_break (ended ls) = ap (slice_split is_break) (append_assoc x (10 ∷ []) (ended ls)) ∙ slice_split_at is_break x 10 (ended ls) none refl in
-    ap (λ s. take (length s - 1) s) split ∙ (cut_last x (slice_split is_break (ended ls)) (count_by is_break (ended ls)) (length-slice_split is_break (ended ls)) ∙ ap (λ z. x ∷ z) (lines_of-ended ls parts.1))
-
 -- ---- what is split at breaks has none
 
 whole_by : (b : Bool) (x : ℕ) (s : List (List ℕ)) → is_break x ≡ b → list_all is_one_line s ≡ true → list_all is_one_line (cond b ([] ∷ s) (onto_first x s)) ≡ true
@@ -79,16 +77,6 @@ whole_by false x (part ∷ s) e h = rw e h
 pub parts_whole : (xs : List ℕ) → list_all is_one_line (slice_split is_break xs) ≡ true
 parts_whole [] = refl
 parts_whole (x ∷ xs) = whole_by (is_break x) x (slice_split is_break xs) refl (parts_whole xs)
-
-all_take : (n : ℕ) (s : List (List ℕ)) → list_all is_one_line s ≡ true → list_all is_one_line (take n s) ≡ true
-all_take zero s h = refl
-all_take (suc n) [] h = refl
-all_take (suc n) (x ∷ s) h =
-    let parts = and_parts (is_one_line x) (list_all is_one_line s) h in
-    rw (parts.0, all_take n s parts.1) refl
-
-pub lines_whole : (xs : List ℕ) → list_all is_one_line (lines_of xs) ≡ true
-lines_whole xs = all_take (length (slice_split is_break xs) - 1) (slice_split is_break xs) (parts_whole xs)
 
 any_take : (n : ℕ) (xs : List ℕ) → list_any is_break xs ≡ false → list_any is_break (take n xs) ≡ false
 any_take zero xs h = refl
@@ -137,47 +125,34 @@ filled_whole (l ∷ s) h =
     let parts = and_parts (is_one_line l) (list_all is_one_line s) h in
     all_cond (is_filled l) (l ∷ filter is_filled s) (filter is_filled s) (rw parts.0 (filled_whole s parts.1)) (filled_whole s parts.1)
 
-pub logical_whole : (octets : List ℕ) → list_all is_one_line (logical_lines octets) ≡ true
-logical_whole octets =
-    filled_whole (unfolded (physical_lines (without_mark octets))) (unfolded_whole (physical_lines (without_mark octets)) (returns_whole (slice_split is_break (without_mark octets)) (parts_whole (without_mark octets))))
+pub unfolded_lines_whole : (octets : List ℕ) → list_all is_one_line (filter is_filled (unfolded (physical_lines octets))) ≡ true
+unfolded_lines_whole octets =
+    filled_whole (unfolded (physical_lines octets)) (unfolded_whole (physical_lines octets) (returns_whole (slice_split is_break octets) (parts_whole octets)))
 
--- ---- a line more
+-- ---- the first line of a text
 
-ended_push : (lines : List (List ℕ)) (line : List ℕ) → ended (lines ++ line ∷ []) ≡ ended lines ++ (line ++ 10 ∷ [])
-ended_push lines line = flat_map-append (λ l. l ++ 10 ∷ []) lines (line ∷ []) ∙ ap (λ z. ended lines ++ z) (append-nil (line ++ 10 ∷ []))
-
-push_whole : (s : List (List ℕ)) (l : List ℕ) → list_all is_one_line s ≡ true → is_one_line l ≡ true → list_all is_one_line (s ++ l ∷ []) ≡ true
-push_whole s l h k = rw (list_all-append is_one_line s (l ∷ []), h, k) refl
-
-pub lines_of_more : (text line : List ℕ) → text ≡ ended (lines_of text) → is_one_line line ≡ true → lines_of (text ++ (line ++ 10 ∷ [])) ≡ lines_of text ++ line ∷ []
-lines_of_more text line e h =
-    ap lines_of (ap (λ z. z ++ (line ++ 10 ∷ [])) e ∙ sym (ended_push (lines_of text) line)) ∙ lines_of-ended (lines_of text ++ line ∷ []) (push_whole (lines_of text) line (lines_whole text) h)
-
-pub ended_more : (text line : List ℕ) → text ≡ ended (lines_of text) → is_one_line line ≡ true → text ++ (line ++ 10 ∷ []) ≡ ended (lines_of (text ++ (line ++ 10 ∷ [])))
-ended_more text line e h =
-    (ap (λ z. z ++ (line ++ 10 ∷ [])) e ∙ sym (ended_push (lines_of text) line)) ∙ sym (ap ended (lines_of_more text line e h))
-
--- ---- a text of logical lines
-
-pub lines_of-logical : (bs octets : List ℕ) → bs ≡ ended (logical_lines octets) → lines_of bs ≡ logical_lines octets
-lines_of-logical bs octets e = ap lines_of e ∙ lines_of-ended (logical_lines octets) (logical_whole octets)
-
-pub ended-logical : (bs octets : List ℕ) → bs ≡ ended (logical_lines octets) → bs ≡ ended (lines_of bs)
-ended-logical bs octets e = e ∙ sym (ap ended (lines_of-logical bs octets e))
-
--- ---- the next line of a text
-
-pub next_line : (bytes text line tail rest : List ℕ) (i : ℕ) → bytes ≡ text → IsFirstByte (is_byte 10) bytes (Some i) → line ≡ take i text → tail ≡ drop i text → rest ≡ drop 1 tail → lines_of text ≡ line ∷ lines_of rest
-next_line bytes text line tail rest i b f l t r =
+pub next_line : (bytes text line tail rest first : List ℕ) (i : ℕ) → bytes ≡ text → IsFirstByte (is_byte 10) bytes (Some i) → line ≡ take i text → tail ≡ drop i text → rest ≡ drop 1 tail → first ≡ without_return line → lines_of text ≡ filter is_filled (first ∷ []) ++ lines_of rest
+next_line bytes text line tail rest first i b f l t r e =
     let found : IsFirstByte (is_byte 10) text (Some i) = (let P : List ℕ → Type 0 = λ xs. IsFirstByte (is_byte 10) xs (Some i) in subst P b f) in
     let after : drop (i + 1) text ≡ rest = sym (r ∙ (ap (drop 1) t ∙ drop-drop 1 i text)) in
-    lines_of_first text i found ∙ (ap (λ z. z ∷ lines_of (drop (i + 1) text)) (sym l) ∙ ap (λ z. line ∷ lines_of z) after)
+    let here : without_return (take i text) ≡ first = sym (e ∙ ap without_return l) in
+    lines_of_first text i found ∙ (ap (λ z. filter is_filled (z ∷ []) ++ lines_of (drop (i + 1) text)) here ∙ ap (λ z. filter is_filled (first ∷ []) ++ lines_of z) after)
 
-pub no_next_line : (bytes text : List ℕ) → bytes ≡ text → IsFirstByte (is_byte 10) bytes None → lines_of text ≡ []
-no_next_line bytes text b f = ap lines_of (sym b) ∙ lines_of_none bytes f
+pub last_line : (bytes text first : List ℕ) → bytes ≡ text → IsFirstByte (is_byte 10) bytes None → first ≡ without_return text → lines_of text ≡ filter is_filled (first ∷ []) ++ []
+last_line bytes text first b f e =
+    ap lines_of (sym b) ∙ (lines_of_none bytes f ∙ (ap (λ z. filter is_filled (z ∷ [])) (ap without_return b ∙ sym e) ∙ sym (append-nil (filter is_filled (first ∷ [])))))
 
-pub next_whole : (bytes text line : List ℕ) (i : ℕ) → bytes ≡ text → IsFirstByte (is_byte 10) bytes (Some i) → line ≡ take i text → is_one_line line ≡ true
-next_whole bytes text line i b f l = ap is_one_line (l ∙ ap (take i) (sym b)) ∙ one_line_front bytes i f
+return_whole : (line : List ℕ) → is_one_line line ≡ true → is_one_line (without_return line) ≡ true
+return_whole line h = return_by (eqb (get_or line (length line - 1) 0) 13) (length line - 1) line h
+
+pub next_whole : (bytes text line first : List ℕ) (i : ℕ) → bytes ≡ text → IsFirstByte (is_byte 10) bytes (Some i) → line ≡ take i text → first ≡ without_return line → is_one_line first ≡ true
+next_whole bytes text line first i b f l e =
+    ap is_one_line e ∙ return_whole line (ap is_one_line (l ∙ ap (take i) (sym b)) ∙ one_line_front bytes i f)
+
+pub last_whole : (bytes text first : List ℕ) → bytes ≡ text → IsFirstByte (is_byte 10) bytes None → first ≡ without_return text → is_one_line first ≡ true
+last_whole bytes text first b f e =
+    let none : list_any is_break bytes ≡ false = not_any is_break bytes (λ k l. false_from_ne_true (is_break (get_or bytes k 0)) (f k (omega arith) l)) in
+    ap is_one_line e ∙ return_whole text (ap is_one_line (sym b) ∙ not_from_false (list_any is_break bytes) none)
 
 pub next_cut : (bytes text tail : List ℕ) (i : ℕ) → IsUtf8 bytes → bytes ≡ text → IsFirstByte (is_byte 10) bytes (Some i) → tail ≡ drop i text → IsCharBoundary tail 1
 next_cut bytes text tail i u b f t =
@@ -193,16 +168,6 @@ any_later p x xs ys e h = ap (list_any p) e ∙ (ap (λ b. p x || b) h ∙ or-tr
 
 pub any_here : (p : List ℕ → Bool) (x : List ℕ) (xs ys : List (List ℕ)) → ys ≡ x ∷ xs → p x ≡ true → list_any p ys ≡ true
 any_here p x xs ys e h = ap (list_any p) e ∙ ap (λ b. b || list_any p xs) h
-
--- ---- what a push leaves
-
-pub push_keeps : {T E : Type 0} (r : Result T E) (old new line : List ℕ) → OnOk r (new ≡ old ++ (line ++ 10 ∷ [])) → OnErr r (new ≡ old) → old ≡ ended (lines_of old) → is_one_line line ≡ true → new ≡ ended (lines_of new)
-push_keeps (Ok x) old new line a u e h = rw a (ended_more old line e h)
-push_keeps (Err x) old new line a u e h = rw u e
-
-pub push_adds : {T E : Type 0} (r : Result T E) (old new line : List ℕ) (lines : List (List ℕ)) → OnOk r (new ≡ old ++ (line ++ 10 ∷ [])) → old ≡ ended (lines_of old) → is_one_line line ≡ true → lines_of old ≡ lines → OnOk r (lines_of new ≡ lines ++ line ∷ [])
-push_adds (Ok x) old new line lines a e h v = ap lines_of a ∙ (lines_of_more old line e h ∙ ap (λ z. z ++ line ∷ []) v)
-push_adds (Err x) old new line lines a e h v = tt
 
 -- ---- what a text of logical lines has
 
@@ -222,26 +187,22 @@ neither_bound true true y h k = h
 neither_bound true false y h k = k
 neither_bound false x y h k = refl
 
-pub lines_stand : (b : Bool) (n : ℕ) (octets bs : List ℕ) → bs ≡ ended (logical_lines octets) → (list_any (line_has n) (lines_of bs) || (eqb n 6 && (b && ltb 65536 (length (lines_of bs))))) ≡ true → text_has b n octets ≡ true
-lines_stand b n octets bs e h =
-    let s = lines_of-logical bs octets e in
-    let k : (list_any (line_has n) (logical_lines octets) || (eqb n 6 && (b && ltb 65536 (length (logical_lines octets))))) ≡ true = (let P : List (List ℕ) → Type 0 = λ ls. (list_any (line_has n) ls || (eqb n 6 && (b && ltb 65536 (length ls)))) ≡ true in subst P s h) in
+pub lines_stand : (b : Bool) (n : ℕ) (octets : List ℕ) (lines : List (List ℕ)) → lines ≡ logical_lines octets → (list_any (line_has n) lines || (eqb n 6 && (b && ltb 65536 (length lines)))) ≡ true → text_has b n octets ≡ true
+lines_stand b n octets lines e h =
+    let k : (list_any (line_has n) (logical_lines octets) || (eqb n 6 && (b && ltb 65536 (length (logical_lines octets))))) ≡ true = (let P : List (List ℕ) → Type 0 = λ ls. (list_any (line_has n) ls || (eqb n 6 && (b && ltb 65536 (length ls)))) ≡ true in subst P e h) in
     bound_or (list_any (line_has n) (logical_lines octets)) (eqb n 5 && not (is_utf8 (ended (logical_lines octets)))) (eqb n 6) b (ltb 1048576 (length octets)) (ltb 65536 (length (logical_lines octets))) k
 
 or_second : (a c : Bool) → (a || true || c) ≡ true
 or_second true c = refl
 or_second false c = refl
 
-pub utf8_stands : (b : Bool) (octets bs : List ℕ) → bs ≡ ended (logical_lines octets) → (IsUtf8 bs → ⊥) → text_has b 5 octets ≡ true
-utf8_stands b octets bs e h =
-    let u : is_utf8 (ended (logical_lines octets)) ≡ false = false_from_ne_true (is_utf8 (ended (logical_lines octets))) (λ t. h (subst IsUtf8 (sym e) (IsUtf8-from_is_utf8 (ended (logical_lines octets)) t))) in
+pub utf8_stands : (b : Bool) (octets : List ℕ) → is_utf8 (ended (logical_lines octets)) ≡ false → text_has b 5 octets ≡ true
+utf8_stands b octets u =
     rw u (or_second (list_any (line_has 5) (logical_lines octets)) (false && (b && (ltb 1048576 (length octets) || ltb 65536 (length (logical_lines octets))))))
 
-pub all_read : (b : Bool) (octets bs : List ℕ) → bs ≡ ended (logical_lines octets) → IsUtf8 bs → list_any is_faulty (lines_of bs) ≡ false → (b && ltb 65536 (length (lines_of bs))) ≡ false → (b && ltb 1048576 (length octets)) ≡ false → reads_as_lines b octets ≡ true
-all_read b octets bs e u f n o =
-    let s = lines_of-logical bs octets e in
-    let g : list_any is_faulty (logical_lines octets) ≡ false = ap (list_any is_faulty) (sym s) ∙ f in
-    let m : (b && ltb 65536 (length (logical_lines octets))) ≡ false = ap (λ ls. b && ltb 65536 (length ls)) (sym s) ∙ n in
-    let v : is_utf8 (ended (logical_lines octets)) ≡ true = is_utf8-from_IsUtf8 (ended (logical_lines octets)) (subst IsUtf8 e u) in
+pub all_read : (b : Bool) (octets : List ℕ) (lines : List (List ℕ)) → lines ≡ logical_lines octets → is_utf8 (ended (logical_lines octets)) ≡ true → list_any is_faulty lines ≡ false → (b && ltb 65536 (length lines)) ≡ false → (b && ltb 1048576 (length octets)) ≡ false → reads_as_lines b octets ≡ true
+all_read b octets lines e u f n o =
+    let g : list_any is_faulty (logical_lines octets) ≡ false = ap (list_any is_faulty) (sym e) ∙ f in
+    let m : (b && ltb 65536 (length (logical_lines octets))) ≡ false = ap (λ ls. b && ltb 65536 (length ls)) (sym e) ∙ n in
     let w : (b && (ltb 1048576 (length octets) || ltb 65536 (length (logical_lines octets)))) ≡ false = neither_bound b (ltb 1048576 (length octets)) (ltb 65536 (length (logical_lines octets))) o m in
-    rw (g, v, w) refl
+    rw (g, u, w) refl

@@ -4,10 +4,7 @@ use Rattle.std.specs.List.{find, list_any}
 use Rattle.std.proofs.Math.Bool.{or-true}
 use Rattle.std.proofs.lemmas.Bool.{ltb-false, ltb-true, lt-ltb, or_parts, and_parts, false_from_ne_true, not-true}
 use Rattle.std.proofs.lemmas.Bool.Decides.{Decides-eqb}
-use Rattle.std.proofs.lemmas.Str.{IsUtf8-from_is_utf8, is_utf8-from_IsUtf8}
-use Rattle.std.specs.Str.{IsUtf8, is_utf8}
-use Rattle.ical_lines.specs.Breaks.{lines_of}
-use Rattle.ical_lines.proofs.BreakLemmas.{lines_of-logical}
+use Rattle.std.specs.Str.{is_utf8}
 use Rattle.profile.specs.Lines.{ended, logical_lines, reads_as_lines, line_has, is_faulty, lacks_colon, has_bad_name, has_bad_quote, has_control}
 use Rattle.profile.specs.First.{least_fault, judged, fault_of, lines_fault, text_fault, is_number, comes_after}
 use Rattle.ical_lines.specs.Fault.{RefusesOnly}
@@ -66,16 +63,13 @@ bound_stands true count line rest lines all e m l =
     let more : ltb 65536 (length all) ≡ true = lt-ltb 65536 (length all) (omega (arith, ltb-true 65536 (count + 1) m, ap length e, l)) in
     rw more (or-true (list_any (line_has 6) all))
 
-pub utf8_first : (b : Bool) (octets bs : List ℕ) → bs ≡ ended (logical_lines octets) → (IsUtf8 bs → ⊥) → (b && ltb 1048576 (length octets)) ≡ false → is_number (text_fault b octets) 5 ≡ true
-utf8_first b octets bs e h o =
-    let u : is_utf8 (ended (logical_lines octets)) ≡ false = false_from_ne_true (is_utf8 (ended (logical_lines octets))) (λ t. h (subst IsUtf8 (sym e) (IsUtf8-from_is_utf8 (ended (logical_lines octets)) t))) in
-    rw (o, u) refl
+pub utf8_first : (b : Bool) (octets : List ℕ) → is_utf8 (ended (logical_lines octets)) ≡ false → (b && ltb 1048576 (length octets)) ≡ false → is_number (text_fault b octets) 5 ≡ true
+utf8_first b octets u o = rw (o, u) refl
 
-pub lines_first : (b : Bool) (n : ℕ) (octets bs : List ℕ) → bs ≡ ended (logical_lines octets) → IsUtf8 bs → (b && ltb 1048576 (length octets)) ≡ false → is_number (lines_fault b (lines_of bs)) n ≡ true → is_number (text_fault b octets) n ≡ true
-lines_first b n octets bs e u o h =
-    let v : is_utf8 (ended (logical_lines octets)) ≡ true = is_utf8-from_IsUtf8 (ended (logical_lines octets)) (subst IsUtf8 e u) in
-    let k : is_number (lines_fault b (logical_lines octets)) n ≡ true = (let P : List (List ℕ) → Type 0 = λ ls. is_number (lines_fault b ls) n ≡ true in subst P (lines_of-logical bs octets e) h) in
-    rw (o, v) k
+pub lines_first : (b : Bool) (n : ℕ) (octets : List ℕ) (lines : List (List ℕ)) → lines ≡ logical_lines octets → is_utf8 (ended (logical_lines octets)) ≡ true → (b && ltb 1048576 (length octets)) ≡ false → is_number (lines_fault b lines) n ≡ true → is_number (text_fault b octets) n ≡ true
+lines_first b n octets lines e u o h =
+    let k : is_number (lines_fault b (logical_lines octets)) n ≡ true = (let P : List (List ℕ) → Type 0 = λ ls. is_number (lines_fault b ls) n ≡ true in subst P e h) in
+    rw (o, u) k
 
 -- ---- octets that read as lines are refused with no number of lines
 

@@ -9,5 +9,7 @@ pub mod PieceLemmas
 pub mod QuoteLemmas
 pub mod ReadBackLemmas
 pub mod SplitLemmas
+pub mod UnfoldLemmas
+pub mod Utf8Lemmas
 pub mod Yields
 pub mod CleanLines

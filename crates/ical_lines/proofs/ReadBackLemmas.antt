@@ -34,7 +34,7 @@ without-return q =
 one_break : (q : List ℕ) → list_any is_break q ≡ false → list_any is_break (q ++ 13 ∷ []) ≡ false
 one_break q h = rw (list_any-append is_break q (13 ∷ []), h) refl
 
-ends_line : (q tail : List ℕ) → list_any is_break q ≡ false → physical_lines (q ++ 13 ∷ 10 ∷ tail) ≡ q ∷ physical_lines tail
+pub ends_line : (q tail : List ℕ) → list_any is_break q ≡ false → physical_lines (q ++ 13 ∷ 10 ∷ tail) ≡ q ∷ physical_lines tail
 ends_line q tail h =
     ap (map without_return) (ap (slice_split is_break) (sym (append_assoc q (13 ∷ []) (10 ∷ tail))) ∙ slice_split_at is_break (q ++ 13 ∷ []) 10 tail (none_at is_break (q ++ 13 ∷ []) (one_break q h)) refl) ∙ ap (λ z. z ∷ physical_lines tail) (without-return q)
 

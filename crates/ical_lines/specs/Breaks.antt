@@ -1,7 +1,7 @@
--- Lines kept as one text in which each ends with an LF.
-use Rattle.std.specs.Prelude.{ℕ, Bool, not, ◌==◌, ◌-◌, List, length, take, Option, Some, None, if◌then◌else◌}
-use Rattle.std.specs.List.{slice_split, list_any}
-use Rattle.profile.specs.Lines.{has_stop, line_value}
+-- The lines of a text in which no line is folded.
+use Rattle.std.specs.Prelude.{ℕ, Bool, not, ◌==◌, List, filter, Option, Some, None, if◌then◌else◌}
+use Rattle.std.specs.List.{list_any}
+use Rattle.profile.specs.Lines.{physical_lines, is_filled, has_stop, line_value}
 
 abbrev pub is_break : ℕ → Bool
 is_break c = c == 10
@@ -10,9 +10,9 @@ is_break c = c == 10
 abbrev pub is_one_line : List ℕ → Bool
 is_one_line text = not (list_any is_break text)
 
--- the lines of a text that end with an LF
+-- the physical lines that aren't empty
 abbrev pub lines_of : List ℕ → List (List ℕ)
-lines_of text = take (length (slice_split is_break text) - 1) (slice_split is_break text)
+lines_of text = filter is_filled (physical_lines text)
 
 -- what stands after the colon that ends the head of a line, where one does
 abbrev pub value_or_none : List ℕ → Option (List ℕ)

@@ -1,11 +1,14 @@
--- Lines kept as one text in which each ends with an LF, and what the types that lend them show.
+-- A text of lines, and what the types that lend them show.
 use Rattle.std.specs.Prelude.{ℕ, List, map}
+use Rattle.std.specs.String.{string_bytes}
 use Rattle.profile.specs.Lines.{param_name, param_value}
 use Rattle.ical_lines.specs.Pieces.{pieces_left}
 use Rattle.ical_lines.specs.declared.line.Line.{Line}
 use Rattle.ical_lines.specs.declared.param.Param.{Param}
 use Rattle.ical_lines.specs.declared.param.Params.{Params}
 use Rattle.ical_lines.specs.declared.text.Lines.{Lines}
+use Rattle.ical_lines.specs.declared.unfold.Text.{Text}
+use Rattle.ical_lines.specs.declared.unfold.Text.TheVariants.{Lent, Owned}
 use Rattle.ical_lines.specs.Breaks.{lines_of}
 
 -- the octets of a line
@@ -26,3 +29,8 @@ params_left p = map param_of (pieces_left p.pieces)
 -- the lines that are still to come
 abbrev pub lines_left : Lines → List (List ℕ)
 lines_left s = lines_of s.rest.now
+
+-- the octets of a text, whoever holds them
+abbrev pub text_octets : Text → List ℕ
+text_octets (Lent text) = text.now
+text_octets (Owned text) = string_bytes text

@@ -1,5 +1,5 @@
 //! An unfolded text: its logical lines, in order, which it lends.
-//! It is one string in which each line ends with an LF, since no logical line holds one.
+//! Its lines are what stands between LFs, one CR at the end of each taken off, and the empty ones left out.
 ghost use Rattle.std.specs.Prelude.{
   ◌≡◌,
   ◌++◌,
@@ -12,70 +12,59 @@ ghost use Rattle.std.specs.Prelude.{
   ◌^◌,
   nat_lt,
   length,
+  filter,
+  true,
   false,
   IsTrue,
   MatchResult,
-  OnOk,
-  OnErr,
   IfErr,
 };
 ghost use Rattle.std.specs.List.{list_any};
-ghost use Rattle.std.specs.String.{string_bytes};
 ghost use Rattle.profile.specs.Faults.{is_line_fault};
 ghost use Rattle.profile.specs.First.{lines_fault, is_number};
-ghost use Rattle.profile.specs.Lines.{is_faulty, line_has};
-ghost use Rattle.ical_lines.specs.Breaks.{lines_of};
+ghost use Rattle.profile.specs.Lines.{is_faulty, is_filled, line_has, without_return};
+ghost use Rattle.ical_lines.specs.Breaks.{is_one_line, lines_of};
 ghost use Rattle.ical_lines.specs.Limits.{is_bounded};
 
 use crate::fault::{Fault, Refusal};
 use crate::limits::Limits;
 use crate::line::Line;
-use crate::unfold::unfold;
+use crate::unfold::Text;
 use memchr::memchr;
-use std::alloc::{AllocError, Global};
+use std::alloc::Global;
 use std::marker::Model;
 
 /// The logical lines of some octets, without the empty ones.
+/// It borrows the octets; where something in them is folded it keeps its own copy, unfolded.
 #[derive(Debug, Drop)]
-pub struct Unfolded {
-    text: String,
+pub struct Unfolded<'a> {
+    text: Text<'a>,
 }
 
-impl Model for Unfolded {
-    ghost use Rattle.std.specs.Prelude.{List, ℕ, ◌≡◌};
-    ghost use Rattle.std.specs.String.{string_bytes};
-    ghost use Rattle.profile.specs.Lines.{ended};
+impl<'a> Model for Unfolded<'a> {
+    ghost use Rattle.std.specs.Prelude.{List, ℕ};
     ghost use Rattle.ical_lines.specs.Breaks.{lines_of};
+    ghost use Rattle.ical_lines.specs.Text.{text_octets};
 
     ghost Value = { List (List ℕ) };
 
-    ghost view = { λ u. lines_of (string_bytes u.text) };
-
-    ghost invariant = { λ u. string_bytes u.text ≡ ended (lines_of (string_bytes u.text)) };
+    ghost view = { λ u. lines_of (text_octets u.text) };
 }
 
-impl Unfolded {
-    ghost use Rattle.std.specs.Prelude.{◌≡◌, ◌++◌, [], ◌∷◌, true, IfOk, OnOk, OnErr, IfErr};
+impl<'a> Unfolded<'a> {
+    ghost use Rattle.std.specs.Prelude.{◌≡◌, true, IfOk, OnOk, IfErr};
     ghost use Rattle.profile.specs.Faults.{is_line_fault};
     ghost use Rattle.profile.specs.First.{text_fault, is_number};
     ghost use Rattle.profile.specs.Lines.{logical_lines, text_has, reads_as_lines};
     ghost use Rattle.ical_lines.specs.Fault.{RefusesOnly};
     ghost use Rattle.ical_lines.specs.Limits.{is_bounded};
-    ghost use Rattle.ical_lines.specs.Text.{line_text, lines_left};
-
-    /// No lines.
-    pub fn new(alloc: Global) -> Unfolded
-        ensures { result ≡ [] }
-    {
-        Unfolded {
-            text: String::new(alloc),
-        }
-    }
+    ghost use Rattle.ical_lines.specs.Text.{lines_left};
 
     /// Reads octets as content lines. It refuses, in this order: more octets than the limits allow (6),
     /// unfolded octets that aren't UTF-8 (5), and then in text order the first line with a fault
     /// (the least of 1 to 4), or the first past the number of lines that the limits allow (6).
-    pub fn read(alloc: Global, bytes: &[u8], limits: Limits) -> Result<Unfolded, Fault>
+    /// It takes memory only where something is folded.
+    pub fn read(alloc: Global, bytes: &'a [u8], limits: Limits) -> Result<Unfolded<'a>, Fault>
         ensures lines { IfOk result (λ read. read ≡ logical_lines bytes.now) }
         ensures reads { OnOk result (reads_as_lines (is_bounded limits) bytes.now ≡ true) }
         ensures refuses { IfErr result (RefusesOnly is_line_fault) }
@@ -85,20 +74,9 @@ impl Unfolded {
         if limits.exceeds_octets(bytes.len()) {
             return Err(Fault::Refused(Refusal::TOO_LONG));
         }
-        let octets = unfold(alloc, bytes)?;
-        let Ok(text) = String::from_utf8(octets) else {
-            return Err(Fault::Refused(Refusal::NOT_UTF8));
-        };
+        let text = Text::of(alloc, bytes)?;
         check_lines(text.as_str(), limits)?;
         Ok(Unfolded { text })
-    }
-
-    /// Adds a line at the end. Where memory is refused nothing has changed.
-    pub fn push(&mut self, line: Line<'_>) -> Result<(), AllocError>
-        ensures added { OnOk result (self.new ≡ self.old ++ line_text line.entry ∷ []) }
-        ensures unchanged { OnErr result (self.new ≡ self.old) }
-    {
-        push_line(&mut self.text, line.text())
     }
 
     /// The lines, in order. It takes no memory.
@@ -109,16 +87,6 @@ impl Unfolded {
             rest: self.text.as_str(),
         }
     }
-}
-
-/// Appends a line and its LF. Where memory is refused nothing has changed.
-fn push_line(text: &mut String, line: &str) -> Result<(), AllocError>
-    ensures added { OnOk result (string_bytes text.new ≡ string_bytes text.old ++ (line.now ++ 10 ∷ [])) }
-    ensures unchanged { OnErr result (string_bytes text.new ≡ string_bytes text.old) }
-{
-    text.reserve(line.len() + 1)?;
-    text.push_str(line)?;
-    text.push('\n')
 }
 
 /// The first line with a fault, or past the limits' number of lines, is refused.
@@ -175,12 +143,39 @@ impl<'a> Iterator for Lines<'a> {
     ghost remaining = { item_count lines_left };
 
     fn next(&mut self) -> Option<Line<'a>> {
-        let Some(end) = memchr(b'\n', self.rest.as_bytes()) else {
-            return None;
-        };
-        let (line, ended) = self.rest.split_at(end);
-        let (_end, rest) = ended.split_at(1);
-        self.rest = rest;
-        Some(Line::of(line))
+        while !self.rest.is_empty() {
+            let (line, rest) = split_line(self.rest);
+            self.rest = rest;
+            if !line.is_empty() {
+                return Some(Line::of(line));
+            }
+        }
+        None
+    }
+}
+
+/// The first line of a text, which may be empty, and what follows its LF.
+fn split_line(text: &str) -> (&str, &str)
+    ensures lines { lines_of text.now ≡ filter is_filled (result.0.now ∷ []) ++ lines_of result.1.now }
+    ensures one_line { is_one_line result.0.now ≡ true }
+    ensures shorter { 0 < length text.now → length result.1.now < length text.now }
+{
+    match memchr(b'\n', text.as_bytes()) {
+        Some(end) => {
+            let (line, ended) = text.split_at(end);
+            let (_end, rest) = ended.split_at(1);
+            (without_return(line), rest)
+        }
+        None => (without_return(text), ""),
+    }
+}
+
+/// A line without the CR at its end.
+fn without_return(line: &str) -> &str
+    ensures { result.now ≡ without_return line.now }
+{
+    match line.as_bytes() {
+        [rest @ .., b'\r'] => line.split_at(rest.len()).0,
+        _ => line,
     }
 }

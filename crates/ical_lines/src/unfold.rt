@@ -1,32 +1,101 @@
-//! Unfolding (RFC 5545 3.1): octets to logical lines, before UTF-8 is looked at.
+//! Unfolding (RFC 5545 3.1): octets to a text whose lines are the logical lines.
 //! Physical lines end at LF, and one CR before it isn't part of them; the end of the input ends one too.
 //! A physical line that begins with a space or a tab continues the line before it.
-ghost use Rattle.std.specs.Prelude.{◌≡◌, ◌++◌, ◌<◌, ◌≤◌, [], ◌∷◌, length, drop, take, if◌then◌else◌, IfOk, MatchOption};
+ghost use Rattle.std.specs.Prelude.{◌≡◌, ◌++◌, ◌<◌, ◌≤◌, [], ◌∷◌, length, drop, take, filter, true, false, if◌then◌else◌, IfOk, IfErr, MatchOption};
 ghost use Rattle.std.specs.Vec.{vec_len};
-ghost use Rattle.std.specs.List.{slice_split};
+ghost use Rattle.std.specs.List.{slice_split, list_any};
+ghost use Rattle.std.specs.Str.{is_utf8};
 ghost use Rattle.profile.specs.Lines.{
   without_mark,
   without_return,
   physical_lines,
   is_continuation,
+  unfolded,
   logical_lines,
   ended,
   is_filled,
 };
-ghost use Rattle.ical_lines.specs.Unfold.{lines_after, ended_if_filled};
+ghost use Rattle.ical_lines.specs.Fault.{RefusesBy};
+ghost use Rattle.ical_lines.specs.Breaks.{lines_of};
+ghost use Rattle.ical_lines.specs.Unfold.{lines_after, with_breaks, broken_if_filled};
 
+use crate::fault::{Fault, Refusal};
 use memchr::memchr;
 use std::alloc::{AllocError, Global};
 
-/// The logical lines that aren't empty, in order, each ended by one LF.
+/// A text whose lines are the logical lines of some octets.
+#[derive(Debug, Drop)]
+pub enum Text<'a> {
+    /// The octets themselves, where nothing is folded.
+    Lent(&'a str),
+    /// The logical lines, each ended by CRLF.
+    Owned(String),
+}
+
+impl<'a> Text<'a> {
+    ghost use Rattle.ical_lines.specs.Text.{text_octets};
+
+    /// Unfolds octets. It refuses those that aren't UTF-8 once they are unfolded (5).
+    /// It takes memory only where something is folded.
+    pub fn of(alloc: Global, octets: &'a [u8]) -> Result<Text<'a>, Fault>
+        ensures lines { IfOk result (λ text. lines_of (text_octets text) ≡ logical_lines octets.now) }
+        ensures refuses { IfErr result (RefusesBy (λ n. (n ≡ 5) × (is_utf8 (ended (logical_lines octets.now)) ≡ false))) }
+    {
+        let unmarked = without_mark(octets);
+        if is_folded(unmarked) {
+            let Ok(text) = String::from_utf8(unfold(alloc, unmarked)?) else {
+                return Err(Fault::Refused(Refusal::NOT_UTF8));
+            };
+            return Ok(Text::Owned(text));
+        }
+        let Ok(text) = str::from_utf8(unmarked) else {
+            return Err(Fault::Refused(Refusal::NOT_UTF8));
+        };
+        Ok(Text::Lent(text))
+    }
+
+    /// The whole text.
+    pub fn as_str(&self) -> &str
+        ensures { result.now ≡ text_octets self.now }
+    {
+        match self {
+            Text::Lent(text) => text,
+            Text::Owned(text) => text.as_str(),
+        }
+    }
+}
+
+/// Whether a physical line continues the one before it.
+fn is_folded(octets: &[u8]) -> bool
+    ensures { result ≡ list_any is_continuation (drop 1 (physical_lines octets.now)) }
+{
+    let (_first, mut left) = split_line(octets);
+    while let Some(rest) = left {
+        let (line, next) = split_line(rest);
+        if is_continuation(line) {
+            return true;
+        }
+        left = next;
+    }
+    false
+}
+
+/// Whether a space or a tab stands first.
+fn is_continuation(line: &[u8]) -> bool
+    ensures { result ≡ is_continuation line.now }
+{
+    matches!(line, [b' ' | b'\t', ..])
+}
+
+/// The logical lines that aren't empty, in order, each ended by CRLF: a CR that ends a line itself stays so apart.
 /// It fails where memory is refused.
-pub fn unfold(alloc: Global, octets: &[u8]) -> Result<Vec<u8>, AllocError>
-    ensures { IfOk result (λ text. text.items ≡ ended (logical_lines octets.now)) }
+fn unfold(alloc: Global, octets: &[u8]) -> Result<Vec<u8>, AllocError>
+    ensures { IfOk result (λ text. text.items ≡ with_breaks (filter is_filled (unfolded (physical_lines octets.now)))) }
 {
     let mut text = Vec::new(alloc);
     // Where the line that has begun starts.
     let mut begun = 0;
-    let (first, mut left) = split_line(without_mark(octets));
+    let (first, mut left) = split_line(octets);
     text.extend_from_slice(first)?;
     while let Some(rest) = left {
         let (line, next) = split_line(rest);
@@ -43,7 +112,7 @@ fn add_line(text: &mut Vec<u8>, begun: usize, line: &[u8]) -> Result<usize, Allo
     requires { begun ≤ vec_len text.old }
     ensures { IfOk result (λ start. (start ≤ vec_len text.new)
         × (take start text.new.items ≡ (if is_continuation line.now then take begun text.old.items
-        else take begun text.old.items ++ ended_if_filled (drop begun text.old.items)))
+        else take begun text.old.items ++ broken_if_filled (drop begun text.old.items)))
         × (drop start text.new.items ≡ (if is_continuation line.now then drop begun text.old.items ++ drop 1 line.now
         else line.now))) }
 {
@@ -61,13 +130,13 @@ fn add_line(text: &mut Vec<u8>, begun: usize, line: &[u8]) -> Result<usize, Allo
     }
 }
 
-/// Ends the line that has begun with an LF; an empty one is dropped.
+/// Ends the line that has begun with CRLF; an empty one is dropped.
 fn end_line(text: &mut Vec<u8>, begun: usize) -> Result<(), AllocError>
     requires { begun ≤ vec_len text.old }
-    ensures { IfOk result (λ _. text.new.items ≡ take begun text.old.items ++ ended_if_filled (drop begun text.old.items)) }
+    ensures { IfOk result (λ _. text.new.items ≡ take begun text.old.items ++ broken_if_filled (drop begun text.old.items)) }
 {
     if text.len() > begun {
-        text.push(b'\n')?;
+        text.extend_from_slice(b"\r\n")?;
     }
     Ok(())
 }
