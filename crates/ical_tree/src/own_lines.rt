@@ -4,7 +4,7 @@ use ical_lines::{Line, Lines};
 
 /// Lines that follow each other in a text.
 #[derive(Clone, Copy, Debug)]
-pub struct Run<'a> {
+pub(crate) struct Run<'a> {
     /// The lines of the text from the first one of the run on.
     from: Lines<'a>,
     /// How many of them are in the run.

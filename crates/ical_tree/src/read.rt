@@ -54,7 +54,7 @@ const MAX_EVENTS: usize = 200;
 /// VCALENDAR (25).
 pub fn read_object<'a>(
     alloc: Global,
-    text: &'a Unfolded,
+    text: &'a Unfolded<'_>,
     limits: Limits,
 ) -> Result<Component<'a>, Fault>
     ensures spelled { IfOk result (λ c. IsObjectOf (is_bounded limits) c text.now) }
