@@ -1,14 +1,14 @@
 //! What is answered about an object as a calendar.
 
-use crate::answers::append;
 use crate::certificates::verdict_text;
-use crate::no_answer::NoAnswer;
-use crate::spelled::octets_of;
 use cal_events::{
     Calendar, EventComponent, ParticipationStatus, Purpose, SaidTimes, ZonedTime,
     refuse_nominal_length,
 };
 use clash_check::check;
+use example_cases::NoAnswer;
+use example_cases::answers::append;
+use example_cases::spelled::octets_of;
 use ical_lines::{Limits, Unfolded};
 use ical_tree::{Component, read_object};
 use ical_values::Address;

@@ -1,16 +1,15 @@
 //! Cases of calendars that are made from events: `events | EVENT, EVENT ..`, where an EVENT is `UID START END`, or `UID START END
 //! declined` for one that holds no room. All are ann's.
 
-use crate::addresses::ANN;
-use crate::answers::{Answers, append, none, yes_or_no};
-use crate::case::Case;
 use crate::certificates::verdict_text;
-use crate::no_answer::NoAnswer;
-use crate::spelled::{escaped, octets_of};
-use crate::words::{first_word, number};
+use crate::names::ANN;
 use cal_events::{Booking, Calendar, Entry};
 use clash_cert::{Clash, Made, OwnedKey, make};
 use clash_check::{check_clash, judge_read};
+use example_cases::answers::{Answers, append, none, yes_or_no};
+use example_cases::spelled::{escaped, octets_of};
+use example_cases::words::{first_word, number};
+use example_cases::{Case, NoAnswer};
 use ical_values::{Address, Text};
 use std::alloc::Global;
 

@@ -1,11 +1,10 @@
 //! Cases of the texts of certificates: `certificate | TEXT` reads one, `certificate-of | COUNT` writes one, behind an octet that stands
 //! there already.
 
-use crate::case::Case;
-use crate::no_answer::NoAnswer;
-use crate::spelled::{escaped, octets_of};
 use clash_cert::{CertFault, Certificate};
 use clash_check::{Checked, Verdict};
+use example_cases::spelled::{escaped, octets_of};
+use example_cases::{Case, NoAnswer};
 use std::alloc::Global;
 
 /// What a text says as a certificate, or its first wrong line.

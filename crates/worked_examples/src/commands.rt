@@ -1,9 +1,9 @@
 //! Cases of the commands: `name | command | input | certificate | output | errors | status`. The middle columns are names of files, put one
 //! behind another. A command runs on them with a reader and writers in memory.
 
-use crate::addresses::ROOM;
-use crate::case::Case;
 use crate::files::read_all;
+use crate::names::ROOM;
+use example_cases::Case;
 use ical_values::Address;
 use sched_cli::commands::{Kept, run_check, run_keep, run_serve};
 use sched_cli::run_expand;

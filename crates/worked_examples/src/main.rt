@@ -1,71 +1,47 @@
-//! Worked examples, one subject after another. Each line of a subject's table names a call and gives its input; the case's name and what
-//! the call answers are printed. `rt ci` compares that with the file `stdout`, whose lines come from the RFCs, by hand or from another
-//! program.
-//!
-//! With the argument `seeks` the cases of rules are read from standard input instead, to be timed (`make bench`).
+//! Worked examples of messages, calendars, certificates, the order of parts, streams and commands, in two tables. Each line of a table
+//! names a call and gives its input, often as names of files. What is printed of each case is compared by `rt ci` with the file `stdout`,
+//! whose lines come from the RFCs, by hand or from another program.
 #![tactic(auto)]
 
-mod addresses;
-mod answers;
 mod calendar_files;
 mod calendars;
-mod case;
 mod certificates;
 mod commands;
-mod days;
 mod files;
-mod known_zones;
-mod lines;
 mod message_files;
 mod messages;
-mod no_answer;
+mod names;
 mod objects;
 mod parts;
-mod rules;
-mod spelled;
 mod streams;
-mod subject;
-mod trees;
-mod values;
-mod words;
 mod written;
-mod zones;
 
-use case::Case;
-use std::env::{self, Env};
-use std::fs;
-use std::io::{self, Read};
+use example_cases::Case;
+use example_cases::answers::print_answer;
 use std::rt::Files;
-use subject::Subject;
+use std::{fs, io};
 
 fn main(rt: HostRuntime) -> io::Result<()> {
-    if is_asked_for_seeks(&rt)? {
-        let mut table = String::new(rt.alloc());
-        rt.stdin().read_to_string(&mut table)?;
-        return print_cases(&rt, Subject::Rules, table.as_str());
-    }
-    for subject in Subject::ALL {
-        let table = fs::read_to_string(&rt, subject.file())?;
-        print_cases(&rt, subject, table.as_str())?;
+    print_messages(&rt)?;
+    print_commands(&rt)
+}
+
+fn print_messages<R: Files + Print + AllocGlobal>(rt: &R) -> io::Result<()> {
+    let table = fs::read_to_string(rt, "messages.txt")?;
+    for line in table.lines() {
+        if let Some(case) = Case::of(line) {
+            print_answer(rt, case, messages::answer(rt, case))?;
+        }
     }
     Ok(())
 }
 
-fn is_asked_for_seeks<R: Env + AllocGlobal>(rt: &R) -> io::Result<bool> {
-    match env::args(rt)?.nth(1) {
-        Some(word) => Ok(word.as_str() == "seeks"),
-        None => Ok(false),
-    }
-}
-
-fn print_cases<R: Files + Print + AllocGlobal>(
-    rt: &R,
-    subject: Subject,
-    table: &str,
-) -> io::Result<()> {
+/// A case of a command has what must come out beside it, and says itself how it went.
+fn print_commands<R: Files + Print + AllocGlobal>(rt: &R) -> io::Result<()> {
+    let table = fs::read_to_string(rt, "commands.txt")?;
     for line in table.lines() {
         if let Some(case) = Case::of(line) {
-            subject.print(rt, case)?;
+            commands::print(rt, case)?;
         }
     }
     Ok(())

@@ -1,8 +1,8 @@
 //! What is answered about an object as a message.
 
-use crate::answers::{append, yes_or_no};
-use crate::no_answer::NoAnswer;
 use crate::parts::{body_text, slot_text};
+use example_cases::NoAnswer;
+use example_cases::answers::{append, yes_or_no};
 use ical_lines::{Limits, Unfolded};
 use ical_tree::read_object;
 use ical_values::Address;

@@ -1,9 +1,8 @@
 //! Cases of messages, calendars and certificates, of parts and of streams.
 
-use crate::case::Case;
 use crate::files::read_all;
-use crate::no_answer::NoAnswer;
 use crate::{calendars, certificates, objects, parts, streams, written};
+use example_cases::{Case, NoAnswer};
 use std::rt::Files;
 
 pub fn answer<R: Files + AllocGlobal>(rt: &R, case: Case<'_>) -> Result<String, NoAnswer> {

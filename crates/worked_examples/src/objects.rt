@@ -12,13 +12,12 @@
 //!     parts ROOM              the parts for a room
 //!     addressed ROOM          whether the message names the room
 
-use crate::answers::Answers;
 use crate::calendar_files::{answered, checked, counted, ends, kept, nominal, times};
-use crate::case::Case;
 use crate::message_files::{addressed, components, message, parts};
-use crate::no_answer::NoAnswer;
-use crate::spelled::octets_of;
-use crate::words::first_word;
+use example_cases::answers::Answers;
+use example_cases::spelled::octets_of;
+use example_cases::words::first_word;
+use example_cases::{Case, NoAnswer};
 use ical_values::Address;
 use std::alloc::Global;
 

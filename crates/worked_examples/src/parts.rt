@@ -6,11 +6,11 @@
 //!
 //! A PART is `UID SLOT SEQUENCE DTSTAMP BODY`: its SLOT `whole` or an instant, its BODY `absent`, `cancelled` or `set TEXT`.
 
-use crate::answers::{Answers, append};
-use crate::case::Case;
-use crate::no_answer::NoAnswer;
-use crate::spelled::{escaped, octets_of, uid_of};
-use crate::words::{first_word, number};
+use crate::names::uid_of;
+use example_cases::answers::{Answers, append};
+use example_cases::spelled::{escaped, octets_of};
+use example_cases::words::{first_word, number};
+use example_cases::{Case, NoAnswer};
 use ical_values::shown::stamp_text;
 use ical_values::{Address, Sequence, Stamp};
 use itip_order::{Body, Freshness, Held, Part, Revision, Slot};

@@ -1,12 +1,11 @@
 //! Cases of whole streams: `keep | FILES` has a room take the objects of files one behind another, and `long | COUNT` serves a stream
 //! whose first object has so many octets.
 
-use crate::addresses::ROOM;
-use crate::case::Case;
-use crate::no_answer::NoAnswer;
-use crate::spelled::escaped;
+use crate::names::ROOM;
+use example_cases::spelled::escaped;
+use example_cases::{Case, NoAnswer};
 use ical_values::{Address, Stamp};
-use sched_box::{Config, keep, serve_stream};
+use sched_box::{Config, ServeFault, StreamFault, keep, serve_stream};
 use std::alloc::{AllocError, Global};
 
 /// The calendar and the certificate that the room keeps.
@@ -15,7 +14,7 @@ pub fn keep_answer(alloc: Global, octets: &[u8]) -> Result<String, NoAnswer> {
     let room = Address::read(alloc, ROOM)?;
     let now = Stamp::read("20250102T000000Z")?;
     let mut reader = octets;
-    let (calendar, certificate) = keep(alloc, &config, &mut reader, now, &room)?;
+    let (calendar, certificate) = keep(alloc, &config, &mut reader, now, &room).map_err(no_answer)?;
     let calendar = escaped(alloc, calendar.as_slice())?;
     let certificate = escaped(alloc, certificate.as_slice())?;
     Ok(format!(in alloc; "{calendar} | {certificate}")?)
@@ -39,7 +38,7 @@ pub fn long_answer(alloc: Global, case: Case<'_>) -> Result<String, NoAnswer> {
     )?;
     let mut reader = stream.as_slice();
     let mut written = Vec::new(alloc);
-    let report = serve_stream(alloc, &mut reader, &mut written)?;
+    let report = serve_stream(alloc, &mut reader, &mut written).map_err(no_answer)?;
     let text = escaped(alloc, written.as_slice())?;
     let length = object.len();
     Ok(format!(in alloc;
@@ -57,4 +56,13 @@ fn long_object(alloc: Global, octets: usize) -> Result<Vec<u8>, AllocError> {
     }
     object.extend_from_slice(end)?;
     Ok(object)
+}
+
+/// Why a stream that isn't served to its end has no answer.
+fn no_answer(fault: StreamFault) -> NoAnswer {
+    match fault {
+        StreamFault::Refused(refusal) => NoAnswer::Refused(refusal),
+        StreamFault::Serve(ServeFault::Memory) => NoAnswer::Memory,
+        StreamFault::Serve(_) => NoAnswer::Unreadable,
+    }
 }

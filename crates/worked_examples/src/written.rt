@@ -1,11 +1,10 @@
 //! Replies and objects that are written.
 
-use crate::addresses::{ANN, ROOM};
-use crate::case::Case;
-use crate::no_answer::NoAnswer;
-use crate::spelled::{escaped, uid_of};
-use crate::words::{first_word, number};
+use crate::names::{ANN, ROOM, uid_of};
 use cal_events::InstanceKey;
+use example_cases::spelled::escaped;
+use example_cases::words::{first_word, number};
+use example_cases::{Case, NoAnswer};
 use ical_values::{Address, Sequence, Stamp};
 use itip_messages::{Conflict, Decision, ObjectWriter, ReplyEvent, write_reply};
 use std::alloc::Global;

@@ -8,7 +8,6 @@
 use crate::no_answer::NoAnswer;
 use crate::words::count;
 use ical_lines::Refusal;
-use ical_values::Text;
 use std::alloc::{AllocError, Global};
 
 /// The most octets that `shown` shows. Of more it says how many they are.
@@ -47,12 +46,6 @@ pub fn text_of(alloc: Global, column: &str) -> Result<String, NoAnswer> {
         Ok(text) => Ok(text),
         Err(_) => Err(NoAnswer::Refused(Refusal::NOT_UTF8)),
     }
-}
-
-/// The UID that a word spells.
-pub fn uid_of(alloc: Global, word: &str) -> Result<Text, NoAnswer> {
-    let text = text_of(alloc, word)?;
-    Ok(Text::read_uid(alloc, text.as_str())?)
 }
 
 /// Adds what `N TEXT}` and the text after it spell.

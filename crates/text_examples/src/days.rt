@@ -1,10 +1,9 @@
 //! Cases of days. A day is written as its number from 1970-01-01, a date as its year, month and day.
 
-use crate::answers::none;
-use crate::case::Case;
-use crate::no_answer::NoAnswer;
-use crate::words::{first_word, number, small};
 use cal_days::{Civil, Day, Frequency, PeriodIndex};
+use example_cases::answers::none;
+use example_cases::words::{first_word, number, small};
+use example_cases::{Case, NoAnswer};
 use std::alloc::Global;
 
 pub fn answer(alloc: Global, case: Case<'_>) -> Result<String, NoAnswer> {

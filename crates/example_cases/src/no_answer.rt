@@ -1,7 +1,6 @@
 //! Why a case has no answer.
 
 use ical_lines::{Fault, Refusal};
-use sched_box::StreamFault;
 use std::alloc::{AllocError, AllocFailed};
 use std::io;
 use thiserror::Error;
@@ -11,8 +10,6 @@ use thiserror::Error;
 pub enum NoAnswer {
     #[error(transparent)]
     Refused(Refusal),
-    #[error(transparent)]
-    Stream(StreamFault),
     /// The line of the table doesn't read, or a file that it names.
     #[error("unreadable case")]
     Unreadable,
@@ -32,12 +29,6 @@ impl From<Fault> for NoAnswer {
             Fault::Refused(refusal) => NoAnswer::Refused(refusal),
             Fault::Memory => NoAnswer::Memory,
         }
-    }
-}
-
-impl From<StreamFault> for NoAnswer {
-    fn from(fault: StreamFault) -> NoAnswer {
-        NoAnswer::Stream(fault)
     }
 }
 

@@ -1,10 +1,9 @@
 //! Cases of values: what is read, and what is written of it.
 
-use crate::answers::{equality, none, yes_or_no};
-use crate::case::Case;
-use crate::no_answer::NoAnswer;
-use crate::spelled::{shown, text_of};
-use crate::words::{count, number};
+use example_cases::answers::{equality, none, yes_or_no};
+use example_cases::spelled::{shown, text_of};
+use example_cases::words::{count, number};
+use example_cases::{Case, NoAnswer};
 use ical_values::{
     Address, Duration, LocalTime, Sequence, Stamp, Text, UtcOffset, shown as texts, stamp,
 };

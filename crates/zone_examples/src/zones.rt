@@ -10,12 +10,11 @@
 //! A PART is `START FROM TO` or `START FROM TO YEARLY`, and a YEARLY is `MONTH day DAY`, `MONTH start NUMBER WEEKDAY`,
 //! `MONTH end NUMBER WEEKDAY` or `MONTH week FIRST WEEKDAY`, as in `MonthDays`.
 
-use crate::answers::{Answers, none};
-use crate::case::Case;
-use crate::no_answer::NoAnswer;
-use crate::spelled::{escaped, octets_of};
-use crate::words::{count, first_word, number, small};
 use cal_zones::{MonthDays, Observance, Yearly, Zone};
+use example_cases::answers::{Answers, none};
+use example_cases::spelled::{escaped, octets_of};
+use example_cases::words::{count, first_word, number, small};
+use example_cases::{Case, NoAnswer};
 use ical_lines::{Limits, Unfolded};
 use ical_tree::read_object;
 use ical_values::{LocalTime, UtcOffset};

@@ -1,10 +1,9 @@
 //! Cases of trees: an object is read, and each question after it is answered.
 
-use crate::answers::{Answers, none, yes_or_no};
-use crate::case::Case;
 use crate::lines::push_line;
-use crate::no_answer::NoAnswer;
-use crate::spelled::{octets_of, shown};
+use example_cases::answers::{Answers, none, yes_or_no};
+use example_cases::spelled::{octets_of, shown};
+use example_cases::{Case, NoAnswer};
 use ical_lines::{Limits, Unfolded};
 use ical_tree::{Component, read_object, write_object};
 use std::alloc::{AllocError, Global};

@@ -1,9 +1,8 @@
 //! Cases of content lines. `read` answers each question after the input, of all lines or of the first one.
 
-use crate::answers::{Answers, none, yes_or_no};
-use crate::case::Case;
-use crate::no_answer::NoAnswer;
-use crate::spelled::{octets_of, shown, text_of};
+use example_cases::answers::{Answers, none, yes_or_no};
+use example_cases::spelled::{octets_of, shown, text_of};
+use example_cases::{Case, NoAnswer};
 use ical_lines::{Cutter, Limits, Line, Lines, Unfolded, cut, write_line, write_property};
 use std::alloc::{AllocError, Global};
 
@@ -32,13 +31,13 @@ fn read(alloc: Global, case: Case<'_>, limits: Limits) -> Result<String, NoAnswe
     Ok(answers.finish())
 }
 
-fn answer_of(alloc: Global, read: &Unfolded, question: &str) -> Result<String, AllocError> {
+fn answer_of(alloc: Global, read: &Unfolded, question: &str) -> Result<String, NoAnswer> {
     match question {
-        "lines" => all(alloc, read.lines()),
+        "lines" => Ok(all(alloc, read.lines())?),
         "lines of a copy" => all_of_copy(alloc, read.lines()),
         _ => match read.lines().next() {
-            Some(line) => answer_of_line(alloc, line, question),
-            None => none(alloc),
+            Some(line) => Ok(answer_of_line(alloc, line, question)?),
+            None => Ok(none(alloc)?),
         },
     }
 }
@@ -54,13 +53,14 @@ fn answer_of_line(alloc: Global, line: Line<'_>, question: &str) -> Result<Strin
     }
 }
 
-/// The lines after they were pushed one by one.
-fn all_of_copy(alloc: Global, lines: Lines<'_>) -> Result<String, AllocError> {
-    let mut copy = Unfolded::new(alloc);
+/// The lines that read from what is written of these, one by one.
+fn all_of_copy(alloc: Global, lines: Lines<'_>) -> Result<String, NoAnswer> {
+    let mut octets = Vec::new(alloc);
     for line in lines {
-        copy.push(line)?;
+        write_line(&mut octets, line.text())?;
     }
-    all(alloc, copy.lines())
+    let copy = Unfolded::read(alloc, octets.as_slice(), Limits::Open)?;
+    Ok(all(alloc, copy.lines())?)
 }
 
 /// How many lines there are, and each line's parts.

@@ -1,11 +1,10 @@
 //! Zones against another program: what Python's zoneinfo says of the current rules of fifteen zones, as `tests/zone_table.py` writes it
 //! down. The case NAME compares the zone of `NAME.ics` with the rows of `NAME.txt`.
 
-use crate::case::Case;
-use crate::no_answer::NoAnswer;
-use crate::words::{first_word, number};
 use crate::zones::zone_of_object;
 use cal_zones::Zone;
+use example_cases::words::{first_word, number};
+use example_cases::{Case, NoAnswer};
 use ical_values::LocalTime;
 use std::rt::Files;
 use std::{fs, io};

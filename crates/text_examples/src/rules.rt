@@ -1,11 +1,10 @@
 //! Cases of rules. A rule is followed by the days of its start and its end, which are eight digits each.
 
-use crate::answers::yes_or_no;
-use crate::case::Case;
-use crate::no_answer::NoAnswer;
-use crate::words::count;
 use cal_days::{Civil, Day};
 use cal_rules::{Rule, RuleText};
+use example_cases::answers::yes_or_no;
+use example_cases::words::count;
+use example_cases::{Case, NoAnswer};
 use ical_lines::Refusal;
 use std::alloc::{AllocError, Global};
 

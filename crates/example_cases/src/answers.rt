@@ -1,6 +1,21 @@
 //! The answers of a case, and the words that several of them take.
 
+use crate::case::Case;
+use crate::no_answer::NoAnswer;
 use std::alloc::{AllocError, Global};
+use std::io;
+
+/// Prints a case's name, and its answer or why it has none.
+pub fn print_answer<R: Print>(
+    rt: &R,
+    case: Case<'_>,
+    answer: Result<String, NoAnswer>,
+) -> io::Result<()> {
+    match answer {
+        Ok(answer) => println!(rt; "{}: {answer}", case.name()),
+        Err(no_answer) => println!(rt; "{}: {no_answer}", case.name()),
+    }
+}
 
 /// What is printed of a case: its answers, with ` | ` between them.
 #[derive(Debug, Drop)]
