@@ -30,14 +30,14 @@ test:
 attack:
 	@RT=$(RT) python3 bench/attack.py $(CRATE) $(if $(SINCE),--since $(SINCE))
 
-# The worked examples, of which bench takes the jumps in the days of rules.
-bin/worked_examples: bin/roombox FORCE
-	@cd crates/worked_examples && $(RT) run -- seeks < /dev/null 2> ../../out/build.log || { cat ../../out/build.log; exit 1; }
-	@cp crates/worked_examples/out/worked_examples bin/worked_examples
+# The worked examples of texts, of which bench takes the jumps in the days of rules.
+bin/text_examples: bin/roombox FORCE
+	@cd crates/text_examples && $(RT) run -- seeks < /dev/null 2> ../../out/build.log || { cat ../../out/build.log; exit 1; }
+	@cp crates/text_examples/out/text_examples bin/text_examples
 
 # One table: serving, reading, rules and checking, with sizes, times, peak memory and growth. It takes about half a minute.
-bench: bin/roombox bin/worked_examples
-	python3 bench/bench.py bin/roombox bin/worked_examples
+bench: bin/roombox bin/text_examples
+	python3 bench/bench.py bin/roombox bin/text_examples
 
 clean:
 	rm -rf bin out crates/*/out

@@ -100,7 +100,7 @@ def main():
     total = [sum(column) for column in zip(*table.values())]
     print((ROOT / "bench" / "gate_head.md").read_text(encoding="utf-8"))
     print("## What it costs\n")
-    own = sum(counts[0] for name, counts in table.items() if not re.search(r"_(examples|tests)$", name))
+    own = sum(counts[0] for name, counts in table.items() if not re.search(r"_(examples|tests)$|^example_", name))
     print(*costs(given, total[0], own), sep="\n")
     print("\n## What it proves\n")
     print("Code, definitions, specs and proofs are lines that aren't blank; code is without its tests. The crate `profile` holds the")
