@@ -2,7 +2,7 @@
 growth of the time from a tenth of the size. The peak counts the moment before the program begins too, so it is never less than
 this script's own, about 15 MiB.
 
-    python3 bench/bench.py bin/roombox bin/worked_examples
+    python3 bench/bench.py bin/roombox bin/text_examples
 """
 
 import os
@@ -72,6 +72,14 @@ SEEKS = (
 )
 NEAR, FAR = "19710101", "90000101"
 TIMES = 100_000
+# Values of each list of a rule. A list of any length goes round in them, so that its days are the same.
+LISTS = (
+    ("BYMONTH", range(1, 13)),
+    ("BYMONTHDAY", range(1, 32)),
+    ("BYDAY", ("MO", "TU", "WE", "TH", "FR", "SA", "SU")),
+    ("BYSETPOS", range(1, 37)),
+)
+LISTED = 9_500
 
 
 def stamp(number):
@@ -104,6 +112,35 @@ def large_objects(count):
         yield crlf(REQUEST.format(number=number, room=ROOM.format(0), start=stamp(number), extra=folded))
 
 
+def attendees(count):
+    """A request to 64 rooms which others stand before, so many lines in all. Four digits fit the octets of an object."""
+    lines = [f"ATTENDEE:m:{number:04x}\n" for number in range(count - 64)]
+    lines += [f"ATTENDEE:{ROOM.format(room)}\n" for room in range(63)]
+    yield preamble(64)
+    yield crlf(REQUEST.format(number=0, room=ROOM.format(63), start=stamp(0), extra="".join(lines)))
+
+
+def folds(count):
+    """A request with a line that is folded at each of so many octets."""
+    line = "DESCRIPTION:" + "x\n " * count + "\n"
+    yield preamble(1)
+    yield crlf(REQUEST.format(number=0, room=ROOM.format(0), start=stamp(0), extra=line))
+
+
+def parameters(count):
+    """A calendar of one event, so many parameters before the one of its room that is looked for."""
+    yield next(calendar(0))
+    event = EVENT.replace("ATTENDEE", "ATTENDEE" + ";A=1" * (count - 1))
+    yield crlf(event.format(number=0, room=ROOM.format(0), start=stamp(0)))
+    yield crlf("END:VCALENDAR\n")
+
+
+def rule_of_lists(count):
+    """A rule of so many entries in each list. The days are always the first 36 of the year."""
+    parts = [f"{name}=" + ",".join(str(values[place % len(values)]) for place in range(count)) for name, values in LISTS]
+    return ";".join(["FREQ=YEARLY", *parts])
+
+
 def calendar(count):
     yield crlf("BEGIN:VCALENDAR\nVERSION:2.0\nPRODID:-//bench//EN\n")
     for number in range(count):
@@ -133,11 +170,12 @@ def serve(program, pieces, accepted):
     return seconds, peak, size
 
 
-def check(program, count):
+def check(program, pieces, count):
+    """The checker's yes to a calendar of so many singles."""
     with tempfile.TemporaryDirectory() as folder:
         kept, certificate = os.path.join(folder, "kept.ics"), os.path.join(folder, "kept.cert")
         with open(kept, "wb") as file:
-            size = sum(file.write(piece) for piece in calendar(count))
+            size = sum(file.write(piece) for piece in pieces)
         with open(certificate, "w", encoding="ascii") as file:
             file.write(f"ROOMCERT 1\nSINGLES {count}\nSERIES 0\nDONE\n")
         seconds, peak, status, output = run([program, "check", kept, certificate, ROOM.format(0)], None)
@@ -147,14 +185,14 @@ def check(program, count):
 
 
 def expand(program, start, rule, count):
-    """The first instances of a series."""
+    """The first instances of a series, each a line of its own."""
     with tempfile.TemporaryFile() as stream:
         stream.write(crlf(SERIES.format(start=start, rule=rule)))
         stream.seek(0)
         seconds, peak, status, output = run([program, "expand", "--limit", str(count)], stream)
-    lines = output.count(b"\n")
-    if status != 0 or lines != count:
-        sys.exit(f"expand: status {status}, {lines} lines of {count}")
+    lines = output.splitlines()
+    if status != 0 or len(set(lines)) != count or lines[0] != f"{start} {start} 3600".encode():
+        sys.exit(f"expand: status {status}, {len(lines)} lines of {count}, {lines[:1]}")
     return seconds, peak
 
 
@@ -197,33 +235,36 @@ def line(work, count, seconds, rate, peak, growth=""):
     print(f"{work:<38}{count:>9}{seconds:>9.2f}{rate:>16}{peak / 2**20:>10.1f}{growth:>8}")
 
 
+def grown(work, sizes, measure, rate):
+    """A line for each size. From the second on it has the growth of the time since the one before."""
+    before = None
+    for size in sizes:
+        seconds, peak, *octets = measure(size)
+        done = f"{octets[0] / seconds / 1e6:.0f} MB/s" if rate == "octets" else f"{int((rate or size) / seconds)}/s"
+        line(work, size, seconds, done, peak, f"{seconds / before:.1f}" if before else "")
+        before = seconds
+
+
+def hostile(program):
+    """Objects and rules of a form that no one sends in earnest, as large as the limits let them be."""
+    grown("attendees of an object to 64 rooms", (6_000, 60_000), lambda count: serve(program, attendees(count), 64), "octets")
+    grown("octets of a line folded at each", (26_000, 260_000), lambda count: serve(program, folds(count), 1), "octets")
+    grown("parameters of one line", (6_500, 65_000), lambda count: check(program, parameters(count), 1), "octets")
+    listed = lambda count: expand(program, "19700101T090000Z", rule_of_lists(count), LISTED)
+    grown(f"entries in each list, {LISTED:,} days", (36, 366), listed, LISTED)
+
+
 def main():
     program = sys.argv[1]
     print(f"{'work':<38}{'objects':>9}{'seconds':>9}{'rate':>16}{'peak MiB':>10}{'growth':>8}")
-    before = None
-    for count in (1_000, 10_000):
-        seconds, peak, _ = serve(program, requests(count), count)
-        growth = f"{seconds / before:.1f}" if before else ""
-        line("requests for one room", count, seconds, f"{int(count / seconds)}/s", peak, growth)
-        before = seconds
+    grown("requests for one room", (1_000, 10_000), lambda count: serve(program, requests(count), count), None)
     for rooms in (16, 32):
-        seconds, peak, _ = serve(program, requests(10_000, rooms), 10_000)
-        line(f"the same requests over {rooms} rooms", 10_000, seconds, f"{int(10_000 / seconds)}/s", peak)
-    seconds, peak, size = serve(program, large_objects(20), 20)
-    line("objects of 1 MB with folded lines", 20, seconds, f"{size / seconds / 1e6:.0f} MB/s", peak)
-    before = None
-    for count in (100_000, 1_000_000):
-        seconds, peak, size = check(program, count)
-        growth = f"{seconds / before:.1f}" if before else ""
-        line("singles checked", count, seconds, f"{size / seconds / 1e6:.0f} MB/s", peak, growth)
-        before = seconds
+        grown(f"the same requests over {rooms} rooms", (10_000,), lambda count: serve(program, requests(count, rooms), count), None)
+    grown("objects of 1 MB with folded lines", (20,), lambda count: serve(program, large_objects(count), count), "octets")
+    grown("singles checked", (100_000, 1_000_000), lambda count: check(program, calendar(count), count), "octets")
     for work, start, rule in RULES:
-        before = None
-        for count in (9_500, 95_000):
-            seconds, peak = expand(program, start, rule, count)
-            growth = f"{seconds / before:.1f}" if before else ""
-            line(work, count, seconds, f"{int(count / seconds)}/s", peak, growth)
-            before = seconds
+        grown(work, (9_500, 95_000), lambda count: expand(program, start, rule, count), None)
+    hostile(program)
     seeks(sys.argv[2])
     empty = b"BEGIN:VCALENDAR\r\nVERSION:2.0\r\nEND:VCALENDAR\r\n"
     odd = (
