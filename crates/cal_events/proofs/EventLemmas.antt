@@ -165,6 +165,9 @@ pub in_rest : (done rest all : List (List ℕ)) (line : List ℕ) → all ≡ do
 in_rest done rest all line e = subst (λ ls. Contains ls line) (sym e) (Contains-append_right done (line ∷ rest) line (zero, omega arith, refl))
 
 -- a line that the loop over all lines comes to
+pub one_other : (name : List ℕ) (line : List ℕ) (left : List (List ℕ)) → is_of name line ≡ false → lines_named name (line ∷ left) ≡ lines_named name left
+one_other name line left h = ap (λ b. cond b (line ∷ lines_named name left) (lines_named name left)) h
+
 named_next : (name : List ℕ) (all left rest done : List (List ℕ)) (line : List ℕ) → lines_named name all ≡ done ++ lines_named name left → left ≡ line ∷ rest → is_of name line ≡ true
     → lines_named name all ≡ done ++ line ∷ lines_named name rest
 named_next name all left rest done line e s h =

@@ -4,7 +4,6 @@ ghost use Rattle.std.specs.Prelude.{ℕ, List, ◌≡◌, ◌⊎◌, ◌↔◌, 
 ghost use Rattle.std.specs.List.{AllZip};
 ghost use Rattle.ical_lines.specs.Fault.{RefusesOnly, RefusesBy};
 ghost use Rattle.ical_lines.specs.Text.{line_text};
-ghost use Rattle.ical_tree.specs.Tree.{component_lines};
 ghost use Rattle.ical_values.specs.Octets.{address_octets, text_octets};
 ghost use Rattle.profile.specs.Faults.{is_event_fault};
 ghost use Rattle.profile.specs.Values.{SpellsStamp};
@@ -14,7 +13,7 @@ ghost use Rattle.cal_events.specs.Zoned.{SaysHeading, SayAttendees};
 
 use crate::properties::{optional, required};
 use ical_lines::{Fault, Line, Refusal};
-use ical_tree::Component;
+use ical_tree::Properties;
 use ical_values::duration::one_duration;
 use ical_values::sequence::one_sequence;
 use ical_values::stamp::{ends_in_z, one_stamp};
@@ -90,27 +89,27 @@ pub struct EventComponent {
 }
 
 impl EventComponent {
-    /// Reads a VEVENT.
+    /// Reads the properties of a VEVENT.
     /// Refused: 10 to 12 and 14 to 16 for a value, 50 to 52 for times that don't go together or lie outside
     /// 1970 to 9999, 55 for a date or a floating time, 56 for a period, 61 and 63 for a property that is
     /// missing, stands twice or excludes another.
     pub fn read(
         alloc: Global,
-        component: &Component,
+        properties: &Properties<'_>,
         purpose: Purpose,
     ) -> Result<EventComponent, Fault>
-        ensures says { IfOk result (λ event. SaysEvent (is_message purpose) (component_lines component.now) (event_of event)) }
+        ensures says { IfOk result (λ event. SaysEvent (is_message purpose) properties.now (event_of event)) }
         ensures refuses { IfErr result (RefusesOnly is_event_fault) }
-        ensures stands { IfErr result (RefusesBy (EventFault (is_message purpose) (component_lines component.now))) }
+        ensures stands { IfErr result (RefusesBy (EventFault (is_message purpose) properties.now)) }
     {
-        let uid = read_uid(alloc, component)?;
-        let organiser = read_organiser(alloc, component, purpose)?;
-        let stamp = read_stamp(component, purpose)?;
-        let sequence = read_sequence(component)?;
-        let _status = optional(component, "STATUS")?;
-        let start = read_start(component)?;
-        let extent = read_extent(component, start)?;
-        let attendees = read_attendees(alloc, component)?;
+        let uid = read_uid(alloc, properties)?;
+        let organiser = read_organiser(alloc, properties, purpose)?;
+        let stamp = read_stamp(properties, purpose)?;
+        let sequence = read_sequence(properties)?;
+        let _status = optional(properties, "STATUS")?;
+        let start = read_start(properties)?;
+        let extent = read_extent(properties, start)?;
+        let attendees = read_attendees(alloc, properties)?;
         let length = judge_times(start, extent)?;
         Ok(EventComponent {
             uid,
@@ -127,29 +126,29 @@ impl EventComponent {
     /// Refused: 10 and 14 to 16 for a value, 61 and 63 for a property that is missing or stands twice.
     pub fn judge_heading(
         alloc: Global,
-        component: &Component,
+        properties: &Properties<'_>,
         purpose: Purpose,
     ) -> Result<(), Fault>
-        ensures judged { OnOk result (SaysHeading (is_message purpose) (component_lines component.now)) }
+        ensures judged { OnOk result (SaysHeading (is_message purpose) properties.now) }
         ensures refuses { IfErr result (RefusesOnly is_event_fault) }
-        ensures stands { IfErr result (RefusesBy (EventFault (is_message purpose) (component_lines component.now))) }
+        ensures stands { IfErr result (RefusesBy (EventFault (is_message purpose) properties.now)) }
     {
-        read_uid(alloc, component)?;
-        read_organiser(alloc, component, purpose)?;
-        read_stamp(component, purpose)?;
-        read_sequence(component)?;
-        optional(component, "STATUS")?;
+        read_uid(alloc, properties)?;
+        read_organiser(alloc, properties, purpose)?;
+        read_stamp(properties, purpose)?;
+        read_sequence(properties)?;
+        optional(properties, "STATUS")?;
         Ok(())
     }
 
     /// Judges the ATTENDEE lines of a VEVENT.
     /// Refused: 15 for an address that is none.
-    pub fn judge_attendees(alloc: Global, component: &Component) -> Result<(), Fault>
-        ensures judged { OnOk result (SayAttendees (component_lines component.now)) }
+    pub fn judge_attendees(alloc: Global, properties: &Properties<'_>) -> Result<(), Fault>
+        ensures judged { OnOk result (SayAttendees properties.now) }
         ensures refuses { IfErr result (RefusesOnly is_event_fault) }
-        ensures stands { (in_message : Bool) → IfErr result (RefusesBy (EventFault in_message (component_lines component.now))) }
+        ensures stands { (in_message : Bool) → IfErr result (RefusesBy (EventFault in_message properties.now)) }
     {
-        read_attendees(alloc, component)?;
+        read_attendees(alloc, properties)?;
         Ok(())
     }
 
@@ -187,61 +186,61 @@ pub fn one_event()
     one_sequence();
 }
 
-fn read_uid(alloc: Global, component: &Component) -> Result<Text, Fault>
-    ensures reads { IfOk result (λ uid. Says (codes "UID") true IsUidLine (component_lines component.now) (Some (text_octets uid))) }
+fn read_uid(alloc: Global, properties: &Properties<'_>) -> Result<Text, Fault>
+    ensures reads { IfOk result (λ uid. Says (codes "UID") true IsUidLine properties.now (Some (text_octets uid))) }
     ensures refuses { IfErr result (RefusesOnly is_event_fault) }
-    ensures stands { (in_message : Bool) → IfErr result (RefusesBy (EventFault in_message (component_lines component.now))) }
+    ensures stands { (in_message : Bool) → IfErr result (RefusesBy (EventFault in_message properties.now)) }
 {
-    let line = required(component, "UID")?;
+    let line = required(properties, "UID")?;
     Text::read_uid(alloc, line.value())
 }
 
 fn read_organiser(
     alloc: Global,
-    component: &Component,
+    properties: &Properties<'_>,
     purpose: Purpose,
 ) -> Result<Option<Address>, Fault>
-    ensures reads { IfOk result (λ found. Says (codes "ORGANIZER") (is_message purpose) IsAddressLine (component_lines component.now) (option_map address_octets found)) }
+    ensures reads { IfOk result (λ found. Says (codes "ORGANIZER") (is_message purpose) IsAddressLine properties.now (option_map address_octets found)) }
     ensures refuses { IfErr result (RefusesOnly is_event_fault) }
-    ensures stands { IfErr result (RefusesBy (EventFault (is_message purpose) (component_lines component.now))) }
+    ensures stands { IfErr result (RefusesBy (EventFault (is_message purpose) properties.now)) }
 {
-    match (optional(component, "ORGANIZER")?, purpose) {
+    match (optional(properties, "ORGANIZER")?, purpose) {
         (Some(line), _) => Ok(Some(Address::read(alloc, line.value())?)),
         (None, Purpose::Request) => Err(Fault::Refused(Refusal::NO_ORGANIZER)),
         (None, Purpose::Calendar) => Ok(None),
     }
 }
 
-fn read_stamp(component: &Component, purpose: Purpose) -> Result<Option<Stamp>, Refusal>
-    ensures reads { IfOk result (λ found. Says (codes "DTSTAMP") (is_message purpose) IsStampLine (component_lines component.now) found) }
+fn read_stamp(properties: &Properties<'_>, purpose: Purpose) -> Result<Option<Stamp>, Refusal>
+    ensures reads { IfOk result (λ found. Says (codes "DTSTAMP") (is_message purpose) IsStampLine properties.now found) }
     ensures refuses { IfErr result (λ e. IsTrue (is_event_fault e.number)) }
-    ensures stands { IfErr result (λ e. EventFault (is_message purpose) (component_lines component.now) e.number) }
+    ensures stands { IfErr result (λ e. EventFault (is_message purpose) properties.now e.number) }
 {
-    match (optional(component, "DTSTAMP")?, purpose) {
+    match (optional(properties, "DTSTAMP")?, purpose) {
         (Some(line), _) => Ok(Some(Stamp::read(line.value())?)),
         (None, Purpose::Request) => Err(Refusal::BAD_PROPERTY),
         (None, Purpose::Calendar) => Ok(None),
     }
 }
 
-fn read_sequence(component: &Component) -> Result<Sequence, Refusal>
-    ensures reads { IfOk result (SaysSequence (component_lines component.now)) }
+fn read_sequence(properties: &Properties<'_>) -> Result<Sequence, Refusal>
+    ensures reads { IfOk result (SaysSequence properties.now) }
     ensures refuses { IfErr result (λ e. IsTrue (is_event_fault e.number)) }
-    ensures stands { (in_message : Bool) → IfErr result (λ e. EventFault in_message (component_lines component.now) e.number) }
+    ensures stands { (in_message : Bool) → IfErr result (λ e. EventFault in_message properties.now e.number) }
 {
-    match optional(component, "SEQUENCE")? {
+    match optional(properties, "SEQUENCE")? {
         Some(line) => Sequence::read(line.value()),
         None => Ok(Sequence::zero()),
     }
 }
 
 /// Refused: 61 where DTSTART is missing or stands twice, and what a time is refused for.
-fn read_start(component: &Component) -> Result<Stamp, Refusal>
-    ensures reads { IfOk result (λ start. Says (codes "DTSTART") true IsTime (component_lines component.now) (Some start)) }
+fn read_start(properties: &Properties<'_>) -> Result<Stamp, Refusal>
+    ensures reads { IfOk result (λ start. Says (codes "DTSTART") true IsTime properties.now (Some start)) }
     ensures refuses { IfErr result (λ e. IsTrue (is_event_fault e.number)) }
-    ensures stands { (in_message : Bool) → IfErr result (λ e. EventFault in_message (component_lines component.now) e.number) }
+    ensures stands { (in_message : Bool) → IfErr result (λ e. EventFault in_message properties.now e.number) }
 {
-    let line = required(component, "DTSTART")?;
+    let line = required(properties, "DTSTART")?;
     read_time(line)
 }
 
@@ -254,13 +253,13 @@ pub(crate) enum Extent {
     For(Duration),
 }
 
-fn read_extent(component: &Component, start: Stamp) -> Result<Extent, Refusal>
-    ensures reads { IfOk result (IsExtent (component_lines component.now) start) }
+fn read_extent(properties: &Properties<'_>, start: Stamp) -> Result<Extent, Refusal>
+    ensures reads { IfOk result (IsExtent properties.now start) }
     ensures refuses { IfErr result (λ e. IsTrue (is_event_fault e.number)) }
-    ensures stands { (in_message : Bool) → IfErr result (λ e. EventFault in_message (component_lines component.now) e.number) }
+    ensures stands { (in_message : Bool) → IfErr result (λ e. EventFault in_message properties.now e.number) }
 {
-    let end = optional(component, "DTEND")?;
-    let duration = optional(component, "DURATION")?;
+    let end = optional(properties, "DTEND")?;
+    let duration = optional(properties, "DURATION")?;
     match (end, duration) {
         (Some(_), Some(_)) => Err(Refusal::BAD_PROPERTY),
         (Some(line), None) => Ok(Extent::ToEnd(seconds_between(start, read_time(line)?))),
@@ -402,15 +401,15 @@ fn midnight_of(date: &[u8]) -> [u8; 15]
     midnight
 }
 
-fn read_attendees(alloc: Global, component: &Component) -> Result<Vec<Attendee>, Fault>
-    ensures reads { IfOk result (λ v. AllZip IsAttendee (lines_named (codes "ATTENDEE") (component_lines component.now)) (map attendee_of v.items)) }
+fn read_attendees(alloc: Global, properties: &Properties<'_>) -> Result<Vec<Attendee>, Fault>
+    ensures reads { IfOk result (λ v. AllZip IsAttendee (lines_named (codes "ATTENDEE") properties.now) (map attendee_of v.items)) }
     ensures refuses { IfErr result (RefusesOnly is_event_fault) }
-    ensures stands { (in_message : Bool) → IfErr result (RefusesBy (EventFault in_message (component_lines component.now))) }
+    ensures stands { (in_message : Bool) → IfErr result (RefusesBy (EventFault in_message properties.now)) }
 {
     let mut attendees = Vec::new(alloc);
-    for line in component.lines() {
+    for line in properties.lines() {
         if line.is_named("ATTENDEE") {
-            attendees.push(read_attendee(alloc, line)?)?;
+            attendees.push(read_attendee(alloc, *line)?)?;
         }
     }
     Ok(attendees)

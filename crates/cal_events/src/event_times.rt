@@ -4,7 +4,7 @@
 ghost use Rattle.std.specs.Prelude.{◌≡◌, ◌↔◌, ℕ, List, Some, ◌+ℤ◌, IfOk, IfErr, OnOk, OnErr, IfSome, IfNone, IsTrue};
 ghost use Rattle.ical_lines.specs.Fault.{RefusesBy};
 ghost use Rattle.ical_lines.specs.Text.{line_text};
-ghost use Rattle.ical_tree.specs.Tree.{component_lines, tree_of};
+ghost use Rattle.ical_tree.specs.Tree.{tree_of};
 ghost use Rattle.profile.specs.Trees.{Tree};
 ghost use Rattle.profile.specs.Zones.{IsNearEpoch};
 ghost use Rattle.profile.specs.Events.{StandsAtMostOnce};
@@ -15,7 +15,7 @@ use crate::component::{Extent, FIRST_SECOND, judge_extent, seconds_of};
 use crate::properties::{optional, required};
 use crate::zoned::ZonedTime;
 use ical_lines::{Fault, Line, Refusal};
-use ical_tree::Component;
+use ical_tree::{Component, Properties};
 use ical_values::Duration;
 use ical_values::duration::one_duration;
 use std::alloc::Global;
@@ -45,16 +45,16 @@ impl SaidTimes {
     /// `ZonedTime::read` for the two times; 12 and 51 for DURATION; 99 for days in it beside a DTSTART with TZID.
     pub fn read(
         alloc: Global,
-        component: &Component,
+        properties: &Properties<'_>,
         object: &Component,
     ) -> Result<SaidTimes, Fault>
-        ensures said { IfOk result (AreSaid (tree_of object.now) (component_lines component.now)) }
-        ensures stands { IfErr result (RefusesBy (EventTimesFault (tree_of object.now) (component_lines component.now))) }
+        ensures said { IfOk result (AreSaid (tree_of object.now) properties.now) }
+        ensures stands { IfErr result (RefusesBy (EventTimesFault (tree_of object.now) properties.now)) }
     {
-        let line = required(component, "DTSTART")?;
+        let line = required(properties, "DTSTART")?;
         let start = ZonedTime::read(alloc, line, object)?;
         let instant = start.instant();
-        let extent = read_extent(alloc, component, object, instant)?;
+        let extent = read_extent(alloc, properties, object, instant)?;
         refuse_nominal(is_in_zone(line), extent)?;
         Ok(SaidTimes {
             start,
@@ -88,16 +88,16 @@ impl SaidTimes {
 /// or shorter than the first. Where one of the two stands twice nothing is refused here, nor for a DURATION past 32 bits,
 /// which is refused when it is read (51).
 /// Refused: 99.
-pub fn refuse_nominal_length(component: &Component) -> Result<(), Refusal>
-    ensures passes { OnOk result (HasNominalLength (component_lines component.now) → ⊥) }
-    ensures refuses { OnErr result (HasNominalLength (component_lines component.now)) }
+pub fn refuse_nominal_length(properties: &Properties<'_>) -> Result<(), Refusal>
+    ensures passes { OnOk result (HasNominalLength properties.now → ⊥) }
+    ensures refuses { OnErr result (HasNominalLength properties.now) }
     ensures number { IfErr result (λ e. e.number ≡ 99) }
-    ensures stands { (object : Tree) → IfErr result (λ e. EventTimesFault object (component_lines component.now) e.number) }
+    ensures stands { (object : Tree) → IfErr result (λ e. EventTimesFault object properties.now e.number) }
 {
-    let Some(start) = only_line(component, "DTSTART") else {
+    let Some(start) = only_line(properties, "DTSTART") else {
         return Ok(());
     };
-    let Some(duration) = only_line(component, "DURATION") else {
+    let Some(duration) = only_line(properties, "DURATION") else {
         return Ok(());
     };
     if is_in_zone(start) && has_days(duration) {
@@ -107,11 +107,11 @@ pub fn refuse_nominal_length(component: &Component) -> Result<(), Refusal>
 }
 
 /// The line of a property that stands once, None where it is missing or stands twice.
-fn only_line<'a>(component: &'a Component, name: &str) -> Option<Line<'a>>
-    ensures found { IfSome result (λ line. StandsAtMostOnce name.now (component_lines component.now) (Some (line_text line))) }
-    ensures none { IfNone result ((line : List ℕ) → StandsAtMostOnce name.now (component_lines component.now) (Some line) → ⊥) }
+fn only_line<'a>(properties: &Properties<'a>, name: &str) -> Option<Line<'a>>
+    ensures found { IfSome result (λ line. StandsAtMostOnce name.now properties.now (Some (line_text line))) }
+    ensures none { IfNone result ((line : List ℕ) → StandsAtMostOnce name.now properties.now (Some line) → ⊥) }
 {
-    match required(component, name) {
+    match required(properties, name) {
         Ok(line) => Some(line),
         Err(_) => None,
     }
@@ -151,16 +151,16 @@ fn refuse_nominal(in_zone: bool, extent: Extent) -> Result<(), Refusal>
 /// What DTEND or DURATION say of an event that starts at an instant.
 fn read_extent(
     alloc: Global,
-    component: &Component,
+    properties: &Properties<'_>,
     object: &Component,
     start: i64,
 ) -> Result<Extent, Fault>
     requires { IsNearEpoch start }
-    ensures reads { IfOk result (IsExtentIn (tree_of object.now) (component_lines component.now) start) }
-    ensures stands { IfErr result (RefusesBy (EventTimesFault (tree_of object.now) (component_lines component.now))) }
+    ensures reads { IfOk result (IsExtentIn (tree_of object.now) properties.now start) }
+    ensures stands { IfErr result (RefusesBy (EventTimesFault (tree_of object.now) properties.now)) }
 {
-    let end = optional(component, "DTEND")?;
-    let duration = optional(component, "DURATION")?;
+    let end = optional(properties, "DTEND")?;
+    let duration = optional(properties, "DURATION")?;
     match (end, duration) {
         (Some(_), Some(_)) => Err(Fault::Refused(Refusal::BAD_PROPERTY)),
         (Some(line), None) => Ok(Extent::ToEnd(seconds_to(alloc, line, object, start)?)),

@@ -1,39 +1,33 @@
-//! The lines of one VEVENT by their property names (RFC 5545 3.6.1, 3.8), and what isn't read yet.
+//! The properties of one VEVENT by their names (RFC 5545 3.6.1, 3.8), and what isn't read yet.
 ghost use Rattle.std.specs.Prelude.{◌≡◌, ◌⊎◌, Some, option_map, IfOk, IfErr};
 ghost use Rattle.ical_lines.specs.Text.{line_text};
 ghost use Rattle.ical_tree.specs.Tree.{component_lines};
-ghost use Rattle.profile.specs.Events.{lines_named, has_unread, is_unread_line, is_recurrence, is_end_of_event, IsMissing, StandsAtMostOnce, StandsTwice};
+ghost use Rattle.profile.specs.Events.{has_unread, is_unread_line, is_recurrence, is_end_of_event, IsMissing, StandsAtMostOnce, StandsTwice};
 
 use ical_lines::{Line, Refusal};
-use ical_tree::Component;
+use ical_tree::{Component, Properties};
 
-/// The line of a property that may stand once, None where there is none. Names are compared caseless.
+/// The line of a property that may stand once, None where there is none.
 /// Refused: 61 where it stands twice.
-pub fn optional<'a>(component: &'a Component, name: &str) -> Result<Option<Line<'a>>, Refusal>
-    ensures found { IfOk result (λ line. StandsAtMostOnce name.now (component_lines component.now) (option_map line_text line)) }
+pub(crate) fn optional<'a>(
+    properties: &Properties<'a>,
+    name: &str,
+) -> Result<Option<Line<'a>>, Refusal>
+    ensures found { IfOk result (λ line. StandsAtMostOnce name.now properties.now (option_map line_text line)) }
     ensures refuses { IfErr result (λ e. e.number ≡ 61) }
-    ensures twice { IfErr result (λ _. StandsTwice name.now (component_lines component.now)) }
+    ensures twice { IfErr result (λ _. StandsTwice name.now properties.now) }
 {
-    let mut found = None;
-    for line in component.lines() {
-        if line.is_named(name) {
-            if found.is_some() {
-                return Err(Refusal::BAD_PROPERTY);
-            }
-            found = Some(line);
-        }
-    }
-    Ok(found)
+    properties.optional(name, Refusal::BAD_PROPERTY)
 }
 
 /// The line of a property that stands once.
 /// Refused: 61 where it is missing or stands twice.
-pub fn required<'a>(component: &'a Component, name: &str) -> Result<Line<'a>, Refusal>
-    ensures found { IfOk result (λ line. StandsAtMostOnce name.now (component_lines component.now) (Some (line_text line))) }
+pub(crate) fn required<'a>(properties: &Properties<'a>, name: &str) -> Result<Line<'a>, Refusal>
+    ensures found { IfOk result (λ line. StandsAtMostOnce name.now properties.now (Some (line_text line))) }
     ensures refuses { IfErr result (λ e. e.number ≡ 61) }
-    ensures faulty { IfErr result (λ _. IsMissing name.now (component_lines component.now) ⊎ StandsTwice name.now (component_lines component.now)) }
+    ensures faulty { IfErr result (λ _. IsMissing name.now properties.now ⊎ StandsTwice name.now properties.now) }
 {
-    optional(component, name)?.ok_or(Refusal::BAD_PROPERTY)
+    properties.required(name, Refusal::BAD_PROPERTY)
 }
 
 /// Whether a component has a line that roombox doesn't read yet.

@@ -14,7 +14,7 @@ use crate::component::{EventComponent, ParticipationStatus, Purpose, one_event};
 use crate::instance::Booking;
 use crate::properties::has_unread_line;
 use ical_lines::{Fault, Limits, Refusal, Unfolded};
-use ical_tree::{Component, one_tree, read_object};
+use ical_tree::{Component, Properties, one_tree, read_object};
 use ical_values::Address;
 use std::alloc::{AllocError, Global};
 
@@ -91,7 +91,8 @@ fn entries_of(alloc: Global, object: &Component, room: &Address) -> Result<Vec<E
     let mut entries = Vec::new(alloc);
     for component in object.children() {
         if component.is_named("VEVENT") {
-            let event = EventComponent::read(alloc, component, Purpose::Calendar)?;
+            let properties = Properties::of(alloc, component)?;
+            let event = EventComponent::read(alloc, &properties, Purpose::Calendar)?;
             entries.push(entry_of(alloc, &event, room)?)?;
         }
     }

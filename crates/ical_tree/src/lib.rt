@@ -5,11 +5,13 @@
 pub mod component;
 pub mod law;
 pub mod own_lines;
+pub mod properties;
 pub mod read;
 pub mod write;
 
 pub use component::Component;
 pub use law::one_tree;
 pub use own_lines::OwnLines;
+pub use properties::Properties;
 pub use read::read_object;
 pub use write::write_object;

@@ -16,7 +16,7 @@ ghost use Rattle.itip_messages.specs.Messages.{IsMessageOf, IsSpelled, MeetingFa
 
 use cal_events::{Attendee, EventComponent, Purpose, refuse_unread_events};
 use ical_lines::{Fault, Limits, Line, Refusal, Unfolded};
-use ical_tree::{Component, read_object};
+use ical_tree::{Component, Properties, read_object};
 use ical_values::{Address, Duration, Sequence, Stamp, Text};
 use itip_order::{Revision, Slot};
 use std::alloc::{AllocError, Global};
@@ -88,7 +88,7 @@ impl Message {
         ensures stands { IfErr result (RefusesBy (MessageFault (component_lines object.now) (vevents_of object.now))) }
     {
         refuse_unread_events(object)?;
-        let method = method_of(object)?;
+        let method = method_of(&Properties::of(alloc, object)?)?;
         let mut events = events_of(alloc, object)?;
         judge_meeting(events.as_slice())?;
         let event = events.remove(0);
@@ -155,36 +155,17 @@ impl Message {
     }
 }
 
-/// The METHOD of an object.
+/// The METHOD among the properties of an object.
 /// Refused: 60 for a word that names no method taken here, or two lines; 99 for one that isn't read yet, or none.
-fn method_of(object: &Component) -> Result<Method, Refusal>
-    ensures named { OnOk result (NamesRequest (component_lines object.now)) }
+fn method_of(properties: &Properties<'_>) -> Result<Method, Refusal>
+    ensures named { OnOk result (NamesRequest properties.now) }
     ensures refuses { IfErr result (λ e. IsTrue (is_message_fault e.number)) }
-    ensures stands { IfErr result (λ e. MethodFault (component_lines object.now) e.number) }
+    ensures stands { IfErr result (λ e. MethodFault properties.now e.number) }
 {
-    match method_line(object)? {
+    match properties.optional("METHOD", Refusal::BAD_METHOD)? {
         Some(line) => method_named(line),
         None => Err(Refusal::NOT_YET),
     }
-}
-
-/// The METHOD line, None where there is none.
-/// Refused: 60 where it stands twice.
-fn method_line<'a>(object: &'a Component) -> Result<Option<Line<'a>>, Refusal>
-    ensures found { IfOk result (λ line. StandsAtMostOnce (codes "METHOD") (component_lines object.now) (option_map line_text line)) }
-    ensures refuses { IfErr result (λ e. e.number ≡ 60) }
-    ensures twice { IfErr result (λ _. StandsTwice (codes "METHOD") (component_lines object.now)) }
-{
-    let mut found = None;
-    for line in object.lines() {
-        if line.is_named("METHOD") {
-            if found.is_some() {
-                return Err(Refusal::BAD_METHOD);
-            }
-            found = Some(line);
-        }
-    }
-    Ok(found)
 }
 
 fn method_named(line: Line<'_>) -> Result<Method, Refusal>
@@ -221,7 +202,8 @@ fn events_of(alloc: Global, object: &Component) -> Result<Vec<EventComponent>, F
     let mut events = Vec::new(alloc);
     for component in object.children() {
         if component.is_named("VEVENT") {
-            events.push(EventComponent::read(alloc, component, Purpose::Request)?)?;
+            let properties = Properties::of(alloc, component)?;
+            events.push(EventComponent::read(alloc, &properties, Purpose::Request)?)?;
         }
     }
     Ok(events)

@@ -18,7 +18,7 @@ use cal_events::{
 };
 use cal_rules::{Rule, RuleText, Until};
 use ical_lines::{Fault, Limits, Line, Refusal, Unfolded};
-use ical_tree::{Component, read_object};
+use ical_tree::{Component, Properties, read_object};
 use ical_values::{LocalTime, Stamp};
 use itoa::Buffer;
 use std::alloc::{AllocError, Global};
@@ -72,12 +72,12 @@ impl Series {
     fn read(alloc: Global, octets: &[u8]) -> Result<Series, Fault> {
         let text = Unfolded::read(alloc, octets, Limits::Message)?;
         let object = read_object(alloc, &text, Limits::Message)?;
-        let component = one_event(&object)?;
-        refuse_unread(component)?;
-        EventComponent::judge_heading(alloc, component, Purpose::Calendar)?;
-        let said = SaidTimes::read(alloc, component, &object)?;
-        let text = rule_text(alloc, component)?;
-        EventComponent::judge_attendees(alloc, component)?;
+        let properties = Properties::of(alloc, one_event(&object)?)?;
+        refuse_unread(&properties)?;
+        EventComponent::judge_heading(alloc, &properties, Purpose::Calendar)?;
+        let said = SaidTimes::read(alloc, &properties, &object)?;
+        let text = rule_text(alloc, &properties)?;
+        EventComponent::judge_attendees(alloc, &properties)?;
         let times = said.judge()?;
         let rule = match text {
             Some(text) => Some(rule_from(text, &times.start)?),
@@ -270,13 +270,11 @@ fn one_event<'c, 'a>(object: &'c Component<'a>) -> Result<&'c Component<'a>, Ref
 
 /// Refuses a VEVENT with something that isn't read yet.
 /// Refused: 99.
-fn refuse_unread(component: &Component) -> Result<(), Refusal> {
-    for line in component.lines() {
-        if is_unread(line) {
-            return Err(Refusal::NOT_YET);
-        }
+fn refuse_unread(properties: &Properties<'_>) -> Result<(), Refusal> {
+    if properties.lines().iter().any(|line| is_unread(*line)) {
+        return Err(Refusal::NOT_YET);
     }
-    refuse_nominal_length(component)
+    refuse_nominal_length(properties)
 }
 
 fn is_unread(line: Line<'_>) -> bool {
@@ -285,17 +283,8 @@ fn is_unread(line: Line<'_>) -> bool {
 
 /// What the RRULE of a VEVENT says, None where there is none.
 /// Refused: 61 where it stands twice, and 30 to 33.
-fn rule_text(alloc: Global, component: &Component) -> Result<Option<RuleText>, Fault> {
-    let mut found = None;
-    for line in component.lines() {
-        if line.is_named("RRULE") {
-            if found.is_some() {
-                return Err(Fault::Refused(Refusal::BAD_PROPERTY));
-            }
-            found = Some(line);
-        }
-    }
-    match found {
+fn rule_text(alloc: Global, properties: &Properties<'_>) -> Result<Option<RuleText>, Fault> {
+    match properties.optional("RRULE", Refusal::BAD_PROPERTY)? {
         Some(line) => Ok(Some(RuleText::read(alloc, line.value())?)),
         None => Ok(None),
     }

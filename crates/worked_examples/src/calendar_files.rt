@@ -10,7 +10,7 @@ use example_cases::NoAnswer;
 use example_cases::answers::append;
 use example_cases::spelled::octets_of;
 use ical_lines::{Limits, Unfolded};
-use ical_tree::{Component, read_object};
+use ical_tree::{Component, Properties, read_object};
 use ical_values::Address;
 use std::alloc::Global;
 
@@ -40,7 +40,8 @@ pub fn answered(alloc: Global, octets: &[u8], room: &Address) -> Result<String, 
     let object = read_object(alloc, &text, Limits::Open)?;
     let mut list = String::new(alloc);
     for component in object.children() {
-        let event = EventComponent::read(alloc, component, Purpose::Request)?;
+        let properties = Properties::of(alloc, component)?;
+        let event = EventComponent::read(alloc, &properties, Purpose::Request)?;
         let word = status_word(event.status_of(room));
         let item = format!(in alloc; "ends {} {word}", event.end())?;
         append(&mut list, ", ", item.as_str())?;
@@ -71,9 +72,10 @@ pub fn times(alloc: Global, octets: &[u8]) -> Result<String, NoAnswer> {
 }
 
 fn times_of(alloc: Global, component: &Component, object: &Component) -> Result<String, NoAnswer> {
-    EventComponent::judge_heading(alloc, component, Purpose::Calendar)?;
-    let said = SaidTimes::read(alloc, component, object)?;
-    EventComponent::judge_attendees(alloc, component)?;
+    let properties = Properties::of(alloc, component)?;
+    EventComponent::judge_heading(alloc, &properties, Purpose::Calendar)?;
+    let said = SaidTimes::read(alloc, &properties, object)?;
+    EventComponent::judge_attendees(alloc, &properties)?;
     let times = said.judge()?;
     Ok(format!(in alloc; "from {} for {}", times.instant, times.seconds)?)
 }
@@ -98,7 +100,7 @@ pub fn nominal(alloc: Global, octets: &[u8]) -> Result<String, NoAnswer> {
     let text = Unfolded::read(alloc, octets, Limits::Open)?;
     let object = read_object(alloc, &text, Limits::Open)?;
     for component in object.children() {
-        refuse_nominal_length(component)?;
+        refuse_nominal_length(&Properties::of(alloc, component)?)?;
     }
     Ok(String::from_str(alloc, "not refused")?)
 }

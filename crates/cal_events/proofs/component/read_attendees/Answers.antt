@@ -1,26 +1,45 @@
-use Rattle.std.proofs.Common.{sym}
+use Rattle.std.proofs.Common.{◌≡◌, ◌+◌, ◌∷◌, ◌∙◌, ◌++◌, List, ap, codes, drop, map, subst, sym}
+use Rattle.std.specs.List.{AllZip}
 use Rattle.ical_lines.specs.Fault.{RefusesBy}
 use Rattle.ical_lines.specs.Text.{line_text}
-use Rattle.ical_tree.specs.Runs.{lines_left}
-use Rattle.ical_tree.specs.Tree.{component_lines}
-use Rattle.profile.specs.Events.{EventFault}
-use Rattle.cal_events.proofs.EventLemmas.{attendee_pushed, attendee_fault}
+use Rattle.ical_tree.proofs.OneLine.{at_place}
+use Rattle.profile.specs.Events.{EventFault, IsAttendee, lines_named}
+use Rattle.cal_events.specs.Events.{attendee_of}
+use Rattle.cal_events.specs.declared.component.Attendee.{Attendee}
+use Rattle.cal_events.proofs.EventLemmas.{attendee_pushed, attendee_fault, one_other}
 use Rattle.ical_values.proofs.Exits.{err_exit}
 use Rattle.cal_events.proofs.component.read_attendees.Goals as goal
+use Rattle.cal_events.proofs.component.read_attendees.Goals.{then-is_named+in_ok-read_attendee+in_ok-push, else-is_named}
 
 pub returns-in_err-read_attendee-clause-stands : goal.returns-in_err-read_attendee-clause-stands
 returns-in_err-read_attendee-clause-stands c = λ m.
-    let inv = c.loop-line.invariant.2 in
-    err_exit _ (RefusesBy (EventFault m (component_lines c.args.component.now))) _ c.from_residual.ensures.1
-    (attendee_fault m (component_lines c.args.component.now) (lines_left c.loop-line.line-iterator) (lines_left c.next.new.self) inv.0 (line_text c.in-Some.line) _ inv.1
-    c.in-Some.ensures.steps (sym c.if-is_named.ensures) c.in_err-read_attendee.ensures.stands)
+    let inv = c.loop-line.invariant in
+    let lines = c.lines-line-items.result.now in
+    let i = c.loop-line.line-index in
+    let x = c.line-item.result in
+    let steps : map line_text (drop i lines) ≡ line_text x ∷ map line_text (drop (i + 1) lines) =
+    ap (map line_text) (at_place lines i x c.loop-line-test.true c.line-item.is) in
+    err_exit _ (RefusesBy (EventFault m c.args.properties.now)) _ c.from_residual.ensures.1
+    (attendee_fault m c.args.properties.now (map line_text (drop i lines)) (map line_text (drop (i + 1) lines)) inv.0 (line_text x) _ inv.1
+    steps (sym c.if-is_named.ensures) c.in_err-read_attendee.ensures.stands)
 
-pub loop-line-preserved-in_ok-push : goal.loop-line-preserved-in_ok-push
-loop-line-preserved-in_ok-push c =
-    let inv = c.loop-line.invariant.2 in (
-      tt,
-      tt,
-      attendee_pushed (component_lines c.args.component.now) (lines_left c.loop-line.line-iterator) (lines_left c.next.new.self) inv.0 (line_text c.in-Some.line)
-          c.loop-line.attendees.items c.push.new.self.items c.in_ok-read_attendee.field-0 inv.1 c.in-Some.ensures.steps (sym c.if-is_named.ensures) inv.2
-          c.in_ok-push.ensures.items c.in_ok-read_attendee.ensures.reads,
-    )
+pub loop-line-preserved : goal.loop-line-preserved
+loop-line-preserved c =
+    let inv = c.loop-line.invariant in
+    let lines = c.lines-line-items.result.now in
+    let i = c.loop-line.line-index in
+    let x = c.line-item.result in
+    let steps : map line_text (drop i lines) ≡ line_text x ∷ map line_text (drop (i + 1) lines) =
+    ap (map line_text) (at_place lines i x c.loop-line-test.true c.line-item.is) in
+    elim c.if-is_named.branch [
+      | then-is_named+in_ok-read_attendee+in_ok-push w ↦
+          attendee_pushed c.args.properties.now (map line_text (drop i lines)) (map line_text (drop (i + 1) lines)) inv.0 (line_text x)
+          c.loop-line.attendees.items c.if-is_named.attendees.items w.in_ok-read_attendee.field-0 inv.1 steps (sym w.if-is_named.ensures) inv.2
+          (ap (λ v. v.items) w.attendees-is ∙ w.in_ok-push.ensures.items) w.in_ok-read_attendee.ensures.reads
+      | else-is_named w ↦ (
+        inv.0,
+        inv.1 ∙ ap (λ ls. inv.0 ++ lines_named (codes "ATTENDEE") ls) steps
+            ∙ ap (λ ls. inv.0 ++ ls) (one_other (codes "ATTENDEE") (line_text x) (map line_text (drop (i + 1) lines)) (sym w.if-is_named.ensures)),
+        subst (λ (xs : List Attendee). AllZip IsAttendee inv.0 (map attendee_of xs)) (sym (ap (λ v. v.items) w.attendees-is)) inv.2,
+      )
+    ]

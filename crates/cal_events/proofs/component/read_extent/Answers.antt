@@ -3,7 +3,6 @@ use Rattle.std.specs.Prelude.{option_map}
 use Rattle.std.specs.Option.{option_to_list}
 use Rattle.std.proofs.lemmas.Int.{ints}
 use Rattle.ical_lines.specs.Text.{line_text}
-use Rattle.ical_tree.specs.Tree.{component_lines}
 use Rattle.profile.specs.Events.{EventFault, TimeFault, IsTime, twice, bad_end, end_and_duration}
 use Rattle.cal_events.proofs.EventLemmas.{some_line, duration_fault}
 use Rattle.ical_values.proofs.Exits.{refusal_exit}
@@ -11,37 +10,37 @@ use Rattle.cal_events.proofs.component.read_extent.Goals as goal
 
 pub returns-in_err-end-clause-stands : goal.returns-in_err-end-clause-stands
 returns-in_err-end-clause-stands c = λ m.
-    let P = EventFault m (component_lines c.args.component.now) in
+    let P = EventFault m c.args.properties.now in
     refusal_exit _ P _ c.from_residual.ensures.1 (subst P (sym c.in_err-end.ensures.refuses) (twice (codes "DTEND") (6, omega arith, refl) c.in_err-end.ensures.twice))
 
 pub returns-in_err-duration-clause-stands : goal.returns-in_err-duration-clause-stands
 returns-in_err-duration-clause-stands c = λ m.
-    let P = EventFault m (component_lines c.args.component.now) in
+    let P = EventFault m c.args.properties.now in
     refusal_exit _ P _ c.from_residual-in_err-duration.ensures.1
     (subst P (sym c.in_err-duration.ensures.refuses) (twice (codes "DURATION") (7, omega arith, refl) c.in_err-duration.ensures.twice))
 
 pub returns-in_err-read_time-in-Some-None-clause-stands : goal.returns-in_err-read_time-in-Some-None-clause-stands
 returns-in_err-read_time-in-Some-None-clause-stands c = λ m.
-    let P = EventFault m (component_lines c.args.component.now) in
+    let P = EventFault m c.args.properties.now in
     let once = c.in_ok-end.ensures.found ∙ ap (λ l. option_to_list (option_map line_text l)) c.in-Some-None.is-0 in
     refusal_exit _ P _ c.from_residual-in_err-read_time-in-Some-None.ensures.1
-    (bad_end (some_line (codes "DTEND") (λ l. TimeFault l _) (component_lines c.args.component.now) (line_text c.in-Some-None.line) once c.in_err-read_time-in-Some-None.ensures.stands))
+    (bad_end (some_line (codes "DTEND") (λ l. TimeFault l _) c.args.properties.now (line_text c.in-Some-None.line) once c.in_err-read_time-in-Some-None.ensures.stands))
 
 pub returns-in_err-read-in-None-Some-clause-stands : goal.returns-in_err-read-in-None-Some-clause-stands
 returns-in_err-read-in-None-Some-clause-stands c = λ m.
-    let P = EventFault m (component_lines c.args.component.now) in
+    let P = EventFault m c.args.properties.now in
     let once = c.in_ok-duration.ensures.found ∙ ap (λ l. option_to_list (option_map line_text l)) c.in-None-Some.is-1 in
     let h = c.in_err-read-in-None-Some.ensures in
     refusal_exit _ P _ c.from_residual-in_err-read-in-None-Some.ensures.1
-    (duration_fault m (component_lines c.args.component.now) (line_text c.in-None-Some.line) c.value.result.now _ once c.value.ensures h.refuses h.none h.not_negative h.range)
+    (duration_fault m c.args.properties.now (line_text c.in-None-Some.line) c.value.result.now _ once c.value.ensures h.refuses h.none h.not_negative h.range)
 
 pub returns-in-Some-Some-clause-stands : goal.returns-in-Some-Some-clause-stands
 returns-in-Some-Some-clause-stands c = λ m.
     let end_once = c.in_ok-end.ensures.found ∙ ap (λ l. option_to_list (option_map line_text l)) c.in-Some-Some.is-0 in
     let once = c.in_ok-duration.ensures.found ∙ ap (λ l. option_to_list (option_map line_text l)) c.in-Some-Some.is-1 in
     end_and_duration
-    (some_line (codes "DTEND") (λ _. Unit {0}) (component_lines c.args.component.now) (line_text c.in-Some-Some.field-0-0) end_once tt)
-    (some_line (codes "DURATION") (λ _. Unit {0}) (component_lines c.args.component.now) (line_text c.in-Some-Some.field-0-1) once tt)
+    (some_line (codes "DTEND") (λ _. Unit {0}) c.args.properties.now (line_text c.in-Some-Some.field-0-0) end_once tt)
+    (some_line (codes "DURATION") (λ _. Unit {0}) c.args.properties.now (line_text c.in-Some-Some.field-0-1) once tt)
 
 pub returns-in_ok-read_time-in-Some-None-clause-reads : goal.returns-in_ok-read_time-in-Some-None-clause-reads
 returns-in_ok-read_time-in-Some-None-clause-reads c =

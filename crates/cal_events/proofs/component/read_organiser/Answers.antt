@@ -3,7 +3,6 @@ use Rattle.ical_lines.specs.Fault.{RefusesBy}
 use Rattle.std.specs.Prelude.{option_map}
 use Rattle.std.specs.Option.{option_to_list}
 use Rattle.ical_lines.specs.Text.{line_text}
-use Rattle.ical_tree.specs.Tree.{component_lines}
 use Rattle.profile.specs.Values.{IsAddress}
 use Rattle.profile.specs.Events.{EventFault, IsNoAddress}
 use Rattle.profile.specs.Events.{twice, bad_organiser, no_organiser}
@@ -14,17 +13,17 @@ use Rattle.cal_events.proofs.component.read_organiser.Goals as goal
 
 pub returns-in_err-line-clause-stands : goal.returns-in_err-line-clause-stands
 returns-in_err-line-clause-stands c =
-    err_exit _ (RefusesBy (EventFault (is_message c.args.purpose) (component_lines c.args.component.now))) _ c.from_residual.ensures.1
-    (subst (EventFault (is_message c.args.purpose) (component_lines c.args.component.now)) (sym c.in_err-line.ensures.refuses)
+    err_exit _ (RefusesBy (EventFault (is_message c.args.purpose) c.args.properties.now)) _ c.from_residual.ensures.1
+    (subst (EventFault (is_message c.args.purpose) c.args.properties.now) (sym c.in_err-line.ensures.refuses)
     (twice (codes "ORGANIZER") (1, omega arith, refl) c.in_err-line.ensures.twice))
 
 pub returns-in_err-read-in-Some-default-clause-stands : goal.returns-in_err-read-in-Some-default-clause-stands
 returns-in_err-read-in-Some-default-clause-stands c =
-    let P = EventFault (is_message c.args.purpose) (component_lines c.args.component.now) in
+    let P = EventFault (is_message c.args.purpose) c.args.properties.now in
     let once = c.in_ok-line.ensures.found ∙ ap (λ l. option_to_list (option_map line_text l)) c.in-Some-default.is-0 in
     err_exit _ (RefusesBy P) _ c.from_residual-in_err-read-in-Some-default.ensures.1
     (by_number _ P _ 15
-    (λ no. bad_organiser (some_line (codes "ORGANIZER") IsNoAddress (component_lines c.args.component.now) (line_text c.in-Some-default.line) once (λ h. no (subst IsAddress (sym c.value.ensures) h))))
+    (λ no. bad_organiser (some_line (codes "ORGANIZER") IsNoAddress c.args.properties.now (line_text c.in-Some-default.line) once (λ h. no (subst IsAddress (sym c.value.ensures) h))))
     c.in_err-read-in-Some-default.ensures.refuses c.in_err-read-in-Some-default.ensures.none)
 
 pub returns-in-None-Request-clause-stands : goal.returns-in-None-Request-clause-stands

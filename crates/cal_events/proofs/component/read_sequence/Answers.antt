@@ -3,7 +3,6 @@ use Rattle.std.specs.Prelude.{option_map}
 use Rattle.std.specs.Option.{option_to_list}
 use Rattle.ical_lines.specs.Text.{line_text}
 use Rattle.ical_lines.specs.declared.fault.Refusal.{Refusal}
-use Rattle.ical_tree.specs.Tree.{component_lines}
 use Rattle.profile.specs.Values.{SpellsSequence}
 use Rattle.profile.specs.Events.{EventFault, IsNoSequence}
 use Rattle.profile.specs.Events.{twice, bad_sequence}
@@ -13,7 +12,7 @@ use Rattle.cal_events.proofs.component.read_sequence.Goals as goal
 
 pub returns-in_err-line-clause-stands : goal.returns-in_err-line-clause-stands
 returns-in_err-line-clause-stands c = λ m.
-    let P = EventFault m (component_lines c.args.component.now) in
+    let P = EventFault m c.args.properties.now in
     refusal_exit _ P _ c.from_residual.ensures.1
     (subst P (sym c.in_err-line.ensures.refuses) (twice (codes "SEQUENCE") (3, omega arith, refl) c.in_err-line.ensures.twice))
 
@@ -23,10 +22,10 @@ returns-in-Some-clause-reads c =
 
 pub returns-in-Some-clause-stands : goal.returns-in-Some-clause-stands
 returns-in-Some-clause-stands c = λ m.
-    let P = EventFault m (component_lines c.args.component.now) in
+    let P = EventFault m c.args.properties.now in
     let once = c.in_ok-line.ensures.found ∙ ap (λ l. option_to_list (option_map line_text l)) c.in-Some.is in
     let No : Refusal → Type 0 = λ _. (n : ℕ) → SpellsSequence c.value.result.now n → ⊥ in
     err_both _ (λ e. e.number ≡ 16) No (λ e. P e.number)
     (λ e n no. subst P (sym n)
-    (bad_sequence (some_line (codes "SEQUENCE") IsNoSequence (component_lines c.args.component.now) (line_text c.in-Some.line) once (λ k h. no k (subst (λ t. SpellsSequence t k) (sym c.value.ensures) h)))))
+    (bad_sequence (some_line (codes "SEQUENCE") IsNoSequence c.args.properties.now (line_text c.in-Some.line) once (λ k h. no k (subst (λ t. SpellsSequence t k) (sym c.value.ensures) h)))))
     c.read.ensures.refuses c.read.ensures.none

@@ -2,7 +2,6 @@ use Rattle.std.proofs.Common.{codes, sym, ap, subst, refl, ◌∙◌, arith}
 use Rattle.std.specs.Prelude.{option_map}
 use Rattle.std.specs.Option.{option_to_list}
 use Rattle.ical_lines.specs.Text.{line_text}
-use Rattle.ical_tree.specs.Tree.{component_lines}
 use Rattle.profile.specs.Lines.{line_value}
 use Rattle.profile.specs.Events.{EventFault, IsNoStamp}
 use Rattle.profile.specs.Events.{twice, bad_stamp, no_stamp_given}
@@ -13,17 +12,17 @@ use Rattle.cal_events.proofs.component.read_stamp.Goals as goal
 
 pub returns-in_err-line-clause-stands : goal.returns-in_err-line-clause-stands
 returns-in_err-line-clause-stands c =
-    let P = EventFault (is_message c.args.purpose) (component_lines c.args.component.now) in
+    let P = EventFault (is_message c.args.purpose) c.args.properties.now in
     refusal_exit _ P _ c.from_residual.ensures.1
     (subst P (sym c.in_err-line.ensures.refuses) (twice (codes "DTSTAMP") (2, omega arith, refl) c.in_err-line.ensures.twice))
 
 pub returns-in_err-read-in-Some-default-clause-stands : goal.returns-in_err-read-in-Some-default-clause-stands
 returns-in_err-read-in-Some-default-clause-stands c =
-    let P = EventFault (is_message c.args.purpose) (component_lines c.args.component.now) in
+    let P = EventFault (is_message c.args.purpose) c.args.properties.now in
     let once = c.in_ok-line.ensures.found ∙ ap (λ l. option_to_list (option_map line_text l)) c.in-Some-default.is-0 in
     refusal_exit _ P _ c.from_residual-in_err-read-in-Some-default.ensures.1
     (subst P (sym c.in_err-read-in-Some-default.ensures.refuses)
-    (bad_stamp (some_line (codes "DTSTAMP") (λ line. IsNoStamp (line_value line)) (component_lines c.args.component.now) (line_text c.in-Some-default.line) once
+    (bad_stamp (some_line (codes "DTSTAMP") (λ line. IsNoStamp (line_value line)) c.args.properties.now (line_text c.in-Some-default.line) once
     (subst IsNoStamp c.value.ensures c.in_err-read-in-Some-default.ensures.none))))
 
 pub returns-in-None-Request-clause-stands : goal.returns-in-None-Request-clause-stands

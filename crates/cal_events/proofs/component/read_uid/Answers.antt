@@ -1,7 +1,6 @@
 use Rattle.std.proofs.Common.{codes, sym, subst, refl, inl, inr, arith}
 use Rattle.ical_lines.specs.Text.{line_text}
 use Rattle.ical_lines.specs.Fault.{RefusesOnly, RefusesBy}
-use Rattle.ical_tree.specs.Tree.{component_lines}
 use Rattle.ical_values.specs.Refused.{IfRefused}
 use Rattle.ical_values.proofs.Exits.{err_exit, err_both}
 use Rattle.profile.specs.Faults.{is_uid_fault}
@@ -14,7 +13,7 @@ use Rattle.cal_events.proofs.component.read_uid.Goals as goal
 
 pub returns-in_err-line-clause-stands : goal.returns-in_err-line-clause-stands
 returns-in_err-line-clause-stands c = λ m.
-    let P = EventFault m (component_lines c.args.component.now) in
+    let P = EventFault m c.args.properties.now in
     err_exit _ (RefusesBy P) _ c.from_residual.ensures.1
     (subst P (sym c.in_err-line.ensures.refuses)
     (elim c.in_err-line.ensures.faulty [ inl h ↦ no_uid h | inr h ↦ twice (codes "UID") (0, omega arith, refl) h ]))
@@ -25,11 +24,11 @@ returns-clause-reads c =
 
 pub returns-clause-stands : goal.returns-clause-stands
 returns-clause-stands c = λ m.
-    let P = EventFault m (component_lines c.args.component.now) in
+    let P = EventFault m c.args.properties.now in
     let value = c.value.result.now in
     let line = line_text c.in_ok-line.line in
     err_both _ (RefusesOnly is_uid_fault) (IfRefused (¬ (IsUid (unescaped value)))) (RefusesBy P)
     (λ f t no. by_number f P _ 14
-    (λ h. bad_uid (some_line (codes "UID") (λ l. ¬ (IsUid (unescaped (line_value l)))) (component_lines c.args.component.now) line c.in_ok-line.ensures.found (λ u. h (subst (λ t. IsUid (unescaped t)) (sym c.value.ensures) u))))
+    (λ h. bad_uid (some_line (codes "UID") (λ l. ¬ (IsUid (unescaped (line_value l)))) c.args.properties.now line c.in_ok-line.ensures.found (λ u. h (subst (λ t. IsUid (unescaped t)) (sym c.value.ensures) u))))
     t no)
     c.read_uid.ensures.refuses c.read_uid.ensures.none

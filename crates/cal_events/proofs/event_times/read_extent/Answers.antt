@@ -4,7 +4,7 @@ use Rattle.std.specs.Option.{option_to_list}
 use Rattle.std.proofs.lemmas.Int.{ints}
 use Rattle.ical_lines.specs.Fault.{RefusesBy}
 use Rattle.ical_lines.specs.Text.{line_text}
-use Rattle.ical_tree.specs.Tree.{component_lines, tree_of}
+use Rattle.ical_tree.specs.Tree.{tree_of}
 use Rattle.profile.specs.ZonedTimes.{EventTimesFault, ZonedTimeFault, SaysInstant, twice, bad_end, end_and_duration}
 use Rattle.ical_values.proofs.Exits.{err_exit}
 use Rattle.cal_events.proofs.EventLemmas.{some_line}
@@ -14,19 +14,19 @@ use Rattle.cal_events.proofs.event_times.read_extent.Goals as goal
 
 pub returns-in_err-end-clause-stands : goal.returns-in_err-end-clause-stands
 returns-in_err-end-clause-stands c =
-    let P = EventTimesFault (tree_of c.args.object.now) (component_lines c.args.component.now) in
+    let P = EventTimesFault (tree_of c.args.object.now) c.args.properties.now in
     err_exit _ (RefusesBy P) _ c.from_residual.ensures.1 (subst P (sym c.in_err-end.ensures.refuses) (twice (codes "DTEND") (1, omega arith, refl) c.in_err-end.ensures.twice))
 
 pub returns-in_err-duration-clause-stands : goal.returns-in_err-duration-clause-stands
 returns-in_err-duration-clause-stands c =
-    let P = EventTimesFault (tree_of c.args.object.now) (component_lines c.args.component.now) in
+    let P = EventTimesFault (tree_of c.args.object.now) c.args.properties.now in
     err_exit _ (RefusesBy P) _ c.from_residual-in_err-duration.ensures.1
     (subst P (sym c.in_err-duration.ensures.refuses) (twice (codes "DURATION") (2, omega arith, refl) c.in_err-duration.ensures.twice))
 
 pub returns-in_err-seconds_to-in-Some-None-clause-stands : goal.returns-in_err-seconds_to-in-Some-None-clause-stands
 returns-in_err-seconds_to-in-Some-None-clause-stands c =
     let object = tree_of c.args.object.now in
-    let lines = component_lines c.args.component.now in
+    let lines = c.args.properties.now in
     let P = EventTimesFault object lines in
     let line = line_text c.in-Some-None.line in
     let once = c.in_ok-end.ensures.found ∙ ap (λ l. option_to_list (option_map line_text l)) c.in-Some-None.is-0 in
@@ -36,7 +36,7 @@ returns-in_err-seconds_to-in-Some-None-clause-stands c =
 pub returns-in_err-read-in-None-Some-clause-stands : goal.returns-in_err-read-in-None-Some-clause-stands
 returns-in_err-read-in-None-Some-clause-stands c =
     let object = tree_of c.args.object.now in
-    let lines = component_lines c.args.component.now in
+    let lines = c.args.properties.now in
     let once = c.in_ok-duration.ensures.found ∙ ap (λ l. option_to_list (option_map line_text l)) c.in-None-Some.is-1 in
     let h = c.in_err-read-in-None-Some.ensures in
     err_exit _ (RefusesBy (EventTimesFault object lines)) _ c.from_residual-in_err-read-in-None-Some.ensures.1
@@ -44,7 +44,7 @@ returns-in_err-read-in-None-Some-clause-stands c =
 
 pub returns-in-Some-Some-clause-stands : goal.returns-in-Some-Some-clause-stands
 returns-in-Some-Some-clause-stands c =
-    let lines = component_lines c.args.component.now in
+    let lines = c.args.properties.now in
     let end_once = c.in_ok-end.ensures.found ∙ ap (λ l. option_to_list (option_map line_text l)) c.in-Some-Some.is-0 in
     let once = c.in_ok-duration.ensures.found ∙ ap (λ l. option_to_list (option_map line_text l)) c.in-Some-Some.is-1 in
     end_and_duration

@@ -1,13 +1,12 @@
 use Rattle.std.proofs.Common.{◌≡◌, sym, refl, true, codes}
 use Rattle.ical_lines.specs.Text.{line_text}
-use Rattle.ical_tree.specs.Tree.{component_lines}
 use Rattle.profile.specs.ZonedTimes.{is_in_zone, HasDays, nominal}
 use Rattle.cal_events.proofs.EventLemmas.{some_line}
 use Rattle.cal_events.proofs.event_times.refuse_nominal_length.Goals as goal
 
 pub returns-then-has_days-clause-stands : goal.returns-then-has_days-clause-stands
 returns-then-has_days-clause-stands c object =
-    let lines = component_lines c.args.component.now in
+    let lines = c.args.properties.now in
     let zoned : is_in_zone (line_text c.in-Some.start) ≡ true = sym c.if-is_in_zone.ensures in
     let days = c.if-has_days.ensures.0 refl in
     let starts = some_line (codes "DTSTART") (λ l. is_in_zone l ≡ true) lines (line_text c.in-Some.start) c.in-Some.ensures.found zoned in

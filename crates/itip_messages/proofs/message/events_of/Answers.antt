@@ -10,7 +10,7 @@ use Rattle.cal_events.proofs.ReadingLemmas.{events_in, is_among, take_event, tak
 use Rattle.itip_messages.proofs.MessageLemmas.{event_stands, event_pushed}
 use Rattle.ical_values.proofs.Exits.{err_exit}
 use Rattle.itip_messages.proofs.message.events_of.Goals as goal
-use Rattle.itip_messages.proofs.message.events_of.Goals.{then-is_named+in_ok-read+in_ok-push, else-is_named}
+use Rattle.itip_messages.proofs.message.events_of.Goals.{then-is_named+in_ok-properties+in_ok-read+in_ok-push, else-is_named}
 
 pub returns-in_err-read-clause-stands : goal.returns-in_err-read-clause-stands
 returns-in_err-read-clause-stands c =
@@ -22,7 +22,8 @@ returns-in_err-read-clause-stands c =
     let within = subst (λ (l : List Component). i < length l) same c.loop-component-test.true in
     let here = subst (λ (l : List Component). x ≡ get_or l i x) same c.component-item.is in
     err_exit _ (RefusesBy (MessageFault own (vevents_of c.args.object.now))) _ c.from_residual.ensures.1
-    (event_stands own (vevents_of c.args.object.now) (component_lines x) _ (is_among all i x within here (sym c.if-is_named.ensures)) c.in_err-read.ensures.stands)
+    (event_stands own (vevents_of c.args.object.now) (component_lines x) _ (is_among all i x within here (sym c.if-is_named.ensures))
+    (rw c.in_ok-properties.ensures at c.in_err-read.ensures.stands))
 
 pub loop-component-preserved : goal.loop-component-preserved
 loop-component-preserved c =
@@ -35,9 +36,9 @@ loop-component-preserved c =
     let old = c.loop-component.events.items in
     let new = c.if-is_named.events.items in
     elim c.if-is_named.branch [
-      | then-is_named+in_ok-read+in_ok-push w ↦
+      | then-is_named+in_ok-properties+in_ok-read+in_ok-push w ↦
           subst (λ vs. AllZip (SaysEvent true) vs (map event_of new)) (sym (take_event all i x within here (sym w.if-is_named.ensures)))
-          (event_pushed (events_in (take i all)) (component_lines x) old new w.in_ok-read.field-0 c.loop-component.invariant w.in_ok-read.ensures.says
+          (event_pushed (events_in (take i all)) (component_lines x) old new w.in_ok-read.field-0 c.loop-component.invariant (rw w.in_ok-properties.ensures at w.in_ok-read.ensures.says)
           (ap (λ v. v.items) w.events-is ∙ w.in_ok-push.ensures.items))
       | else-is_named w ↦
           subst (λ vs. AllZip (SaysEvent true) vs (map event_of new)) (sym (take_other all i x within here (sym w.if-is_named.ensures)))

@@ -1,6 +1,5 @@
 use Rattle.std.proofs.Common.{codes, sym, subst, refl, arith}
 use Rattle.ical_lines.specs.Fault.{RefusesBy}
-use Rattle.ical_tree.specs.Tree.{component_lines}
 use Rattle.profile.specs.Events.{EventFault, twice}
 use Rattle.cal_events.specs.Events.{is_message}
 use Rattle.ical_values.proofs.Exits.{err_exit}
@@ -9,11 +8,11 @@ use Rattle.cal_events.proofs.component.EventComponent.judge_heading.Goals as goa
 pub returns-in_err-read_uid-clause-stands : goal.returns-in_err-read_uid-clause-stands
 returns-in_err-read_uid-clause-stands c =
     let m = is_message c.args.purpose in
-    err_exit _ (RefusesBy (EventFault m (component_lines c.args.component.now))) _ c.from_residual.ensures.1 (c.in_err-read_uid.ensures.stands m)
+    err_exit _ (RefusesBy (EventFault m c.args.properties.now)) _ c.from_residual.ensures.1 (c.in_err-read_uid.ensures.stands m)
 
 pub returns-in_err-optional-clause-stands : goal.returns-in_err-optional-clause-stands
 returns-in_err-optional-clause-stands c =
-    let P = EventFault (is_message c.args.purpose) (component_lines c.args.component.now) in
+    let P = EventFault (is_message c.args.purpose) c.args.properties.now in
     err_exit _ (RefusesBy P) _ c.from_residual-in_err-optional.ensures.1
     (subst P (sym c.in_err-optional.ensures.refuses) (twice (codes "STATUS") (4, omega arith, refl) c.in_err-optional.ensures.twice))
 

@@ -4,7 +4,7 @@ use Rattle.profile.specs.Zones.{Means}
 use Rattle.cal_zones.specs.Kinds.{zone_of}
 use Rattle.ical_lines.specs.Fault.{RefusesBy}
 use Rattle.ical_lines.specs.Text.{line_text}
-use Rattle.ical_tree.specs.Tree.{component_lines, tree_of}
+use Rattle.ical_tree.specs.Tree.{tree_of}
 use Rattle.profile.specs.ZonedTimes.{EventTimesFault, ZonedTimeFault, no_start, twice, bad_start}
 use Rattle.ical_values.proofs.Exits.{err_exit}
 use Rattle.cal_events.proofs.EventLemmas.{some_line}
@@ -15,7 +15,7 @@ use Rattle.cal_events.proofs.event_times.SaidTimes.read.Goals as goal
 
 pub returns-in_err-line-clause-stands : goal.returns-in_err-line-clause-stands
 returns-in_err-line-clause-stands c =
-    let P = EventTimesFault (tree_of c.args.object.now) (component_lines c.args.component.now) in
+    let P = EventTimesFault (tree_of c.args.object.now) c.args.properties.now in
     err_exit _ (RefusesBy P) _ c.from_residual.ensures.1
     (subst P (sym c.in_err-line.ensures.refuses)
     (elim c.in_err-line.ensures.faulty [ inl h ↦ no_start h | inr h ↦ twice (codes "DTSTART") (0, omega arith, refl) h ]))
@@ -23,7 +23,7 @@ returns-in_err-line-clause-stands c =
 pub returns-in_err-start-clause-stands : goal.returns-in_err-start-clause-stands
 returns-in_err-start-clause-stands c =
     let object = tree_of c.args.object.now in
-    let lines = component_lines c.args.component.now in
+    let lines = c.args.properties.now in
     let line = line_text c.in_ok-line.line in
     let P = EventTimesFault object lines in
     err_exit _ (RefusesBy P) _ c.from_residual-in_err-start.ensures.1
@@ -31,12 +31,12 @@ returns-in_err-start-clause-stands c =
 
 pub returns-in_err-extent-clause-stands : goal.returns-in_err-extent-clause-stands
 returns-in_err-extent-clause-stands c =
-    err_exit _ (RefusesBy (EventTimesFault (tree_of c.args.object.now) (component_lines c.args.component.now))) _ c.from_residual-in_err-extent.ensures.1 c.in_err-extent.ensures.stands
+    err_exit _ (RefusesBy (EventTimesFault (tree_of c.args.object.now) c.args.properties.now)) _ c.from_residual-in_err-extent.ensures.1 c.in_err-extent.ensures.stands
 
 pub returns-in_err-refuse_nominal-clause-stands : goal.returns-in_err-refuse_nominal-clause-stands
 returns-in_err-refuse_nominal-clause-stands c =
     let object = tree_of c.args.object.now in
-    let lines = component_lines c.args.component.now in
+    let lines = c.args.properties.now in
     let P = EventTimesFault object lines in
     let zoned = subst (λ b. IsNominal b c.in_ok-extent.extent) c.is_in_zone.ensures c.in_err-refuse_nominal.ensures.nominal in
     err_exit _ (RefusesBy P) _ c.from_residual-in_err-refuse_nominal.ensures.1
