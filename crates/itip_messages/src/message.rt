@@ -88,7 +88,8 @@ impl Message {
         ensures stands { IfErr result (RefusesBy (MessageFault (component_lines object.now) (vevents_of object.now))) }
     {
         refuse_unread_events(object)?;
-        let method = method_of(&Properties::of(alloc, object)?)?;
+        let properties = Properties::of(alloc, object)?;
+        let method = method_of(&properties)?;
         let mut events = events_of(alloc, object)?;
         judge_meeting(events.as_slice())?;
         let event = events.remove(0);

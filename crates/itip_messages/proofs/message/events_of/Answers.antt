@@ -21,7 +21,7 @@ returns-in_err-read-clause-stands c =
     let same = c.children-component-items.ensures in
     let within = subst (λ (l : List Component). i < length l) same c.loop-component-test.true in
     let here = subst (λ (l : List Component). x ≡ get_or l i x) same c.component-item.is in
-    err_exit _ (RefusesBy (MessageFault own (vevents_of c.args.object.now))) _ c.from_residual.ensures.1
+    err_exit _ (RefusesBy (MessageFault own (vevents_of c.args.object.now))) _ c.from_residual-in_err-read.ensures.1
     (event_stands own (vevents_of c.args.object.now) (component_lines x) _ (is_among all i x within here (sym c.if-is_named.ensures))
     (rw c.in_ok-properties.ensures at c.in_err-read.ensures.stands))
 

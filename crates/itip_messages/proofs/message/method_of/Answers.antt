@@ -1,19 +1,19 @@
-use Rattle.std.proofs.Common.{sym, subst}
+use Rattle.std.proofs.Common.{ap, sym, subst}
 use Rattle.ical_lines.specs.Text.{line_text}
 use Rattle.profile.specs.Messages.{MethodFault, two_methods, no_method}
 use Rattle.itip_messages.proofs.MessageLemmas.{word_stands}
 use Rattle.ical_values.proofs.Exits.{refusal_exit}
 use Rattle.itip_messages.proofs.message.method_of.Goals as goal
 
-pub returns-in_err-optional-clause-stands : goal.returns-in_err-optional-clause-stands
-returns-in_err-optional-clause-stands c =
+pub returns-in_err-line-clause-stands : goal.returns-in_err-line-clause-stands
+returns-in_err-line-clause-stands c =
     let P = MethodFault c.args.properties.now in
-    refusal_exit _ P _ c.from_residual.ensures.1 (subst P (sym c.in_err-optional.ensures.refuses) (two_methods c.in_err-optional.ensures.twice))
+    refusal_exit _ P _ c.from_residual.ensures.1 (subst P (sym (ap (λ refusal. refusal.number) c.in_err-line.ensures.refuses)) (two_methods c.in_err-line.ensures.twice))
 
 pub returns-in-Some-clause-stands : goal.returns-in-Some-clause-stands
 returns-in-Some-clause-stands c =
-    let once = rw c.in-Some.is at c.in_ok-optional.ensures.found in
+    let once = rw c.in-Some.is at c.in_ok-line.ensures.found in
     word_stands _ c.args.properties.now (line_text c.in-Some.line) once c.method_named.ensures.stands
 
 pub returns-in-None-clause-stands : goal.returns-in-None-clause-stands
-returns-in-None-clause-stands c = no_method (rw c.in-None.is at c.in_ok-optional.ensures.found)
+returns-in-None-clause-stands c = no_method (rw c.in-None.is at c.in_ok-line.ensures.found)
