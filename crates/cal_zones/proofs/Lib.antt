@@ -8,6 +8,7 @@ pub mod Once
 pub mod Spacing
 pub mod Lasts
 pub mod Named
+pub mod Seven
 pub mod PartLemmas
 pub mod Reading
 pub mod OneZone

@@ -1,6 +1,7 @@
 -- The day that BYMONTHDAY and BYDAY name: there is at most one.
-use Rattle.std.proofs.Common.{◌≡◌, ◌∙◌, refl, ap, sym, subst, inl, inr, ◌⊎◌, ℕ, ◌+◌, ◌<◌, ◌≤◌, Bool, true, false, ◌&&◌, ◌==◌, List, [], ◌∷◌, length, map, arith, ℤ, pos, neg_ℤ}
+use Rattle.std.proofs.Common.{◌≡◌, ◌∙◌, refl, ap, sym, subst, inl, inr, ◌⊎◌, ℕ, ◌+◌, ◌≤◌, Bool, true, false, ◌&&◌, ◌==◌, List, [], ◌∷◌, length, map, Option, Some, None, arith, ℤ, pos, neg_ℤ}
 use Rattle.std.specs.List.{list_all, list_any, range_with_len}
+use Rattle.std.specs.Option.{IfSome, IfNone}
 use Rattle.std.specs.Ordering.{int_eq}
 use Rattle.std.proofs.lemmas.Bool.{true≢false, false≢true, and_parts, or_cases, eqb-true}
 use Rattle.std.proofs.lemmas.Bool.Decides.{nat_tests, Decides-int_eq}
@@ -10,7 +11,7 @@ use Rattle.profile.specs.Days.{days_in_month}
 use Rattle.profile.specs.Faults.{is_between}
 use Rattle.profile.specs.Rules.{WeekdayNumber, RuleText, is_missing}
 use Rattle.profile.specs.ZoneTexts.{MonthDays, OnDay, FromStart, FromEnd, InWeek, YearRule, are_only, is_weekday, is_of_seven, are_seven, names_days, is_each_year, is_plain_yearly, is_one_day}
-use Rattle.cal_zones.specs.Named.{NoWeekdayFor, NamesNone}
+use Rattle.cal_zones.specs.Named.{NamesNone}
 
 -- ---- lists and tests
 
@@ -32,7 +33,7 @@ only_missing : {A : Type 0} (p : A → Bool) (xs : List A) → are_only p xs ≡
 only_missing p [] h m = true≢false (sym h)
 only_missing p (x ∷ xs) h m = true≢false (sym m)
 
-seven_at : (first : ℕ) (xs : List ℤ) → are_seven first xs ≡ true → (list_all (is_of_seven first) xs ≡ true) × (list_any (λ x. int_eq x (pos (first + 0))) xs ≡ true)
+pub seven_at : (first : ℕ) (xs : List ℤ) → are_seven first xs ≡ true → (list_all (is_of_seven first) xs ≡ true) × (list_any (λ x. int_eq x (pos (first + 0))) xs ≡ true)
 seven_at first xs h =
     let t = and_parts (list_all (is_of_seven first) xs) (list_all (λ more. list_any (λ x. int_eq x (pos (first + more))) xs) (range_with_len 0 7)) h in
     (t.0, (and_parts (list_any (λ x. int_eq x (pos (first + 0))) xs) (list_all (λ more. list_any (λ x. int_eq x (pos (first + more))) xs) (range_with_len 1 6)) t.1).0)
@@ -48,14 +49,25 @@ seven_low f g xs h k =
     let within : is_between g (g + 6) (f + 0) ≡ true = subst (λ (z : ℤ). is_of_seven g z ≡ true) same w.2 in
     grind (arith, nat_tests)
 
--- a list that isn't empty, of which each entry passes
-pub filled : {A : Type 0} (test : A → Bool) (xs : List A) (r : Bool) → false ≡ (length xs == 0) → r ≡ list_all test xs → r ≡ are_only test xs
-filled test [] r h e = absurd (false≢true h)
-filled test (x ∷ xs) r h e = e
+-- the entries of a list in other words
+pub only_map : {A B : Type 0} (test : B → Bool) (f : A → B) (xs : List A) (b : Bool) → are_only (λ x. test (f x)) xs ≡ b → are_only test (map f xs) ≡ b
+only_map test f [] b h = h
+only_map test f (x ∷ xs) b h = list_all-map test f (x ∷ xs) ∙ h
 
-pub filled_map : {A B : Type 0} (test : B → Bool) (f : A → B) (xs : List A) (r : Bool) → false ≡ (length xs == 0) → r ≡ list_all (λ x. test (f x)) xs → r ≡ are_only test (map f xs)
-filled_map test f [] r h e = absurd (false≢true h)
-filled_map test f (x ∷ xs) r h e = e ∙ sym (list_all-map test f (x ∷ xs))
+pub missing_map : {A B : Type 0} (f : A → B) (xs : List A) (b : Bool) → b ≡ (length xs == 0) → is_missing (map f xs) ≡ b
+missing_map f [] b h = sym h
+missing_map f (x ∷ xs) b h = let some : (length (x ∷ xs) == 0) ≡ false = grind (arith, nat_tests) in sym (h ∙ some)
+
+pub missing : {A : Type 0} (xs : List A) (b : Bool) → b ≡ (length xs == 0) → is_missing xs ≡ b
+missing [] b h = sym h
+missing (x ∷ xs) b h = let some : (length (x ∷ xs) == 0) ≡ false = grind (arith, nat_tests) in sym (h ∙ some)
+
+pub both : (a b : Bool) → a ≡ true → b ≡ true → a && b ≡ true
+both a b h k = rw (h, k) refl
+
+pub if_none : {A P : Type 0} (r : Option A) → P → IfNone r P
+if_none (Some x) p = tt
+if_none None p = p
 
 -- ---- one day
 
@@ -131,45 +143,72 @@ one_days month xs es (InWeek f v) (InWeek g w) h k y =
 
 -- ---- none
 
-pub none_on_day : (xs : List ℤ) → ((day : ℕ) → 1 ≤ day → day ≤ 28 → are_only (λ x. int_eq x (pos day)) xs ≡ false) → NamesNone xs []
-none_on_day xs never month (OnDay d) h y =
-    let low : 1 ≤ d = grind (arith, nat_tests) in
-    let high : d ≤ 28 = grind (arith, nat_tests) in
-    true≢false (sym (on_day d xs [] h).0 ∙ never d low high)
-none_on_day xs never month (FromStart k w) h y = true≢false (sym (from_start k w xs [] h).1)
-none_on_day xs never month (FromEnd k w) h y = true≢false (sym (from_end k w xs [] h).1)
-none_on_day xs never month (InWeek f w) h y = true≢false (sym (in_week f w xs [] h).1)
-
-pub none_numbered : (es : List WeekdayNumber) → ((k : ℕ) → 1 ≤ k → k ≤ 4 → NoWeekdayFor (pos k) es × NoWeekdayFor (neg_ℤ (pos k)) es) → NamesNone [] es
-none_numbered es never month (OnDay d) h y = true≢false (sym (on_day d [] es h).0)
-none_numbered es never month (FromStart k w) h y =
-    let low : 1 ≤ k = grind (arith, nat_tests) in
-    let high : k ≤ 4 = grind (arith, nat_tests) in
-    let day : w < 7 = grind (arith, nat_tests) in
-    true≢false (sym (from_start k w [] es h).1 ∙ (never k low high).0 w day)
-none_numbered es never month (FromEnd k w) h y =
-    let low : 1 ≤ k = grind (arith, nat_tests) in
-    let high : k ≤ 4 = grind (arith, nat_tests) in
-    let day : w < 7 = grind (arith, nat_tests) in
-    true≢false (sym (from_end k w [] es h).1 ∙ (never k low high).1 w day)
-none_numbered es never month (InWeek f w) h y = seven_missing f [] (in_week f w [] es h).0 refl
-
 month_most : (month : ℕ) → days_in_month 1 month ≤ 31
 month_most month = grind (arith, nat_tests)
 
-pub none_in_week : (xs : List ℤ) (es : List WeekdayNumber) → is_missing xs ≡ false → is_missing es ≡ false
-    → NoWeekdayFor (pos 0) es ⊎ ((first : ℕ) → 1 ≤ first → first ≤ 25 → are_seven first xs ≡ false) → NamesNone xs es
-none_in_week xs es m n never month (OnDay d) h y = true≢false (sym (on_day d xs es h).1 ∙ n)
-none_in_week xs es m n never month (FromStart k w) h y = true≢false (sym (from_start k w xs es h).0 ∙ m)
-none_in_week xs es m n never month (FromEnd k w) h y = true≢false (sym (from_end k w xs es h).0 ∙ m)
-none_in_week xs es m n (inl never) month (InWeek f w) h y =
-    let day : w < 7 = grind (arith, nat_tests) in
-    true≢false (sym (in_week f w xs es h).1 ∙ never w day)
-none_in_week xs es m n (inr never) month (InWeek f w) h y =
-    let low : 1 ≤ f = grind (arith, nat_tests) in
-    let end : f + 6 ≤ days_in_month 1 month = grind (arith, nat_tests) in
-    let high : f ≤ 25 = omega (arith, month_most month) in
-    true≢false (sym (in_week f w xs es h).0 ∙ never f low high)
+-- where BYDAY doesn't stand
+pub none_on_day : (xs : List ℤ) (es : List WeekdayNumber) → is_missing es ≡ true
+    → ((day : ℕ) → 1 ≤ day → day ≤ 28 → are_only (λ x. int_eq x (pos day)) xs ≡ false) → NamesNone xs es
+none_on_day xs es m never month (OnDay d) h y =
+    let low : 1 ≤ d = grind (arith, nat_tests) in
+    let high : d ≤ 28 = grind (arith, nat_tests) in
+    true≢false (sym (on_day d xs es h).0 ∙ never d low high)
+none_on_day xs es m never month (FromStart k w) h y = only_missing (is_weekday (pos k) w) es (from_start k w xs es h).1 m
+none_on_day xs es m never month (FromEnd k w) h y = only_missing (is_weekday (neg_ℤ (pos k)) w) es (from_end k w xs es h).1 m
+none_on_day xs es m never month (InWeek f w) h y = only_missing (is_weekday (pos 0) w) es (in_week f w xs es h).1 m
+
+-- where its entries differ
+pub none_unlike : (xs : List ℤ) (es : List WeekdayNumber) → is_missing es ≡ false
+    → ((number : ℤ) (weekday : ℕ) → are_only (is_weekday number weekday) es ≡ false) → NamesNone xs es
+none_unlike xs es m never month (OnDay d) h y = true≢false (sym (on_day d xs es h).1 ∙ m)
+none_unlike xs es m never month (FromStart k w) h y = true≢false (sym (from_start k w xs es h).1 ∙ never (pos k) w)
+none_unlike xs es m never month (FromEnd k w) h y = true≢false (sym (from_end k w xs es h).1 ∙ never (neg_ℤ (pos k)) w)
+none_unlike xs es m never month (InWeek f w) h y = true≢false (sym (in_week f w xs es h).1 ∙ never (pos 0) w)
+
+abbrev entry : ℤ → ℕ → WeekdayNumber
+entry number weekday = record { number = number; weekday = weekday }
+
+-- entries that are all one name what that one does
+alone : (p : WeekdayNumber → Bool) (e : WeekdayNumber) (es : List WeekdayNumber) → are_only (is_weekday e.number e.weekday) es ≡ true → are_only p es ≡ are_only p (e ∷ [])
+alone p e [] h = absurd (false≢true h)
+alone p e (x ∷ xs) h = all_alone p e x xs h
+  where
+    is_it : (e x : WeekdayNumber) → is_weekday e.number e.weekday x ≡ true → x ≡ e
+    is_it e x h =
+        let a = and_parts (int_eq x.number e.number) (x.weekday == e.weekday) h in
+        let number : x.number ≡ e.number = (Decides-int_eq x.number e.number).0 a.0 in
+        let weekday : x.weekday ≡ e.weekday = eqb-true x.weekday e.weekday a.1 in
+        ap (λ n. entry n x.weekday) number ∙ ap (entry e.number) weekday
+
+    twice : (b : Bool) → b && (b && true) ≡ b && true
+    twice true = refl
+    twice false = refl
+
+    all_alone : (p : WeekdayNumber → Bool) (e x : WeekdayNumber) (xs : List WeekdayNumber) → list_all (is_weekday e.number e.weekday) (x ∷ xs) ≡ true → list_all p (x ∷ xs) ≡ p e && true
+    all_alone p e x [] h = let a = and_parts (is_weekday e.number e.weekday x) true h in ap (λ y. p y && true) (is_it e x a.0)
+    all_alone p e x (y ∷ ys) h =
+        let a = and_parts (is_weekday e.number e.weekday x) (list_all (is_weekday e.number e.weekday) (y ∷ ys)) h in
+        let here = is_it e x a.0 in
+        let rest = all_alone p e y ys a.1 in
+        rw (here, rest) (twice (p e))
+
+pub names_alone : (days : MonthDays) (xs : List ℤ) (e : WeekdayNumber) (es : List WeekdayNumber) → are_only (is_weekday e.number e.weekday) es ≡ true
+    → names_days days xs es ≡ names_days days xs (e ∷ [])
+names_alone (OnDay d) xs e [] h = absurd (false≢true h)
+names_alone (OnDay d) xs e (x ∷ es) h = refl
+names_alone (FromStart k w) xs e es h = ap (λ b. is_missing xs && b) (alone (is_weekday (pos k) w) e es h)
+names_alone (FromEnd k w) xs e es h = ap (λ b. is_missing xs && b) (alone (is_weekday (neg_ℤ (pos k)) w) e es h)
+names_alone (InWeek f w) xs e es h = ap (λ b. are_seven f xs && b) (alone (is_weekday (pos 0) w) e es h)
+
+pub some_alone : {A : Type 0} (f : A → MonthDays) (r : Option A) (xs : List ℤ) (e : WeekdayNumber) (es : List WeekdayNumber) → are_only (is_weekday e.number e.weekday) es ≡ true
+    → IfSome r (λ days. names_days (f days) xs (e ∷ []) ≡ true) → IfSome r (λ days. names_days (f days) xs es ≡ true)
+some_alone f None xs e es only h = tt
+some_alone f (Some days) xs e es only h = names_alone (f days) xs e es only ∙ h
+
+pub none_alone : {A : Type 0} (r : Option A) (xs : List ℤ) (e : WeekdayNumber) (es : List WeekdayNumber) → are_only (is_weekday e.number e.weekday) es ≡ true
+    → IfNone r (NamesNone xs (e ∷ [])) → IfNone r (NamesNone xs es)
+none_alone (Some x) xs e es only h = tt
+none_alone None xs e es only h = λ month days names each. h month days (sym (names_alone days xs e es only) ∙ names) each
 
 -- ---- a whole rule
 

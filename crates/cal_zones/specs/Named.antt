@@ -1,11 +1,7 @@
 -- What BYMONTHDAY and BYDAY don't name.
-use Rattle.std.specs.Prelude.{◌≡◌, ℕ, ◌<◌, true, false, List, ℤ}
+use Rattle.std.specs.Prelude.{◌≡◌, ℕ, true, List, ℤ}
 use Rattle.profile.specs.Rules.{WeekdayNumber}
-use Rattle.profile.specs.ZoneTexts.{MonthDays, are_only, is_weekday, names_days, is_each_year}
-
--- no weekday alone with that number
-abbrev pub NoWeekdayFor : ℤ → List WeekdayNumber → Type 0
-NoWeekdayFor number entries = (weekday : ℕ) → weekday < 7 → are_only (is_weekday number weekday) entries ≡ false
+use Rattle.profile.specs.ZoneTexts.{MonthDays, names_days, is_each_year}
 
 -- no day of a month alone that every year has
 abbrev pub NamesNone : List ℤ → List WeekdayNumber → Type 0
