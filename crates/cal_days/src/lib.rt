@@ -14,20 +14,26 @@ use jiff::civil;
 pub use period::{Frequency, PeriodIndex};
 use std::marker::Model;
 
-/// The days of 400 years.
-const CYCLE: i64 = 146_097;
+/// The days of 400 years, after which the calendar repeats.
+pub const CYCLE: u32 = 146_097;
 
-/// The days from 0000-01-01 to 1970-01-01.
-const EPOCH: i64 = 719_528;
+/// The index of 0001-01-01, the first day.
+pub const FIRST_INDEX: u32 = 366;
+
+/// The index of 1970-01-01, of which the number is 0: a day's index is its number and this.
+pub const EPOCH_INDEX: u32 = 719_528;
+
+/// The index of 9999-12-31, the last day that a text can say, and jiff's last.
+pub const LAST_INDEX: u32 = 3_652_424;
 
 /// The number of 0001-01-01.
-const FIRST: i64 = -719_162;
+pub const FIRST_NUMBER: i64 = FIRST_INDEX as i64 - EPOCH_INDEX as i64;
 
-/// The number of 10001-12-31.
-const LAST: i64 = 2_933_627;
+/// The number of 9999-12-31.
+pub const LAST_NUMBER: i64 = LAST_INDEX as i64 - EPOCH_INDEX as i64;
 
-/// The number of 9999-12-31, where jiff ends.
-const JIFF_LAST: i64 = 2_932_896;
+/// The number of 10001-12-31, the last day.
+const LATEST: i64 = 2_933_627;
 
 /// A day, by its number from 1970-01-01.
 #[derive(Clone, Copy, Debug, PartialEq, Eq, PartialOrd, Ord, Hash)]
@@ -83,7 +89,7 @@ impl Day {
         ensures found { IsSome result ↔ IsDayNumber number }
         ensures value { IfSome result (λ d. d ≡ number) }
     {
-        if number < FIRST || number > LAST {
+        if number < FIRST_NUMBER || number > LATEST {
             return None;
         }
         Some(Day { number })
@@ -103,7 +109,7 @@ impl Day {
         ensures range { (366 ≤ result) × (result ≤ 3_653_155) }
     {
         let Day { number } = self;
-        (number + EPOCH) as u32
+        (number + EPOCH_INDEX as i64) as u32
     }
 
     /// The day of that index. None before 0001-01-01 and after 10001-12-31.
@@ -111,7 +117,7 @@ impl Day {
         ensures found { IsSome result ↔ ((366 ≤ index) × (index ≤ 3_653_155)) }
         ensures value { IfSome result (λ d. day_index d ≡ index) }
     {
-        let number = index as i64 - EPOCH;
+        let number = index as i64 - EPOCH_INDEX as i64;
         Day::of_number(number)
     }
 
@@ -230,8 +236,8 @@ fn civil_of(number: i64) -> Civil
     ensures number { number_of_day result.year result.month result.day ≡ number }
     ensures early { number ≤ℤ pos 2_932_896 → result.year ≤ℤ pos 9999 }
 {
-    if number > JIFF_LAST {
-        return later(date_of(number - CYCLE));
+    if number > LAST_NUMBER {
+        return later(date_of(number - CYCLE as i64));
     }
     date_of(number)
 }
@@ -294,7 +300,7 @@ fn late_number_of(year: i32, month: u8, day: u8) -> Option<i64>
 {
     let early = year - 400;
     match number_of(early, month, day) {
-        Some(number) => Some(number + CYCLE),
+        Some(number) => Some(number + CYCLE as i64),
         None => None,
     }
 }

@@ -1,5 +1,6 @@
 -- Lists of a few octets, digits, dates and clocks as they are spelled.
-use Rattle.std.proofs.Common.{to_z, of_z, w32, w64, ◌≡◌, ◌∙◌, ℕ, ◌-◌, ◌<◌, List, [], ◌∷◌, ◌++◌, length, get_or, take, drop, codes, refl, sym, ap, arith, ℤ, pos, negsuc, ◌+ℤ◌, ◌*ℤ◌, ◌≤ℤ◌}
+use Rattle.std.proofs.Common.{to_z, of_z, w32, w64, ◌≡◌, ◌∙◌, ℕ, ◌-◌, ◌<◌, List, [], ◌∷◌, ◌++◌, length, get_or, take, drop, codes, refl, sym, ap, arith, ℤ, pos, negsuc, ◌+ℤ◌, ◌*ℤ◌, ◌≤ℤ◌, ◌↔◌, Option, Some, None}
+use Rattle.std.specs.Option.{IsSome, IfSome, IfNone}
 use Rattle.std.proofs.lemmas.Int.{ints}
 use Rattle.std.proofs.lemmas.List.{append-nil}
 use Rattle.std.proofs.Common.{append_assoc}
@@ -106,6 +107,11 @@ date_found text year month day number long small d h e = record {
   counted = e;
 }
 
+pub date_read : (text : List ℕ) (year month day : ℕ) (read : Option ℤ) → length text ≡ 8 → year < 10_000 → DateDigits text year month day
+    → IsSome read ↔ IsDayDate (pos year) month day → IfSome read (λ d. d ≡ number_of_day (pos year) month day) → IfSome read (SpellsDate text)
+date_read text year month day None l y digits found value = tt
+date_read text year month day (Some d) l y digits found value = date_found text year month day d l y digits (found.0 refl) value
+
 -- T between a date and a time
 pub record ClockParts (limit : ℕ) (text : List ℕ) (seconds : ℤ) : Type 0 where
   pub long : length text ≡ 15
@@ -174,3 +180,7 @@ clock_pieces limit date time zone number seconds second on at_second e = (
 
 pub time_length : (limit : ℕ) (text : List ℕ) (total : ℕ) → SpellsTime limit text total → length text ≡ 6
 time_length limit text total s = ap length s.spelled
+
+pub if_none : {A P : Type 0} (r : Option A) → P → IfNone r P
+if_none (Some x) p = tt
+if_none None p = p

@@ -6,21 +6,19 @@ ghost use Rattle.profile.specs.Values.{SpellsDate, SpellsTime, SpellsClock, IsCl
 ghost use Rattle.ical_values.specs.Written.{Appends};
 
 use crate::append::append_all;
+use crate::date::{date_text, read_date};
 use crate::digits;
-use cal_days::Day;
+use cal_days::{Day, FIRST_NUMBER, LAST_NUMBER};
 use std::alloc::AllocError;
 
 /// The seconds of a day.
-pub const DAY: i64 = 86_400;
+pub const DAY_SECONDS: i64 = 86_400;
 
 /// Seconds of 0001-01-01T00:00:00.
-pub const FIRST: i64 = -62_135_596_800;
-
-/// Days from 0001-01-01 to 1970-01-01.
-const FIRST_DAY: i64 = 719_162;
+pub const FIRST: i64 = FIRST_NUMBER * DAY_SECONDS;
 
 /// Seconds of 9999-12-31T23:59:59.
-pub const LAST: i64 = 253_402_300_799;
+pub const LAST: i64 = LAST_NUMBER * DAY_SECONDS + DAY_SECONDS - 1;
 
 /// The seconds of a date and a time of day. None where the text is no such one.
 pub fn read(text: &[u8]) -> Option<i64>
@@ -31,38 +29,9 @@ pub fn read(text: &[u8]) -> Option<i64>
     if text.len() != 15 || text[8] != b'T' {
         return None;
     }
-    let Some(day) = read_date(&text[..8]) else {
-        return None;
-    };
-    let Some(second) = read_time(&text[9..], 60) else {
-        return None;
-    };
-    Some(day * DAY + second as i64)
-}
-
-/// The day number of `YYYYMMDD`, for the years 0001 to 9999.
-fn read_date(text: &[u8]) -> Option<i64>
-    ensures found { IfSome result (SpellsDate text.now) }
-    ensures low { IfSome result (λ n. negsuc 719_161 ≤ℤ n) }
-    ensures high { IfSome result (λ n. n ≤ℤ pos 2_932_896) }
-    ensures none { IfNone result ((number : ℤ) → SpellsDate text.now number → ⊥) }
-{
-    let [y1, y2, y3, y4, m1, m2, d1, d2] = text else {
-        return None;
-    };
-    let Some(year) = digits::read_four(*y1, *y2, *y3, *y4) else {
-        return None;
-    };
-    let Some(month) = digits::read_two(*m1, *m2) else {
-        return None;
-    };
-    let Some(day) = digits::read_two(*d1, *d2) else {
-        return None;
-    };
-    match Day::of(year as i32, month, day) {
-        Some(found) => Some(found.number()),
-        None => None,
-    }
+    let day = read_date(&text[..8])?;
+    let second = read_time(&text[9..], 60)?;
+    Some(day.number() * DAY_SECONDS + second as i64)
 }
 
 /// The second of the day of `HHMMSS`, where second 60 stands for 59. `limit` is the greatest second that
@@ -105,32 +74,17 @@ pub fn write(seconds: i64, zone: &[u8], out: &mut Vec<u8>) -> Result<(), AllocEr
     append_all(out, &[&date, b"T", &time, zone])
 }
 
-/// The day number and the second of that day.
-fn split(seconds: i64) -> (i64, u32)
+/// The day, and the second of that day.
+pub fn split(seconds: i64) -> (Day, u32)
     requires { IsClockSeconds seconds }
-    ensures low { negsuc 719_161 ≤ℤ result.0 }
     ensures high { result.0 ≤ℤ pos 2_932_896 }
     ensures second { result.1 < 86_400 }
     ensures sum { seconds ≡ (result.0 *ℤ pos 86_400) +ℤ pos result.1 }
 {
     let since = (seconds - FIRST) as u64;
-    let day = (since / 86_400) as i64;
-    (day - FIRST_DAY, (since % 86_400) as u32)
-}
-
-/// The digits `YYYYMMDD` of a day number of the years 0001 to 9999.
-fn date_text(number: i64) -> [u8; 8]
-    requires low { negsuc 719_161 ≤ℤ number }
-    requires high { number ≤ℤ pos 2_932_896 }
-    ensures { SpellsDate result number }
-{
-    let date = Day::of_number(number).unwrap().civil();
-    let year = date.year.unsigned_abs();
-    let [y1, y2] = digits::two((year / 100) as u8);
-    let [y3, y4] = digits::two((year % 100) as u8);
-    let [m1, m2] = digits::two(date.month);
-    let [d1, d2] = digits::two(date.day);
-    [y1, y2, y3, y4, m1, m2, d1, d2]
+    let number = (since / DAY_SECONDS as u64) as i64 + FIRST_NUMBER;
+    let day = Day::of_number(number).unwrap();
+    (day, (since % DAY_SECONDS as u64) as u32)
 }
 
 /// The digits `HHMMSS` of a second of the day.

@@ -4,6 +4,7 @@
 pub mod address;
 mod append;
 mod clock;
+pub mod date;
 mod digits;
 pub mod duration;
 pub mod local_time;
@@ -14,6 +15,7 @@ pub mod stamp;
 pub mod text;
 
 pub use address::Address;
+pub use clock::DAY_SECONDS;
 pub use duration::Duration;
 pub use local_time::LocalTime;
 pub use offset::UtcOffset;

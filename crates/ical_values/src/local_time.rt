@@ -1,11 +1,12 @@
 //! Local date-times (RFC 5545 3.3.5, forms 1 and 3): `YYYYMMDDTHHMMSS`, of the years 0001 to 9999,
 //! without a zone. Second 60 is read as 59.
 
-ghost use Rattle.std.specs.Prelude.{ℕ, List, ◌≡◌, ◌↔◌, ◌++◌, ℤ, IsSome, IfSome, IfOk, IfErr, OnOk, OnErr};
+ghost use Rattle.std.specs.Prelude.{ℕ, List, ◌≡◌, ◌↔◌, ◌++◌, ◌<◌, ◌≤ℤ◌, ◌+ℤ◌, ◌*ℤ◌, pos, ℤ, IsSome, IfSome, IfOk, IfErr, OnOk, OnErr};
 ghost use Rattle.profile.specs.Values.{SpellsLocal, WritesLocal, IsClockSeconds};
 ghost use Rattle.ical_values.specs.Written.{Appends};
 
-use crate::clock;
+use crate::clock::{self, DAY_SECONDS};
+use cal_days::Day;
 use ical_lines::Refusal;
 use std::alloc::AllocError;
 use std::marker::Model;
@@ -68,6 +69,27 @@ impl LocalTime {
             return None;
         }
         Some(LocalTime { seconds })
+    }
+
+    /// The day that it lies in, and the second of that day, from 0 to 86,399.
+    pub fn day_and_second(self) -> (Day, u32)
+        ensures day { result.0 ≤ℤ pos 2_932_896 }
+        ensures second { result.1 < 86_400 }
+        ensures sum { self ≡ (result.0 *ℤ pos 86_400) +ℤ pos result.1 }
+    {
+        let LocalTime { seconds } = self;
+        clock::split(seconds)
+    }
+
+    /// That second of a day. None where a day has no such second, and after the year 9999.
+    pub fn of_day(day: Day, second: u32) -> Option<LocalTime>
+        ensures found { IsSome result ↔ ((second < 86_400) × (day ≤ℤ pos 2_932_896)) }
+        ensures value { IfSome result (λ s. s ≡ (day *ℤ pos 86_400) +ℤ pos second) }
+    {
+        if second >= DAY_SECONDS as u32 {
+            return None;
+        }
+        LocalTime::of_seconds(day.number() * DAY_SECONDS + second as i64)
     }
 }
 

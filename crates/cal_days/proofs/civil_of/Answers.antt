@@ -3,8 +3,8 @@ use Rattle.jiff_core.proofs.SignedLemmas.{signed_arith}
 use Rattle.cal_days.proofs.Bridge.{year_high}
 use Rattle.cal_days.proofs.civil_of.Goals as goal
 
-pub returns-then-number-gt-JIFF_LAST-clause-date : goal.returns-then-number-gt-JIFF_LAST-clause-date
-returns-then-number-gt-JIFF_LAST-clause-date c =
+pub returns-then-number-gt-LAST_NUMBER-clause-date : goal.returns-then-number-gt-LAST_NUMBER-clause-date
+returns-then-number-gt-LAST_NUMBER-clause-date c =
     let e = c.date_of.ensures in
     let l = c.later.ensures in
     let bound : to_z w64 (of_z w64 (to_z w64 (of_z w64 c.args.number) -ℤ pos 146_097)) ≤ℤ pos 2_787_530 = omega (arith, signed_arith, c.requires) in
