@@ -10,5 +10,6 @@ pub mod OneRequest
 pub mod LineLemmas
 pub mod MessageLemmas
 pub mod TreeLemmas
+pub mod AttendeeSearch
 mod Examples
 pub mod ReplyExamples

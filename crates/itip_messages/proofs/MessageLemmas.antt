@@ -1,24 +1,22 @@
 -- What the lines of a message say, and what is wrong with them.
-use Rattle.std.proofs.Common.{◌≡◌, ◌∙◌, ℕ, Bool, true, false, ◌&&◌, ◌||◌, cond, List, [], ◌∷◌, ◌++◌, length, map, get_or, refl, sym, ap, subst, arith, inl, inr, Option, Some, None, IsSome, is_some, option_map}
+use Rattle.std.proofs.Common.{◌≡◌, ◌∙◌, ℕ, Bool, true, false, ◌&&◌, cond, List, [], ◌∷◌, ◌++◌, length, map, get_or, refl, sym, ap, subst, arith, inl, inr, Option, Some, None, IsSome, is_some, option_map}
 use Rattle.ical_lines.specs.Fault.{RefusesBy}
 use Rattle.std.specs.Prelude.{Result, Ok, Err, IfErr, Contains, codes}
 use Rattle.std.specs.List.{list_all, list_any, AllZip}
 use Rattle.std.specs.Str.{bytes_eq}
 use Rattle.std.proofs.lemmas.List.{map-append}
+use Rattle.std.proofs.lemmas.List.Sorted.{list_any-IsPermutation}
 use Rattle.std.proofs.Math.Bool.{or-false}
 use Rattle.std.proofs.lemmas.Bool.{or_parts}
 use Rattle.ical_lines.specs.declared.fault.Fault.{Fault}
 use Rattle.ical_lines.specs.declared.fault.Fault.TheVariants.{Refused, Memory}
 use Rattle.ical_lines.specs.declared.fault.Refusal.{Refusal}
 use Rattle.profile.specs.Lines.{line_value}
-use Rattle.profile.specs.Events.{Event, SaysEvent, Says, BothOrNeither, StandsAtMostOnce, EventFault, has_unread, lines_named}
+use Rattle.profile.specs.Events.{Event, SaysEvent, BothOrNeither, StandsAtMostOnce, EventFault, has_unread}
 use Rattle.profile.specs.Messages.{SaysRequest, MethodFault, bad_method, unread_method, MessageFault, in_event, no_event, two_meetings, two_wholes, is_same_meeting, are_one_meeting, is_unread_method, is_method}
 use Rattle.cal_events.specs.declared.component.EventComponent.{EventComponent}
 use Rattle.cal_events.specs.Events.{event_of}
 use Rattle.cal_events.proofs.EventLemmas.{some_line, push_zip}
-use Rattle.cal_events.specs.declared.component.Attendee.{Attendee}
-use Rattle.cal_events.specs.Events.{attendee_of}
-use Rattle.profile.specs.Events as events
 use Rattle.profile.specs.Revisions as revisions
 use Rattle.profile.specs.Messages.{AreParts, IsPart, names_room}
 use Rattle.itip_order.specs.Parts.{slot_of}
@@ -126,14 +124,10 @@ request_said own vevents event named read o = record {
 
 -- ---- parts
 
-any_mapped : (p : events.Attendee → Bool) (xs : List Attendee) → list_any (λ a. p (attendee_of a)) xs ≡ list_any p (map attendee_of xs)
-any_mapped p [] = refl
-any_mapped p (x ∷ xs) = ap (λ b. p (attendee_of x) || b) (any_mapped p xs)
-
 -- the one component names the room where the event does
 names_said : (room : List ℕ) (message : Message) (event : Event) (s : StandsFor message event) → component_names room s.component ≡ names_room room event
 names_said room message event s =
-    any_mapped (λ a. bytes_eq a.address room) s.component.attendees.items ∙ ap (list_any (λ a. bytes_eq a.address room)) s.says.attendees
+    sym (list_any-IsPermutation (λ a. bytes_eq a.address room) event.attendees s.component.attendees s.says.attendees)
 
 addressed : (room : List ℕ) (message : Message) (event : Event) → StandsFor message event → list_any (component_names room) message.components.items ≡ names_room room event
 addressed room message event s =

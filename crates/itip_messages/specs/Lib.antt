@@ -1,3 +1,4 @@
+pub mod Attendees
 pub mod Replies
 pub mod Messages
 pub mod ReadBack

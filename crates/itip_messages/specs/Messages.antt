@@ -2,13 +2,13 @@
 use Rattle.std.specs.Prelude.{◌≡◌, ℕ, ◌<◌, ◌⊎◌, Bool, true, false, List, [], ◌∷◌, length, map, codes, Some, if◌then◌else◌}
 use Rattle.ical_lines.specs.Fault.{RefusesBy}
 use Rattle.std.specs.List.{list_any}
+use Rattle.std.specs.List.Sorted.{IsPermutation}
 use Rattle.std.specs.Str.{bytes_eq}
 use Rattle.profile.specs.Lines.{line_value, is_same_name}
 use Rattle.profile.specs.Events.{Event, booked_by, lines_named}
 use Rattle.profile.specs.Messages.{IsCanonical, SaysRequest, SpellsRequest, RequestFault, is_method, is_unread_method, are_one_meeting}
 use Rattle.profile.specs.Revisions as revisions
 use Rattle.ical_values.specs.Octets.{text_octets, address_octets}
-use Rattle.cal_events.specs.Events.{attendee_of}
 use Rattle.ical_lines.specs.declared.fault.Fault.{Fault}
 use Rattle.ical_tree.specs.Reading.{Stands}
 use Rattle.itip_order.specs.declared.part.Slot.TheVariants.{Whole}
@@ -24,7 +24,7 @@ pub record SaysComponent (component : MessageComponent) (event : Event) : Type 0
   pub start : component.start ≡ event.start
   pub end : component.end ≡ (booked_by event).end
   pub canonical : IsCanonical component.canonical.items event
-  pub attendees : map attendee_of component.attendees.items ≡ event.attendees
+  pub attendees : IsPermutation event.attendees component.attendees
 
 -- the message is the REQUEST of this event
 pub record StandsFor (message : Message) (event : Event) : Type 0 where
@@ -62,7 +62,7 @@ MeetingFault events n =
 
 -- an ATTENDEE line of the component has the room's address
 abbrev pub component_names : List ℕ → MessageComponent → Bool
-component_names room component = list_any (λ a. bytes_eq (address_octets a.address) room) component.attendees.items
+component_names room component = list_any (λ a. bytes_eq a.address room) component.attendees
 
 -- the part that a component is for a room
 abbrev pub part_for : List ℕ → Message → MessageComponent → revisions.Part

@@ -1,12 +1,14 @@
 //! iTIP messages: their parts, and replies (RFC 5546 3.2).
 #![tactic(auto)]
 
+mod attendees;
 pub mod law;
 pub mod message;
 mod parts;
 pub mod reply;
 pub mod writer;
 
+pub use attendees::Attendees;
 pub use law::{answers_read_back, one_request, replies_read_back};
 pub use message::{Message, MessageComponent, Method};
 pub use reply::{Conflict, ConflictKey, Decision, ReplyEvent, write_reply};

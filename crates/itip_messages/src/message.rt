@@ -14,7 +14,8 @@ ghost use Rattle.profile.specs.Messages.{IsCanonical, MethodFault, MessageFault,
 ghost use Rattle.cal_events.specs.Events.{event_of, vevents_of};
 ghost use Rattle.itip_messages.specs.Messages.{IsMessageOf, IsSpelled, MeetingFault, NamesRequest, ReadFault, StandsFor, WordFault, component_names};
 
-use cal_events::{Attendee, EventComponent, Purpose, refuse_unread_events};
+use crate::attendees::Attendees;
+use cal_events::{EventComponent, Purpose, refuse_unread_events};
 use ical_lines::{Fault, Limits, Line, Refusal, Unfolded};
 use ical_tree::{Component, Properties, read_object};
 use ical_values::{Address, Duration, Sequence, Stamp, Text};
@@ -41,8 +42,8 @@ pub struct MessageComponent {
     /// The body's lines in their one form, unfolded, each ended by CRLF: two bodies are the same where
     /// these octets are.
     pub canonical: Vec<u8>,
-    /// The ATTENDEE lines in the order of the text.
-    pub attendees: Vec<Attendee>,
+    /// The ATTENDEE lines.
+    pub attendees: Attendees,
 }
 
 impl MessageComponent {
@@ -50,9 +51,7 @@ impl MessageComponent {
     pub fn names(&self, address: &Address) -> bool
         ensures { result ≡ component_names (address_octets address.now) self.now }
     {
-        self.attendees
-            .iter()
-            .any(|attendee| attendee.address == *address)
+        self.attendees.contains(address)
     }
 }
 
@@ -115,7 +114,7 @@ impl Message {
             start: event.start,
             end,
             canonical,
-            attendees: event.attendees,
+            attendees: Attendees::of(event.attendees),
         };
         let mut components = Vec::new(alloc);
         components.push(component)?;
