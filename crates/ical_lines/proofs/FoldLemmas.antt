@@ -1,9 +1,11 @@
 -- Folding, character by character.
-use Rattle.std.proofs.Common.{◌≡◌, ℕ, ◌+◌, ◌<◌, ◌≤◌, cond, Result, Ok, Err, OnOk, is_ok, List, [], ◌∷◌, ◌++◌, length, take, drop, get_or, refl, ap, sym, ◌∙◌, arith}
+use Rattle.std.proofs.Common.{◌≡◌, ℕ, ◌+◌, ◌<◌, ◌≤◌, nat_lt, false, cond, Result, Ok, Err, OnOk, is_ok, List, [], ◌∷◌, ◌++◌, length, take, drop, get_or, refl, ap, sym, ◌∙◌, arith}
 use Rattle.std.specs.Char.{encode_utf8}
 use Rattle.std.specs.Str.{IsUtf8, chars}
-use Rattle.std.proofs.lemmas.List.{append_assoc, append-nil, drop_more, drop_all, length_push, length-take, take-take}
-use Rattle.std.proofs.lemmas.Str.{chars-append}
+use Rattle.std.proofs.lemmas.Bool.Decides.{nat_tests}
+use Rattle.std.proofs.lemmas.List.{append_assoc, append-nil, drop_more, drop_all, length-append, length_push, length-take, take-take}
+use Rattle.std.proofs.lemmas.Str.{chars-append, encodes-chars}
+use lib.Utf8.{encodes}
 use Rattle.profile.specs.Lines.{fold_break, fold_from, next_column, column_after, folded}
 
 pub chars_left : (cs ys : List ℕ) (c : ℕ) → (length ys < length cs) × (c ≡ get_or cs (length ys) c) → drop (length ys) cs ≡ c ∷ drop (length (ys ++ c ∷ [])) cs
@@ -64,3 +66,41 @@ property_written (Ok x) old first second third new name value a b u e f g h k n 
     let k2 : third ≡ old ++ ((fold_from 0 cs ++ m) ++ fold_from cb ds) = k1 ∙ (ap (λ z. z ++ fold_from cb ds) (append_assoc old (fold_from 0 cs) m) ∙ append_assoc old (fold_from 0 cs ++ m) (fold_from cb ds)) in
     let k3 : third ≡ old ++ fold_from 0 (chars (name ++ 58 ∷ value)) = k2 ∙ ap (λ z. old ++ z) (parts_joined 0 cs ds ∙ ap (fold_from 0) (sym (chars_property name value u))) in
     n ∙ (ap (λ z. z ++ 13 ∷ 10 ∷ []) k3 ∙ append_assoc old (fold_from 0 (chars (name ++ 58 ∷ value))) (13 ∷ 10 ∷ []))
+
+-- ---- what fits on the physical line
+
+pub fits : (column : ℕ) (cs : List ℕ) → column + length (encodes cs) ≤ 75 → (fold_from column cs ≡ encodes cs) × (column_after column cs ≡ column + length (encodes cs))
+fits column [] h = (refl, omega arith)
+fits column (c ∷ cs) h =
+    let n = length (encode_utf8 c) in
+    let sizes : length (encode_utf8 c ++ encodes cs) ≡ n + length (encodes cs) = length-append (encode_utf8 c) (encodes cs) in
+    let near : column + n ≤ 75 = omega (arith, sizes, h) in
+    let short : nat_lt 75 (column + n) ≡ false = grind (arith, nat_tests, near) in
+    let rest = fits (column + n) cs (omega (arith, sizes, h)) in
+    (rw short (ap (λ z. encode_utf8 c ++ z) rest.0), rw short (rest.1 ∙ omega (arith, sizes)))
+
+-- a part that fits is written as it stands
+pub part_written : (old new text : List ℕ) (column : ℕ) → IsUtf8 text → column + length text ≤ 75 → new ≡ old ++ text → new ≡ old ++ fold_from column (chars text)
+part_written old new text column u h n =
+    let same = encodes-chars text u in
+    let short : column + length (encodes (chars text)) ≤ 75 = rw same h in
+    n ∙ ap (λ z. old ++ z) (sym ((fits column (chars text) short).0 ∙ same))
+
+pub column_written : (text : List ℕ) (column : ℕ) → IsUtf8 text → column + length text ≤ 75 → column + length text ≡ column_after column (chars text)
+column_written text column u h =
+    let same = encodes-chars text u in
+    let short : column + length (encodes (chars text)) ≤ 75 = rw same h in
+    sym ((fits column (chars text) short).1 ∙ ap (λ z. column + length z) same)
+
+-- ---- a line of two pieces
+
+pub pieces_written : {T E : Type 0} (r : Result T E) (old one two new first second : List ℕ) (column : ℕ) → IsUtf8 first → one ≡ old ++ fold_from 0 (chars first) → column ≡ column_after 0 (chars first)
+    → two ≡ one ++ fold_from column (chars second) → new ≡ cond (is_ok r) (two ++ 13 ∷ 10 ∷ []) two → OnOk r (new ≡ old ++ folded (first ++ second))
+pieces_written (Err x) old one two new first second column u e f g h = tt
+pieces_written (Ok x) old one two new first second column u e f g h =
+    let cs = chars first in
+    let ds = chars second in
+    let both : fold_from 0 cs ++ fold_from (column_after 0 cs) ds ≡ fold_from 0 (chars (first ++ second)) = sym (fold_from-append 0 cs ds) ∙ ap (fold_from 0) (sym (chars-append first second u)) in
+    let two_is : two ≡ (old ++ fold_from 0 cs) ++ fold_from (column_after 0 cs) ds = g ∙ (ap (λ z. z ++ fold_from column ds) e ∙ ap (λ z. (old ++ fold_from 0 cs) ++ fold_from z ds) f) in
+    let all : two ≡ old ++ fold_from 0 (chars (first ++ second)) = two_is ∙ (append_assoc old (fold_from 0 cs) (fold_from (column_after 0 cs) ds) ∙ ap (λ z. old ++ z) both) in
+    h ∙ (ap (λ z. z ++ 13 ∷ 10 ∷ []) all ∙ append_assoc old (fold_from 0 (chars (first ++ second))) (13 ∷ 10 ∷ []))

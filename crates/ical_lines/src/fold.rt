@@ -34,6 +34,22 @@ pub fn write_line(out: &mut Vec<u8>, text: &str) -> Result<(), AllocError>
     }
 }
 
+/// Writes one content line of two pieces, the second right behind the first, folded and ended by CRLF.
+/// Where memory is refused, `out` is unchanged.
+pub fn write_pieces(out: &mut Vec<u8>, first: &str, second: &str) -> Result<(), AllocError>
+    ensures written { OnOk result (out.new.items ≡ out.old.items ++ folded (first.now ++ second.now)) }
+    ensures unchanged { OnErr result (out.new.items ≡ out.old.items) }
+{
+    let kept = out.len();
+    match fold_pieces(out, first, second) {
+        Ok(()) => Ok(()),
+        Err(error) => {
+            out.truncate(kept);
+            Err(error)
+        }
+    }
+}
+
 /// Writes the line `name:value`, folded and ended by CRLF. The name may have parameters.
 /// Where memory is refused, `out` is unchanged.
 pub fn write_property(out: &mut Vec<u8>, name: &str, value: &str) -> Result<(), AllocError>
@@ -64,6 +80,16 @@ fn fold_line(out: &mut Vec<u8>, text: &str) -> Result<(), AllocError>
     out.extend_from_slice(b"\r\n")
 }
 
+/// Appends a folded line of two pieces and its line break. On an error some of it may have been appended.
+fn fold_pieces(out: &mut Vec<u8>, first: &str, second: &str) -> Result<(), AllocError>
+    ensures written { OnOk result (out.new.items ≡ out.old.items ++ folded (first.now ++ second.now)) }
+    ensures keeps { take (length out.old.items) out.new.items ≡ out.old.items }
+{
+    let column = fold_part(out, 0, first)?;
+    fold_part(out, column, second)?;
+    out.extend_from_slice(b"\r\n")
+}
+
 /// Appends the folded line `name:value` and its line break. On an error some of it may have been appended.
 fn fold_property(out: &mut Vec<u8>, name: &str, value: &str) -> Result<(), AllocError>
     ensures written { OnOk result (out.new.items ≡ out.old.items ++ folded (name.now ++ 58 ∷ value.now)) }
@@ -78,6 +104,21 @@ fn fold_property(out: &mut Vec<u8>, name: &str, value: &str) -> Result<(), Alloc
 /// Appends a part of a line that begins after `column` octets of a physical line, and gives the column after it.
 /// On an error some of it may have been appended.
 fn fold_part(out: &mut Vec<u8>, column: usize, text: &str) -> Result<usize, AllocError>
+    requires { column ≤ 75 }
+    ensures written { OnOk result (out.new.items ≡ out.old.items ++ fold_from column (chars text.now)) }
+    ensures column { IfOk result (λ after. after ≡ column_after column (chars text.now)) }
+    ensures small { IfOk result (λ after. after ≤ 75) }
+    ensures keeps { take (length out.old.items) out.new.items ≡ out.old.items }
+{
+    if text.len() > MAX_COLUMN - column {
+        return fold_long_part(out, column, text);
+    }
+    out.extend_from_slice(text.as_bytes())?;
+    Ok(column + text.len())
+}
+
+/// As `fold_part`, character by character: the part may have to be broken.
+fn fold_long_part(out: &mut Vec<u8>, column: usize, text: &str) -> Result<usize, AllocError>
     requires { column ≤ 75 }
     ensures written { OnOk result (out.new.items ≡ out.old.items ++ fold_from column (chars text.now)) }
     ensures column { IfOk result (λ after. after ≡ column_after column (chars text.now)) }

@@ -8,7 +8,7 @@ ghost use Rattle.ical_values.specs.Octets.{text_octets};
 ghost use Rattle.ical_values.specs.Written.{Appends};
 ghost use Rattle.itip_messages.specs.Replies.{IsStampLine, text_now};
 
-use ical_lines::write_line;
+use ical_lines::fold::{write_line, write_pieces};
 use ical_values::shown::{escaped_text, sequence_text, stamp_text};
 use ical_values::{Sequence, Stamp, Text};
 use std::alloc::{AllocError, Global};
@@ -95,9 +95,7 @@ impl ObjectWriter {
         ensures ok { OnOk result (self.new ≡ self.old ++ folded (name.now ++ value.now)) }
         ensures err { OnErr result (self.new ≡ self.old) }
     {
-        let mut line = String::from_str(self.alloc(), name)?;
-        line.push_str(value)?;
-        self.line(line.as_str())
+        write_pieces(&mut self.octets, name, value)
     }
 
     /// UID, with its escapes.

@@ -1,26 +1,11 @@
-use Rattle.std.proofs.Common.{length, arith}
-use Rattle.std.specs.Str.{chars}
-use Rattle.std.proofs.lemmas.Iterator.{YieldsList-from_chars}
-use Rattle.std.proofs.lemmas.Iterator.Consumers.{YieldsList-turn, YieldsList-end}
-use Rattle.ical_lines.proofs.FoldLemmas.{chars_left, add_character, add_column, fold_ends, column_ends, keeps_on}
+use Rattle.std.proofs.Common.{◌∙◌, ◌++◌, ap, arith}
+use Rattle.ical_lines.proofs.FoldLemmas.{part_written, column_written}
 use Rattle.ical_lines.proofs.fold.fold_part.Goals as goal
-
-pub loop-character-preserved : goal.loop-character-preserved
-loop-character-preserved c =
-    let t = YieldsList-turn (YieldsList-from_chars c.args.text.now c.utf8.text cc) c.loop-character.yielded _ c.loop-character.yielded_by _ _ c.in-Some.character c.in-Some.is c.next.ensures.steps in
-    let g = chars_left (chars c.args.text.now) c.loop-character.yielded c.in-Some.character t in record {
-      small = c.in_ok-at.ensures.small;
-      at_is = add_column _ _ _ _ _ _ c.in_ok-at.ensures.column g c.loop-character.invariant.at_is;
-      written = add_character _ _ _ _ _ _ _ _ c.in_ok-at.ensures.written c.in_ok-at.ensures.column g c.loop-character.invariant.written;
-      keeps = keeps_on _ c.loop-character.out.items _ c.loop-character.invariant.keeps c.fold_character.ensures.keeps;
-    }
 
 pub returns-clause-written : goal.returns-clause-written
 returns-clause-written c =
-    let t = YieldsList-end (YieldsList-from_chars c.args.text.now c.utf8.text cc) c.loop-character.yielded _ c.loop-character.yielded_by _ _ c.in-None.is c.next.ensures.steps in
-    fold_ends _ _ (chars c.args.text.now) c.loop-character.at (length c.loop-character.yielded) (omega (arith, t.1)) c.loop-character.invariant.written
+    let whole = c.in_ok-extend_from_slice.ensures.items ∙ ap (λ z. c.args.out.now.items ++ z) c.as_bytes.ensures.value in
+    part_written c.args.out.now.items _ c.args.text.now c.args.column c.utf8.text (omega (arith, c.requires, c.if-text-column.false)) whole
 
 pub returns-clause-column : goal.returns-clause-column
-returns-clause-column c =
-    let t = YieldsList-end (YieldsList-from_chars c.args.text.now c.utf8.text cc) c.loop-character.yielded _ c.loop-character.yielded_by _ _ c.in-None.is c.next.ensures.steps in
-    column_ends _ (chars c.args.text.now) c.loop-character.at (length c.loop-character.yielded) (omega (arith, t.1)) c.loop-character.invariant.at_is
+returns-clause-column c = column_written c.args.text.now c.args.column c.utf8.text (omega (arith, c.requires, c.if-text-column.false))

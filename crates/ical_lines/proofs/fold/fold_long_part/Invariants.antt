@@ -1,7 +1,7 @@
 use Rattle.std.proofs.Common.{◌≡◌, ◌≤◌, ◌++◌, take, length, drop}
 use Rattle.std.specs.Str.{chars}
 use Rattle.profile.specs.Lines.{fold_from, column_after}
-use Rattle.ical_lines.proofs.fold.fold_part.Given as goal
+use Rattle.ical_lines.proofs.fold.fold_long_part.Given as goal
 
 abbrev pub invariant-loop-character : goal.invariant-loop-character
 invariant-loop-character l = record {
