@@ -13,3 +13,4 @@ pub mod UnfoldLemmas
 pub mod Utf8Lemmas
 pub mod Yields
 pub mod CleanLines
+pub mod IdleLemmas

@@ -1,5 +1,5 @@
 -- The steps of a cutter, octet by octet.
-use Rattle.std.specs.Prelude.{ℕ, ◌+◌, Bool, true, false, not, ◌&&◌, ◌||◌, ◌==◌, nat_lt, List, [], ◌∷◌, slice_index, codes, if◌then◌else◌}
+use Rattle.std.specs.Prelude.{◌≡◌, ◌++◌, ℕ, ◌+◌, Bool, true, false, not, ◌&&◌, ◌||◌, ◌==◌, nat_lt, List, [], ◌∷◌, slice_index, codes, if◌then◌else◌}
 use Rattle.std.specs.Char.{to_ascii_lowercase}
 use Rattle.ical_lines.specs.declared.object_end.Cutter.{Cutter}
 use Rattle.ical_lines.specs.declared.object_end.Place.{Place}
@@ -79,3 +79,8 @@ begun_after s (b ∷ bs) = if ends_before s b then true else begun_after (step s
 -- at the start of an object
 abbrev pub fresh : Cutter
 fresh = record { place = Mark 0; seen = First 0; begun = false }
+
+-- with these octets or without them the same follows the object, and it has begun or hasn't
+pub record ChangeNothing (s : Cutter) (octets : List ℕ) : Type 0 where
+  pub rest : (more : List ℕ) → rest_after s (octets ++ more) ≡ rest_after s more
+  pub begun : (more : List ℕ) → begun_after s (octets ++ more) ≡ begun_after s more

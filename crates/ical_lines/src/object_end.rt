@@ -1,9 +1,10 @@
 //! The cut of a stream into objects (RFC 5545 3.4; where an object ends is this profile's choice).
 //! An object ends with the first unfolded line that is caselessly `END:VCALENDAR`, its line break included, or with
 //! the input. A line may still be continued after its line break, so one octet more has to be seen.
-ghost use Rattle.std.specs.Prelude.{◌≡◌, ◌≤◌, [], length, drop, MatchOption, is_some, if◌then◌else◌};
+ghost use Rattle.std.specs.Prelude.{◌≡◌, ◌≤◌, [], length, take, drop, MatchOption, is_some, if◌then◌else◌};
 ghost use Rattle.profile.specs.Objects.{after_object, is_begun};
 ghost use Rattle.ical_lines.specs.Cut.{
+  ChangeNothing,
   added,
   after_break,
   after_line,
@@ -18,6 +19,8 @@ ghost use Rattle.ical_lines.specs.Cut.{
   next_seen,
   step,
 };
+
+use memchr::memchr2;
 
 /// The line that ends an object, in lower case.
 const LAST_LINE: [u8; 13] = *b"end:vcalendar";
@@ -49,7 +52,8 @@ enum Place {
 
 /// Finds the end of one object, octet by octet, in constant space.
 ///
-/// Begin with `Cutter::new()` at the first octet of an object and call `feed` with each octet in turn.
+/// Begin with `Cutter::new()` at the first octet of an object and call `feed` with each octet in turn; those that
+/// `idle` counts may be left out.
 /// Where `feed` answers true, the object ended before that octet: the octet is the first of the next object,
 /// so give it to the `feed` of a new `Cutter` (which answers false). Where the input ends instead, `has_begun`
 /// tells whether the octets so far are an object; if not, they are only empty lines, which are no object.
@@ -83,6 +87,20 @@ impl Cutter {
             *self = self.step(octet);
         }
         ended
+    }
+
+    /// How many of the octets that come next need not be fed, since they change nothing: they go on with a line that is
+    /// known to be something else than `END:VCALENDAR`, up to its next CR or LF.
+    pub fn idle(&self, octets: &[u8]) -> usize
+        ensures within { result ≤ length octets.now }
+        ensures idle { ChangeNothing self.now (take result octets.now) }
+    {
+        match (self.place, self.seen) {
+            (Place::Line, Seen::Other) if self.begun => {
+                memchr2(b'\r', b'\n', octets).unwrap_or(octets.len())
+            }
+            _ => 0,
+        }
     }
 
     /// Whether the octets so far hold more than empty lines. A byte order mark is more.

@@ -1,11 +1,12 @@
 -- Where the octets of an object lead, and what follows it.
 use Rattle.std.proofs.Common.{◌≡◌, ℕ, zero, suc, ◌+◌, ◌-◌, ◌<◌, ◌≤◌, min, Bool, true, false, cond, nat_lt, List, [], ◌∷◌, ◌++◌, length, take, drop, get_or, Option, Some, None, IfSome, OnSome, refl, sym, ap, subst, ◌∙◌, arith, length-take, length-take-le, take-take, true≢false, take-append-drop, get_or-take}
+use Rattle.std.proofs.Math.Seq.{take-add}
 use Rattle.std.proofs.lemmas.Bool.Decides.{nat_tests}
 use Rattle.std.proofs.lemmas.List.{append_assoc, append_cancel_left, drop_more, take_more}
 use Rattle.std.specs.Io.{StartsWith}
 use Rattle.std.specs.Io.KnownBytes.{Consumes, IsAtEnd}
 use Rattle.profile.specs.Objects.{is_begun, after_object}
-use Rattle.ical_lines.specs.Cut.{rest_after, begun_after, ends_before, step, fresh}
+use Rattle.ical_lines.specs.Cut.{ChangeNothing, rest_after, begun_after, ends_before, step, fresh}
 use Rattle.ical_lines.specs.declared.object_end.Cutter.{Cutter}
 use Rattle.ical_lines.proofs.CutLemmas.{cutter_ends}
 use Rattle.ical_lines.proofs.BegunLemmas.{cutter_begins}
@@ -50,6 +51,12 @@ cuts_more a b c lent i l cuts goes is =
     let P : Cutter → Type 0 = Cuts b (x ∷ []) in
     let Q : List ℕ → Type 0 = λ z. Cuts a z c in
     subst Q (sym (take_more lent i 0 l)) (cuts_trans a b c (take i lent) (x ∷ []) cuts (subst P (sym (is ∙ ap (λ t. cond t b (step b x)) goes)) (cuts_step b x goes)))
+
+-- octets that need not be fed, after those that were
+pub cuts_on : (a b : Cutter) (lent : List ℕ) (i n : ℕ) → Cuts a (take i lent) b → ChangeNothing b (take n (drop i lent)) → Cuts a (take (i + n) lent) b
+cuts_on a b lent i n cuts same =
+    let idle : Cuts b (take n (drop i lent)) b = record { rest = same.rest; begun = same.begun; none = λ e. refl } in
+    subst (λ z. Cuts a z b) (sym (take-add i n lent)) (cuts_trans a b b (take i lent) (take n (drop i lent)) cuts idle)
 
 cond_short : (b : Bool) (y : ℕ) (ys zs : List ℕ) → length zs ≤ length ys → length (cond b (y ∷ ys) zs) ≤ length (y ∷ ys)
 cond_short true y ys zs h = omega arith

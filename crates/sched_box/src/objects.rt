@@ -123,13 +123,16 @@ fn scan(cutter: &mut Cutter, lent: &[u8]) -> Scanned
     ensures ended { result.ended ≡ true → ends_before cutter.new (slice_index lent.now result.count) ≡ true }
     ensures all { result.ended ≡ false → result.count ≡ length lent.now }
 {
-    for (place, octet) in lent.iter().enumerate() {
-        if cutter.feed(*octet) {
+    let mut place = cutter.idle(lent);
+    while place < lent.len() {
+        if cutter.feed(lent[place]) {
             return Scanned {
                 count: place,
                 ended: true,
             };
         }
+        place += 1;
+        place += cutter.idle(&lent[place..]);
     }
     Scanned {
         count: lent.len(),

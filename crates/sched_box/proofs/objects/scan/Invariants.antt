@@ -1,6 +1,12 @@
-use Rattle.std.proofs.Common.{take}
+use Rattle.std.proofs.Common.{◌≤◌, ◌-◌, length, take}
 use Rattle.sched_box.specs.Objects.{Cuts}
 use Rattle.sched_box.proofs.objects.scan.Given as goal
 
 abbrev pub invariant-loop-place : goal.invariant-loop-place
-invariant-loop-place l = Cuts l.fn.cutter (take l.place l.lent) l.cutter
+invariant-loop-place l = record {
+  within : l.place ≤ length l.lent;
+  cuts : Cuts l.fn.cutter (take l.place l.lent) l.cutter;
+}
+
+abbrev pub decreases-loop-place : goal.decreases-loop-place
+decreases-loop-place l = length l.lent - l.place
