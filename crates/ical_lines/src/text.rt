@@ -142,6 +142,7 @@ impl<'a> Iterator for Lines<'a> {
 
     ghost remaining = { item_count lines_left };
 
+    #[inline]
     fn next(&mut self) -> Option<Line<'a>> {
         while !self.rest.is_empty() {
             let (line, rest) = split_line(self.rest);
