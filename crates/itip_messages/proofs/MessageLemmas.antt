@@ -5,7 +5,6 @@ use Rattle.std.specs.Prelude.{Result, Ok, Err, IfErr, Contains, codes}
 use Rattle.std.specs.List.{list_all, list_any, AllZip}
 use Rattle.std.specs.Str.{bytes_eq}
 use Rattle.std.proofs.lemmas.List.{map-append}
-use Rattle.std.proofs.lemmas.List.Sorted.{list_any-IsPermutation}
 use Rattle.std.proofs.Math.Bool.{or-false}
 use Rattle.std.proofs.lemmas.Bool.{or_parts}
 use Rattle.ical_lines.specs.declared.fault.Fault.{Fault}
@@ -127,7 +126,7 @@ request_said own vevents event named read o = record {
 -- the one component names the room where the event does
 names_said : (room : List ℕ) (message : Message) (event : Event) (s : StandsFor message event) → component_names room s.component ≡ names_room room event
 names_said room message event s =
-    sym (list_any-IsPermutation (λ a. bytes_eq a.address room) event.attendees s.component.attendees s.says.attendees)
+    ap (list_any (λ a. bytes_eq a.address room)) s.says.attendees
 
 addressed : (room : List ℕ) (message : Message) (event : Event) → StandsFor message event → list_any (component_names room) message.components.items ≡ names_room room event
 addressed room message event s =

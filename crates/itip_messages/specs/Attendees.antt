@@ -1,4 +1,4 @@
--- What an ATTENDEE line is sorted and found by.
+-- What an attendee is found by.
 use Rattle.std.specs.Prelude.{ℕ, List}
 use Rattle.ical_values.specs.Octets.{address_octets}
 use Rattle.cal_events.specs.declared.component.Attendee.{Attendee}

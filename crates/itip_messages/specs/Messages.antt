@@ -2,7 +2,6 @@
 use Rattle.std.specs.Prelude.{◌≡◌, ℕ, ◌<◌, ◌⊎◌, Bool, true, false, List, [], ◌∷◌, length, map, codes, Some, if◌then◌else◌}
 use Rattle.ical_lines.specs.Fault.{RefusesBy}
 use Rattle.std.specs.List.{list_any}
-use Rattle.std.specs.List.Sorted.{IsPermutation}
 use Rattle.std.specs.Str.{bytes_eq}
 use Rattle.profile.specs.Lines.{line_value, is_same_name}
 use Rattle.profile.specs.Events.{Event, booked_by, lines_named}
@@ -24,7 +23,7 @@ pub record SaysComponent (component : MessageComponent) (event : Event) : Type 0
   pub start : component.start ≡ event.start
   pub end : component.end ≡ (booked_by event).end
   pub canonical : IsCanonical component.canonical.items event
-  pub attendees : IsPermutation event.attendees component.attendees
+  pub attendees : component.attendees ≡ event.attendees
 
 -- the message is the REQUEST of this event
 pub record StandsFor (message : Message) (event : Event) : Type 0 where

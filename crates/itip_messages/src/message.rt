@@ -42,7 +42,7 @@ pub struct MessageComponent {
     /// The body's lines in their one form, unfolded, each ended by CRLF: two bodies are the same where
     /// these octets are.
     pub canonical: Vec<u8>,
-    /// The ATTENDEE lines.
+    /// The ATTENDEE lines in the order of the text.
     pub attendees: Attendees,
 }
 
@@ -102,6 +102,7 @@ impl Message {
     {
         let canonical = canonical_body(alloc, &event)?;
         let end = event.end();
+        let attendees = Attendees::of(alloc, event.attendees)?;
         let (Some(organiser), Some(stamp)) = (event.organiser, event.stamp) else {
             unreachable!()
         };
@@ -114,7 +115,7 @@ impl Message {
             start: event.start,
             end,
             canonical,
-            attendees: Attendees::of(event.attendees),
+            attendees,
         };
         let mut components = Vec::new(alloc);
         components.push(component)?;

@@ -1,13 +1,14 @@
-use Rattle.std.proofs.Common.{◌≡◌, ◌∙◌, map, ap}
+use Rattle.std.proofs.Common.{◌∙◌, ap, subst}
 use Rattle.std.specs.List.{list_any}
 use Rattle.std.specs.Str.{bytes_eq}
-use Rattle.cal_events.specs.Events.{attendee_of}
 use Rattle.ical_values.specs.Octets.{address_octets}
-use Rattle.itip_messages.proofs.AttendeeSearch.{any_mapped}
+use Rattle.itip_messages.proofs.AttendeeSearch.{among}
 use Rattle.itip_messages.proofs.attendees.Attendees.contains.Goals as goal
 
 pub returns : goal.returns
 returns c =
     let address = address_octets c.args.address.now in
-    let seen : map attendee_of c.deref.result.now ≡ c.args.self.now = ap (map attendee_of) c.deref.ensures.value ∙ c.self.view_is in
-    c.is_among.ensures ∙ any_mapped (λ a. bytes_eq a.address address) c.deref.result.now ∙ ap (list_any (λ a. bytes_eq a.address address)) seen
+    c.is_among.ensures
+    ∙ ap (list_any (λ a. bytes_eq (address_octets a) address)) c.deref.ensures.value
+    ∙ among (λ octets. bytes_eq octets address) c.self.inside.lines.items c.self.inside.sorted.items c.self.invariant.1
+    ∙ ap (list_any (λ a. bytes_eq a.address address)) c.self.view_is

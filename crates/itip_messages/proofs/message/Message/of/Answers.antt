@@ -15,7 +15,7 @@ returns c =
       start = event.start;
       end = to_z w64 (of_z w64 c.end-end.result);
       canonical = c.in_ok-canonical.canonical;
-      attendees = c.of.result;
+      attendees = c.in_ok-attendees.attendees;
     } in
     let one : c.push.new.self.items ≡ component ∷ [] = rw (c.in_ok-push.ensures.items, c.new-components.ensures.items) refl in
     record {
@@ -30,6 +30,6 @@ returns c =
         start = refl;
         end = same ∙ c.end-end.ensures;
         canonical = c.in_ok-canonical.ensures;
-        attendees = c.of.ensures;
+        attendees = c.in_ok-attendees.ensures;
       };
     }

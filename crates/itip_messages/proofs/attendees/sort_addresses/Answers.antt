@@ -4,10 +4,10 @@ use Rattle.std.specs.Cmp.Lexicographic.{slice_cmp}
 use Rattle.std.proofs.lemmas.Cmp.{nat_list_cmp_total}
 use Rattle.std.proofs.lemmas.Fn.{always_returns_same}
 use Rattle.std.proofs.lemmas.List.Sorted.{ranks_by}
-use Rattle.itip_messages.specs.Attendees.{octets_of}
-use Rattle.itip_messages.proofs.attendees.sort_by_address.Goals as goal
+use Rattle.ical_values.specs.Octets.{address_octets}
+use Rattle.itip_messages.proofs.attendees.sort_addresses.Goals as goal
 
 pub returns-clause-rises : goal.returns-clause-rises
 returns-clause-rises c =
-    c.sort_unstable_by.ensures.sorted (λ a b. is_lt (slice_cmp nat_cmp (octets_of a) (octets_of b))) (ranks_by nat_list_cmp_total octets_of)
+    c.sort_unstable_by.ensures.sorted (λ a b. is_lt (slice_cmp nat_cmp (address_octets a) (address_octets b))) (ranks_by nat_list_cmp_total address_octets)
     (always_returns_same _ _ _ (λ a r g called. (search rules, search rules)))
