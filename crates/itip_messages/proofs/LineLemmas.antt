@@ -27,8 +27,8 @@ slot_line old new instant a =
     ((codes "RECURRENCE-ID:" ++ text) ∷ [], (text, a.1.1, refl), one_line old new _ (a.2 ∙ ap (λ x. old ++ x) a.1.2))
 
 -- the first lines of an object
-pub opened : (old new first empty one two three a b d m : List ℕ) → empty ≡ [] → one ≡ empty ++ a → two ≡ one ++ b → three ≡ two ++ d → first ≡ three ++ m → new ≡ old ++ first → new ≡ old ++ (a ++ (b ++ (d ++ m)))
-opened old new first empty one two three a b d m e0 e1 e2 e3 e4 e5 = rw (e5, e4, e3, e2, e1, e0) (simp append_assoc)
+pub opened : (old start one two three new a b d m : List ℕ) → start ≡ old → one ≡ start ++ a → two ≡ one ++ b → three ≡ two ++ d → new ≡ three ++ m → new ≡ old ++ (a ++ (b ++ (d ++ m)))
+opened old start one two three new a b d m e0 e1 e2 e3 e4 = rw (e4, e3, e2, e1, e0) (simp append_assoc)
 
 joins : (f : List ℕ → List ℕ) (old o1 o2 o3 o4 o5 o6 o7 o8 o9 a b d e g h k : List ℕ) (slot status : List (List ℕ))
     → o1 ≡ old ++ f a → o2 ≡ o1 ++ f b → o3 ≡ o2 ++ flat_map f slot → o4 ≡ o3 ++ f d → o5 ≡ o4 ++ f e

@@ -1,5 +1,5 @@
 //! An object that is being written, line by line (RFC 5545 3.1): each line folded, ended by CRLF.
-ghost use Rattle.std.specs.Prelude.{◌≡◌, [], ◌++◌, codes, decimal, option_map, OnOk, OnErr};
+ghost use Rattle.std.specs.Prelude.{◌≡◌, [], ◌++◌, codes, decimal, option_map, length, take, OnOk, OnErr};
 ghost use Rattle.profile.specs.Lines.{folded};
 ghost use Rattle.profile.specs.Values.{escaped};
 ghost use Rattle.profile.specs.Messages.{opening_lines, method_lines};
@@ -13,6 +13,9 @@ use ical_values::shown::{escaped_text, sequence_text, stamp_text};
 use ical_values::{Sequence, Stamp, Text};
 use std::alloc::{AllocError, Global};
 use std::marker::Model;
+
+/// The octets of a usual object, for which room is made at once: a reply with one answer has some 350.
+const USUAL: usize = 512;
 
 /// The lines written so far. A call that lacks memory leaves them as they were.
 #[derive(Drop)]
@@ -55,18 +58,33 @@ impl ObjectWriter {
         ensures ok { OnOk result (self.new ≡ self.old ++ written (opening_lines (option_map text_now method.entry))) }
         ensures err { OnErr result (self.new ≡ self.old) }
     {
-        let mut first = ObjectWriter::new(self.alloc());
-        first.line("BEGIN:VCALENDAR")?;
-        first.line("VERSION:2.0")?;
-        first.line("PRODID:-//iTIP room box//EN")?;
-        first.method(method)?;
-        self.octets.extend_from_slice(first.octets.as_slice())?;
+        let kept = self.octets.len();
+        match self.opening(method) {
+            Ok(()) => Ok(()),
+            Err(error) => {
+                self.octets.truncate(kept);
+                Err(error)
+            }
+        }
+    }
+
+    /// As `begin_calendar`. On an error some of the lines may have been written.
+    fn opening(&mut self, method: Option<&str>) -> Result<(), AllocError>
+        ensures ok { OnOk result (self.new ≡ self.old ++ written (opening_lines (option_map text_now method.entry))) }
+        ensures keeps { take (length self.old) self.new ≡ self.old }
+    {
+        self.octets.reserve(USUAL)?;
+        self.line("BEGIN:VCALENDAR")?;
+        self.line("VERSION:2.0")?;
+        self.line("PRODID:-//iTIP room box//EN")?;
+        self.method(method)?;
         Ok(())
     }
 
     /// METHOD, where there is one.
     fn method(&mut self, method: Option<&str>) -> Result<(), AllocError>
         ensures ok { OnOk result (self.new ≡ self.old ++ written (method_lines (option_map text_now method.entry))) }
+        ensures err { OnErr result (self.new ≡ self.old) }
     {
         match method {
             Some(method) => self.named("METHOD:", method),
