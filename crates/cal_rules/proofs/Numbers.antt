@@ -275,74 +275,9 @@ entry_same value a b s t =
 
 -- ---- UNTIL
 
--- the day whose midnight those seconds are
-pub record Midnight (value : List ℕ) (seconds : ℤ) : Type 0 where
-  pub number : ℤ
-  pub on : SpellsDate value number
-  pub counted : seconds ≡ number *ℤ pos 86_400
-
--- 00:00:00
-midnight : SpellsTime 60 (codes "000000") 0
-midnight = record {
-  hour = 0;
-  minute = 0;
-  second = 0;
-  hours = lit≤ tt;
-  minutes = lit≤ tt;
-  seconds = lit≤ tt;
-  spelled = refl;
-  counted = refl;
-}
-
-no_more : (seconds number : ℤ) (second : ℕ) → seconds ≡ (number *ℤ pos 86_400) +ℤ pos second → second ≡ 0 → seconds ≡ number *ℤ pos 86_400
-no_more seconds number second e z = omega (arith, ints)
-
-pub midnight_parts : (value : List ℕ) (seconds : ℤ) → SpellsLocal (value ++ codes "T000000") seconds → Midnight value seconds
-midnight_parts value seconds s =
-    let p = clock_parts 60 (value ++ codes "T000000") seconds s in
-    let long : length value ≡ 8 = omega (arith, p.long, length-append value (codes "T000000")) in
-    let front : take 8 (value ++ codes "T000000") ≡ value = take_at value (codes "T000000") 8 long in
-    let back : after_letter (value ++ codes "T000000") ≡ codes "000000" = ap (λ v. after_letter (v ++ codes "T000000")) (list_of_8 value long) in
-    let zero_second : p.second ≡ 0 = time_same 60 (codes "000000") p.second 0 (lit≤ tt) (rw back at p.at_second) midnight in
-    record {
-      number = p.number;
-      on = rw front at p.on;
-      counted = no_more seconds p.number p.second p.counted zero_second;
-    }
-
-pub no_midnight : (value : List ℕ) → SpellsNone SpellsLocal (value ++ codes "T000000") → SpellsNone SpellsDate value
-no_midnight value none number s = none ((number *ℤ pos 86_400) +ℤ pos 0) (record {
-  date = value;
-  time = codes "000000";
-  number = number;
-  second = 0;
-  on = s;
-  at_second = midnight;
-  spelled = sym (append_assoc value (codes "T") (codes "000000"));
-  counted = refl;
-})
-
-day_bounds : (seconds number : ℤ) → IsClockSeconds seconds → seconds ≡ number *ℤ pos 86_400 → IsDayNumber number
-day_bounds seconds number h e = (omega (arith, ints, h.0, h.1), omega (arith, ints, h.0, h.1))
-
-day_cast : (number : ℤ) → IsDayNumber number → to_z w64 (of_z w64 number) ≡ number
-day_cast number h = omega (arith, ints, h.0, h.1)
-
--- the number of that day, as the program reckons it
-day_number_is : (value : List ℕ) (seconds day : ℤ) (m : Midnight value seconds) → IsClockSeconds seconds → ((number : ℤ) → to_z w64 (of_z w64 seconds) ≡ number *ℤ pos 86_400 → day ≡ number) → to_z w64 (of_z w64 day) ≡ m.number
-day_number_is value seconds day m range h =
-    let same : day ≡ m.number = h m.number (wide_clock seconds range ∙ m.counted) in
-    ap (λ n. to_z w64 (of_z w64 n)) same ∙ day_cast m.number (day_bounds seconds m.number range m.counted)
-
-pub day_reads : (value : List ℕ) (seconds day : ℤ) (read : Option ℤ) → Midnight value seconds → IsClockSeconds seconds → ((number : ℤ) → to_z w64 (of_z w64 seconds) ≡ number *ℤ pos 86_400 → day ≡ number) → IfSome read (λ d. d ≡ to_z w64 (of_z w64 day)) → IfSome read (SpellsDate value)
-day_reads value seconds day None m range h e = tt
-day_reads value seconds day (Some d) m range h e =
-    let same : d ≡ m.number = e ∙ day_number_is value seconds day m range h in rw same m.on
-
-pub day_none : (value : List ℕ) (seconds day : ℤ) (read : Option ℤ) → Midnight value seconds → IsClockSeconds seconds → ((number : ℤ) → to_z w64 (of_z w64 seconds) ≡ number *ℤ pos 86_400 → day ≡ number) → (IsDayNumber (to_z w64 (of_z w64 day)) → IsSome read) → IfNone read (SpellsNone SpellsDate value)
-day_none value seconds day None m range h found = λ number s.
-    let f : false ≡ true = found (rw (day_number_is value seconds day m range h) (day_bounds seconds m.number range m.counted)) in cc
-day_none value seconds day (Some d) m range h found = tt
+pub if_none : {A P : Type 0} (r : Option A) → P → IfNone r P
+if_none (Some x) p = tt
+if_none None p = p
 
 pub no_until : (value : List ℕ) → SpellsNone SpellsStamp value → SpellsNone SpellsLocal value → SpellsNone SpellsDate value → SpellsNone SpellsUntil value
 no_until value stamp local date (UntilDay number) s = date number s

@@ -85,7 +85,7 @@ impl Parts {
             }
             "INTERVAL" => Ok(put(&mut self.interval, read_interval(value))),
             "COUNT" => Ok(put(&mut self.count, read_count(value))),
-            "UNTIL" => Ok(put(&mut self.until, read_until(alloc, value)?)),
+            "UNTIL" => Ok(put(&mut self.until, read_until(value))),
             "WKST" => Ok(put(&mut self.week_start, read_weekday(value))),
             "BYMONTH" => Ok(put(&mut self.months, read_months(alloc, value)?)),
             "BYMONTHDAY" => Ok(put(&mut self.month_days, read_places(alloc, 31, value)?)),

@@ -13,10 +13,7 @@ use crate::cursor::Cursor;
 use crate::facts::DayFacts;
 use crate::span::Span;
 use crate::written::Written;
-use cal_days::{Day, Frequency};
-
-/// The index of 9999-12-31, the last day of every rule.
-pub(crate) const LAST_RULE_DAY: u32 = 3_652_424;
+use cal_days::{Day, Frequency, LAST_INDEX};
 
 /// From a period with that remainder by the interval, how many periods are to be gone on to reach the
 /// other remainder.
@@ -141,7 +138,7 @@ impl Written {
         if index > last.index() {
             return false;
         }
-        if index > LAST_RULE_DAY {
+        if index > LAST_INDEX {
             return false;
         }
         self.is_chosen(start, index)
@@ -168,7 +165,7 @@ impl Written {
         ensures { let parts = parts_of self.now start.index (day_index last) in
             MatchOption result (NoneFrom parts from.day.index) (IsPastNext parts from.day.index) }
     {
-        let limit = last.index().min(LAST_RULE_DAY);
+        let limit = last.index().min(LAST_INDEX);
         let begin = from.not_before(start);
         self.next_chosen(start, begin, limit)
     }
@@ -180,12 +177,12 @@ impl Written {
         ensures { EndsAt (parts_of self.now start.index (day_index last)) result }
     {
         let Some(count) = self.count else {
-            return LAST_RULE_DAY;
+            return LAST_INDEX;
         };
         let mut cursor = Cursor::at(start);
         for done in 0..count {
             let Some(after) = self.next_counted(start, last, cursor) else {
-                return LAST_RULE_DAY;
+                return LAST_INDEX;
             };
             cursor = after;
         }

@@ -7,10 +7,7 @@ ghost use Rattle.cal_rules.specs.Known.{AreFacts};
 ghost use Rattle.cal_rules.specs.Spans.{IsSpan};
 
 use crate::facts::DayFacts;
-use cal_days::Frequency;
-
-/// The index of 0001-01-01, the first day.
-const FIRST_DAY: u32 = 366;
+use cal_days::{FIRST_INDEX, Frequency};
 
 /// The days from `first` on and before `end`, by their indices.
 #[derive(Clone, Copy, Debug)]
@@ -53,7 +50,7 @@ fn week_of(week_start: u8, index: u32) -> Span
 {
     let passed = (index + 12 - week_start as u32) % 7;
     Span {
-        first: (index - passed).max(FIRST_DAY),
+        first: (index - passed).max(FIRST_INDEX),
         end: index + 7 - passed,
     }
 }

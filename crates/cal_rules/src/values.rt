@@ -1,16 +1,16 @@
 //! The values of a rule's parts: words, numbers, weekdays, dates (RFC 5545 3.3.10).
 
-ghost use Rattle.std.specs.Prelude.{◌≡◌, ◌<◌, ◌≤◌, ◌^◌, ◌*ℤ◌, ℕ, ℤ, pos, neg_ℤ, IfSome, IfNone, IfOk};
-ghost use Rattle.profile.specs.Values.{IsNumber, IsClockSeconds, SpellsDate};
+ghost use Rattle.std.specs.Prelude.{◌≡◌, ◌<◌, ◌≤◌, ◌^◌, ℕ, pos, neg_ℤ, IfSome, IfNone};
+ghost use Rattle.profile.specs.Values.{IsNumber};
 ghost use Rattle.profile.specs.RuleTexts.{SpellsFrequency, SpellsWeekday, SpellsBetween, SpellsInterval, SpellsCount, SpellsPlace, SpellsEntry, SpellsUntil, SpellsNone};
 ghost use Rattle.cal_days.specs.Views.{frequency_of};
 ghost use Rattle.cal_rules.specs.Views.{entry_of, until_of};
 
 use crate::checks::is_between;
 use crate::written::{Until, WeekdayNumber};
-use cal_days::{Day, Frequency};
+use cal_days::Frequency;
+use ical_values::date::read_date;
 use ical_values::{LocalTime, Stamp};
-use std::alloc::{AllocError, Global};
 
 /// The frequency of a word; those of less than a day are left out here.
 pub(crate) fn read_frequency(value: &str) -> Option<Frequency>
@@ -149,40 +149,16 @@ pub(crate) fn read_entry(value: &str) -> Option<WeekdayNumber>
 }
 
 /// A date, a local date-time, or one in UTC.
-pub(crate) fn read_until(alloc: Global, value: &str) -> Result<Option<Until>, AllocError>
-    ensures reads { IfOk result (λ read. IfSome read (λ end. SpellsUntil value.now (until_of end))) }
-    ensures none { IfOk result (λ read. IfNone read (SpellsNone SpellsUntil value.now)) }
+pub(crate) fn read_until(value: &str) -> Option<Until>
+    ensures reads { IfSome result (λ end. SpellsUntil value.now (until_of end)) }
+    ensures none { IfNone result (SpellsNone SpellsUntil value.now) }
 {
     if let Ok(stamp) = Stamp::read(value) {
-        return Ok(Some(Until::Utc(stamp)));
+        return Some(Until::Utc(stamp));
     }
     if let Ok(local) = LocalTime::read(value) {
-        return Ok(Some(Until::Local(local)));
+        return Some(Until::Local(local));
     }
-    let Some(day) = read_date(alloc, value)? else {
-        return Ok(None);
-    };
-    Ok(Some(Until::Date(day)))
-}
-
-/// A date, by its midnight.
-fn read_date(alloc: Global, value: &str) -> Result<Option<Day>, AllocError>
-    ensures reads { IfOk result (λ read. IfSome read (SpellsDate value.now)) }
-    ensures none { IfOk result (λ read. IfNone read (SpellsNone SpellsDate value.now)) }
-{
-    let mut midnight = String::from_str(alloc, value)?;
-    midnight.push_str("T000000")?;
-    let Ok(local) = LocalTime::read(midnight.as_str()) else {
-        return Ok(None);
-    };
-    Ok(Day::of_number(day_number(local.seconds())))
-}
-
-/// The number of the day that begins with that second.
-fn day_number(seconds: i64) -> i64
-    requires { IsClockSeconds seconds }
-    ensures { (number : ℤ) → seconds ≡ number *ℤ pos 86_400 → result ≡ number }
-{
-    let since = (seconds + 62_135_596_800) as u64;
-    (since / 86_400) as i64 - 719_162
+    let day = read_date(value.as_bytes())?;
+    Some(Until::Date(day))
 }

@@ -1,8 +1,9 @@
 -- The search for the last day on which a time of day isn't past an instant.
-use Rattle.std.proofs.Common.{inl, inr, ℕ, ◌+◌, ◌<◌, ◌≤◌, arith, ℤ, ◌+ℤ◌, ◌≤ℤ◌}
+use Rattle.std.proofs.Common.{◌≡◌, inl, inr, ℕ, ◌+◌, ◌<◌, ◌≤◌, arith, ℤ, pos, ◌+ℤ◌, ◌*ℤ◌, ◌≤ℤ◌}
 use Rattle.std.specs.Int.Signed.{◌<ℤ◌}
 use Rattle.std.proofs.lemmas.Bool.{cases_order}
-use Rattle.jiff_core.proofs.SignedLemmas.{signed_arith}
+use Rattle.jiff_core.proofs.SignedLemmas.{signed_arith, one_part}
+use Rattle.profile.specs.Days.{IsDayNumber, day_index}
 use Rattle.profile.specs.Zones.{Zone, Means, IsBounds, NoneFrom, local_time}
 use Rattle.cal_zones.proofs.Zones.{one_meaning}
 
@@ -31,3 +32,7 @@ none_more z least greatest until start second day b none m past other from withi
       | inr (inl lt) ↦ absurd (omega arith)
       | inr (inr gt) ↦ none other (omega arith) within t n
     ]
+
+-- the local time at a second of a day, by its number and by its index
+pub local_of_day : (day : ℤ) (second : ℕ) → IsDayNumber day → (day *ℤ pos 86_400) +ℤ pos second ≡ local_time (day_index day) second
+local_of_day day second h = omega (arith, signed_arith, one_part (day +ℤ pos 719_528), h.0, h.1)

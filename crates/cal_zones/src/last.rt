@@ -8,20 +8,8 @@ ghost use Rattle.profile.specs.Zones.{Means, IsNearEpoch, IsLastDay, NoneFrom, l
 ghost use Rattle.cal_zones.specs.Kinds.{zone_of};
 
 use crate::kinds::Zone;
-use cal_days::Day;
-use ical_values::LocalTime;
-
-/// The seconds of a day.
-const DAY: i64 = 86_400;
-
-/// The seconds from 0000-01-01T00:00:00 to 1970-01-01T00:00:00.
-const EPOCH: i64 = 62_167_219_200;
-
-/// The index of 0001-01-01.
-const FIRST_INDEX: u32 = 366;
-
-/// The index of 9999-12-31.
-const LAST_INDEX: u32 = 3_652_424;
+use cal_days::{Day, EPOCH_INDEX, FIRST_INDEX, LAST_INDEX};
+use ical_values::{DAY_SECONDS, LocalTime};
 
 /// An instant before all local times, and one after them.
 const EARLY: i64 = -62_166_900_000;
@@ -41,18 +29,8 @@ fn latest_day(second: u32, offset: i32, until: i64) -> u32
     if until > LATE {
         return LAST_INDEX;
     }
-    let seconds = (until + offset as i64 + EPOCH - second as i64) as u64;
-    ((seconds / 86_400) as u32).min(LAST_INDEX)
-}
-
-/// The local time at a second of a day, by its index.
-pub(crate) fn local_seconds(index: u32, second: u32) -> i64
-    requires index { (366 ≤ index) × (index ≤ 3_652_424) }
-    requires second { second < 86_400 }
-    ensures value { result ≡ local_time index second }
-    ensures range { IsClockSeconds result }
-{
-    DAY * index as i64 + second as i64 - EPOCH
+    let since = until + offset as i64 - second as i64 + EPOCH_INDEX as i64 * DAY_SECONDS;
+    ((since as u64 / DAY_SECONDS as u64) as u32).min(LAST_INDEX)
 }
 
 impl Zone {
@@ -63,8 +41,8 @@ impl Zone {
         ensures meaning { Means (zone_of self.now) (local_time (day_index day) second) result }
         ensures range { IsNearEpoch result }
     {
-        let seconds = local_seconds(day.index(), second);
-        self.resolve(LocalTime::of_seconds(seconds).unwrap())
+        let local = LocalTime::of_day(day, second).unwrap();
+        self.resolve(local)
     }
 
     /// The last day up to 9999-12-31 on which a time of day, in seconds, isn't past an instant. None where
@@ -74,7 +52,7 @@ impl Zone {
             MatchOption result (NoneFrom z second until 366) (λ day. IsLastDay z second until (day_index day)) }
         ensures none { 86_400 ≤ second → result ≡ None }
     {
-        if second >= 86_400 {
+        if second >= DAY_SECONDS as u32 {
             return None;
         }
         self.last_day_at(second, until)

@@ -15,9 +15,6 @@ use crate::spaced::is_spaced;
 use ical_lines::Refusal;
 use ical_values::{LocalTime, UtcOffset};
 
-/// The seconds from 0000-01-01T00:00:00 to 1970-01-01T00:00:00.
-const EPOCH: i64 = 62_167_219_200;
-
 /// The seconds by which the offsets of a zone differ at most.
 const HALF_DAY: u32 = 43_200;
 
@@ -70,18 +67,16 @@ impl Observance {
         ensures from { result.offset_from ≡ from }
         ensures to { result.offset_to ≡ to }
     {
-        let seconds = (start.seconds() + EPOCH) as u64;
+        let (day, second) = start.day_and_second();
         Observance {
-            day: (seconds / 86_400) as u32,
-            second: (seconds % 86_400) as u32,
+            day: day.index(),
+            second,
             rule,
             offset_from: from.seconds(),
             offset_to: to.seconds(),
         }
     }
-}
 
-impl Observance {
     /// The same with an RRULE.
     pub(crate) fn with_rule(self, rule: Yearly) -> Observance
         ensures day { result.day ≡ self.day }

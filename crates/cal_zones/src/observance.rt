@@ -6,12 +6,8 @@ ghost use Rattle.cal_zones.specs.Yearly.{IsOn};
 ghost use Rattle.cal_zones.specs.Onsets.{observance_of, IsFirstDayOf, IsLatestAfter};
 
 use crate::shape::{Observance, Yearly};
-
-/// The seconds of a day.
-const DAY: i64 = 86_400;
-
-/// The seconds from 0000-01-01T00:00:00 to 1970-01-01T00:00:00.
-const EPOCH: i64 = 62_167_219_200;
+use cal_days::{Day, EPOCH_INDEX};
+use ical_values::{DAY_SECONDS, LocalTime};
 
 /// The latest onset of a rule up to an instant that isn't before its first onset.
 fn latest_by_rule(rule: Yearly, first_day: u32, first: i64, instant: i64) -> i64
@@ -23,12 +19,21 @@ fn latest_by_rule(rule: Yearly, first_day: u32, first: i64, instant: i64) -> i64
     ensures low { first ≤ℤ result }
 {
     let since = instant.abs_diff(first);
-    let day = first_day as u64 + since / 86_400;
-    let back = since % 86_400 + 86_400 * (day - rule.latest(day));
+    let whole_day = DAY_SECONDS as u64;
+    let day = first_day as u64 + since / whole_day;
+    let back = since % whole_day + whole_day * (day - rule.latest(day));
     instant - back as i64
 }
 
 impl Observance {
+    /// DTSTART.
+    pub(crate) fn start(&self) -> LocalTime
+        ensures { result ≡ local_time self.now.day self.now.second }
+    {
+        let day = Day::at_index(self.day).unwrap();
+        LocalTime::of_day(day, self.second).unwrap()
+    }
+
     /// The day of the first onset, by its index.
     fn first_day(&self) -> u32
         ensures first { IsFirstDayOf (observance_of self.now) result }
@@ -47,7 +52,8 @@ impl Observance {
         ensures low { negsuc 100_000_000_000 ≤ℤ result }
         ensures high { result ≤ℤ pos 1_000_000_000_000 }
     {
-        DAY * day as i64 + self.second as i64 - EPOCH - self.offset_from as i64
+        let number = day as i64 - EPOCH_INDEX as i64;
+        DAY_SECONDS * number + self.second as i64 - self.offset_from as i64
     }
 
     /// The first onset.

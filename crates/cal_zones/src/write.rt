@@ -15,20 +15,17 @@ ghost use Rattle.cal_zones.specs.Kinds.{zone_of};
 ghost use Rattle.cal_zones.specs.Written.{AppendsLines, IsPartText, IsLineOf};
 
 use crate::kinds::{Fixed, Kind, Zone};
-use crate::last::local_seconds;
 use crate::rule_text::rule_text;
 use crate::shape::Observance;
+use cal_days::EPOCH_INDEX;
 use cal_rules::one_rule;
 use ical_lines::{lines_read_back, write_line, write_property};
 use ical_values::local_time::one_local_time;
 use ical_values::offset::one_offset;
 use ical_values::shown::{escaped_text, local_text, offset_text};
 use ical_values::text::text_reads_back;
-use ical_values::{LocalTime, Text, UtcOffset};
+use ical_values::{Text, UtcOffset};
 use std::alloc::AllocError;
-
-/// The index of 1970-01-01, the DTSTART of a zone of one offset.
-const FIRST_DAY: u32 = 719_528;
 
 impl Zone {
     /// Appends the VTIMEZONE of that name: its TZID, STANDARD, and DAYLIGHT where there are two parts. A part has
@@ -76,7 +73,7 @@ fn keeping(fixed: &Fixed) -> Observance
     ensures { observance_of result ≡ keeping fixed.now.offset }
 {
     Observance {
-        day: FIRST_DAY,
+        day: EPOCH_INDEX,
         second: 0,
         rule: None,
         offset_from: fixed.offset,
@@ -113,9 +110,7 @@ fn write_start(out: &mut Vec<u8>, part: &Observance) -> Result<(), AllocError>
         (Appends out.old.items out.new.items
         (IsLineOf (codes "DTSTART") (λ text. WritesLocal text (local_time part.now.day part.now.second)))) }
 {
-    let seconds = local_seconds(part.day, part.second);
-    let start = LocalTime::of_seconds(seconds).unwrap();
-    let text = local_text(*out.allocator(), start)?;
+    let text = local_text(*out.allocator(), part.start())?;
     write_property(out, "DTSTART", text.as_str())?;
     Ok(())
 }

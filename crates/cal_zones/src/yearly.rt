@@ -5,13 +5,7 @@ ghost use Rattle.cal_zones.specs.Shapes.{IsPlace};
 ghost use Rattle.cal_zones.specs.Yearly.{IsDayOfYear, IsLatestDay, IsFirstDay, HasEarlier};
 
 use crate::shape::{MonthDays, Yearly};
-use cal_days::Day;
-
-/// The days of 400 years.
-const CYCLE: u64 = 146_097;
-
-/// The index of 0001-01-01.
-const FIRST_INDEX: u64 = 366;
+use cal_days::{CYCLE, Day, FIRST_INDEX};
 
 /// The fewest days, `least` of them or more, after which that weekday comes, counted from the day of
 /// index `first`.
@@ -83,9 +77,10 @@ impl Yearly {
         ensures latest { IsLatestDay self n result }
         ensures near { n < result + 732 }
     {
-        let cycles = ((n - FIRST_INDEX) / CYCLE).saturating_sub(1);
-        let early = (n - cycles * CYCLE) as u32;
-        self.latest_early(early) as u64 + cycles * CYCLE
+        let cycles = ((n - FIRST_INDEX as u64) / CYCLE as u64).saturating_sub(1);
+        let later = cycles * CYCLE as u64;
+        let early = (n - later) as u32;
+        self.latest_early(early) as u64 + later
     }
 
     /// The index of the first of its days from that of index `n` on.

@@ -1,6 +1,8 @@
-use Rattle.cal_rules.proofs.Numbers.{no_until}
+use Rattle.std.proofs.Common.{◌≡◌}
+use Rattle.cal_rules.proofs.Numbers.{if_none, no_until}
 use Rattle.cal_rules.proofs.values.read_until.Goals as goal
 
-pub returns-in_default-2-clause-none : goal.returns-in_default-2-clause-none
-returns-in_default-2-clause-none c =
-    no_until c.args.value.now c.in_default.ensures.none c.in_default-read.ensures.none (rw c.in_default-2.is at c.in_ok-day.ensures.none)
+pub returns-in_err-day-clause-none : goal.returns-in_err-day-clause-none
+returns-in_err-day-clause-none c =
+    let octets : c.as_bytes.result.now ≡ c.args.value.now = c.as_bytes.ensures.value in
+    if_none c.from_residual.result (no_until c.args.value.now c.in_default.ensures.none c.in_default-read.ensures.none (rw octets at c.in_err-day.ensures.none))

@@ -38,13 +38,13 @@ returns-in-COUNT-clause-enters c =
     took (Some Count) c.args.part.now c.in-Some.value.now c.args.self.now (record c.args.self.now { count = c.put-in-COUNT.new.field }) here (λ x. x) c.read_count.result c.args.self.now.count c.put-in-COUNT.new.field c.put-in-COUNT.result
     (λ none. (Count, c.in-Some.value.now, here, none)) c.read_count.ensures.reads c.read_count.ensures.none (seen c.args.self.now.count) (seen c.put-in-COUNT.new.field) others c.put-in-COUNT.ensures
 
-pub returns-in_ok-read_until-in-UNTIL-clause-enters :
-    goal.returns-in_ok-read_until-in-UNTIL-clause-enters
-returns-in_ok-read_until-in-UNTIL-clause-enters c =
+pub returns-in-UNTIL-clause-enters :
+    goal.returns-in-UNTIL-clause-enters
+returns-in-UNTIL-clause-enters c =
     let here = named (Some EndsAt) c.args.part.now c.in-Some.name c.in-Some.value c.in-Some.ensures.cases c.in-UNTIL.is in
     let others = agree (Some EndsAt) c.args.self.now (record c.args.self.now { until = c.put-in-UNTIL.new.field }) (λ _. refl) (λ _. refl) (λ _. refl) (λ d. absurd (d refl)) (λ _. refl) (λ _. refl) (λ _. refl) (λ _. refl) (λ _. refl) in
-    took (Some EndsAt) c.args.part.now c.in-Some.value.now c.args.self.now (record c.args.self.now { until = c.put-in-UNTIL.new.field }) here until_of c.in_ok-read_until-in-UNTIL.field-0 c.args.self.now.until c.put-in-UNTIL.new.field c.put-in-UNTIL.result
-    (λ none. (EndsAt, c.in-Some.value.now, here, none)) c.in_ok-read_until-in-UNTIL.ensures.reads c.in_ok-read_until-in-UNTIL.ensures.none refl refl others c.put-in-UNTIL.ensures
+    took (Some EndsAt) c.args.part.now c.in-Some.value.now c.args.self.now (record c.args.self.now { until = c.put-in-UNTIL.new.field }) here until_of c.read_until.result c.args.self.now.until c.put-in-UNTIL.new.field c.put-in-UNTIL.result
+    (λ none. (EndsAt, c.in-Some.value.now, here, none)) c.read_until.ensures.reads c.read_until.ensures.none refl refl others c.put-in-UNTIL.ensures
 
 pub returns-in-WKST-clause-enters :
     goal.returns-in-WKST-clause-enters
