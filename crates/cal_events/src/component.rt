@@ -21,7 +21,7 @@ use ical_values::{Address, Duration, LocalTime, Sequence, Stamp, Text};
 use std::alloc::Global;
 
 /// Seconds of a day without a change of offset.
-const DAY: i64 = 86_400;
+const DAY: i64 = ical_values::DAY_SECONDS;
 
 /// The longest event, 366 days in seconds; this profile's choice.
 const LONGEST: i64 = 366 * DAY;
