@@ -275,10 +275,6 @@ entry_same value a b s t =
 
 -- ---- UNTIL
 
-pub if_none : {A P : Type 0} (r : Option A) → P → IfNone r P
-if_none (Some x) p = tt
-if_none None p = p
-
 pub no_until : (value : List ℕ) → SpellsNone SpellsStamp value → SpellsNone SpellsLocal value → SpellsNone SpellsDate value → SpellsNone SpellsUntil value
 no_until value stamp local date (UntilDay number) s = date number s
 no_until value stamp local date (UntilLocal seconds) s = local seconds s

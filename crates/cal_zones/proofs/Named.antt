@@ -65,10 +65,6 @@ missing (x ∷ xs) b h = let some : (length (x ∷ xs) == 0) ≡ false = grind (
 pub both : (a b : Bool) → a ≡ true → b ≡ true → a && b ≡ true
 both a b h k = rw (h, k) refl
 
-pub if_none : {A P : Type 0} (r : Option A) → P → IfNone r P
-if_none (Some x) p = tt
-if_none None p = p
-
 -- ---- one day
 
 entries_same : (p q : ℤ) (v w : ℕ) (xs : List WeekdayNumber) → are_only (is_weekday p v) xs ≡ true → are_only (is_weekday q w) xs ≡ true → (p ≡ q) × (v ≡ w)

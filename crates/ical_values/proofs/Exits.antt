@@ -1,5 +1,5 @@
 -- What a clause says where a call ends in an `Err`.
-use Rattle.std.proofs.Common.{◌≡◌, sym, ℕ, subst, Result, Ok, Err, IfErr, OnErr, IsErrAnd}
+use Rattle.std.proofs.Common.{◌≡◌, sym, ℕ, subst, Result, Ok, Err, Option, Some, None, IfNone, IfErr, OnErr, IsErrAnd}
 use Rattle.ical_lines.specs.declared.fault.Refusal.{Refusal}
 
 -- the exit of a `?`: what holds of the error that came holds of the one that is returned
@@ -20,3 +20,8 @@ err_both (Err e) P Q R f p q = f e p q
 pub any_err : {T E : Type 0} (r : Result T E) (P : Type 0) → P → OnErr r P
 any_err (Ok x) P p = tt
 any_err (Err e) P p = p
+
+-- what holds anyway holds where there is no value
+pub if_none : {A P : Type 0} (r : Option A) → P → IfNone r P
+if_none (Some x) p = tt
+if_none None p = p

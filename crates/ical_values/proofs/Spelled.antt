@@ -180,7 +180,3 @@ clock_pieces limit date time zone number seconds second on at_second e = (
 
 pub time_length : (limit : ℕ) (text : List ℕ) (total : ℕ) → SpellsTime limit text total → length text ≡ 6
 time_length limit text total s = ap length s.spelled
-
-pub if_none : {A P : Type 0} (r : Option A) → P → IfNone r P
-if_none (Some x) p = tt
-if_none None p = p

@@ -1,5 +1,6 @@
 use Rattle.std.proofs.Common.{◌≡◌}
-use Rattle.cal_rules.proofs.Numbers.{if_none, no_until}
+use Rattle.ical_values.proofs.Exits.{if_none}
+use Rattle.cal_rules.proofs.Numbers.{no_until}
 use Rattle.cal_rules.proofs.values.read_until.Goals as goal
 
 pub returns-in_err-day-clause-none : goal.returns-in_err-day-clause-none

@@ -1,7 +1,8 @@
 use Rattle.std.proofs.Common.{map, sym, true, false}
 use Rattle.cal_rules.specs.Views.{entry_of}
+use Rattle.ical_values.proofs.Exits.{if_none}
 use Rattle.cal_zones.specs.Shapes.{days_of}
-use Rattle.cal_zones.proofs.Named.{if_none, none_month, one_day_parts, names_at, months_at}
+use Rattle.cal_zones.proofs.Named.{none_month, one_day_parts, names_at, months_at}
 use Rattle.cal_zones.proofs.YearLemmas.{year_found, year_none}
 use Rattle.cal_zones.proofs.one_day.day_of_year.Goals as goal
 

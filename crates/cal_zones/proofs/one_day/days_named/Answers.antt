@@ -1,8 +1,9 @@
 use Rattle.std.proofs.Common.{◌∙◌, pos, true, false, map}
 use Rattle.profile.specs.ZoneTexts.{is_weekday}
 use Rattle.cal_rules.specs.Views.{entry_of}
+use Rattle.ical_values.proofs.Exits.{if_none}
 use Rattle.cal_zones.specs.Shapes.{days_of}
-use Rattle.cal_zones.proofs.Named.{missing_map, only_map, if_none, none_on_day, none_unlike, some_alone, none_alone}
+use Rattle.cal_zones.proofs.Named.{missing_map, only_map, none_on_day, none_unlike, some_alone, none_alone}
 use Rattle.cal_zones.proofs.one_day.days_named.Goals as goal
 
 pub returns-in_err-only-clause-none : goal.returns-in_err-only-clause-none

@@ -1,4 +1,5 @@
-use Rattle.ical_values.proofs.Spelled.{clock_parts, clock_found, clock_sum, if_none}
+use Rattle.ical_values.proofs.Exits.{if_none}
+use Rattle.ical_values.proofs.Spelled.{clock_parts, clock_found, clock_sum}
 use Rattle.ical_values.proofs.clock.read.Goals as goal
 
 pub returns-in_err-day-clause-none : goal.returns-in_err-day-clause-none
