@@ -1,8 +1,8 @@
 -- The octet steps of a cutter tell whether more than empty lines came.
-use Rattle.std.proofs.Common.{◌≡◌, inl, inr, map, ℕ, ◌+◌, ◌<◌, ◌≤◌, Bool, true, false, not, ◌&&◌, ◌||◌, cond, eqb, List, [], ◌∷◌, ◌++◌, length, take, drop, get_or, refl, ap, sym, subst, ◌∙◌, arith}
+use Rattle.std.proofs.Common.{◌≡◌, inl, inr, map, ℕ, ◌+◌, ◌<◌, ◌≤◌, Bool, true, false, not, ◌&&◌, ◌||◌, cond, eqb, List, [], ◌∷◌, ◌++◌, length, take, drop, get_or, refl, ap, sym, subst, ◌∙◌}
 use Rattle.std.specs.List.{slice_split, onto_first, list_any}
 use Rattle.std.specs.Str.{bytes_eq}
-use Rattle.std.proofs.lemmas.Bool.Decides.{nat_tests, eqb_tells}
+use Rattle.std.proofs.lemmas.Bool.Decides.{eqb_tells}
 use Rattle.std.proofs.lemmas.List.{drop_more, drop_all}
 use Rattle.profile.specs.Lines.{is_filled, is_continuation, without_return, physical_lines, gather, unfolded}
 use Rattle.profile.specs.Objects.{is_begun}
@@ -13,6 +13,7 @@ use Rattle.ical_lines.specs.declared.object_end.Seen.{Seen}
 use Rattle.ical_lines.specs.declared.object_end.Seen.TheVariants.{First, Other}
 use Rattle.ical_lines.specs.Breaks.{is_break}
 use Rattle.ical_lines.specs.Cut.{next_seen, is_whole, is_blank, begun_after, fresh, added, after_line, step, step_from, ends_before}
+use Rattle.ical_lines.proofs.BreakLemmas.{filled_cons}
 use Rattle.ical_lines.proofs.ReadBackLemmas.{next_starts}
 use Rattle.ical_lines.proofs.CutLemmas.{SeenOf, mk, seen_none, seen_whole, blank_other, without_return-cons, without_return-other}
 
@@ -41,9 +42,6 @@ kept t [] h = h
 kept t (b ∷ rest) h = cond_true (ends_before t b) (begun_after (step t b) rest) (kept (step t b) rest (from_begun t.place t b h))
 
 -- ---- a line that isn't empty
-
-filled_cons : (c : ℕ) (cs : List ℕ) → is_filled (c ∷ cs) ≡ true
-filled_cons c cs = grind (arith, nat_tests)
 
 any_cond : (t : Bool) (xs ys : List (List ℕ)) → list_any is_filled xs ≡ true → list_any is_filled ys ≡ true → list_any is_filled (cond t xs ys) ≡ true
 any_cond true xs ys h k = h

@@ -5,16 +5,19 @@ use Rattle.std.proofs.lemmas.List.{append-nil, length-take, length-drop, drop-dr
 use Rattle.std.proofs.lemmas.List.Elements.{filter-append}
 use Rattle.std.proofs.lemmas.List.Folds.{list_any-append}
 use Rattle.memchr.specs.Find.{IsFirstByte, is_byte}
-use Rattle.profile.specs.Lines.{ended, without_return, physical_lines, is_continuation, gather, unfolded, is_filled, logical_lines, without_mark, line_has, is_faulty, text_has, reads_as_lines}
+use Rattle.profile.specs.Lines.{ended, without_return, physical_lines, is_continuation, gather, unfolded, is_filled, logical_lines, line_has, is_faulty, text_has, reads_as_lines}
 use Rattle.ical_lines.specs.Breaks.{is_break, is_one_line, lines_of}
 use Rattle.std.specs.Str.{IsUtf8, is_utf8, IsCharBoundary}
 use Rattle.std.proofs.Math.Bool.{or-true}
-use Rattle.std.proofs.lemmas.Bool.Decides.{Decides-eqb}
+use Rattle.std.proofs.lemmas.Bool.Decides.{Decides-eqb, nat_tests}
 use Rattle.std.proofs.lemmas.Bool.{or_parts, and_parts, false_from_ne_true, not-true, not_from_false}
 use Rattle.ical_lines.proofs.PieceLemmas.{boundary_past}
 use Rattle.ical_lines.proofs.SplitLemmas.{split_at_byte, split_no_byte}
 
 -- ---- the lines of a text
+
+pub filled_cons : (c : ℕ) (cs : List ℕ) → is_filled (c ∷ cs) ≡ true
+filled_cons c cs = grind (arith, nat_tests)
 
 filter_first : (x : List ℕ) (s : List (List ℕ)) → filter is_filled (x ∷ s) ≡ filter is_filled (x ∷ []) ++ filter is_filled s
 filter_first x s = filter-append is_filled (x ∷ []) s

@@ -1,17 +1,18 @@
 -- Content lines that are written one behind another read back as those lines.
-use Rattle.std.proofs.Common.{◌≡◌, filter, ℕ, zero, suc, ◌+◌, ◌≤◌, ◌<◌, Bool, true, false, not, ◌&&◌, ◌||◌, ◌==◌, eqb, ltb, List, [], ◌∷◌, ◌++◌, length, take, drop, get_or, refl, ap, sym, subst, ◌∙◌, arith}
+use Rattle.std.proofs.Common.{◌≡◌, filter, ℕ, zero, suc, ◌+◌, ◌≤◌, ◌<◌, Bool, true, false, not, ◌&&◌, ◌||◌, ◌==◌, eqb, ltb, List, [], ◌∷◌, ◌++◌, length, take, get_or, refl, ap, sym, subst, ◌∙◌, arith}
 use Rattle.std.specs.Char.{encode_utf8}
 use Rattle.std.specs.Str.{IsUtf8, is_utf8, chars, encode_utf8_all}
 use Rattle.std.specs.List.{flat_map, list_any, list_all}
-use Rattle.std.proofs.lemmas.List.{append_assoc, get_or_at, take_at, drop_at, length-append, length_push}
+use Rattle.std.proofs.lemmas.List.{append_assoc}
 use Rattle.std.proofs.Math.Bool.{and-false}
 use Rattle.std.proofs.lemmas.Bool.{true≢false, or_parts, and_parts, not-true, not-false}
 use Rattle.std.proofs.lemmas.Bool.Decides.{nat_tests, eqb_tells}
-use Rattle.std.proofs.lemmas.Str.{encodes-chars, length-encode, len_utf8_bounds, IsUtf8-append, IsUtf8-nil, IsUtf8-take, IsUtf8-drop, IsCharBoundary-before_ascii, IsCharBoundary-after_ascii, IsUtf8-from_ascii, IsUtf8-from_is_utf8, is_utf8-from_IsUtf8}
+use Rattle.std.proofs.lemmas.Str.{encodes-chars, length-encode, len_utf8_bounds, IsUtf8-append, IsUtf8-nil, IsUtf8-from_ascii, IsUtf8-from_is_utf8, is_utf8-from_IsUtf8}
 use Rattle.std.proofs.lemmas.Str.Ascii.{IsAscii-cons, IsAscii-nil}
 use Rattle.profile.specs.Lines.{fold_break, fold_from, next_column, folded, without_mark, physical_lines, is_continuation, unfolded, is_filled, logical_lines, ended, outside, line_name, is_name, is_name_octet, is_control, has_control, lacks_colon, has_bad_name, has_bad_quote, line_has, is_faulty, is_content, text_has, reads_as_lines}
 use Rattle.ical_lines.specs.Breaks.{is_break, is_one_line}
 use Rattle.ical_lines.proofs.ReadBackLemmas.{reads_back}
+use Rattle.ical_lines.proofs.Utf8Lemmas.{utf8_apart}
 
 -- ---- what a content line has
 
@@ -159,16 +160,7 @@ lines_fine lines h =
 -- ---- the lines of octets that read as lines
 
 cut_at_end : (line rest : List ℕ) → IsUtf8 ((line ++ 10 ∷ []) ++ rest) → IsUtf8 line × IsUtf8 rest
-cut_at_end line rest u =
-    let text = line ++ 10 ∷ rest in
-    let v : IsUtf8 text = subst IsUtf8 (append_assoc line (10 ∷ []) rest) u in
-    let at : get_or text (length line) 0 ≡ 10 = get_or_at line 10 rest 0 (length line) refl in
-    let inside : length line < length text = omega (arith, length-append line (10 ∷ rest)) in
-    let low : get_or text (length line) 0 < 128 = omega arith in
-    let size : length (line ++ 10 ∷ []) ≡ length line + 1 = length_push line 10 in
-    let front = IsUtf8-take text (length line) v (IsCharBoundary-before_ascii text (length line) inside low) in
-    let back = IsUtf8-drop text (length line + 1) v (IsCharBoundary-after_ascii text (length line) v inside low) in
-    (subst IsUtf8 (take_at line (10 ∷ rest) (length line) refl) front, subst IsUtf8 (ap (drop (length line + 1)) (sym (append_assoc line (10 ∷ []) rest)) ∙ drop_at (line ++ 10 ∷ []) rest (length line + 1) size) back)
+cut_at_end line rest u = utf8_apart line rest 10 (omega arith) (subst IsUtf8 (append_assoc line (10 ∷ []) rest) u)
 
 all_content : (lines : List (List ℕ)) → list_any is_faulty lines ≡ false → IsUtf8 (ended lines) → list_all is_content lines ≡ true
 all_content [] f u = refl

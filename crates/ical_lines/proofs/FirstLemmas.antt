@@ -1,8 +1,8 @@
 -- Which number lines are refused with.
-use Rattle.std.proofs.Common.{◌≡◌, ℕ, suc, zero, ◌+◌, ◌-◌, Bool, true, false, not, ◌&&◌, ◌||◌, cond, eqb, ltb, Option, None, Some, List, [], ◌∷◌, length, take, refl, ap, sym, subst, ◌∙◌, arith}
+use Rattle.std.proofs.Common.{◌≡◌, ℕ, suc, zero, ◌+◌, ◌-◌, Bool, true, false, not, ◌&&◌, ◌||◌, cond, eqb, ltb, Option, None, Some, List, [], ◌∷◌, length, take, refl, ap, subst, ◌∙◌, arith}
 use Rattle.std.specs.List.{find, list_any}
 use Rattle.std.proofs.Math.Bool.{or-true}
-use Rattle.std.proofs.lemmas.Bool.{ltb-false, ltb-true, lt-ltb, or_parts, and_parts, false_from_ne_true, not-true}
+use Rattle.std.proofs.lemmas.Bool.{ltb-false, ltb-true, lt-ltb, or_parts, and_parts, not-true}
 use Rattle.std.proofs.lemmas.Bool.Decides.{Decides-eqb}
 use Rattle.std.specs.Str.{is_utf8}
 use Rattle.profile.specs.Lines.{ended, logical_lines, reads_as_lines, line_has, is_faulty, lacks_colon, has_bad_name, has_bad_quote, has_control}

@@ -1,15 +1,16 @@
 -- A text is UTF-8 exactly where its lines are: LF and CR split no character.
-use Rattle.std.proofs.Common.{◌≡◌, inl, inr, map, filter, ℕ, ◌+◌, ◌-◌, ◌<◌, ◌≤◌, Bool, true, false, cond, eqb, List, [], ◌∷◌, ◌++◌, length, take, drop, get_or, refl, ap, sym, subst, ◌∙◌, arith}
+use Rattle.std.proofs.Common.{◌≡◌, inl, inr, map, filter, ℕ, ◌+◌, ◌-◌, ◌<◌, Bool, true, false, cond, eqb, List, [], ◌∷◌, ◌++◌, length, take, drop, get_or, refl, ap, sym, subst, ◌∙◌, arith}
 use Rattle.std.specs.Str.{IsUtf8, is_utf8}
 use Rattle.std.specs.List.{slice_split, join_with_byte}
-use Rattle.std.proofs.lemmas.List.{append_assoc, length-append, length-drop, get_or_at, take_at, drop_at, drop_more, drop_all, take-append-drop}
+use Rattle.std.proofs.lemmas.List.{append_assoc, length-append, get_or_at, take_at, drop_at, drop_more, drop_all, take-append-drop}
 use Rattle.std.proofs.lemmas.List.Splits.{join_with_byte-slice_split}
 use Rattle.std.proofs.lemmas.Bool.{false_from_ne_true, true≢false}
-use Rattle.std.proofs.lemmas.Bool.Decides.{eqb_tells, nat_tests}
+use Rattle.std.proofs.lemmas.Bool.Decides.{eqb_tells}
 use Rattle.std.proofs.lemmas.Str.{IsUtf8-append, IsUtf8-nil, IsUtf8-take, IsUtf8-drop, IsCharBoundary-before_ascii, IsCharBoundary-after_ascii, IsUtf8-from_ascii, IsUtf8-from_is_utf8, is_utf8-from_IsUtf8}
 use Rattle.std.proofs.lemmas.Str.Ascii.{IsAscii-cons, IsAscii-nil}
 use Rattle.profile.specs.Lines.{ended, without_return, physical_lines, is_filled}
 use Rattle.ical_lines.specs.Breaks.{is_break, lines_of}
+use Rattle.ical_lines.proofs.BreakLemmas.{filled_cons}
 
 -- ---- at an ASCII octet
 
@@ -73,9 +74,6 @@ with_returns [] u = tt
 with_returns (x ∷ s) u = (with_by (eqb (get_or x (length x - 1) 0) 13) x refl u.0, with_returns s u.1)
 
 -- ---- the empty lines
-
-filled_cons : (c : ℕ) (cs : List ℕ) → is_filled (c ∷ cs) ≡ true
-filled_cons c cs = grind (arith, nat_tests)
 
 filled_by : (b : Bool) (x : List ℕ) (s : List (List ℕ)) → IsUtf8 x → AllUtf8 s → AllUtf8 (cond b (x ∷ s) s)
 filled_by true x s u v = (u, v)

@@ -1,9 +1,9 @@
 //! Unfolding (RFC 5545 3.1): octets to a text whose lines are the logical lines.
 //! Physical lines end at LF, and one CR before it isn't part of them; the end of the input ends one too.
 //! A physical line that begins with a space or a tab continues the line before it.
-ghost use Rattle.std.specs.Prelude.{◌≡◌, ◌++◌, ◌<◌, ◌≤◌, [], ◌∷◌, length, drop, take, filter, true, false, if◌then◌else◌, IfOk, IfErr, MatchOption};
+ghost use Rattle.std.specs.Prelude.{◌≡◌, ◌++◌, ◌<◌, ◌≤◌, ◌∷◌, drop, take, filter, false, if◌then◌else◌, IfOk, IfErr};
 ghost use Rattle.std.specs.Vec.{vec_len};
-ghost use Rattle.std.specs.List.{slice_split, list_any};
+ghost use Rattle.std.specs.List.{list_any};
 ghost use Rattle.std.specs.Str.{is_utf8};
 ghost use Rattle.profile.specs.Lines.{
   without_mark,

@@ -1,1 +1,0 @@
-use Rattle.ical_lines.proofs.text.LinesIterator.next.Goals as goal
