@@ -14,3 +14,4 @@ pub mod Utf8Lemmas
 pub mod Yields
 pub mod CleanLines
 pub mod IdleLemmas
+pub mod OutsideLemmas

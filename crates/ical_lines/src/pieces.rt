@@ -3,8 +3,23 @@
 ghost use Rattle.std.specs.Prelude.{◌≡◌, ◌<◌, ◌≤◌, length, MatchOption, slice_index};
 ghost use Rattle.profile.specs.Lines.{outside, front, back};
 
+use memchr::memchr2;
+
 /// How many octets stand before the first `stop` outside quotes; all of them where there is none.
 fn outside(text: &[u8], stop: u8) -> usize
+    ensures value { result ≡ outside stop text.now }
+    ensures bound { result ≤ length text.now }
+    ensures at { result < length text.now → slice_index text.now result ≡ stop }
+{
+    match memchr2(b'"', stop, text) {
+        Some(place) if text[place] != b'"' => place,
+        Some(_) => outside_quotes(text, stop),
+        None => text.len(),
+    }
+}
+
+/// The same, octet by octet, for a text with quotes.
+fn outside_quotes(text: &[u8], stop: u8) -> usize
     ensures value { result ≡ outside stop text.now }
     ensures bound { result ≤ length text.now }
     ensures at { result < length text.now → slice_index text.now result ≡ stop }
