@@ -27,6 +27,8 @@ impl Message {
     }
 
     /// A part for each component.
+    // Apart from `parts`, which most rooms leave at its first line.
+    #[inline(never)]
     fn all_parts(&self, alloc: Global, room: &Address) -> Result<Vec<Part>, AllocError>
         ensures { IfOk result (λ parts. parts_of parts.items ≡ map (part_for (address_octets room.now) self.now) self.now.components.items) }
     {

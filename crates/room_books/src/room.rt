@@ -103,6 +103,8 @@ impl Room {
     }
 
     /// Takes a part that asks for this span.
+    // Apart from `take`, which pays for all its locals also where a message isn't addressed to the room.
+    #[inline(never)]
     fn take_part(&mut self, part: &Part, span: Span, now: Stamp) -> Result<Answer, AllocError>
         requires whole { (part_of part.now).slot ≡ revisions.Whole }
         requires set { is_set (part_of part.now) ≡ true }
