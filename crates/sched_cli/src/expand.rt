@@ -19,13 +19,10 @@ use cal_events::{
 use cal_rules::{Rule, RuleText, Until};
 use ical_lines::{Fault, Limits, Line, Refusal, Unfolded};
 use ical_tree::{Component, Properties, read_object};
-use ical_values::{LocalTime, Stamp};
+use ical_values::{DAY_SECONDS, LocalTime, Stamp};
 use itoa::Buffer;
 use std::alloc::{AllocError, Global};
 use std::io::Write;
-
-/// Seconds of a day on a clock that isn't set anew.
-const DAY: i64 = 86_400;
 
 /// Lines are handed to the writer once they have so many octets.
 const FULL: usize = 65_536;
@@ -330,7 +327,7 @@ fn start_on(start: &ZonedTime, day: Day, second: u32) -> Option<i64>
     ensures range { IfSome result IsNearEpoch }
     ensures none { IfNone result (IsClockSeconds (local_time (day_index day) second) → ⊥) }
 {
-    let Some(local) = LocalTime::of_seconds(day.number() * DAY + i64::from(second)) else {
+    let Some(local) = LocalTime::of_seconds(day.number() * DAY_SECONDS + i64::from(second)) else {
         return None;
     };
     Some(start.zone.resolve(local))
@@ -338,12 +335,12 @@ fn start_on(start: &ZonedTime, day: Day, second: u32) -> Option<i64>
 
 /// The day of a local time.
 fn day_of(local: LocalTime) -> Option<Day> {
-    Day::of_number(local.seconds().div_euclid(DAY))
+    Day::of_number(local.seconds().div_euclid(DAY_SECONDS))
 }
 
 /// The second of its day.
 fn second_of(local: LocalTime) -> u32
     ensures { IsSecondOf local result }
 {
-    local.seconds().rem_euclid(DAY) as u32
+    local.seconds().rem_euclid(DAY_SECONDS) as u32
 }
