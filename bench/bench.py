@@ -264,8 +264,8 @@ def main():
     program = sys.argv[1]
     print(f"{'work':<38}{'objects':>9}{'seconds':>9}{'rate':>16}{'peak MiB':>10}{'growth':>8}")
     grown("requests for one room", (1_000, 10_000), lambda count: serve(program, requests(count), count), None)
-    for rooms in (16, 32):
-        grown(f"the same requests over {rooms} rooms", (10_000,), lambda count: serve(program, requests(count, rooms), count), None)
+    for rooms in (16, 50):
+        grown(f"the same requests over {rooms} rooms", (1_000, 10_000), lambda count: serve(program, requests(count, rooms), count), None)
     grown("objects of 1 MB with folded lines", (20,), lambda count: serve(program, large_objects(count), count), "octets")
     grown("singles checked", (100_000, 1_000_000), lambda count: check(program, calendar(count), count), "octets")
     for work, start, rule in RULES:
