@@ -50,7 +50,7 @@ lines_of-le (x ∷ xs) = le_by (is_break x) x (slice_split is_break xs) (length 
 
 -- ---- texts without a break
 
-not_any : (p : ℕ → Bool) (xs : List ℕ) → ((k : ℕ) → k < length xs → p (get_or xs k 0) ≡ false) → list_any p xs ≡ false
+pub not_any : (p : ℕ → Bool) (xs : List ℕ) → ((k : ℕ) → k < length xs → p (get_or xs k 0) ≡ false) → list_any p xs ≡ false
 not_any p [] h = refl
 not_any p (x ∷ xs) h =
     let first : p x ≡ false = h 0 (omega arith) in

@@ -15,3 +15,4 @@ pub mod Yields
 pub mod CleanLines
 pub mod IdleLemmas
 pub mod OutsideLemmas
+pub mod MarkLemmas

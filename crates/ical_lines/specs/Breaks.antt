@@ -1,5 +1,5 @@
 -- The lines of a text in which no line is folded.
-use Rattle.std.specs.Prelude.{ℕ, Bool, not, ◌==◌, List, filter, Option, Some, None, if◌then◌else◌}
+use Rattle.std.specs.Prelude.{ℕ, Bool, not, ◌||◌, ◌==◌, List, filter, Option, Some, None, if◌then◌else◌}
 use Rattle.std.specs.List.{list_any}
 use Rattle.profile.specs.Lines.{physical_lines, is_filled, has_stop, line_value}
 
@@ -9,6 +9,10 @@ is_break c = c == 10
 -- no LF stands in the text
 abbrev pub is_one_line : List ℕ → Bool
 is_one_line text = not (list_any is_break text)
+
+-- a colon, a semicolon or a quote: before the first of them stands a line's name
+abbrev pub is_mark : ℕ → Bool
+is_mark c = c == 58 || c == 59 || c == 34
 
 -- the physical lines that aren't empty
 abbrev pub lines_of : List ℕ → List (List ℕ)

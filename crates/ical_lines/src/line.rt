@@ -8,7 +8,7 @@ ghost use Rattle.ical_lines.specs.Pieces.{pieces_left};
 use crate::fault::Refusal;
 use crate::name::is_name;
 use crate::param::{Param, Params, fault_of};
-use crate::pieces::{Pieces, split_outside};
+use crate::pieces::{Pieces, split_mark, split_outside};
 
 /// A content line, unfolded, without its line break. It borrows its text; its parts are found once, when it is made.
 #[derive(Clone, Copy)]
@@ -35,6 +35,33 @@ impl<'a> Line<'a> {
 
     /// The line of a text that holds no line break.
     pub(crate) fn of(text: &'a str) -> Line<'a>
+        requires { is_one_line text.now ≡ true }
+        ensures { line_text result ≡ text.now }
+    {
+        let (name, rest) = split_mark(text);
+        if let Some(value) = rest.strip_prefix(':') {
+            return Line {
+                text,
+                name,
+                params: Pieces::none(),
+                value: Some(value),
+            };
+        }
+        if let Some(after) = rest.strip_prefix(';') {
+            let (params, value) = split_outside(after, b':');
+            return Line {
+                text,
+                name,
+                params: Pieces::of(params, b';'),
+                value,
+            };
+        }
+        Line::with_quoted_name(text)
+    }
+
+    /// The line of a text whose first mark is a quote, or that has none.
+    #[inline(never)]
+    fn with_quoted_name(text: &'a str) -> Line<'a>
         requires { is_one_line text.now ≡ true }
         ensures { line_text result ≡ text.now }
     {

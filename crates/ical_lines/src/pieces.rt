@@ -1,7 +1,9 @@
 //! A text cut at an octet that stands outside quotes (RFC 5545 3.1, param-value).
 //! A quote opens and the next one closes; an octet between them is inside.
-ghost use Rattle.std.specs.Prelude.{◌≡◌, ◌<◌, ◌≤◌, length, MatchOption, slice_index};
+ghost use Rattle.std.specs.Prelude.{◌≡◌, ◌++◌, ◌<◌, ◌≤◌, false, length, position, MatchOption, slice_index};
+ghost use Rattle.std.specs.List.{list_any};
 ghost use Rattle.profile.specs.Lines.{outside, front, back};
+ghost use Rattle.ical_lines.specs.Breaks.{is_mark};
 
 use memchr::memchr2;
 
@@ -33,6 +35,25 @@ fn outside_quotes(text: &[u8], stop: u8) -> usize
         }
     }
     text.len()
+}
+
+/// A text cut before its first colon, semicolon or quote; where it has none, all of it stands before.
+pub fn split_mark(text: &str) -> (&str, &str)
+    ensures whole { text.now ≡ result.0.now ++ result.1.now }
+    ensures plain { list_any is_mark result.0.now ≡ false }
+{
+    match first_mark(text.as_bytes()) {
+        Some(place) => text.split_at(place),
+        None => (text, ""),
+    }
+}
+
+/// Where the first colon, semicolon or quote stands.
+fn first_mark(text: &[u8]) -> Option<usize>
+    ensures { result ≡ position is_mark text.now }
+{
+    text.iter()
+        .position(|octet| matches!(*octet, b':' | b';' | b'"'))
 }
 
 /// The text before the first `stop` outside quotes, and the text after it where there is one.
@@ -69,7 +90,7 @@ pub struct Pieces<'a> {
 }
 
 impl<'a> Pieces<'a> {
-    ghost use Rattle.std.specs.Prelude.{◌≡◌, ◌<◌, ◌∷◌};
+    ghost use Rattle.std.specs.Prelude.{◌≡◌, ◌<◌, [], ◌∷◌};
     ghost use Rattle.profile.specs.Lines.{pieces, front};
     ghost use Rattle.ical_lines.specs.Pieces.{pieces_left};
 
@@ -81,6 +102,16 @@ impl<'a> Pieces<'a> {
         Pieces {
             rest: Some(text),
             stop,
+        }
+    }
+
+    /// No pieces.
+    pub fn none() -> Pieces<'a>
+        ensures { pieces_left result ≡ [] }
+    {
+        Pieces {
+            rest: None,
+            stop: b';',
         }
     }
 
