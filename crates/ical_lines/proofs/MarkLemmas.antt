@@ -11,7 +11,9 @@ use Rattle.std.proofs.lemmas.Bool.{or_parts}
 use Rattle.std.proofs.lemmas.Bool.Decides.{nat_tests}
 use Rattle.profile.specs.Lines.{outside_from, outside, front, back, line_head, line_name, line_params, line_value, has_stop, pieces_from, pieces}
 use Rattle.ical_lines.specs.Breaks.{is_mark, value_or_none}
+use Rattle.ical_lines.specs.PiecesOf.{pieces_of}
 use Rattle.ical_lines.proofs.BreakLemmas.{not_any}
+use Rattle.ical_lines.proofs.PieceLemmas.{pieces_step}
 
 -- what is no mark is none of the three
 record Plain (c : ℕ) : Type 0 where
@@ -110,6 +112,13 @@ pub semicolon_value : (text name rest after : List ℕ) (r : Option (Bor (List �
     → MatchOption r (length after ≤ outside 58 after) (λ x. (outside 58 after < length after) × (x.now ≡ back 58 after)) → option_map (λ x. x.now) r ≡ value_or_none text
 semicolon_value text name rest after r whole is h found =
     rw (whole, is, value_after name (59 ∷ after) h, value_more 59 after refl refl) (value_of after r found)
+
+-- ---- any line, cut at its colon and then at the semicolon of its head
+
+pub head_params : (text head name : List ℕ) (r : Option (Bor (List ℕ))) → head ≡ front 58 text → name ≡ front 59 head
+    → MatchOption r (length head ≤ outside 59 head) (λ x. (outside 59 head < length head) × (x.now ≡ back 59 head)) → pieces_of 59 (option_map (λ x. x.now) r) ≡ line_params text
+head_params text head name r e f g =
+    sym (ap (drop 1) (pieces_step 59 head name r f g)) ∙ ap (λ z. drop 1 (pieces 59 z)) e
 
 -- ---- where the first mark stands
 

@@ -3,7 +3,7 @@ ghost use Rattle.std.specs.Prelude.{◌≡◌, ◌==◌, ◌%◌, count_by, opti
 ghost use Rattle.std.specs.List.{list_any};
 ghost use Rattle.profile.specs.Lines.{line_name, line_params, is_quote, has_control, is_control};
 ghost use Rattle.ical_lines.specs.Breaks.{is_one_line, value_or_none};
-ghost use Rattle.ical_lines.specs.Pieces.{pieces_left};
+ghost use Rattle.ical_lines.specs.PiecesOf.{pieces_of};
 
 use crate::fault::Refusal;
 use crate::name::is_name;
@@ -16,12 +16,13 @@ pub struct Line<'a> {
     text: &'a str,
     /// What stands before the parameters and the colon.
     name: &'a str,
-    params: Pieces<'a>,
+    /// What stands between the name's semicolon and the colon; None where the name has no semicolon.
+    params: Option<&'a str>,
     /// What stands after the colon; None where there is none.
     value: Option<&'a str>,
     ghost one_line: { is_one_line text.now ≡ true },
     ghost has_name: { name.now ≡ line_name text.now },
-    ghost has_params: { pieces_left params ≡ line_params text.now },
+    ghost has_params: { pieces_of 59 (option_map (λ after. after.now) params) ≡ line_params text.now },
     ghost has_value: { option_map (λ after. after.now) value ≡ value_or_none text.now },
 }
 
@@ -31,6 +32,7 @@ impl<'a> Line<'a> {
     ghost use Rattle.profile.specs.Faults.{is_line_fault};
     ghost use Rattle.profile.specs.First.{least_fault};
     ghost use Rattle.ical_lines.specs.Breaks.{is_one_line};
+    ghost use Rattle.ical_lines.specs.Pieces.{pieces_left};
     ghost use Rattle.ical_lines.specs.Text.{line_text, params_left, param_of};
 
     /// The line of a text that holds no line break.
@@ -43,7 +45,7 @@ impl<'a> Line<'a> {
             return Line {
                 text,
                 name,
-                params: Pieces::none(),
+                params: None,
                 value: Some(value),
             };
         }
@@ -52,7 +54,7 @@ impl<'a> Line<'a> {
             return Line {
                 text,
                 name,
-                params: Pieces::of(params, b';'),
+                params: Some(params),
                 value,
             };
         }
@@ -66,7 +68,7 @@ impl<'a> Line<'a> {
         ensures { line_text result ≡ text.now }
     {
         let (head, value) = split_outside(text, b':');
-        let (name, params) = Pieces::split(head, b';');
+        let (name, params) = split_outside(head, b';');
         Line {
             text,
             name,
@@ -94,7 +96,14 @@ impl<'a> Line<'a> {
     pub fn params(&self) -> Params<'a>
         ensures { params_left result ≡ map param_of (line_params (line_text self.now)) }
     {
-        Params::of(self.params)
+        Params::of(self.pieces())
+    }
+
+    /// The parameters as they are written.
+    fn pieces(&self) -> Pieces<'a>
+        ensures { pieces_left result ≡ line_params (line_text self.now) }
+    {
+        Pieces::left(self.params, b';')
     }
 
     /// The octets after the colon, as they are written.
@@ -116,7 +125,7 @@ impl<'a> Line<'a> {
     pub fn param(&self, name: &str) -> Option<&'a str>
         ensures { option_map (λ x. x.now) result ≡ line_param name.now (line_text self.now) }
     {
-        for piece in self.params {
+        for piece in self.pieces() {
             let param = Param::of(piece);
             if param.name.eq_ignore_ascii_case(name) {
                 return Some(param.first_value());
@@ -138,10 +147,10 @@ impl<'a> Line<'a> {
         if !is_name(self.name) {
             return Some(Refusal::BAD_NAME);
         }
-        if let Some(refusal) = fault_of(self.params) {
+        if let Some(refusal) = fault_of(self.pieces()) {
             return Some(refusal);
         }
-        if has_control(self.text) {
+        if has_control(self.text.as_bytes()) {
             return Some(Refusal::CONTROL);
         }
         None
@@ -169,11 +178,16 @@ fn has_open_quote(text: &str) -> bool
     text.bytes().filter(|octet| *octet == b'"').count() % 2 == 1
 }
 
-/// Whether a control octet other than TAB stands in a text.
-fn has_control(line: &str) -> bool
+/// Whether a control octet other than TAB stands in a line.
+fn has_control(line: &[u8]) -> bool
     ensures { result ≡ has_control line.now }
 {
-    line.bytes().any(|octet| is_control(octet))
+    let mut found = false;
+    // To the end in any case: so several octets are looked at in one step.
+    for octet in line {
+        found |= is_control(*octet);
+    }
+    found
 }
 
 /// Whether an octet is a control octet other than TAB.

@@ -90,9 +90,10 @@ pub struct Pieces<'a> {
 }
 
 impl<'a> Pieces<'a> {
-    ghost use Rattle.std.specs.Prelude.{◌≡◌, ◌<◌, [], ◌∷◌};
-    ghost use Rattle.profile.specs.Lines.{pieces, front};
+    ghost use Rattle.std.specs.Prelude.{◌≡◌, ◌<◌, option_map};
+    ghost use Rattle.profile.specs.Lines.{pieces};
     ghost use Rattle.ical_lines.specs.Pieces.{pieces_left};
+    ghost use Rattle.ical_lines.specs.PiecesOf.{pieces_of};
 
     /// The pieces of a text; of an empty text one, which is empty.
     pub fn of(text: &'a str, stop: u8) -> Pieces<'a>
@@ -105,24 +106,12 @@ impl<'a> Pieces<'a> {
         }
     }
 
-    /// No pieces.
-    pub fn none() -> Pieces<'a>
-        ensures { pieces_left result ≡ [] }
-    {
-        Pieces {
-            rest: None,
-            stop: b';',
-        }
-    }
-
-    /// The first piece of a text, and the others.
-    pub fn split(text: &'a str, stop: u8) -> (&'a str, Pieces<'a>)
+    /// The pieces of a text, if there is one; else none.
+    pub fn left(rest: Option<&'a str>, stop: u8) -> Pieces<'a>
         requires { stop < 128 }
-        ensures pieces { pieces stop text.now ≡ result.0.now ∷ pieces_left result.1 }
-        ensures front { result.0.now ≡ front stop text.now }
+        ensures { pieces_left result ≡ pieces_of stop (option_map (λ x. x.now) rest.entry) }
     {
-        let (first, rest) = split_outside(text, stop);
-        (first, Pieces { rest, stop })
+        Pieces { rest, stop }
     }
 }
 

@@ -10,7 +10,7 @@ invariant_of-result-clause-has_name c =
 
 pub invariant_of-result-clause-has_params : goal.invariant_of-result-clause-has_params
 invariant_of-result-clause-has_params c =
-    c.none.ensures ∙ colon_params c.args.text.now _ _ _ c.split_mark.ensures.whole (strip_prefix_char 58 _ (Some c.in-Some.value) c.in-Some.ensures.cases (omega arith)) c.split_mark.ensures.plain
+    colon_params c.args.text.now _ _ _ c.split_mark.ensures.whole (strip_prefix_char 58 _ (Some c.in-Some.value) c.in-Some.ensures.cases (omega arith)) c.split_mark.ensures.plain
 
 pub invariant_of-result-clause-has_value : goal.invariant_of-result-clause-has_value
 invariant_of-result-clause-has_value c =
@@ -22,7 +22,7 @@ invariant_of-result-in-Some-strip_prefix-clause-has_name c =
 
 pub invariant_of-result-in-Some-strip_prefix-clause-has_params : goal.invariant_of-result-in-Some-strip_prefix-clause-has_params
 invariant_of-result-in-Some-strip_prefix-clause-has_params c =
-    c.of.ensures ∙ (ap (pieces 59) c.split_outside.ensures.front ∙ semicolon_params c.args.text.now _ _ _ c.split_mark.ensures.whole (strip_prefix_char 59 _ (Some c.in-Some-strip_prefix.after) c.in-Some-strip_prefix.ensures.cases (omega arith)) c.split_mark.ensures.plain)
+    ap (pieces 59) c.split_outside.ensures.front ∙ semicolon_params c.args.text.now _ _ _ c.split_mark.ensures.whole (strip_prefix_char 59 _ (Some c.in-Some-strip_prefix.after) c.in-Some-strip_prefix.ensures.cases (omega arith)) c.split_mark.ensures.plain
 
 pub invariant_of-result-in-Some-strip_prefix-clause-has_value : goal.invariant_of-result-in-Some-strip_prefix-clause-has_value
 invariant_of-result-in-Some-strip_prefix-clause-has_value c =
