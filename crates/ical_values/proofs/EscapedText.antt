@@ -1,7 +1,7 @@
 -- Escapes keep UTF-8, and make no control octet.
-use Rattle.std.proofs.Common.{◌≡◌, ◌∙◌, ℕ, ◌<◌, ◌≤◌, Bool, true, false, not, nat_eq, ◌||◌, cond, List, [], ◌∷◌, ◌++◌, refl, arith, inl, inr, ltb, codes}
+use Rattle.std.proofs.Common.{◌≡◌, ◌∙◌, ℕ, ◌<◌, ◌≤◌, Bool, true, false, not, nat_eq, ◌||◌, cond, List, [], ◌∷◌, ◌++◌, refl, ap, sym, arith, Result, Ok, Err, OnOk, is_ok, inl, inr, ltb, codes}
 use Rattle.std.specs.List.{list_any, list_all}
-use Rattle.std.proofs.lemmas.Bool.{and_parts, or_from, cases_order}
+use Rattle.std.proofs.lemmas.Bool.{and_parts, or_from, or_parts, cases_order}
 use Rattle.std.proofs.lemmas.Bool.Decides.{nat_tests}
 use Rattle.std.proofs.lemmas.List.Folds.{list_any-append}
 use Rattle.std.proofs.lemmas.Grind.{flat_map-append}
@@ -11,6 +11,7 @@ use Rattle.std.specs.Char.{IsScalar}
 use lib.Utf8.{encode, encodes, scalars}
 use Rattle.profile.specs.Lines.{is_control}
 use Rattle.profile.specs.Values.{escaped, escaped_octet}
+use Rattle.ical_values.specs.Escaped.{is_escaped}
 
 -- one ASCII octet
 pub utf8_one : (c : ℕ) → c < 128 → IsUtf8 (c ∷ [])
@@ -78,3 +79,19 @@ escaped_calm [] h = refl
 escaped_calm (c ∷ cs) h =
     let both = and_parts (is_read c) (list_all is_read cs) h in
     list_any-append is_control (escaped_octet c) (escaped cs) ∙ or_from _ _ (octet_calm c both.0) (escaped_calm cs both.1)
+
+-- ---- a text without such octets
+
+plain_octet : (c : ℕ) → is_escaped c ≡ false → escaped_octet c ≡ c ∷ []
+plain_octet c h = grind (arith, nat_tests, h)
+
+pub plain_text : (octets : List ℕ) → list_any is_escaped octets ≡ false → escaped octets ≡ octets
+plain_text [] h = refl
+plain_text (c ∷ cs) h =
+    let parts = or_parts (is_escaped c) (list_any is_escaped cs) h in
+    rw (plain_octet c parts.0) (ap (λ z. c ∷ z) (plain_text cs parts.1))
+
+-- such a text is appended as it is
+pub plain_written : {T E : Type 0} (r : Result T E) (old new octets text : List ℕ) → octets ≡ text → list_any is_escaped octets ≡ false → new ≡ cond (is_ok r) (old ++ octets) old → OnOk r (new ≡ old ++ escaped text)
+plain_written (Err x) old new octets text e h a = tt
+plain_written (Ok x) old new octets text e h a = a ∙ ap (λ z. old ++ z) (sym (plain_text octets h) ∙ ap escaped e)

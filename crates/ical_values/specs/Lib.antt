@@ -2,3 +2,4 @@ pub mod Written
 pub mod Octets
 pub mod Refused
 pub mod Counts
+pub mod Escaped

@@ -37,7 +37,7 @@ impl Address {
             return Err(Fault::Refused(Refusal::BAD_ADDRESS));
         }
         Ok(Address {
-            octets: lower(alloc, text)?,
+            octets: text.to_ascii_lowercase(alloc)?,
         })
     }
 
@@ -123,15 +123,6 @@ fn is_path_octet(octet: u8) -> bool
     ensures { result ≡ is_path_octet octet }
 {
     octet > b' ' && octet != 0x7f
-}
-
-/// The text in ASCII lower case.
-fn lower(alloc: Global, text: &str) -> Result<String, AllocError>
-    ensures { IfOk result (λ s. string_bytes s ≡ encode_utf8_all (map to_ascii_lowercase (chars text.now))) }
-{
-    text.chars()
-        .map(|letter| letter.to_ascii_lowercase())
-        .collect(alloc)
 }
 
 /// An address in lower case is an address, and stays as it is when it is read again.

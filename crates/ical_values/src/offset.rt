@@ -6,7 +6,7 @@ ghost use Rattle.profile.specs.Values.{SpellsOffset, WritesOffset, SpellsSize, I
 ghost use Rattle.ical_values.specs.Written.{Appends};
 
 use crate::append::append_all;
-use crate::clock;
+use crate::clock::{self, DAY_SECONDS};
 use ical_lines::Refusal;
 use std::alloc::AllocError;
 use std::marker::Model;
@@ -65,7 +65,7 @@ impl UtcOffset {
         ensures found { IsSome result ↔ IsOffset seconds }
         ensures value { IfSome result (λ offset. offset ≡ seconds) }
     {
-        if seconds.unsigned_abs() >= 86_400 {
+        if seconds.unsigned_abs() >= DAY_SECONDS as u32 {
             return None;
         }
         Some(UtcOffset { seconds })

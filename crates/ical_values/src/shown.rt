@@ -12,11 +12,17 @@ use crate::stamp::Stamp;
 use crate::text::Text;
 use std::alloc::{AllocError, Global};
 
+/// The octets of a written stamp; a local time has one fewer.
+const STAMP_OCTETS: usize = 16;
+
+/// The most octets of a written offset.
+const OFFSET_OCTETS: usize = 7;
+
 /// A stamp, as text (RFC 5545 3.3.5, form 2).
 pub fn stamp_text(alloc: Global, stamp: Stamp) -> Result<String, AllocError>
     ensures { IfOk result (λ text. WritesStamp (string_bytes text) stamp) }
 {
-    let mut octets = Vec::new(alloc);
+    let mut octets = Vec::with_capacity(alloc, STAMP_OCTETS)?;
     stamp.write(&mut octets)?;
     Ok(text_of(octets))
 }
@@ -25,7 +31,7 @@ pub fn stamp_text(alloc: Global, stamp: Stamp) -> Result<String, AllocError>
 pub fn local_text(alloc: Global, time: LocalTime) -> Result<String, AllocError>
     ensures { IfOk result (λ text. WritesLocal (string_bytes text) time) }
 {
-    let mut octets = Vec::new(alloc);
+    let mut octets = Vec::with_capacity(alloc, STAMP_OCTETS)?;
     time.write(&mut octets)?;
     Ok(text_of(octets))
 }
@@ -34,7 +40,7 @@ pub fn local_text(alloc: Global, time: LocalTime) -> Result<String, AllocError>
 pub fn offset_text(alloc: Global, offset: UtcOffset) -> Result<String, AllocError>
     ensures { IfOk result (λ text. WritesOffset (string_bytes text) offset) }
 {
-    let mut octets = Vec::new(alloc);
+    let mut octets = Vec::with_capacity(alloc, OFFSET_OCTETS)?;
     offset.write(&mut octets)?;
     Ok(text_of(octets))
 }
@@ -50,7 +56,7 @@ pub fn sequence_text(alloc: Global, sequence: Sequence) -> Result<String, AllocE
 pub fn escaped_text(alloc: Global, text: &Text) -> Result<String, AllocError>
     ensures { IfOk result (λ line. string_bytes line ≡ escaped (text_octets text.now)) }
 {
-    let mut octets = Vec::new(alloc);
+    let mut octets = Vec::with_capacity(alloc, text.as_str().len())?;
     text.write(&mut octets)?;
     Ok(text_of(octets))
 }

@@ -2,10 +2,12 @@
 //! backslash before anything else, or at the end, stands for itself.
 
 ghost use Rattle.std.specs.Prelude.{ℕ, List, ◌≡◌, ◌++◌, ◌∷◌, ◌≤◌, length, string_bytes, IfOk, IfErr, OnOk, OnErr};
+ghost use Rattle.std.specs.List.{list_any};
 ghost use Rattle.profile.specs.Values.{escaped, escaped_octet, unescaped, IsUid};
 ghost use Rattle.ical_lines.specs.Fault.{RefusesOnly};
 ghost use Rattle.ical_values.specs.Octets.{text_octets};
 ghost use Rattle.profile.specs.Faults.{is_uid_fault};
+ghost use Rattle.ical_values.specs.Escaped.{is_escaped};
 ghost use Rattle.ical_values.specs.Refused.{IfRefused};
 
 use ical_lines::{Fault, Refusal};
@@ -67,15 +69,41 @@ impl Text {
         ensures ok { OnOk result (out.new.items ≡ out.old.items ++ escaped (text_octets self.now)) }
         ensures err { OnErr result (out.new.items ≡ out.old.items) }
     {
-        let start = out.len();
-        for octet in self.octets.as_bytes() {
-            if push_escaped(out, *octet).is_err() {
-                out.truncate(start);
-                return Err(AllocError);
-            }
+        let octets = self.octets.as_bytes();
+        if has_escaped(octets) {
+            return write_escaped(out, octets);
         }
-        Ok(())
+        out.extend_from_slice(octets)
     }
+}
+
+/// Whether one of some octets is written with a backslash.
+fn has_escaped(octets: &[u8]) -> bool
+    ensures { result ≡ list_any is_escaped octets.now }
+{
+    octets.iter().any(|octet| is_escaped(*octet))
+}
+
+/// Whether a backslash stands before an octet, or in its place, where it is written.
+fn is_escaped(octet: u8) -> bool
+    ensures { result ≡ is_escaped octet }
+{
+    matches!(octet, b'\n' | b'\\' | b';' | b',')
+}
+
+/// Appends octets with backslash, semicolon, comma and LF escaped. Without memory nothing is appended.
+fn write_escaped(out: &mut Vec<u8>, octets: &[u8]) -> Result<(), AllocError>
+    ensures ok { OnOk result (out.new.items ≡ out.old.items ++ escaped octets.now) }
+    ensures err { OnErr result (out.new.items ≡ out.old.items) }
+{
+    let start = out.len();
+    for octet in octets {
+        if push_escaped(out, *octet).is_err() {
+            out.truncate(start);
+            return Err(AllocError);
+        }
+    }
+    Ok(())
 }
 
 /// Appends one octet, escaped where it has to be.
