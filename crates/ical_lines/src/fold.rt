@@ -24,21 +24,20 @@ pub fn write_line(out: &mut Vec<u8>, text: &str) -> Result<(), AllocError>
         → unfolded (physical_lines (folded text.now ++ rest)) ≡ text.now ∷ unfolded (physical_lines rest) }
     ensures short { is_one_line text.now ≡ true → list_all is_short (physical_lines (folded text.now)) ≡ true }
 {
-    let kept = out.len();
-    match fold_line(out, text) {
-        Ok(()) => Ok(()),
-        Err(error) => {
-            out.truncate(kept);
-            Err(error)
-        }
-    }
+    write_pieces(out, text, "")
 }
 
-/// Writes one content line of two pieces, the second right behind the first, folded and ended by CRLF.
+/// Writes one content line of two pieces, the second right behind the first, folded and ended by CRLF. Pieces without LF read back
+/// as one line, whatever line follows it.
 /// Where memory is refused, `out` is unchanged.
 pub fn write_pieces(out: &mut Vec<u8>, first: &str, second: &str) -> Result<(), AllocError>
     ensures written { OnOk result (out.new.items ≡ out.old.items ++ folded (first.now ++ second.now)) }
     ensures unchanged { OnErr result (out.new.items ≡ out.old.items) }
+    ensures reads_back { is_one_line (first.now ++ second.now) ≡ true
+        → (rest : List ℕ)
+        → is_continuation rest ≡ false
+        → unfolded (physical_lines (folded (first.now ++ second.now) ++ rest)) ≡ (first.now ++ second.now) ∷ unfolded (physical_lines rest) }
+    ensures short { is_one_line (first.now ++ second.now) ≡ true → list_all is_short (physical_lines (folded (first.now ++ second.now))) ≡ true }
 {
     let kept = out.len();
     match fold_pieces(out, first, second) {
@@ -69,15 +68,6 @@ pub fn write_property(out: &mut Vec<u8>, name: &str, value: &str) -> Result<(), 
             Err(error)
         }
     }
-}
-
-/// Appends a folded line and its line break. On an error some of it may have been appended.
-fn fold_line(out: &mut Vec<u8>, text: &str) -> Result<(), AllocError>
-    ensures written { OnOk result (out.new.items ≡ out.old.items ++ folded text.now) }
-    ensures keeps { take (length out.old.items) out.new.items ≡ out.old.items }
-{
-    fold_part(out, 0, text)?;
-    out.extend_from_slice(b"\r\n")
 }
 
 /// Appends a folded line of two pieces and its line break. On an error some of it may have been appended.
