@@ -29,7 +29,7 @@ pub put_at : (items : List Part) (part r : Part) (at : ℕ) → is_ascending (pa
 put_at items part r at a found is greater =
     subst (λ (xs : List revisions.Part). Puts (parts_of items) xs (part_of part)) (sym (map-set part_of items at part)) (puts_set (parts_of items) (part_of part) (part_of r) at a found (register_is items r at is) greater)
 
-parts-insert : (items : List Part) (part : Part) (at : ℕ) → parts_of (insert items at part) ≡ insert (parts_of items) at (part_of part)
+pub parts-insert : (items : List Part) (part : Part) (at : ℕ) → parts_of (insert items at part) ≡ insert (parts_of items) at (part_of part)
 parts-insert items part at =
     map-append part_of (take at items) (part ∷ drop at items) ∙ ap (λ (xs : List revisions.Part). xs ++ part_of part ∷ parts_of (drop at items)) (sym (take-map part_of at items)) ∙ ap (λ (xs : List revisions.Part). take at (parts_of items) ++ part_of part ∷ xs) (sym (drop-map part_of at items))
 

@@ -5,6 +5,7 @@
 
 ghost use Rattle.std.specs.Prelude.{◌≡◌, ◌<◌, ◌^◌, true, false, Contains, List, [], ◌∷◌, ◌++◌, length, IsTrue, IfOk, IfErr, OnOk, OnErr, if◌then◌else◌};
 ghost use Rattle.std.specs.Iterator.{YieldsFirstBy, item_count};
+ghost use Rattle.std.specs.List.{insert};
 ghost use Rattle.itip_order.specs.Parts.{part_of, parts_of, slot_of};
 ghost use Rattle.itip_order.specs.Registers.{is_ascending, is_allowed_by, shown, at_slot, is_known, StandsFor, IsView, SameParts, IsAt, IsGap};
 ghost use Rattle.profile.specs.Revisions as revisions;
@@ -83,10 +84,20 @@ impl Held {
                 }
             },
             Err(at) => {
-                self.registers.insert(at, part)?;
+                self.put_first(at, part)?;
                 Ok(entered(in_view))
             }
         }
+    }
+
+    // The register of a slot that no part was taken of, a tombstone too. On an error nothing has changed.
+    fn put_first(&mut self, at: usize, part: Part) -> Result<(), AllocError>
+        requires { IsGap self.old (part_of part) at }
+        ensures ok { OnOk result (self.new ≡ insert self.old at (part_of part)) }
+        ensures err { OnErr result (self.new ≡ self.old) }
+    {
+        self.registers.insert(at, part)?;
+        Ok(())
     }
 
     /// Whether the part is in the view. Takes no memory.

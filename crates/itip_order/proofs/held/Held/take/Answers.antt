@@ -4,10 +4,10 @@ use Rattle.profile.specs.Revisions as revisions
 use Rattle.itip_order.specs.declared.held.Freshness.{Freshness}
 use Rattle.itip_order.specs.Freshness.{IsFreshness}
 use Rattle.itip_order.specs.Parts.{part_of, parts_of}
-use Rattle.itip_order.specs.Registers.{is_allowed_by, is_known, StandsFor}
+use Rattle.itip_order.specs.Registers.{is_allowed_by, is_known, StandsFor, IsGap}
 use Rattle.itip_order.proofs.Registers.{stands_kept, stands_put}
-use Rattle.itip_order.proofs.Taking.{entered_is, repeated_is, stale_is, unknown_is}
-use Rattle.itip_order.proofs.Steps.{register_in, register_same, put_at, put_gap, ascending_either}
+use Rattle.itip_order.proofs.Taking.{entered_is, repeated_is, stale_is, unknown_is, puts_insert}
+use Rattle.itip_order.proofs.Steps.{register_in, register_same, put_at}
 use Rattle.ical_values.proofs.Exits.{any_err}
 use Rattle.itip_order.proofs.held.Held.take.Goals as goal
 
@@ -16,12 +16,6 @@ pub invariant_of-self : goal.invariant_of-self
 invariant_of-self c =
     let found = rw c.deref-2.ensures.value at c.in-Ok.ensures.found in
     (put_at c.self.inside.registers.items c.args.part c.index.result.now c.in-Ok.at c.self.invariant found c.index.ensures (sym c.in-Greater.ensures)).ascending
-
--- the part goes into the gap
-pub invariant_of-self-in-Err : goal.invariant_of-self-in-Err
-invariant_of-self-in-Err c =
-    let gap = rw c.deref-2.ensures.value at c.in-Err.ensures.absent in
-    ascending_either _ c.self.inside.registers.items c.insert.new.self.items c.args.part c.in-Err.at c.self.invariant gap c.insert.ensures.items
 
 pub returns-in-Less-clause-taken : goal.returns-in-Less-clause-taken
 returns-in-Less-clause-taken c = λ history s.
@@ -67,23 +61,24 @@ returns-in-Equal-clause-freshness c = λ history s.
     let fresh = repeated_is _ history (part_of c.args.part) c.is_allowed-in_view.result stands same allowed in
     subst (λ (f : Freshness). IsFreshness f history (part_of c.args.part)) (sym c.repeated.ensures) fresh
 
-pub returns-in_ok-insert-in-Err-clause-taken : goal.returns-in_ok-insert-in-Err-clause-taken
-returns-in_ok-insert-in-Err-clause-taken c = λ history s.
-    let gap = rw c.deref-2.ensures.value at c.in-Err.ensures.absent in
-    let stands = subst (λ (R : List revisions.Part). StandsFor R history) (sym c.self.view_is) s in
-    let after = stands_put _ _ history (part_of c.args.part) stands (put_gap c.self.inside.registers.items c.args.part c.in-Err.at c.self.invariant gap) in
-    subst (λ items. StandsFor (parts_of items) (history ++ part_of c.args.part ∷ [])) (sym c.in_ok-insert-in-Err.ensures.items) after
+pub returns-in_ok-put_first-in-Err-clause-taken : goal.returns-in_ok-put_first-in-Err-clause-taken
+returns-in_ok-put_first-in-Err-clause-taken c = λ history s.
+    let at_items = rw c.deref-2.ensures.value at c.in-Err.ensures.absent in
+    let gap = subst (λ (R : List revisions.Part). IsGap R (part_of c.args.part) c.in-Err.at) c.self.view_is at_items in
+    let after = stands_put _ _ history (part_of c.args.part) s (puts_insert _ (part_of c.args.part) c.in-Err.at s.ascending gap) in
+    subst (λ (R : List revisions.Part). StandsFor R (history ++ part_of c.args.part ∷ [])) (sym c.in_ok-put_first-in-Err.ensures.ok) after
 
-pub returns-in_ok-insert-in-Err-clause-freshness : goal.returns-in_ok-insert-in-Err-clause-freshness
-returns-in_ok-insert-in-Err-clause-freshness c = λ history s.
-    let gap = rw c.deref-2.ensures.value at c.in-Err.ensures.absent in
-    let stands = subst (λ (R : List revisions.Part). StandsFor R history) (sym c.self.view_is) s in
-    let allowed = c.is_allowed-in_view.ensures ∙ ap (λ items. is_allowed_by (parts_of items) (part_of c.args.part)) c.deref.ensures.value in
-    let fresh = entered_is _ _ history (part_of c.args.part) c.is_allowed-in_view.result stands (put_gap c.self.inside.registers.items c.args.part c.in-Err.at c.self.invariant gap) allowed in
+pub returns-in_ok-put_first-in-Err-clause-freshness : goal.returns-in_ok-put_first-in-Err-clause-freshness
+returns-in_ok-put_first-in-Err-clause-freshness c = λ history s.
+    let at_items = rw c.deref-2.ensures.value at c.in-Err.ensures.absent in
+    let gap = subst (λ (R : List revisions.Part). IsGap R (part_of c.args.part) c.in-Err.at) c.self.view_is at_items in
+    let allowed = c.is_allowed-in_view.ensures ∙ ap (λ items. is_allowed_by (parts_of items) (part_of c.args.part)) c.deref.ensures.value ∙ ap (λ R. is_allowed_by R (part_of c.args.part)) c.self.view_is in
+    let fresh = entered_is _ _ history (part_of c.args.part) c.is_allowed-in_view.result s (puts_insert _ (part_of c.args.part) c.in-Err.at s.ascending gap) allowed in
     subst (λ (f : Freshness). IsFreshness f history (part_of c.args.part)) (sym c.entered-in-Err.ensures) fresh
 
-pub returns-in_err-insert-in-Err-clause-memory : goal.returns-in_err-insert-in-Err-clause-memory
-returns-in_err-insert-in-Err-clause-memory c =
-    let gap = rw c.deref-2.ensures.value at c.in-Err.ensures.absent in
-    let unknown : (history : List revisions.Part) → StandsFor c.args.self.now history → is_known history (part_of c.args.part) ≡ false = λ history s. unknown_is _ history (part_of c.args.part) c.in-Err.at (subst (λ (R : List revisions.Part). StandsFor R history) (sym c.self.view_is) s) gap in
+pub returns-in_err-put_first-in-Err-clause-memory : goal.returns-in_err-put_first-in-Err-clause-memory
+returns-in_err-put_first-in-Err-clause-memory c =
+    let at_items = rw c.deref-2.ensures.value at c.in-Err.ensures.absent in
+    let gap = subst (λ (R : List revisions.Part). IsGap R (part_of c.args.part) c.in-Err.at) c.self.view_is at_items in
+    let unknown : (history : List revisions.Part) → StandsFor c.args.self.now history → is_known history (part_of c.args.part) ≡ false = λ history s. unknown_is _ history (part_of c.args.part) c.in-Err.at s gap in
     any_err _ _ unknown
