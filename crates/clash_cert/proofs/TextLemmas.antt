@@ -1,7 +1,8 @@
 -- Lines: where they end, and that a text has one way to be cut into lines.
 use Rattle.std.proofs.Common.{◌≡◌, ◌≢◌, ◌==◌, ℕ, zero, suc, ◌+◌, ◌-◌, ◌^◌, ◌<◌, Bool, true, false, not, ◌&&◌, List, [], ◌∷◌, ◌++◌, length, get_or, take, drop, subst, sym, refl, ap, ◌∙◌, append_assoc, arith}
 use Rattle.std.specs.Prelude.{Option, Some, None, MatchOption, position, decimal, codes}
-use Rattle.std.specs.Prelude.{Result, Ok, Err, ltb}
+use Rattle.std.specs.Prelude.{Result, Ok, Err, ltb, MatchResult}
+use Rattle.std.specs.Result.{result_ok}
 use Rattle.std.specs.List.{position_or_len}
 use Rattle.std.specs.Char.{is_ascii_digit}
 use Rattle.std.specs.Str.{all_ascii_digits, IsUtf8, bytes_eq}
@@ -198,5 +199,23 @@ not_printed digits printed r n m b en em d p e f =
     let same : m ≡ n = cc in
     true≢false (sym ((bytes_eq-Decides printed digits).1 (p ∙ ap decimal same ∙ sym d)) ∙ sym e ∙ f)
 
-pub not_read : {E : Type 0} (r : Result ℕ E) (n : ℕ) (x : E) → r ≡ Ok n → r ≡ Err x → ⊥
-not_read r n x e f = cc
+pub not_read : {E : Type 0} (r : Result ℕ E) (n : ℕ) → r ≡ Ok n → None ≡ result_ok r → ⊥
+not_read r n e f = none-some n (f ∙ ap result_ok e)
+
+-- what the value of a result says of it, and what says that there is none
+pub is_value : {T E : Type 0} (r : Result T E) (x : T) → Some x ≡ result_ok r → r ≡ Ok x
+is_value (Ok y) x e = ap Ok (sym (same_Some x y e))
+is_value (Err f) x e = absurd (none-some x (sym e))
+
+pub at_value : {T E : Type 0} (r : Result T E) (x : T) (P : T → Type 0) (Q : E → Type 0) → Some x ≡ result_ok r → MatchResult r P Q → P x
+at_value (Ok y) x P Q e m = subst P (sym (same_Some x y e)) m
+at_value (Err f) x P Q e m = absurd (none-some x (sym e))
+
+pub at_no_value : {T E : Type 0} (r : Result T E) (P : T → Type 0) (Q : E → Type 0) → None ≡ result_ok r → MatchResult r P Q → (f : E) × Q f
+at_no_value (Ok y) P Q e m = absurd (none-some y e)
+at_no_value (Err f) P Q e m = (f, m)
+
+-- the exit of a `?` on an Option
+pub none_exit : {A : Type 0} (r : Option A) (P : Type 0) (Q : A → Type 0) → r ≡ None → P → MatchOption r P Q
+none_exit (Some x) P Q e p = absurd (none-some x (sym e))
+none_exit None P Q e p = p

@@ -115,9 +115,7 @@ fn after<'a>(bytes: &'a [u8], front: &[u8]) -> Option<&'a [u8]>
 fn after_line<'a>(bytes: &'a [u8], line: &[u8]) -> Option<&'a [u8]>
     ensures { MatchOption result (LacksLine line.now bytes.now) (λ rest. bytes.now ≡ line.now ++ 10 ∷ rest.now) }
 {
-    let Some(rest) = after(bytes, line) else {
-        return None;
-    };
+    let rest = after(bytes, line)?;
     after(rest, b"\n")
 }
 
@@ -126,15 +124,9 @@ fn after_count<'a>(bytes: &'a [u8], word: &[u8]) -> Option<(u64, &'a [u8])>
     ensures { MatchOption result (LacksCount word.now bytes.now)
         (λ p. (p.0 < 2 ^ 64) × (bytes.now ≡ (word.now ++ decimal p.0) ++ 10 ∷ p.1.now)) }
 {
-    let Some(rest) = after(bytes, word) else {
-        return None;
-    };
-    let Some((digits, rest)) = cut_line(rest) else {
-        return None;
-    };
-    let Some(number) = number_of(digits) else {
-        return None;
-    };
+    let rest = after(bytes, word)?;
+    let (digits, rest) = cut_line(rest)?;
+    let number = number_of(digits)?;
     Some((number, rest))
 }
 
@@ -142,9 +134,7 @@ fn after_count<'a>(bytes: &'a [u8], word: &[u8]) -> Option<(u64, &'a [u8])>
 fn cut_line(bytes: &[u8]) -> Option<(&[u8], &[u8])>
     ensures { MatchOption result (LacksLf bytes.now) (λ p. IsCutAtLf bytes.now p.0.now p.1.now) }
 {
-    let Some(end) = line_end(bytes) else {
-        return None;
-    };
+    let end = line_end(bytes)?;
     Some((&bytes[..end], &bytes[end + 1..]))
 }
 
@@ -159,12 +149,8 @@ fn line_end(bytes: &[u8]) -> Option<usize>
 fn number_of(digits: &[u8]) -> Option<u64>
     ensures { MatchOption result (IsNoNumber digits.now) (λ n. (n < 2 ^ 64) × (digits.now ≡ decimal n)) }
 {
-    let Ok(text) = str::from_utf8(digits) else {
-        return None;
-    };
-    let Ok(number) = text.parse::<u64>() else {
-        return None;
-    };
+    let text = str::from_utf8(digits).ok()?;
+    let number = text.parse::<u64>().ok()?;
     let mut buffer = Buffer::new();
     if buffer.format(number).as_bytes() == digits {
         Some(number)

@@ -1,8 +1,9 @@
-use Rattle.clash_cert.proofs.TextLemmas.{no_count, other_count}
+use Rattle.clash_cert.proofs.TextLemmas.{no_count, other_count, none_exit}
 use Rattle.clash_cert.proofs.certificate.after_count.Goals as goal
 
-pub returns-in_default-cut_line : goal.returns-in_default-cut_line
-returns-in_default-cut_line c = no_count c.args.bytes.now c.args.word.now c.in-Some.rest.now c.in-Some.ensures c.in_default-cut_line.ensures
+pub returns-in_err-digits : goal.returns-in_err-digits
+returns-in_err-digits c = none_exit _ _ _ c.from_residual-in_err-digits.ensures (no_count c.args.bytes.now c.args.word.now c.in_ok-rest.rest.now c.in_ok-rest.ensures c.in_err-digits.ensures)
 
-pub returns-in_default-number_of : goal.returns-in_default-number_of
-returns-in_default-number_of c = other_count c.args.bytes.now c.args.word.now c.in-Some.rest.now c.in-Some-cut_line.digits.now c.in-Some-cut_line.rest.now c.in-Some.ensures c.in-Some-cut_line.ensures c.in_default-number_of.ensures
+pub returns-in_err-number : goal.returns-in_err-number
+returns-in_err-number c =
+    none_exit _ _ _ c.from_residual-in_err-number.ensures (other_count c.args.bytes.now c.args.word.now c.in_ok-rest.rest.now c.in_ok-digits.digits.now c.in_ok-digits.rest.now c.in_ok-rest.ensures c.in_ok-digits.ensures c.in_err-number.ensures)

@@ -3,4 +3,4 @@ use Rattle.clash_cert.proofs.TextLemmas.{cut_from_end}
 use Rattle.clash_cert.proofs.certificate.cut_line.Goals as goal
 
 pub returns : goal.returns
-returns c = cut_from_end c.args.bytes.now c.in-Some.end (sym c.line_end.ensures ∙ c.in-Some.is)
+returns c = cut_from_end c.args.bytes.now c.in_ok-end.end (sym c.in_ok-end.ensures)
