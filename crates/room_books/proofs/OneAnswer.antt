@@ -1,11 +1,11 @@
 -- Over every run the answers stay, and no part is answered twice.
-use Rattle.std.proofs.Common.{◌≡◌, ◌∙◌, ℕ, ℤ, ◌≤◌, true, false, ◌&&◌, List, [], ◌∷◌, ◌++◌, length, sym, subst, arith, inl, inr}
+use Rattle.std.proofs.Common.{◌≡◌, ◌∙◌, ℕ, ℤ, ◌≤◌, true, ◌&&◌, List, [], ◌∷◌, length, sym, subst, arith, inl, inr}
 use Rattle.std.specs.List.{Contains}
-use Rattle.std.proofs.lemmas.Bool.{and_parts, both_ways}
+use Rattle.std.proofs.lemmas.Bool.{both_ways}
 use Rattle.std.proofs.lemmas.List.{length-map}
 use Rattle.std.proofs.lemmas.List.Elements.{Contains-append_left, Contains-append_cases}
 use Rattle.profile.specs.Messages.{Outcome}
-use Rattle.profile.specs.Revisions.{Part, in_view, same_part}
+use Rattle.profile.specs.Revisions.{Part, in_view}
 use Rattle.profile.specs.Rooms.{Claim, Answer, Book, empty_book, is_fresh, is_set, parts_of, asked, answered, IsStep, Delivery, Runs}
 use Rattle.profile.specs.Streams.{IsDelivered}
 use Rattle.itip_order.proofs.Lists.{in_cons, in_head, in_tail, none_in_nil, filter_no_longer}
