@@ -1,5 +1,7 @@
 -- Instants that two spans share, and what a pass over instances has seen.
-use Rattle.std.proofs.Common.{◌≡◌, ℤ, ◌≤ℤ◌, ◌<ℤ◌, ◌+◌, List, [], ◌∷◌, ◌++◌, inl, inr, Option, Some, sym, ◌∙◌, subst, arith, length-append}
+use Rattle.std.proofs.Common.{◌≡◌, ℤ, ◌≤ℤ◌, ◌<ℤ◌, ◌+◌, true, false, List, [], ◌∷◌, ◌++◌, inl, inr, Option, None, Some, sym, ◌∙◌, subst, arith, length-append}
+use Rattle.std.specs.Option.{is_some}
+use Rattle.std.proofs.lemmas.Bool.{true≢false}
 use Rattle.std.proofs.lemmas.Int.{ints}
 use Rattle.std.proofs.lemmas.List.Elements.{Contains-append_left, Contains-push_cases}
 use denote.Ref.{Bor}
@@ -45,6 +47,15 @@ free_more all b span f n x t c h =
 
 pub busy_kept : (all : List Booked) (b : Booked) (span : Span) (p : Bor MeetingKey × Span) → IsBusyIn all span (Some p) → IsBusyIn (all ++ b ∷ []) span (Some p)
 busy_kept all b span p h = (Contains-append_left all (b ∷ []) (booked_of p.0.now p.1) h.0, h.1)
+
+-- one more comes next: what was busy stays, and where nothing was, nothing is that shares no instant with it
+pub busy_stays : (all : List Booked) (b : Booked) (span : Span) (busy : Option (Bor MeetingKey × Span)) → is_some busy ≡ true → IsBusyIn all span busy → IsBusyIn (all ++ b ∷ []) span busy
+busy_stays all b span None e h = absurd (true≢false (sym e))
+busy_stays all b span (Some p) e h = busy_kept all b span p h
+
+pub still_free : (all : List Booked) (b : Booked) (span : Span) (busy : Option (Bor MeetingKey × Span)) → is_some busy ≡ false → IsBusyIn all span busy → ((t : ℤ) → HaveInstant span (span_of b) t → ⊥) → IsFree (all ++ b ∷ []) span
+still_free all b span None e h n = free_more all b span h n
+still_free all b span (Some p) e h n = absurd (true≢false e)
 
 -- one more was seen
 pub seen_more : (all : List Booked) (span : Span) (seen : Seen) (key : Bor MeetingKey) (other : Span) (booked busy : Option (Bor MeetingKey × Span)) → booked ≡ Some (key, other) → (IsBusyIn all span seen.busy → IsBusyIn (all ++ booked_of key.now other ∷ []) span busy) → HasSeen all span seen → HasSeen (all ++ listed booked) span (record { confirmed = seen.confirmed + 1; busy = busy })
