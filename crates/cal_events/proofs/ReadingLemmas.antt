@@ -1,20 +1,21 @@
 -- An object's VEVENTs, what they say, and the calendar's entries.
-use Rattle.std.proofs.Common.{◌≡◌, ◌≢◌, ℕ, zero, ◌+◌, ◌<◌, Bool, true, false, cond, List, [], ◌∷◌, ◌++◌, ◌||◌, length, map, filter, get_or, take, drop, subst, sym, refl, ap, ◌∙◌, arith}
+use Rattle.std.proofs.Common.{◌≡◌, ◌≢◌, ℕ, zero, ◌+◌, ◌<◌, Bool, true, false, cond, List, [], ◌∷◌, ◌++◌, ◌||◌, length, map, filter, get_or, take, drop, subst, sym, refl, ap, inl, inr, ◌∙◌, arith}
 use Rattle.ical_lines.specs.Fault.{RefusesBy}
 use Rattle.std.specs.Prelude.{Contains, AllPairs, Result, Ok, Err, IfOk, IfErr}
 use Rattle.std.specs.List.{list_any}
 use Rattle.std.proofs.lemmas.List.{map-append, take-append-drop, append-nil, length-map}
 use Rattle.std.proofs.lemmas.List.Elements.{Contains-append_right, filter_more, filter-append}
+use Rattle.std.proofs.lemmas.List.Folds.{list_any-append, list_any_at}
 use Rattle.ical_lines.specs.declared.fault.Fault.{Fault}
 use Rattle.ical_lines.specs.declared.fault.Fault.TheVariants.{Refused, Memory}
 use Rattle.ical_tree.specs.Tree.{component_lines}
 use Rattle.ical_tree.specs.declared.component.Component.{Component}
 use Rattle.ical_tree.proofs.OneLine.{at_place}
 use Rattle.profile.specs.Instances.{Booked}
-use Rattle.profile.specs.Events.{Event, SaysEvent, SaysCalendar, EventFault, CalendarFault, in_event, one_meeting, has_unread, booked_by, is_confirmed, confirmed, meeting_said}
+use Rattle.profile.specs.Events.{Event, SaysEvent, SaysCalendar, EventFault, CalendarFault, in_event, one_meeting, not_yet, has_unread, booked_by, is_confirmed, confirmed, meeting_said}
 use Rattle.cal_events.specs.declared.calendar.Entry.{Entry}
 use Rattle.cal_events.specs.Calendars.{booked_of, confirmed_in, meeting_of, MeetingsDiffer, IsTwinsFault}
-use Rattle.cal_events.specs.Events.{is_vevent, entry_view, entry_said, AreEntries}
+use Rattle.cal_events.specs.Events.{is_vevent, entry_view, entry_said, AreEntries, IsUnreadOrFault}
 use Rattle.cal_events.proofs.EventLemmas.{push_zip}
 
 -- ---- the VEVENTs among some components
@@ -69,6 +70,22 @@ unread_first lines rest all e h = e ∙ ap (λ b. b || list_any has_unread rest)
 pub unread_next : (lines : Lines) (rest : List Lines) (all : List Lines) → list_any has_unread all ≡ list_any has_unread (lines ∷ rest) → has_unread lines ≡ false
     → list_any has_unread all ≡ list_any has_unread rest
 unread_next lines rest all e h = e ∙ ap (λ b. b || list_any has_unread rest) h
+
+-- one VEVENT more that is read
+pub read_event : (cs : List Component) (i : ℕ) (c : Component) → i < length cs → c ≡ get_or cs i c → is_vevent c ≡ true → list_any has_unread (events_in (take i cs)) ≡ false
+    → has_unread (component_lines c) ≡ false → list_any has_unread (events_in (take (i + 1) cs)) ≡ false
+read_event cs i c w e h before here =
+    ap (list_any has_unread) (take_event cs i c w e h) ∙ list_any-append has_unread (events_in (take i cs)) (component_lines c ∷ []) ∙ ap (λ b. b || (has_unread (component_lines c) || false)) before
+    ∙ ap (λ b. b || false) here
+
+-- what isn't read yet is a fault
+pub unread_stands : (vs : List Lines) (f : Fault) → RefusesBy (λ n. (n ≡ 99) × (list_any has_unread vs ≡ true)) f → RefusesBy (CalendarFault vs) f
+unread_stands vs Memory s = tt
+unread_stands vs (Refused r) s = subst (CalendarFault vs) (sym s.0) (not_yet s.1)
+
+-- one of the VEVENTs that isn't read
+pub unread_among : (vs : List Lines) (lines : Lines) → Contains vs lines → has_unread lines ≡ true → list_any has_unread vs ≡ true
+unread_among vs lines (k, w, e) h = list_any_at has_unread vs k lines w (ap has_unread e ∙ h)
 
 -- ---- entries
 
@@ -130,6 +147,7 @@ twins_stand (Err (Refused x)) room vs es (events, zip, are) (n, (i, j, d, lt, w,
     let lens : length es ≡ length (map meeting_said events) = sym (length-map es meeting_of) ∙ ap length (same_meetings room es events are) in
     subst (CalendarFault vs) (sym n) (one_meeting events zip (λ apart. apart i j d lt (omega (arith, lens)) e'))
 
-pub event_stands : (vs : List Lines) (lines : Lines) (f : Fault) → Contains vs lines → RefusesBy (EventFault false lines) f → RefusesBy (CalendarFault vs) f
+pub event_stands : (vs : List Lines) (lines : Lines) (f : Fault) → Contains vs lines → RefusesBy (IsUnreadOrFault false lines) f → RefusesBy (CalendarFault vs) f
 event_stands vs lines Memory h s = tt
-event_stands vs lines (Refused r) h s = in_event lines h s
+event_stands vs lines (Refused r) h (inl u) = subst (CalendarFault vs) (sym u.0) (not_yet (unread_among vs lines h u.1))
+event_stands vs lines (Refused r) h (inr s) = in_event lines h s

@@ -1,5 +1,5 @@
 -- What the types of a VEVENT that was read stand for.
-use Rattle.std.specs.Prelude.{ℕ, Bool, true, false, List, map, filter, option_map, codes, Option, Some, None, ◌≡◌, ◌<◌, ℤ, pos, negsuc, ◌+ℤ◌, ◌<ℤ◌}
+use Rattle.std.specs.Prelude.{ℕ, Bool, true, false, List, map, filter, option_map, codes, Option, Some, None, ◌≡◌, ◌⊎◌, ◌<◌, ℤ, pos, negsuc, ◌+ℤ◌, ◌<ℤ◌}
 use Rattle.ical_values.specs.Octets.{address_octets, text_octets}
 use Rattle.ical_values.specs.declared.duration.Duration.{Duration}
 use Rattle.std.specs.List.{AllZip}
@@ -89,6 +89,10 @@ is_vevent c = is_same_name (component_name c) (codes "VEVENT")
 
 abbrev pub vevents_of : Component → List (List (List ℕ))
 vevents_of object = map component_lines (filter is_vevent (component_children object))
+
+-- a VEVENT has a fault, or a line that isn't read yet
+abbrev pub IsUnreadOrFault : Bool → List (List ℕ) → ℕ → Type 0
+IsUnreadOrFault in_message lines n = ((n ≡ 99) × (profile.has_unread lines ≡ true)) ⊎ profile.EventFault in_message lines n
 
 -- what an entry of a calendar shows: its instance, and whether it is confirmed
 abbrev pub entry_view : Entry → Booked × Bool

@@ -14,6 +14,6 @@ pub use calendar::{Calendar, Entry, Singles};
 pub use component::{Attendee, EventComponent, ParticipationStatus, Purpose, one_event};
 pub use event_times::{EventTimes, SaidTimes, refuse_nominal_length};
 pub use instance::{Booking, HORIZON, Instance, InstanceKey};
-pub use reading::{one_calendar, one_calendar_text, refuse_unread_events};
+pub use reading::{one_calendar, one_calendar_text, read_event, refuse_unread_events};
 pub use sweep::{Overlap, Span, first_overlap};
 pub use zoned::{ZonedTime, one_zoned_time};

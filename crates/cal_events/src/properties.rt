@@ -1,11 +1,10 @@
 //! The properties of one VEVENT by their names (RFC 5545 3.6.1, 3.8), and what isn't read yet.
 ghost use Rattle.std.specs.Prelude.{◌≡◌, ◌⊎◌, Some, option_map, IfOk, IfErr};
 ghost use Rattle.ical_lines.specs.Text.{line_text};
-ghost use Rattle.ical_tree.specs.Tree.{component_lines};
 ghost use Rattle.profile.specs.Events.{has_unread, is_unread_line, is_recurrence, is_end_of_event, IsMissing, StandsAtMostOnce, StandsTwice};
 
 use ical_lines::{Line, Refusal};
-use ical_tree::{Component, Properties};
+use ical_tree::Properties;
 
 /// The line of a property that may stand once, None where there is none.
 /// Refused: 61 where it stands twice.
@@ -30,12 +29,12 @@ pub(crate) fn required<'a>(properties: &Properties<'a>, name: &str) -> Result<Li
     properties.required(name, Refusal::BAD_PROPERTY)
 }
 
-/// Whether a component has a line that roombox doesn't read yet.
-pub fn has_unread_line(component: &Component) -> bool
-    ensures { result ≡ has_unread (component_lines component.now) }
+/// Whether a VEVENT has a line that roombox doesn't read yet.
+pub(crate) fn has_unread_line(event: &Properties<'_>) -> bool
+    ensures { result ≡ has_unread event.now }
 {
-    for line in component.lines() {
-        if is_unread(line) {
+    for line in event.lines() {
+        if is_unread(*line) {
             return true;
         }
     }

@@ -3,11 +3,12 @@ ghost use Rattle.std.specs.Prelude.{ℕ, List, ◌≡◌, [], true, false, unwra
 ghost use Rattle.std.specs.List.{list_any};
 ghost use Rattle.ical_lines.specs.Fault.{RefusesOnly, RefusesBy};
 ghost use Rattle.ical_values.specs.Octets.{address_octets};
-ghost use Rattle.profile.specs.Faults.{is_calendar_fault};
+ghost use Rattle.profile.specs.Faults.{is_calendar_fault, is_unread};
 ghost use Rattle.profile.specs.Instances.{Booked};
 ghost use Rattle.profile.specs.Calendars.{SpellsCalendar, CalendarTextFault};
-ghost use Rattle.profile.specs.Events.{is_confirmed, SaysCalendar, CalendarFault, has_unread};
-ghost use Rattle.cal_events.specs.Events.{event_of, vevents_of, entry_view, entry_said, AreEntries};
+ghost use Rattle.profile.specs.Events.{is_confirmed, SaysCalendar, SaysEvent, CalendarFault, has_unread};
+ghost use Rattle.ical_tree.specs.Tree.{component_lines};
+ghost use Rattle.cal_events.specs.Events.{IsUnreadOrFault, is_message, event_of, vevents_of, entry_view, entry_said, AreEntries};
 
 use crate::calendar::{Calendar, Entry};
 use crate::component::{EventComponent, ParticipationStatus, Purpose, one_event};
@@ -40,8 +41,14 @@ impl Calendar {
         ensures refuses { IfErr result (RefusesOnly is_calendar_fault) }
         ensures stands { IfErr result (RefusesBy (CalendarFault (vevents_of object.now))) }
     {
-        refuse_unread_events(object)?;
-        let entries = entries_of(alloc, object, room)?;
+        let entries = match entries_of(alloc, object, room) {
+            Ok(entries) => entries,
+            Err(fault) => {
+                // what isn't read yet goes before any other fault
+                refuse_unread_events(alloc, object)?;
+                return Err(fault);
+            }
+        };
         Calendar::of(alloc, entries)
     }
 }
@@ -69,30 +76,61 @@ pub fn one_calendar_text()
 
 /// Refuses an object with a VEVENT that has something that roombox doesn't read yet.
 /// Refused: 99.
-pub fn refuse_unread_events(object: &Component) -> Result<(), Refusal>
+pub fn refuse_unread_events(alloc: Global, object: &Component) -> Result<(), Fault>
     ensures read { OnOk result (list_any has_unread (vevents_of object.now) ≡ false) }
-    ensures refuses { IfErr result (λ e. e.number ≡ 99) }
-    ensures unread { OnErr result (list_any has_unread (vevents_of object.now) ≡ true) }
+    ensures refuses { IfErr result (RefusesOnly is_unread) }
+    ensures stands { IfErr result (RefusesBy (λ n. (n ≡ 99) × (list_any has_unread (vevents_of object.now) ≡ true))) }
 {
     for component in object.children() {
-        if component.is_named("VEVENT") && has_unread_line(component) {
-            return Err(Refusal::NOT_YET);
+        if component.is_named("VEVENT") {
+            let properties = Properties::of(alloc, component)?;
+            refuse_unread(&properties)?;
         }
     }
     Ok(())
 }
 
+/// Refuses a VEVENT that has something that roombox doesn't read yet.
+/// Refused: 99.
+fn refuse_unread(event: &Properties<'_>) -> Result<(), Refusal>
+    ensures read { OnOk result (has_unread event.now ≡ false) }
+    ensures refuses { IfErr result (λ e. e.number ≡ 99) }
+    ensures unread { OnErr result (has_unread event.now ≡ true) }
+{
+    if has_unread_line(event) {
+        return Err(Refusal::NOT_YET);
+    }
+    Ok(())
+}
+
+/// What a VEVENT says. Its lines are parsed once, for all that is asked of them.
+/// Refused: 99 where it has something that roombox doesn't read yet, and else as by `EventComponent::read`.
+pub fn read_event(
+    alloc: Global,
+    component: &Component,
+    purpose: Purpose,
+) -> Result<EventComponent, Fault>
+    ensures says { IfOk result (λ event. SaysEvent (is_message purpose) (component_lines component.now) (event_of event)) }
+    ensures read { OnOk result (has_unread (component_lines component.now) ≡ false) }
+    ensures refuses { IfErr result (RefusesOnly is_calendar_fault) }
+    ensures stands { IfErr result (RefusesBy (IsUnreadOrFault (is_message purpose) (component_lines component.now))) }
+{
+    let properties = Properties::of(alloc, component)?;
+    refuse_unread(&properties)?;
+    EventComponent::read(alloc, &properties, purpose)
+}
+
 /// What the VEVENTs of an object book, in order.
 fn entries_of(alloc: Global, object: &Component, room: &Address) -> Result<Vec<Entry>, Fault>
     ensures says { IfOk result (λ entries. AreEntries (address_octets room.now) (vevents_of object.now) entries.items) }
+    ensures read { OnOk result (list_any has_unread (vevents_of object.now) ≡ false) }
     ensures refuses { IfErr result (RefusesOnly is_calendar_fault) }
     ensures stands { IfErr result (RefusesBy (CalendarFault (vevents_of object.now))) }
 {
     let mut entries = Vec::new(alloc);
     for component in object.children() {
         if component.is_named("VEVENT") {
-            let properties = Properties::of(alloc, component)?;
-            let event = EventComponent::read(alloc, &properties, Purpose::Calendar)?;
+            let event = read_event(alloc, component, Purpose::Calendar)?;
             entries.push(entry_of(alloc, &event, room)?)?;
         }
     }

@@ -12,10 +12,11 @@ use Rattle.ical_lines.specs.declared.fault.Fault.TheVariants.{Refused, Memory}
 use Rattle.ical_lines.specs.declared.fault.Refusal.{Refusal}
 use Rattle.profile.specs.Lines.{line_value}
 use Rattle.profile.specs.Events.{Event, SaysEvent, BothOrNeither, StandsAtMostOnce, EventFault, has_unread}
-use Rattle.profile.specs.Messages.{SaysRequest, MethodFault, bad_method, unread_method, MessageFault, in_event, no_event, two_meetings, two_wholes, is_same_meeting, are_one_meeting, is_unread_method, is_method}
+use Rattle.profile.specs.Messages.{SaysRequest, MethodFault, bad_method, unread_method, MessageFault, in_event, not_yet, no_event, two_meetings, two_wholes, is_same_meeting, are_one_meeting, is_unread_method, is_method}
 use Rattle.cal_events.specs.declared.component.EventComponent.{EventComponent}
-use Rattle.cal_events.specs.Events.{event_of}
+use Rattle.cal_events.specs.Events.{event_of, IsUnreadOrFault}
 use Rattle.cal_events.proofs.EventLemmas.{some_line, push_zip}
+use Rattle.cal_events.proofs.ReadingLemmas.{unread_among}
 use Rattle.profile.specs.Revisions as revisions
 use Rattle.profile.specs.Messages.{AreParts, IsPart, names_room}
 use Rattle.itip_order.specs.Parts.{slot_of}
@@ -61,9 +62,15 @@ meeting_stands own vevents events n zip w = elim w [
 
 -- ---- VEVENTs
 
-pub event_stands : (own : Lines) (vevents : List Lines) (lines : Lines) (f : Fault) → Contains vevents lines → RefusesBy (EventFault true lines) f → RefusesBy (MessageFault own vevents) f
+pub event_stands : (own : Lines) (vevents : List Lines) (lines : Lines) (f : Fault) → Contains vevents lines → RefusesBy (IsUnreadOrFault true lines) f → RefusesBy (MessageFault own vevents) f
 event_stands own vevents lines Memory h s = tt
-event_stands own vevents lines (Refused r) h s = in_event lines h s
+event_stands own vevents lines (Refused r) h (inl u) = subst (MessageFault own vevents) (sym u.0) (not_yet (unread_among vevents lines h u.1))
+event_stands own vevents lines (Refused r) h (inr s) = in_event lines h s
+
+-- what isn't read yet is a fault
+pub unread_stands : (own : Lines) (vevents : List Lines) (f : Fault) → RefusesBy (λ n. (n ≡ 99) × (list_any has_unread vevents ≡ true)) f → RefusesBy (MessageFault own vevents) f
+unread_stands own vevents Memory s = tt
+unread_stands own vevents (Refused r) s = subst (MessageFault own vevents) (sym s.0) (not_yet s.1)
 
 -- one VEVENT more
 pub event_pushed : (vs : List Lines) (lines : Lines) (old new : List EventComponent) (event : EventComponent) → AllZip (SaysEvent true) vs (map event_of old) → SaysEvent true lines (event_of event)

@@ -1,7 +1,7 @@
 //! A message, read: its method, its meeting, and what each VEVENT says (RFC 5546 1.4, 3.2).
 //! By now REQUEST alone is read.
-ghost use Rattle.std.specs.Prelude.{◌≡◌, ◌++◌, [], true, codes, length, map, option_map, unwrap_or, IsTrue, IsSome, IfOk, IfErr, OnOk};
-ghost use Rattle.std.specs.List.{list_all, AllZip};
+ghost use Rattle.std.specs.Prelude.{◌≡◌, ◌++◌, [], true, false, codes, length, map, option_map, unwrap_or, IsTrue, IsSome, IfOk, IfErr, OnOk};
+ghost use Rattle.std.specs.List.{list_all, list_any, AllZip};
 ghost use Rattle.ical_lines.specs.Fault.{RefusesOnly, RefusesBy};
 ghost use Rattle.ical_lines.specs.Text.{line_text};
 ghost use Rattle.ical_tree.specs.Tree.{component_lines};
@@ -9,13 +9,13 @@ ghost use Rattle.ical_values.specs.Octets.{address_octets};
 ghost use Rattle.profile.specs.Faults.{is_message_fault};
 ghost use Rattle.profile.specs.Lines.{line_value, is_same_name};
 ghost use Rattle.profile.specs.Values.{duration_text};
-ghost use Rattle.profile.specs.Events.{SaysEvent, StandsAtMostOnce, StandsTwice};
+ghost use Rattle.profile.specs.Events.{SaysEvent, StandsAtMostOnce, StandsTwice, has_unread};
 ghost use Rattle.profile.specs.Messages.{IsCanonical, MethodFault, MessageFault, is_same_meeting, is_unread_method};
 ghost use Rattle.cal_events.specs.Events.{event_of, vevents_of};
 ghost use Rattle.itip_messages.specs.Messages.{IsMessageOf, IsSpelled, MeetingFault, NamesRequest, ReadFault, StandsFor, WordFault, component_names};
 
 use crate::attendees::Attendees;
-use cal_events::{EventComponent, Purpose, refuse_unread_events};
+use cal_events::{EventComponent, Purpose, read_event, refuse_unread_events};
 use ical_lines::{Fault, Limits, Line, Refusal, Unfolded};
 use ical_tree::{Component, Properties, read_object};
 use ical_values::{Address, Duration, Sequence, Stamp, Text};
@@ -86,7 +86,22 @@ impl Message {
         ensures refuses { IfErr result (RefusesOnly is_message_fault) }
         ensures stands { IfErr result (RefusesBy (MessageFault (component_lines object.now) (vevents_of object.now))) }
     {
-        refuse_unread_events(object)?;
+        match Message::of_readable(alloc, object) {
+            Ok(message) => Ok(message),
+            Err(fault) => {
+                // what isn't read yet goes before any other fault
+                refuse_unread_events(alloc, object)?;
+                Err(fault)
+            }
+        }
+    }
+
+    /// The same, where any fault may go before what isn't read yet.
+    fn of_readable(alloc: Global, object: &Component) -> Result<Message, Fault>
+        ensures says { IfOk result (IsMessageOf (component_lines object.now) (vevents_of object.now)) }
+        ensures refuses { IfErr result (RefusesOnly is_message_fault) }
+        ensures stands { IfErr result (RefusesBy (MessageFault (component_lines object.now) (vevents_of object.now))) }
+    {
         let properties = Properties::of(alloc, object)?;
         let method = method_of(&properties)?;
         let mut events = events_of(alloc, object)?;
@@ -197,14 +212,14 @@ fn is_unread_method(word: &str) -> bool
 /// What each VEVENT of a message says, in the order of the text.
 fn events_of(alloc: Global, object: &Component) -> Result<Vec<EventComponent>, Fault>
     ensures says { IfOk result (λ events. AllZip (SaysEvent true) (vevents_of object.now) (map event_of events.items)) }
+    ensures read { OnOk result (list_any has_unread (vevents_of object.now) ≡ false) }
     ensures refuses { IfErr result (RefusesOnly is_message_fault) }
     ensures stands { IfErr result (RefusesBy (MessageFault (component_lines object.now) (vevents_of object.now))) }
 {
     let mut events = Vec::new(alloc);
     for component in object.children() {
         if component.is_named("VEVENT") {
-            let properties = Properties::of(alloc, component)?;
-            events.push(EventComponent::read(alloc, &properties, Purpose::Request)?)?;
+            events.push(read_event(alloc, component, Purpose::Request)?)?;
         }
     }
     Ok(events)

@@ -1,14 +1,15 @@
 use Rattle.std.proofs.Common.{◌≡◌, ◌<◌, List, length, get_or, take, sym, ap, subst, ◌∙◌}
+use Rattle.std.specs.List.{list_any}
 use Rattle.ical_lines.specs.Fault.{RefusesBy}
 use Rattle.ical_tree.specs.Tree.{component_lines, component_children}
 use Rattle.ical_tree.specs.declared.component.Component.{Component}
 use Rattle.ical_values.specs.Octets.{address_octets}
 use Rattle.ical_values.proofs.Exits.{err_exit}
-use Rattle.profile.specs.Events.{CalendarFault}
+use Rattle.profile.specs.Events.{CalendarFault, has_unread}
 use Rattle.cal_events.specs.Events.{event_of, vevents_of, AreEntries}
-use Rattle.cal_events.proofs.ReadingLemmas.{events_in, is_among, take_other, take_event, entry_pushed, event_stands}
+use Rattle.cal_events.proofs.ReadingLemmas.{events_in, is_among, take_other, take_event, read_event, entry_pushed, event_stands}
 use Rattle.cal_events.proofs.reading.entries_of.Goals as goal
-use Rattle.cal_events.proofs.reading.entries_of.Goals.{then-is_named+in_ok-properties+in_ok-event+in_ok-entry_of+in_ok-push, else-is_named}
+use Rattle.cal_events.proofs.reading.entries_of.Goals.{then-is_named+in_ok-event+in_ok-entry_of+in_ok-push, else-is_named}
 
 pub returns-in_err-event-clause-stands : goal.returns-in_err-event-clause-stands
 returns-in_err-event-clause-stands c =
@@ -18,9 +19,9 @@ returns-in_err-event-clause-stands c =
     let same = c.children-component-items.ensures in
     let within = subst (λ (l : List Component). i < length l) same c.loop-component-test.true in
     let here = subst (λ (l : List Component). x ≡ get_or l i x) same c.component-item.is in
-    err_exit _ (RefusesBy (CalendarFault (vevents_of c.args.object.now))) _ c.from_residual-in_err-event.ensures.1
+    err_exit _ (RefusesBy (CalendarFault (vevents_of c.args.object.now))) _ c.from_residual.ensures.1
     (event_stands (vevents_of c.args.object.now) (component_lines x) _ (is_among all i x within here (sym c.if-is_named.ensures))
-    (rw c.in_ok-properties.ensures at c.in_err-event.ensures.stands))
+    c.in_err-event.ensures.stands)
 
 pub loop-component-preserved : goal.loop-component-preserved
 loop-component-preserved c =
@@ -33,11 +34,15 @@ loop-component-preserved c =
     let here = subst (λ (l : List Component). x ≡ get_or l i x) same c.component-item.is in
     let new = c.if-is_named.entries.items in
     elim c.if-is_named.branch [
-      | then-is_named+in_ok-properties+in_ok-event+in_ok-entry_of+in_ok-push w ↦
-          subst (λ vs. AreEntries room vs new) (sym (take_event all i x within here (sym w.if-is_named.ensures)))
-          (entry_pushed room (events_in (take i all)) (component_lines x) (event_of w.in_ok-event.event) c.loop-component.entries.items new w.in_ok-entry_of.field-0
-          c.loop-component.invariant (rw w.in_ok-properties.ensures at w.in_ok-event.ensures.says) w.in_ok-entry_of.ensures (ap (λ v. v.items) w.entries-is ∙ w.in_ok-push.ensures.items))
-      | else-is_named w ↦
-          subst (λ vs. AreEntries room vs new) (sym (take_other all i x within here (sym w.if-is_named.ensures)))
-          (subst (λ es. AreEntries room (events_in (take i all)) es) (sym (ap (λ v. v.items) w.entries-is)) c.loop-component.invariant)
+      | then-is_named+in_ok-event+in_ok-entry_of+in_ok-push w ↦ (
+        subst (λ vs. AreEntries room vs new) (sym (take_event all i x within here (sym w.if-is_named.ensures)))
+            (entry_pushed room (events_in (take i all)) (component_lines x) (event_of w.in_ok-event.event) c.loop-component.entries.items new w.in_ok-entry_of.field-0
+            c.loop-component.invariant.0 w.in_ok-event.ensures.says w.in_ok-entry_of.ensures (ap (λ v. v.items) w.entries-is ∙ w.in_ok-push.ensures.items)),
+        read_event all i x within here (sym w.if-is_named.ensures) c.loop-component.invariant.1 w.in_ok-event.ensures.read,
+      )
+      | else-is_named w ↦ (
+        subst (λ vs. AreEntries room vs new) (sym (take_other all i x within here (sym w.if-is_named.ensures)))
+            (subst (λ es. AreEntries room (events_in (take i all)) es) (sym (ap (λ v. v.items) w.entries-is)) c.loop-component.invariant.0),
+        ap (list_any has_unread) (take_other all i x within here (sym w.if-is_named.ensures)) ∙ c.loop-component.invariant.1,
+      )
     ]

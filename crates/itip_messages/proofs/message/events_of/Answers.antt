@@ -1,19 +1,19 @@
 use Rattle.std.proofs.Common.{◌<◌, ◌≡◌, ◌∙◌, true, List, length, map, take, get_or, sym, ap, subst}
 use Rattle.ical_lines.specs.Fault.{RefusesBy}
-use Rattle.std.specs.List.{AllZip}
+use Rattle.std.specs.List.{list_any, AllZip}
 use Rattle.ical_tree.specs.Tree.{component_lines, component_children}
 use Rattle.ical_tree.specs.declared.component.Component.{Component}
-use Rattle.profile.specs.Events.{SaysEvent}
+use Rattle.profile.specs.Events.{SaysEvent, has_unread}
 use Rattle.profile.specs.Messages.{MessageFault}
 use Rattle.cal_events.specs.Events.{event_of, vevents_of}
-use Rattle.cal_events.proofs.ReadingLemmas.{events_in, is_among, take_event, take_other}
+use Rattle.cal_events.proofs.ReadingLemmas.{events_in, is_among, take_event, take_other, read_event}
 use Rattle.itip_messages.proofs.MessageLemmas.{event_stands, event_pushed}
 use Rattle.ical_values.proofs.Exits.{err_exit}
 use Rattle.itip_messages.proofs.message.events_of.Goals as goal
-use Rattle.itip_messages.proofs.message.events_of.Goals.{then-is_named+in_ok-properties+in_ok-read+in_ok-push, else-is_named}
+use Rattle.itip_messages.proofs.message.events_of.Goals.{then-is_named+in_ok-read_event+in_ok-push, else-is_named}
 
-pub returns-in_err-read-clause-stands : goal.returns-in_err-read-clause-stands
-returns-in_err-read-clause-stands c =
+pub returns-in_err-read_event-clause-stands : goal.returns-in_err-read_event-clause-stands
+returns-in_err-read_event-clause-stands c =
     let all = component_children c.args.object.now in
     let own = component_lines c.args.object.now in
     let i = c.loop-component.component-index in
@@ -21,9 +21,9 @@ returns-in_err-read-clause-stands c =
     let same = c.children-component-items.ensures in
     let within = subst (λ (l : List Component). i < length l) same c.loop-component-test.true in
     let here = subst (λ (l : List Component). x ≡ get_or l i x) same c.component-item.is in
-    err_exit _ (RefusesBy (MessageFault own (vevents_of c.args.object.now))) _ c.from_residual-in_err-read.ensures.1
+    err_exit _ (RefusesBy (MessageFault own (vevents_of c.args.object.now))) _ c.from_residual.ensures.1
     (event_stands own (vevents_of c.args.object.now) (component_lines x) _ (is_among all i x within here (sym c.if-is_named.ensures))
-    (rw c.in_ok-properties.ensures at c.in_err-read.ensures.stands))
+    c.in_err-read_event.ensures.stands)
 
 pub loop-component-preserved : goal.loop-component-preserved
 loop-component-preserved c =
@@ -36,11 +36,15 @@ loop-component-preserved c =
     let old = c.loop-component.events.items in
     let new = c.if-is_named.events.items in
     elim c.if-is_named.branch [
-      | then-is_named+in_ok-properties+in_ok-read+in_ok-push w ↦
-          subst (λ vs. AllZip (SaysEvent true) vs (map event_of new)) (sym (take_event all i x within here (sym w.if-is_named.ensures)))
-          (event_pushed (events_in (take i all)) (component_lines x) old new w.in_ok-read.field-0 c.loop-component.invariant (rw w.in_ok-properties.ensures at w.in_ok-read.ensures.says)
-          (ap (λ v. v.items) w.events-is ∙ w.in_ok-push.ensures.items))
-      | else-is_named w ↦
-          subst (λ vs. AllZip (SaysEvent true) vs (map event_of new)) (sym (take_other all i x within here (sym w.if-is_named.ensures)))
-          (subst (λ es. AllZip (SaysEvent true) (events_in (take i all)) (map event_of es)) (sym (ap (λ v. v.items) w.events-is)) c.loop-component.invariant)
+      | then-is_named+in_ok-read_event+in_ok-push w ↦ (
+        subst (λ vs. AllZip (SaysEvent true) vs (map event_of new)) (sym (take_event all i x within here (sym w.if-is_named.ensures)))
+            (event_pushed (events_in (take i all)) (component_lines x) old new w.in_ok-read_event.field-0 c.loop-component.invariant.0 w.in_ok-read_event.ensures.says
+            (ap (λ v. v.items) w.events-is ∙ w.in_ok-push.ensures.items)),
+        read_event all i x within here (sym w.if-is_named.ensures) c.loop-component.invariant.1 w.in_ok-read_event.ensures.read,
+      )
+      | else-is_named w ↦ (
+        subst (λ vs. AllZip (SaysEvent true) vs (map event_of new)) (sym (take_other all i x within here (sym w.if-is_named.ensures)))
+            (subst (λ es. AllZip (SaysEvent true) (events_in (take i all)) (map event_of es)) (sym (ap (λ v. v.items) w.events-is)) c.loop-component.invariant.0),
+        ap (list_any has_unread) (take_other all i x within here (sym w.if-is_named.ensures)) ∙ c.loop-component.invariant.1,
+      )
     ]
