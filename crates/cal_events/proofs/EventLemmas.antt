@@ -1,14 +1,10 @@
 -- What the readers of a VEVENT's properties say, put together.
-use Rattle.std.proofs.Common.{◌≡◌, ℕ, zero, suc, ◌+◌, ◌<◌, ◌≤◌, Bool, true, false, eqb, List, [], ◌∷◌, ◌++◌, length, get_or, take, drop, drop-cons, add-one, append_assoc, cond, map, codes, subst, sym, refl, ap, ◌∙◌, inl, inr, arith, ℤ, pos, ◌+ℤ◌, ◌*ℤ◌, ◌<ℤ◌}
-use Rattle.std.specs.Prelude.{Option, Some, None, Result, Ok, Err, is_ok, IfOk, OnOk, OnErr, Contains, IsTrue, ◌⊎◌, ◌↔◌}
-use Rattle.std.specs.Str.{IsUtf8, is_utf8, chars}
-use lib.Utf8.{encode}
-use Rattle.std.proofs.lemmas.Str.{IsUtf8-append, IsUtf8-from_is_utf8}
+use Rattle.std.proofs.Common.{◌≡◌, ℕ, zero, suc, ◌+◌, ◌<◌, ◌≤◌, Bool, true, false, eqb, List, [], ◌∷◌, ◌++◌, length, get_or, drop, drop-cons, add-one, append_assoc, cond, map, codes, subst, sym, refl, ap, ◌∙◌, inl, inr, arith, ℤ, pos, ◌+ℤ◌, ◌<ℤ◌}
+use Rattle.std.specs.Prelude.{Option, Some, None, Result, Ok, Err, is_ok, is_some, IfOk, OnOk, OnErr, IfSome, IfNone, Contains, IsTrue, ◌⊎◌, ◌↔◌}
 use Rattle.std.specs.List.{AllZip, find}
 use Rattle.std.proofs.lemmas.List.{map-append}
 use Rattle.std.proofs.lemmas.List.Elements.{Contains-append_right}
 use Rattle.std.proofs.lemmas.Bool.{true≢false}
-use Rattle.std.proofs.Math.Seq.{take-append_seam}
 use Rattle.std.proofs.lemmas.Bool.Decides.{nat_tests}
 use Rattle.std.proofs.lemmas.Int.{ints}
 use Rattle.ical_lines.specs.Fault.{RefusesOnly, RefusesBy}
@@ -77,48 +73,10 @@ pub local_test : (r : Result ℤ Refusal) (text : List ℕ) (b : Bool) → b ≡
 local_test (Ok t) text b e h none = (λ _. (t, h), λ _. e)
 local_test (Err x) text b e h none = (λ is. absurd (true≢false (sym is ∙ e)), λ l. absurd (none l.0 l.1))
 
--- the texts of dates have eight octets
-date_length : (text : List ℕ) → IsDateText text → length text ≡ 8
-date_length text (number, d) = ap length d.spelled
-
--- eight octets are a date where midnight makes them a local time
-date_before : (front rest t tail : List ℕ) → length front ≡ 8 → length t ≡ 8 → front ++ rest ≡ t ++ tail → front ≡ t
-date_before front rest t tail d e h =
-    let a : take 8 (front ++ rest) ≡ front = rw (sym d) (take-append_seam front rest) in
-    let b : take 8 (t ++ tail) ≡ t = rw (sym e) (take-append_seam t tail) in
-    sym a ∙ ap (take 8) h ∙ b
-
-date_of_local : (t : List ℕ) → length t ≡ 8 → IsLocalText (t ++ codes "T000000") → IsDateText t
-date_of_local t e (s, clock) =
-    let whole : clock.date ++ (codes "T" ++ clock.time) ≡ t ++ codes "T000000" = sym (append_assoc clock.date (codes "T") clock.time) ∙ sym clock.spelled in
-    let is : clock.date ≡ t = date_before clock.date (codes "T" ++ clock.time) t (codes "T000000") (date_length clock.date (clock.number, clock.on)) e whole in
-    (clock.number, subst (λ (d : List ℕ). SpellsDate d clock.number) is clock.on)
-
-local_of_date : (t : List ℕ) → IsDateText t → IsLocalText (t ++ codes "T000000")
-local_of_date t (number, d) = (
-  (number *ℤ pos 86_400) +ℤ pos 0,
-  record {
-    date = t;
-    time = codes "000000";
-    number = number;
-    second = 0;
-    on = d;
-    at_second = record { hour = 0; minute = 0; second = 0; hours = omega arith; minutes = omega arith; seconds = omega arith; spelled = refl; counted = refl };
-    spelled = sym (append_assoc t (codes "T") (codes "000000"));
-    counted = refl;
-  },
-)
-
-pub date_test : (t midnight : List ℕ) (b : Bool) → length t ≡ 8 → midnight ≡ t ++ codes "T000000" → ((b ≡ true) ↔ IsLocalText midnight) → ((b ≡ true) ↔ IsDateText t)
-date_test t midnight b e m h = (λ is. date_of_local t e (subst IsLocalText m (h.0 is)), λ d. h.1 (subst IsLocalText (sym m) (local_of_date t d)))
-
-zeros_utf8 : is_utf8 (codes "T000000") ≡ true
-unfolding is_utf8 chars encode
-zeros_utf8 = refl
-
--- midnight behind a text is a text
-pub midnight_utf8 : (t midnight : List ℕ) → midnight ≡ t ++ codes "T000000" → IsUtf8 t → IsUtf8 midnight
-midnight_utf8 t midnight m u = subst IsUtf8 (sym m) (IsUtf8-append t (codes "T000000") u (IsUtf8-from_is_utf8 (codes "T000000") zeros_utf8))
+-- and a date where it is read as one
+pub date_test : (o : Option ℤ) (text : List ℕ) (b : Bool) → b ≡ is_some o → IfSome o (SpellsDate text) → IfNone o ((number : ℤ) → SpellsDate text number → ⊥) → ((b ≡ true) ↔ IsDateText text)
+date_test (Some number) text b e h none = (λ _. (number, h), λ _. e)
+date_test None text b e h none = (λ is. absurd (true≢false (sym is ∙ e)), λ d. absurd (none d.0 d.1))
 
 -- the kind that VALUE says decides what is wrong
 pub kind_fault : (line text : List ℕ) (kind : TimeKind) (n : ℕ) → kind ≡ time_kind line → text ≡ line_value line → KindFault kind text n → TimeFault line n

@@ -12,7 +12,7 @@ use Rattle.ical_tree.specs.Tree.{component_lines}
 use Rattle.ical_tree.specs.declared.component.Component.{Component}
 use Rattle.ical_tree.proofs.OneLine.{at_place}
 use Rattle.profile.specs.Instances.{Booked}
-use Rattle.profile.specs.Events.{Event, SaysEvent, SaysCalendar, EventFault, CalendarFault, in_event, one_meeting, not_yet, has_unread, booked_by, is_confirmed, confirmed, meeting_said}
+use Rattle.profile.specs.Events.{Event, SaysEvent, SaysCalendar, CalendarFault, in_event, one_meeting, not_yet, has_unread, booked_by, is_confirmed, confirmed, meeting_said}
 use Rattle.cal_events.specs.declared.calendar.Entry.{Entry}
 use Rattle.cal_events.specs.Calendars.{booked_of, confirmed_in, meeting_of, MeetingsDiffer, IsTwinsFault}
 use Rattle.cal_events.specs.Events.{is_vevent, entry_view, entry_said, AreEntries, IsUnreadOrFault}

@@ -14,20 +14,18 @@ ghost use Rattle.cal_events.specs.Zoned.{SaysHeading, SayAttendees};
 use crate::properties::{optional, required};
 use ical_lines::{Fault, Line, Refusal};
 use ical_tree::Properties;
+use ical_values::date::read_date;
 use ical_values::duration::one_duration;
 use ical_values::sequence::one_sequence;
 use ical_values::stamp::{ends_in_z, one_stamp};
-use ical_values::{Address, Duration, LocalTime, Sequence, Stamp, Text};
+use ical_values::{Address, DAY_SECONDS, Duration, LocalTime, Sequence, Stamp, Text};
 use std::alloc::Global;
 
-/// Seconds of a day without a change of offset.
-const DAY: i64 = ical_values::DAY_SECONDS;
-
 /// The longest event, 366 days in seconds; this profile's choice.
-const LONGEST: i64 = 366 * DAY;
+const LONGEST: i64 = 366 * DAY_SECONDS;
 
 /// The first second that an event may name, 1969-12-31T00:00:00Z: a local time of 1970 may be as early.
-pub(crate) const FIRST_SECOND: i64 = -DAY;
+pub(crate) const FIRST_SECOND: i64 = -DAY_SECONDS;
 
 /// What a VEVENT is read for: this says which properties have to stand.
 #[derive(Clone, Copy, Debug, PartialEq, Eq)]
@@ -283,7 +281,7 @@ pub(crate) fn seconds_of(duration: Duration) -> i64
     ensures value { result ≡ pos (length_seconds (length_of duration)) }
     ensures range { result <ℤ pos (2 ^ 49) }
 {
-    i64::from(duration.days) * DAY + i64::from(duration.seconds)
+    i64::from(duration.days) * DAY_SECONDS + i64::from(duration.seconds)
 }
 
 /// What a line of a date-time says by its VALUE parameter (RFC 5545 3.2.20).
@@ -376,29 +374,11 @@ fn is_local(text: &str) -> bool
     LocalTime::read(text).is_ok()
 }
 
-/// Whether a text is a date (RFC 5545 3.3.4): with midnight behind it, it is a local time.
+/// Whether a text is a date (RFC 5545 3.3.4).
 pub(crate) fn is_date(text: &str) -> bool
     ensures { IsTrue result ↔ IsDateText text.now }
 {
-    let octets = text.as_bytes();
-    if octets.len() != 8 {
-        return false;
-    }
-    let midnight = midnight_of(octets);
-    match std::str::from_utf8(&midnight) {
-        Ok(midnight) => is_local(midnight),
-        Err(_) => false,
-    }
-}
-
-/// The text of a date's midnight.
-fn midnight_of(date: &[u8]) -> [u8; 15]
-    requires { length date.now ≡ 8 }
-    ensures { result ≡ date.now ++ codes "T000000" }
-{
-    let mut midnight = *b"00000000T000000";
-    midnight[..8].copy_from_slice(date);
-    midnight
+    read_date(text.as_bytes()).is_some()
 }
 
 fn read_attendees(alloc: Global, properties: &Properties<'_>) -> Result<Vec<Attendee>, Fault>

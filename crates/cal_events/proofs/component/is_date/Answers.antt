@@ -1,14 +1,11 @@
-use Rattle.std.proofs.Common.{length, codes, sym, ap, ◌∙◌, ◌++◌}
-use Rattle.cal_events.proofs.EventLemmas.{date_test, midnight_utf8}
+use Rattle.std.proofs.Common.{◌≡◌, true, List, ℕ, subst}
+use Rattle.std.specs.Prelude.{◌↔◌}
+use Rattle.profile.specs.Events.{IsDateText}
+use Rattle.cal_events.proofs.EventLemmas.{date_test}
 use Rattle.cal_events.proofs.component.is_date.Goals as goal
 
-pub returns-in-Ok : goal.returns-in-Ok
-returns-in-Ok c =
-    let text = c.as_bytes-octets.ensures.value in
-    let midnight = c.midnight_of-midnight.ensures ∙ ap (λ l. l ++ codes "T000000") text in
-    date_test c.args.text.now c.in-Ok.midnight.now c.is_local.result (ap length (sym text) ∙ c.if-octets-ne8.false) (c.in-Ok.ensures.cases.0 ∙ midnight) c.is_local.ensures
-
-pub returns-in-Err : goal.returns-in-Err
-returns-in-Err c =
-    let midnight = c.midnight_of-midnight.ensures ∙ ap (λ l. l ++ codes "T000000") c.as_bytes-octets.ensures.value in
-    absurd (c.in-Err.ensures.cases.0 (midnight_utf8 c.args.text.now _ midnight c.utf8.text))
+pub returns : goal.returns
+returns c =
+    let bytes = c.as_bytes.result.now in
+    subst (λ (text : List ℕ). (c.is_some.result ≡ true) ↔ IsDateText text) c.as_bytes.ensures.value
+    (date_test c.read_date.result bytes c.is_some.result c.is_some.ensures c.read_date.ensures.found c.read_date.ensures.none)
