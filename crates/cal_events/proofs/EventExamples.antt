@@ -5,7 +5,8 @@ use Rattle.std.proofs.lemmas.Bool.{true≢false}
 use Rattle.std.proofs.lemmas.Int.{ints}
 use Rattle.profile.specs.Days.{days_before_year, days_of_months}
 use Rattle.profile.specs.Values.{SpellsStamp, SpellsDuration, unescaped}
-use Rattle.profile.specs.Events.{Event, Accepted, Declined, IsDateText, TimeFault, SaysEvent, EventFault, confirmed, has_unread, no_organiser}
+use Rattle.profile.specs.Events.{Event, Accepted, Declined, SaysEvent, EventFault, confirmed, has_unread, no_organiser}
+use Rattle.profile.specs.Properties.{IsDateText, TimeFault}
 
 -- 2025-03-10T09:00:00Z is 1,741,597,200
 nine : SpellsStamp (codes "20250310T090000Z") (pos 1_741_597_200)

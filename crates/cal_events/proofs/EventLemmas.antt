@@ -20,7 +20,8 @@ use Rattle.cal_events.specs.declared.component.Extent.TheVariants.{ToEnd, For}
 use Rattle.ical_values.specs.declared.duration.Duration.{Duration}
 use Rattle.profile.specs.Lines.{line_value}
 use Rattle.profile.specs.Values.{SpellsDate, SpellsLocal, SpellsStamp, SpellsSequence, SpellsDuration, SpellsNegative, SpellsLong, IsUid, unescaped}
-use Rattle.profile.specs.Events.{is_of, lines_named, StandsAtMostOnce, SomeLine, Says, SaysSequence, IsUidLine, TimeKind, DateTime, time_kind, IsTime, IsDateText, IsLocalText, KindFault, TimeFault, EventFault, IsNoDuration, IsNegativeOrLong, IsAttendee, IsNoAddress, SaysLength, IsLength, BothOrNeither, length_seconds, bad_duration, bad_attendee, lasts_long, ends_early, ends_late, starts_early}
+use Rattle.profile.specs.Events.{SaysSequence, EventFault, IsAttendee, SaysLength, IsLength, bad_duration, bad_attendee, lasts_long, ends_early, ends_late, starts_early}
+use Rattle.profile.specs.Properties.{is_of, lines_named, StandsAtMostOnce, SomeLine, Says, IsUidLine, TimeKind, DateTime, time_kind, IsTime, IsDateText, IsLocalText, KindFault, TimeFault, IsNoDuration, IsNegativeOrLong, IsNoAddress, BothOrNeither, length_seconds}
 use Rattle.cal_events.specs.Events.{attendee_of, length_of, IsExtent, GivesLength, ExtentFault, TimesFault, ends_early as lies_before, ends_late as lies_late, lasts_long as is_long, in_extent, starts_early as lies_early}
 use Rattle.ical_tree.proofs.OneLine.{the_line}
 

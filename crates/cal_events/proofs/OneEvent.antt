@@ -9,7 +9,8 @@ use Rattle.std.proofs.lemmas.List.Elements.{All-from_recursion, All-contains}
 use Rattle.std.proofs.lemmas.Option.{same_Some}
 use Rattle.profile.specs.Lines.{line_value}
 use Rattle.profile.specs.Values.{SpellsStamp, SpellsSequence, SpellsDuration, SpellsNegative, IsUid, unescaped}
-use Rattle.profile.specs.Events.{lines_named, StandsAtMostOnce, IsMissing, SomeLine, BothOrNeither, Says, SaysLength, SaysEvent, Event, Attendee, Length, length_seconds, IsLength, LastsFor, LastsUntil, IsTime, IsUidLine, IsAddressLine, IsStampLine, IsSequenceLine, IsAttendee, IsNoStamp, IsNegativeOrLong, IsNoAddress, IsNoSequence, StartAndEnd, TimeKind, DateTime, Date, Period, Other, time_kind, IsDateText, IsLocalText, UnfixedOrMalformed, KindFault, TimeFault, EventFault, single_names, bad_start, bad_end, bad_stamp, bad_duration, bad_uid, bad_organiser, bad_attendee, bad_sequence, ends_early, ends_late, lasts_long, starts_early, no_uid, no_start, no_stamp_given, twice, end_and_duration, no_organiser}
+use Rattle.profile.specs.Events.{SaysLength, SaysEvent, Event, Attendee, IsLength, LastsUntil, IsAttendee, StartAndEnd, EventFault, single_names, bad_start, bad_end, bad_stamp, bad_duration, bad_uid, bad_organiser, bad_attendee, bad_sequence, ends_early, ends_late, lasts_long, starts_early, no_uid, no_start, no_stamp_given, twice, end_and_duration, no_organiser}
+use Rattle.profile.specs.Properties.{lines_named, StandsAtMostOnce, IsMissing, SomeLine, BothOrNeither, Says, Length, length_seconds, LastsFor, IsTime, IsUidLine, IsAddressLine, IsStampLine, IsSequenceLine, IsNoStamp, IsNegativeOrLong, IsNoAddress, IsNoSequence, TimeKind, DateTime, Date, Period, Other, time_kind, IsDateText, IsLocalText, UnfixedOrMalformed, KindFault, TimeFault}
 use Rattle.ical_tree.proofs.OneLine.{IsFunctional, same_option, only_line}
 
 abbrev Lines : Type 0

@@ -6,7 +6,7 @@ use Rattle.profile.specs.Trees.{Tree}
 use Rattle.profile.specs.Values.{SpellsStamp, SpellsLocal}
 use Rattle.profile.specs.Zones.{Zone}
 use Rattle.profile.specs.ZoneTexts.{SaysZone, ZoneFault}
-use Rattle.profile.specs.Events.{TimeKind, DateTime, time_kind, KindFault}
+use Rattle.profile.specs.Properties.{TimeKind, DateTime, time_kind, KindFault}
 use Rattle.profile.specs.ZonedTimes.{zone_named, SaysZoneOf, SpellsZoned, SaysZonedTime, LocalFault, NamedFault, FaultIn, ZonedTimeFault}
 
 abbrev OneStamp : Type 0

@@ -5,7 +5,8 @@ use Rattle.std.proofs.lemmas.Int.{ints}
 use Rattle.profile.specs.Trees.{Tree}
 use Rattle.profile.specs.Lines.{line_value}
 use Rattle.profile.specs.Values.{SpellsDuration, SpellsNegative, SpellsLong}
-use Rattle.profile.specs.Events.{StandsAtMostOnce, SomeLine, IsLength, length_seconds, IsNoDuration, IsNegativeOrLong}
+use Rattle.profile.specs.Events.{IsLength}
+use Rattle.profile.specs.Properties.{StandsAtMostOnce, SomeLine, length_seconds, IsNoDuration, IsNegativeOrLong}
 use Rattle.profile.specs.ZonedTimes.{EventTimes, LastsSo, SaysInstant, SaysEventTimes, EventTimesFault, is_in_zone, HasDays, bad_duration, ends_early, ends_late, lasts_long, starts_early, nominal}
 use Rattle.cal_events.specs.declared.component.Extent.{Extent}
 use Rattle.cal_events.specs.declared.component.Extent.TheVariants.{ToEnd, For}

@@ -12,7 +12,7 @@ use Rattle.profile.specs.Trees.{Tree, tree_name, tree_own}
 use Rattle.profile.specs.Zones.{Zone, Constant}
 use Rattle.profile.specs.ZoneTexts.{SaysZone, ZoneFault}
 use Rattle.profile.specs.Values.{SpellsStamp}
-use Rattle.profile.specs.Events.{TimeKind, DateTime, time_kind, IsTime, TimeFault}
+use Rattle.profile.specs.Properties.{TimeKind, DateTime, time_kind, IsTime, TimeFault}
 use Rattle.profile.specs.ZonedTimes.{has_zone_name, zone_named, SaysZoneOf, SpellsZoned, SaysZonedTime, LocalFault, NamedFault, InZoneFault, FaultIn, ZonedTimeFault}
 use Rattle.cal_events.specs.Zoned.{is_zone_called}
 

@@ -7,7 +7,9 @@ use Rattle.cal_events.specs.Calendars.{booked_of}
 use Rattle.cal_events.specs.declared.calendar.Entry.{Entry}
 use Rattle.profile.specs.Instances.{Booked}
 use Rattle.profile.specs.Events as profile
-use Rattle.profile.specs.Events.{StandsAtMostOnce, IsTime, IsLength, length_seconds}
+use Rattle.profile.specs.Properties as properties
+use Rattle.profile.specs.Events.{IsLength}
+use Rattle.profile.specs.Properties.{StandsAtMostOnce, IsTime, length_seconds}
 use Rattle.profile.specs.Lines.{is_same_name}
 use Rattle.ical_tree.specs.Tree.{component_name, component_lines, component_children}
 use Rattle.ical_tree.specs.declared.component.Component.{Component}
@@ -37,7 +39,7 @@ participation_of Declined = profile.Declined
 abbrev pub attendee_of : Attendee → profile.Attendee
 attendee_of a = record { address = address_octets a.address; participation = participation_of a.status }
 
-abbrev pub length_of : Duration → profile.Length
+abbrev pub length_of : Duration → properties.Length
 length_of d = record { days = d.days; seconds = d.seconds }
 
 -- the event that a VEVENT says
@@ -52,11 +54,11 @@ event_of e = record {
   attendees = map attendee_of e.attendees.items;
 }
 
-abbrev pub said_kind : TimeKind → profile.TimeKind
-said_kind DateTime = profile.DateTime
-said_kind Date = profile.Date
-said_kind Period = profile.Period
-said_kind Other = profile.Other
+abbrev pub said_kind : TimeKind → properties.TimeKind
+said_kind DateTime = properties.DateTime
+said_kind Date = properties.Date
+said_kind Period = properties.Period
+said_kind Other = properties.Other
 
 -- DTEND lies so many seconds from the start, or DURATION is so, or neither stands
 abbrev pub IsExtent : List (List ℕ) → ℤ → Extent → Type 0

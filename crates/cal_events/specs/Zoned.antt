@@ -6,7 +6,8 @@ use Rattle.profile.specs.Lines.{is_same_name}
 use Rattle.profile.specs.Trees.{Tree}
 use Rattle.profile.specs.Zones.{Means}
 use Rattle.std.specs.List.{AllZip}
-use Rattle.profile.specs.Events.{StandsAtMostOnce, IsLength, Says, SaysSequence, IsUidLine, IsAddressLine, IsStampLine, Attendee, IsAttendee, lines_named}
+use Rattle.profile.specs.Events.{IsLength, SaysSequence, Attendee, IsAttendee}
+use Rattle.profile.specs.Properties.{StandsAtMostOnce, Says, IsUidLine, IsAddressLine, IsStampLine, lines_named}
 use Rattle.profile.specs.ZonedTimes.{has_zone_name, is_in_zone, EventTimes, SaysZonedTime, SaysInstant}
 use Rattle.cal_zones.specs.Kinds.{zone_of}
 use Rattle.cal_events.specs.Events.{length_of}

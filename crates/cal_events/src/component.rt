@@ -7,7 +7,8 @@ ghost use Rattle.ical_lines.specs.Text.{line_text};
 ghost use Rattle.ical_values.specs.Octets.{address_octets, text_octets};
 ghost use Rattle.profile.specs.Faults.{is_event_fault};
 ghost use Rattle.profile.specs.Values.{SpellsStamp};
-ghost use Rattle.profile.specs.Events.{Event, answer_named, answer_of, length_seconds, lines_named, malformed_number, Says, SaysSequence, SaysEvent, IsUidLine, IsAddressLine, IsStampLine, IsAttendee, IsTime, IsDateText, IsLocalText, IsNoAddress, UnfixedOrMalformed, time_kind, DateTime, KindFault, TimeFault, EventFault};
+ghost use Rattle.profile.specs.Events.{Event, answer_named, answer_of, SaysSequence, SaysEvent, IsAttendee, EventFault};
+ghost use Rattle.profile.specs.Properties.{length_seconds, lines_named, malformed_number, Says, IsUidLine, IsAddressLine, IsStampLine, IsTime, IsDateText, IsLocalText, IsNoAddress, UnfixedOrMalformed, time_kind, DateTime, KindFault, TimeFault};
 ghost use Rattle.cal_events.specs.Events.{is_message, participation_of, attendee_of, length_of, event_of, said_kind, IsExtent, GivesLength, ExtentFault, TimesFault};
 ghost use Rattle.cal_events.specs.Zoned.{SaysHeading, SayAttendees};
 

@@ -7,7 +7,7 @@ ghost use Rattle.ical_lines.specs.Text.{line_text};
 ghost use Rattle.ical_tree.specs.Tree.{tree_of};
 ghost use Rattle.profile.specs.Trees.{Tree};
 ghost use Rattle.profile.specs.Zones.{IsNearEpoch};
-ghost use Rattle.profile.specs.Events.{StandsAtMostOnce};
+ghost use Rattle.profile.specs.Properties.{StandsAtMostOnce};
 ghost use Rattle.profile.specs.ZonedTimes.{is_in_zone, SaysInstant, ZonedTimeFault, HasCountedDays, HasNominalLength, SaysEventTimes, EventTimesFault};
 ghost use Rattle.cal_events.specs.Zoned.{times_of, IsExtentIn, IsExact, IsNominal, AreSaid};
 

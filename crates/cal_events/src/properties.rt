@@ -1,7 +1,8 @@
 //! The properties of one VEVENT by their names (RFC 5545 3.6.1, 3.8), and what isn't read yet.
 ghost use Rattle.std.specs.Prelude.{◌≡◌, ◌⊎◌, Some, option_map, IfOk, IfErr};
 ghost use Rattle.ical_lines.specs.Text.{line_text};
-ghost use Rattle.profile.specs.Events.{has_unread, is_unread_line, is_recurrence, is_end_of_event, IsMissing, StandsAtMostOnce, StandsTwice};
+ghost use Rattle.profile.specs.Events.{has_unread, is_unread_line, is_recurrence, is_end_of_event};
+ghost use Rattle.profile.specs.Properties.{IsMissing, StandsAtMostOnce, StandsTwice};
 
 use ical_lines::{Line, Refusal};
 use ical_tree::Properties;

@@ -9,7 +9,7 @@ ghost use Rattle.profile.specs.Trees.{Tree};
 ghost use Rattle.profile.specs.Values.{SpellsLocal};
 ghost use Rattle.profile.specs.Zones as zones;
 ghost use Rattle.profile.specs.Zones.{Constant, Means, IsNearEpoch};
-ghost use Rattle.profile.specs.Events.{is_of, time_kind, DateTime};
+ghost use Rattle.profile.specs.Properties.{is_of, time_kind, DateTime};
 ghost use Rattle.profile.specs.ZonedTimes.{has_zone_name, zone_named, SaysZoneOf, SpellsZoned, SaysZonedTime, DateOrMalformed, LocalFault, NamedFault, InZoneFault, ZonedTimeFault};
 ghost use Rattle.cal_zones.specs.Kinds.{zone_of};
 ghost use Rattle.cal_events.specs.Zoned.{is_zone_called};

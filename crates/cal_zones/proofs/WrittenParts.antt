@@ -7,7 +7,7 @@ use Rattle.std.proofs.lemmas.List.Folds.{list_all-append}
 use Rattle.profile.specs.Lines.{is_content}
 use Rattle.profile.specs.Objects.{is_property}
 use Rattle.profile.specs.Values.{SpellsLocal, WritesLocal, SpellsOffset, WritesOffset}
-use Rattle.profile.specs.Events.{IsMissing, lines_named}
+use Rattle.profile.specs.Properties.{IsMissing, lines_named}
 use Rattle.profile.specs.Rules.{Pattern}
 use Rattle.profile.specs.Zones.{Observance, local_time}
 use Rattle.profile.specs.ZoneTexts.{SaysTimes, SaysOnce, SaysYearly, YearRule, is_each_year, year_pattern}

@@ -10,7 +10,7 @@ use Rattle.profile.specs.Objects.{Opens, Closes, is_property}
 use Rattle.profile.specs.Objects.SpellsBody.{component}
 use Rattle.profile.specs.Values.{escaped, unescaped}
 use Rattle.profile.specs.Rules.{RuleText}
-use Rattle.profile.specs.Events.{BothOrNeither}
+use Rattle.profile.specs.Properties.{BothOrNeither}
 use Rattle.profile.specs.RuleTexts.{SpellsRule, RuleFault}
 use Rattle.profile.specs.Zones.{Zone, Constant, Single, Pair, Observance}
 use Rattle.profile.specs.ZoneTexts.{parts_by, is_part, is_standard, is_daylight, SaysTimes, SaysOnce, SaysYearly, IsYearLine, OffsetsDiffer, HasForm, PartsSay, SaysZone, Keeps, AreMatched, AreSpaced, is_plain_yearly, are_only, names_days, is_each_year, constant, single, pair}

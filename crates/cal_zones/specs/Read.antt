@@ -6,7 +6,7 @@ use Rattle.ical_lines.specs.declared.fault.Fault.TheVariants.{Refused, Memory}
 use Rattle.ical_tree.specs.Tree.{component_name, component_lines, component_children}
 use Rattle.ical_tree.specs.declared.component.Component.{Component}
 use Rattle.profile.specs.Zones.{Zone, Single, Pair, Observance}
-use Rattle.profile.specs.Events.{IsMissing, StandsTwice, SomeLine}
+use Rattle.profile.specs.Properties.{IsMissing, StandsTwice, SomeLine}
 use Rattle.profile.specs.ZoneTexts.{is_part, is_standard, is_daylight, PartsSay, PartsFault, TimesFault, SaysOnce, SaysYearly, AreMatched, AreSpaced, AreClose, HasNoYearRule, IsFixedLine, IsNoLocalLine, IsNoOffsetLine}
 
 -- those of some components whose name passes the test, each as its own lines

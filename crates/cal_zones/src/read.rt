@@ -7,7 +7,7 @@ ghost use Rattle.ical_tree.specs.Tree.{component_lines, tree_of};
 ghost use Rattle.profile.specs.Trees.{Tree};
 ghost use Rattle.profile.specs.Zones as zones;
 ghost use Rattle.profile.specs.Zones.{Constant};
-ghost use Rattle.profile.specs.Events as lines;
+ghost use Rattle.profile.specs.Properties as lines;
 ghost use Rattle.profile.specs.ZoneTexts.{SaysZone, ZoneFault, SaysYearly, SpellsYear, SpellsNoYear, IsYearLine};
 ghost use Rattle.profile.specs.ZoneTexts.{HasNoYearRule, OffsetsDiffer, Keeps, Strays, TimesFault};
 ghost use Rattle.cal_zones.specs.Shapes.{rule_named};

@@ -3,7 +3,7 @@
 ghost use Rattle.std.specs.Prelude.{◌≡◌, true, false, codes, None, Some, option_map, IfOk, IfErr};
 ghost use Rattle.ical_lines.specs.Text.{line_text};
 ghost use Rattle.ical_tree.specs.Tree.{component_lines};
-ghost use Rattle.profile.specs.Events.{Says, IsMissing, StandsAtMostOnce, StandsTwice, is_date_time};
+ghost use Rattle.profile.specs.Properties.{Says, IsMissing, StandsAtMostOnce, StandsTwice, is_date_time};
 ghost use Rattle.profile.specs.ZoneTexts.{IsLocalLine, IsOffsetLine, SaysTimes, TimesFault};
 ghost use Rattle.cal_zones.specs.Onsets.{observance_of};
 ghost use Rattle.cal_zones.specs.Read.{StartFault, OffsetFault, IsNotOne};

@@ -1,13 +1,12 @@
 //! VTIMEZONEs as they are written (RFC 5545 3.6.5): each line folded, and ended by CRLF.
 
 ghost use Rattle.std.specs.Prelude.{◌≡◌, ◌++◌, ℕ, List, codes, OnOk, OnErr};
-ghost use Rattle.profile.specs.Lines.{folded};
+ghost use Rattle.profile.specs.Lines.{folded, written};
 ghost use Rattle.profile.specs.Trees.{Tree};
 ghost use Rattle.profile.specs.Values.{IsOffset, WritesLocal, WritesOffset, escaped};
 ghost use Rattle.profile.specs.Zones as zones;
 ghost use Rattle.profile.specs.Zones.{local_time};
 ghost use Rattle.profile.specs.ZoneTexts.{SaysZone};
-ghost use Rattle.profile.specs.Kept.{written};
 ghost use Rattle.profile.specs.WrittenZones.{rule_lines, keeping, WritesParts, WritesZone, IsZoneText, IsTextName, ReadsAsZone};
 ghost use Rattle.ical_values.specs.Written.{Appends};
 ghost use Rattle.cal_zones.specs.Onsets.{observance_of};

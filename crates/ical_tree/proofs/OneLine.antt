@@ -3,7 +3,7 @@ use Rattle.std.proofs.Common.{◌≡◌, ◌∙◌, ap, sym, refl, subst, ℕ, z
 use Rattle.std.specs.Prelude.{Option, Some, None, Contains}
 use Rattle.std.specs.Option.{option_to_list}
 use Rattle.std.proofs.lemmas.List.{drop_more}
-use Rattle.profile.specs.Events.{lines_named, StandsAtMostOnce}
+use Rattle.profile.specs.Properties.{lines_named, StandsAtMostOnce}
 
 abbrev Lines : Type 0
 Lines = List (List ℕ)

@@ -3,7 +3,7 @@
 
 ghost use Rattle.std.specs.Prelude.{ℕ, List, ◌≡◌, ◌↔◌, ◌++◌, negsuc, IsSome, IfSome, ℤ, IfOk, IfErr, OnOk, OnErr};
 ghost use Rattle.profile.specs.Values.{SpellsStamp, WritesStamp, IsClockSeconds};
-ghost use Rattle.profile.specs.Events.{ends_in_z};
+ghost use Rattle.profile.specs.Properties.{ends_in_z};
 ghost use Rattle.ical_values.specs.Written.{Appends};
 
 use crate::clock;

@@ -4,7 +4,8 @@ use Rattle.std.specs.List.{AllZip}
 use Rattle.std.specs.Prelude.{option_to_list}
 use Rattle.std.proofs.lemmas.List.{same_from_push}
 use Rattle.std.proofs.lemmas.List.Elements.{filter-append}
-use Rattle.profile.specs.Events.{Says, IsStampLine, IsAttendee, lines_named, is_of}
+use Rattle.profile.specs.Events.{IsAttendee}
+use Rattle.profile.specs.Properties.{Says, IsStampLine, lines_named, is_of}
 use Rattle.profile.specs.Revisions.{Part, Slot, Whole, At}
 use Rattle.profile.specs.Values.{IsUid, SpellsStamp, escaped}
 use Rattle.profile.specs.Messages.{Outcome, Accept, Busy, SeriesLimit, SinglesLimit, TellsSlot, TellsOutcome, partstat, IsReplyEvent}

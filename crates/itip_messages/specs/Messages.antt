@@ -4,7 +4,8 @@ use Rattle.ical_lines.specs.Fault.{RefusesBy}
 use Rattle.std.specs.List.{list_any}
 use Rattle.std.specs.Str.{bytes_eq}
 use Rattle.profile.specs.Lines.{line_value, is_same_name}
-use Rattle.profile.specs.Events.{Event, booked_by, lines_named}
+use Rattle.profile.specs.Events.{Event, booked_by}
+use Rattle.profile.specs.Properties.{lines_named}
 use Rattle.profile.specs.Messages.{IsCanonical, SaysRequest, SpellsRequest, RequestFault, is_method, is_unread_method, are_one_meeting}
 use Rattle.profile.specs.Revisions as revisions
 use Rattle.ical_values.specs.Octets.{text_octets, address_octets}

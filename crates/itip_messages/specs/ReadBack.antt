@@ -6,7 +6,8 @@ use Rattle.profile.specs.Lines.{is_control, logical_lines, reads_as_lines}
 use Rattle.profile.specs.Objects.{IsObject}
 use Rattle.profile.specs.Trees.{Tree, tree_name, tree_own, tree_inside, vevents}
 use Rattle.profile.specs.Values.{IsAddress, lower_case}
-use Rattle.profile.specs.Events.{Says, IsUidLine, IsAddressLine, IsSequenceLine, IsStampLine, IsAttendee, Participation, Accepted, Declined, lines_named}
+use Rattle.profile.specs.Events.{IsAttendee, Participation, Accepted, Declined}
+use Rattle.profile.specs.Properties.{Says, IsUidLine, IsAddressLine, IsSequenceLine, IsStampLine, lines_named}
 use Rattle.profile.specs.Instances.{Key}
 use Rattle.profile.specs.Revisions.{Part, Slot, Whole, At}
 use Rattle.profile.specs.Messages.{Outcome, Accept, Busy, SeriesLimit, SinglesLimit, IsReplyEvent, object_lines}

@@ -5,7 +5,7 @@ ghost use Rattle.profile.specs.Events.{Event};
 ghost use Rattle.profile.specs.Messages.{IsReplyEvent, Outcome, SpellsRequest, object_lines};
 ghost use Rattle.profile.specs.Revisions.{Part};
 ghost use Rattle.profile.specs.Values.{IsUid};
-ghost use Rattle.profile.specs.Kept.{written};
+ghost use Rattle.profile.specs.Lines.{written};
 ghost use Rattle.profile.specs.Streams.{ObjectFault};
 ghost use Rattle.itip_messages.specs.ReadBack.{IsTextAddress, IsReadAddress, IsAnswer, IsVevent, ReadsAsReply, SaysAnswer};
 

@@ -7,7 +7,8 @@ use Rattle.profile.specs.Faults.{is_event_fault, is_calendar_fault, is_message_f
 use Rattle.profile.specs.Lines.{line_param}
 use Rattle.profile.specs.Calendars.{CalendarTextFault, in_lines, in_tree}
 use Rattle.profile.specs.Trees.{Tree, tree, none, more, vevents}
-use Rattle.profile.specs.Events.{Event, Participation, Accepted, Declined, NeedsAction, lines_named, is_unread_line, has_unread, answer_named, booked_by, confirmed}
+use Rattle.profile.specs.Events.{Event, Participation, Accepted, Declined, NeedsAction, is_unread_line, has_unread, answer_named, booked_by, confirmed}
+use Rattle.profile.specs.Properties.{lines_named}
 use Rattle.profile.specs.Revisions.{Part, Whole, Set}
 use Rattle.profile.specs.Messages.{Accept, SinglesLimit, MethodFault, no_method, object_lines, word}
 use Rattle.profile.specs.Rooms.{Book, Claim, empty_book}

@@ -1,63 +1,13 @@
 -- VEVENTs: what their lines say (RFC 5545 3.6.1), for single events in UTC. A VEVENT is its content lines here.
-use Rattle.std.specs.Prelude.{◌≡◌, ◌≢◌, ℕ, ◌+◌, ◌-◌, ◌*◌, Contains, AllPairs, ◌<◌, ◌≤◌, ◌⊎◌, Bool, true, false, if◌then◌else◌, ◌&&◌, ◌||◌, ◌==◌, List, [], ◌∷◌, length, map, filter, codes, Option, Some, None, is_some, option_map, unwrap_or, slice_index, ℤ, pos, negsuc, ◌+ℤ◌, ◌≤ℤ◌, ◌<ℤ◌}
-use Rattle.std.specs.Option.{option_to_list}
+use Rattle.std.specs.Prelude.{◌≡◌, ◌≢◌, ℕ, Contains, AllPairs, ◌≤◌, Bool, true, false, if◌then◌else◌, ◌&&◌, ◌||◌, List, [], ◌∷◌, length, map, filter, codes, Option, Some, None, is_some, option_map, unwrap_or, ℤ, pos, ◌+ℤ◌, ◌≤ℤ◌, ◌<ℤ◌}
 use Rattle.std.specs.List.{find, list_any, AllZip}
 use Rattle.std.specs.Str.{bytes_eq}
-use Rattle.profile.specs.Lines.{line_name, line_value, line_param, is_same_name}
-use Rattle.profile.specs.Values.{SpellsStamp, SpellsLocal, SpellsDate, SpellsSequence, SpellsDuration, SpellsNegative, IsAddress, IsUid, lower_case, unescaped}
+use Rattle.profile.specs.Lines.{line_value, line_param, is_same_name}
+use Rattle.profile.specs.Values.{IsUid, unescaped}
 use Rattle.profile.specs.Instances.{Booked}
+use Rattle.profile.specs.Properties.{is_of, lines_named, StandsAtMostOnce, IsTime, IsStampLine, IsSequenceLine, IsAddressLine, Says, IsUidLine, Length, length_seconds, LastsFor, longest, first_second, StandsTwice, IsMissing, SomeLine, IsNoStamp, TimeFault, IsNoAddress, IsNoSequence, IsNoDuration, IsNegativeOrLong}
 
--- ---- lines by their names
-
--- the line is of this property; names are compared caseless
-abbrev pub is_of : List ℕ → List ℕ → Bool
-is_of name line = is_same_name (line_name line) name
-
--- the lines of this property, in order
-abbrev pub lines_named : List ℕ → List (List ℕ) → List (List ℕ)
-lines_named name lines = filter (is_of name) lines
-
--- the property stands at most once; this is its line
-abbrev pub StandsAtMostOnce : List ℕ → List (List ℕ) → Option (List ℕ) → Type 0
-StandsAtMostOnce name lines line = lines_named name lines ≡ option_to_list line
-
--- ---- values
-
--- what VALUE says that a line's value is (RFC 5545 3.2.20)
-pub data TimeKind : Type 0 where
-  DateTime : TimeKind
-  Date : TimeKind
-  Period : TimeKind
-  Other : TimeKind
-
--- the kind that a word names, caseless
-abbrev pub kind_named : List ℕ → TimeKind
-kind_named word =
-    if is_same_name word (codes "DATE-TIME") then DateTime
-    else (if is_same_name word (codes "DATE") then Date
-    else (if is_same_name word (codes "PERIOD") then Period else Other))
-
--- a start or an end without VALUE is a date-time (RFC 5545 3.8.2.4, 3.8.2.2)
-abbrev pub time_kind : List ℕ → TimeKind
-time_kind line = unwrap_or (option_map kind_named (line_param (codes "VALUE") line)) DateTime
-
--- VALUE says that the line's value is a date-time, or doesn't stand
-abbrev pub is_date_time : List ℕ → Bool
-is_date_time line = unwrap_or (option_map (λ word. is_same_name word (codes "DATE-TIME")) (line_param (codes "VALUE") line)) true
-
--- the value of the line is this instant, as a UTC date-time (RFC 5545 3.3.5, form 2)
-abbrev pub IsTime : List ℕ → ℤ → Type 0
-IsTime line instant = (time_kind line ≡ DateTime) × SpellsStamp (line_value line) instant
-
-abbrev pub IsStampLine : List ℕ → ℤ → Type 0
-IsStampLine line instant = SpellsStamp (line_value line) instant
-
-abbrev pub IsSequenceLine : List ℕ → ℕ → Type 0
-IsSequenceLine line n = SpellsSequence (line_value line) n
-
--- an address, in ASCII lower case
-abbrev pub IsAddressLine : List ℕ → List ℕ → Type 0
-IsAddressLine line address = IsAddress (line_value line) × (address ≡ lower_case (line_value line))
+-- ---- attendees
 
 -- what an attendee answered (RFC 5545 3.2.12)
 pub data Participation : Type 0 where
@@ -88,14 +38,6 @@ IsAttendee line attendee = IsAddressLine line attendee.address × (attendee.part
 
 -- ---- one event
 
--- how long an event lasts: whole days and seconds. In UTC a day is 86,400 seconds
-pub record Length : Type 0 where
-  pub days : ℕ
-  pub seconds : ℕ
-
-abbrev pub length_seconds : Length → ℕ
-length_seconds length = 86_400 * length.days + length.seconds
-
 -- what a VEVENT says; organiser and stamp may be missing in a calendar
 pub record Event : Type 0 where
   pub uid : List ℕ
@@ -106,30 +48,10 @@ pub record Event : Type 0 where
   pub length : Length
   pub attendees : List Attendee
 
--- both are there and related, or both are missing
-abbrev pub BothOrNeither : {A B : Type 0} → (A → B → Type 0) → Option A → Option B → Type 0
-BothOrNeither R None None = Unit {0}
-BothOrNeither R (Some a) (Some b) = R a b
-BothOrNeither R None (Some b) = ⊥
-BothOrNeither R (Some a) None = ⊥
-
--- the property stands at most once, and its value is so; it has to stand where it is needed
-pub record Says {V : Type 0} (name : List ℕ) (needed : Bool) (IsValue : List ℕ → V → Type 0) (lines : List (List ℕ)) (value : Option V) : Type 0 where
-  pub line : Option (List ℕ)
-  pub once : StandsAtMostOnce name lines line
-  pub stands : needed ≡ true → is_some line ≡ true
-  pub is : BothOrNeither IsValue line value
-
-abbrev pub IsUidLine : List ℕ → List ℕ → Type 0
-IsUidLine line uid = (uid ≡ unescaped (line_value line)) × IsUid uid
-
 -- the length that DTEND gives, in exact seconds; DTEND isn't before DTSTART (RFC 5545 3.8.2.2 wants it later; that it may be
 -- DTSTART itself is this profile's choice)
 abbrev pub LastsUntil : ℤ → List ℕ → Length → Type 0
 LastsUntil start line length = (length.days ≡ 0) × IsTime line (start +ℤ pos length.seconds)
-
-abbrev pub LastsFor : List ℕ → Length → Type 0
-LastsFor line length = SpellsDuration (line_value line) length.days length.seconds
 
 -- DTEND, or DURATION, or neither: then it ends where it starts, and holds nothing (RFC 5545 3.6.1)
 abbrev pub IsLength : ℤ → Option (List ℕ) → Option (List ℕ) → Length → Type 0
@@ -137,14 +59,6 @@ IsLength start None None length = length ≡ record { days = 0; seconds = 0 }
 IsLength start (Some line) None length = LastsUntil start line length
 IsLength start None (Some line) length = LastsFor line length
 IsLength start (Some line) (Some other) length = ⊥
-
--- the longest event in seconds, 366 days; this profile's choice
-abbrev pub longest : ℕ
-longest = 31_622_400
-
--- the first second that an event may name, 1969-12-31T00:00:00Z; this profile's choice
-abbrev pub first_second : ℤ
-first_second = negsuc 86_399
 
 -- the length of an event
 pub record SaysLength (lines : List (List ℕ)) (start : ℤ) (length : Length) : Type 0 where
@@ -237,69 +151,10 @@ pub record SaysCalendar (room : List ℕ) (vevents : List (List (List ℕ))) (al
 
 -- ---- what can be wrong with a VEVENT, by the number of its refusal
 
--- the property stands at least twice
-abbrev pub StandsTwice : List ℕ → List (List ℕ) → Type 0
-StandsTwice name lines = 1 < length (lines_named name lines)
-
-abbrev pub IsMissing : List ℕ → List (List ℕ) → Type 0
-IsMissing name lines = lines_named name lines ≡ []
-
--- a line of this property stands there, and so is it
-abbrev pub SomeLine : List ℕ → (List ℕ → Type 0) → List (List ℕ) → Type 0
-SomeLine name P lines = (line : List ℕ) × Contains (lines_named name lines) line × P line
-
--- the text ends as a UTC time does: with `Z`
-abbrev pub ends_in_z : List ℕ → Bool
-ends_in_z text = slice_index text (length text - 1) == 90
-
--- no instant is spelled
-abbrev pub IsNoStamp : List ℕ → Type 0
-IsNoStamp text = (t : ℤ) → SpellsStamp text t → ⊥
-
--- a date (RFC 5545 3.3.4), or a local time without zone (RFC 5545 3.3.5, form 1)
-abbrev pub IsDateText : List ℕ → Type 0
-IsDateText text = (number : ℤ) × SpellsDate text number
-
-abbrev pub IsLocalText : List ℕ → Type 0
-IsLocalText text = (t : ℤ) × SpellsLocal text t
-
--- the number of a text that is no date and no time
-abbrev pub malformed_number : List ℕ → ℕ
-malformed_number text = if ends_in_z text then 10 else 11
-
--- 55 where the text is no fixed time, else the number of a malformed one
-abbrev pub UnfixedOrMalformed : Type 0 → List ℕ → ℕ → Type 0
-UnfixedOrMalformed IsUnfixed text number = (IsUnfixed × (number ≡ 55)) ⊎ ((IsUnfixed → ⊥) × (number ≡ malformed_number text))
-
--- the number of what is wrong with a text of this kind: there is at most one. Dates, and times without zone, aren't read yet
-abbrev pub KindFault : TimeKind → List ℕ → ℕ → Type 0
-KindFault DateTime text number = IsNoStamp text × UnfixedOrMalformed (IsDateText text ⊎ IsLocalText text) text number
-KindFault Date text number = UnfixedOrMalformed (IsDateText text) text number
-KindFault Period text number = number ≡ 56
-KindFault Other text number = number ≡ 11
-
--- the number of what is wrong with a start or an end
-abbrev pub TimeFault : List ℕ → ℕ → Type 0
-TimeFault line number = KindFault (time_kind line) (line_value line) number
-
 -- the properties that stand at most once
 abbrev pub single_names : List (List ℕ)
 single_names =
     codes "UID" ∷ codes "ORGANIZER" ∷ codes "DTSTAMP" ∷ codes "SEQUENCE" ∷ codes "STATUS" ∷ codes "DTSTART" ∷ codes "DTEND" ∷ codes "DURATION" ∷ []
-
--- the value of a line spells no address, no sequence number, no duration
-abbrev pub IsNoAddress : List ℕ → Type 0
-IsNoAddress line = IsAddress (line_value line) → ⊥
-
-abbrev pub IsNoSequence : List ℕ → Type 0
-IsNoSequence line = (n : ℕ) → SpellsSequence (line_value line) n → ⊥
-
-abbrev pub IsNoDuration : List ℕ → Type 0
-IsNoDuration line = ((days seconds : ℕ) → SpellsDuration (line_value line) days seconds → ⊥) × (SpellsNegative (line_value line) → ⊥)
-
--- a duration that is negative, or of more than 366 days
-abbrev pub IsNegativeOrLong : List ℕ → Type 0
-IsNegativeOrLong line = SpellsNegative (line_value line) ⊎ ((length : Length) × LastsFor line length × (longest < length_seconds length))
 
 -- the lines hold a start and an end, and so do the two lie
 abbrev pub StartAndEnd : (ℤ → ℤ → Type 0) → List (List ℕ) → Type 0

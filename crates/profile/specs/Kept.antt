@@ -1,16 +1,12 @@
 -- What a room writes, as octets: its replies, its kept calendar and the certificate for it. By now a meeting has one slot.
 use Rattle.std.specs.Prelude.{◌≡◌, ℕ, Bool, true, not, ◌&&◌, ◌==◌, IsTrue, List, [], ◌∷◌, ◌++◌, length, filter, codes, decimal, Contains, Option, Some, None}
 use Rattle.std.specs.List.{flat_map, list_all, AllZip}
-use Rattle.profile.specs.Lines.{folded}
+use Rattle.profile.specs.Lines.{written}
 use Rattle.profile.specs.Values.{WritesStamp, escaped}
 use Rattle.profile.specs.Certificates.{text_of}
 use Rattle.profile.specs.Revisions.{Part, Set, same_meeting}
 use Rattle.profile.specs.Messages.{IsReplyEvent, object_lines}
 use Rattle.profile.specs.Rooms.{Claim, Answer, Book, confirmed, is_confirmed, shown, answers_part}
-
--- lines as they are written: each folded and ended by CRLF, one behind another
-abbrev pub written : List (List ℕ) → List ℕ
-written lines = flat_map folded lines
 
 -- ---- replies
 

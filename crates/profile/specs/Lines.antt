@@ -220,6 +220,10 @@ column_after column (c ∷ cs) = column_after (next_column column c) cs
 abbrev pub folded : List ℕ → List ℕ
 folded text = fold_from 0 (chars text) ++ 13 ∷ 10 ∷ []
 
+-- lines as they are written: each folded and ended by CRLF, one behind another
+abbrev pub written : List (List ℕ) → List ℕ
+written lines = flat_map folded lines
+
 -- a physical line of at most 75 octets, its line break not counted
 abbrev pub is_short : List ℕ → Bool
 is_short line = nat_le (length line) 75

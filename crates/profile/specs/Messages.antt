@@ -7,7 +7,8 @@ use Rattle.profile.specs.Lines.{line_value, is_same_name, logical_lines, reads_a
 use Rattle.profile.specs.Objects.{IsObject}
 use Rattle.profile.specs.Trees.{Tree, tree_name, tree_own, tree_inside, vevents}
 use Rattle.profile.specs.Values.{WritesStamp, duration_text, escaped}
-use Rattle.profile.specs.Events.{Event, SaysEvent, EventFault, SomeLine, StandsTwice, IsMissing, lines_named, has_unread}
+use Rattle.profile.specs.Events.{Event, SaysEvent, EventFault, has_unread}
+use Rattle.profile.specs.Properties.{SomeLine, StandsTwice, IsMissing, lines_named}
 use Rattle.profile.specs.Instances.{Key}
 use Rattle.profile.specs.Revisions.{Part, Slot, Whole, At, Set}
 

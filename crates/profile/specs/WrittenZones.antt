@@ -4,16 +4,15 @@ use Rattle.std.specs.Prelude.{◌≡◌, ℕ, suc, true, false, not, ◌||◌, �
 use Rattle.std.specs.List.{list_all}
 use Rattle.std.specs.Str.{IsUtf8}
 use Rattle.std.specs.Fmt.{signed_decimal}
-use Rattle.profile.specs.Lines.{is_control, line_value, logical_lines, reads_as_lines}
+use Rattle.profile.specs.Lines.{is_control, line_value, logical_lines, reads_as_lines, written}
 use Rattle.profile.specs.Objects.{SpellsTree}
 use Rattle.profile.specs.Trees.{Tree, tree_name, tree_own, tree_inside}
 use Rattle.profile.specs.Values.{WritesLocal, WritesOffset, escaped, unescaped}
-use Rattle.profile.specs.Events.{Says}
+use Rattle.profile.specs.Properties.{Says}
 use Rattle.profile.specs.Rules.{Pattern}
 use Rattle.profile.specs.RuleTexts.{listed, entry_text}
 use Rattle.profile.specs.Zones.{Observance, Zone, Constant, Single, Pair, local_time}
 use Rattle.profile.specs.ZoneTexts.{SaysZone}
-use Rattle.profile.specs.Kept.{written}
 
 -- the RRULE of an observance, where it has one: FREQ=YEARLY, BYMONTH, BYMONTHDAY and BYDAY, as their lists stand
 abbrev pub rule_lines : Option Pattern → List (List ℕ)

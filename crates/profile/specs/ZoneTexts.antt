@@ -10,7 +10,7 @@ use Rattle.profile.specs.Days.{days_in_month, Yearly}
 use Rattle.profile.specs.Rules.{WeekdayNumber, Pattern, RuleText, is_missing, is_yearly, is_base}
 use Rattle.profile.specs.RuleTexts.{SpellsRule, RuleFault}
 use Rattle.profile.specs.Values.{SpellsLocal, SpellsOffset}
-use Rattle.profile.specs.Events.{Says, SomeLine, IsMissing, StandsTwice, is_date_time, ends_in_z}
+use Rattle.profile.specs.Properties.{Says, SomeLine, IsMissing, StandsTwice, is_date_time, ends_in_z}
 use Rattle.profile.specs.Zones.{Observance, Zone, Constant, Single, Pair, local_time}
 
 -- ---- the parts

@@ -8,7 +8,7 @@ use Rattle.profile.specs.Trees.{Tree, tree_name, tree_own, tree_inside}
 use Rattle.profile.specs.Values.{SpellsStamp, SpellsLocal, unescaped}
 use Rattle.profile.specs.Zones.{Zone, Constant, Means}
 use Rattle.profile.specs.ZoneTexts.{SaysZone, ZoneFault}
-use Rattle.profile.specs.Events.{is_of, TimeKind, DateTime, Date, Period, Other, time_kind, StandsAtMostOnce, StandsTwice, IsMissing, SomeLine, IsDateText, IsLocalText, TimeFault, Length, length_seconds, LastsFor, IsNoDuration, IsNegativeOrLong, longest, first_second}
+use Rattle.profile.specs.Properties.{is_of, TimeKind, DateTime, Date, Period, Other, time_kind, StandsAtMostOnce, StandsTwice, IsMissing, SomeLine, IsDateText, IsLocalText, TimeFault, Length, length_seconds, LastsFor, IsNoDuration, IsNegativeOrLong, longest, first_second}
 
 -- ---- VTIMEZONEs by their names
 

@@ -11,7 +11,8 @@ use Rattle.std.proofs.lemmas.List.Folds.{list_all-append}
 use Rattle.std.proofs.lemmas.List.Splits.{slice_split_at, length-slice_split}
 use Rattle.std.proofs.lemmas.Str.{IsUtf8-append, IsUtf8-from_ascii}
 use Rattle.std.proofs.lemmas.Str.Ascii.{IsAscii-cons, IsAscii-nil}
-use Rattle.profile.specs.Events.{Event, length_seconds}
+use Rattle.profile.specs.Events.{Event}
+use Rattle.profile.specs.Properties.{length_seconds}
 use Rattle.profile.specs.Kept.{is_unbroken}
 use Rattle.profile.specs.Messages.{IsCanonical}
 use Rattle.profile.specs.Revisions.{Body, Set, Absent, Cancelled}

@@ -16,8 +16,8 @@ use Rattle.itip_messages.specs.Replies.{IsStampLine}
 use Rattle.itip_order.specs.Registers.{IsView}
 use Rattle.itip_order.proofs.Lists.{in_head, in_tail, filter_at}
 use Rattle.itip_order.proofs.Registers.{greatest_at, greatest_unique}
-use Rattle.profile.specs.Kept.{written, first_parts, kept_of, IsKeptEvent}
-use Rattle.profile.specs.Lines.{folded}
+use Rattle.profile.specs.Kept.{first_parts, kept_of, IsKeptEvent}
+use Rattle.profile.specs.Lines.{written, folded}
 use Rattle.profile.specs.Revisions.{Part, Set, Whole, in_view}
 use Rattle.profile.specs.Rooms.{Answer, Book, is_confirmed, confirmed}
 use Rattle.profile.specs.Values.{WritesStamp, escaped}

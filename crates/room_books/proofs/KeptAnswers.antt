@@ -8,7 +8,8 @@ use Rattle.profile.specs.Trees.{vevents}
 use Rattle.profile.specs.Objects.{is_property}
 use Rattle.profile.specs.Values.{IsAddress, SpellsSequence, escaped, lower_case, duration_text}
 use Rattle.profile.specs.Instances.{Booked}
-use Rattle.profile.specs.Events.{Event, Says, BothOrNeither, SaysEvent, StandsAtMostOnce, IsAddressLine, IsUidLine, IsSequenceLine, SaysSequence, IsAttendee, has_unread, is_confirmed, booked_by, meeting_said, is_of, lines_named}
+use Rattle.profile.specs.Events.{Event, SaysEvent, SaysSequence, IsAttendee, has_unread, is_confirmed, booked_by, meeting_said}
+use Rattle.profile.specs.Properties.{Says, BothOrNeither, StandsAtMostOnce, IsAddressLine, IsUidLine, IsSequenceLine, is_of, lines_named}
 use Rattle.profile.specs.Messages.{SpellsRequest, IsPart, names_room}
 use Rattle.profile.specs.Rooms.{Claim, Answer}
 use Rattle.profile.specs.Kept.{IsKeptEvent}

@@ -2,7 +2,7 @@
 use Rattle.std.proofs.Common.{◌≡◌, ◌≢◌, ◌∙◌, ℕ, true, false, List, [], ◌∷◌, ◌++◌, length, map, None, refl, sym, ap, ap₂, subst, arith, cond, suc}
 use Rattle.std.specs.List.{filter, flat_map, list_all, list_any, Contains, AllPairs, AllZip}
 use Rattle.std.proofs.lemmas.Bool.{and_from, or_from}
-use Rattle.profile.specs.Lines.{is_content, logical_lines, reads_as_lines}
+use Rattle.profile.specs.Lines.{is_content, logical_lines, reads_as_lines, written}
 use Rattle.profile.specs.Objects.{is_property, IsObject}
 use Rattle.profile.specs.Trees.{tree_name, tree_own, tree_inside}
 use Rattle.profile.specs.Events as events
@@ -11,7 +11,7 @@ use Rattle.profile.specs.Calendars.{SpellsCalendar, CertificateHolds}
 use Rattle.profile.specs.Instances.{Booked}
 use Rattle.profile.specs.Messages.{object_lines}
 use Rattle.profile.specs.Rooms.{Answer, Book, Delivery, Runs, empty_book, confirmed, is_confirmed}
-use Rattle.profile.specs.Kept.{written, kept, IsKeptEvent, IsKeptCalendar, kept_certificate, first_parts}
+use Rattle.profile.specs.Kept.{kept, IsKeptEvent, IsKeptCalendar, kept_certificate, first_parts}
 use Rattle.profile.specs.Streams.{IsDelivered}
 use Rattle.std.specs.Prelude.{◌↔◌}
 use Rattle.itip_order.proofs.Lists.{in_head, in_tail, filter_at, filter_from}

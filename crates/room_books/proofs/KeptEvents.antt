@@ -4,7 +4,8 @@ use Rattle.std.specs.Str.{bytes_eq}
 use Rattle.std.specs.Prelude.{unwrap_or, option_map}
 use Rattle.std.proofs.lemmas.Slice.Eq.{bytes_eq-Decides}
 use Rattle.profile.specs.Values.{SpellsStamp, SpellsSequence, SpellsDuration, unescaped, IsAddress, IsUid, lower_case}
-use Rattle.profile.specs.Events.{Event, Attendee, Accepted, SaysEvent, length_seconds, has_unread, is_confirmed, booked_by, is_accepted}
+use Rattle.profile.specs.Events.{Event, Attendee, Accepted, SaysEvent, has_unread, is_confirmed, booked_by, is_accepted}
+use Rattle.profile.specs.Properties.{length_seconds}
 
 -- the own lines of a kept VEVENT with these values
 abbrev pub kept_own : (uid sequence stamp start duration organiser room : List ℕ) → List (List ℕ)

@@ -2,7 +2,7 @@
 use Rattle.std.proofs.Common.{◌≡◌, ℕ, pos, true, List, [], ◌∷◌, ◌++◌, codes, Some, None, inl, inr, refl, sym, ap, subst, arith, ◌∙◌}
 use Rattle.std.specs.List.{Contains}
 use Rattle.std.specs.Str.{is_utf8, chars}
-use Rattle.profile.specs.Lines.{logical_lines, reads_as_lines}
+use Rattle.profile.specs.Lines.{logical_lines, reads_as_lines, written}
 use Rattle.profile.specs.Values.{SpellsDuration, IsAddress, unescaped}
 use Rattle.std.specs.Fmt.{digits}
 use Rattle.std.proofs.lemmas.Int.{ints}
@@ -16,7 +16,7 @@ use Rattle.profile.specs.Messages.{SpellsRequest, IsPart, Accept, object_lines}
 use Rattle.profile.specs.Revisions.{Part, Whole, Set}
 use Rattle.profile.specs.Rooms.{Book, Delivery, Runs, empty_book, confirmed, answered}
 use Rattle.profile.specs.Streams.{IsDelivered, claim}
-use Rattle.profile.specs.Kept.{IsKeptCalendar, written}
+use Rattle.profile.specs.Kept.{IsKeptCalendar}
 use Rattle.itip_order.proofs.Lists.{in_cons, none_in_nil}
 use Rattle.ical_values.proofs.Readings.{stamp_written}
 use Rattle.room_books.proofs.Bodies.{with_ends}

@@ -5,7 +5,7 @@ use Rattle.ical_values.specs.Written.{Appends}
 use Rattle.profile.specs.Revisions.{Part}
 use Rattle.profile.specs.Messages.{IsReplyEvent, object_lines}
 use Rattle.profile.specs.Messages as messages
-use Rattle.profile.specs.Kept.{written}
+use Rattle.profile.specs.Lines.{written}
 use Rattle.itip_messages.specs.Replies.{outcome_of, IsReplyText, IsWrittenEvent}
 use Rattle.itip_messages.specs.declared.reply.ReplyEvent.{ReplyEvent}
 use Rattle.room_books.specs.Takings.{Told}

@@ -19,7 +19,8 @@ use Rattle.profile.specs.Messages as messages
 use Rattle.profile.specs.Rooms.{Claim, Answer, Book, empty_book, Decides, confirmed, confirmed_in, is_accept, is_set, asked, answered, IsStep, kind_of, kind_of_outcome, Kind, Withdrawn, Repeated}
 use Rattle.profile.specs.Rooms as rooms
 use Rattle.profile.specs.Rooms.{shown}
-use Rattle.profile.specs.Kept.{IsReply, Replies, ShowsAnswer, written, first_parts}
+use Rattle.profile.specs.Kept.{IsReply, Replies, ShowsAnswer, first_parts}
+use Rattle.profile.specs.Lines.{written}
 use Rattle.profile.specs.Messages.{IsReplyEvent, object_lines}
 use Rattle.std.specs.Ordering.{is_le}
 use Rattle.std.specs.List.{AllZip}

@@ -3,8 +3,8 @@ use Rattle.std.proofs.Common.{◌≡◌, ℕ, zero, suc, ◌+◌, List, [], ◌�
 use Rattle.std.specs.Prelude.{slice_get}
 use Rattle.std.specs.List.{flat_map, AllZip}
 use Rattle.std.proofs.lemmas.Grind.{flat_map-append}
-use Rattle.profile.specs.Kept.{written, IsKeptEvent}
-use Rattle.profile.specs.Lines.{folded}
+use Rattle.profile.specs.Kept.{IsKeptEvent}
+use Rattle.profile.specs.Lines.{written, folded}
 use Rattle.profile.specs.Rooms.{Answer}
 use Rattle.room_books.specs.Keeping.{WritesAnswers}
 

@@ -3,7 +3,8 @@ use Rattle.std.specs.Prelude.{◌≡◌, ℕ, List, ◌++◌}
 use Rattle.std.specs.List.{flat_map, AllZip}
 use Rattle.profile.specs.Revisions.{Part}
 use Rattle.profile.specs.Rooms.{Answer, Book}
-use Rattle.profile.specs.Kept.{written, kept_of, IsKeptEvent}
+use Rattle.profile.specs.Kept.{kept_of, IsKeptEvent}
+use Rattle.profile.specs.Lines.{written}
 
 -- the confirmed answers of these parts' meetings, in their order
 abbrev pub kept_parts : Book → List Part → List Answer

@@ -8,7 +8,8 @@ use Rattle.itip_order.specs.Registers.{StandsFor}
 use Rattle.profile.specs.Instances.{IsClear}
 use Rattle.profile.specs.Revisions.{Part, Whole, in_view}
 use Rattle.profile.specs.Messages.{Outcome, AreParts, IsPart}
-use Rattle.profile.specs.Events.{Event, booked_by, length_seconds}
+use Rattle.profile.specs.Events.{Event, booked_by}
+use Rattle.profile.specs.Properties.{length_seconds}
 use Rattle.itip_order.specs.Parts.{part_of}
 use Rattle.itip_order.specs.declared.part.Part.{Part as HeldPart}
 use Rattle.profile.specs.Rooms.{Claim, Answer, Book, Kind, confirmed, confirmed_in, most_singles, IsStep, kind_of}

@@ -3,7 +3,8 @@ use Rattle.std.specs.Prelude.{option_map}
 use Rattle.std.specs.Option.{option_to_list}
 use Rattle.std.proofs.lemmas.Int.{ints}
 use Rattle.ical_lines.specs.Text.{line_text}
-use Rattle.profile.specs.Events.{EventFault, TimeFault, IsTime, twice, bad_end, end_and_duration}
+use Rattle.profile.specs.Events.{EventFault, twice, bad_end, end_and_duration}
+use Rattle.profile.specs.Properties.{TimeFault, IsTime}
 use Rattle.cal_events.proofs.EventLemmas.{some_line, duration_fault}
 use Rattle.ical_values.proofs.Exits.{refusal_exit}
 use Rattle.cal_events.proofs.component.read_extent.Goals as goal

@@ -4,7 +4,8 @@ use Rattle.std.specs.Option.{option_to_list}
 use Rattle.ical_lines.specs.Text.{line_text}
 use Rattle.ical_lines.specs.declared.fault.Refusal.{Refusal}
 use Rattle.profile.specs.Values.{SpellsSequence}
-use Rattle.profile.specs.Events.{EventFault, IsNoSequence}
+use Rattle.profile.specs.Events.{EventFault}
+use Rattle.profile.specs.Properties.{IsNoSequence}
 use Rattle.profile.specs.Events.{twice, bad_sequence}
 use Rattle.cal_events.proofs.EventLemmas.{some_line, sequence_said}
 use Rattle.ical_values.proofs.Exits.{refusal_exit, err_both}

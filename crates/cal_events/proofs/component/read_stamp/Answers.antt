@@ -3,7 +3,8 @@ use Rattle.std.specs.Prelude.{option_map}
 use Rattle.std.specs.Option.{option_to_list}
 use Rattle.ical_lines.specs.Text.{line_text}
 use Rattle.profile.specs.Lines.{line_value}
-use Rattle.profile.specs.Events.{EventFault, IsNoStamp}
+use Rattle.profile.specs.Events.{EventFault}
+use Rattle.profile.specs.Properties.{IsNoStamp}
 use Rattle.profile.specs.Events.{twice, bad_stamp, no_stamp_given}
 use Rattle.cal_events.specs.Events.{is_message}
 use Rattle.cal_events.proofs.EventLemmas.{some_line}

@@ -1,7 +1,8 @@
 use Rattle.std.proofs.Common.{codes, sym, subst, refl, inl, inr, arith}
 use Rattle.std.proofs.lemmas.Result.{IfErr-weaker}
 use Rattle.ical_lines.specs.Text.{line_text}
-use Rattle.profile.specs.Events.{EventFault, TimeFault}
+use Rattle.profile.specs.Events.{EventFault}
+use Rattle.profile.specs.Properties.{TimeFault}
 use Rattle.profile.specs.Events.{twice, no_start, bad_start}
 use Rattle.cal_events.proofs.EventLemmas.{some_line, start_said}
 use Rattle.ical_values.proofs.Exits.{refusal_exit}

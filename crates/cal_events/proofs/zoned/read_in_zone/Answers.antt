@@ -3,7 +3,7 @@ use Rattle.ical_lines.specs.Fault.{RefusesBy}
 use Rattle.ical_lines.specs.Text.{line_text}
 use Rattle.ical_tree.specs.Tree.{tree_of}
 use Rattle.profile.specs.Lines.{line_value}
-use Rattle.profile.specs.Events.{time_kind}
+use Rattle.profile.specs.Properties.{time_kind}
 use Rattle.profile.specs.ZonedTimes.{zone_named, NamedFault, InZoneFault}
 use Rattle.ical_values.proofs.Exits.{err_exit}
 use Rattle.cal_events.proofs.ZonedLemmas.{weaker_fault}

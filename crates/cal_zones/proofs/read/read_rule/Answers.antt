@@ -5,7 +5,7 @@ use Rattle.std.proofs.lemmas.Result.{IfOk-weaker}
 use Rattle.ical_lines.specs.Text.{line_text}
 use Rattle.ical_tree.specs.Tree.{component_lines}
 use Rattle.ical_tree.proofs.OneLine.{the_line}
-use Rattle.profile.specs.Events.{Says}
+use Rattle.profile.specs.Properties.{Says}
 use Rattle.profile.specs.ZoneTexts.{SpellsYear, SpellsNoYear, IsYearLine, HasNoYearRule}
 use Rattle.cal_zones.specs.Shapes.{rule_named}
 use Rattle.cal_zones.proofs.Reading.{weaker_fault, said, no_rule_there}

@@ -1,7 +1,7 @@
 use Rattle.std.proofs.Common.{◌≡◌}
 use Rattle.ical_tree.specs.Runs.{lines_left}
 use Rattle.ical_tree.specs.Tree.{component_lines}
-use Rattle.profile.specs.Events.{lines_named}
+use Rattle.profile.specs.Properties.{lines_named}
 use Rattle.cal_zones.proofs.times.has_line.Given as goal
 
 -- the lines that are left decide it

@@ -3,7 +3,7 @@ use Rattle.std.specs.Option.{option_to_list}
 use Rattle.ical_lines.specs.Text.{line_text}
 use Rattle.ical_tree.specs.Runs.{lines_left}
 use Rattle.ical_tree.specs.Tree.{component_lines}
-use Rattle.profile.specs.Events.{lines_named}
+use Rattle.profile.specs.Properties.{lines_named}
 use Rattle.cal_zones.proofs.times.line_or_none.Given as goal
 
 -- the line found so far, and those of the lines that are left, are all

@@ -6,7 +6,7 @@ use Rattle.ical_lines.specs.declared.fault.Refusal.{Refusal}
 use Rattle.ical_tree.specs.Tree.{component_lines}
 use Rattle.ical_tree.proofs.OneLine.{the_line}
 use Rattle.profile.specs.Values.{SpellsOffset}
-use Rattle.profile.specs.Events.{Says}
+use Rattle.profile.specs.Properties.{Says}
 use Rattle.profile.specs.ZoneTexts.{IsOffsetLine}
 use Rattle.cal_zones.specs.Read.{OffsetFault}
 use Rattle.cal_zones.proofs.Reading.{said}

@@ -2,7 +2,7 @@ use Rattle.std.proofs.Common.{codes, sym, subst, refl, arith}
 use Rattle.ical_lines.specs.Text.{line_text}
 use Rattle.ical_tree.specs.Tree.{component_lines}
 use Rattle.ical_tree.proofs.OneLine.{the_line}
-use Rattle.profile.specs.Events.{Says}
+use Rattle.profile.specs.Properties.{Says}
 use Rattle.profile.specs.ZoneTexts.{IsLocalLine, TimesFault}
 use Rattle.std.specs.Prelude.{Some, true}
 use Rattle.std.proofs.lemmas.Result.{IfOk-weaker, IfErr-weaker}

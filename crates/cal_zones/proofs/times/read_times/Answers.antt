@@ -1,7 +1,7 @@
 use Rattle.std.proofs.Common.{codes, sym, subst, ℤ}
 use Rattle.std.specs.Prelude.{Some, true}
 use Rattle.ical_tree.specs.Tree.{component_lines}
-use Rattle.profile.specs.Events.{Says}
+use Rattle.profile.specs.Properties.{Says}
 use Rattle.profile.specs.ZoneTexts.{IsLocalLine, IsOffsetLine, TimesFault, dates}
 use Rattle.cal_zones.proofs.Reading.{from_fault, to_fault}
 use Rattle.ical_values.proofs.Exits.{refusal_exit}

@@ -1,6 +1,6 @@
 use Rattle.std.proofs.Common.{◌≡◌, arith, negsuc, ◌≤ℤ◌, to_z, of_z, w64}
 use Rattle.std.proofs.lemmas.Int.{ints}
-use Rattle.profile.specs.Events.{length_seconds}
+use Rattle.profile.specs.Properties.{length_seconds}
 use Rattle.profile.specs.ZonedTimes.{EventTimesFault}
 use Rattle.ical_values.proofs.Exits.{refusal_exit}
 use Rattle.cal_events.specs.Events.{length_of}

@@ -5,7 +5,7 @@ use Rattle.ical_lines.specs.Fault.{RefusesBy}
 use Rattle.ical_lines.specs.Text.{line_text}
 use Rattle.ical_tree.specs.Tree.{tree_of}
 use Rattle.profile.specs.Lines.{line_value}
-use Rattle.profile.specs.Events.{DateTime, time_kind}
+use Rattle.profile.specs.Properties.{DateTime, time_kind}
 use Rattle.profile.specs.ZonedTimes.{SpellsZoned, SaysZonedTime, InZoneFault, ZonedTimeFault}
 use Rattle.std.specs.Prelude.{Some}
 use Rattle.cal_zones.specs.Kinds.{zone_of}
