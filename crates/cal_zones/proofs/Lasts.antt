@@ -4,11 +4,11 @@ use Rattle.std.specs.Int.Signed.{◌<ℤ◌}
 use Rattle.std.proofs.lemmas.Bool.{cases_order}
 use Rattle.jiff_core.proofs.SignedLemmas.{signed_arith, one_part}
 use Rattle.profile.specs.Days.{IsDayNumber, day_index}
-use Rattle.profile.specs.Zones.{Zone, Means, IsBounds, NoneFrom, local_time}
-use Rattle.cal_zones.proofs.Zones.{one_meaning}
+use Rattle.profile.specs.Zones.{Zone, Means, NoneFrom, local_time}
+use Rattle.cal_zones.proofs.Zones.{AreSides, one_meaning}
 
 -- no meaning lies before the one with the greatest offset
-means_low : (z : Zone) (least greatest local t : ℤ) → IsBounds z least greatest → Means z local t → local ≤ℤ (t +ℤ greatest)
+means_low : (z : Zone) (least greatest local t : ℤ) → AreSides z least greatest → Means z local t → local ≤ℤ (t +ℤ greatest)
 means_low z least greatest local t b (inl x) =
     let s = x.shown in
     elim (b.one t s.0 s.1) [
@@ -21,11 +21,11 @@ means_low z least greatest local t b (inr x) =
       | inr high ↦ omega (arith, signed_arith, x.read)
     ]
 
-pub none_past : (z : Zone) (least greatest until : ℤ) (second day : ℕ) → IsBounds z least greatest → ((other : ℕ) → day < other → other ≤ 3_652_424 → (until +ℤ greatest) <ℤ local_time other second) → NoneFrom z second until (day + 1)
+pub none_past : (z : Zone) (least greatest until : ℤ) (second day : ℕ) → AreSides z least greatest → ((other : ℕ) → day < other → other ≤ 3_652_424 → (until +ℤ greatest) <ℤ local_time other second) → NoneFrom z second until (day + 1)
 none_past z least greatest until second day b past other from within start m =
     omega (arith, signed_arith, past other (omega arith) within, means_low z least greatest (local_time other second) start b m)
 
-pub none_more : (z : Zone) (least greatest until start : ℤ) (second day : ℕ) → IsBounds z least greatest → NoneFrom z second until (day + 1) → Means z (local_time day second) start → until <ℤ start → NoneFrom z second until day
+pub none_more : (z : Zone) (least greatest until start : ℤ) (second day : ℕ) → AreSides z least greatest → NoneFrom z second until (day + 1) → Means z (local_time day second) start → until <ℤ start → NoneFrom z second until day
 none_more z least greatest until start second day b none m past other from within t n =
     elim (cases_order other day) [
       | inl e ↦ omega (arith, signed_arith, one_meaning z least greatest (local_time day second) start t b m (rw e at n))

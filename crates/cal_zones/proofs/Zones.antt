@@ -1,8 +1,8 @@
 -- The offset of a zone, and what a local time means in it.
-use Rattle.std.proofs.Common.{◌≡◌, ◌∙◌, sym, refl, inl, inr, ◌⊎◌, arith, ℤ, ◌+ℤ◌, ◌≤ℤ◌}
+use Rattle.std.proofs.Common.{◌≡◌, ◌∙◌, sym, subst, refl, inl, inr, ◌⊎◌, Option, arith, ℤ, pos, negsuc, ◌+ℤ◌, ◌≤ℤ◌}
 use Rattle.jiff_core.proofs.SignedLemmas.{signed_arith}
-use Rattle.profile.specs.Zones.{Observance, Zone, Constant, Single, Pair, Onset, IsOnset, IsZoneOnset, IsLatest, IsFirstOf, NoneBegun, InForce, Since, Until, IsOffsetAt, IsBounds, IsShownFirst, IsSkipped, Means, onset_at}
-use Rattle.cal_zones.specs.Kinds.{IsOrdered}
+use Rattle.profile.specs.Zones.{Observance, Zone, Constant, Single, Pair, Onset, IsOnset, IsZoneOnset, IsLatest, IsFirstOf, NoneBegun, InForce, Since, Until, IsOffsetAt, IsBounds, IsShownFirst, IsSkipped, Means, AreFirstOnsets, onset_at}
+use Rattle.cal_zones.specs.Kinds.{AreEnds, IsOrdered}
 use Rattle.cal_zones.proofs.Force.{OneAtOnce, one_offset, Between, between}
 
 -- of two observances the one with the later onset
@@ -75,26 +75,63 @@ sides_pair : (a b : Observance) → a.offset_to ≡ b.offset_from → b.offset_t
 sides_pair a b there back x (inl h) = inl (h.before, h.after)
 sides_pair a b there back x (inr h) = inr (h.before ∙ sym there, h.after ∙ back)
 
-pub bounds_constant : (k l g : ℤ) → l ≡ k → g ≡ k → IsBounds (Constant k) l g
-bounds_constant k l g e f = record {
+-- at each instant one of them is in force
+pub record AreSides (z : Zone) (least greatest : ℤ) : Type 0 where
+  pub ordered : least ≤ℤ greatest
+  pub sides : Sides (IsZoneOnset z) least greatest
+  pub one : (t o : ℤ) → IsOffsetAt z t o → (o ≡ least) ⊎ (o ≡ greatest)
+
+single_ordered : (a : Observance) (l g : ℤ) → Sides (IsZoneOnset (Single a)) l g → l ≤ℤ g → AreSides (Single a) l g
+single_ordered a l g s le = record { ordered = le; sides = s; one = λ t o h. one_side (IsZoneOnset (Single a)) l g t o s h }
+
+pair_ordered : (a b : Observance) (l g : ℤ) → Sides (IsZoneOnset (Pair a b)) l g → l ≤ℤ g → AreSides (Pair a b) l g
+pair_ordered a b l g s le = record { ordered = le; sides = s; one = λ t o h. one_side (IsZoneOnset (Pair a b)) l g t o s h }
+
+pub sides_of : (z : Zone) (l g : ℤ) → AreEnds z l g → AreSides z l g
+sides_of (Constant k) l g (e, f) = record {
   ordered = omega (arith, signed_arith);
   sides = λ x h. absurd h;
   one = λ t o h. inl (h ∙ sym e);
 }
+sides_of (Single a) l g (inl (e, f, le)) = rw (e, f) (single_ordered a a.offset_from a.offset_to (sides_single a) le)
+sides_of (Single a) l g (inr (e, f, le)) = rw (e, f) (single_ordered a a.offset_to a.offset_from (swap (IsZoneOnset (Single a)) a.offset_from a.offset_to (sides_single a)) le)
+sides_of (Pair a b) l g (inl (e, f, le), there, back) = rw (e, f) (pair_ordered a b a.offset_from a.offset_to (sides_pair a b there back) le)
+sides_of (Pair a b) l g (inr (e, f, le), there, back) = rw (e, f) (pair_ordered a b a.offset_to a.offset_from (swap (IsZoneOnset (Pair a b)) a.offset_from a.offset_to (sides_pair a b there back)) le)
 
-single_ordered : (a : Observance) (l g : ℤ) → Sides (IsZoneOnset (Single a)) l g → l ≤ℤ g → IsBounds (Single a) l g
-single_ordered a l g s le = record { ordered = le; sides = s; one = λ t o h. one_side (IsZoneOnset (Single a)) l g t o s h }
+-- ---- each of them is in force at some instant
 
-pub bounds_single : (a : Observance) (l g : ℤ) → IsOrdered a.offset_from a.offset_to l g → IsBounds (Single a) l g
-bounds_single a l g (inl (e, f, le)) = rw (e, f) (single_ordered a a.offset_from a.offset_to (sides_single a) le)
-bounds_single a l g (inr (e, f, le)) = rw (e, f) (single_ordered a a.offset_to a.offset_from (swap (IsZoneOnset (Single a)) a.offset_from a.offset_to (sides_single a)) le)
+abbrev Reaches : Zone → ℤ → Type 0
+Reaches z o = (t : ℤ) × IsOffsetAt z t o
 
-pair_ordered : (a b : Observance) (l g : ℤ) → Sides (IsZoneOnset (Pair a b)) l g → l ≤ℤ g → IsBounds (Pair a b) l g
-pair_ordered a b l g s le = record { ordered = le; sides = s; one = λ t o h. one_side (IsZoneOnset (Pair a b)) l g t o s h }
+-- at its first onset no later one has come
+first_is_latest : (a : Observance) (x : ℤ) → IsFirstOf a x → IsLatest (IsOnset a) x (onset_at a x)
+first_is_latest a x h = record { listed = h.listed; begun = omega (arith, signed_arith); latest = λ other l w. w }
 
-pub bounds_pair : (a b : Observance) (l g : ℤ) → a.offset_to ≡ b.offset_from → b.offset_to ≡ a.offset_from → IsOrdered a.offset_from a.offset_to l g → IsBounds (Pair a b) l g
-bounds_pair a b l g there back (inl (e, f, le)) = rw (e, f) (pair_ordered a b a.offset_from a.offset_to (sides_pair a b there back) le)
-bounds_pair a b l g there back (inr (e, f, le)) = rw (e, f) (pair_ordered a b a.offset_to a.offset_from (swap (IsZoneOnset (Pair a b)) a.offset_from a.offset_to (sides_pair a b there back)) le)
+single_to : (a : Observance) (x : ℤ) → IsFirstOf a x → Reaches (Single a) a.offset_to
+single_to a x h = (x, single_since a x x (first_is_latest a x h))
+
+single_from : (a : Observance) (x : ℤ) → IsFirstOf a x → Reaches (Single a) a.offset_from
+single_from a x h = (x +ℤ negsuc 0, single_until a (x +ℤ negsuc 0) (x, h, omega (arith, signed_arith)))
+
+left_to : (a b : Observance) (x : ℤ) → IsFirstOf a x → Reaches (Pair a b) a.offset_to
+left_to a b x h = (x, latest_left a b x x (first_is_latest a x h) (λ other l w. w))
+
+right_to : (a b : Observance) (y : ℤ) → IsFirstOf b y → Reaches (Pair a b) b.offset_to
+right_to a b y h = (y, latest_right a b y y (first_is_latest b y h) (λ other l w. w))
+
+bounded : (z : Zone) (l g : ℤ) → AreSides z l g → Reaches z l → Reaches z g → IsBounds z l g
+bounded z l g s p q = record { ordered = s.ordered; sides = s.sides; one = s.one; reaches_least = p; reaches_greatest = q }
+
+by_order : (z : Zone) (from to l g : ℤ) → AreSides z l g → IsOrdered from to l g → Reaches z from → Reaches z to → IsBounds z l g
+by_order z from to l g s (inl (e, f, le)) p q = bounded z l g s (rw e p) (rw f q)
+by_order z from to l g s (inr (e, f, le)) p q = bounded z l g s (rw e q) (rw f p)
+
+pub bounds_of : (z : Zone) (l g : ℤ) (x y : Option ℤ) → AreEnds z l g → AreFirstOnsets z x y → IsBounds z l g
+bounds_of (Constant k) l g x y h w = bounded (Constant k) l g (sides_of (Constant k) l g h) (pos 0, h.0) (pos 0, h.1)
+bounds_of (Single a) l g x y h (first, f, p, q) =
+    by_order (Single a) a.offset_from a.offset_to l g (sides_of (Single a) l g h) h (single_from a first f) (single_to a first f)
+bounds_of (Pair a b) l g x y h (first, second, f, s, p, q) =
+    by_order (Pair a b) a.offset_from a.offset_to l g (sides_of (Pair a b) l g h) h.0 (subst (Reaches (Pair a b)) h.2 (right_to a b second s)) (left_to a b first f)
 
 -- two onsets of a zone at one instant are alike
 pub once_constant : (k : ℤ) → OneAtOnce (IsZoneOnset (Constant k))
@@ -113,7 +150,7 @@ pub once_pair : (a b : Observance) → ((x y : Onset) → IsOnset a x → IsOnse
 once_pair a b apart = record { alike = alike_pair a b apart }
 
 -- with the greatest offset a local time is read earliest
-pub means_early : (z : Zone) (least greatest local early : ℤ) → IsBounds z least greatest → early +ℤ greatest ≡ local → IsOffsetAt z early greatest → Means z local early
+pub means_early : (z : Zone) (least greatest local early : ℤ) → AreSides z least greatest → early +ℤ greatest ≡ local → IsOffsetAt z early greatest → Means z local early
 means_early z least greatest local early b e h =
     inl (record {
       shown = (greatest, h, e);
@@ -130,7 +167,7 @@ never_early z greatest local early p other offset u e h differ j s high =
     let same : other ≡ early = omega (arith, signed_arith) in
     differ (unique z early p greatest u h (rw (same, high) at j))
 
-shown_late : (z : Zone) (least greatest local early late p : ℤ) → OneAtOnce (IsZoneOnset z) → IsBounds z least greatest → early +ℤ greatest ≡ local → late +ℤ least ≡ local → IsOffsetAt z early p → (p ≡ greatest → ⊥) → IsOffsetAt z late least → IsShownFirst z local late
+shown_late : (z : Zone) (least greatest local early late p : ℤ) → OneAtOnce (IsZoneOnset z) → AreSides z least greatest → early +ℤ greatest ≡ local → late +ℤ least ≡ local → IsOffsetAt z early p → (p ≡ greatest → ⊥) → IsOffsetAt z late least → IsShownFirst z local late
 shown_late z least greatest local early late p u b e f h differ j = record {
   shown = (least, j, f);
   least = λ other s.
@@ -140,7 +177,7 @@ shown_late z least greatest local early late p u b e f h differ j = record {
       ];
 }
 
-skipped : (z : Zone) (least greatest local early late p : ℤ) → OneAtOnce (IsZoneOnset z) → IsBounds z least greatest → early +ℤ greatest ≡ local → late +ℤ least ≡ local → IsOffsetAt z early p → (p ≡ greatest → ⊥) → IsOffsetAt z late greatest → IsSkipped z local late
+skipped : (z : Zone) (least greatest local early late p : ℤ) → OneAtOnce (IsZoneOnset z) → AreSides z least greatest → early +ℤ greatest ≡ local → late +ℤ least ≡ local → IsOffsetAt z early p → (p ≡ greatest → ⊥) → IsOffsetAt z late greatest → IsSkipped z local late
 skipped z least greatest local early late p u b e f h differ j =
     let low : p ≡ least = elim (b.one early p h) [ inl x ↦ x | inr x ↦ absurd (differ x) ] in
     let apart : least ≡ greatest → ⊥ = λ x. differ (low ∙ x) in
@@ -163,7 +200,7 @@ skipped z least greatest local early late p u b e f h differ j =
       read = rw before f;
     }
 
-pub means_late : (z : Zone) (least greatest local early late p q : ℤ) → OneAtOnce (IsZoneOnset z) → IsBounds z least greatest → early +ℤ greatest ≡ local → late +ℤ least ≡ local → IsOffsetAt z early p → (p ≡ greatest → ⊥) → IsOffsetAt z late q → Means z local late
+pub means_late : (z : Zone) (least greatest local early late p q : ℤ) → OneAtOnce (IsZoneOnset z) → AreSides z least greatest → early +ℤ greatest ≡ local → late +ℤ least ≡ local → IsOffsetAt z early p → (p ≡ greatest → ⊥) → IsOffsetAt z late q → Means z local late
 means_late z least greatest local early late p q u b e f h differ j =
     elim (b.one late q j) [
       | inl x ↦ inl (shown_late z least greatest local early late p u b e f h differ (rw x at j))
@@ -171,7 +208,7 @@ means_late z least greatest local early late p q u b e f h differ j =
     ]
 
 -- a gap lies between the two offsets, so what it skips is read with the least
-skipped_low : (z : Zone) (least greatest local t : ℤ) → IsBounds z least greatest → IsSkipped z local t → t +ℤ least ≡ local
+skipped_low : (z : Zone) (least greatest local t : ℤ) → AreSides z least greatest → IsSkipped z local t → t +ℤ least ≡ local
 skipped_low z least greatest local t b s =
     elim (b.sides s.onset s.listed) [
       | inl x ↦ omega (arith, signed_arith, s.read)
@@ -179,7 +216,7 @@ skipped_low z least greatest local t b s =
     ]
 
 -- a local time means one instant
-pub one_meaning : (z : Zone) (least greatest local t u : ℤ) → IsBounds z least greatest → Means z local t → Means z local u → t ≡ u
+pub one_meaning : (z : Zone) (least greatest local t u : ℤ) → AreSides z least greatest → Means z local t → Means z local u → t ≡ u
 one_meaning z least greatest local t u b (inl x) (inl y) = omega (arith, signed_arith, x.least u y.shown, y.least t x.shown)
 one_meaning z least greatest local t u b (inl x) (inr y) = absurd (y.never t x.shown)
 one_meaning z least greatest local t u b (inr x) (inl y) = absurd (x.never u y.shown)

@@ -22,3 +22,10 @@ zone_of z = kind_of z.kind
 abbrev pub IsOrdered : ℤ → ℤ → ℤ → ℤ → Type 0
 IsOrdered from to least greatest =
     ((least ≡ from) × (greatest ≡ to) × (from ≤ℤ to)) ⊎ ((least ≡ to) × (greatest ≡ from) × (to ≤ℤ from))
+
+-- the two offsets of a zone, the lesser first. Of two observances each ends what the other sets
+abbrev pub AreEnds : Zone → ℤ → ℤ → Type 0
+AreEnds (Constant k) least greatest = (least ≡ k) × (greatest ≡ k)
+AreEnds (Single a) least greatest = IsOrdered a.offset_from a.offset_to least greatest
+AreEnds (Pair a b) least greatest =
+    IsOrdered a.offset_from a.offset_to least greatest × (a.offset_to ≡ b.offset_from) × (b.offset_to ≡ a.offset_from)

@@ -64,7 +64,7 @@ impl Zone {
         ensures { let z = zone_of self.now in
             MatchOption result (NoneFrom z second until 366) (λ day. IsLastDay z second until (day_index day)) }
     {
-        let (_, greatest) = self.offsets();
+        let (_, greatest) = self.ends();
         let mut index = latest_day(second, greatest, until);
         while index >= FIRST_INDEX {
             let day = Day::at_index(index).unwrap();

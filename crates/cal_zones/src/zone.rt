@@ -4,7 +4,7 @@ ghost use Rattle.profile.specs.Values.{IsOffset};
 ghost use Rattle.profile.specs.Zones.{IsOffsetAt, IsOnset, IsLatest, Means, Single, onset_at, NoneBegun, AreFirstOnsets};
 ghost use Rattle.profile.specs.Zones.{IsBounds, IsOneOffset, IsOneMeaning, IsNearEpoch};
 ghost use Rattle.cal_zones.specs.Onsets.{observance_of};
-ghost use Rattle.cal_zones.specs.Kinds.{zone_of, pair_of, IsOrdered};
+ghost use Rattle.cal_zones.specs.Kinds.{zone_of, pair_of, AreEnds, IsOrdered};
 
 use crate::kinds::{Kind, Zone};
 use crate::shape::Observance;
@@ -93,9 +93,19 @@ impl Zone {
         }
     }
 
-    /// The least and the greatest offset, in seconds.
+    /// The least and the greatest offset, in seconds: each is in force at some instant, and no other is at any.
     pub fn offsets(&self) -> (i32, i32)
         ensures bounds { IsBounds (zone_of self.now) result.0 result.1 }
+        ensures range { IsOffset result.0 × IsOffset result.1 }
+    {
+        // For the proof alone: each is in force at a first onset, or before it.
+        let _ = self.first_onsets();
+        self.ends()
+    }
+
+    /// The same, with no look at any instant.
+    pub(crate) fn ends(&self) -> (i32, i32)
+        ensures ends { AreEnds (zone_of self.now) result.0 result.1 }
         ensures range { IsOffset result.0 × IsOffset result.1 }
     {
         match &self.kind {
@@ -126,14 +136,14 @@ impl Zone {
         ensures meaning { Means (zone_of self.now) local result }
         ensures range { IsNearEpoch result }
     {
-        let (least, greatest) = self.offsets();
+        let (least, greatest) = self.ends();
         let seconds = local.seconds();
         let early = seconds - greatest as i64;
         if self.offset(early) == greatest {
             return early;
         }
         let late = seconds - least as i64;
-        // The clocks show it then or skip it. It is read with the least offset in both cases.
+        // For the proof alone: the clocks show it then or skip it. It is read with the least offset in both cases.
         let _ = self.offset(late);
         late
     }
@@ -143,6 +153,7 @@ impl Zone {
         ensures offset { IsOneOffset (zone_of self.now) }
         ensures meaning { IsOneMeaning (zone_of self.now) }
     {
-        let _ = self.offsets();
+        // For the proof alone: the two offsets.
+        let _ = self.ends();
     }
 }

@@ -108,11 +108,13 @@ IsOffsetAt (Pair a b) instant offset = InForce (IsZoneOnset (Pair a b)) instant 
 abbrev pub IsOneOffset : Zone → Type 0
 IsOneOffset z = (instant p q : ℤ) → IsOffsetAt z instant p → IsOffsetAt z instant q → p ≡ q
 
--- each onset of the zone sets one of two offsets to the other, and at each instant one of them is in force
+-- each onset of the zone sets one of two offsets to the other, at each instant one of them is in force, and each of them is at some
 pub record IsBounds (z : Zone) (least greatest : ℤ) : Type 0 where
   pub ordered : least ≤ℤ greatest
   pub sides : (x : Onset) → IsZoneOnset z x → ((x.before ≡ least) × (x.after ≡ greatest)) ⊎ ((x.before ≡ greatest) × (x.after ≡ least))
   pub one : (instant offset : ℤ) → IsOffsetAt z instant offset → (offset ≡ least) ⊎ (offset ≡ greatest)
+  pub reaches_least : (instant : ℤ) × IsOffsetAt z instant least
+  pub reaches_greatest : (instant : ℤ) × IsOffsetAt z instant greatest
 
 -- WHAT A LOCAL TIME MEANS
 
@@ -153,8 +155,9 @@ abbrev pub NoneFrom : Zone → ℕ → ℤ → ℕ → Type 0
 NoneFrom z second until from =
     (other : ℕ) → from ≤ other → other ≤ 3_652_424 → (start : ℤ) → Means z (local_time other second) start → until <ℤ start
 
--- on that day it isn't, and on each later one it is
+-- on that day, which is at most 9999-12-31, it isn't, and on each later one it is
 pub record IsLastDay (z : Zone) (second : ℕ) (until : ℤ) (day : ℕ) : Type 0 where
+  pub to_9999 : day ≤ 3_652_424
   pub start : ℤ
   pub means : Means z (local_time day second) start
   pub not_past : start ≤ℤ until

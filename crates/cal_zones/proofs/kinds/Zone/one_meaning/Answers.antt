@@ -1,6 +1,6 @@
 use Rattle.cal_zones.specs.Kinds.{zone_of}
 use Rattle.cal_zones.proofs.Once.{once}
-use Rattle.cal_zones.proofs.Zones.{unique, one_meaning}
+use Rattle.cal_zones.proofs.Zones.{sides_of, unique, one_meaning}
 use Rattle.cal_zones.proofs.kinds.Zone.one_meaning.Goals as goal
 
 pub returns-clause-offset : goal.returns-clause-offset
@@ -8,4 +8,5 @@ returns-clause-offset c t p q h k = unique (zone_of c.args.self.now) t p q (once
 
 pub returns-clause-meaning : goal.returns-clause-meaning
 returns-clause-meaning c local t u h k =
-    one_meaning (zone_of c.args.self.now) c.offsets.result.0 c.offsets.result.1 local t u c.offsets.ensures.bounds h k
+    let z = zone_of c.args.self.now in
+    one_meaning z c.ends.result.0 c.ends.result.1 local t u (sides_of z c.ends.result.0 c.ends.result.1 c.ends.ensures.ends) h k
