@@ -1,20 +1,20 @@
 -- What DTSTART, DTEND and DURATION say, put together.
-use Rattle.std.proofs.Common.{◌≡◌, ◌∙◌, ℕ, ◌+◌, ◌*◌, ◌<◌, ◌≤◌, ◌^◌, Bool, true, List, codes, subst, sym, refl, ap, inl, inr, arith, ℤ, pos, ◌+ℤ◌, ◌<ℤ◌, negsuc, ◌≤ℤ◌}
-use Rattle.std.specs.Prelude.{Option, Some, None, ◌⊎◌}
+use Rattle.std.proofs.Common.{◌≡◌, ◌∙◌, ℕ, ◌+◌, ◌*◌, ◌<◌, ◌≤◌, ◌^◌, Bool, true, false, true≢false, List, codes, subst, sym, refl, ap, inl, inr, arith, ℤ, pos, ◌+ℤ◌, ◌<ℤ◌, negsuc, ◌≤ℤ◌}
+use Rattle.std.specs.Prelude.{Option, Some, None, ◌⊎◌, IsTrue}
 use Rattle.std.proofs.lemmas.Int.{ints}
 use Rattle.profile.specs.Trees.{Tree}
 use Rattle.profile.specs.Lines.{line_value}
 use Rattle.profile.specs.Values.{SpellsDuration, SpellsNegative, SpellsLong}
 use Rattle.profile.specs.Events.{IsLength}
 use Rattle.profile.specs.Properties.{StandsAtMostOnce, SomeLine, length_seconds, IsNoDuration, IsNegativeOrLong}
-use Rattle.profile.specs.ZonedTimes.{EventTimes, LastsSo, SaysInstant, SaysEventTimes, EventTimesFault, is_in_zone, HasDays, bad_duration, ends_early, ends_late, lasts_long, starts_early, nominal}
+use Rattle.profile.specs.ZonedTimes.{EventTimes, IsInDates, LastsSo, SaysInstant, SaysInDates, SaysOutOfDates, SaysEventTimes, EventTimesFault, is_in_zone, HasDays, bad_duration, ends_early, ends_late, ends_out, lasts_long, starts_out, nominal}
 use Rattle.cal_events.specs.declared.component.Extent.{Extent}
 use Rattle.cal_events.specs.declared.component.Extent.TheVariants.{ToEnd, For}
 use Rattle.cal_events.specs.declared.event_times.SaidTimes.{SaidTimes}
 use Rattle.ical_values.specs.declared.duration.Duration.{Duration}
 use Rattle.cal_zones.specs.Kinds.{zone_of}
 use Rattle.cal_events.specs.Events.{length_of, GivesLength, ExtentFault, ends_early as lies_before, ends_late as lies_late, lasts_long as is_long}
-use Rattle.cal_events.specs.Zoned.{IsExtentIn, IsExact, IsNominal, AreSaid}
+use Rattle.cal_events.specs.Zoned.{EndsSo, IsExtentIn, IsExact, IsNominal, AreSaid}
 use Rattle.cal_events.proofs.EventLemmas.{some_line, IsNone, long_length}
 
 abbrev Lines : Type 0
@@ -37,10 +37,10 @@ days_given object lines start begin d None first once is zoned h =
 days_given object lines start begin d (Some line) first once is zoned h =
     nominal (some_line (codes "DTSTART") (λ l. is_in_zone l ≡ true) lines begin first zoned) (some_line (codes "DURATION") HasDays lines line once (length_of d, is, h))
 
-pub nominal_given : (object : Tree) (lines : Lines) (start : ℤ) (begin : List ℕ) (extent : Extent) → StandsAtMostOnce (codes "DTSTART") lines (Some begin)
-    → IsExtentIn object lines start extent → IsNominal (is_in_zone begin) extent → EventTimesFault object lines 99
-nominal_given object lines start begin (ToEnd s) first x h = absurd h
-nominal_given object lines start begin (For d) first (line, none, once, is) (zoned, h) = days_given object lines start begin d line first once is zoned h
+pub nominal_given : (object : Tree) (lines : Lines) (start : ℤ) (ends_in : Bool) (begin : List ℕ) (extent : Extent) → StandsAtMostOnce (codes "DTSTART") lines (Some begin)
+    → IsExtentIn object lines start ends_in extent → IsNominal (is_in_zone begin) extent → EventTimesFault object lines 99
+nominal_given object lines start ends_in begin (ToEnd s) first x h = absurd h
+nominal_given object lines start ends_in begin (For d) first (line, none, once, is, within) (zoned, h) = days_given object lines start begin d line first once is zoned h
 
 -- ---- the times together
 
@@ -52,11 +52,15 @@ seconds_lasted object in_zone start d (Some line) is exact = (length_of d, is, e
 abbrev judged : SaidTimes → Duration → EventTimes
 judged said length = record { zone = zone_of said.start.zone; local = said.start.local; start = said.instant; seconds = length_seconds (length_of length) }
 
+-- the line says that instant, and it lies in the dates
+pub ends_within : (object : Tree) (line : List ℕ) (instant : ℤ) (ends_in : Bool) → EndsSo object line instant ends_in → IsTrue ends_in → SaysInDates object line instant
+ends_within object line instant ends_in (zone, local, says, means, dates) within = (zone, local, says, means, dates.0 within)
+
 pub times_said : (object : Tree) (lines : Lines) (said : SaidTimes) (length : Duration) → AreSaid object lines said → GivesLength said.extent length
-    → length_seconds (length_of length) ≤ 31_622_400 → negsuc 86_399 ≤ℤ said.instant → SaysEventTimes object lines (judged said length)
-times_said object lines said length a gives most from = go said.extent a.extent a.exact gives
+    → length_seconds (length_of length) ≤ 31_622_400 → IsTrue said.starts_in → IsTrue said.ends_in → SaysEventTimes object lines (judged said length)
+times_said object lines said length a gives most starts_in ends_in = go said.extent a.extent a.exact gives
   where
-    go : (extent : Extent) → IsExtentIn object lines said.instant extent → IsExact (is_in_zone a.line) extent → GivesLength extent length → SaysEventTimes object lines (judged said length)
+    go : (extent : Extent) → IsExtentIn object lines said.instant said.ends_in extent → IsExact (is_in_zone a.line) extent → GivesLength extent length → SaysEventTimes object lines (judged said length)
     go (ToEnd s) (line, once, none, time) exact (days, seconds) =
         let n : length.seconds ≡ 86_400 * length.days + length.seconds = omega arith in
         record {
@@ -68,11 +72,11 @@ times_said object lines said length a gives most from = go said.extent a.extent 
           duration_line = None;
           end_once = once;
           duration_once = none;
-          lasts = subst (λ (x : ℤ). SaysInstant object line (said.instant +ℤ x)) (seconds ∙ ap pos n) time;
+          lasts = subst (λ (x : ℤ). SaysInDates object line (said.instant +ℤ x)) (seconds ∙ ap pos n) (ends_within object line (said.instant +ℤ s) said.ends_in time ends_in);
           most = most;
-          from_1970 = from;
+          in_dates = a.starts.0 starts_in;
         }
-    go (For d) (line, none, once, is) exact e = record {
+    go (For d) (line, none, once, is, no_end) exact e = record {
       line = a.line;
       once = a.once;
       says = a.says;
@@ -83,7 +87,7 @@ times_said object lines said length a gives most from = go said.extent a.extent 
       duration_once = once;
       lasts = subst (λ (x : Duration). LastsSo object (is_in_zone a.line) said.instant None line (length_seconds (length_of x))) (sym e) (seconds_lasted object (is_in_zone a.line) said.instant d line is exact);
       most = most;
-      from_1970 = from;
+      in_dates = a.starts.0 starts_in;
     }
 
 -- the instant that DTSTART says
@@ -91,21 +95,39 @@ begins : (object : Tree) (lines : Lines) (said : SaidTimes) → AreSaid object l
 begins object lines said a =
     some_line (codes "DTSTART") (λ line. SaysInstant object line said.instant) lines a.line a.once (zone_of said.start.zone, said.start.local, a.says, a.means)
 
-extent_fault : (object : Tree) (lines : Lines) (start : ℤ) (extent : Extent) (n : ℕ) → SomeLine (codes "DTSTART") (λ line. SaysInstant object line start) lines
-    → ExtentFault extent n → IsExtentIn object lines start extent → EventTimesFault object lines n
-extent_fault object lines start extent n first (lies_before s h) (line, once, none, time) =
+ends_at : (object : Tree) (line : List ℕ) (instant : ℤ) (ends_in : Bool) → EndsSo object line instant ends_in → SaysInstant object line instant
+ends_at object line instant ends_in (zone, local, says, means, dates) = (zone, local, says, means)
+
+extent_fault : (object : Tree) (lines : Lines) (start : ℤ) (ends_in : Bool) (extent : Extent) (n : ℕ) → SomeLine (codes "DTSTART") (λ line. SaysInstant object line start) lines
+    → ExtentFault extent n → IsExtentIn object lines start ends_in extent → EventTimesFault object lines n
+extent_fault object lines start ends_in extent n first (lies_before s h) (line, once, none, time) =
     let early : (start +ℤ s) <ℤ start = omega (arith, ints) in
-    ends_early (start, start +ℤ s, first, some_line (codes "DTEND") (λ l. SaysInstant object l (start +ℤ s)) lines line once time, early)
-extent_fault object lines start extent n first (lies_late s h) (line, once, none, time) =
+    ends_early (start, start +ℤ s, first, some_line (codes "DTEND") (λ l. SaysInstant object l (start +ℤ s)) lines line once (ends_at object line (start +ℤ s) ends_in time), early)
+extent_fault object lines start ends_in extent n first (lies_late s h) (line, once, none, time) =
     let late : (start +ℤ pos 31_622_400) <ℤ (start +ℤ s) = omega (arith, ints) in
-    ends_late (start, start +ℤ s, first, some_line (codes "DTEND") (λ l. SaysInstant object l (start +ℤ s)) lines line once time, late)
-extent_fault object lines start extent n first (is_long d h) (line, none, once, is) = long_given object lines start d line once is h
+    ends_late (start, start +ℤ s, first, some_line (codes "DTEND") (λ l. SaysInstant object l (start +ℤ s)) lines line once (ends_at object line (start +ℤ s) ends_in time), late)
+extent_fault object lines start ends_in extent n first (is_long d h) (line, none, once, is, within) = long_given object lines start d line once is h
 
 pub extent_judged : (object : Tree) (lines : Lines) (said : SaidTimes) (n : ℕ) → AreSaid object lines said → ExtentFault said.extent n → EventTimesFault object lines n
-extent_judged object lines said n a h = extent_fault object lines said.instant said.extent n (begins object lines said a) h a.extent
+extent_judged object lines said n a h = extent_fault object lines said.instant said.ends_in said.extent n (begins object lines said a) h a.extent
 
-pub early_judged : (object : Tree) (lines : Lines) (said : SaidTimes) → AreSaid object lines said → said.instant <ℤ negsuc 86_399 → EventTimesFault object lines 52
-early_judged object lines said a h = starts_early said.instant (begins object lines said a) h
+-- one of the two lies outside
+
+not_true : (b : Bool) → b ≡ false → IsTrue b → ⊥
+not_true b is h = true≢false (sym h ∙ is)
+
+end_out : (object : Tree) (lines : Lines) (start : ℤ) (ends_in : Bool) (extent : Extent) → IsExtentIn object lines start ends_in extent → ends_in ≡ false → EventTimesFault object lines 52
+end_out object lines start ends_in (ToEnd s) (line, once, none, (zone, local, says, means, dates)) outside =
+    ends_out (some_line (codes "DTEND") (SaysOutOfDates object) lines line once (zone, local, start +ℤ s, says, means, λ h. not_true ends_in outside (dates.1 h)))
+end_out object lines start ends_in (For d) (line, none, once, is, within) outside = absurd (true≢false (sym within ∙ outside))
+
+pub start_judged : (object : Tree) (lines : Lines) (said : SaidTimes) → AreSaid object lines said → said.starts_in ≡ false → EventTimesFault object lines 52
+start_judged object lines said a outside =
+    starts_out (some_line (codes "DTSTART") (SaysOutOfDates object) lines a.line a.once
+    (zone_of said.start.zone, said.start.local, said.instant, a.says, a.means, λ w. not_true said.starts_in outside (a.starts.1 w)))
+
+pub end_judged : (object : Tree) (lines : Lines) (said : SaidTimes) → AreSaid object lines said → said.ends_in ≡ false → EventTimesFault object lines 52
+end_judged object lines said a outside = end_out object lines said.instant said.ends_in said.extent a.extent outside
 
 -- ---- DURATION alone
 

@@ -1,14 +1,14 @@
 -- What the readers of times in zones see of components.
-use Rattle.std.specs.Prelude.{◌≡◌, ℕ, ◌<◌, Bool, true, ◌&&◌, List, codes, Option, Some, None, ℤ, ◌+ℤ◌}
+use Rattle.std.specs.Prelude.{◌≡◌, ◌↔◌, ℕ, ◌<◌, Bool, true, IsTrue, ◌&&◌, List, codes, Option, Some, None, ℤ, ◌+ℤ◌}
 use Rattle.ical_tree.specs.Tree.{component_name, component_lines}
 use Rattle.ical_tree.specs.declared.component.Component.{Component}
 use Rattle.profile.specs.Lines.{is_same_name}
 use Rattle.profile.specs.Trees.{Tree}
-use Rattle.profile.specs.Zones.{Means}
+use Rattle.profile.specs.Zones.{Zone, Means}
 use Rattle.std.specs.List.{AllZip}
 use Rattle.profile.specs.Events.{IsLength, SaysSequence, Attendee, IsAttendee}
 use Rattle.profile.specs.Properties.{StandsAtMostOnce, Says, IsUidLine, IsAddressLine, IsStampLine, lines_named}
-use Rattle.profile.specs.ZonedTimes.{has_zone_name, is_in_zone, EventTimes, SaysZonedTime, SaysInstant}
+use Rattle.profile.specs.ZonedTimes.{has_zone_name, is_in_zone, EventTimes, IsInDates, SaysZonedTime}
 use Rattle.cal_zones.specs.Kinds.{zone_of}
 use Rattle.cal_events.specs.Events.{length_of}
 use Rattle.cal_events.specs.declared.component.Extent.{Extent}
@@ -24,14 +24,20 @@ is_zone_called name c = is_same_name (component_name c) (codes "VTIMEZONE") && h
 abbrev pub times_of : rust.EventTimes → EventTimes
 times_of t = record { zone = zone_of t.start.zone; local = t.start.local; start = t.instant; seconds = t.seconds }
 
--- DTEND lies so many seconds from the start, or DURATION is so, or neither stands
-abbrev pub IsExtentIn : Tree → List (List ℕ) → ℤ → Extent → Type 0
-IsExtentIn object lines start (ToEnd seconds) =
+-- the line says this instant, which lies in the dates that an event may name, or doesn't
+abbrev pub EndsSo : Tree → List ℕ → ℤ → Bool → Type 0
+EndsSo object line instant in_dates =
+    (zone : Zone) × (local : ℤ) × SaysZonedTime object line zone local × Means zone local instant
+    × (IsTrue in_dates ↔ IsInDates (is_in_zone line) local instant)
+
+-- DTEND lies so many seconds from the start, in the dates or not, or DURATION is so, or neither stands
+abbrev pub IsExtentIn : Tree → List (List ℕ) → ℤ → Bool → Extent → Type 0
+IsExtentIn object lines start in_dates (ToEnd seconds) =
     (line : List ℕ) × StandsAtMostOnce (codes "DTEND") lines (Some line) × StandsAtMostOnce (codes "DURATION") lines None
-    × SaysInstant object line (start +ℤ seconds)
-IsExtentIn object lines start (For duration) =
+    × EndsSo object line (start +ℤ seconds) in_dates
+IsExtentIn object lines start in_dates (For duration) =
     (line : Option (List ℕ)) × StandsAtMostOnce (codes "DTEND") lines None × StandsAtMostOnce (codes "DURATION") lines line
-    × IsLength start None line (length_of duration)
+    × IsLength start None line (length_of duration) × (in_dates ≡ true)
 
 -- in a zone a DURATION has no days
 abbrev pub IsExact : Bool → Extent → Type 0
@@ -48,7 +54,8 @@ pub record AreSaid (object : Tree) (lines : List (List ℕ)) (said : SaidTimes) 
   pub once : StandsAtMostOnce (codes "DTSTART") lines (Some line)
   pub says : SaysZonedTime object line (zone_of said.start.zone) said.start.local
   pub means : Means (zone_of said.start.zone) said.start.local said.instant
-  pub extent : IsExtentIn object lines said.instant said.extent
+  pub starts : IsTrue said.starts_in ↔ IsInDates (is_in_zone line) said.start.local said.instant
+  pub extent : IsExtentIn object lines said.instant said.ends_in said.extent
   pub exact : IsExact (is_in_zone line) said.extent
 
 -- the properties before the times are there as they have to be, and say something

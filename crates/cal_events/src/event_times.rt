@@ -8,16 +8,17 @@ ghost use Rattle.ical_tree.specs.Tree.{tree_of};
 ghost use Rattle.profile.specs.Trees.{Tree};
 ghost use Rattle.profile.specs.Zones.{IsNearEpoch};
 ghost use Rattle.profile.specs.Properties.{StandsAtMostOnce};
-ghost use Rattle.profile.specs.ZonedTimes.{is_in_zone, SaysInstant, ZonedTimeFault, HasCountedDays, HasNominalLength, SaysEventTimes, EventTimesFault};
-ghost use Rattle.cal_events.specs.Zoned.{times_of, IsExtentIn, IsExact, IsNominal, AreSaid};
+ghost use Rattle.profile.specs.ZonedTimes.{is_in_zone, IsInDates, ZonedTimeFault, HasCountedDays, HasNominalLength, SaysEventTimes, EventTimesFault};
+ghost use Rattle.cal_events.specs.Zoned.{times_of, EndsSo, IsExtentIn, IsExact, IsNominal, AreSaid};
 
 use crate::component::{Extent, FIRST_SECOND, judge_extent, seconds_of};
+use crate::instance::HORIZON;
 use crate::properties::{optional, required};
 use crate::zoned::ZonedTime;
 use ical_lines::{Fault, Line, Refusal};
 use ical_tree::{Component, Properties};
-use ical_values::Duration;
 use ical_values::duration::one_duration;
+use ical_values::{Duration, LocalTime};
 use std::alloc::Global;
 
 /// The times of an event, judged together.
@@ -37,6 +38,10 @@ pub struct SaidTimes {
     start: ZonedTime,
     instant: i64,
     extent: Extent,
+    /// Whether DTSTART lies in the dates that an event may name.
+    starts_in: bool,
+    /// Whether DTEND does, or doesn't stand.
+    ends_in: bool,
 }
 
 impl SaidTimes {
@@ -54,18 +59,22 @@ impl SaidTimes {
         let line = required(properties, "DTSTART")?;
         let start = ZonedTime::read(alloc, line, object)?;
         let instant = start.instant();
-        let extent = read_extent(alloc, properties, object, instant)?;
-        refuse_nominal(is_in_zone(line), extent)?;
+        let in_zone = is_in_zone(line);
+        let starts_in = is_in_dates(in_zone, start.local, instant);
+        let (extent, ends_in) = read_extent(alloc, properties, object, instant)?;
+        refuse_nominal(in_zone, extent)?;
         Ok(SaidTimes {
             start,
             instant,
             extent,
+            starts_in,
+            ends_in,
         })
     }
 
     /// Judges the times together.
-    /// Refused: 50 where the event ends before it starts, 51 past 366 days, 52 where it starts before
-    /// 1969-12-31T00:00:00Z.
+    /// Refused: 50 where the event ends before it starts, 51 past 366 days, 52 where DTSTART or DTEND lies outside of the
+    /// local years 1970 to 9999 (in UTC from 1969-12-31 on), or not before 10000-01-01T00:00:00Z.
     pub fn judge(self) -> Result<EventTimes, Refusal>
         ensures says { (object : Tree) (lines : List (List ℕ)) → AreSaid object lines self
             → IfOk result (λ times. SaysEventTimes object lines (times_of times)) }
@@ -73,7 +82,7 @@ impl SaidTimes {
             → IfErr result (λ e. EventTimesFault object lines e.number) }
     {
         let length = judge_extent(self.extent)?;
-        if self.instant < FIRST_SECOND {
+        if !self.starts_in || !self.ends_in {
             return Err(Refusal::OUT_OF_DATES);
         }
         Ok(EventTimes {
@@ -148,36 +157,59 @@ fn refuse_nominal(in_zone: bool, extent: Extent) -> Result<(), Refusal>
     }
 }
 
-/// What DTEND or DURATION say of an event that starts at an instant.
+/// Whether a start or an end may be named, by its local time and the instant that it means.
+fn is_in_dates(in_zone: bool, local: LocalTime, instant: i64) -> bool
+    ensures { IsTrue result ↔ IsInDates in_zone local instant }
+{
+    let first = if in_zone { 0 } else { FIRST_SECOND };
+    local.seconds() >= first && instant < HORIZON
+}
+
+/// What DTEND or DURATION say of an event that starts at an instant, and whether DTEND lies in the dates that an event may name.
 fn read_extent(
     alloc: Global,
     properties: &Properties<'_>,
     object: &Component,
     start: i64,
-) -> Result<Extent, Fault>
+) -> Result<(Extent, bool), Fault>
     requires { IsNearEpoch start }
-    ensures reads { IfOk result (IsExtentIn (tree_of object.now) properties.now start) }
+    ensures reads { IfOk result (λ read. IsExtentIn (tree_of object.now) properties.now start read.1 read.0) }
     ensures stands { IfErr result (RefusesBy (EventTimesFault (tree_of object.now) properties.now)) }
 {
     let end = optional(properties, "DTEND")?;
     let duration = optional(properties, "DURATION")?;
     match (end, duration) {
         (Some(_), Some(_)) => Err(Fault::Refused(Refusal::BAD_PROPERTY)),
-        (Some(line), None) => Ok(Extent::ToEnd(seconds_to(alloc, line, object, start)?)),
-        (None, Some(line)) => Ok(Extent::For(Duration::read(line.value())?)),
-        (None, None) => Ok(Extent::For(Duration {
-            days: 0,
-            seconds: 0,
-        })),
+        (Some(line), None) => {
+            let (seconds, ends_in) = seconds_to(alloc, line, object, start)?;
+            Ok((Extent::ToEnd(seconds), ends_in))
+        }
+        (None, Some(line)) => Ok((Extent::For(Duration::read(line.value())?), true)),
+        (None, None) => Ok((
+            Extent::For(Duration {
+                days: 0,
+                seconds: 0,
+            }),
+            true,
+        )),
     }
 }
 
-/// The seconds from an instant to the end that a line says.
-fn seconds_to(alloc: Global, line: Line<'_>, object: &Component, start: i64) -> Result<i64, Fault>
+/// The seconds from an instant to the end that a line says, and whether that lies in the dates that an event may name.
+fn seconds_to(
+    alloc: Global,
+    line: Line<'_>,
+    object: &Component,
+    start: i64,
+) -> Result<(i64, bool), Fault>
     requires { IsNearEpoch start }
-    ensures says { IfOk result (λ seconds. SaysInstant (tree_of object.now) (line_text line.entry) (start +ℤ seconds)) }
+    ensures says { IfOk result (λ end. EndsSo (tree_of object.now) (line_text line.entry) (start +ℤ end.0) end.1) }
     ensures stands { IfErr result (RefusesBy (ZonedTimeFault (tree_of object.now) (line_text line.entry))) }
 {
     let end = ZonedTime::read(alloc, line, object)?;
-    Ok(end.instant() - start)
+    let instant = end.instant();
+    Ok((
+        instant - start,
+        is_in_dates(is_in_zone(line), end.local, instant),
+    ))
 }

@@ -1,11 +1,12 @@
 -- Times in zones: what a start or an end says where TZID names a VTIMEZONE of its object (RFC 5545 3.2.19, 3.3.5, 3.6.5).
 -- A line is its octets here; its object, the VCALENDAR that it stands in, is a tree.
-use Rattle.std.specs.Prelude.{◌≡◌, ℕ, ◌^◌, ◌<◌, ◌≤◌, ◌⊎◌, Bool, true, false, List, [], ◌∷◌, filter, Contains, codes, Option, Some, None, is_some, option_map, unwrap_or, ℤ, pos, ◌+ℤ◌, ◌≤ℤ◌, ◌<ℤ◌}
+use Rattle.std.specs.Prelude.{◌≡◌, ℕ, ◌^◌, ◌<◌, ◌≤◌, ◌⊎◌, Bool, true, false, if◌then◌else◌, List, [], ◌∷◌, filter, Contains, codes, Option, Some, None, is_some, option_map, unwrap_or, ℤ, pos, ◌+ℤ◌, ◌≤ℤ◌, ◌<ℤ◌}
 use Rattle.std.specs.List.{find}
 use Rattle.std.specs.Str.{bytes_eq}
 use Rattle.profile.specs.Lines.{line_value, line_param, is_same_name}
 use Rattle.profile.specs.Trees.{Tree, tree_name, tree_own, tree_inside}
 use Rattle.profile.specs.Values.{SpellsStamp, SpellsLocal, unescaped}
+use Rattle.profile.specs.Instances.{horizon}
 use Rattle.profile.specs.Zones.{Zone, Constant, Means}
 use Rattle.profile.specs.ZoneTexts.{SaysZone, ZoneFault}
 use Rattle.profile.specs.Properties.{is_of, TimeKind, DateTime, Date, Period, Other, time_kind, StandsAtMostOnce, StandsTwice, IsMissing, SomeLine, IsDateText, IsLocalText, TimeFault, Length, length_seconds, LastsFor, IsNoDuration, IsNegativeOrLong, longest, first_second}
@@ -55,6 +56,28 @@ SaysZonedTime object line zone local =
 abbrev pub SaysInstant : Tree → List ℕ → ℤ → Type 0
 SaysInstant object line instant = (zone : Zone) × (local : ℤ) × SaysZonedTime object line zone local × Means zone local instant
 
+-- ---- the dates that an event may name: the local years 1970 to 9999, before 10000-01-01T00:00:00Z
+
+-- the first local time of a start or an end. No local time is past the year 9999. Of a UTC time 1969-12-31 counts as of 1970, so that a
+-- local time of 1970 can be written in UTC; this profile's choice
+abbrev pub first_local : Bool → ℤ
+first_local in_zone = if in_zone then pos 0 else first_second
+
+-- a local time, with TZID or without, and the instant that it means
+abbrev pub IsInDates : Bool → ℤ → ℤ → Type 0
+IsInDates in_zone local instant = (first_local in_zone ≤ℤ local) × (instant <ℤ horizon)
+
+-- the line says this instant, in those dates
+abbrev pub SaysInDates : Tree → List ℕ → ℤ → Type 0
+SaysInDates object line instant =
+    (zone : Zone) × (local : ℤ) × SaysZonedTime object line zone local × Means zone local instant × IsInDates (is_in_zone line) local instant
+
+-- the line says an instant outside of them
+abbrev pub SaysOutOfDates : Tree → List ℕ → Type 0
+SaysOutOfDates object line =
+    (zone : Zone) × (local : ℤ) × (instant : ℤ) × SaysZonedTime object line zone local × Means zone local instant
+    × (IsInDates (is_in_zone line) local instant → ⊥)
+
 -- ---- what can be wrong with a line, by the number of its refusal
 
 -- 55 for a date, which isn't read yet; else 11, also where the text ends in `Z`
@@ -103,7 +126,7 @@ LastsSeconds in_zone line seconds =
 -- DTEND, or DURATION, or neither: then it ends where it starts (RFC 5545 3.6.1)
 abbrev pub LastsSo : Tree → Bool → ℤ → Option (List ℕ) → Option (List ℕ) → ℕ → Type 0
 LastsSo object in_zone start None None seconds = seconds ≡ 0
-LastsSo object in_zone start (Some line) None seconds = SaysInstant object line (start +ℤ pos seconds)
+LastsSo object in_zone start (Some line) None seconds = SaysInDates object line (start +ℤ pos seconds)
 LastsSo object in_zone start None (Some line) seconds = LastsSeconds in_zone line seconds
 LastsSo object in_zone start (Some line) (Some other) seconds = ⊥
 
@@ -119,7 +142,7 @@ pub record SaysEventTimes (object : Tree) (lines : List (List ℕ)) (times : Eve
   pub duration_once : StandsAtMostOnce (codes "DURATION") lines duration_line
   pub lasts : LastsSo object (is_in_zone line) times.start end_line duration_line times.seconds
   pub most : times.seconds ≤ longest
-  pub from_1970 : first_second ≤ℤ times.start
+  pub in_dates : IsInDates (is_in_zone line) times.local times.start
 
 -- the lines hold a start and an end, and so do the instants lie
 abbrev pub StartAndEndLie : Tree → (ℤ → ℤ → Type 0) → List (List ℕ) → Type 0
@@ -157,9 +180,9 @@ pub data EventTimesFault (object : Tree) (lines : List (List ℕ)) : ℕ → Typ
   -- it lasts longer than 366 days
   ends_late : StartAndEndLie object (λ start end. (start +ℤ pos longest) <ℤ end) lines → EventTimesFault object lines 51
   lasts_long : SomeLine (codes "DURATION") IsNegativeOrLong lines → EventTimesFault object lines 51
-  -- it starts before 1969-12-31T00:00:00Z
-  starts_early : (start : ℤ) → SomeLine (codes "DTSTART") (λ line. SaysInstant object line start) lines → start <ℤ first_second
-      → EventTimesFault object lines 52
+  -- it starts or ends outside of the dates that an event may name
+  starts_out : SomeLine (codes "DTSTART") (SaysOutOfDates object) lines → EventTimesFault object lines 52
+  ends_out : SomeLine (codes "DTEND") (SaysOutOfDates object) lines → EventTimesFault object lines 52
   no_start : IsMissing (codes "DTSTART") lines → EventTimesFault object lines 61
   twice : (name : List ℕ) → Contains names_of_times name → StandsTwice name lines → EventTimesFault object lines 61
   end_and_duration : SomeLine (codes "DTEND") (λ _. Unit {0}) lines → SomeLine (codes "DURATION") (λ _. Unit {0}) lines

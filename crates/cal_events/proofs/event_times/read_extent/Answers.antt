@@ -5,8 +5,9 @@ use Rattle.std.proofs.lemmas.Int.{ints}
 use Rattle.ical_lines.specs.Fault.{RefusesBy}
 use Rattle.ical_lines.specs.Text.{line_text}
 use Rattle.ical_tree.specs.Tree.{tree_of}
-use Rattle.profile.specs.ZonedTimes.{EventTimesFault, ZonedTimeFault, SaysInstant, twice, bad_end, end_and_duration}
+use Rattle.profile.specs.ZonedTimes.{EventTimesFault, ZonedTimeFault, twice, bad_end, end_and_duration}
 use Rattle.ical_values.proofs.Exits.{err_exit}
+use Rattle.cal_events.specs.Zoned.{EndsSo}
 use Rattle.cal_events.proofs.EventLemmas.{some_line}
 use Rattle.cal_events.proofs.TimesLemmas.{duration_fault}
 use Rattle.cal_events.proofs.ZonedLemmas.{weaker_fault}
@@ -23,15 +24,15 @@ returns-in_err-duration-clause-stands c =
     err_exit _ (RefusesBy P) _ c.from_residual-in_err-duration.ensures.1
     (subst P (sym c.in_err-duration.ensures.refuses) (twice (codes "DURATION") (2, omega arith, refl) c.in_err-duration.ensures.twice))
 
-pub returns-in_err-seconds_to-in-Some-None-clause-stands : goal.returns-in_err-seconds_to-in-Some-None-clause-stands
-returns-in_err-seconds_to-in-Some-None-clause-stands c =
+pub returns-in_err-seconds-in-Some-None-clause-stands : goal.returns-in_err-seconds-in-Some-None-clause-stands
+returns-in_err-seconds-in-Some-None-clause-stands c =
     let object = tree_of c.args.object.now in
     let lines = c.args.properties.now in
     let P = EventTimesFault object lines in
     let line = line_text c.in-Some-None.line in
     let once = c.in_ok-end.ensures.found ∙ ap (λ l. option_to_list (option_map line_text l)) c.in-Some-None.is-0 in
-    err_exit _ (RefusesBy P) _ c.from_residual-in_err-seconds_to-in-Some-None.ensures.1
-    (weaker_fault _ (ZonedTimeFault object line) P (λ n h. bad_end (some_line (codes "DTEND") (λ l. ZonedTimeFault object l n) lines line once h)) c.in_err-seconds_to-in-Some-None.ensures.stands)
+    err_exit _ (RefusesBy P) _ c.from_residual-in_err-seconds-in-Some-None.ensures.1
+    (weaker_fault _ (ZonedTimeFault object line) P (λ n h. bad_end (some_line (codes "DTEND") (λ l. ZonedTimeFault object l n) lines line once h)) c.in_err-seconds-in-Some-None.ensures.stands)
 
 pub returns-in_err-read-in-None-Some-clause-stands : goal.returns-in_err-read-in-None-Some-clause-stands
 returns-in_err-read-in-None-Some-clause-stands c =
@@ -51,13 +52,13 @@ returns-in-Some-Some-clause-stands c =
     (some_line (codes "DTEND") (λ _. Unit {0}) lines (line_text c.in-Some-Some.field-0-0) end_once tt)
     (some_line (codes "DURATION") (λ _. Unit {0}) lines (line_text c.in-Some-Some.field-0-1) once tt)
 
-pub returns-in_ok-seconds_to-in-Some-None-clause-reads : goal.returns-in_ok-seconds_to-in-Some-None-clause-reads
-returns-in_ok-seconds_to-in-Some-None-clause-reads c =
+pub returns-in_ok-seconds-in-Some-None-clause-reads : goal.returns-in_ok-seconds-in-Some-None-clause-reads
+returns-in_ok-seconds-in-Some-None-clause-reads c =
     let once = c.in_ok-end.ensures.found ∙ ap (λ l. option_to_list (option_map line_text l)) c.in-Some-None.is-0 in
     let none = c.in_ok-duration.ensures.found ∙ ap (λ l. option_to_list (option_map line_text l)) c.in-Some-None.is-1 in
     let same : to_z w64 (of_z w64 c.args.start) ≡ c.args.start = omega (arith, ints, c.requires) in
-    let seconds = c.in_ok-seconds_to-in-Some-None.field-0 in
+    let seconds = c.in_ok-seconds-in-Some-None.seconds in
     let fits : FitsSigned w64 seconds = search rules in
     let kept : to_z w64 (of_z w64 seconds) ≡ seconds = omega (arith, ints) in
     let line = line_text c.in-Some-None.line in
-    (line, once, none, subst (λ (x : ℤ). SaysInstant (tree_of c.args.object.now) line (c.args.start +ℤ x)) (sym kept) (rw same at (c.in_ok-seconds_to-in-Some-None.ensures.says)))
+    (line, once, none, subst (λ (x : ℤ). EndsSo (tree_of c.args.object.now) line (c.args.start +ℤ x) c.in_ok-seconds-in-Some-None.ends_in) (sym kept) (rw same at (c.in_ok-seconds-in-Some-None.ensures.says)))

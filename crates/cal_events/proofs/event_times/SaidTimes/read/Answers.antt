@@ -10,6 +10,8 @@ use Rattle.ical_values.proofs.Exits.{err_exit}
 use Rattle.cal_events.proofs.EventLemmas.{some_line}
 use Rattle.cal_events.proofs.TimesLemmas.{nominal_given}
 use Rattle.cal_events.proofs.ZonedLemmas.{weaker_fault}
+use Rattle.std.specs.Prelude.{◌↔◌, IsTrue}
+use Rattle.profile.specs.ZonedTimes.{IsInDates}
 use Rattle.cal_events.specs.Zoned.{IsNominal, IsExact}
 use Rattle.cal_events.proofs.event_times.SaidTimes.read.Goals as goal
 
@@ -38,10 +40,10 @@ returns-in_err-refuse_nominal-clause-stands c =
     let object = tree_of c.args.object.now in
     let lines = c.args.properties.now in
     let P = EventTimesFault object lines in
-    let zoned = subst (λ b. IsNominal b c.in_ok-extent.extent) c.is_in_zone.ensures c.in_err-refuse_nominal.ensures.nominal in
+    let zoned = subst (λ b. IsNominal b c.in_ok-extent.extent) c.is_in_zone-in_zone.ensures c.in_err-refuse_nominal.ensures.nominal in
     err_exit _ (RefusesBy P) _ c.from_residual-in_err-refuse_nominal.ensures.1
     (subst P (sym c.in_err-refuse_nominal.ensures.refuses)
-    (nominal_given object lines _ (line_text c.in_ok-line.line) c.in_ok-extent.extent c.in_ok-line.ensures.found c.in_ok-extent.ensures.reads zoned))
+    (nominal_given object lines _ _ (line_text c.in_ok-line.line) c.in_ok-extent.extent c.in_ok-line.ensures.found c.in_ok-extent.ensures.reads zoned))
 
 pub returns-clause-said : goal.returns-clause-said
 returns-clause-said c =
@@ -52,6 +54,7 @@ returns-clause-said c =
       once = c.in_ok-line.ensures.found;
       says = c.in_ok-start.ensures.says;
       means = subst (λ (x : ℤ). Means (zone_of start.zone) start.local x) (sym same) c.instant-instant.ensures.meaning;
+      starts = subst (λ b. IsTrue c.is_in_dates-starts_in.result ↔ IsInDates b start.local (to_z w64 (of_z w64 c.instant-instant.result))) c.is_in_zone-in_zone.ensures c.is_in_dates-starts_in.ensures;
       extent = c.in_ok-extent.ensures.reads;
-      exact = subst (λ b. IsExact b c.in_ok-extent.extent) c.is_in_zone.ensures c.in_ok-refuse_nominal.ensures.exact;
+      exact = subst (λ b. IsExact b c.in_ok-extent.extent) c.is_in_zone-in_zone.ensures c.in_ok-refuse_nominal.ensures.exact;
     }
