@@ -166,6 +166,16 @@ AllAnswers moment rooms k (object ∷ objects) befores afters octets refused =
 abbrev pub empty_books : List (List ℕ) → List Book
 empty_books rooms = map (λ room. empty_book) rooms
 
+-- the whole of what is written for a stream that is served to its end, from rooms that have taken nothing
+pub record AnswersStream (stream octets : List ℕ) : Type 0 where
+  pub moment : ℤ
+  pub rooms : List (List ℕ)
+  pub objects : List (List ℕ)
+  pub afters : List Book
+  pub refused : ℕ
+  pub is : IsStream stream moment rooms objects
+  pub answers : AllAnswers moment rooms 1 objects (empty_books rooms) afters octets refused
+
 -- of these rooms, with these books, one has this address and this book
 abbrev pub HasBook : List (List ℕ) → List Book → List ℕ → Book → Type 0
 HasBook (address ∷ addresses) (kept ∷ books) room book = ((address ≡ room) × (kept ≡ book)) ⊎ HasBook addresses books room book

@@ -9,7 +9,7 @@ use Rattle.std.proofs.KnownBytes.{Consumes-trans}
 use Rattle.profile.specs.Streams.{Setting, SaysSettings, by_end, by_lf, by_crlf, last, with_lf, with_crlf, IsPreamble}
 use Rattle.sched_box.specs.declared.preamble.Place.{Place}
 use Rattle.sched_box.specs.declared.preamble.Place.TheVariants.{Start, Return, Inside, Closed}
-use Rattle.sched_box.specs.Preamble.{is_closed, next_place, place_after, rest_of, Leads, TakesPiece, TakesPreamble, IsLong, Opens, OpensNot}
+use Rattle.sched_box.specs.Preamble.{is_closed, next_place, place_after, rest_of, Leads, TakesPiece, TakesPreamble, IsLong, Opens, OpensNot, StopsInPreamble}
 use Rattle.sched_box.specs.declared.fault.StreamFault.{StreamFault}
 use Rattle.sched_box.specs.declared.fault.StreamFault.TheVariants.{Refused, Serve}
 use Rattle.ical_lines.specs.declared.fault.Fault.{Fault}
@@ -257,6 +257,22 @@ taken_all a b c octets taken place to goes consumed leads t e = record {
     at : (to ≡ Closed) ⊎ OnSome b (IsAtEnd c) → (to ≡ Closed) ⊎ OnSome a (IsAtEnd c)
     at (inl closes) = inl closes
     at (inr end) = inr (before a b c consumed end)
+
+-- ---- no octet past the empty line was taken
+
+pub stops : (a b : Option (List ℕ)) (octets : List ℕ) (place : Place) → Consumes a b octets → Leads Start octets place → StopsInPreamble a b
+stops a b octets place consumed l = record { taken = octets; consumed = consumed; within = short a b consumed }
+  where
+    short : (a b : Option (List ℕ)) → Consumes a b octets → IfSome a (λ xs. IfSome b (λ ys. length (rest_of Start xs) ≤ length ys))
+    short None b c = tt
+    short (Some xs) None c = tt
+    short (Some xs) (Some ys) c =
+        let all : length (rest_of Start xs) ≡ length (rest_of place ys) = ap (λ z. length (rest_of Start z)) c ∙ ap length (l.rest ys) in
+        let few = rest_short place ys in
+        omega arith
+
+pub stops_after : (a b : Option (List ℕ)) (octets : List ℕ) → TakesPreamble a b octets → StopsInPreamble a b
+stops_after a b octets t = stops a b octets t.place t.consumed t.leads
 
 pub long_stream : (a : Option (List ℕ)) (f : StreamFault) → IfRefusedStream (IfSome a IsLong) f → IfRefusedStream (IfSome a OpensNot) f
 long_stream a (Refused r) h = long_not_known a h

@@ -13,7 +13,7 @@ use Rattle.sched_box.specs.declared.objects.Objects.{Objects}
 use Rattle.sched_box.specs.declared.serving.ServeReport.{ServeReport}
 use Rattle.sched_box.specs.Answering.{HaveBooks, AnswersKept, room_addresses}
 use Rattle.sched_box.specs.Objects.{kept_of, TakesObject, ReadsObject, StopsReading}
-use Rattle.sched_box.specs.Serving.{Ends, Gives, GivesPart, ServesAll, ServesSome, HasRead, ServesUntil, Serves, RoomsServe, ServesStream, KeepsTexts}
+use Rattle.sched_box.specs.Serving.{AnswersWhole, Ends, Gives, GivesPart, IsWithinBound, ServesAll, ServesSome, HasRead, ServesUntil, Serves, RoomsServe, ServesStream, KeepsTexts}
 use Rattle.std.proofs.Common.{◌≢◌, Contains, true≢false}
 use Rattle.std.specs.Str.{bytes_eq}
 use Rattle.std.proofs.lemmas.Slice.Eq.{bytes_eq-Decides}
@@ -28,7 +28,7 @@ use Rattle.profile.specs.Streams.{empty_books}
 use Rattle.sched_box.specs.declared.fault.StreamFault.{StreamFault}
 use Rattle.sched_box.specs.declared.fault.StreamFault.TheVariants as stream
 use Rattle.sched_box.specs.Faults.{IfRefusedStream, IsReadFault}
-use Rattle.sched_box.specs.Preamble.{Opens, OpensNot}
+use Rattle.sched_box.specs.Preamble.{Opens, OpensNot, StopsInPreamble}
 use Rattle.sched_box.specs.Answering.{HasBook}
 use Rattle.sched_box.proofs.ObjectLemmas.{after_short}
 use Rattle.std.proofs.Common.{get_or, take_all}
@@ -153,6 +153,11 @@ all_read None c n h e = tt
 all_read (Some xs) None n h e = absurd h
 all_read (Some xs) (Some zs) n h e = omega arith
 
+within_bound : (a c : Option (List ℕ)) (n : ℕ) → HasLeft a c n → IsWithinBound a c
+within_bound None c n h = tt
+within_bound (Some xs) None n h = absurd h
+within_bound (Some xs) (Some zs) n h = omega arith
+
 -- the stream ended before the next object did
 pub stopped : (moment : ℤ) (olds news : List Room) (a b c output written : Option (List ℕ)) (before after : Objects) (report : ServeReport) (fault : ServeFault)
     → Sofar moment olds news a b output written before.left report → StopsReading b c before after fault → (befores : List Book) → HaveBooks olds befores
@@ -169,6 +174,7 @@ stopped moment olds news a b c output written before after report fault so s bef
           refused = report.refused;
           gives = gives_stopped a b c served.objects before after f served.gives s;
           answers = served.answers;
+          bound = within_bound a c after.left (read_on a b c s.taken before.left after.left so.read s.consumed s.left);
           written = served.writes;
         }
 
@@ -193,6 +199,7 @@ forgotten moment olds news a b c output written before after report fault so (ta
       refused = report.refused;
       gives = gives_whole a b c served.objects after.octets.items taken served.gives t;
       answers = served.answers;
+      bound = within_bound a c after.left (read_on a b c taken before.left after.left so.read t.consumed left);
       written = served.writes;
     })
 
@@ -232,6 +239,7 @@ cut moment olds news newer a b c output written cut_at before after report numbe
       answers = served.answers;
       answered = answer;
       some = some;
+      bound = within_bound a c after.left (read_on a b c taken before.left after.left so.read t.consumed left);
       written = Appends-trans output written cut_at served.octets (take n more) served.writes appended;
     })
 
@@ -277,7 +285,7 @@ served_all moment olds news a b c output written before after report so (taken, 
     let ended = gives_all a b c served.objects after.octets.items taken served.gives t in (
       served.afters,
       served.books,
-      record { objects = served.objects; octets = served.octets; are = ended.0; end = ended.1; answers = served.answers; counted = served.counted; written = served.writes },
+      record { objects = served.objects; octets = served.octets; are = ended.0; end = ended.1; answers = served.answers; counted = served.counted; bound = within_bound a c after.left (read_on a b c taken before.left after.left so.read t.consumed left); written = served.writes },
     )
 
 -- ---- the parts of a function's answer
@@ -305,8 +313,12 @@ pub serves_none : (moment : ℤ) (addresses : List (List ℕ)) (befores : List B
 serves_none moment addresses befores input output fault is =
     let P : ServeFault → Type 0 = ServesUntil moment addresses befores (record { input = input; left = input; output = output; written = output }) in
     subst P (sym is)
-    (record { objects = []; afters = befores; octets = []; refused = 0; gives = none input; answers = (refl, refl, refl); written = Appends-nil output })
+    (record { objects = []; afters = befores; octets = []; refused = 0; gives = none input; answers = (refl, refl, refl); bound = unread input; written = Appends-nil output })
   where
+    unread : (a : Option (List ℕ)) → IsWithinBound a a
+    unread None = tt
+    unread (Some xs) = omega arith
+
     none : (a : Option (List ℕ)) → GivesPart a a []
     none None = tt
     none (Some xs) = (xs, [], refl, refl, after_short xs)
@@ -351,13 +363,13 @@ all_made addresses i rooms so end =
 
 -- ---- a stream with its preamble
 
-pub stream_refused : (a left output : Option (List ℕ)) (f : StreamFault) → IfRefusedStream (IfSome a OpensNot) f → IsReadFault f → ServesStream (record { input = a; left = left; output = output; written = output }) (Err f)
-stream_refused a left output (stream.Refused r) h reads = (h, kept output)
+pub stream_refused : (a left output : Option (List ℕ)) (f : StreamFault) → IfRefusedStream (IfSome a OpensNot) f → StopsInPreamble a left → IsReadFault f → ServesStream (record { input = a; left = left; output = output; written = output }) (Err f)
+stream_refused a left output (stream.Refused r) h stops reads = (h, stops, kept output)
   where
     kept : (o : Option (List ℕ)) → Keeps o o
     kept None = tt
     kept (Some xs) = refl
-stream_refused a left output (stream.Serve f) h reads = inl (reads, kept output)
+stream_refused a left output (stream.Serve f) h stops reads = inl (reads, stops, kept output)
   where
     kept : (o : Option (List ℕ)) → Keeps o o
     kept None = tt
@@ -374,6 +386,26 @@ pub stream_served : (a mid left output written : Option (List ℕ)) (moment : �
     → Serves moment rooms (empty_books rooms) (record { input = mid; left = left; output = output; written = written }) (Ok report)
     → ServesStream (record { input = a; left = left; output = output; written = written }) (Ok report)
 stream_served a mid left output written moment rooms report opens (afters, all) = (moment, rooms, mid, afters, opens, all)
+
+-- the stream is its preamble and its objects
+pub stream_whole : (a mid left output written : Option (List ℕ)) (moment : ℤ) (rooms : List (List ℕ)) (report : ServeReport) → Opens a mid moment rooms
+    → Serves moment rooms (empty_books rooms) (record { input = mid; left = left; output = output; written = written }) (Ok report)
+    → AnswersWhole (record { input = a; left = left; output = output; written = written })
+stream_whole None mid left output written moment rooms report opens h = tt
+stream_whole (Some xs) None left output written moment rooms report opens h = absurd opens.consumed
+stream_whole (Some xs) (Some ys) left output written moment rooms report opens (afters, all) = (
+  all.octets,
+  record {
+    moment = moment;
+    rooms = rooms;
+    objects = all.objects;
+    afters = afters;
+    refused = report.refused;
+    is = record { preamble = opens.preamble; rest = ys; closed = opens.closed; is = opens.consumed; says = opens.says; all = opens.all; objects_are = all.are };
+    answers = all.answers;
+  },
+  all.written,
+)
 
 -- ---- the book of one room
 
@@ -436,6 +468,7 @@ keeps_texts moment rooms addresses news ends report room address calendar certif
       book = book;
       are = all.are;
       end = all.end;
+      bound = all.bound;
       answers = subst R same all.answers;
       has = subst Q is (subst P (newer ∙ same) has);
       calendar_is = subst S is (text book stands);

@@ -1,5 +1,5 @@
 -- How a preamble is taken from a reader: up to its empty line, octet by octet.
-use Rattle.std.specs.Prelude.{◌≡◌, ◌⊎◌, ◌<◌, ◌+◌, ◌==◌, ℕ, ℤ, Bool, true, false, if◌then◌else◌, List, [], ◌∷◌, ◌++◌, length, Option, OnSome}
+use Rattle.std.specs.Prelude.{◌≡◌, ◌⊎◌, ◌<◌, ◌≤◌, ◌+◌, ◌==◌, ℕ, ℤ, Bool, true, false, if◌then◌else◌, List, [], ◌∷◌, ◌++◌, length, Option, IfSome, OnSome}
 use Rattle.std.specs.Io.KnownBytes.{Consumes, IsAtEnd}
 use Rattle.profile.specs.Streams.{IsPreamble}
 use Rattle.sched_box.specs.declared.preamble.Place.{Place}
@@ -57,6 +57,12 @@ pub record Opens (old new : Option (List ℕ)) (moment : ℤ) (addresses : List 
   pub consumed : Consumes old new preamble
   pub says : IsPreamble closed preamble moment addresses
   pub all : closed ≡ false → OnSome old (IsAtEnd new)
+
+-- octets were taken, and none past the empty line
+pub record StopsInPreamble (old new : Option (List ℕ)) : Type 0 where
+  pub taken : List ℕ
+  pub consumed : Consumes old new taken
+  pub within : IfSome old (λ octets. IfSome new (λ rest. length (rest_of Start octets) ≤ length rest))
 
 -- the octets don't begin with a preamble
 abbrev pub OpensNot : List ℕ → Type 0

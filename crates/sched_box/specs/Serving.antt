@@ -4,7 +4,7 @@ use Rattle.std.specs.Io.KnownBytes.{Appends, Keeps, IsAtEnd}
 use Rattle.profile.specs.Objects.{after_object}
 use Rattle.profile.specs.Rooms.{Book}
 use Rattle.profile.specs.Kept.{IsKeptCalendar, kept_certificate}
-use Rattle.profile.specs.Streams.{BeginsWith, AreObjects, Answers, AllAnswers, empty_books, HasBook}
+use Rattle.profile.specs.Streams.{BeginsWith, AreObjects, Answers, AllAnswers, AnswersStream, empty_books, HasBook}
 use Rattle.room_books.specs.declared.room.Room.{Room}
 use Rattle.sched_box.specs.declared.fault.ServeFault.{ServeFault}
 use Rattle.sched_box.specs.declared.fault.ServeFault.TheVariants.{Read, Write, TooLong, Memory}
@@ -13,7 +13,7 @@ use Rattle.sched_box.specs.declared.fault.StreamFault.{StreamFault}
 use Rattle.sched_box.specs.declared.fault.StreamFault.TheVariants.{Refused, Serve}
 use Rattle.sched_box.specs.Answering.{HaveBooks}
 use Rattle.sched_box.specs.Objects.{IsPieceFault}
-use Rattle.sched_box.specs.Preamble.{Opens, OpensNot}
+use Rattle.sched_box.specs.Preamble.{Opens, OpensNot, StopsInPreamble}
 
 -- what a reader and a writer held and have, where they tell it
 pub record Ends : Type 0 where
@@ -35,6 +35,10 @@ GivesPart (Some input) None objects = ⊥
 GivesPart (Some input) (Some left) objects =
     (rest : List ℕ) × (part : List ℕ) × BeginsWith input objects rest × (rest ≡ part ++ left) × (length (after_object rest) ≤ length left)
 
+-- of a reader that tells its octets at most 1,073,741,824 were read; this profile's choice
+abbrev pub IsWithinBound : Option (List ℕ) → Option (List ℕ) → Type 0
+IsWithinBound input left = IfSome input (λ octets. IfSome left (λ rest. length octets ≤ length rest + 1_073_741_824))
+
 -- all objects were taken, and the answers to them written
 pub record ServesAll (moment : ℤ) (rooms : List (List ℕ)) (befores afters : List Book) (ends : Ends) (report : ServeReport) : Type 0 where
   pub objects : List (List ℕ)
@@ -43,6 +47,7 @@ pub record ServesAll (moment : ℤ) (rooms : List (List ℕ)) (befores afters : 
   pub end : OnSome ends.input (IsAtEnd ends.left)
   pub answers : AllAnswers moment rooms 1 objects befores afters octets report.refused
   pub counted : report.objects ≡ length objects
+  pub bound : IsWithinBound ends.input ends.left
   pub written : Appends ends.output ends.written octets
 
 -- these objects were taken, and the answers to them written; of the next object a part was read
@@ -53,6 +58,7 @@ pub record ServesSome (moment : ℤ) (rooms : List (List ℕ)) (befores : List B
   pub refused : ℕ
   pub gives : GivesPart ends.input ends.left objects
   pub answers : AllAnswers moment rooms 1 objects befores afters octets refused
+  pub bound : IsWithinBound ends.input ends.left
   pub written : Appends ends.output ends.written octets
 
 -- the answers to all objects but the last were written, and of the answers to that, of which there are some, a beginning
@@ -70,6 +76,7 @@ pub record ServesCut (moment : ℤ) (rooms : List (List ℕ)) (befores : List Bo
   pub answers : AllAnswers moment rooms 1 objects befores mids octets refused
   pub answered : Answers moment rooms (length objects + 1) last mids afters answer one
   pub some : 0 < length answer
+  pub bound : IsWithinBound ends.input ends.left
   pub written : Appends ends.output ends.written (octets ++ take cut answer)
 
 -- so many octets were read
@@ -93,16 +100,22 @@ abbrev pub RoomsServe : ℤ → List (List ℕ) → List Book → List Room → 
 RoomsServe moment rooms befores news ends (Ok report) = (afters : List Book) × HaveBooks news afters × ServesAll moment rooms befores afters ends report
 RoomsServe moment rooms befores news ends (Err fault) = ServesUntil moment rooms befores ends fault
 
--- what comes of a stream with its preamble; where the reader fails or memory is refused before the preamble is read, nothing is written
+-- what comes of a stream with its preamble; where it is refused, or the reader fails or memory is refused before it is read, nothing is
+-- written, and no octet past its empty line was taken
 abbrev pub ServesStream : Ends → Result ServeReport StreamFault → Type 0
 ServesStream ends (Ok report) =
     (moment : ℤ) × (rooms : List (List ℕ)) × (rest : Option (List ℕ)) × (afters : List Book) × Opens ends.input rest moment rooms
     × ServesAll moment rooms (empty_books rooms) afters (record ends { input = rest }) report
-ServesStream ends (Err (Refused refusal)) = IfSome ends.input OpensNot × Keeps ends.output ends.written
+ServesStream ends (Err (Refused refusal)) =
+    IfSome ends.input OpensNot × StopsInPreamble ends.input ends.left × Keeps ends.output ends.written
 ServesStream ends (Err (Serve fault)) =
-    (IsPieceFault fault × Keeps ends.output ends.written)
+    (IsPieceFault fault × StopsInPreamble ends.input ends.left × Keeps ends.output ends.written)
     ⊎ ((moment : ℤ) × (rooms : List (List ℕ)) × (rest : Option (List ℕ)) × Opens ends.input rest moment rooms
     × ServesUntil moment rooms (empty_books rooms) (record ends { input = rest }) fault)
+
+-- where the reader tells its octets, all that was written answers the stream that they are
+abbrev pub AnswersWhole : Ends → Type 0
+AnswersWhole ends = IfSome ends.input (λ stream. (octets : List ℕ) × AnswersStream stream octets × Appends ends.output ends.written octets)
 
 -- what a room keeps after all objects of a stream: the calendar and the certificate of its book
 pub record KeepsTexts (moment : ℤ) (rooms : List (List ℕ)) (input left : Option (List ℕ)) (room calendar certificate : List ℕ) : Type 0 where
@@ -113,6 +126,7 @@ pub record KeepsTexts (moment : ℤ) (rooms : List (List ℕ)) (input left : Opt
   pub book : Book
   pub are : IfSome input (λ stream. AreObjects stream objects)
   pub end : OnSome input (IsAtEnd left)
+  pub bound : IsWithinBound input left
   pub answers : AllAnswers moment rooms 1 objects (empty_books rooms) afters octets refused
   pub has : HasBook rooms afters room book
   pub calendar_is : IsKeptCalendar room book calendar

@@ -1,10 +1,11 @@
 //! The preamble of a stream: its lines are taken from the reader up to the empty one, and nothing after it.
 
-ghost use Rattle.std.specs.Prelude.{◌≡◌, ◌≤◌, ◌<◌, ◌++◌, ℕ, List, length, nat_lt, ◌&&◌, not, take, true, false, IfOk, IfErr, IfSome};
+ghost use Rattle.std.specs.Prelude.{◌≡◌, ◌≤◌, ◌<◌, ◌++◌, ℕ, List, length, nat_lt, ◌&&◌, not, take, true, false, IfOk, IfErr, IfSome, OnErr};
+ghost use Rattle.std.specs.Io.KnownBytes.{Keeps};
 ghost use Rattle.sched_box.specs.Config.{config_rooms};
 ghost use Rattle.sched_box.specs.Faults.{IfRefusedStream, IsReadFault, RefusesPreamble};
 ghost use Rattle.sched_box.specs.Objects.{IsPieceFault};
-ghost use Rattle.sched_box.specs.Preamble.{IsLong, Leads, Opens, OpensNot, TakesPiece, TakesPreamble, is_closed, next_place};
+ghost use Rattle.sched_box.specs.Preamble.{IsLong, Leads, Opens, OpensNot, StopsInPreamble, TakesPiece, TakesPreamble, is_closed, next_place};
 ghost use Rattle.sched_box.specs.declared.preamble.Place.TheVariants.{Inside};
 
 use crate::config::{Config, LONGEST};
@@ -15,7 +16,7 @@ use memchr::memchr;
 use std::alloc::Global;
 use std::io::BufRead;
 
-/// Reads a preamble, and leaves the reader behind its empty line.
+/// Reads a preamble, and leaves the reader behind its empty line. No octet past that is taken, whatever comes of it.
 /// Refused: 90. A reader that fails gives `Read`.
 pub fn read_preamble<R: BufRead>(
     alloc: Global,
@@ -25,6 +26,7 @@ pub fn read_preamble<R: BufRead>(
     ensures refuses { IfErr result RefusesPreamble }
     ensures faults { IfErr result IsReadFault }
     ensures none { IfErr result (IfRefusedStream (IfSome (R.remaining reader.old) OpensNot)) }
+    ensures stops { OnErr result (StopsInPreamble (R.remaining reader.old) (R.remaining reader.new)) }
 {
     let octets = take_preamble(alloc, reader)?;
     match Config::read_with_now(alloc, octets.as_slice()) {
@@ -41,6 +43,7 @@ fn take_preamble<R: BufRead>(alloc: Global, reader: &mut R) -> Result<Vec<u8>, S
     ensures refuses { IfErr result RefusesPreamble }
     ensures faults { IfErr result IsReadFault }
     ensures none { IfErr result (IfRefusedStream (IfSome (R.remaining reader.old) IsLong)) }
+    ensures stops { OnErr result (StopsInPreamble (R.remaining reader.old) (R.remaining reader.new)) }
 {
     let mut octets = Vec::new(alloc);
     let mut place = Place::Start;
@@ -62,6 +65,7 @@ fn take_piece<R: BufRead>(
     ensures takes { IfOk result (λ goes. (taken : List ℕ) × (octets.new.items ≡ octets.old.items ++ taken)
         × TakesPiece (R.remaining reader.old) (R.remaining reader.new) place.old place.new taken goes) }
     ensures faults { IfErr result IsPieceFault }
+    ensures keeps { OnErr result (Keeps (R.remaining reader.old) (R.remaining reader.new)) }
 {
     let Ok(lent) = reader.fill_buf() else {
         return Err(ServeFault::Read);

@@ -9,7 +9,7 @@ ghost use Rattle.profile.specs.Streams.{empty_books};
 ghost use Rattle.sched_box.specs.Answering.{HasBook, HaveBooks, room_addresses};
 ghost use Rattle.sched_box.specs.Config.{config_rooms};
 ghost use Rattle.sched_box.specs.Faults.{IfRefusedStream, RefusesPreamble};
-ghost use Rattle.sched_box.specs.Serving.{KeepsTexts, RoomsServe, Serves, ServesStream};
+ghost use Rattle.sched_box.specs.Serving.{AnswersWhole, KeepsTexts, RoomsServe, Serves, ServesStream};
 
 use crate::answering::answer;
 use crate::config::Config;
@@ -39,6 +39,7 @@ pub fn serve_stream<R: BufRead, W: Write>(
     ensures counts { IfOk result (λ report. report.refused ≤ report.objects) }
     ensures refuses { IfErr result RefusesPreamble }
     ensures serves { ServesStream (record { input = R.remaining reader.old; left = R.remaining reader.new; output = W.contents writer.old; written = W.contents writer.new }) result }
+    ensures whole { OnOk result (AnswersWhole (record { input = R.remaining reader.old; left = R.remaining reader.new; output = W.contents writer.old; written = W.contents writer.new })) }
 {
     let (config, now) = read_preamble(alloc, reader)?;
     let report = serve(alloc, &config, reader, writer, now)?;

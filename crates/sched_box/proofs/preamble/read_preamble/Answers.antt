@@ -2,7 +2,7 @@ use Rattle.std.proofs.Common.{Bool, List, ℕ, ℤ, sym, subst, rules}
 use Rattle.std.proofs.lemmas.Result.{err_from_is_err_and}
 use Rattle.profile.specs.Streams.{IsPreamble}
 use Rattle.sched_box.specs.Config.{config_rooms}
-use Rattle.sched_box.proofs.PreambleLemmas.{opened, opens_not, long_stream, refused_is}
+use Rattle.sched_box.proofs.PreambleLemmas.{opened, opens_not, long_stream, refused_is, stops_after}
 use Rattle.sched_box.proofs.preamble.read_preamble.Goals as goal
 
 pub returns-in_err-octets-clause-none : goal.returns-in_err-octets-clause-none
@@ -21,3 +21,9 @@ returns-in-Err-Refused-clause-none g c =
     let same = c.as_slice.ensures.value in
     let none = refused_is ((closed : Bool) (moment : ℤ) (addresses : List (List ℕ)) → IsPreamble closed c.as_slice.result.now moment addresses → ⊥) _ c.in-Err-Refused.refusal (search rules) c.in-Err-Refused.ensures.none in
     opens_not _ _ _ c.in_ok-octets.ensures.takes (λ closed moment addresses says. none closed moment addresses (subst (λ o. IsPreamble closed o moment addresses) (sym same) says))
+
+pub returns-in-Err-Refused-clause-stops : goal.returns-in-Err-Refused-clause-stops
+returns-in-Err-Refused-clause-stops g c = stops_after _ _ _ c.in_ok-octets.ensures.takes
+
+pub returns-clause-stops : goal.returns-clause-stops
+returns-clause-stops g c = stops_after _ _ _ c.in_ok-octets.ensures.takes

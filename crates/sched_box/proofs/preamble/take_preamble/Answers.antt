@@ -1,9 +1,10 @@
 use Rattle.std.proofs.Common.{sym, subst, arith, length-append, ap, length}
-use Rattle.std.proofs.KnownBytes.{Consumes-nil, Consumes-trans}
+use Rattle.std.proofs.lemmas.Result.{err_from_is_err_and}
+use Rattle.std.proofs.KnownBytes.{Consumes-kept, Consumes-nil, Consumes-trans}
 use Rattle.std.specs.Io.KnownBytes.{Consumes}
 use Rattle.sched_box.specs.declared.preamble.Place.TheVariants.{Start}
 use Rattle.sched_box.specs.Preamble.{Leads, TakesPreamble}
-use Rattle.sched_box.proofs.PreambleLemmas.{leads_none, leads_trans, too_long, taken_all}
+use Rattle.sched_box.proofs.PreambleLemmas.{leads_none, leads_trans, stops, too_long, taken_all}
 use Rattle.sched_box.proofs.preamble.take_preamble.Goals as goal
 
 pub loop-place-init : goal.loop-place-init
@@ -31,3 +32,11 @@ returns-then-not-branch-clause-takes g c =
 
 pub returns-clause-none : goal.returns-clause-none
 returns-clause-none g c = too_long _ _ _ _ c.loop-place.invariant.0 c.loop-place.invariant.1 (omega arith)
+
+pub returns-in_err-take_piece-clause-stops : goal.returns-in_err-take_piece-clause-stops
+returns-in_err-take_piece-clause-stops g c =
+    let p = err_from_is_err_and c.from_residual.result c.from_residual.ensures.1 in
+    rw p.1 (stops _ _ _ _ (Consumes-kept _ _ _ _ c.loop-place.invariant.0 c.in_err-take_piece.ensures.keeps) c.loop-place.invariant.1)
+
+pub returns-clause-stops : goal.returns-clause-stops
+returns-clause-stops g c = stops _ _ _ _ c.loop-place.invariant.0 c.loop-place.invariant.1
