@@ -19,6 +19,7 @@ pub mod Messages
 pub mod Rooms
 pub mod Kept
 pub mod Streams
+pub mod Headline
 -- rules and zones
 pub mod Rules
 pub mod RuleTexts

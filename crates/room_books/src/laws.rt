@@ -6,6 +6,7 @@ ghost use Rattle.profile.specs.Rooms.{Answer, Book, Delivery, Runs, empty_book, 
 ghost use Rattle.profile.specs.Streams.{IsDelivered, AllAnswers, HasBook, empty_books};
 ghost use Rattle.profile.specs.Kept.{IsKeptCalendar, kept_certificate};
 ghost use Rattle.profile.specs.Calendars.{CertificateHolds, SpellsCalendar};
+ghost use Rattle.profile.specs.Headline.{AcceptedWhereClear, KeptTextsPass};
 
 /// Whatever messages a room took, one after another from the first: no two of its confirmed instances of
 /// different keys hold the room in the same second, and there are no more of them than the limit.
@@ -24,12 +25,16 @@ pub fn answers_stay()
         → (a b : Answer) → Contains book.answers a → Contains book.answers b → a.claim.part ≡ b.claim.part → a ≡ b }
 {}
 
+/// A new revision is accepted exactly where no two of the instances that would be confirmed with it hold the room in the same second,
+/// and they are within the limit; and a decline for a clash names two of them and a second in both.
+pub fn accepted_where_clear()
+    ensures { AcceptedWhereClear }
+{}
+
 /// Whatever messages come, in any order and repeated: the calendar that a room keeps after them spells what it has
 /// confirmed, and the certificate beside it holds for that calendar.
 pub fn kept_texts_pass()
-    ensures { (room : List ℕ) (deliveries : List Delivery) → ((delivery : Delivery) → Contains deliveries delivery → IsDelivered room delivery)
-        → (book : Book) → Runs empty_book deliveries book
-        → (calendar : List ℕ) → IsKeptCalendar room book calendar → CertificateHolds room calendar (kept_certificate book) }
+    ensures { KeptTextsPass }
 {
     ical_lines::lines_read_back();
 }

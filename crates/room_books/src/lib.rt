@@ -12,6 +12,7 @@ mod texts;
 
 pub use answer::{Answer, Kind, LimitKind};
 pub use laws::{
-    answers_stay, kept_texts_pass, kept_texts_spell, runs_stay_clear, served_texts_pass,
+    accepted_where_clear, answers_stay, kept_texts_pass, kept_texts_spell, runs_stay_clear,
+    served_texts_pass,
 };
 pub use room::Room;
