@@ -12,8 +12,8 @@ use Rattle.ical_lines.specs.declared.fault.Fault.TheVariants.{Refused, Memory}
 use Rattle.ical_lines.specs.declared.fault.Refusal.{Refusal}
 use Rattle.profile.specs.Lines.{line_value}
 use Rattle.profile.specs.Events.{Event, SaysEvent, EventFault, has_unread}
-use Rattle.profile.specs.Properties.{BothOrNeither, StandsAtMostOnce}
 use Rattle.profile.specs.Messages.{SaysRequest, MethodFault, bad_method, unread_method, MessageFault, in_event, not_yet, no_event, two_meetings, two_wholes, is_same_meeting, are_one_meeting, is_unread_method, is_method}
+use Rattle.profile.specs.Properties.{BothOrNeither, StandsAtMostOnce}
 use Rattle.cal_events.specs.declared.component.EventComponent.{EventComponent}
 use Rattle.cal_events.specs.Events.{event_of, IsUnreadOrFault}
 use Rattle.cal_events.proofs.EventLemmas.{some_line, push_zip}
