@@ -156,7 +156,7 @@ break_blank b line rest h n r =
 starts_fresh : (part line : List ℕ) (ps : List (List ℕ)) → is_continuation part ≡ false → parts_after line (part ∷ ps) ≡ cond (is_last line) (part ∷ ps) (parts_after (without_return part) ps)
 starts_fresh part line ps h = ap (λ t. cond t (parts_after (line ++ drop 1 (without_return part)) ps) (cond (is_last line) (part ∷ ps) (parts_after (without_return part) ps))) h
 
-last_by : (t : Bool) (b : ℕ) (line : List ℕ) (parts : List (List ℕ)) → is_blank b ≡ false → is_last line ≡ true → parts_after line (cond t ([] ∷ parts) (onto_first b parts)) ≡ cond t ([] ∷ parts) (onto_first b parts)
+pub last_by : (t : Bool) (b : ℕ) (line : List ℕ) (parts : List (List ℕ)) → is_blank b ≡ false → is_last line ≡ true → parts_after line (cond t ([] ∷ parts) (onto_first b parts)) ≡ cond t ([] ∷ parts) (onto_first b parts)
 last_by true b line parts h l = ap (λ z. cond z ([] ∷ parts) (parts_after [] parts)) l
 last_by false b line [] h l = starts_fresh (b ∷ []) line [] h ∙ ap (λ z. cond z ((b ∷ []) ∷ []) []) l
 last_by false b line (p ∷ ps) h l = starts_fresh (b ∷ p) line ps h ∙ ap (λ z. cond z ((b ∷ p) ∷ ps) (parts_after (without_return (b ∷ p)) ps)) l

@@ -3,6 +3,7 @@ pub mod BegunLemmas
 pub mod BreakLemmas
 pub mod ContentLemmas
 pub mod CutLemmas
+pub mod EndLemmas
 pub mod FirstLemmas
 pub mod FoldLemmas
 pub mod PieceLemmas

@@ -4,7 +4,7 @@ use lib.Utf8.{encode}
 use Rattle.std.specs.Str.{chars}
 use Rattle.std.specs.List.{flat_map}
 use Rattle.profile.specs.Lines.{logical_lines, line_name, line_value, lacks_colon, has_bad_name, has_bad_quote, has_control, is_content, fold_from, folded}
-use Rattle.profile.specs.Objects.{after_object, is_begun}
+use Rattle.profile.specs.Objects.{after_object, is_begun, all_lines, EndsWithItsLine}
 
 -- a continuation is joined without its blank
 joined : logical_lines (codes "A:x" ++ 13 ∷ 10 ∷ codes " y" ++ 13 ∷ 10 ∷ []) ≡ codes "A:xy" ∷ []
@@ -66,6 +66,32 @@ ended_later = refl
 
 continued : after_object (codes "END:VCALENDAR" ++ 10 ∷ codes " X" ++ 10 ∷ codes "Y") ≡ []
 continued = refl
+
+-- in the middle of a line, behind a bare CR, or at the end of the input nothing ends before it
+no_end : (after_object (codes "X:END:VCALENDAR" ++ 10 ∷ codes "Y") ≡ []) × ((after_object (codes "END:VCALENDAR" ++ 13 ∷ codes "X" ++ 10 ∷ codes "Y") ≡ []) × (after_object (codes "END:VCALENDAR") ≡ []))
+no_end = (refl, (refl, refl))
+
+-- empty lines behind the object are the next one's, and so is a byte order mark
+next_begins : (after_object (codes "END:VCALENDAR" ++ 10 ∷ 13 ∷ 10 ∷ codes "X") ≡ 13 ∷ 10 ∷ codes "X") × (after_object (codes "END:VCALENDAR" ++ 10 ∷ 0xEF ∷ 0xBB ∷ 0xBF ∷ []) ≡ 0xEF ∷ 0xBB ∷ 0xBF ∷ [])
+next_begins = (refl, refl)
+
+-- no mark is taken off where no text begins
+mark_kept : all_lines (0xEF ∷ 0xBB ∷ 0xBF ∷ 10 ∷ []) ≡ (0xEF ∷ 0xBB ∷ 0xBF ∷ []) ∷ [] ∷ []
+mark_kept = refl
+
+-- an empty continuation is the last line's own
+ended_by_its_line : EndsWithItsLine (codes "A:" ++ 10 ∷ codes "END:VCALENDAR" ++ 10 ∷ 32 ∷ 10 ∷ codes "X") (codes "X")
+ended_by_its_line = record {
+  body = codes "A:" ++ 10 ∷ codes "END:VCALENDAR" ++ 10 ∷ 32 ∷ [];
+  front = codes "A:" ∷ [];
+  line = codes "END:VCALENDAR";
+  are = refl;
+  spelled = refl;
+  others = refl;
+  last = refl;
+  starts = refl;
+  logical = refl;
+}
 
 only_empty : is_begun (13 ∷ 10 ∷ 32 ∷ 13 ∷ 10 ∷ 13 ∷ []) ≡ false
 only_empty = refl

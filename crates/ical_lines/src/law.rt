@@ -1,7 +1,9 @@
-//! What octets that read as lines hold, and what lines that are written read back as (RFC 5545 3.1).
+//! What octets that read as lines hold, what lines that are written read back as (RFC 5545 3.1), and with which line an
+//! object of a stream ends.
 ghost use Rattle.std.specs.Prelude.{ℕ, Bool, List, ◌≡◌, true, false};
 ghost use Rattle.std.specs.List.{flat_map, list_all};
 ghost use Rattle.profile.specs.Lines.{is_content, folded, logical_lines, reads_as_lines, text_has};
+ghost use Rattle.profile.specs.Objects.{after_object, EndsBefore};
 
 /// Lines that were written one behind another read back as those lines, and nothing is wrong with them (RFC 5545 3.1).
 pub fn lines_read_back()
@@ -13,4 +15,12 @@ pub fn lines_read_back()
 pub fn read_lines_are_content()
     ensures content { (bounded : Bool) (octets : List ℕ) → reads_as_lines bounded octets ≡ true → list_all is_content (logical_lines octets) ≡ true }
     ensures fine { (bounded : Bool) (octets : List ℕ) (number : ℕ) → reads_as_lines bounded octets ≡ true → text_has bounded number octets ≡ false }
+{}
+
+/// The first object of a stream ends with the LF behind its first logical line that is caselessly `END:VCALENDAR`, or with
+/// the input where no line ends it, and nowhere else; so a cut breaks no line (RFC 5545 3.4; where an object ends is this
+/// profile's choice).
+pub fn object_ends_with_its_line()
+    ensures ends { (octets : List ℕ) → EndsBefore octets (after_object octets) }
+    ensures only { (octets rest : List ℕ) → EndsBefore octets rest → rest ≡ after_object octets }
 {}

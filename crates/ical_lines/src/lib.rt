@@ -16,7 +16,7 @@ mod unfold;
 
 pub use fault::{Fault, Refusal};
 pub use fold::{write_line, write_property};
-pub use law::{lines_read_back, read_lines_are_content};
+pub use law::{lines_read_back, object_ends_with_its_line, read_lines_are_content};
 pub use limits::Limits;
 pub use line::Line;
 pub use object_end::{Cutter, cut};

@@ -1,9 +1,9 @@
 -- The tree of components that a list of lines spells (RFC 5545 3.4, 3.6).
 -- A component is anything that shows its name, its own lines, and the components inside it.
-use Rattle.std.specs.Prelude.{◌≡◌, ℕ, suc, Bool, true, false, not, ◌&&◌, ◌||◌, ◌==◌, nat_le, nat_lt, List, [], ◌∷◌, ◌++◌, length, take, drop, filter, count_by, codes, if◌then◌else◌}
+use Rattle.std.specs.Prelude.{◌≡◌, ◌⊎◌, ℕ, suc, Bool, true, false, not, ◌&&◌, ◌||◌, ◌==◌, nat_le, nat_lt, List, [], ◌∷◌, ◌++◌, length, take, drop, filter, count_by, codes, if◌then◌else◌}
 use Rattle.std.specs.List.{slice_split, join_with_byte, list_any}
 use Rattle.std.specs.Str.{bytes_eq, str_to_ascii_lowercase}
-use Rattle.profile.specs.Lines.{line_name, line_value, is_same_name, is_continuation, is_filled, physical_lines, unfolded, without_mark, without_return}
+use Rattle.profile.specs.Lines.{line_name, line_value, is_same_name, is_continuation, is_filled, physical_lines, unfolded, logical_lines, without_mark, without_return}
 
 abbrev pub is_begin : List ℕ → Bool
 is_begin line = is_same_name (line_name line) (codes "BEGIN")
@@ -166,3 +166,38 @@ after_object octets = octets_after [] (slice_split (λ x. x == 10) (without_mark
 abbrev pub is_begun : List ℕ → Bool
 is_begun octets =
     bytes_eq (take 3 octets) (0xEF ∷ 0xBB ∷ 0xBF ∷ []) || list_any is_filled (unfolded (physical_lines (without_mark octets)))
+
+-- ---- the same cut, said of the lines
+
+-- the lines of octets that don't begin a text, each with its continuations, empty ones too: no byte order mark is taken off
+abbrev pub all_lines : List ℕ → List (List ℕ)
+all_lines octets = unfolded (physical_lines octets)
+
+-- the logical lines of such octets
+abbrev pub lines_behind : List ℕ → List (List ℕ)
+lines_behind octets = filter is_filled (all_lines octets)
+
+-- the object is `body` and one LF: of the lines of `body` the last ends an object, and none before it does; the rest doesn't
+-- continue it. So the logical lines of all octets are those of the object, and then those of the rest
+pub record EndsWithItsLine (octets rest : List ℕ) : Type 0 where
+  pub body : List ℕ
+  pub front : List (List ℕ)
+  pub line : List ℕ
+  pub are : octets ≡ body ++ 10 ∷ rest
+  pub spelled : all_lines (without_mark body) ≡ front ++ line ∷ []
+  pub others : list_any is_last front ≡ false
+  pub last : is_last line ≡ true
+  pub starts : is_continuation rest ≡ false
+  pub logical : logical_lines octets ≡ logical_lines (body ++ 10 ∷ []) ++ lines_behind rest
+
+-- all octets are the object: no line ends it, or only the last of all, which no LF follows
+pub record EndsWithTheInput (octets rest : List ℕ) : Type 0 where
+  pub front : List (List ℕ)
+  pub line : List ℕ
+  pub spelled : all_lines (without_mark octets) ≡ front ++ line ∷ []
+  pub others : list_any is_last front ≡ false
+  pub nothing : rest ≡ []
+
+-- the first object of the octets ends where this rest begins
+abbrev pub EndsBefore : List ℕ → List ℕ → Type 0
+EndsBefore octets rest = EndsWithItsLine octets rest ⊎ EndsWithTheInput octets rest
