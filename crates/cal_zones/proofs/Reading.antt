@@ -1,11 +1,10 @@
 -- What the readers of a VTIMEZONE's parts say, put together.
-use Rattle.std.proofs.Common.{◌≡◌, ap, sym, refl, subst, inl, inr, ℕ, zero, true, List, [], ◌∷◌, codes, arith, unsigned_abs, ◌-ℤ◌, ◌≤◌}
+use Rattle.std.proofs.Common.{◌≡◌, ap, sym, refl, subst, inl, inr, ℕ, zero, true, List, [], ◌∷◌, codes, arith}
 use Rattle.ical_lines.specs.Fault.{RefusesBy}
-use Rattle.std.specs.Prelude.{Option, Some, None, Result, Ok, Err, IfOk, IfErr, Contains}
+use Rattle.std.specs.Prelude.{Option, Some, None, Result, Ok, Err, IfErr, Contains}
 use Rattle.std.specs.Result.{IsErrAnd}
 use Rattle.ical_lines.specs.declared.fault.Fault.{Fault}
 use Rattle.ical_lines.specs.declared.fault.Fault.TheVariants.{Refused, Memory}
-use Rattle.ical_lines.specs.declared.fault.Refusal.{Refusal}
 use Rattle.ical_tree.specs.Tree.{tree_of}
 use Rattle.ical_tree.specs.declared.component.Component.{Component}
 use Rattle.profile.specs.Zones.{Zone, Single, Pair, Observance}
@@ -13,8 +12,6 @@ use Rattle.profile.specs.Properties.{lines_named, StandsAtMostOnce, Says}
 use Rattle.profile.specs.ZoneTexts.{parts_by, is_part, is_standard, is_daylight, SaysTimes, SaysOnce, SaysYearly, TimesFault, PartsSay, PartsFault, OffsetsDiffer, SaysZone, ZoneFault, missing, twice, fixed, bad_start, bad_from, bad_to, time_names, single, pair, in_part, ruled, unruled, unmatched, close, HasNoYearRule, IsPairFault, IsSingleFault}
 use Rattle.cal_zones.specs.Read as read
 use Rattle.cal_zones.specs.Read.{parts_in, parts_of, standards_of, daylights_of, HasFault, SomeTimesFault, StartFault, IsNotOne, OffsetFault, YearlyFault, SaysSingle, SingleFault, SaysBoth, BothFault, in_times, has_rule, far, in_standard, in_daylight, no_match, no_space}
-use Rattle.cal_zones.specs.Kinds.{zone_of}
-use Rattle.cal_zones.specs.declared.kinds.Zone as kept
 use Rattle.cal_zones.specs.Onsets.{observance_of, rule_of}
 use Rattle.cal_zones.specs.declared.shape.Yearly.{Yearly}
 use Rattle.cal_zones.specs.declared.shape.Observance as rust
@@ -89,11 +86,6 @@ both_refused p q a b n s t f g (inr (inr (e, h))) = subst (BothFault p q) (sym e
 pub single_refused : (lines : Lines) (a : rust.Observance) (n : ℕ) → SaysOnce lines (observance_of a) → a.rule ≡ None → IsSingleFault n (observance_of a) → SingleFault lines n
 single_refused lines a n s none (inl (e, h)) = absurd (h (ap (rule_of a.day) none))
 single_refused lines a n s none (inr (e, h)) = subst (SingleFault lines) (sym e) (far (observance_of a) s (λ near. absurd (omega arith)))
-
-pub single_said : (r : Result kept.Zone Refusal) (lines : Lines) (a : rust.Observance) → SaysOnce lines (observance_of a) → IfOk r (λ z. zone_of z ≡ Single (observance_of a))
-    → IfOk r (λ _. (a.rule ≡ None) × (unsigned_abs (a.offset_from -ℤ a.offset_to) ≤ 43_200)) → IfOk r (λ z. SaysSingle lines (zone_of z))
-single_said (Ok z) lines a s is h = (observance_of a, is, s, h.1)
-single_said (Err e) lines a s is h = tt
 
 -- ---- the zone
 

@@ -9,7 +9,7 @@ ghost use Rattle.profile.specs.Zones as zones;
 ghost use Rattle.profile.specs.Zones.{Constant};
 ghost use Rattle.profile.specs.Properties as lines;
 ghost use Rattle.profile.specs.ZoneTexts.{SaysZone, ZoneFault, SaysYearly, SpellsYear, SpellsNoYear, IsYearLine};
-ghost use Rattle.profile.specs.ZoneTexts.{HasNoYearRule, OffsetsDiffer, Keeps, Strays, TimesFault};
+ghost use Rattle.profile.specs.ZoneTexts.{HasNoYearRule, OffsetsDiffer, Keeps, Strays, SaysTimes, TimesFault};
 ghost use Rattle.cal_zones.specs.Shapes.{rule_named};
 ghost use Rattle.cal_zones.specs.Onsets.{observance_of};
 ghost use Rattle.cal_zones.specs.Kinds.{zone_of};
@@ -20,10 +20,10 @@ use crate::kinds::{Fixed, Kind, Zone};
 use crate::one_day::day_of_year;
 use crate::parts::{first_part, is_part, only_named, only_part};
 use crate::shape::{Observance, Yearly};
-use crate::times::{has_line, read_times, the_line};
+use crate::times::{has_line, read_times};
 use cal_rules::{RuleText, one_rule};
 use ical_lines::{Fault, Refusal};
-use ical_tree::Component;
+use ical_tree::{Component, Properties};
 use ical_values::local_time::one_local_time;
 use ical_values::offset::one_offset;
 use std::alloc::Global;
@@ -71,11 +71,20 @@ fn read_zone(alloc: Global, zone: &Component) -> Result<Zone, Fault>
     let Some(part) = first_part(zone) else {
         return Err(Fault::Refused(Refusal::ZONE_SHAPE));
     };
-    let first = read_times(part)?;
-    if all_keep(zone, first.offset_from)? {
+    let first = times_of(alloc, part)?;
+    if all_keep(alloc, zone, first.offset_from)? {
         return Ok(Zone::keeping(first));
     }
     read_changing(alloc, zone)
+}
+
+/// The times of a part. Refused where they are wrong.
+fn times_of(alloc: Global, part: &Component) -> Result<Observance, Fault>
+    ensures says { IfOk result (λ o. SaysTimes (component_lines part.now) (observance_of o)) }
+    ensures stands { IfErr result (RefusesBy (TimesFault (component_lines part.now))) }
+{
+    let properties = Properties::of(alloc, part)?;
+    Ok(read_times(&properties)?)
 }
 
 /// Are both these its offsets?
@@ -90,26 +99,26 @@ fn has_offset(observance: &Observance, offset: i32) -> bool
 }
 
 /// Does a part say that offset alone? Refused where its times are wrong.
-fn keeps(part: &Component, offset: i32) -> Result<bool, Refusal>
+fn keeps(alloc: Global, part: &Component, offset: i32) -> Result<bool, Fault>
     ensures yes { IfOk result (λ b. b ≡ true → Keeps offset (component_lines part.now)) }
     ensures no { IfOk result (λ b. b ≡ false → Strays offset (component_lines part.now)) }
-    ensures stands { IfErr result (λ e. TimesFault (component_lines part.now) e.number) }
+    ensures stands { IfErr result (RefusesBy (TimesFault (component_lines part.now))) }
 {
-    let times = read_times(part)?;
+    let times = times_of(alloc, part)?;
     Ok(has_offset(&times, offset))
 }
 
 /// Do all parts say that offset alone? Refused where the times of one are wrong.
-fn all_keep(zone: &Component, offset: i32) -> Result<bool, Refusal>
+fn all_keep(alloc: Global, zone: &Component, offset: i32) -> Result<bool, Fault>
     ensures yes { IfOk result (λ b. b ≡ true
         → (part : List (List ℕ)) → Contains (parts_of zone.now) part → Keeps offset part) }
     ensures no { IfOk result (λ b. b ≡ false
         → (part : List (List ℕ)) × Contains (parts_of zone.now) part × Strays offset part) }
-    ensures stands { IfErr result (λ e. SomeTimesFault (parts_of zone.now) e.number) }
+    ensures stands { IfErr result (RefusesBy (SomeTimesFault (parts_of zone.now))) }
 {
     for child in zone.children() {
         if is_part(child) {
-            if !keeps(child, offset)? {
+            if !keeps(alloc, child, offset)? {
                 return Ok(false);
             }
         }
@@ -124,22 +133,23 @@ fn read_changing(alloc: Global, zone: &Component) -> Result<Zone, Fault>
     ensures stands { IfErr result (RefusesBy (HasFault zone.now)) }
 {
     match only_part(zone) {
-        Some(part) => Ok(read_single(part)?),
+        Some(part) => read_single(alloc, part),
         None => read_pair(alloc, zone),
     }
 }
 
 /// The zone of one part. Refused with 40 where it has a rule, with 41 where its offsets lie over 12 hours
 /// apart, and where its times are wrong.
-fn read_single(part: &Component) -> Result<Zone, Refusal>
+fn read_single(alloc: Global, part: &Component) -> Result<Zone, Fault>
     ensures says { IfOk result (λ z. SaysSingle (component_lines part.now) (zone_of z)) }
-    ensures stands { IfErr result (λ e. SingleFault (component_lines part.now) e.number) }
+    ensures stands { IfErr result (RefusesBy (SingleFault (component_lines part.now))) }
 {
-    let observance = read_times(part)?;
-    if has_line(part, "RRULE") {
-        return Err(Refusal::ZONE_SHAPE);
+    let properties = Properties::of(alloc, part)?;
+    let observance = read_times(&properties)?;
+    if has_line(&properties, "RRULE") {
+        return Err(Fault::Refused(Refusal::ZONE_SHAPE));
     }
-    Zone::single(observance)
+    Ok(Zone::single(observance)?)
 }
 
 /// The zone of one STANDARD and one DAYLIGHT.
@@ -174,18 +184,19 @@ fn read_yearly(alloc: Global, part: &Component) -> Result<Observance, Fault>
     ensures has_rule { IfOk result (λ o. o.rule ≡ None → ⊥) }
     ensures stands { IfErr result (RefusesBy (YearlyFault (component_lines part.now))) }
 {
-    let times = read_times(part)?;
-    let rule = read_rule(alloc, part)?;
+    let properties = Properties::of(alloc, part)?;
+    let times = read_times(&properties)?;
+    let rule = read_rule(alloc, &properties)?;
     Ok(times.with_rule(rule))
 }
 
 /// The rule of a part. Refused with 40 where RRULE is missing, stands twice or names no one day of the year.
-fn read_rule(alloc: Global, part: &Component) -> Result<Yearly, Fault>
+fn read_rule(alloc: Global, properties: &Properties<'_>) -> Result<Yearly, Fault>
     ensures says { IfOk result (λ r.
-        lines.Says (codes "RRULE") true IsYearLine (component_lines part.now) (Some (rule_named r.month r.days))) }
-    ensures stands { IfErr result (RefusesBy (λ n. (n ≡ 40) × HasNoYearRule (component_lines part.now))) }
+        lines.Says (codes "RRULE") true IsYearLine properties.now (Some (rule_named r.month r.days))) }
+    ensures stands { IfErr result (RefusesBy (λ n. (n ≡ 40) × HasNoYearRule properties.now)) }
 {
-    let line = the_line(part, "RRULE")?;
+    let line = properties.required("RRULE", Refusal::ZONE_SHAPE)?;
     read_year(alloc, line.value())
 }
 

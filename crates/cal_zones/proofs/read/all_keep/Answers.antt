@@ -2,10 +2,10 @@ use Rattle.std.proofs.Common.{◌≡◌, ◌<◌, ◌≤◌, ℕ, ℤ, List, len
 use Rattle.std.specs.Prelude.{Contains}
 use Rattle.ical_tree.specs.Tree.{component_lines, component_children}
 use Rattle.ical_tree.specs.declared.component.Component.{Component}
-use Rattle.profile.specs.ZoneTexts.{is_part, Keeps, Strays}
+use Rattle.profile.specs.ZoneTexts.{is_part, Keeps, Strays, TimesFault}
 use Rattle.cal_zones.specs.Read.{SomeTimesFault, parts_of}
 use Rattle.cal_zones.proofs.PartLemmas.{is_among, drop_other, drop_part, all_left, none_left}
-use Rattle.ical_values.proofs.Exits.{refusal_exit}
+use Rattle.cal_zones.proofs.Reading.{fault_exit}
 use Rattle.cal_zones.proofs.read.all_keep.Goals as goal
 use Rattle.cal_zones.proofs.read.all_keep.Goals.{then-is_part+in_ok-keeps+else-not-branch, else-is_part}
 
@@ -17,8 +17,8 @@ returns-in_err-keeps-clause-stands c =
     let same = c.children-child-items.ensures in
     let within = subst (λ (l : List Component). i < length l) same c.loop-child-test.true in
     let here = subst (λ (l : List Component). x ≡ get_or l i x) same c.child-item.is in
-    refusal_exit _ (SomeTimesFault (parts_of c.args.zone.now)) _ c.from_residual.ensures.1
-    (component_lines x, is_among is_part all i x within here (sym c.if-is_part.ensures), c.in_err-keeps.ensures.stands)
+    fault_exit _ (SomeTimesFault (parts_of c.args.zone.now)) (TimesFault (component_lines x)) _
+    (λ n h. (component_lines x, is_among is_part all i x within here (sym c.if-is_part.ensures), h)) c.from_residual.ensures.1 c.in_err-keeps.ensures.stands
 
 pub returns-then-not-branch-clause-no : goal.returns-then-not-branch-clause-no
 returns-then-not-branch-clause-no c h =

@@ -1,18 +1,20 @@
 use Rattle.ical_tree.specs.Tree.{component_lines}
-use Rattle.ical_lines.specs.Fault.{RefusesBy}
+use Rattle.std.proofs.lemmas.Result.{IfOk-weaker}
 use Rattle.cal_zones.specs.Kinds.{zone_of}
-use Rattle.cal_zones.specs.Read.{HasFault, parts_of, standards_of, daylights_of}
-use Rattle.cal_zones.proofs.Reading.{single_says, single_fault}
-use Rattle.ical_values.proofs.Exits.{err_exit}
+use Rattle.cal_zones.specs.Read.{Says, HasFault, SaysSingle, SingleFault, parts_of, standards_of, daylights_of}
+use Rattle.cal_zones.proofs.Reading.{weaker_fault, single_says, single_fault}
 use Rattle.cal_zones.proofs.read.read_changing.Goals as goal
 
-pub returns-in_err-read_single-in-Some-clause-stands : goal.returns-in_err-read_single-in-Some-clause-stands
-returns-in_err-read_single-in-Some-clause-stands c =
+pub returns-in-Some-clause-says : goal.returns-in-Some-clause-says
+returns-in-Some-clause-says c =
     let zone = c.args.zone.now in
-    err_exit _ (RefusesBy (HasFault zone)) _ c.from_residual.ensures.1
-    (single_fault (parts_of zone) (standards_of zone) (daylights_of zone) (component_lines c.in-Some.part.now) _ c.requires c.in-Some.ensures.found c.in_err-read_single-in-Some.ensures.stands)
+    let part = component_lines c.in-Some.part.now in
+    IfOk-weaker _ (λ z. SaysSingle part (zone_of z)) (λ z. Says zone (zone_of z))
+    (λ z h. single_says (parts_of zone) (standards_of zone) (daylights_of zone) part (zone_of z) c.requires c.in-Some.ensures.found h) c.read_single.ensures.says
 
-pub returns-in_ok-read_single-in-Some-clause-says : goal.returns-in_ok-read_single-in-Some-clause-says
-returns-in_ok-read_single-in-Some-clause-says c =
+pub returns-in-Some-clause-stands : goal.returns-in-Some-clause-stands
+returns-in-Some-clause-stands c =
     let zone = c.args.zone.now in
-    single_says (parts_of zone) (standards_of zone) (daylights_of zone) (component_lines c.in-Some.part.now) (zone_of c.in_ok-read_single-in-Some.field-0) c.requires c.in-Some.ensures.found c.in_ok-read_single-in-Some.ensures.says
+    let part = component_lines c.in-Some.part.now in
+    weaker_fault _ (SingleFault part) (HasFault zone)
+    (λ n h. single_fault (parts_of zone) (standards_of zone) (daylights_of zone) part n c.requires c.in-Some.ensures.found h) c.read_single.ensures.stands

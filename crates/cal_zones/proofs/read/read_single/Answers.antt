@@ -1,39 +1,41 @@
-use Rattle.std.proofs.Common.{ap}
-use Rattle.std.proofs.lemmas.Result.{IfErr-weaker}
+use Rattle.std.proofs.Common.{ap, codes, subst, sym}
+use Rattle.ical_lines.specs.Fault.{RefusesBy}
 use Rattle.ical_tree.specs.Tree.{component_lines}
 use Rattle.cal_zones.specs.Onsets.{observance_of, rule_of}
 use Rattle.cal_zones.specs.Read.{SingleFault, in_times, has_rule}
-use Rattle.profile.specs.ZoneTexts.{SaysOnce, IsSingleFault}
-use Rattle.cal_zones.proofs.Reading.{single_refused, single_said}
-use Rattle.ical_values.proofs.Exits.{refusal_exit}
+use Rattle.profile.specs.Properties.{IsMissing}
+use Rattle.profile.specs.ZoneTexts.{SaysOnce}
+use Rattle.cal_zones.proofs.Reading.{single_refused}
+use Rattle.ical_values.proofs.Exits.{err_exit}
 use Rattle.cal_zones.proofs.read.read_single.Goals as goal
 
 pub returns-in_err-observance-clause-stands : goal.returns-in_err-observance-clause-stands
 returns-in_err-observance-clause-stands c =
-    refusal_exit _ (SingleFault (component_lines c.args.part.now)) _ c.from_residual.ensures.1 (in_times c.in_err-observance.ensures.stands)
+    err_exit _ (RefusesBy (SingleFault (component_lines c.args.part.now))) _ c.from_residual-in_err-observance.ensures.1
+    (in_times (rw c.in_ok-properties.ensures at c.in_err-observance.ensures.stands))
 
 pub returns-then-has_line-clause-stands : goal.returns-then-has_line-clause-stands
-returns-then-has_line-clause-stands c = has_rule (c.has_line.ensures.stands c.if-has_line.true)
+returns-then-has_line-clause-stands c =
+    has_rule (λ missing. c.has_line.ensures.stands c.if-has_line.true (subst (IsMissing (codes "RRULE")) (sym c.in_ok-properties.ensures) missing))
 
 pub returns-clause-says : goal.returns-clause-says
 returns-clause-says c =
-    let lines = component_lines c.args.part.now in
     let o = c.in_ok-observance.observance in
-    let once : SaysOnce lines (observance_of o) = record {
-      times = c.in_ok-observance.ensures.says;
-      no_rule = c.has_line.ensures.missing c.if-has_line.false;
+    let once : SaysOnce (component_lines c.args.part.now) (observance_of o) = record {
+      times = rw c.in_ok-properties.ensures at c.in_ok-observance.ensures.says;
+      no_rule = subst (IsMissing (codes "RRULE")) c.in_ok-properties.ensures (c.has_line.ensures.missing c.if-has_line.false);
       is = ap (rule_of o.day) c.in_ok-observance.ensures.no_rule;
     } in
-    single_said _ lines o once c.single.ensures.ok c.single.ensures.accepted
+    (observance_of o, c.in_ok-single.ensures.ok, once, c.in_ok-single.ensures.accepted.1)
 
-pub returns-clause-stands : goal.returns-clause-stands
-returns-clause-stands c =
+pub returns-in_err-single-clause-stands : goal.returns-in_err-single-clause-stands
+returns-in_err-single-clause-stands c =
     let lines = component_lines c.args.part.now in
     let o = c.in_ok-observance.observance in
     let once : SaysOnce lines (observance_of o) = record {
-      times = c.in_ok-observance.ensures.says;
-      no_rule = c.has_line.ensures.missing c.if-has_line.false;
+      times = rw c.in_ok-properties.ensures at c.in_ok-observance.ensures.says;
+      no_rule = subst (IsMissing (codes "RRULE")) c.in_ok-properties.ensures (c.has_line.ensures.missing c.if-has_line.false);
       is = ap (rule_of o.day) c.in_ok-observance.ensures.no_rule;
     } in
-    IfErr-weaker _ (λ e. IsSingleFault e.number (observance_of o)) (λ e. SingleFault lines e.number)
-    (λ e h. single_refused lines o e.number once c.in_ok-observance.ensures.no_rule h) c.single.ensures.refuses
+    err_exit _ (RefusesBy (SingleFault lines)) _ c.from_residual-in_err-single.ensures.1
+    (single_refused lines o _ once c.in_ok-observance.ensures.no_rule c.in_err-single.ensures.refuses)

@@ -1,7 +1,9 @@
-use Rattle.std.proofs.Common.{◌≡◌, ap, sym, inl, inr}
+use Rattle.std.proofs.Common.{◌≡◌, ap, codes, subst, sym, inl, inr, List, ℕ}
 use Rattle.ical_lines.specs.Fault.{RefusesBy}
 use Rattle.ical_tree.specs.Tree.{component_lines}
-use Rattle.profile.specs.ZoneTexts.{HasNoYearRule}
+use Rattle.std.specs.Prelude.{Some, true}
+use Rattle.profile.specs.Properties.{Says}
+use Rattle.profile.specs.ZoneTexts.{HasNoYearRule, IsYearLine}
 use Rattle.cal_zones.specs.Shapes.{rule_named}
 use Rattle.cal_zones.specs.Onsets.{observance_of, rule_of}
 use Rattle.cal_zones.specs.Read.{YearlyFault}
@@ -11,12 +13,14 @@ use Rattle.cal_zones.proofs.read.read_yearly.Goals as goal
 
 pub returns-in_err-times-clause-stands : goal.returns-in_err-times-clause-stands
 returns-in_err-times-clause-stands c =
-    err_exit _ (RefusesBy (YearlyFault (component_lines c.args.part.now))) _ c.from_residual.ensures.1 (inl c.in_err-times.ensures.stands)
+    err_exit _ (RefusesBy (YearlyFault (component_lines c.args.part.now))) _ c.from_residual-in_err-times.ensures.1
+    (inl (rw c.in_ok-properties.ensures at c.in_err-times.ensures.stands))
 
 pub returns-in_err-rule-clause-stands : goal.returns-in_err-rule-clause-stands
 returns-in_err-rule-clause-stands c =
-    let lines = component_lines c.args.part.now in
-    fault_exit _ (YearlyFault lines) (λ n. (n ≡ 40) × HasNoYearRule lines) _ (λ n h. inr h) c.from_residual-in_err-rule.ensures.1 c.in_err-rule.ensures.stands
+    let own = c.in_ok-properties.properties in
+    fault_exit _ (YearlyFault (component_lines c.args.part.now)) (λ n. (n ≡ 40) × HasNoYearRule own) _
+    (λ n h. inr (h.0, subst HasNoYearRule c.in_ok-properties.ensures h.1)) c.from_residual-in_err-rule.ensures.1 c.in_err-rule.ensures.stands
 
 pub returns-clause-says : goal.returns-clause-says
 returns-clause-says c =
@@ -25,8 +29,8 @@ returns-clause-says c =
     let e = c.with_rule.ensures in
     let rule = c.in_ok-rule.rule in
     record {
-      times = same_times lines (observance_of c.in_ok-times.times) (observance_of new) (sym e.day) (sym e.second) (sym e.from) (sym e.to) c.in_ok-times.ensures.says;
+      times = same_times lines (observance_of c.in_ok-times.times) (observance_of new) (sym e.day) (sym e.second) (sym e.from) (sym e.to) (rw c.in_ok-properties.ensures at c.in_ok-times.ensures.says);
       each = rule_named rule.month rule.days;
-      rule = c.in_ok-rule.ensures.says;
+      rule = subst (λ (ls : List (List ℕ)). Says (codes "RRULE") true IsYearLine ls (Some (rule_named rule.month rule.days))) c.in_ok-properties.ensures c.in_ok-rule.ensures.says;
       is = ap (rule_of new.day) e.rule;
     }

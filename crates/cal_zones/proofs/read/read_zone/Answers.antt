@@ -1,13 +1,11 @@
 use Rattle.std.proofs.Common.{◌≡◌, sym, subst, ℤ, to_z, of_z, w32}
-use Rattle.ical_lines.specs.Fault.{RefusesBy}
 use Rattle.ical_tree.specs.Tree.{component_lines}
 use Rattle.profile.specs.Zones.{Zone}
-use Rattle.profile.specs.ZoneTexts.{PartsSay, Keeps, Strays, no_part, in_part, constant}
+use Rattle.profile.specs.ZoneTexts.{PartsSay, Keeps, Strays, TimesFault, no_part, in_part, constant}
 use Rattle.cal_zones.specs.Onsets.{observance_of}
-use Rattle.cal_zones.specs.Read.{HasFault, parts_of, standards_of, daylights_of}
+use Rattle.cal_zones.specs.Read.{HasFault, SomeTimesFault, parts_of, standards_of, daylights_of}
 use Rattle.cal_zones.proofs.Casts.{narrow}
-use Rattle.cal_zones.proofs.Reading.{some_times_fault}
-use Rattle.ical_values.proofs.Exits.{err_exit}
+use Rattle.cal_zones.proofs.Reading.{fault_exit, some_times_fault}
 use Rattle.cal_zones.proofs.read.read_zone.Goals as goal
 
 pub returns-in_default-clause-stands : goal.returns-in_default-clause-stands
@@ -15,13 +13,14 @@ returns-in_default-clause-stands c = no_part c.in_default.ensures.none
 
 pub returns-in_err-first-clause-stands : goal.returns-in_err-first-clause-stands
 returns-in_err-first-clause-stands c =
-    err_exit _ (RefusesBy (HasFault c.args.zone.now)) _ c.from_residual.ensures.1 (in_part (component_lines c.in-Some.part.now) c.in-Some.ensures.found c.in_err-first.ensures.stands)
+    let part = component_lines c.in-Some.part.now in
+    fault_exit _ (HasFault c.args.zone.now) (TimesFault part) _ (λ n h. in_part part c.in-Some.ensures.found h) c.from_residual.ensures.1 c.in_err-first.ensures.stands
 
 pub returns-in_err-all_keep-clause-stands : goal.returns-in_err-all_keep-clause-stands
 returns-in_err-all_keep-clause-stands c =
     let zone = c.args.zone.now in
-    err_exit _ (RefusesBy (HasFault zone)) _ c.from_residual-in_err-all_keep.ensures.1
-    (some_times_fault (parts_of zone) (standards_of zone) (daylights_of zone) _ c.in_err-all_keep.ensures.stands)
+    fault_exit _ (HasFault zone) (SomeTimesFault (parts_of zone)) _ (some_times_fault (parts_of zone) (standards_of zone) (daylights_of zone))
+    c.from_residual-in_err-all_keep.ensures.1 c.in_err-all_keep.ensures.stands
 
 pub returns-then-branch-clause-says : goal.returns-then-branch-clause-says
 returns-then-branch-clause-says c =

@@ -1,9 +1,8 @@
-use Rattle.std.proofs.Common.{◌≡◌, sym, subst, inl, inr, ℤ, List, ℕ}
+use Rattle.std.proofs.Common.{◌≡◌, ap, sym, subst, inl, inr, ℤ, List, ℕ}
 use Rattle.std.specs.Prelude.{Some, true}
 use Rattle.std.proofs.lemmas.Result.{IfOk-weaker}
 use Rattle.ical_lines.specs.Text.{line_text}
 use Rattle.ical_lines.specs.declared.fault.Refusal.{Refusal}
-use Rattle.ical_tree.specs.Tree.{component_lines}
 use Rattle.ical_tree.proofs.OneLine.{the_line}
 use Rattle.profile.specs.Values.{SpellsOffset}
 use Rattle.profile.specs.Properties.{Says}
@@ -15,12 +14,12 @@ use Rattle.cal_zones.proofs.times.read_offset.Goals as goal
 
 pub returns-in_err-line-clause-stands : goal.returns-in_err-line-clause-stands
 returns-in_err-line-clause-stands c =
-    refusal_exit _ (OffsetFault c.args.name.now (component_lines c.args.part.now)) _ c.from_residual.ensures.1
-    (inl (c.in_err-line.ensures.refuses, c.in_err-line.ensures.faulty))
+    refusal_exit _ (OffsetFault c.args.name.now c.args.properties.now) _ c.from_residual.ensures.1
+    (inl (ap (λ (e : Refusal). e.number) c.in_err-line.ensures.refuses, c.in_err-line.ensures.faulty))
 
 pub returns-clause-says : goal.returns-clause-says
 returns-clause-says c =
-    let lines = component_lines c.args.part.now in
+    let lines = c.args.properties.now in
     let line = line_text c.in_ok-line.line in
     let name = c.args.name.now in
     IfOk-weaker _ (SpellsOffset c.value.result.now) (λ t. Says name true IsOffsetLine lines (Some t))
@@ -28,7 +27,7 @@ returns-clause-says c =
 
 pub returns-clause-stands : goal.returns-clause-stands
 returns-clause-stands c =
-    let lines = component_lines c.args.part.now in
+    let lines = c.args.properties.now in
     let line = line_text c.in_ok-line.line in
     let name = c.args.name.now in
     let No : Refusal → Type 0 = λ _. (offset : ℤ) → SpellsOffset c.value.result.now offset → ⊥ in

@@ -1,6 +1,5 @@
 use Rattle.std.proofs.Common.{codes, sym, subst, ℤ}
 use Rattle.std.specs.Prelude.{Some, true}
-use Rattle.ical_tree.specs.Tree.{component_lines}
 use Rattle.profile.specs.Properties.{Says}
 use Rattle.profile.specs.ZoneTexts.{IsLocalLine, IsOffsetLine, TimesFault, dates}
 use Rattle.cal_zones.proofs.Reading.{from_fault, to_fault}
@@ -12,21 +11,21 @@ returns-then-has_line-clause-stands c = dates (c.has_line.ensures.stands c.if-ha
 
 pub returns-in_err-start-clause-stands : goal.returns-in_err-start-clause-stands
 returns-in_err-start-clause-stands c =
-    refusal_exit _ (TimesFault (component_lines c.args.part.now)) _ c.from_residual.ensures.1 c.in_err-start.ensures.stands
+    refusal_exit _ (TimesFault c.args.properties.now) _ c.from_residual.ensures.1 c.in_err-start.ensures.stands
 
 pub returns-in_err-from-clause-stands : goal.returns-in_err-from-clause-stands
 returns-in_err-from-clause-stands c =
-    let lines = component_lines c.args.part.now in
+    let lines = c.args.properties.now in
     refusal_exit _ (TimesFault lines) _ c.from_residual-in_err-from.ensures.1 (from_fault lines _ c.in_err-from.ensures.stands)
 
 pub returns-in_err-to-clause-stands : goal.returns-in_err-to-clause-stands
 returns-in_err-to-clause-stands c =
-    let lines = component_lines c.args.part.now in
+    let lines = c.args.properties.now in
     refusal_exit _ (TimesFault lines) _ c.from_residual-in_err-to.ensures.1 (to_fault lines _ c.in_err-to.ensures.stands)
 
 pub returns-clause-says : goal.returns-clause-says
 returns-clause-says c =
-    let lines = component_lines c.args.part.now in
+    let lines = c.args.properties.now in
     record {
       start = subst (λ (t : ℤ). Says (codes "DTSTART") true IsLocalLine lines (Some t)) (sym c.new.ensures.start) c.in_ok-start.ensures.says;
       second = c.new.result.starts.2;
