@@ -1,23 +1,12 @@
 -- What `expand` prints, put together.
-use Rattle.std.proofs.Common.{◌≡◌, ◌∙◌, ap, sym, refl, ℕ, ◌+◌, List, [], ◌∷◌, ◌++◌, append_assoc, append-nil, length-append, Option, ℤ, pos, ◌+ℤ◌, ◌-ℤ◌, ◌*◌, ◌/◌, ◌%◌, subst, arith}
-use Rattle.std.proofs.lemmas.Int.{ints, int_rem_euclid_is}
-use Rattle.std.specs.Int.{int_rem_euclid}
-use Rattle.std.specs.Prelude.{unsigned_abs}
+use Rattle.std.proofs.Common.{◌≡◌, ◌∙◌, ap, sym, ℕ, ◌+◌, List, [], ◌∷◌, ◌++◌, append_assoc, append-nil, length-append, Option, subst}
 use Rattle.std.proofs.lemmas.List.Folds.{concat-append}
 use Rattle.std.proofs.KnownBytes.{Appends-trans}
 use Rattle.std.specs.List.{concat}
 use Rattle.std.specs.Io.KnownBytes.{Appends}
-use Rattle.profile.specs.Values.{IsClockSeconds}
 use Rattle.profile.specs.Zones.{Zone}
 use Rattle.cal_events.proofs.EventLemmas.{push_zip}
-use Rattle.sched_cli.specs.Expanding.{IsPrintedOn, IsSecondOf, IsHandedOver, PrintsFirst, PrintsUpTo}
-
--- the second of its day that a local time shows
-pub second_is : (local rest : ℤ) → IsClockSeconds local → rest ≡ int_rem_euclid local (pos 86_400) → (second : ℕ) × (rest ≡ pos second) × IsSecondOf local second
-second_is local rest range is =
-    let m = unsigned_abs (local +ℤ pos 62_135_596_800) in
-    let e : local +ℤ pos (719_162 * 86_400) ≡ pos m = omega (arith, ints, range) in
-    (m % 86_400, is ∙ int_rem_euclid_is local (pos 86_400) 86_400 719_162 m (omega arith) refl e, (omega arith, (pos (m / 86_400) -ℤ pos 719_162, omega (arith, ints, e))))
+use Rattle.sched_cli.specs.Expanding.{IsPrintedOn, IsHandedOver, PrintsFirst, PrintsUpTo}
 
 -- ---- what was handed over
 

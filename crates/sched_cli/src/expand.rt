@@ -113,7 +113,7 @@ impl Series {
         ensures { OnOk result ((second : ℕ) × IsSecondOf self.now.times.start.local second × PrintsFirst (zone_of self.now.times.start.zone) second self.now.times.seconds limit
             (rule_days_from rule.now rule.now.pattern.start) (W.contents writer.old) (W.contents writer.new) lines.new.text.items) }
     {
-        let second = second_of(self.times.start.local);
+        let (_, second) = self.times.start.local.day_and_second();
         let mut days = rule.days(rule.start());
         for count in 0..limit {
             let Some(day) = days.next() else {
@@ -290,9 +290,7 @@ fn rule_text(alloc: Global, properties: &Properties<'_>) -> Result<Option<RuleTe
 /// The rule of a text, for an event that starts then. Its days are those of the start's own clock.
 /// Refused: 34 where the start isn't one of its days.
 fn rule_from(text: RuleText, start: &ZonedTime) -> Result<Rule, Fault> {
-    let Some(day) = day_of(start.local) else {
-        return Err(Fault::Refused(Refusal::OUT_OF_DATES));
-    };
+    let (day, _) = start.local.day_and_second();
     match last_day(text.until(), start) {
         Some(last) => Rule::new(text, day, last),
         None => Err(Fault::Refused(Refusal::START_OUTSIDE_RULE)),
@@ -318,7 +316,8 @@ fn day_until(until: &Until, start: &ZonedTime) -> Option<Day> {
 
 /// The last day whose start isn't past an instant.
 fn last_day_at(start: &ZonedTime, until: i64) -> Option<Day> {
-    start.zone.last_day(second_of(start.local), until)
+    let (_, second) = start.local.day_and_second();
+    start.zone.last_day(second, until)
 }
 
 /// The instant at which an instance starts on a day: at that second of the day on the clock of the zone.
@@ -327,20 +326,6 @@ fn start_on(start: &ZonedTime, day: Day, second: u32) -> Option<i64>
     ensures range { IfSome result IsNearEpoch }
     ensures none { IfNone result (IsClockSeconds (local_time (day_index day) second) → ⊥) }
 {
-    let Some(local) = LocalTime::of_seconds(day.number() * DAY_SECONDS + i64::from(second)) else {
-        return None;
-    };
+    let local = LocalTime::of_seconds(day.number() * DAY_SECONDS + i64::from(second))?;
     Some(start.zone.resolve(local))
-}
-
-/// The day of a local time.
-fn day_of(local: LocalTime) -> Option<Day> {
-    Day::of_number(local.seconds().div_euclid(DAY_SECONDS))
-}
-
-/// The second of its day.
-fn second_of(local: LocalTime) -> u32
-    ensures { IsSecondOf local result }
-{
-    local.seconds().rem_euclid(DAY_SECONDS) as u32
 }

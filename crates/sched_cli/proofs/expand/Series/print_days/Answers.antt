@@ -12,7 +12,7 @@ loop-count-preserved g c =
     let moved = c.in_ok-print_day.ensures.line in
     record {
       length = c.print_day.ensures.length ∙ i.length;
-      printed = one_more (zone_of c.args.self.now.times.start.zone) c.second_of-second.result c.args.self.now.times.seconds c.loop-count.count (day_index c.in-Some.day)
+      printed = one_more (zone_of c.args.self.now.times.start.zone) c.day_and_second-second.result.1 c.args.self.now.times.seconds c.loop-count.count (day_index c.in-Some.day)
           (rule_days_from c.args.rule.now c.args.rule.now.pattern.start) (days_left c.loop-count.days) (days_left c.next.new.self)
           (g.W.Write.contents c.args.writer.now) (g.W.Write.contents c.loop-count.writer) (g.W.Write.contents c.print_day.new.writer)
           c.loop-count.lines.text.items c.print_day.new.lines.text.items moved.0 c.in-Some.ensures.steps moved.1 moved.2 i.printed;
