@@ -1,4 +1,4 @@
-use Rattle.std.proofs.Common.{◌∙◌}
+use Rattle.std.proofs.Common.{◌∙◌, List, ℕ}
 use Rattle.profile.specs.Days.{day_index}
 use Rattle.profile.specs.Rules.{rule_days_from}
 use Rattle.cal_rules.specs.Left.{days_left}
@@ -11,7 +11,7 @@ loop-count-preserved g c =
     let i = c.loop-count.invariant in
     let moved = c.in_ok-print_day.ensures.line in
     record {
-      length = c.print_day.ensures.length ∙ i.length;
+      length = ◌∙◌ {A = List ℕ} c.print_day.ensures.length i.length;
       printed = one_more (zone_of c.args.self.now.times.start.zone) c.day_and_second-second.result.1 c.args.self.now.times.seconds c.loop-count.count (day_index c.in-Some.day)
           (rule_days_from c.args.rule.now c.args.rule.now.pattern.start) (days_left c.loop-count.days) (days_left c.next.new.self)
           (g.W.Write.contents c.args.writer.now) (g.W.Write.contents c.loop-count.writer) (g.W.Write.contents c.print_day.new.writer)
