@@ -1,4 +1,4 @@
-//! A room's calendar: the instances that are confirmed in it, in the calendar's order. By now each
+//! A room's calendar: the instances that are confirmed in it, in the calendar's order. So far each
 //! is a single: an instance of no series.
 ghost use Rattle.std.specs.Prelude.{◌≡◌, ◌≢◌, ◌+◌, ◌<◌, ◌<ℤ◌, ◌≤ℤ◌, map, length, slice_index_or, IfOk, IfErr, IfNone, IfSome, MatchBool, IsPermutation, IsSortedByKey};
 ghost use Rattle.std.specs.List.{AllAdjacentBelow};
@@ -88,7 +88,7 @@ impl Calendar {
         self.bookings.len() as u64
     }
 
-    /// How many confirmed series there are: none by now.
+    /// How many confirmed series there are: none yet.
     pub fn series_count(&self) -> u64
         ensures { result ≡ 0 }
     {

@@ -1,5 +1,5 @@
 //! One VEVENT, read: its values, judged one property after another in a fixed order, and then
-//! together (RFC 5545 3.6.1). By now single events with UTC times alone are read.
+//! together (RFC 5545 3.6.1). So far only single events with UTC times are read.
 ghost use Rattle.std.specs.Prelude.{ℕ, List, ◌≡◌, ◌⊎◌, ◌↔◌, ◌≤◌, ◌^◌, ◌++◌, ◌<ℤ◌, length, Bool, Some, map, codes, pos, negsuc, ◌+ℤ◌, ◌≤ℤ◌, option_map, true, IfOk, IfErr, OnOk, IsTrue};
 ghost use Rattle.std.specs.List.{AllZip};
 ghost use Rattle.ical_lines.specs.Fault.{RefusesOnly, RefusesBy};

@@ -1,5 +1,5 @@
 //! When an event starts and how long it lasts, where DTSTART and DTEND may have TZID (RFC 5545 3.6.1): first its three
-//! properties as they are said, then all of them together. By now days in a DURATION aren't read beside a DTSTART with TZID.
+//! properties as they are said, then all of them together. Days in a DURATION aren't read yet beside a DTSTART with TZID.
 
 ghost use Rattle.std.specs.Prelude.{◌≡◌, ◌↔◌, ℕ, List, Some, ◌+ℤ◌, IfOk, IfErr, OnOk, OnErr, IfSome, IfNone, IsTrue};
 ghost use Rattle.ical_lines.specs.Fault.{RefusesBy};

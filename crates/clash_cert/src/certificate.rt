@@ -1,5 +1,5 @@
 //! The text of a certificate: lines ended by LF, `ROOMCERT 1`, `SINGLES k`, `SERIES n`, `DONE`,
-//! and nothing after. Numbers are decimal, of 64 bits, without leading zeros. By now `n` is 0.
+//! and nothing after. Numbers are decimal, of 64 bits, without leading zeros. So far `n` is 0.
 ghost use Rattle.std.specs.Prelude.{ℕ, List, ◌≡◌, ◌^◌, ◌<◌, ◌∷◌, ◌++◌, take, length, decimal, position, ◌==◌, IfOk, IfErr, OnOk, OnErr, MatchOption};
 ghost use Rattle.profile.specs.Certificates.{Claims, FirstWrong, Spells, text_of};
 ghost use Rattle.clash_cert.specs.Texts.{IsCertFault, Lacks, LacksLine, LacksCount, LacksLf, IsCutAtLf, IsNoNumber};
@@ -91,7 +91,7 @@ impl Certificate {
         self.singles
     }
 
-    /// How many series it says there are: none by now.
+    /// How many series it says there are: none yet.
     pub fn series(&self) -> u64
         ensures { result ≡ 0 }
     {

@@ -39,7 +39,7 @@ impl Why {
     /// A count isn't the calendar's.
     pub const COUNTS: u8 = 82;
 
-    /// An entry doesn't stand; by now no certificate has entries.
+    /// An entry doesn't stand; no certificate has entries yet.
     pub const ENTRY: u8 = 83;
 
     /// A single clashes with another.

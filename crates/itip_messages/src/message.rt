@@ -1,5 +1,5 @@
 //! A message, read: its method, its meeting, and what each VEVENT says (RFC 5546 1.4, 3.2).
-//! By now REQUEST alone is read.
+//! Only REQUEST is read so far.
 ghost use Rattle.std.specs.Prelude.{◌≡◌, ◌++◌, [], true, false, codes, length, map, option_map, unwrap_or, IsTrue, IsSome, IfOk, IfErr, OnOk};
 ghost use Rattle.std.specs.List.{list_all, list_any, AllZip};
 ghost use Rattle.ical_lines.specs.Fault.{RefusesOnly, RefusesBy};

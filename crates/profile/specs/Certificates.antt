@@ -2,7 +2,7 @@
 use Rattle.std.specs.Prelude.{ℕ, ℤ, List, [], ◌∷◌, ◌++◌, ◌-◌, ◌^◌, ◌<◌, ◌≤◌, ◌≡◌, ◌≢◌, length, take, codes, decimal}
 use Rattle.profile.specs.Instances.{Booked, IsClash, IsClear}
 
--- what a certificate says of its calendar: how many singles it has; by now no series
+-- what a certificate says of its calendar: how many singles it has; no series yet
 pub record Claims : Type 0 where
   pub singles : ℕ
 

@@ -1,4 +1,4 @@
--- What a room writes, as octets: its replies, its kept calendar and the certificate for it. By now a meeting has one slot.
+-- What a room writes, as octets: its replies, its kept calendar and the certificate for it. So far a meeting has one slot.
 use Rattle.std.specs.Prelude.{◌≡◌, ℕ, Bool, true, not, ◌&&◌, ◌==◌, IsTrue, List, [], ◌∷◌, ◌++◌, length, filter, codes, decimal, Contains, Option, Some, None}
 use Rattle.std.specs.List.{flat_map, list_all, AllZip}
 use Rattle.profile.specs.Lines.{written}

@@ -1,4 +1,4 @@
--- Messages: their meeting, the parts that they have for a room, and replies (RFC 5546 1.4, 3.2). By now a REQUEST of one VEVENT.
+-- Messages: their meeting, the parts that they have for a room, and replies (RFC 5546 1.4, 3.2). So far a REQUEST of one VEVENT.
 use Rattle.std.specs.Prelude.{◌≡◌, ℕ, ◌/◌, ◌%◌, ◌+◌, ◌<◌, Bool, true, false, ◌&&◌, ◌||◌, ◌==◌, if◌then◌else◌, nat_lt, List, [], ◌∷◌, ◌++◌, length, codes, decimal, Contains, Option, Some, None, unwrap_or, ℤ}
 use Rattle.std.specs.List.{flat_map, list_any, list_all, AllZip}
 use Rattle.std.specs.Str.{bytes_eq}

@@ -91,7 +91,7 @@ abbrev pub Decides : List Booked → Outcome → Type 0
 Decides all Accept = (length all ≤ most_singles) × IsClear all
 Decides all (Busy first second t) = (length all ≤ most_singles) × NamesClash all first second t
 Decides all SinglesLimit = most_singles < length all
--- there are no series by now
+-- there are no series yet
 Decides all SeriesLimit = ⊥
 
 -- ---- a step

@@ -1,4 +1,4 @@
--- A stream: its preamble, its objects, and what is answered to them. By now each object is a REQUEST or is refused.
+-- A stream: its preamble, its objects, and what is answered to them. So far each object is a REQUEST or is refused.
 use Rattle.std.specs.Prelude.{◌≡◌, ◌≢◌, ℕ, ◌+◌, ◌<◌, ◌≤◌, ◌⊎◌, Bool, true, false, IsTrue, List, [], ◌∷◌, ◌++◌, length, map, codes, decimal, Option, ℤ, AllPairs}
 use Rattle.std.specs.Option.{option_to_list}
 use Rattle.std.specs.List.{flat_map}

@@ -142,5 +142,5 @@ abbrev pub IsDecision : List Booked → Booked → Outcome → Type 0
 IsDecision all asked Accepted = (length all < most_singles) × IsFree all (span_of asked)
 IsDecision all asked (Declined clash) = (length all < most_singles) × IsClashWith all asked clash
 IsDecision all asked (Limit Singles) = most_singles ≤ length all
--- there are no series by now
+-- there are no series yet
 IsDecision all asked (Limit Series) = ⊥

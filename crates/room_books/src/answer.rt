@@ -38,7 +38,7 @@ pub struct Answer {
     pub kind: Kind,
     /// The REPLY, None where there is nothing to reply.
     pub reply: Option<Vec<u8>>,
-    /// The REFRESH that asks for a meeting, None where the room has it; no message asks for one by now.
+    /// The REFRESH that asks for a meeting, None where the room has it; no message asks for one yet.
     pub refresh: Option<Vec<u8>>,
 }
 

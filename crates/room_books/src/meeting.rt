@@ -1,5 +1,5 @@
 //! What a room keeps of one meeting: the parts taken, and the answer to the part in the view.
-//! By now a meeting has one slot, the whole of it.
+//! So far a meeting has one slot, the whole of it.
 
 ghost use Rattle.std.specs.Prelude.{◌≡◌, IfOk};
 ghost use Rattle.ical_values.specs.Octets.{address_octets, text_octets};

@@ -69,7 +69,7 @@ impl Room {
     }
 
     /// Takes a message at a moment, and answers it. Where memory is refused nothing has changed.
-    /// By now a message has one part for a room, of the whole of its meeting, or isn't addressed to it.
+    /// So far a message has one part for a room, of the whole of its meeting, or isn't addressed to it.
     pub fn take(&mut self, message: &Message, now: Stamp) -> Result<Answer, AllocError>
         // From each book that the room stands for it makes a step of the room machine, with the claims of the message's event.
         ensures steps { IfOk result (λ answer. (event : Event) → StandsFor message.now event → (book : Book) → Stands self.old.meetings.entries book

@@ -1,4 +1,4 @@
-//! The configuration of a box: its rooms, and by now no organisers. It is written in lines, ended by LF
+//! The configuration of a box: its rooms, and no organisers yet. It is written in lines, ended by LF
 //! or CRLF, `room ADDRESS` each, in any order, ended by an empty line or by the end of the input; a
 //! preamble has one line `now STAMP` among them. This format is roombox's own.
 ghost use Rattle.std.specs.Prelude.{◌≡◌, ◌↔◌, ℕ, List, [], Bool, ℤ, Contains, IsTrue, IfOk, IfErr};
@@ -71,7 +71,7 @@ impl Config {
         self.rooms.as_slice()
     }
 
-    /// The organisers, in the order of the lines; by now there are none.
+    /// The organisers, in the order of the lines; there are none yet.
     pub fn organisers(&self) -> &[Address]
         ensures { result.now ≡ [] }
     {

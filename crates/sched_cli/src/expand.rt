@@ -1,5 +1,5 @@
 //! `expand`: the instances of one event, one line each: its original start, its start, and how many seconds it lasts.
-//! By now an event alone in its object; RDATE, EXDATE, RECURRENCE-ID, and days in a DURATION beside a DTSTART with TZID
+//! So far an event alone in its object; RDATE, EXDATE, RECURRENCE-ID, and days in a DURATION beside a DTSTART with TZID
 //! aren't read yet (99).
 
 ghost use Rattle.std.specs.Prelude.{◌≡◌, ◌++◌, ◌∷◌, ◌<◌, ℕ, List, [], decimal, Some, None, OnOk, IfOk, IfSome, IfNone};
