@@ -6,9 +6,9 @@ use Rattle.profile.specs.Rules.{is_base, is_in_step, passes, passes_month, passe
 use Rattle.cal_days.proofs.Dates.{date_counts, date_is}
 use Rattle.cal_zones.specs.Shapes.{is_yearly, IsPlace, pattern_of}
 use Rattle.cal_zones.specs.Bases.{IsOnAsWritten}
-use Rattle.cal_zones.specs.declared.shape.MonthDays.{MonthDays}
-use Rattle.cal_zones.specs.declared.shape.MonthDays.TheVariants.{Day, FromStart, FromEnd, Week}
-use Rattle.cal_zones.specs.declared.shape.Yearly.{Yearly}
+use Rattle.cal_zones.specs.declared.yearly.MonthDays.{MonthDays}
+use Rattle.cal_zones.specs.declared.yearly.MonthDays.TheVariants.{Day, FromStart, FromEnd, Week}
+use Rattle.cal_zones.specs.declared.yearly.Yearly.{Yearly}
 
 -- every year is in step
 in_step : (month : ℕ) (days : MonthDays) (start n : ℕ) → is_in_step (pattern_of month days start) n ≡ true

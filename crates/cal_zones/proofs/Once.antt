@@ -2,9 +2,9 @@
 use Rattle.profile.specs.Zones.{IsZoneOnset}
 use Rattle.cal_zones.specs.Onsets.{observance_of}
 use Rattle.cal_zones.specs.Kinds.{kind_of, zone_of}
-use Rattle.cal_zones.specs.declared.kinds.Kind as rust
-use Rattle.cal_zones.specs.declared.kinds.Kind.TheVariants as the
-use Rattle.cal_zones.specs.declared.kinds.Zone as kept
+use Rattle.cal_zones.specs.declared.zone.Kind as rust
+use Rattle.cal_zones.specs.declared.zone.Kind.TheVariants as the
+use Rattle.cal_zones.specs.declared.zone.Zone as kept
 use Rattle.cal_zones.proofs.Force.{OneAtOnce}
 use Rattle.cal_zones.proofs.Zones.{once_constant, once_single, once_pair}
 

@@ -8,9 +8,9 @@ use Rattle.cal_days.proofs.Dates.{named, named_later, month_days_before_later, d
 use Rattle.cal_days.proofs.Bridge.{days_in_month-later}
 use Rattle.cal_zones.specs.Shapes.{is_yearly, IsPlace}
 use Rattle.cal_zones.specs.Yearly.{IsOn, IsDayOfYear, IsLatestDay, IsFirstDay, HasEarlier}
-use Rattle.cal_zones.specs.declared.shape.MonthDays.{MonthDays}
-use Rattle.cal_zones.specs.declared.shape.MonthDays.TheVariants.{Day, FromStart, FromEnd, Week}
-use Rattle.cal_zones.specs.declared.shape.Yearly.{Yearly}
+use Rattle.cal_zones.specs.declared.yearly.MonthDays.{MonthDays}
+use Rattle.cal_zones.specs.declared.yearly.MonthDays.TheVariants.{Day, FromStart, FromEnd, Week}
+use Rattle.cal_zones.specs.declared.yearly.Yearly.{Yearly}
 
 -- a day's index, by the signed number
 count_of_number : (count : ℕ) (number : ℤ) → pos count -ℤ pos 719_528 ≡ number → count ≡ day_index number

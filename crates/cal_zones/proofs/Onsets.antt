@@ -8,8 +8,8 @@ use Rattle.cal_zones.specs.Shapes.{pattern_of}
 use Rattle.cal_zones.specs.Yearly.{IsOn, IsLatestDay, IsFirstDay}
 use Rattle.cal_zones.specs.Onsets.{observance_of, IsFirstDayOf, IsLatestAfter}
 use Rattle.cal_zones.proofs.Bases.{base_is}
-use Rattle.cal_zones.specs.declared.shape.Yearly.{Yearly}
-use Rattle.cal_zones.specs.declared.shape.Observance.{Observance}
+use Rattle.cal_zones.specs.declared.yearly.Yearly.{Yearly}
+use Rattle.cal_zones.specs.declared.observance.Observance.{Observance}
 
 -- it begins on the days of its rule, from DTSTART's on
 pub begins_is : (o : Observance) (r : Yearly) (n : ℕ) → o.rule ≡ Some r → begins_on (observance_of o) n ≡ true → (o.day ≤ n) × IsOn r n

@@ -13,8 +13,8 @@ use Rattle.profile.specs.ZoneTexts.{parts_by, is_part, is_standard, is_daylight,
 use Rattle.cal_zones.specs.Read as read
 use Rattle.cal_zones.specs.Read.{parts_in, parts_of, standards_of, daylights_of, HasFault, SomeTimesFault, StartFault, IsNotOne, OffsetFault, YearlyFault, SaysSingle, SingleFault, SaysBoth, BothFault, in_times, has_rule, far, in_standard, in_daylight, no_match, no_space}
 use Rattle.cal_zones.specs.Onsets.{observance_of, rule_of}
-use Rattle.cal_zones.specs.declared.shape.Yearly.{Yearly}
-use Rattle.cal_zones.specs.declared.shape.Observance as rust
+use Rattle.cal_zones.specs.declared.yearly.Yearly.{Yearly}
+use Rattle.cal_zones.specs.declared.observance.Observance as rust
 use Rattle.cal_zones.proofs.PartLemmas.{parts_tree}
 
 abbrev Lines : Type 0

@@ -4,8 +4,8 @@ use Rattle.std.specs.Fmt.{signed_decimal}
 use Rattle.std.proofs.lemmas.Bool.Decides.{nat_tests}
 use Rattle.profile.specs.Rules.{is_plain}
 use Rattle.profile.specs.RuleTexts.{weekday_word}
-use Rattle.cal_zones.specs.declared.shape.MonthDays.{MonthDays}
-use Rattle.cal_zones.specs.declared.shape.MonthDays.TheVariants.{Day, FromStart, FromEnd, Week}
+use Rattle.cal_zones.specs.declared.yearly.MonthDays.{MonthDays}
+use Rattle.cal_zones.specs.declared.yearly.MonthDays.TheVariants.{Day, FromStart, FromEnd, Week}
 use Rattle.cal_zones.specs.Shapes.{is_yearly}
 use Rattle.cal_zones.specs.Written.{year_text, week_text}
 use Rattle.cal_zones.proofs.WrittenRules.{numbered, week}

@@ -19,8 +19,8 @@ use Rattle.cal_zones.specs.Apart.{NeverAtOnce}
 use Rattle.cal_zones.proofs.OneDay.{one_a_year, on_later, on_cycles_earlier, year_start_grows}
 use Rattle.cal_zones.proofs.Bases.{base_is}
 use Rattle.cal_zones.proofs.Onsets.{begins_is}
-use Rattle.cal_zones.specs.declared.shape.Yearly.{Yearly}
-use Rattle.cal_zones.specs.declared.shape.Observance.{Observance}
+use Rattle.cal_zones.specs.declared.yearly.Yearly.{Yearly}
+use Rattle.cal_zones.specs.declared.observance.Observance.{Observance}
 
 pub apart_by : (a b : Observance) (n m : ℕ) (x y : ℤ) → x +ℤ a.offset_from ≡ local_time n a.second → y +ℤ b.offset_from ≡ local_time m b.second → 172_800 ≤ unsigned_abs (x -ℤ y) → IsApart a b n m
 apart_by a b n m x y e f far u v g h =

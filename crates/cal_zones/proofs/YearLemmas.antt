@@ -5,8 +5,8 @@ use Rattle.std.proofs.lemmas.Bool.{and_from, false≢true}
 use Rattle.profile.specs.Rules.{RuleText}
 use Rattle.profile.specs.ZoneTexts.{YearRule, are_only, names_days, is_each_year, is_plain_yearly, is_one_day}
 use Rattle.cal_zones.specs.Shapes.{days_of, rule_named, is_yearly}
-use Rattle.cal_zones.specs.declared.shape.MonthDays.{MonthDays}
-use Rattle.cal_zones.specs.declared.shape.Yearly.{Yearly}
+use Rattle.cal_zones.specs.declared.yearly.MonthDays.{MonthDays}
+use Rattle.cal_zones.specs.declared.yearly.Yearly.{Yearly}
 use Rattle.cal_zones.proofs.Named.{each_of}
 
 one_day_from : (rule : RuleText) (month : ℕ) (days : MonthDays) (y : Yearly) → is_plain_yearly rule ≡ true → are_only (λ x. x == month) rule.months ≡ true

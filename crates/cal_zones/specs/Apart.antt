@@ -2,7 +2,7 @@
 use Rattle.std.specs.Prelude.{◌≡◌}
 use Rattle.profile.specs.Zones.{Onset, IsOnset}
 use Rattle.cal_zones.specs.Onsets.{observance_of}
-use Rattle.cal_zones.specs.declared.shape.Observance.{Observance}
+use Rattle.cal_zones.specs.declared.observance.Observance.{Observance}
 
 abbrev pub NeverAtOnce : Observance → Observance → Type 0
 NeverAtOnce a b =

@@ -3,7 +3,7 @@ use Rattle.std.specs.Prelude.{◌≡◌, ◌↔◌, ℕ, true}
 use Rattle.profile.specs.Rules.{is_base}
 use Rattle.cal_zones.specs.Shapes.{pattern_of}
 use Rattle.cal_zones.specs.Yearly.{IsOn}
-use Rattle.cal_zones.specs.declared.shape.Yearly.{Yearly}
+use Rattle.cal_zones.specs.declared.yearly.Yearly.{Yearly}
 
 -- its days are the base days of the rule as it is written
 abbrev pub IsOnAsWritten : Yearly → ℕ → ℕ → Type 0

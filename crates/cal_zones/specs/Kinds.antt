@@ -2,10 +2,10 @@
 use Rattle.std.specs.Prelude.{◌≡◌, ◌⊎◌, ℤ, ◌≤ℤ◌}
 use Rattle.profile.specs.Zones.{Zone, Constant, Single, Pair}
 use Rattle.cal_zones.specs.Onsets.{observance_of}
-use Rattle.cal_zones.specs.declared.shape.Observance.{Observance}
-use Rattle.cal_zones.specs.declared.kinds.Kind as rust
-use Rattle.cal_zones.specs.declared.kinds.Kind.TheVariants as the
-use Rattle.cal_zones.specs.declared.kinds.Zone as kept
+use Rattle.cal_zones.specs.declared.observance.Observance.{Observance}
+use Rattle.cal_zones.specs.declared.zone.Kind as rust
+use Rattle.cal_zones.specs.declared.zone.Kind.TheVariants as the
+use Rattle.cal_zones.specs.declared.zone.Zone as kept
 
 abbrev pub pair_of : Observance → Observance → Zone
 pair_of a b = Pair (observance_of a) (observance_of b)

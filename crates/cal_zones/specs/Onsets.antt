@@ -4,8 +4,8 @@ use Rattle.profile.specs.Rules.{Pattern}
 use Rattle.profile.specs.Zones.{Observance, begins_on}
 use Rattle.cal_zones.specs.Shapes.{pattern_of}
 use Rattle.cal_zones.specs.Yearly.{IsOn}
-use Rattle.cal_zones.specs.declared.shape.Yearly.{Yearly}
-use Rattle.cal_zones.specs.declared.shape.Observance as rust
+use Rattle.cal_zones.specs.declared.yearly.Yearly.{Yearly}
+use Rattle.cal_zones.specs.declared.observance.Observance as rust
 
 -- the parts of its rule, as they are written
 abbrev pub rule_of : ℕ → Option Yearly → Option Pattern

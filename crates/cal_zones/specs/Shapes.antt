@@ -3,8 +3,8 @@ use Rattle.std.specs.Prelude.{◌≡◌, ℕ, ◌+◌, ◌-◌, ◌*◌, ◌%◌
 use Rattle.profile.specs.Rules.{Pattern}
 use Rattle.profile.specs.ZoneTexts as written
 use Rattle.profile.specs.ZoneTexts.{OnDay, InWeek, YearRule, is_each_year, year_pattern}
-use Rattle.cal_zones.specs.declared.shape.MonthDays.{MonthDays}
-use Rattle.cal_zones.specs.declared.shape.MonthDays.TheVariants.{Day, FromStart, FromEnd, Week}
+use Rattle.cal_zones.specs.declared.yearly.MonthDays.{MonthDays}
+use Rattle.cal_zones.specs.declared.yearly.MonthDays.TheVariants.{Day, FromStart, FromEnd, Week}
 
 -- what they stand for
 abbrev pub days_of : MonthDays → written.MonthDays

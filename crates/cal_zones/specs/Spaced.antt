@@ -3,8 +3,8 @@ use Rattle.std.specs.Prelude.{◌≡◌, ℕ, ◌+◌, ◌<◌, ◌≤◌, ◌�
 use Rattle.profile.specs.Days.{year_of}
 use Rattle.profile.specs.Zones.{local_time}
 use Rattle.cal_zones.specs.Yearly.{IsOn}
-use Rattle.cal_zones.specs.declared.shape.Yearly.{Yearly}
-use Rattle.cal_zones.specs.declared.shape.Observance.{Observance}
+use Rattle.cal_zones.specs.declared.yearly.Yearly.{Yearly}
+use Rattle.cal_zones.specs.declared.observance.Observance.{Observance}
 
 -- the onset of the one on a day and that of the other on a day
 abbrev pub IsApart : Observance → Observance → ℕ → ℕ → Type 0

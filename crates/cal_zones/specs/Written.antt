@@ -7,7 +7,7 @@ use Rattle.profile.specs.Zones.{Observance}
 use Rattle.profile.specs.ZoneTexts.{month_days_of, weekdays_of}
 use Rattle.profile.specs.WrittenZones.{WritesPart, component_lines}
 use Rattle.cal_zones.specs.Shapes.{days_of}
-use Rattle.cal_zones.specs.declared.shape.MonthDays.{MonthDays}
+use Rattle.cal_zones.specs.declared.yearly.MonthDays.{MonthDays}
 
 -- the value of RRULE
 abbrev pub year_text : ℕ → MonthDays → List ℕ

@@ -2,7 +2,7 @@
 use Rattle.std.specs.Prelude.{◌≡◌, ℕ, ◌-◌, ◌≤◌, ◌⊎◌}
 use Rattle.profile.specs.Days.{year_of, month_of, month_days_before, days_in_month}
 use Rattle.cal_zones.specs.Shapes.{IsPlace}
-use Rattle.cal_zones.specs.declared.shape.Yearly.{Yearly}
+use Rattle.cal_zones.specs.declared.yearly.Yearly.{Yearly}
 
 -- it is the day of its year
 abbrev pub IsOn : Yearly → ℕ → Type 0

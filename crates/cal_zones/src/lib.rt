@@ -4,22 +4,17 @@
 //! No rule is walked from year to year: of each observance two years are looked at.
 #![tactic(auto)]
 
-mod kinds;
-mod last;
-mod make;
 mod observance;
 mod one_day;
+mod pair;
 mod parts;
 mod read;
-mod rule_text;
-mod shape;
-mod spaced;
-mod times;
 mod write;
 mod yearly;
 mod zone;
 
-pub use kinds::Zone;
+pub use observance::Observance;
 pub use read::one_zone;
-pub use shape::{MonthDays, Observance, Yearly};
 pub use write::zone_reads_back;
+pub use yearly::{MonthDays, Yearly};
+pub use zone::Zone;

@@ -1,31 +1,70 @@
-//! The onsets of one observance.
+//! One observance, STANDARD or DAYLIGHT, and its onsets.
 
-ghost use Rattle.std.specs.Prelude.{◌≡◌, ◌+◌, ◌*◌, ◌<◌, ◌≤◌, IfSome, MatchOption, pos, negsuc, ◌+ℤ◌, ◌≤ℤ◌};
-ghost use Rattle.profile.specs.Zones.{IsOnset, IsLatest, IsFirstOf, NoneBegun, onset_at, local_time};
-ghost use Rattle.cal_zones.specs.Yearly.{IsOn};
-ghost use Rattle.cal_zones.specs.Onsets.{observance_of, IsFirstDayOf, IsLatestAfter};
+ghost use Rattle.std.specs.Prelude.{◌<◌, ◌≤◌};
+ghost use Rattle.profile.specs.Values.{IsOffset};
 
-use crate::shape::{Observance, Yearly};
+use crate::yearly::Yearly;
 use cal_days::{Day, EPOCH_INDEX};
-use ical_values::{DAY_SECONDS, LocalTime};
+use ical_values::{DAY_SECONDS, LocalTime, UtcOffset};
 
-/// The latest onset of a rule up to an instant that isn't before its first onset.
-fn latest_by_rule(rule: Yearly, first_day: u32, first: i64, instant: i64) -> i64
-    requires day { (366 ≤ first_day) × (first_day ≤ 3_653_155) }
-    requires on { IsOn rule first_day }
-    requires low { negsuc 100_000_000_000 ≤ℤ first }
-    requires begun { first ≤ℤ instant }
-    ensures latest { IsLatestAfter rule first_day first instant result }
-    ensures low { first ≤ℤ result }
-{
-    let since = instant.abs_diff(first);
-    let whole_day = DAY_SECONDS as u64;
-    let day = first_day as u64 + since / whole_day;
-    let back = since % whole_day + whole_day * (day - rule.latest(day));
-    instant - back as i64
+/// The seconds by which the offsets of a zone differ at most.
+const HALF_DAY: u32 = 43_200;
+
+/// STANDARD or DAYLIGHT of a VTIMEZONE.
+#[derive(Clone, Copy, Debug)]
+pub struct Observance {
+    /// The day of DTSTART, by its index.
+    pub(crate) day: u32,
+    /// The second of that day.
+    pub(crate) second: u32,
+    /// RRULE, where there is one.
+    pub(crate) rule: Option<Yearly>,
+    /// TZOFFSETFROM, in seconds.
+    pub(crate) offset_from: i32,
+    /// TZOFFSETTO, in seconds.
+    pub(crate) offset_to: i32,
+    ghost starts: { (366 ≤ day) × (day ≤ 3_652_424) × (second < 86_400) },
+    ghost from: { IsOffset offset_from },
+    ghost to: { IsOffset offset_to },
 }
 
 impl Observance {
+    ghost use Rattle.std.specs.Prelude.{◌≡◌, ◌↔◌, ◌≤◌, true, pos, negsuc, unsigned_abs, IfSome, MatchOption, ◌+ℤ◌, ◌-ℤ◌, ◌≤ℤ◌};
+    ghost use Rattle.profile.specs.Values.{IsOffset};
+    ghost use Rattle.profile.specs.Zones.{Single, local_time, IsOffsetAt, IsOnset, IsLatest, IsFirstOf, NoneBegun, onset_at};
+    ghost use Rattle.cal_zones.specs.Onsets.{observance_of, IsFirstDayOf};
+    ghost use Rattle.cal_zones.specs.Kinds.{IsOrdered};
+
+    /// The observance with that DTSTART, RRULE, TZOFFSETFROM and TZOFFSETTO.
+    pub fn new(start: LocalTime, rule: Option<Yearly>, from: UtcOffset, to: UtcOffset) -> Observance
+        ensures start { local_time result.day result.second ≡ start }
+        ensures rule { result.rule ≡ rule }
+        ensures from { result.offset_from ≡ from }
+        ensures to { result.offset_to ≡ to }
+    {
+        let (day, second) = start.day_and_second();
+        Observance {
+            day: day.index(),
+            second,
+            rule,
+            offset_from: from.seconds(),
+            offset_to: to.seconds(),
+        }
+    }
+
+    /// The same with an RRULE.
+    pub(crate) fn with_rule(self, rule: Yearly) -> Observance
+        ensures day { result.day ≡ self.day }
+        ensures second { result.second ≡ self.second }
+        ensures rule { result.rule ≡ Some rule }
+        ensures from { result.offset_from ≡ self.offset_from }
+        ensures to { result.offset_to ≡ self.offset_to }
+    {
+        let mut observance = self;
+        observance.rule = Some(rule);
+        observance
+    }
+
     /// DTSTART.
     pub(crate) fn start(&self) -> LocalTime
         ensures { result ≡ local_time self.now.day self.now.second }
@@ -78,7 +117,37 @@ impl Observance {
         }
         match self.rule {
             None => Some(first),
-            Some(rule) => Some(latest_by_rule(rule, first_day, first, instant)),
+            Some(rule) => Some(rule.latest_onset(first_day, first, instant)),
         }
+    }
+
+    /// The offset in force by this one alone.
+    pub(crate) fn offset(&self, instant: i64) -> i32
+        ensures offset { IsOffsetAt (Single (observance_of self.now)) instant result }
+        ensures range { IsOffset result }
+    {
+        match self.latest_onset(instant) {
+            None => self.offset_from,
+            Some(_) => self.offset_to,
+        }
+    }
+
+    /// Its two offsets, the lesser first.
+    pub(crate) fn offsets(&self) -> (i32, i32)
+        ensures order { IsOrdered self.now.offset_from self.now.offset_to result.0 result.1 }
+        ensures range { IsOffset result.0 × IsOffset result.1 }
+    {
+        if self.offset_from <= self.offset_to {
+            (self.offset_from, self.offset_to)
+        } else {
+            (self.offset_to, self.offset_from)
+        }
+    }
+
+    /// Do its offsets lie at most 12 hours apart?
+    pub(crate) fn is_near(&self) -> bool
+        ensures { result ≡ true ↔ (unsigned_abs (self.now.offset_from -ℤ self.now.offset_to) ≤ 43_200) }
+    {
+        self.offset_from.abs_diff(self.offset_to) <= HALF_DAY
     }
 }

@@ -1,15 +1,14 @@
 //! Recurrence rules that name one day a year (RFC 5545 3.3.10): which day that is.
 
-ghost use Rattle.std.specs.Prelude.{◌≡◌, ℕ, ◌+◌, ◌≤◌, true, false, map, pos, [], ◌∷◌, IfSome, IfNone};
-ghost use Rattle.std.specs.List.{list_all, list_any, range_with_len};
+ghost use Rattle.std.specs.Prelude.{◌≡◌, ℕ, ◌≤◌, true, false, map, pos, [], ◌∷◌, IfSome, IfNone};
+ghost use Rattle.std.specs.List.{list_all, list_any};
 ghost use Rattle.std.specs.Ordering.{int_eq};
-ghost use Rattle.profile.specs.ZoneTexts.{YearRule, are_only, is_of_seven, are_seven, names_days};
-ghost use Rattle.profile.specs.ZoneTexts.{is_plain_yearly, is_one_day};
+ghost use Rattle.profile.specs.ZoneTexts.{YearRule, are_only, is_of_seven, are_seven, names_days, is_plain_yearly, is_one_day};
 ghost use Rattle.cal_rules.specs.Views.{entry_of};
 ghost use Rattle.cal_zones.specs.Shapes.{days_of, rule_named};
 ghost use Rattle.cal_zones.specs.Named.{NamesNone};
 
-use crate::shape::{MonthDays, Yearly};
+use crate::yearly::{MonthDays, Yearly};
 use cal_days::Frequency;
 use cal_rules::{RuleText, WeekdayNumber};
 

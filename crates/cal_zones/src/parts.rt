@@ -1,13 +1,22 @@
-//! The parts of a VTIMEZONE: the components named STANDARD or DAYLIGHT directly inside (RFC 5545 3.6.5).
+//! The parts of a VTIMEZONE, the components named STANDARD or DAYLIGHT directly inside, and their lines DTSTART,
+//! TZOFFSETFROM and TZOFFSETTO (RFC 5545 3.6.5).
 
-ghost use Rattle.std.specs.Prelude.{◌≡◌, ◌↔◌, ◌∷◌, [], length, count_by, find, option_map, Contains, IsTrue, IfSome, IfNone};
+ghost use Rattle.std.specs.Prelude.{◌≡◌, ◌↔◌, ◌∷◌, [], length, count_by, find, option_map, IsTrue, IfSome, IfNone, true, false, codes, None, Some, IfOk, IfErr};
 ghost use Rattle.ical_tree.specs.Tree.{component_name, component_lines, component_children};
 ghost use Rattle.profile.specs.Lines.{is_same_name};
-ghost use Rattle.profile.specs.ZoneTexts.{is_part};
-ghost use Rattle.cal_zones.specs.Read.{parts_in, parts_of};
+ghost use Rattle.profile.specs.ZoneTexts.{is_part, IsLocalLine, IsOffsetLine, SaysTimes, TimesFault};
+ghost use Rattle.cal_zones.specs.Read.{parts_in, parts_of, StartFault, OffsetFault};
+ghost use Rattle.ical_lines.specs.Text.{line_text};
+ghost use Rattle.profile.specs.Properties.{Says, IsMissing, is_date_time};
+ghost use Rattle.cal_zones.specs.Onsets.{observance_of};
 
-use ical_tree::Component;
+use crate::observance::Observance;
+use ical_lines::{Line, Refusal};
+use ical_tree::{Component, Properties};
+use ical_values::stamp::ends_in_z;
+use ical_values::{LocalTime, UtcOffset};
 
+/// Is it a part?
 pub(crate) fn is_part(component: &Component) -> bool
     ensures { result ≡ is_part (component_name component.now) }
 {
@@ -21,6 +30,7 @@ fn is_one(count: usize) -> bool
     count == 1
 }
 
+/// How many parts there are.
 fn count_parts(zone: &Component) -> usize
     ensures { result ≡ count_by (λ c. is_part (component_name c)) (component_children zone.now) }
 {
@@ -30,18 +40,11 @@ fn count_parts(zone: &Component) -> usize
         .count()
 }
 
-fn find_part<'c, 'a>(zone: &'c Component<'a>) -> Option<&'c Component<'a>>
+/// The first part.
+pub(crate) fn first_part<'c, 'a>(zone: &'c Component<'a>) -> Option<&'c Component<'a>>
     ensures { option_map (λ c. c.now) result ≡ find (λ c. is_part (component_name c)) (component_children zone.now) }
 {
     zone.children().iter().find(|child| is_part(child))
-}
-
-/// The first part.
-pub(crate) fn first_part<'c, 'a>(zone: &'c Component<'a>) -> Option<&'c Component<'a>>
-    ensures found { IfSome result (λ part. Contains (parts_of zone.now) (component_lines part.now)) }
-    ensures none { IfNone result (parts_of zone.now ≡ []) }
-{
-    find_part(zone)
 }
 
 /// The one part, where there is one alone.
@@ -52,9 +55,10 @@ pub(crate) fn only_part<'c, 'a>(zone: &'c Component<'a>) -> Option<&'c Component
     if !is_one(count_parts(zone)) {
         return None;
     }
-    find_part(zone)
+    first_part(zone)
 }
 
+/// How many components of that name there are.
 fn count_named(zone: &Component, name: &str) -> usize
     ensures { result ≡ count_by (λ c. is_same_name (component_name c) name.now) (component_children zone.now) }
 {
@@ -64,7 +68,8 @@ fn count_named(zone: &Component, name: &str) -> usize
         .count()
 }
 
-fn find_named<'c, 'a>(zone: &'c Component<'a>, name: &str) -> Option<&'c Component<'a>>
+/// The first component of that name.
+fn first_named<'c, 'a>(zone: &'c Component<'a>, name: &str) -> Option<&'c Component<'a>>
     ensures { option_map (λ c. c.now) result
         ≡ find (λ c. is_same_name (component_name c) name.now) (component_children zone.now) }
 {
@@ -81,5 +86,79 @@ pub(crate) fn only_named<'c, 'a>(zone: &'c Component<'a>, name: &str) -> Option<
     if !is_one(count_named(zone, name)) {
         return None;
     }
-    find_named(zone, name)
+    first_named(zone, name)
+}
+
+/// Does a property stand there? Names are compared caseless.
+pub(crate) fn has_line(properties: &Properties<'_>, name: &str) -> bool
+    ensures missing { result ≡ false → IsMissing name.now properties.now }
+    ensures stands { result ≡ true → IsMissing name.now properties.now → ⊥ }
+{
+    match properties.optional(name, Refusal::ZONE_SHAPE) {
+        Ok(line) => line.is_some(),
+        // It stands there twice.
+        Err(_) => true,
+    }
+}
+
+/// Is its value a date-time? It is where VALUE isn't written.
+fn is_date_time(line: Line<'_>) -> bool
+    ensures { result ≡ is_date_time (line_text line.entry) }
+{
+    match line.param("VALUE") {
+        None => true,
+        Some(word) => word.eq_ignore_ascii_case("DATE-TIME"),
+    }
+}
+
+/// The local time of a line. Refused with 40 where it is in UTC or in a zone, with 11 where it is none.
+fn read_local(line: Line<'_>) -> Result<LocalTime, Refusal>
+    ensures says { IfOk result (IsLocalLine (line_text line.entry)) }
+    ensures stands { IfErr result (λ e. StartFault (line_text line.entry) e.number) }
+{
+    if line.param("TZID").is_some() {
+        return Err(Refusal::ZONE_SHAPE);
+    }
+    if ends_in_z(line.value()) {
+        return Err(Refusal::ZONE_SHAPE);
+    }
+    if !is_date_time(line) {
+        return Err(Refusal::BAD_DATE_TIME);
+    }
+    LocalTime::read(line.value())
+}
+
+/// The local time of DTSTART. Refused with 40 where it is missing or stands twice too.
+fn read_start(properties: &Properties<'_>) -> Result<LocalTime, Refusal>
+    ensures says { IfOk result (λ t. Says (codes "DTSTART") true IsLocalLine properties.now (Some t)) }
+    ensures stands { IfErr result (λ e. TimesFault properties.now e.number) }
+{
+    let line = properties.required("DTSTART", Refusal::ZONE_SHAPE)?;
+    read_local(line)
+}
+
+/// The offset of that name. Refused with 40 where it is missing or stands twice, with 13 where it is none.
+fn read_offset(properties: &Properties<'_>, name: &str) -> Result<UtcOffset, Refusal>
+    ensures says { IfOk result (λ t. Says name.now true IsOffsetLine properties.now (Some t)) }
+    ensures stands { IfErr result (λ e. OffsetFault name.now properties.now e.number) }
+{
+    let line = properties.required(name, Refusal::ZONE_SHAPE)?;
+    UtcOffset::read(line.value())
+}
+
+/// The times of a part, as an observance without a rule. Refused with 40 where RDATE stands, where one of
+/// the three is missing or stands twice, or DTSTART is no local time without a zone; with 11 or 13 where a
+/// value is none.
+pub(crate) fn read_times(properties: &Properties<'_>) -> Result<Observance, Refusal>
+    ensures says { IfOk result (λ o. SaysTimes properties.now (observance_of o)) }
+    ensures no_rule { IfOk result (λ o. o.rule ≡ None) }
+    ensures stands { IfErr result (λ e. TimesFault properties.now e.number) }
+{
+    if has_line(properties, "RDATE") {
+        return Err(Refusal::ZONE_SHAPE);
+    }
+    let start = read_start(properties)?;
+    let from = read_offset(properties, "TZOFFSETFROM")?;
+    let to = read_offset(properties, "TZOFFSETTO")?;
+    Ok(Observance::new(start, None, from, to))
 }

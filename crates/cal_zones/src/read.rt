@@ -3,55 +3,27 @@
 
 ghost use Rattle.std.specs.Prelude.{◌≡◌, ℕ, List, true, false, length, codes, Contains, None, Some, IfOk, IfErr};
 ghost use Rattle.ical_lines.specs.Fault.{RefusesBy};
-ghost use Rattle.ical_tree.specs.Tree.{component_lines, tree_of};
+ghost use Rattle.ical_tree.specs.Tree.{component_lines};
 ghost use Rattle.profile.specs.Trees.{Tree};
-ghost use Rattle.profile.specs.Zones as zones;
-ghost use Rattle.profile.specs.Zones.{Constant};
-ghost use Rattle.profile.specs.Properties as lines;
-ghost use Rattle.profile.specs.ZoneTexts.{SaysZone, ZoneFault, SaysYearly, SpellsYear, SpellsNoYear, IsYearLine};
-ghost use Rattle.profile.specs.ZoneTexts.{HasNoYearRule, OffsetsDiffer, Keeps, Strays, SaysTimes, TimesFault};
+ghost use Rattle.profile.specs.ZoneTexts.{SaysZone, ZoneFault, SaysYearly, SpellsYear, SpellsNoYear, IsYearLine, HasNoYearRule, OffsetsDiffer, Keeps, Strays, SaysTimes, TimesFault};
 ghost use Rattle.cal_zones.specs.Shapes.{rule_named};
 ghost use Rattle.cal_zones.specs.Onsets.{observance_of};
 ghost use Rattle.cal_zones.specs.Kinds.{zone_of};
-ghost use Rattle.cal_zones.specs.Read.{Says, HasFault, parts_of, SomeTimesFault, YearlyFault, IsShapeFault};
-ghost use Rattle.cal_zones.specs.Read.{SaysSingle, SingleFault, SaysBoth, BothFault};
+ghost use Rattle.cal_zones.specs.Read.{Says, HasFault, parts_of, SomeTimesFault, YearlyFault, IsShapeFault, SaysSingle, SingleFault, SaysBoth, BothFault};
+ghost use Rattle.profile.specs.Zones as zones;
+ghost use Rattle.profile.specs.Properties as lines;
 
-use crate::kinds::{Fixed, Kind, Zone};
+use crate::observance::Observance;
 use crate::one_day::day_of_year;
-use crate::parts::{first_part, is_part, only_named, only_part};
-use crate::shape::{Observance, Yearly};
-use crate::times::{has_line, read_times};
+use crate::parts::{first_part, has_line, is_part, only_named, only_part, read_times};
+use crate::yearly::Yearly;
+use crate::zone::Zone;
 use cal_rules::{RuleText, one_rule};
 use ical_lines::{Fault, Refusal};
 use ical_tree::{Component, Properties};
 use ical_values::local_time::one_local_time;
 use ical_values::offset::one_offset;
 use std::alloc::Global;
-
-impl Zone {
-    /// The zone that a VTIMEZONE says.
-    /// Refused: 40 for a shape that isn't read, as no part, RDATE, a DTSTART, TZOFFSETFROM or TZOFFSETTO that
-    /// is missing, stands twice or isn't local, or other rules; 11 and 13 for a DTSTART and an offset that are
-    /// none; 41 for offsets that don't match or lie over 12 hours apart; 42 for onsets less than two days
-    /// apart.
-    pub fn read(alloc: Global, zone: &Component) -> Result<Zone, Fault>
-        ensures says { IfOk result (λ z. SaysZone (tree_of zone.now) (zone_of z)) }
-        ensures stands { IfErr result (RefusesBy (ZoneFault (tree_of zone.now))) }
-    {
-        read_zone(alloc, zone)
-    }
-
-    /// The zone of the one offset that an observance sets.
-    fn keeping(observance: Observance) -> Zone
-        ensures { zone_of result ≡ Constant observance.offset_from }
-    {
-        Zone {
-            kind: Kind::Constant(Fixed {
-                offset: observance.offset_from,
-            }),
-        }
-    }
-}
 
 /// A VTIMEZONE says at most one zone, and none where a fault stands in it. With the contract of `Zone::read`:
 /// what is read is the one zone that it says, and what is refused says none.
@@ -64,7 +36,8 @@ pub fn one_zone()
     one_offset();
 }
 
-fn read_zone(alloc: Global, zone: &Component) -> Result<Zone, Fault>
+/// The zone that a VTIMEZONE says.
+pub(crate) fn read_zone(alloc: Global, zone: &Component) -> Result<Zone, Fault>
     ensures says { IfOk result (λ z. Says zone.now (zone_of z)) }
     ensures stands { IfErr result (RefusesBy (HasFault zone.now)) }
 {
@@ -87,17 +60,6 @@ fn times_of(alloc: Global, part: &Component) -> Result<Observance, Fault>
     Ok(read_times(&properties)?)
 }
 
-/// Are both these its offsets?
-fn has_offset(observance: &Observance, offset: i32) -> bool
-    ensures yes { result ≡ true → (observance.now.offset_from ≡ offset) × (observance.now.offset_to ≡ offset) }
-    ensures no { result ≡ false → (observance.now.offset_from ≡ offset) × (observance.now.offset_to ≡ offset) → ⊥ }
-{
-    if observance.offset_from != offset {
-        return false;
-    }
-    observance.offset_to == offset
-}
-
 /// Does a part say that offset alone? Refused where its times are wrong.
 fn keeps(alloc: Global, part: &Component, offset: i32) -> Result<bool, Fault>
     ensures yes { IfOk result (λ b. b ≡ true → Keeps offset (component_lines part.now)) }
@@ -105,7 +67,10 @@ fn keeps(alloc: Global, part: &Component, offset: i32) -> Result<bool, Fault>
     ensures stands { IfErr result (RefusesBy (TimesFault (component_lines part.now))) }
 {
     let times = times_of(alloc, part)?;
-    Ok(has_offset(&times, offset))
+    if times.offset_from != offset {
+        return Ok(false);
+    }
+    Ok(times.offset_to == offset)
 }
 
 /// Do all parts say that offset alone? Refused where the times of one are wrong.
@@ -168,6 +133,7 @@ fn read_pair(alloc: Global, zone: &Component) -> Result<Zone, Fault>
     read_both(alloc, standard, daylight)
 }
 
+/// The zone of STANDARD and DAYLIGHT.
 fn read_both(alloc: Global, standard: &Component, daylight: &Component) -> Result<Zone, Fault>
     ensures says { IfOk result
         (λ z. SaysBoth (component_lines standard.now) (component_lines daylight.now) (zone_of z)) }
@@ -209,10 +175,7 @@ fn read_year(alloc: Global, text: &str) -> Result<Yearly, Fault>
         Ok(rule) => rule,
         Err(fault) => return Err(shape_fault(fault)),
     };
-    match day_of_year(&rule) {
-        Some(day) => Ok(day),
-        None => Err(Fault::Refused(Refusal::ZONE_SHAPE)),
-    }
+    Ok(day_of_year(&rule).ok_or(Refusal::ZONE_SHAPE)?)
 }
 
 /// What is wrong with a rule is a shape that isn't read.

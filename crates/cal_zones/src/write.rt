@@ -1,68 +1,54 @@
 //! VTIMEZONEs as they are written (RFC 5545 3.6.5): each line folded, and ended by CRLF.
 
-ghost use Rattle.std.specs.Prelude.{◌≡◌, ◌++◌, ℕ, List, codes, OnOk, OnErr};
+ghost use Rattle.std.specs.Prelude.{◌≡◌, ◌++◌, ℕ, List, codes, OnOk, ◌≤◌, decimal, string_bytes, IfOk};
 ghost use Rattle.profile.specs.Lines.{folded, written};
 ghost use Rattle.profile.specs.Trees.{Tree};
 ghost use Rattle.profile.specs.Values.{IsOffset, WritesLocal, WritesOffset, escaped};
-ghost use Rattle.profile.specs.Zones as zones;
 ghost use Rattle.profile.specs.Zones.{local_time};
 ghost use Rattle.profile.specs.ZoneTexts.{SaysZone};
 ghost use Rattle.profile.specs.WrittenZones.{rule_lines, keeping, WritesParts, WritesZone, IsZoneText, IsTextName, ReadsAsZone};
 ghost use Rattle.ical_values.specs.Written.{Appends};
 ghost use Rattle.cal_zones.specs.Onsets.{observance_of};
 ghost use Rattle.cal_zones.specs.Kinds.{zone_of};
-ghost use Rattle.cal_zones.specs.Written.{AppendsLines, IsPartText, IsLineOf};
+ghost use Rattle.cal_zones.specs.Written.{AppendsLines, IsPartText, IsLineOf, year_text, week_text};
+ghost use Rattle.profile.specs.Zones as zones;
 
-use crate::kinds::{Fixed, Kind, Zone};
-use crate::rule_text::rule_text;
-use crate::shape::Observance;
+use crate::observance::Observance;
+use crate::yearly::{MonthDays, Yearly};
+use crate::zone::{Fixed, Kind, Zone};
 use cal_days::EPOCH_INDEX;
-use cal_rules::one_rule;
+use cal_rules::{one_rule, weekday_word};
 use ical_lines::{lines_read_back, write_line, write_property};
 use ical_values::local_time::one_local_time;
 use ical_values::offset::one_offset;
 use ical_values::shown::{escaped_text, local_text, offset_text};
 use ical_values::text::text_reads_back;
 use ical_values::{Text, UtcOffset};
-use std::alloc::AllocError;
+use std::alloc::{AllocError, Global};
 
-impl Zone {
-    /// Appends the VTIMEZONE of that name: its TZID, STANDARD, and DAYLIGHT where there are two parts. A part has
-    /// DTSTART, RRULE where it comes every year, TZOFFSETFROM and TZOFFSETTO. Without memory nothing is appended.
-    pub fn write(&self, name: &str, out: &mut Vec<u8>) -> Result<(), AllocError>
-        ensures ok { OnOk result (Appends out.old.items out.new.items (λ text. IsZoneText text name.now (zone_of self.now))) }
-        ensures err { OnErr result (out.new.items ≡ out.old.items) }
-    {
-        let mut octets = Vec::new(*out.allocator());
-        self.write_lines(name, &mut octets)?;
-        out.extend_from_slice(octets.as_slice())?;
-        Ok(())
-    }
+/// Appends the lines of the VTIMEZONE of that name. On an error some of them may have been appended.
+pub(crate) fn write_zone(out: &mut Vec<u8>, name: &str, zone: &Zone) -> Result<(), AllocError>
+    ensures { OnOk result
+        (AppendsLines out.old.items out.new.items (λ lines. WritesZone lines name.now (zone_of zone.now))) }
+{
+    write_line(out, "BEGIN:VTIMEZONE")?;
+    write_name(out, name)?;
+    write_parts(out, zone)?;
+    write_line(out, "END:VTIMEZONE")?;
+    Ok(())
+}
 
-    /// Appends the lines. On an error some of them may have been appended.
-    fn write_lines(&self, name: &str, out: &mut Vec<u8>) -> Result<(), AllocError>
-        ensures { OnOk result
-            (AppendsLines out.old.items out.new.items (λ lines. WritesZone lines name.now (zone_of self.now))) }
-    {
-        write_line(out, "BEGIN:VTIMEZONE")?;
-        write_name(out, name)?;
-        self.write_parts(out)?;
-        write_line(out, "END:VTIMEZONE")?;
-        Ok(())
-    }
-
-    /// Appends the parts.
-    fn write_parts(&self, out: &mut Vec<u8>) -> Result<(), AllocError>
-        ensures { OnOk result (AppendsLines out.old.items out.new.items (λ lines. WritesParts lines (zone_of self.now))) }
-    {
-        match &self.kind {
-            Kind::Constant(fixed) => write_part(out, "STANDARD", &keeping(fixed)),
-            Kind::Single(observance) => write_part(out, "STANDARD", observance),
-            Kind::Pair(pair) => {
-                write_part(out, "STANDARD", &pair.standard)?;
-                write_part(out, "DAYLIGHT", &pair.daylight)?;
-                Ok(())
-            }
+/// Appends the parts.
+fn write_parts(out: &mut Vec<u8>, zone: &Zone) -> Result<(), AllocError>
+    ensures { OnOk result (AppendsLines out.old.items out.new.items (λ lines. WritesParts lines (zone_of zone.now))) }
+{
+    match &zone.kind {
+        Kind::Constant(fixed) => write_part(out, "STANDARD", &keeping(fixed)),
+        Kind::Single(observance) => write_part(out, "STANDARD", observance),
+        Kind::Pair(pair) => {
+            write_part(out, "STANDARD", &pair.standard)?;
+            write_part(out, "DAYLIGHT", &pair.daylight)?;
+            Ok(())
         }
     }
 }
@@ -136,6 +122,56 @@ fn write_offset(out: &mut Vec<u8>, name: &str, seconds: i32) -> Result<(), Alloc
     let offset = UtcOffset::of_seconds(seconds).unwrap();
     let text = offset_text(*out.allocator(), offset)?;
     write_property(out, name, text.as_str())?;
+    Ok(())
+}
+
+/// FREQ and BYMONTH, and then BYMONTHDAY and BYDAY where they stand, each list ascending.
+fn rule_text(alloc: Global, rule: Yearly) -> Result<String, AllocError>
+    ensures { IfOk result (λ text. string_bytes text ≡ year_text rule.month rule.days) }
+{
+    let month = rule.month;
+    match rule.days {
+        MonthDays::Day(day) => Ok(format!(in alloc;
+            "FREQ=YEARLY;BYMONTH={month};BYMONTHDAY={day}"
+        )?),
+        MonthDays::FromStart { number, weekday } => {
+            let word = weekday_word(weekday);
+            Ok(format!(in alloc; "FREQ=YEARLY;BYMONTH={month};BYDAY={number}{word}")?)
+        }
+        MonthDays::FromEnd { number, weekday } => {
+            let word = weekday_word(weekday);
+            Ok(format!(in alloc; "FREQ=YEARLY;BYMONTH={month};BYDAY=-{number}{word}")?)
+        }
+        MonthDays::Week { first, weekday } => {
+            let week = week_text(alloc, first)?;
+            let days = week.as_str();
+            let word = weekday_word(weekday);
+            Ok(format!(in alloc; "FREQ=YEARLY;BYMONTH={month};BYMONTHDAY={days};BYDAY={word}")?)
+        }
+    }
+}
+
+/// Seven days in a row, from that one on.
+fn week_text(alloc: Global, first: u8) -> Result<String, AllocError>
+    requires { first ≤ 25 }
+    ensures { IfOk result (λ text. string_bytes text ≡ week_text first) }
+{
+    let mut text = format!(in alloc; "{first}")?;
+    push_day(&mut text, first + 1)?;
+    push_day(&mut text, first + 2)?;
+    push_day(&mut text, first + 3)?;
+    push_day(&mut text, first + 4)?;
+    push_day(&mut text, first + 5)?;
+    push_day(&mut text, first + 6)?;
+    Ok(text)
+}
+
+/// Appends a comma and a day.
+fn push_day(text: &mut String, day: u8) -> Result<(), AllocError>
+    ensures { OnOk result (string_bytes text.new ≡ string_bytes text.old ++ (codes "," ++ decimal day)) }
+{
+    let next = format!(in *text.allocator(); ",{day}")?;
+    text.push_str(next.as_str())?;
     Ok(())
 }
 

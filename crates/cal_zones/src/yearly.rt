@@ -1,27 +1,52 @@
 //! Rules that name one day of one month, every year.
 
-ghost use Rattle.std.specs.Prelude.{◌≡◌, ◌+◌, ◌-◌, ◌*◌, ◌%◌, ◌<◌, ◌≤◌};
-ghost use Rattle.cal_zones.specs.Shapes.{IsPlace};
-ghost use Rattle.cal_zones.specs.Yearly.{IsDayOfYear, IsLatestDay, IsFirstDay, HasEarlier};
+ghost use Rattle.std.specs.Prelude.{◌≡◌, ◌<◌, ◌≤◌, true, ◌+◌, ◌%◌};
+ghost use Rattle.profile.specs.Days.{days_in_month};
+ghost use Rattle.cal_zones.specs.Shapes.{is_yearly};
 
-use crate::shape::{MonthDays, Yearly};
 use cal_days::{CYCLE, Day, FIRST_INDEX};
+use ical_values::DAY_SECONDS;
 
-/// The fewest days, `least` of them or more, after which that weekday comes, counted from the day of
-/// index `first`.
-fn days_to_weekday(first: u32, least: u32, weekday: u8) -> u32
-    requires first { first ≤ 4_000_000 }
-    requires least { least ≤ 31 }
-    requires weekday { weekday < 7 }
-    ensures low { least ≤ result }
-    ensures high { result ≤ least + 6 }
-    ensures weekday { (first + result + 5) % 7 ≡ weekday }
-{
-    let there = (first + least + 5) % 7;
-    least + (weekday as u32 + 7 - there) % 7
+/// The day of its month that a rule names, as it is written. Weekdays go from 0 for Monday to 6 for
+/// Sunday.
+#[derive(Clone, Copy, Debug, PartialEq, Eq)]
+pub enum MonthDays {
+    /// One BYMONTHDAY, from 1 to 28.
+    Day(u8),
+    /// A BYDAY with a number from 1 to 4: the first, second, third or fourth such weekday.
+    FromStart { number: u8, weekday: u8 },
+    /// A BYDAY with a number from -1 to -4, here without its sign: such a weekday from the end back.
+    FromEnd { number: u8, weekday: u8 },
+    /// Seven BYMONTHDAYs in a row, from this one on, and a BYDAY without a number.
+    Week { first: u8, weekday: u8 },
+}
+
+/// A rule of one day a year: BYMONTH, and the day of that month.
+#[derive(Clone, Copy, Debug)]
+pub struct Yearly {
+    pub(crate) month: u8,
+    pub(crate) days: MonthDays,
+    ghost yearly: { is_yearly month days ≡ true },
 }
 
 impl Yearly {
+    ghost use Rattle.std.specs.Prelude.{◌≡◌, ◌↔◌, ◌<◌, ◌≤◌, ◌+◌, true, IsSome, IfSome, negsuc, ◌≤ℤ◌};
+    ghost use Rattle.profile.specs.ZoneTexts.{is_each_year};
+    ghost use Rattle.cal_zones.specs.Shapes.{days_of, IsPlace};
+    ghost use Rattle.cal_zones.specs.Yearly.{IsOn, IsDayOfYear, IsLatestDay, IsFirstDay, HasEarlier};
+    ghost use Rattle.cal_zones.specs.Onsets.{IsLatestAfter};
+
+    /// The rule of that month and these days of it. None where a year lacks the day or has two of it.
+    pub fn new(month: u8, days: MonthDays) -> Option<Yearly>
+        ensures found { IsSome result ↔ (is_each_year month (days_of days) ≡ true) }
+        ensures value { IfSome result (λ r. (r.month ≡ month) × (r.days ≡ days)) }
+    {
+        if !is_yearly(month, days) {
+            return None;
+        }
+        Some(Yearly { month, days })
+    }
+
     /// How many days of its month lie before the day, in a month of so many days that begins on the day
     /// of index `first`.
     fn place(self, first: u32, length: u32) -> u32
@@ -96,4 +121,62 @@ impl Yearly {
         }
         self.day_in(year + 1)
     }
+
+    /// The latest onset up to an instant that isn't before the first onset.
+    pub(crate) fn latest_onset(self, first_day: u32, first: i64, instant: i64) -> i64
+        requires day { (366 ≤ first_day) × (first_day ≤ 3_653_155) }
+        requires on { IsOn self first_day }
+        requires low { negsuc 100_000_000_000 ≤ℤ first }
+        requires begun { first ≤ℤ instant }
+        ensures latest { IsLatestAfter self first_day first instant result }
+        ensures low { first ≤ℤ result }
+    {
+        let since = instant.abs_diff(first);
+        let whole_day = DAY_SECONDS as u64;
+        let day = first_day as u64 + since / whole_day;
+        let back = since % whole_day + whole_day * (day - self.latest(day));
+        instant - back as i64
+    }
+}
+
+/// Does every year have that day?
+fn is_yearly(month: u8, days: MonthDays) -> bool
+    ensures { result ≡ is_yearly month days }
+{
+    if month < 1 || month > 12 {
+        return false;
+    }
+    match days {
+        MonthDays::Day(day) => 1 <= day && day <= 28,
+        MonthDays::FromStart { number, weekday } => 1 <= number && number <= 4 && weekday < 7,
+        MonthDays::FromEnd { number, weekday } => 1 <= number && number <= 4 && weekday < 7,
+        MonthDays::Week { first, weekday } => {
+            1 <= first && first as u32 + 6 <= least_length(month) as u32 && weekday < 7
+        }
+    }
+}
+
+/// The days of a month in the shortest of its years.
+fn least_length(month: u8) -> u8
+    ensures { result ≡ days_in_month 1 month }
+{
+    match month {
+        2 => 28,
+        4 | 6 | 9 | 11 => 30,
+        _ => 31,
+    }
+}
+
+/// The fewest days, `least` of them or more, after which that weekday comes, counted from the day of
+/// index `first`.
+fn days_to_weekday(first: u32, least: u32, weekday: u8) -> u32
+    requires first { first ≤ 4_000_000 }
+    requires least { least ≤ 31 }
+    requires weekday { weekday < 7 }
+    ensures low { least ≤ result }
+    ensures high { result ≤ least + 6 }
+    ensures weekday { (first + result + 5) % 7 ≡ weekday }
+{
+    let there = (first + least + 5) % 7;
+    least + (weekday as u32 + 7 - there) % 7
 }

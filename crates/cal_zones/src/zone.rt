@@ -1,85 +1,139 @@
-//! The offset in force, and what a local time means.
+//! Zones: which offset their clocks keep at each instant, and what a local time means.
 
+ghost use Rattle.std.specs.Prelude.{ℕ, ◌<◌, ◌≤◌, ◌+ℤ◌};
+ghost use Rattle.std.specs.Int.Signed.{◌<ℤ◌};
 ghost use Rattle.profile.specs.Values.{IsOffset};
-ghost use Rattle.profile.specs.Zones.{IsOffsetAt, IsOnset, IsLatest, Means, Single, onset_at, NoneBegun, AreFirstOnsets};
-ghost use Rattle.profile.specs.Zones.{IsBounds, IsOneOffset, IsOneMeaning, IsNearEpoch};
-ghost use Rattle.cal_zones.specs.Onsets.{observance_of};
-ghost use Rattle.cal_zones.specs.Kinds.{zone_of, pair_of, AreEnds, IsOrdered};
+ghost use Rattle.profile.specs.Zones.{local_time};
 
-use crate::kinds::{Kind, Zone};
-use crate::shape::Observance;
-use ical_values::LocalTime;
+use crate::observance::Observance;
+use crate::pair::Pair;
+use crate::read::read_zone;
+use crate::write::write_zone;
+use cal_days::{Day, EPOCH_INDEX, FIRST_INDEX, LAST_INDEX};
+use ical_lines::{Fault, Refusal};
+use ical_tree::Component;
+use ical_values::{DAY_SECONDS, LocalTime, UtcOffset};
+use std::alloc::{AllocError, Global};
 
-/// The offset of two observances, where neither has begun.
-fn offset_before_both(a: &Observance, b: &Observance, instant: i64) -> i32
-    requires a { NoneBegun (observance_of a.now) instant }
-    requires b { NoneBegun (observance_of b.now) instant }
-    ensures offset { IsOffsetAt (pair_of a.now b.now) instant result }
-    ensures range { IsOffset result }
-{
-    if a.first_onset() <= b.first_onset() {
-        a.offset_from
-    } else {
-        b.offset_from
-    }
+/// An instant before all local times, and one after them.
+const EARLY: i64 = -62_166_900_000;
+
+const LATE: i64 = 260_000_000_000;
+
+/// One offset for all time.
+#[derive(Clone, Copy, Debug)]
+pub struct Fixed {
+    /// In seconds.
+    pub(crate) offset: i32,
+    ghost range: { IsOffset offset },
 }
 
-/// The offset of two observances, where the first hasn't begun.
-fn offset_before(a: &Observance, b: &Observance, instant: i64) -> i32
-    requires { NoneBegun (observance_of a.now) instant }
-    ensures offset { IsOffsetAt (pair_of a.now b.now) instant result }
-    ensures range { IsOffset result }
-{
-    match b.latest_onset(instant) {
-        None => offset_before_both(a, b, instant),
-        Some(_) => b.offset_to,
-    }
+/// What a zone is made of.
+#[derive(Clone, Copy, Debug)]
+pub enum Kind {
+    /// One offset for all time.
+    Constant(Fixed),
+    /// One observance.
+    Single(Observance),
+    /// STANDARD and DAYLIGHT.
+    Pair(Pair),
 }
 
-/// The offset of two observances, where the first has begun, last at `x`.
-fn offset_after(a: &Observance, b: &Observance, x: i64, instant: i64) -> i32
-    requires { IsLatest (IsOnset (observance_of a.now)) instant (onset_at (observance_of a.now) x) }
-    ensures offset { IsOffsetAt (pair_of a.now b.now) instant result }
-    ensures range { IsOffset result }
-{
-    match b.latest_onset(instant) {
-        None => a.offset_to,
-        Some(y) if x >= y => a.offset_to,
-        Some(_) => b.offset_to,
-    }
-}
-
-/// The offset of two observances: what the later of their latest onsets sets, and before all onsets
-/// what the first one ends.
-fn offset_of_pair(a: &Observance, b: &Observance, instant: i64) -> i32
-    ensures offset { IsOffsetAt (pair_of a.now b.now) instant result }
-    ensures range { IsOffset result }
-{
-    match a.latest_onset(instant) {
-        None => offset_before(a, b, instant),
-        Some(x) => offset_after(a, b, x, instant),
-    }
-}
-
-/// The offset of one observance.
-fn offset_of_single(a: &Observance, instant: i64) -> i32
-    ensures offset { IsOffsetAt (Single (observance_of a.now)) instant result }
-    ensures range { IsOffset result }
-{
-    match a.latest_onset(instant) {
-        None => a.offset_from,
-        Some(_) => a.offset_to,
-    }
-}
-
-/// The two offsets, the lesser first.
-fn ordered(from: i32, to: i32) -> (i32, i32)
-    ensures { IsOrdered from to result.0 result.1 }
-{
-    if from <= to { (from, to) } else { (to, from) }
+/// A zone: which offset its clocks keep at each instant.
+#[derive(Clone, Copy, Debug)]
+pub struct Zone {
+    pub(crate) kind: Kind,
 }
 
 impl Zone {
+    ghost use Rattle.std.specs.Prelude.{◌≡◌, ◌<◌, ◌≤◌, None, pos, unsigned_abs, ◌-ℤ◌, IfOk, IfErr, ℕ, ◌+ℤ◌, MatchOption, OnOk, OnErr};
+    ghost use Rattle.profile.specs.Values.{IsOffset};
+    ghost use Rattle.profile.specs.Days.{day_index};
+    ghost use Rattle.profile.specs.Zones.{Constant, Single, local_time, IsOffsetAt, Means, AreFirstOnsets, IsBounds, IsOneOffset, IsOneMeaning, IsNearEpoch, IsLastDay, NoneFrom};
+    ghost use Rattle.profile.specs.ZoneTexts.{AreMatched, AreSpaced, IsSingleFault, IsPairFault, SaysZone, ZoneFault};
+    ghost use Rattle.cal_zones.specs.Onsets.{observance_of};
+    ghost use Rattle.cal_zones.specs.Kinds.{zone_of, pair_of, AreEnds};
+    ghost use Rattle.ical_lines.specs.Fault.{RefusesBy};
+    ghost use Rattle.ical_tree.specs.Tree.{tree_of};
+    ghost use Rattle.profile.specs.WrittenZones.{IsZoneText};
+    ghost use Rattle.ical_values.specs.Written.{Appends};
+
+    /// UTC.
+    pub fn utc() -> Zone
+        ensures { zone_of result ≡ Constant (pos 0) }
+    {
+        Zone {
+            kind: Kind::Constant(Fixed { offset: 0 }),
+        }
+    }
+
+    /// The zone of one offset for all time.
+    pub fn constant(offset: UtcOffset) -> Zone
+        ensures { zone_of result ≡ Constant offset }
+    {
+        Zone {
+            kind: Kind::Constant(Fixed {
+                offset: offset.seconds(),
+            }),
+        }
+    }
+
+    /// The zone of one observance without a rule. Refused with 40 where it has one, with 41 where its
+    /// offsets lie more than 12 hours apart.
+    pub fn single(observance: Observance) -> Result<Zone, Refusal>
+        ensures ok { IfOk result (λ z. zone_of z ≡ Single (observance_of observance)) }
+        ensures accepted { IfOk result (λ _. (observance.rule ≡ None)
+            × (unsigned_abs (observance.offset_from -ℤ observance.offset_to) ≤ 43_200)) }
+        ensures refuses { IfErr result (λ e. IsSingleFault e.number (observance_of observance)) }
+    {
+        if observance.rule.is_some() {
+            return Err(Refusal::ZONE_SHAPE);
+        }
+        if !observance.is_near() {
+            return Err(Refusal::ZONE_OFFSETS);
+        }
+        Ok(Zone {
+            kind: Kind::Single(observance),
+        })
+    }
+
+    /// The zone of two observances. Refused with 40 where one has no rule, with 41 where each
+    /// TZOFFSETFROM isn't the other's TZOFFSETTO or they lie more than 12 hours apart, with 42 where two onsets
+    /// of their rules lie less than 172,800 seconds apart, in any year.
+    pub fn pair(standard: Observance, daylight: Observance) -> Result<Zone, Refusal>
+        ensures ok { IfOk result (λ z. zone_of z ≡ pair_of standard daylight) }
+        ensures accepted { IfOk result (λ _. AreMatched (pair_of standard daylight) × AreSpaced (pair_of standard daylight)) }
+        ensures refuses { IfErr result (λ e. IsPairFault e.number (observance_of standard) (observance_of daylight)) }
+    {
+        let pair = Pair::new(standard, daylight)?;
+        Ok(Zone {
+            kind: Kind::Pair(pair),
+        })
+    }
+
+    /// The zone that a VTIMEZONE says.
+    /// Refused: 40 for a shape that isn't read, as no part, RDATE, a DTSTART, TZOFFSETFROM or TZOFFSETTO that
+    /// is missing, stands twice or isn't local, or other rules; 11 and 13 for a DTSTART and an offset that are
+    /// none; 41 for offsets that don't match or lie over 12 hours apart; 42 for onsets less than two days
+    /// apart.
+    pub fn read(alloc: Global, zone: &Component) -> Result<Zone, Fault>
+        ensures says { IfOk result (λ z. SaysZone (tree_of zone.now) (zone_of z)) }
+        ensures stands { IfErr result (RefusesBy (ZoneFault (tree_of zone.now))) }
+    {
+        read_zone(alloc, zone)
+    }
+
+    /// The zone of the one offset that an observance sets.
+    pub(crate) fn keeping(observance: Observance) -> Zone
+        ensures { zone_of result ≡ Constant observance.offset_from }
+    {
+        Zone {
+            kind: Kind::Constant(Fixed {
+                offset: observance.offset_from,
+            }),
+        }
+    }
+
     /// The offset in force at an instant, in seconds (RFC 5545 3.6.5). Instants are seconds from
     /// 1970-01-01T00:00:00Z.
     pub fn offset(&self, instant: i64) -> i32
@@ -88,8 +142,8 @@ impl Zone {
     {
         match &self.kind {
             Kind::Constant(fixed) => fixed.offset,
-            Kind::Single(observance) => offset_of_single(observance, instant),
-            Kind::Pair(pair) => offset_of_pair(&pair.standard, &pair.daylight, instant),
+            Kind::Single(observance) => observance.offset(instant),
+            Kind::Pair(pair) => pair.offset(instant),
         }
     }
 
@@ -110,8 +164,8 @@ impl Zone {
     {
         match &self.kind {
             Kind::Constant(fixed) => (fixed.offset, fixed.offset),
-            Kind::Single(observance) => ordered(observance.offset_from, observance.offset_to),
-            Kind::Pair(pair) => ordered(pair.standard.offset_from, pair.standard.offset_to),
+            Kind::Single(observance) => observance.offsets(),
+            Kind::Pair(pair) => pair.standard.offsets(),
         }
     }
 
@@ -156,4 +210,75 @@ impl Zone {
         // For the proof alone: the two offsets.
         let _ = self.ends();
     }
+
+    /// The instant that a second of a day means.
+    fn start_on(&self, day: Day, second: u32) -> i64
+        requires range { day_index day ≤ 3_652_424 }
+        requires second { second < 86_400 }
+        ensures meaning { Means (zone_of self.now) (local_time (day_index day) second) result }
+        ensures range { IsNearEpoch result }
+    {
+        let local = LocalTime::of_day(day, second).unwrap();
+        self.resolve(local)
+    }
+
+    /// The last day up to 9999-12-31 on which a time of day, in seconds, isn't past an instant. None where
+    /// it is past it on each from 0001-01-01 on, and for a second that no day has.
+    pub fn last_day(&self, second: u32, until: i64) -> Option<Day>
+        ensures day { second < 86_400 → let z = zone_of self.now in
+            MatchOption result (NoneFrom z second until 366) (λ day. IsLastDay z second until (day_index day)) }
+        ensures none { 86_400 ≤ second → result ≡ None }
+    {
+        if second >= DAY_SECONDS as u32 {
+            return None;
+        }
+        self.last_day_at(second, until)
+    }
+
+    /// The same for a second of a day. The offsets decide between the three days that are looked at.
+    fn last_day_at(&self, second: u32, until: i64) -> Option<Day>
+        requires { second < 86_400 }
+        ensures { let z = zone_of self.now in
+            MatchOption result (NoneFrom z second until 366) (λ day. IsLastDay z second until (day_index day)) }
+    {
+        let (_, greatest) = self.ends();
+        let mut index = latest_day(second, greatest, until);
+        while index >= FIRST_INDEX {
+            let day = Day::at_index(index).unwrap();
+            if self.start_on(day, second) <= until {
+                return Some(day);
+            }
+            index -= 1;
+        }
+        None
+    }
+
+    /// Appends the VTIMEZONE of that name: its TZID, STANDARD, and DAYLIGHT where there are two parts. A part has
+    /// DTSTART, RRULE where it comes every year, TZOFFSETFROM and TZOFFSETTO. Without memory nothing is appended.
+    pub fn write(&self, name: &str, out: &mut Vec<u8>) -> Result<(), AllocError>
+        ensures ok { OnOk result (Appends out.old.items out.new.items (λ text. IsZoneText text name.now (zone_of self.now))) }
+        ensures err { OnErr result (out.new.items ≡ out.old.items) }
+    {
+        let mut octets = Vec::new(*out.allocator());
+        write_zone(&mut octets, name, self)?;
+        out.extend_from_slice(octets.as_slice())?;
+        Ok(())
+    }
+}
+
+/// The last day, by its index, on which that second of the day isn't past an instant with that offset.
+fn latest_day(second: u32, offset: i32, until: i64) -> u32
+    requires second { second < 86_400 }
+    requires offset { IsOffset offset }
+    ensures range { result ≤ 3_652_424 }
+    ensures past { (other : ℕ) → result < other → other ≤ 3_652_424 → (until +ℤ offset) <ℤ local_time other second }
+{
+    if until < EARLY {
+        return FIRST_INDEX - 1;
+    }
+    if until > LATE {
+        return LAST_INDEX;
+    }
+    let since = until + offset as i64 - second as i64 + EPOCH_INDEX as i64 * DAY_SECONDS;
+    ((since as u64 / DAY_SECONDS as u64) as u32).min(LAST_INDEX)
 }

@@ -14,8 +14,8 @@ returns-then-not-is_one-clause-none c h =
 pub returns-clause-found : goal.returns-clause-found
 returns-clause-found c =
     let one : c.count_named.result ≡ 1 = omega (arith, c.is_one.ensures.0 c.if-not-is_one.false) in
-    only_found (λ n. is_same_name n c.args.name.now) (component_children c.args.zone.now) c.find_named.result c.find_named.ensures (sym c.count_named.ensures ∙ one)
+    only_found (λ n. is_same_name n c.args.name.now) (component_children c.args.zone.now) c.first_named.result c.first_named.ensures (sym c.count_named.ensures ∙ one)
 
 pub returns-clause-none : goal.returns-clause-none
 returns-clause-none c =
-    not_found (λ n. is_same_name n c.args.name.now) (component_children c.args.zone.now) c.find_named.result c.find_named.ensures
+    not_found (λ n. is_same_name n c.args.name.now) (component_children c.args.zone.now) c.first_named.result c.first_named.ensures

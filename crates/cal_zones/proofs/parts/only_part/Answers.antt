@@ -15,7 +15,7 @@ returns-then-not-is_one-clause-none c h =
 pub returns-clause-found : goal.returns-clause-found
 returns-clause-found c =
     let one : c.count_parts.result ≡ 1 = omega (arith, c.is_one.ensures.0 c.if-not-is_one.false) in
-    only_found is_part (component_children c.args.zone.now) c.find_part.result c.find_part.ensures (sym c.count_parts.ensures ∙ one)
+    only_found is_part (component_children c.args.zone.now) c.first_part.result c.first_part.ensures (sym c.count_parts.ensures ∙ one)
 
 pub returns-clause-none : goal.returns-clause-none
-returns-clause-none c = not_found is_part (component_children c.args.zone.now) c.find_part.result c.find_part.ensures
+returns-clause-none c = not_found is_part (component_children c.args.zone.now) c.first_part.result c.first_part.ensures

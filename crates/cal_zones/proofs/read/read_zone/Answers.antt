@@ -1,20 +1,21 @@
-use Rattle.std.proofs.Common.{◌≡◌, sym, subst, ℤ, to_z, of_z, w32}
-use Rattle.ical_tree.specs.Tree.{component_lines}
+use Rattle.std.proofs.Common.{◌≡◌, sym, subst, ℤ, to_z, of_z, w32, Some, None}
+use Rattle.ical_tree.specs.Tree.{component_lines, component_children}
 use Rattle.profile.specs.Zones.{Zone}
-use Rattle.profile.specs.ZoneTexts.{PartsSay, Keeps, Strays, TimesFault, no_part, in_part, constant}
+use Rattle.profile.specs.ZoneTexts.{is_part, PartsSay, Keeps, Strays, TimesFault, no_part, in_part, constant}
 use Rattle.cal_zones.specs.Onsets.{observance_of}
 use Rattle.cal_zones.specs.Read.{HasFault, SomeTimesFault, parts_of, standards_of, daylights_of}
 use Rattle.cal_zones.proofs.Casts.{narrow}
 use Rattle.cal_zones.proofs.Reading.{fault_exit, some_times_fault}
+use Rattle.cal_zones.proofs.PartLemmas.{found_in, nothing_in}
 use Rattle.cal_zones.proofs.read.read_zone.Goals as goal
 
 pub returns-in_default-clause-stands : goal.returns-in_default-clause-stands
-returns-in_default-clause-stands c = no_part c.in_default.ensures.none
+returns-in_default-clause-stands c = no_part (nothing_in is_part (component_children c.args.zone.now) None c.in_default.ensures)
 
 pub returns-in_err-first-clause-stands : goal.returns-in_err-first-clause-stands
 returns-in_err-first-clause-stands c =
     let part = component_lines c.in-Some.part.now in
-    fault_exit _ (HasFault c.args.zone.now) (TimesFault part) _ (λ n h. in_part part c.in-Some.ensures.found h) c.from_residual.ensures.1 c.in_err-first.ensures.stands
+    fault_exit _ (HasFault c.args.zone.now) (TimesFault part) _ (λ n h. in_part part (found_in is_part (component_children c.args.zone.now) (Some c.in-Some.part) c.in-Some.ensures) h) c.from_residual.ensures.1 c.in_err-first.ensures.stands
 
 pub returns-in_err-all_keep-clause-stands : goal.returns-in_err-all_keep-clause-stands
 returns-in_err-all_keep-clause-stands c =
@@ -30,7 +31,7 @@ returns-then-branch-clause-says c =
     let keeps = c.in_ok-all_keep.ensures.yes c.if-branch.true in
     subst (λ (z : Zone). PartsSay (parts_of zone) (standards_of zone) (daylights_of zone) z) (sym c.keeping.ensures)
     (record {
-      form = constant first.offset_from (component_lines c.in-Some.part.now) c.in-Some.ensures.found (λ other there. subst (λ (z : ℤ). Keeps z other) same (keeps other there));
+      form = constant first.offset_from (component_lines c.in-Some.part.now) (found_in is_part (component_children c.args.zone.now) (Some c.in-Some.part) c.in-Some.ensures) (λ other there. subst (λ (z : ℤ). Keeps z other) same (keeps other there));
       matched = tt;
       spaced = tt;
     })
@@ -44,7 +45,7 @@ read_changing-requires c =
       one = component_lines c.in-Some.part.now;
       other = other.0;
       o = observance_of first;
-      one_in = c.in-Some.ensures.found;
+      one_in = (found_in is_part (component_children c.args.zone.now) (Some c.in-Some.part) c.in-Some.ensures);
       other_in = other.1;
       says = c.in_ok-first.ensures.says;
       strays = subst (λ (z : ℤ). Strays z other.0) same other.2;

@@ -1,0 +1,35 @@
+use Rattle.std.proofs.Common.{codes, sym, subst, ℤ}
+use Rattle.std.specs.Prelude.{Some, true}
+use Rattle.profile.specs.Properties.{Says}
+use Rattle.profile.specs.ZoneTexts.{IsLocalLine, IsOffsetLine, TimesFault, dates}
+use Rattle.cal_zones.proofs.Reading.{from_fault, to_fault}
+use Rattle.ical_values.proofs.Exits.{refusal_exit}
+use Rattle.cal_zones.proofs.parts.read_times.Goals as goal
+
+pub returns-then-has_line-clause-stands : goal.returns-then-has_line-clause-stands
+returns-then-has_line-clause-stands c = dates (c.has_line.ensures.stands c.if-has_line.true)
+
+pub returns-in_err-start-clause-stands : goal.returns-in_err-start-clause-stands
+returns-in_err-start-clause-stands c =
+    refusal_exit _ (TimesFault c.args.properties.now) _ c.from_residual.ensures.1 c.in_err-start.ensures.stands
+
+pub returns-in_err-from-clause-stands : goal.returns-in_err-from-clause-stands
+returns-in_err-from-clause-stands c =
+    let lines = c.args.properties.now in
+    refusal_exit _ (TimesFault lines) _ c.from_residual-in_err-from.ensures.1 (from_fault lines _ c.in_err-from.ensures.stands)
+
+pub returns-in_err-to-clause-stands : goal.returns-in_err-to-clause-stands
+returns-in_err-to-clause-stands c =
+    let lines = c.args.properties.now in
+    refusal_exit _ (TimesFault lines) _ c.from_residual-in_err-to.ensures.1 (to_fault lines _ c.in_err-to.ensures.stands)
+
+pub returns-clause-says : goal.returns-clause-says
+returns-clause-says c =
+    let lines = c.args.properties.now in
+    record {
+      start = subst (λ (t : ℤ). Says (codes "DTSTART") true IsLocalLine lines (Some t)) (sym c.new.ensures.start) c.in_ok-start.ensures.says;
+      second = c.new.result.starts.2;
+      from = subst (λ (t : ℤ). Says (codes "TZOFFSETFROM") true IsOffsetLine lines (Some t)) (sym c.new.ensures.from) c.in_ok-from.ensures.says;
+      to = subst (λ (t : ℤ). Says (codes "TZOFFSETTO") true IsOffsetLine lines (Some t)) (sym c.new.ensures.to) c.in_ok-to.ensures.says;
+      no_dates = c.has_line.ensures.missing c.if-has_line.false;
+    }

@@ -1,0 +1,158 @@
+//! Two observances that follow each other: STANDARD and DAYLIGHT.
+
+ghost use Rattle.std.specs.Prelude.{◌≡◌, ◌≤◌, true, false};
+ghost use Rattle.cal_zones.specs.Apart.{NeverAtOnce};
+ghost use Rattle.cal_zones.specs.Spaced.{IsApart, IsYearSpaced, IsSpaced, AreNear, HasNear};
+
+use crate::observance::Observance;
+use crate::yearly::Yearly;
+use ical_lines::Refusal;
+
+/// The seconds that two onsets have between them at least.
+const SPACING: u64 = 172_800;
+
+/// Two observances that follow each other.
+#[derive(Clone, Copy, Debug)]
+pub struct Pair {
+    pub(crate) standard: Observance,
+    pub(crate) daylight: Observance,
+    ghost there: { standard.offset_to ≡ daylight.offset_from },
+    ghost back: { daylight.offset_to ≡ standard.offset_from },
+    ghost apart: { NeverAtOnce standard daylight },
+}
+
+impl Pair {
+    ghost use Rattle.std.specs.Prelude.{◌≡◌, true, IfOk, IfErr};
+    ghost use Rattle.profile.specs.Values.{IsOffset};
+    ghost use Rattle.profile.specs.Zones.{IsOffsetAt, IsOnset, IsLatest, onset_at, NoneBegun};
+    ghost use Rattle.profile.specs.ZoneTexts.{AreMatched, AreSpaced, IsPairFault};
+    ghost use Rattle.cal_zones.specs.Onsets.{observance_of};
+    ghost use Rattle.cal_zones.specs.Kinds.{pair_of};
+
+    /// The pair of two observances. Refused with 40 where one has no rule, with 41 where each TZOFFSETFROM isn't the
+    /// other's TZOFFSETTO or they lie more than 12 hours apart, with 42 where two onsets of their rules lie less than
+    /// 172,800 seconds apart, in any year.
+    pub(crate) fn new(standard: Observance, daylight: Observance) -> Result<Pair, Refusal>
+        ensures standard { IfOk result (λ pair. pair.standard ≡ standard) }
+        ensures daylight { IfOk result (λ pair. pair.daylight ≡ daylight) }
+        ensures accepted { IfOk result (λ _. AreMatched (pair_of standard daylight) × AreSpaced (pair_of standard daylight)) }
+        ensures refuses { IfErr result (λ e. IsPairFault e.number (observance_of standard) (observance_of daylight)) }
+    {
+        let Some(first) = standard.rule else {
+            return Err(Refusal::ZONE_SHAPE);
+        };
+        let Some(second) = daylight.rule else {
+            return Err(Refusal::ZONE_SHAPE);
+        };
+        if !Pair::are_matched(&standard, &daylight) {
+            return Err(Refusal::ZONE_OFFSETS);
+        }
+        if !is_spaced(&standard, &daylight, first, second) {
+            return Err(Refusal::ZONE_ONSETS);
+        }
+        Ok(Pair { standard, daylight })
+    }
+
+    /// Does each TZOFFSETFROM equal the other's TZOFFSETTO, and do they lie at most 12 hours apart?
+    fn are_matched(a: &Observance, b: &Observance) -> bool
+        ensures yes { result ≡ true → AreMatched (pair_of a.now b.now) }
+        ensures no { AreMatched (pair_of a.now b.now) → result ≡ true }
+    {
+        if a.offset_to != b.offset_from {
+            return false;
+        }
+        if b.offset_to != a.offset_from {
+            return false;
+        }
+        a.is_near()
+    }
+
+    /// The offset in force: what the later of the latest onsets sets, and before all onsets what the first one ends.
+    pub(crate) fn offset(&self, instant: i64) -> i32
+        ensures offset { IsOffsetAt (pair_of self.now.standard self.now.daylight) instant result }
+        ensures range { IsOffset result }
+    {
+        match self.standard.latest_onset(instant) {
+            None => self.offset_before(instant),
+            Some(x) => self.offset_after(x, instant),
+        }
+    }
+
+    /// The offset where the first hasn't begun.
+    fn offset_before(&self, instant: i64) -> i32
+        requires { NoneBegun (observance_of self.now.standard) instant }
+        ensures offset { IsOffsetAt (pair_of self.now.standard self.now.daylight) instant result }
+        ensures range { IsOffset result }
+    {
+        match self.daylight.latest_onset(instant) {
+            None => self.offset_before_both(instant),
+            Some(_) => self.daylight.offset_to,
+        }
+    }
+
+    /// The offset where neither has begun.
+    fn offset_before_both(&self, instant: i64) -> i32
+        requires standard { NoneBegun (observance_of self.now.standard) instant }
+        requires daylight { NoneBegun (observance_of self.now.daylight) instant }
+        ensures offset { IsOffsetAt (pair_of self.now.standard self.now.daylight) instant result }
+        ensures range { IsOffset result }
+    {
+        if self.standard.first_onset() <= self.daylight.first_onset() {
+            self.standard.offset_from
+        } else {
+            self.daylight.offset_from
+        }
+    }
+
+    /// The offset where the first has begun, last at `x`.
+    fn offset_after(&self, x: i64, instant: i64) -> i32
+        requires { IsLatest (IsOnset (observance_of self.now.standard)) instant (onset_at (observance_of self.now.standard) x) }
+        ensures offset { IsOffsetAt (pair_of self.now.standard self.now.daylight) instant result }
+        ensures range { IsOffset result }
+    {
+        match self.daylight.latest_onset(instant) {
+            None => self.standard.offset_to,
+            Some(y) if x >= y => self.standard.offset_to,
+            Some(_) => self.daylight.offset_to,
+        }
+    }
+}
+
+/// Do they in each year? The years repeat after 400, so these are looked at.
+pub(crate) fn is_spaced(a: &Observance, b: &Observance, first: Yearly, second: Yearly) -> bool
+    ensures apart { result ≡ true → IsSpaced a.now b.now first second 801 }
+    ensures near { result ≡ false → HasNear a.now b.now first second }
+{
+    for year in 401..801 {
+        if !is_year_spaced(a, b, first, second, year) {
+            return false;
+        }
+    }
+    true
+}
+
+/// Does the onset of the first in a year keep apart from those of the second in that year, in the year
+/// before it and in the year after it?
+fn is_year_spaced(a: &Observance, b: &Observance, first: Yearly, second: Yearly, year: u32) -> bool
+    requires { (2 ≤ year) × (year ≤ 1000) }
+    ensures apart { result ≡ true → IsYearSpaced a.now b.now first second year }
+    ensures near { result ≡ false → HasNear a.now b.now first second }
+{
+    let day = first.day_in(year);
+    if !is_apart(a, b, day, second.day_in(year - 1)) {
+        return false;
+    }
+    if !is_apart(a, b, day, second.day_in(year)) {
+        return false;
+    }
+    is_apart(a, b, day, second.day_in(year + 1))
+}
+
+/// Do the onsets on two days keep apart?
+fn is_apart(a: &Observance, b: &Observance, n: u32, m: u32) -> bool
+    requires { (n ≤ 3_653_155) × (m ≤ 3_653_155) }
+    ensures apart { result ≡ true → IsApart a.now b.now n m }
+    ensures near { result ≡ false → AreNear a.now b.now n m }
+{
+    a.onset_on(n).abs_diff(b.onset_on(m)) >= SPACING
+}
