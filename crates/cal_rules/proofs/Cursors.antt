@@ -5,7 +5,7 @@ use Rattle.std.specs.List.{list_any, list_all}
 use Rattle.profile.specs.Rules.{Pattern, Parts, allows, is_nth, is_missing, passes, is_in_step, count_days, last_rule_day}
 use Rattle.cal_rules.specs.declared.facts.DayFacts.{DayFacts}
 use Rattle.cal_rules.specs.declared.cursor.Cursor.{Cursor}
-use Rattle.cal_rules.specs.declared.span.Span.{Span}
+use Rattle.cal_rules.specs.declared.cursor.Span.{Span}
 use Rattle.cal_rules.specs.Spans.{IsSpan}
 use Rattle.cal_rules.specs.Known.{AreFacts}
 use Rattle.cal_rules.specs.Counted.{NoneIn, NoneFrom, is_chosen}

@@ -13,7 +13,7 @@ pub mod Numbers
 pub mod Entered
 pub mod Taking
 pub mod OneRule
-pub mod Listing
+pub mod Listed
 pub mod Sorting
 pub mod ReadBack
 pub mod WholeRule

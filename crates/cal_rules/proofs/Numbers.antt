@@ -1,8 +1,8 @@
 -- Numbers, weekdays and dates as they are spelled.
-use Rattle.std.proofs.Common.{to_z, of_z, w16, w64, ◌≡◌, ◌∙◌, ◌≢◌, ap, sym, refl, ℕ, zero, suc, ◌+◌, ◌-◌, ◌*◌, ◌^◌, ◌<◌, ◌≤◌, lit<, lit≤, true, false, cond, nat_eq, inl, inr, ◌⊎◌, List, [], ◌∷◌, ◌++◌, length, get_or, take, drop, codes, Option, None, Some, IsSome, is_some, IfSome, IfNone, MatchOption, ℤ, pos, neg_ℤ, ◌*ℤ◌, ◌+ℤ◌, arith, Result, Ok, Err}
+use Rattle.std.proofs.Common.{to_z, of_z, w16, ◌≡◌, ◌∙◌, ◌≢◌, ap, sym, refl, ℕ, zero, suc, ◌+◌, ◌-◌, ◌*◌, ◌^◌, ◌<◌, ◌≤◌, lit<, lit≤, true, false, cond, nat_eq, inl, inr, ◌⊎◌, List, [], ◌∷◌, ◌++◌, length, get_or, take, drop, codes, Option, None, Some, is_some, IfSome, IfNone, MatchOption, ℤ, pos, neg_ℤ, arith, Result, Ok, Err}
 use Rattle.std.proofs.lemmas.Bool.Decides.{nat_tests}
 use Rattle.std.proofs.lemmas.Int.{ints}
-use Rattle.std.proofs.lemmas.List.{append_assoc, take-append-drop, take_at, drop_at, get_or_at, length-append}
+use Rattle.std.proofs.lemmas.List.{take-append-drop, take_at, drop_at, get_or_at, length-append}
 use Rattle.std.proofs.lemmas.Str.{IsCharBoundary-before_ascii}
 use Rattle.std.proofs.lemmas.Str.Parse.{without_leading_plus_none, digit_from_value}
 use Rattle.std.specs.Int.{IsInRange}
@@ -11,15 +11,13 @@ use Rattle.std.specs.Str.{IsCharBoundary}
 use Rattle.std.specs.Str.Parse.{AllDigits, IsNumeral, digits_value, without_leading_plus, ParsesUnsigned}
 use Rattle.std.specs.Result.{result_ok}
 use Rattle.profile.specs.Faults.{is_between}
-use Rattle.profile.specs.Days.{Frequency, Daily, Weekly, Monthly, Yearly, IsDayNumber}
-use Rattle.profile.specs.Values.{IsNumber, IsClockSeconds, SpellsDate, SpellsTime, SpellsLocal, SpellsStamp}
+use Rattle.profile.specs.Days.{Frequency, Daily, Weekly, Monthly, Yearly}
+use Rattle.profile.specs.Values.{IsNumber, SpellsDate, SpellsLocal, SpellsStamp}
 use Rattle.profile.specs.Rules.{WeekdayNumber, Until, UntilDay, UntilLocal, UntilInstant}
 use Rattle.profile.specs.RuleTexts.{frequency_word, weekday_word, SpellsFrequency, SpellsWeekday, SpellsBetween, SpellsPlace, SpellsEntry, SpellsUntil, SpellsNone}
-use Rattle.ical_values.proofs.Offsets.{time_same}
-use Rattle.ical_values.proofs.Spelled.{clock_parts, date_length, after_letter, list_of_8}
+use Rattle.ical_values.proofs.Spelled.{clock_parts, date_length}
 use Rattle.ical_values.proofs.Readings.{date_same, clock_same, stamp_same}
 use Rattle.ical_values.proofs.Parts.{head, tail}
-use Rattle.ical_values.proofs.Facts.{wide_clock}
 
 -- ---- words
 

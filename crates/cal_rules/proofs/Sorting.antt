@@ -16,7 +16,7 @@ use Rattle.profile.specs.RuleTexts.{listed, months_from, numbers_from, entries_f
 use Rattle.cal_rules.proofs.InOrder.{int_one, int_itself, number_apart, entry_one, entry_itself, entry_apart}
 use Rattle.cal_rules.proofs.Judging.{any_map}
 use Rattle.cal_rules.proofs.WholeRule.{ranges}
-use Rattle.cal_rules.proofs.Listing.{listed_hit, listed_end}
+use Rattle.cal_rules.proofs.Listed.{listed_hit, listed_end}
 
 -- a number stands in a list
 abbrev pub has : List ℕ → ℕ → Bool

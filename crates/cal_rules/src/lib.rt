@@ -2,25 +2,17 @@
 //! exactly, to the end of the year 9999.
 #![tactic(auto)]
 
-mod base;
-mod checks;
 mod cursor;
-mod days;
-mod entries;
 mod facts;
-mod from_end;
+mod listing;
 mod parts;
-mod place;
-mod position;
 mod rule;
-mod span;
 mod text;
 mod values;
 mod write;
 mod written;
 
-pub use days::Days;
-pub use rule::Rule;
+pub use rule::{Days, Rule};
 pub use text::{RuleText, one_rule};
 pub use write::{rule_reads_back, values_read_back, weekday_word, written_means_the_same};
 pub use written::{Until, WeekdayNumber};

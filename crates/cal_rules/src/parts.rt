@@ -7,8 +7,10 @@ ghost use Rattle.profile.specs.RuleTexts.{rule_parts, IsKnownPart, SaysParts, Sp
 ghost use Rattle.cal_rules.specs.Views.{text_of};
 ghost use Rattle.cal_rules.specs.Taken.{SayParts, AreTaken, Enters, IsFaultOf};
 
-use crate::entries::{read_entries, read_months, read_places};
-use crate::values::{read_count, read_frequency, read_interval, read_until, read_weekday};
+use crate::values::{
+    read_count, read_entries, read_frequency, read_interval, read_months, read_places, read_until,
+    read_weekday,
+};
 use crate::written::{Until, WeekdayNumber, Written};
 use cal_days::Frequency;
 use ical_lines::{Fault, Refusal};

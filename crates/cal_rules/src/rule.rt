@@ -1,17 +1,11 @@
-//! A rule from a day on: its days, tested and jumped to.
+//! A rule from a day on: its days, tested, jumped to and listed.
 
-ghost use Rattle.std.specs.Prelude.{◌≡◌, ◌+◌, true, false, map, MatchOption, IfOk, IfErr};
-ghost use Rattle.cal_days.specs.Views.{frequency_of};
-ghost use Rattle.cal_rules.specs.Views.{entry_of};
-ghost use Rattle.profile.specs.Days.{day_index};
-ghost use Rattle.profile.specs.Rules.{rule_of, is_rule_day, rule_days_from, NoDayFrom, IsNextDay};
-ghost use Rattle.cal_rules.specs.Left.{days_left};
+ghost use Rattle.std.specs.Prelude.{◌≡◌};
 ghost use Rattle.cal_rules.specs.Standing.{StandsAt};
-ghost use Rattle.ical_lines.specs.declared.fault.Fault.TheVariants.{Refused};
 
 use crate::cursor::Cursor;
-use crate::days::Days;
 use crate::facts::DayFacts;
+use crate::listing::{find_end, is_counted, next_counted};
 use crate::text::RuleText;
 use crate::written::{WeekdayNumber, Written};
 use cal_days::{Day, Frequency};
@@ -45,6 +39,15 @@ impl Model for Rule {
 }
 
 impl Rule {
+    ghost use Rattle.std.specs.Prelude.{◌≡◌, ◌+◌, true, false, map, MatchOption, IfOk, IfErr};
+    ghost use Rattle.cal_days.specs.Views.{frequency_of};
+    ghost use Rattle.cal_rules.specs.Views.{entry_of};
+    ghost use Rattle.profile.specs.Days.{day_index};
+    ghost use Rattle.profile.specs.Rules.{rule_of, is_rule_day, rule_days_from, NoDayFrom, IsNextDay};
+    ghost use Rattle.cal_rules.specs.Left.{days_left};
+    ghost use Rattle.cal_rules.specs.Standing.{StandsAt};
+    ghost use Rattle.ical_lines.specs.declared.fault.Fault.TheVariants.{Refused};
+
     /// The rule of that text, from the day of DTSTART to `last`, the last day that UNTIL allows. Refused
     /// where the start isn't a day of the rule (34).
     pub fn new(text: RuleText, start: Day, last: Day) -> Result<Rule, Fault>
@@ -55,7 +58,7 @@ impl Rule {
     {
         let written = text.written;
         let begin = DayFacts::of(start);
-        let end = written.find_end(begin, last);
+        let end = find_end(&written, begin, last);
         let rule = Rule {
             written,
             start: begin,
@@ -82,7 +85,7 @@ impl Rule {
         if day.index() > self.end {
             return false;
         }
-        self.written.is_counted(self.start, self.last, day)
+        is_counted(&self.written, self.start, self.last, day)
     }
 
     /// The first day of the rule that isn't before that one.
@@ -100,7 +103,7 @@ impl Rule {
         ensures { MatchOption result (NoDayFrom self.now from.day.index) (λ found. IsNextDay self.now from.day.index (day_index found.0)
             × (found.1.day.index ≡ day_index found.0 + 1) × StandsAt self.now.pattern found.1) }
     {
-        let after = self.written.next_counted(self.start, self.last, from)?;
+        let after = next_counted(&self.written, self.start, self.last, from)?;
         let found = after.day.index - 1;
         if found > self.end {
             return None;
@@ -176,5 +179,46 @@ impl Rule {
         ensures { day_index result ≡ self.now.last }
     {
         self.last
+    }
+}
+
+/// The days of a rule from a day on, ascending. It keeps where it is in its period: the next day, and with
+/// BYSETPOS how many days of the period pass each part before it and from it on. So one period is looked
+/// up and counted at a time, once.
+#[derive(Drop)]
+pub struct Days<'a> {
+    rule: &'a Rule,
+    cursor: Cursor,
+    ghost stands: { StandsAt rule.now.pattern cursor },
+}
+
+impl<'a> Days<'a> {
+    ghost use Rattle.profile.specs.Rules.{rule_days_from};
+    ghost use Rattle.cal_rules.specs.Left.{days_left};
+
+    /// From that cursor on.
+    pub(crate) fn of(rule: &'a Rule, cursor: Cursor) -> Days<'a>
+        requires { StandsAt rule.now.pattern cursor }
+        ensures { days_left result ≡ rule_days_from rule.now cursor.day.index }
+    {
+        Days { rule, cursor }
+    }
+}
+
+impl<'a> Iterator for Days<'a> {
+    ghost use Rattle.std.specs.Iterator.{YieldsFirstBy, item_count};
+    ghost use Rattle.profile.specs.Days.{day_index};
+    ghost use Rattle.cal_rules.specs.Left.{days_left};
+
+    type Item = Day;
+
+    ghost next_gives = { YieldsFirstBy day_index days_left };
+
+    ghost remaining = { item_count days_left };
+
+    fn next(&mut self) -> Option<Day> {
+        let (day, after) = self.rule.next_day(self.cursor)?;
+        self.cursor = after;
+        Some(day)
     }
 }

@@ -1,17 +1,19 @@
 //! The text of a rule (RFC 5545 3.3.10), read and written.
 
-ghost use Rattle.std.specs.Prelude.{◌≡◌, ℕ, List, map, option_map, IfOk, IfErr};
+ghost use Rattle.std.specs.Prelude.{◌≡◌, ℕ, List, map, option_map, IfOk, IfErr, ◌++◌, OnOk, OnErr};
 ghost use Rattle.ical_lines.specs.Fault.{RefusesBy};
-ghost use Rattle.profile.specs.Rules as rules;
 ghost use Rattle.profile.specs.RuleTexts.{SpellsRule, RuleFault, IsLeastRuleFault};
 ghost use Rattle.cal_days.specs.Views.{frequency_of};
-ghost use Rattle.cal_rules.specs.Views.{entry_of, until_of};
+ghost use Rattle.cal_rules.specs.Views.{entry_of, until_of, text_of};
+ghost use Rattle.profile.specs.Rules as rules;
+ghost use Rattle.profile.specs.RuleTexts as texts;
 
 use crate::parts::Parts;
+use crate::write::rule_text;
 use crate::written::{Until, WeekdayNumber, Written};
 use cal_days::Frequency;
 use ical_lines::Fault;
-use std::alloc::Global;
+use std::alloc::{AllocError, Global};
 use std::marker::Model;
 
 /// The text of a rule, as it was read.
@@ -108,6 +110,19 @@ impl RuleText {
         ensures { option_map until_of result ≡ self.now.until }
     {
         self.written.until
+    }
+
+    /// Appends FREQ, COUNT or UNTIL, INTERVAL unless 1, BYMONTH, BYMONTHDAY, BYDAY, BYSETPOS, WKST unless
+    /// MO; lists ascend, with each entry once, and BYDAY goes by its numbers, then from Monday on.
+    /// `until`, a UTC date-time or a date, takes the place of an UNTIL that the rule has. Without memory
+    /// nothing is appended.
+    pub fn write(&self, until: Option<&str>, out: &mut Vec<u8>) -> Result<(), AllocError>
+        ensures ok { OnOk result
+            (out.new.items ≡ out.old.items ++ texts.rule_text self.now (option_map (λ text. text.now) until.entry)) }
+        ensures err { OnErr result (out.new.items ≡ out.old.items) }
+    {
+        let text = rule_text(*out.allocator(), &self.written, until)?;
+        out.extend_from_slice(text.as_str().as_bytes())
     }
 }
 

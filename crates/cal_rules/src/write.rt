@@ -1,113 +1,100 @@
 //! The text of a rule, written in one form (RFC 5545 3.3.10).
 
-ghost use Rattle.std.specs.Prelude.{Option, ◌≡◌, ◌++◌, ◌<◌, ◌≤◌, ◌^◌, ◌==◌, ℕ, ℤ, List, [], ◌∷◌, length, true, All, Contains, map, option_map, codes, decimal, string_bytes, if◌then◌else◌, IfOk, OnOk, OnErr};
+ghost use Rattle.std.specs.Prelude.{Option, ◌≡◌, ◌++◌, ◌<◌, ◌≤◌, ◌^◌, ◌==◌, ℕ, ℤ, List, [], ◌∷◌, length, true, All, Contains, map, option_map, codes, decimal, string_bytes, if◌then◌else◌, IfOk, OnOk};
 ghost use Rattle.std.specs.Fmt.{signed_decimal};
 ghost use Rattle.std.specs.List.{list_all};
 ghost use Rattle.std.specs.List.Sorted.{IsStrictlyIncreasing};
 ghost use Rattle.profile.specs.Faults.{is_between};
-ghost use Rattle.profile.specs.Rules as rules;
 ghost use Rattle.profile.specs.Rules.{is_place, is_entry};
-ghost use Rattle.profile.specs.RuleTexts as texts;
 ghost use Rattle.cal_days.specs.Views.{frequency_of};
 ghost use Rattle.cal_rules.specs.Views.{entry_of, text_of, until_of};
+ghost use Rattle.profile.specs.Rules as rules;
+ghost use Rattle.profile.specs.RuleTexts as texts;
 
 use crate::text::RuleText;
-use crate::written::{WeekdayNumber, Written};
+use crate::written::{Until, WeekdayNumber, Written};
 use cal_days::Frequency;
 use std::alloc::{AllocError, Global};
 
-impl RuleText {
-    /// Appends FREQ, COUNT or UNTIL, INTERVAL unless 1, BYMONTH, BYMONTHDAY, BYDAY, BYSETPOS, WKST unless
-    /// MO; lists ascend, with each entry once, and BYDAY goes by its numbers, then from Monday on.
-    /// `until`, a UTC date-time or a date, takes the place of an UNTIL that the rule has. Without memory
-    /// nothing is appended.
-    pub fn write(&self, until: Option<&str>, out: &mut Vec<u8>) -> Result<(), AllocError>
-        ensures ok { OnOk result
-            (out.new.items ≡ out.old.items ++ texts.rule_text self.now (option_map (λ text. text.now) until.entry)) }
-        ensures err { OnErr result (out.new.items ≡ out.old.items) }
-    {
-        let text = self.written.text(*out.allocator(), until)?;
-        out.extend_from_slice(text.as_str().as_bytes())
-    }
+/// The text in its one form.
+pub(crate) fn rule_text(
+    alloc: Global,
+    written: &Written,
+    until: Option<&str>,
+) -> Result<String, AllocError>
+    requires { rules.is_in_range (text_of written.now) ≡ true }
+    ensures { IfOk result
+        (λ text. string_bytes text
+        ≡ texts.rule_text (text_of written.now) (option_map (λ text. text.now) until.entry)) }
+{
+    let mut text = String::from_str(alloc, "FREQ=")?;
+    text.push_str(frequency_word(written.frequency))?;
+    push_count(&mut text, written.count)?;
+    push_until(&mut text, written.until, until)?;
+    push_interval(&mut text, written.interval)?;
+    push_months(&mut text, &written.months)?;
+    push_numbers(&mut text, ";BYMONTHDAY=", &written.month_days)?;
+    push_weekdays(&mut text, &written.weekdays)?;
+    push_numbers(&mut text, ";BYSETPOS=", &written.positions)?;
+    push_week_start(&mut text, written.week_start)?;
+    Ok(text)
 }
 
-impl Written {
-    /// The text in its one form.
-    fn text(&self, alloc: Global, until: Option<&str>) -> Result<String, AllocError>
-        requires { rules.is_in_range (text_of self.now) ≡ true }
-        ensures { IfOk result
-            (λ text. string_bytes text
-            ≡ texts.rule_text (text_of self.now) (option_map (λ text. text.now) until.entry)) }
-    {
-        let mut text = String::from_str(alloc, "FREQ=")?;
-        text.push_str(frequency_word(self.frequency))?;
-        self.push_count(&mut text)?;
-        self.push_until(&mut text, until)?;
-        self.push_interval(&mut text)?;
-        push_months(&mut text, &self.months)?;
-        push_numbers(&mut text, ";BYMONTHDAY=", &self.month_days)?;
-        push_weekdays(&mut text, &self.weekdays)?;
-        push_numbers(&mut text, ";BYSETPOS=", &self.positions)?;
-        self.push_week_start(&mut text)?;
-        Ok(text)
-    }
+/// Appends COUNT where it is written.
+fn push_count(text: &mut String, count: Option<u32>) -> Result<(), AllocError>
+    ensures { OnOk result (string_bytes text.new ≡ string_bytes text.old ++ texts.count_text count) }
+{
+    let Some(count) = count else {
+        return Ok(());
+    };
+    text.push_str(";COUNT=")?;
+    push_number(text, count)?;
+    Ok(())
+}
 
-    /// Appends COUNT where it is written.
-    fn push_count(&self, text: &mut String) -> Result<(), AllocError>
-        ensures { OnOk result (string_bytes text.new ≡ string_bytes text.old ++ texts.count_text self.now.count) }
-    {
-        let Some(count) = self.count else {
-            return Ok(());
-        };
-        text.push_str(";COUNT=")?;
-        push_number(text, count)?;
-        Ok(())
-    }
+/// Appends UNTIL, where it is written, as it was handed in.
+fn push_until(text: &mut String, end: Option<Until>, until: Option<&str>) -> Result<(), AllocError>
+    ensures { OnOk result
+        (string_bytes text.new ≡ string_bytes text.old
+        ++ texts.until_text (option_map until_of end) (option_map (λ text. text.now) until.entry)) }
+{
+    let Some(_end) = end else {
+        return Ok(());
+    };
+    let Some(until) = until else {
+        return Ok(());
+    };
+    text.push_str(";UNTIL=")?;
+    text.push_str(until)?;
+    Ok(())
+}
 
-    /// Appends UNTIL, where it is written, as it was handed in.
-    fn push_until(&self, text: &mut String, until: Option<&str>) -> Result<(), AllocError>
-        ensures { OnOk result
-            (string_bytes text.new ≡ string_bytes text.old
-            ++ texts.until_text (option_map until_of self.now.until) (option_map (λ text. text.now) until.entry)) }
-    {
-        let Some(_end) = self.until else {
-            return Ok(());
-        };
-        let Some(until) = until else {
-            return Ok(());
-        };
-        text.push_str(";UNTIL=")?;
-        text.push_str(until)?;
-        Ok(())
+/// Appends INTERVAL unless 1.
+fn push_interval(text: &mut String, interval: u16) -> Result<(), AllocError>
+    ensures { OnOk result
+        (string_bytes text.new ≡ string_bytes text.old
+        ++ (if interval == 1 then [] else codes ";INTERVAL=" ++ decimal interval)) }
+{
+    if interval == 1 {
+        return Ok(());
     }
+    text.push_str(";INTERVAL=")?;
+    push_number(text, interval as u32)?;
+    Ok(())
+}
 
-    /// Appends INTERVAL unless 1.
-    fn push_interval(&self, text: &mut String) -> Result<(), AllocError>
-        ensures { OnOk result
-            (string_bytes text.new ≡ string_bytes text.old
-            ++ (if self.now.interval == 1 then [] else codes ";INTERVAL=" ++ decimal self.now.interval)) }
-    {
-        if self.interval == 1 {
-            return Ok(());
-        }
-        text.push_str(";INTERVAL=")?;
-        push_number(text, self.interval as u32)?;
-        Ok(())
+/// Appends WKST unless MO.
+fn push_week_start(text: &mut String, week_start: u8) -> Result<(), AllocError>
+    ensures { OnOk result
+        (string_bytes text.new ≡ string_bytes text.old
+        ++ (if week_start == 0 then [] else codes ";WKST=" ++ texts.weekday_word week_start)) }
+{
+    if week_start == 0 {
+        return Ok(());
     }
-
-    /// Appends WKST unless MO.
-    fn push_week_start(&self, text: &mut String) -> Result<(), AllocError>
-        ensures { OnOk result
-            (string_bytes text.new ≡ string_bytes text.old
-            ++ (if self.now.week_start == 0 then [] else codes ";WKST=" ++ texts.weekday_word self.now.week_start)) }
-    {
-        if self.week_start == 0 {
-            return Ok(());
-        }
-        text.push_str(";WKST=")?;
-        text.push_str(weekday_word(self.week_start))?;
-        Ok(())
-    }
+    text.push_str(";WKST=")?;
+    text.push_str(weekday_word(week_start))?;
+    Ok(())
 }
 
 /// Appends BYMONTH.

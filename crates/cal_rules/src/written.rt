@@ -1,6 +1,15 @@
-//! The parts of a rule as they are written.
+//! The parts of a rule as they are written: which go together, and which days they name (RFC 5545 3.3.10).
 
-use cal_days::{Day, Frequency};
+ghost use Rattle.std.specs.Prelude.{◌≡◌, ◌&&◌, ◌||◌, not, map, ◌==◌};
+ghost use Rattle.std.specs.List.{list_all, list_any};
+ghost use Rattle.profile.specs.Rules.{is_weekly, is_long, is_missing, is_plain, go_together, has_one_end, is_nth, allows, names_weekday, same_weekdays_before, same_weekdays_after, names_no_day, implies_month, implies_month_day, implies_weekday, counts_in_year, passes_month, passes_month_day, passes_weekday, passes};
+ghost use Rattle.cal_rules.specs.Views.{entry_of, text_of, pattern_of};
+ghost use Rattle.cal_days.specs.Views.{frequency_of};
+ghost use Rattle.profile.specs.Days.{day_index, period_of};
+ghost use Rattle.cal_rules.specs.Known.{AreFacts};
+
+use crate::facts::DayFacts;
+use cal_days::{Day, Frequency, PeriodIndex};
 use ical_values::{LocalTime, Stamp};
 
 /// An entry of BYDAY: a weekday, 0 for Monday, and the number before it, 0 where none is written.
@@ -30,4 +39,289 @@ pub(crate) struct Written {
     pub positions: Vec<i16>,
     pub count: Option<u32>,
     pub until: Option<Until>,
+}
+
+impl Written {
+    /// Do the parts go together?
+    #[tactic(auto, using(std::proofs::lemmas::Bool::Decides::nat_tests), unfolding(profile::specs::Rules::go_together))]
+    pub fn go_together(&self) -> bool
+        ensures { result ≡ go_together (text_of self.now) }
+    {
+        if !self.fits_month_days() {
+            return false;
+        }
+        if !self.fits_numbers() {
+            return false;
+        }
+        self.fits_positions()
+    }
+
+    /// No BYMONTHDAY in a WEEKLY rule?
+    fn fits_month_days(&self) -> bool
+        ensures { result ≡ (not (is_weekly (text_of self.now).frequency) || is_missing (text_of self.now).month_days) }
+    {
+        self.frequency != Frequency::Weekly || self.month_days.is_empty()
+    }
+
+    /// Numbers in BYDAY only in MONTHLY and YEARLY rules without BYMONTHDAY?
+    fn fits_numbers(&self) -> bool
+        ensures { let text = text_of self.now in
+            result ≡ (list_all (λ entry. is_plain entry.number) text.weekdays
+            || (is_long text.frequency && is_missing text.month_days)) }
+    {
+        if are_plain(&self.weekdays) {
+            return true;
+        }
+        self.is_long() && self.month_days.is_empty()
+    }
+
+    /// BYSETPOS only beside another BY part?
+    fn fits_positions(&self) -> bool
+        ensures { let text = text_of self.now in
+            result ≡ (is_missing text.positions
+            || not (is_missing text.months && is_missing text.month_days && is_missing text.weekdays)) }
+    {
+        if self.positions.is_empty() {
+            return true;
+        }
+        !self.has_no_list()
+    }
+
+    /// None of BYMONTH, BYMONTHDAY and BYDAY is written?
+    fn has_no_list(&self) -> bool
+        ensures { let text = text_of self.now in
+            result ≡ (is_missing text.months && is_missing text.month_days && is_missing text.weekdays) }
+    {
+        if !self.months.is_empty() {
+            return false;
+        }
+        self.month_days.is_empty() && self.weekdays.is_empty()
+    }
+
+    /// Is there at most one of COUNT and UNTIL?
+    pub fn has_one_end(&self) -> bool
+        ensures { result ≡ has_one_end (text_of self.now) }
+    {
+        if self.count.is_none() {
+            return true;
+        }
+        self.until.is_none()
+    }
+
+    /// MONTHLY or YEARLY?
+    fn is_long(&self) -> bool
+        ensures { result ≡ is_long (text_of self.now).frequency }
+    {
+        match self.frequency {
+            Frequency::Daily | Frequency::Weekly => false,
+            Frequency::Monthly | Frequency::Yearly => true,
+        }
+    }
+
+    /// Neither BYDAY nor BYMONTHDAY is written.
+    fn names_no_day(&self) -> bool
+        ensures { result ≡ names_no_day (pattern_of self.now 0) }
+    {
+        self.weekdays.is_empty() && self.month_days.is_empty()
+    }
+
+    /// Does the rule take its month from DTSTART?
+    fn implies_month(&self) -> bool
+        ensures { result ≡ implies_month (pattern_of self.now 0) }
+    {
+        if self.frequency != Frequency::Yearly {
+            return false;
+        }
+        if !self.months.is_empty() {
+            return false;
+        }
+        self.names_no_day()
+    }
+
+    /// Does the rule take its month day from DTSTART?
+    fn implies_month_day(&self) -> bool
+        ensures { result ≡ implies_month_day (pattern_of self.now 0) }
+    {
+        match self.frequency {
+            Frequency::Daily | Frequency::Weekly => false,
+            Frequency::Monthly | Frequency::Yearly => self.names_no_day(),
+        }
+    }
+
+    /// Does the rule take its weekday from DTSTART?
+    fn implies_weekday(&self) -> bool
+        ensures { result ≡ implies_weekday (pattern_of self.now 0) }
+    {
+        self.frequency == Frequency::Weekly && self.weekdays.is_empty()
+    }
+
+    /// Do the numbers of BYDAY count in the year?
+    fn counts_in_year(&self) -> bool
+        ensures { result ≡ counts_in_year (pattern_of self.now 0) }
+    {
+        self.frequency == Frequency::Yearly && self.months.is_empty()
+    }
+
+    /// Is the day's month one of those that count?
+    fn passes_month(&self, start: DayFacts, day: DayFacts) -> bool
+        requires start { AreFacts start }
+        requires day { AreFacts day }
+        ensures { result ≡ passes_month (pattern_of self.now start.index) day.index }
+    {
+        if self.implies_month() {
+            return start.month == day.month;
+        }
+        allows_month(&self.months, day.month)
+    }
+
+    /// Is the day one of the month days that count?
+    fn passes_month_day(&self, start: DayFacts, day: DayFacts) -> bool
+        requires start { AreFacts start }
+        requires day { AreFacts day }
+        ensures { result ≡ passes_month_day (pattern_of self.now start.index) day.index }
+    {
+        if self.implies_month_day() {
+            return start.month_before == day.month_before;
+        }
+        allows_nth(
+            &self.month_days,
+            day.month_before as u32,
+            day.month_after as u32,
+        )
+    }
+
+    /// Is the day's weekday, with its number, one of those that count?
+    fn passes_weekday(&self, start: DayFacts, day: DayFacts) -> bool
+        requires start { AreFacts start }
+        requires day { AreFacts day }
+        ensures { result ≡ passes_weekday (pattern_of self.now start.index) day.index }
+    {
+        if self.implies_weekday() {
+            return start.weekday == day.weekday;
+        }
+        let (before, after) = weekday_place(self.counts_in_year(), day);
+        allows_weekday(&self.weekdays, day.weekday, before, after)
+    }
+
+    /// Does the day pass each part that is written or implied?
+    #[tactic(auto, unfolding(profile::specs::Rules::passes))]
+    pub fn passes(&self, start: DayFacts, day: DayFacts) -> bool
+        requires start { AreFacts start }
+        requires day { AreFacts day }
+        ensures { result ≡ passes (pattern_of self.now start.index) day.index }
+    {
+        if !self.passes_month(start, day) {
+            return false;
+        }
+        if !self.passes_month_day(start, day) {
+            return false;
+        }
+        self.passes_weekday(start, day)
+    }
+
+    /// The period of a day.
+    pub fn period(&self, day: Day) -> PeriodIndex
+        ensures { result ≡ period_of (frequency_of self.now.frequency) self.now.week_start (day_index day) }
+    {
+        PeriodIndex::of(self.frequency, self.week_start, day)
+    }
+}
+
+/// Has the entry no number?
+fn has_no_number(entry: WeekdayNumber) -> bool
+    ensures { result ≡ is_plain (entry_of entry).number }
+{
+    entry.number == 0
+}
+
+/// Has no entry a number?
+fn all_plain(entries: &[WeekdayNumber]) -> bool
+    ensures { result ≡ list_all (λ entry. is_plain (entry_of entry).number) entries.now }
+{
+    entries.iter().all(|entry| has_no_number(*entry))
+}
+
+/// Has no entry a number?
+fn are_plain(entries: &[WeekdayNumber]) -> bool
+    ensures { result ≡ list_all (λ entry. is_plain entry.number) (map entry_of entries.now) }
+{
+    all_plain(entries)
+}
+
+/// Is a day with so many before it and so many after it the `k`th, or where `k` is negative the
+/// `-k`th from the end?
+fn is_nth(k: i16, before: u32, after: u32) -> bool
+    ensures { result ≡ is_nth k before after }
+{
+    if k < 0 {
+        return (-(k + 1)) as u32 == after;
+    }
+    k > 0 && (k - 1) as u32 == before
+}
+
+/// Does one of the numbers name the day with so many before it and so many after it?
+fn any_nth(numbers: &[i16], before: u32, after: u32) -> bool
+    ensures { result ≡ list_any (λ k. is_nth k before after) numbers.now }
+{
+    numbers.iter().any(|k| is_nth(*k, before, after))
+}
+
+/// Is the month listed?
+fn any_month(months: &[u8], month: u8) -> bool
+    ensures { result ≡ list_any (λ m. m == month) months.now }
+{
+    months.iter().any(|m| *m == month)
+}
+
+/// Is the month listed, or none?
+fn allows_month(months: &[u8], month: u8) -> bool
+    ensures { result ≡ allows (λ m. m == month) months.now }
+{
+    months.is_empty() || any_month(months, month)
+}
+
+/// Does one of the numbers name the day, or is there none?
+pub(crate) fn allows_nth(numbers: &[i16], before: u32, after: u32) -> bool
+    ensures { result ≡ allows (λ k. is_nth k before after) numbers.now }
+{
+    numbers.is_empty() || any_nth(numbers, before, after)
+}
+
+/// Does the entry of BYDAY name a day of that weekday, with so many of them before it and so many after
+/// it?
+fn names_weekday(entry: WeekdayNumber, weekday: u8, before: u32, after: u32) -> bool
+    ensures { result ≡ names_weekday weekday before after (entry_of entry) }
+{
+    if entry.weekday != weekday {
+        return false;
+    }
+    entry.number == 0 || is_nth(entry.number, before, after)
+}
+
+/// Does one of the entries of BYDAY name the day?
+fn any_weekday(entries: &[WeekdayNumber], weekday: u8, before: u32, after: u32) -> bool
+    ensures { result ≡ list_any (λ entry. names_weekday weekday before after (entry_of entry)) entries.now }
+{
+    entries
+        .iter()
+        .any(|entry| names_weekday(*entry, weekday, before, after))
+}
+
+/// Does one of the entries of BYDAY name the day, or is there none?
+fn allows_weekday(entries: &[WeekdayNumber], weekday: u8, before: u32, after: u32) -> bool
+    ensures { result ≡ allows (λ entry. names_weekday weekday before after (entry_of entry)) entries.now }
+{
+    entries.is_empty() || any_weekday(entries, weekday, before, after)
+}
+
+/// How many days of its own weekday lie before the day and after it, in its year or in its month.
+fn weekday_place(in_year: bool, day: DayFacts) -> (u32, u32)
+    requires { AreFacts day }
+    ensures before { result.0 ≡ same_weekdays_before in_year day.index }
+    ensures after { result.1 ≡ same_weekdays_after in_year day.index }
+{
+    if in_year {
+        return (day.year_before as u32 / 7, day.year_after as u32 / 7);
+    }
+    (day.month_before as u32 / 7, day.month_after as u32 / 7)
 }

@@ -1,0 +1,11 @@
+use Rattle.std.proofs.Common.{◌==◌, ℕ, List}
+use Rattle.std.specs.List.{slice_split}
+use Rattle.profile.specs.RuleTexts.{SpellsPlace}
+use Rattle.cal_rules.proofs.Cuts.{Leaves}
+use Rattle.cal_rules.proofs.Entered.{EntriesRead}
+use Rattle.cal_rules.proofs.values.read_places.Given as goal
+
+-- the entries so far, and those that are left, are all
+abbrev pub invariant-loop-entry : goal.invariant-loop-entry
+invariant-loop-entry l =
+    (left : List (List ℕ)) × Leaves l.entry-iterator left × EntriesRead (SpellsPlace l.most) (slice_split (λ c. c == 44) l.value) left l.places.items
