@@ -118,13 +118,7 @@ pub(crate) fn is_counted(written: &Written, start: DayFacts, last: Day, day: Day
     ensures { result ≡ is_counted (parts_of written.now start.index (day_index last)) (day_index day) }
 {
     let index = day.index();
-    if index < start.index {
-        return false;
-    }
-    if index > last.index() {
-        return false;
-    }
-    if index > LAST_INDEX {
+    if index < start.index || index > last.index().min(LAST_INDEX) {
         return false;
     }
     is_chosen(written, start, index)

@@ -2,7 +2,6 @@
 //! each (RFC 5545 3.3.10).
 
 ghost use Rattle.std.specs.Prelude.{◌≡◌, ◌<◌, ◌≤◌, ◌^◌, ℕ, pos, neg_ℤ, IfSome, IfNone, map, IfOk};
-ghost use Rattle.profile.specs.Faults.{is_between};
 ghost use Rattle.profile.specs.Values.{IsNumber};
 ghost use Rattle.profile.specs.RuleTexts.{SpellsFrequency, SpellsWeekday, SpellsBetween, SpellsInterval, SpellsCount, SpellsPlace, SpellsEntry, SpellsUntil, SpellsNone, SpellsList, SpellsMonths, SpellsEntries};
 ghost use Rattle.cal_days.specs.Views.{frequency_of};
@@ -65,7 +64,7 @@ pub(crate) fn read_between(low: u32, high: u32, value: &str) -> Option<u32>
     ensures none { IfNone result (SpellsNone (SpellsBetween low high) value.now) }
 {
     let number = read_number(value)?;
-    if !is_between(low, high, number) {
+    if number < low || number > high {
         return None;
     }
     Some(number)
@@ -166,13 +165,6 @@ pub(crate) fn read_until(value: &str) -> Option<Until>
     }
     let day = read_date(value.as_bytes())?;
     Some(Until::Date(day))
-}
-
-/// Is it one of low to high?
-pub(crate) fn is_between(low: u32, high: u32, number: u32) -> bool
-    ensures { result ≡ is_between low high number }
-{
-    low <= number && number <= high
 }
 
 /// The entries of BYMONTH. None where one isn't a month, or where they are too many.

@@ -47,13 +47,7 @@ impl Written {
     pub fn go_together(&self) -> bool
         ensures { result ≡ go_together (text_of self.now) }
     {
-        if !self.fits_month_days() {
-            return false;
-        }
-        if !self.fits_numbers() {
-            return false;
-        }
-        self.fits_positions()
+        self.fits_month_days() && self.fits_numbers() && self.fits_positions()
     }
 
     /// No BYMONTHDAY in a WEEKLY rule?
@@ -69,10 +63,7 @@ impl Written {
             result ≡ (list_all (λ entry. is_plain entry.number) text.weekdays
             || (is_long text.frequency && is_missing text.month_days)) }
     {
-        if are_plain(&self.weekdays) {
-            return true;
-        }
-        self.is_long() && self.month_days.is_empty()
+        are_plain(&self.weekdays) || (self.is_long() && self.month_days.is_empty())
     }
 
     /// BYSETPOS only beside another BY part?
@@ -81,10 +72,7 @@ impl Written {
             result ≡ (is_missing text.positions
             || not (is_missing text.months && is_missing text.month_days && is_missing text.weekdays)) }
     {
-        if self.positions.is_empty() {
-            return true;
-        }
-        !self.has_no_list()
+        self.positions.is_empty() || !self.has_no_list()
     }
 
     /// None of BYMONTH, BYMONTHDAY and BYDAY is written?
@@ -92,20 +80,14 @@ impl Written {
         ensures { let text = text_of self.now in
             result ≡ (is_missing text.months && is_missing text.month_days && is_missing text.weekdays) }
     {
-        if !self.months.is_empty() {
-            return false;
-        }
-        self.month_days.is_empty() && self.weekdays.is_empty()
+        self.months.is_empty() && self.month_days.is_empty() && self.weekdays.is_empty()
     }
 
     /// Is there at most one of COUNT and UNTIL?
     pub fn has_one_end(&self) -> bool
         ensures { result ≡ has_one_end (text_of self.now) }
     {
-        if self.count.is_none() {
-            return true;
-        }
-        self.until.is_none()
+        self.count.is_none() || self.until.is_none()
     }
 
     /// MONTHLY or YEARLY?
@@ -129,13 +111,7 @@ impl Written {
     fn implies_month(&self) -> bool
         ensures { result ≡ implies_month (pattern_of self.now 0) }
     {
-        if self.frequency != Frequency::Yearly {
-            return false;
-        }
-        if !self.months.is_empty() {
-            return false;
-        }
-        self.names_no_day()
+        self.counts_in_year() && self.names_no_day()
     }
 
     /// Does the rule take its month day from DTSTART?
@@ -210,13 +186,9 @@ impl Written {
         requires day { AreFacts day }
         ensures { result ≡ passes (pattern_of self.now start.index) day.index }
     {
-        if !self.passes_month(start, day) {
-            return false;
-        }
-        if !self.passes_month_day(start, day) {
-            return false;
-        }
-        self.passes_weekday(start, day)
+        self.passes_month(start, day)
+            && self.passes_month_day(start, day)
+            && self.passes_weekday(start, day)
     }
 
     /// The period of a day.
@@ -227,18 +199,11 @@ impl Written {
     }
 }
 
-/// Has the entry no number?
-fn has_no_number(entry: WeekdayNumber) -> bool
-    ensures { result ≡ is_plain (entry_of entry).number }
-{
-    entry.number == 0
-}
-
 /// Has no entry a number?
 fn all_plain(entries: &[WeekdayNumber]) -> bool
     ensures { result ≡ list_all (λ entry. is_plain (entry_of entry).number) entries.now }
 {
-    entries.iter().all(|entry| has_no_number(*entry))
+    entries.iter().all(|entry| entry.number == 0)
 }
 
 /// Has no entry a number?
@@ -292,10 +257,7 @@ pub(crate) fn allows_nth(numbers: &[i16], before: u32, after: u32) -> bool
 fn names_weekday(entry: WeekdayNumber, weekday: u8, before: u32, after: u32) -> bool
     ensures { result ≡ names_weekday weekday before after (entry_of entry) }
 {
-    if entry.weekday != weekday {
-        return false;
-    }
-    entry.number == 0 || is_nth(entry.number, before, after)
+    entry.weekday == weekday && (entry.number == 0 || is_nth(entry.number, before, after))
 }
 
 /// Does one of the entries of BYDAY name the day?
