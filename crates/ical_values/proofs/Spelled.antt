@@ -1,6 +1,6 @@
 -- Lists of a few octets, digits, dates and clocks as they are spelled.
 use Rattle.std.proofs.Common.{to_z, of_z, w32, w64, ◌≡◌, ◌∙◌, ℕ, ◌-◌, ◌<◌, List, [], ◌∷◌, ◌++◌, length, get_or, take, drop, codes, refl, sym, ap, arith, ℤ, pos, negsuc, ◌+ℤ◌, ◌*ℤ◌, ◌≤ℤ◌, ◌↔◌, Option, Some, None}
-use Rattle.std.specs.Option.{IsSome, IfSome, IfNone}
+use Rattle.std.specs.Option.{IsSome, IfSome}
 use Rattle.std.proofs.lemmas.Int.{ints}
 use Rattle.std.proofs.lemmas.List.{append-nil}
 use Rattle.std.proofs.Common.{append_assoc}

@@ -36,6 +36,7 @@ pub fn read(text: &[u8]) -> Option<i64>
 
 /// The second of the day of `HHMMSS`, where second 60 stands for 59. `limit` is the greatest second that
 /// may stand, 59 or 60.
+#[tactic(auto, using(crate::proofs::Exits::if_none))]
 pub fn read_time(text: &[u8], limit: u8) -> Option<u32>
     requires { limit ≤ 60 }
     ensures found { IfSome result (SpellsTime limit text.now) }
@@ -45,15 +46,9 @@ pub fn read_time(text: &[u8], limit: u8) -> Option<u32>
     let [h1, h2, m1, m2, s1, s2] = text else {
         return None;
     };
-    let Some(hour) = digits::read_two(*h1, *h2) else {
-        return None;
-    };
-    let Some(minute) = digits::read_two(*m1, *m2) else {
-        return None;
-    };
-    let Some(second) = digits::read_two(*s1, *s2) else {
-        return None;
-    };
+    let hour = digits::read_two(*h1, *h2)?;
+    let minute = digits::read_two(*m1, *m2)?;
+    let second = digits::read_two(*s1, *s2)?;
     if hour > 23 || minute > 59 || second > limit {
         return None;
     }

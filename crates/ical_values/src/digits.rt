@@ -19,28 +19,21 @@ pub fn read_two(tens: u8, ones: u8) -> Option<u8>
     ensures found { IfSome result (λ n. (n < 100) × (two_digits n ≡ tens ∷ ones ∷ [])) }
     ensures none { IfNone result ((n : ℕ) → n < 100 → two_digits n ≡ tens ∷ ones ∷ [] → ⊥) }
 {
-    let Some(high) = digit(tens) else {
-        return None;
-    };
-    let Some(low) = digit(ones) else {
-        return None;
-    };
+    let high = digit(tens)?;
+    let low = digit(ones)?;
     Some(high * 10 + low)
 }
 
 /// The number of four digits.
+#[tactic(auto, using(crate::proofs::Exits::if_none))]
 pub fn read_four(first: u8, second: u8, third: u8, fourth: u8) -> Option<u16>
     ensures found { IfSome result
         (λ n. (n < 10_000) × (four_digits n ≡ first ∷ second ∷ third ∷ fourth ∷ [])) }
     ensures none { IfNone result
         ((n : ℕ) → n < 10_000 → four_digits n ≡ first ∷ second ∷ third ∷ fourth ∷ [] → ⊥) }
 {
-    let Some(high) = read_two(first, second) else {
-        return None;
-    };
-    let Some(low) = read_two(third, fourth) else {
-        return None;
-    };
+    let high = read_two(first, second)?;
+    let low = read_two(third, fourth)?;
     Some(high as u16 * 100 + low as u16)
 }
 

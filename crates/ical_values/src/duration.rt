@@ -78,10 +78,8 @@ fn read_unsigned(text: &[u8]) -> Result<Duration, Refusal>
         (λ e. e.number ≡ 12 → (days seconds : ℕ) → SpellsUnsigned text.now days seconds → ⊥) }
     ensures range { IfErr result (λ e. e.number ≡ 51 → SpellsLongBody text.now) }
 {
-    match read_counts(text) {
-        Some(counts) => fit(counts),
-        None => Err(Refusal::BAD_DURATION),
-    }
+    let counts = read_counts(text).ok_or(Refusal::BAD_DURATION)?;
+    fit(counts)
 }
 
 /// The duration of those counts, where both fit.
@@ -104,14 +102,13 @@ fn fit(counts: Counts) -> Result<Duration, Refusal>
 }
 
 /// The counts of `P` and what follows it.
+#[tactic(auto, using(crate::proofs::Exits::if_none))]
 fn read_counts(text: &[u8]) -> Option<Counts>
     ensures found { IfSome result (λ c. CountsUnsigned text.now c.days c.seconds) }
     ensures none { IfNone result
         ((days seconds : ℕ) → SpellsUnsigned text.now days seconds → ⊥) }
 {
-    let Some(body) = after(text, b'P') else {
-        return None;
-    };
+    let body = after(text, b'P')?;
     let Some((weeks, rest)) = take_part(body, b'W') else {
         return read_days(body);
     };
@@ -130,28 +127,23 @@ fn read_days(text: &[u8]) -> Option<Counts>
     ensures none { IfNone result ((days seconds : ℕ) → SpellsDays text.now days seconds → ⊥) }
 {
     let Some((days, rest)) = take_part(text, b'D') else {
-        return match read_time(text) {
-            Some(seconds) => Some(Counts { days: 0, seconds }),
-            None => None,
-        };
+        let seconds = read_time(text)?;
+        return Some(Counts { days: 0, seconds });
     };
     if rest.is_empty() {
         return Some(Counts { days, seconds: 0 });
     }
-    match read_time(rest) {
-        Some(seconds) => Some(Counts { days, seconds }),
-        None => None,
-    }
+    let seconds = read_time(rest)?;
+    Some(Counts { days, seconds })
 }
 
 /// The seconds of `T`, and hours, minutes and seconds, of which at least one stands.
+#[tactic(auto, using(crate::proofs::Exits::if_none))]
 fn read_time(text: &[u8]) -> Option<u64>
     ensures found { IfSome result (CountsExact text.now) }
     ensures none { IfNone result ((total : ℕ) → SpellsExact text.now total → ⊥) }
 {
-    let Some(body) = after(text, b'T') else {
-        return None;
-    };
+    let body = after(text, b'T')?;
     if body.is_empty() {
         return None;
     }

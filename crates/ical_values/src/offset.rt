@@ -87,18 +87,13 @@ fn read_seconds(text: &str) -> Option<i32>
     ensures none { IfNone result ((offset : ℤ) → SpellsOffset text.now offset → ⊥) }
 {
     if let Some(digits) = text.strip_prefix('+') {
-        return match read_size(digits.as_bytes()) {
-            Some(size) => Some(size as i32),
-            None => None,
-        };
+        let size = read_size(digits.as_bytes())?;
+        return Some(size as i32);
     }
-    let Some(digits) = text.strip_prefix('-') else {
-        return None;
-    };
-    match read_size(digits.as_bytes()) {
-        None => None,
-        Some(0) => None,
-        Some(size) => Some(-(size as i32)),
+    let digits = text.strip_prefix('-')?;
+    match read_size(digits.as_bytes())? {
+        0 => None,
+        size => Some(-(size as i32)),
     }
 }
 
