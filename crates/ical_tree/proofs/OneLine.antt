@@ -1,9 +1,10 @@
 -- The one line of a property among others, and what stands at a place of a list.
-use Rattle.std.proofs.Common.{◌≡◌, ◌∙◌, ap, sym, refl, subst, ℕ, zero, suc, ◌+◌, ◌<◌, List, [], ◌∷◌, length, get_or, drop, arith}
+use Rattle.std.proofs.Common.{◌≡◌, ◌∙◌, ap, sym, refl, subst, ℕ, zero, suc, ◌+◌, ◌<◌, List, [], ◌∷◌, length, get_or, drop, arith, filter, codes, false, ◌⊎◌, inl, inr}
 use Rattle.std.specs.Prelude.{Option, Some, None, Contains}
 use Rattle.std.specs.Option.{option_to_list}
 use Rattle.std.proofs.lemmas.List.{drop_more}
-use Rattle.profile.specs.Properties.{lines_named, StandsAtMostOnce}
+use Rattle.profile.specs.Objects.{is_version, is_version_only}
+use Rattle.profile.specs.Properties.{lines_named, StandsAtMostOnce, StandsTwice, IsMissing}
 
 abbrev Lines : Type 0
 Lines = List (List ℕ)
@@ -37,3 +38,13 @@ the_line name lines line e = subst (λ (ls : Lines). Contains ls line) (sym e) (
 pub only_line : (name : List ℕ) (lines : Lines) (l : Option (List ℕ)) (line : List ℕ) → StandsAtMostOnce name lines l → Contains (lines_named name lines) line → l ≡ Some line
 only_line name lines None line e c = let h = subst (λ (ls : Lines). Contains ls line) e c in absurd (omega (arith, h.1))
 only_line name lines (Some x) line e c = ap Some (at_one x line (subst (λ (ls : Lines). Contains ls line) e c))
+
+-- VERSION doesn't stand once
+pub not_one_version : (lines : Lines) → (IsMissing (codes "VERSION") lines ⊎ StandsTwice (codes "VERSION") lines) → false ≡ is_version_only (filter is_version lines)
+not_one_version lines h = other (filter is_version lines) h
+  where
+    other : (ls : Lines) → ((ls ≡ []) ⊎ (1 < length ls)) → false ≡ is_version_only ls
+    other [] h = refl
+    other (x ∷ []) (inl e) = cc
+    other (x ∷ []) (inr h) = absurd (omega (arith, h))
+    other (x ∷ y ∷ rest) h = refl

@@ -16,7 +16,7 @@ use Rattle.profile.specs.Objects.{SpellsBody, nothing, property, component, is_p
 use Rattle.profile.specs.Trees.{tree_own}
 use Rattle.ical_lines.proofs.ContentLemmas.{lines_back, lines_fine, read_content, read_fine}
 use Rattle.ical_lines.proofs.ReadBackLemmas.{property_utf8}
-use Rattle.ical_tree.specs.declared.component.Component.{Component, out-Component}
+use Rattle.ical_tree.specs.declared.component.Component.{Component}
 use Rattle.ical_tree.specs.Tree.{component_name, component_lines, component_children, IsObjectOf, written_lines, written, tree_of}
 use Rattle.ical_tree.specs.Reading.{SpellsOf, ObjectHas, calendar_has}
 use Rattle.ical_tree.specs.ReadsBack.{ReadsBack}

@@ -1,5 +1,5 @@
 -- A run that takes the next line of the text in.
-use Rattle.std.proofs.Common.{◌≡◌, ℕ, zero, suc, ◌+◌, ◌<◌, List, [], ◌∷◌, ◌++◌, take, drop, length, ap, refl, arith}
+use Rattle.std.proofs.Common.{◌≡◌, ℕ, zero, suc, List, [], ◌∷◌, ◌++◌, take, drop, ap, refl}
 
 abbrev Lines : Type 0
 Lines = List (List ℕ)

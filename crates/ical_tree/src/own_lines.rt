@@ -49,9 +49,7 @@ impl<'a> Run<'a> {
         if self.count == 0 {
             return None;
         }
-        let Some(line) = self.from.next() else {
-            return None;
-        };
+        let line = self.from.next()?;
         self.count -= 1;
         Some(line)
     }

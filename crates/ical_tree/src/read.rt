@@ -36,6 +36,7 @@ ghost use Rattle.ical_tree.specs.Reading.{Built, SpellsOf, IsCalendar, TreeHas, 
 
 use crate::component::Component;
 use crate::own_lines::Run;
+use crate::properties::Properties;
 use ical_lines::{Fault, Limits, Line, Lines, Refusal, Unfolded};
 use std::alloc::{AllocError, Global};
 
@@ -67,7 +68,7 @@ pub fn read_object<'a>(
         reader.take(alloc, line, lines)?;
     }
     let calendar = reader.finish()?;
-    check_calendar(&calendar, limits)?;
+    check_calendar(alloc, &calendar, limits)?;
     Ok(calendar)
 }
 
@@ -246,38 +247,30 @@ fn is_calendar(name: &str) -> bool
 }
 
 /// Judges a VCALENDAR as a whole: its VERSION, and how many VEVENTs it has.
-fn check_calendar(calendar: &Component, limits: Limits) -> Result<(), Refusal>
+fn check_calendar(alloc: Global, calendar: &Component, limits: Limits) -> Result<(), Fault>
     requires { IsCalendar calendar.now }
     ensures version { OnOk result (has_version (component_lines calendar.now) ≡ true) }
     ensures events { OnOk result ((is_bounded limits && nat_lt 200 (count_inside component_name component_lines component_children (codes "VEVENT") calendar.now)) ≡ false) }
-    ensures stands { IfErr result (λ r. IsTrue (calendar_has (is_bounded limits) r.number calendar.now)) }
-    ensures refuses { IfErr result (λ r. IsTrue (is_object_fault r.number)) }
+    ensures stands { IfErr result (RefusesOnly (λ n. calendar_has (is_bounded limits) n calendar.now)) }
+    ensures refuses { IfErr result (RefusesOnly is_object_fault) }
 {
-    if !has_version(calendar) {
-        return Err(Refusal::BAD_VERSION);
+    let properties = Properties::of(alloc, calendar)?;
+    if !has_version(&properties) {
+        return Err(Fault::Refused(Refusal::BAD_VERSION));
     }
     if exceeds_events(calendar, limits) {
-        return Err(Refusal::TOO_MANY_EVENTS);
+        return Err(Fault::Refused(Refusal::TOO_MANY_EVENTS));
     }
     Ok(())
 }
 
-/// Whether VERSION stands once among the component's own lines, and is `2.0`.
-fn has_version(calendar: &Component) -> bool
-    ensures { result ≡ has_version (component_lines calendar.now) }
+/// Whether VERSION stands once among a component's own lines, and is `2.0`.
+fn has_version(properties: &Properties<'_>) -> bool
+    ensures { result ≡ has_version properties.now }
 {
-    let mut version = None;
-    for line in calendar.lines() {
-        if line.is_named("VERSION") {
-            if version.is_some() {
-                return false;
-            }
-            version = Some(line);
-        }
-    }
-    match version {
-        Some(line) => line.value() == "2.0",
-        None => false,
+    match properties.required("VERSION", Refusal::BAD_VERSION) {
+        Ok(version) => version.value() == "2.0",
+        Err(_) => false,
     }
 }
 

@@ -1,4 +1,4 @@
-use Rattle.std.proofs.Common.{◌≡◌, ◌≤◌, length, is_some, true, subst, sym, ◌∙◌, arith}
+use Rattle.std.proofs.Common.{◌≡◌, ◌≤◌, length, is_some, true, sym, ◌∙◌, arith}
 use Rattle.profile.specs.Objects.{may_begin}
 use Rattle.ical_tree.specs.Reading.{Built, names_of, open_view}
 use Rattle.ical_tree.specs.Runs.{run_lines}
