@@ -17,3 +17,4 @@ pub mod CleanLines
 pub mod IdleLemmas
 pub mod OutsideLemmas
 pub mod MarkLemmas
+pub mod ReturnLemmas

@@ -1,5 +1,5 @@
 -- A line that is cut before its first mark: what stands there is its name.
-use Rattle.std.proofs.Common.{◌≡◌, ℕ, suc, ◌+◌, Bool, true, false, not, ◌&&◌, ◌||◌, cond, eqb, ltb, List, [], ◌∷◌, ◌++◌, ◌<◌, ◌≤◌, Option, Some, None, MatchOption, Bor, length, take, drop, get_or, refl, ap, sym, ◌∙◌, arith}
+use Rattle.std.proofs.Common.{◌≡◌, ℕ, suc, ◌+◌, Bool, true, false, ◌||◌, cond, eqb, ltb, List, [], ◌∷◌, ◌++◌, ◌<◌, ◌≤◌, Option, Some, None, MatchOption, Bor, length, take, drop, get_or, refl, ap, sym, ◌∙◌, arith}
 use Rattle.std.specs.List.{list_any, onto_first, position, position_or_len}
 use Rattle.std.specs.Option.{option_map}
 use Rattle.std.specs.Str.{IsCharBoundary}
@@ -9,7 +9,7 @@ use Rattle.std.proofs.lemmas.List.Sums.{fails_before_first}
 use Rattle.std.proofs.lemmas.Str.{IsCharBoundary-before_ascii}
 use Rattle.std.proofs.lemmas.Bool.{or_parts}
 use Rattle.std.proofs.lemmas.Bool.Decides.{nat_tests}
-use Rattle.profile.specs.Lines.{outside_from, outside, front, back, line_head, line_name, line_params, line_value, has_stop, pieces_from, pieces}
+use Rattle.profile.specs.Lines.{outside, front, back, line_head, line_name, line_params, pieces}
 use Rattle.ical_lines.specs.Breaks.{is_mark, value_or_none}
 use Rattle.ical_lines.specs.PiecesOf.{pieces_of}
 use Rattle.ical_lines.proofs.BreakLemmas.{not_any}

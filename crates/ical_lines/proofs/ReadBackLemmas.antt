@@ -25,7 +25,7 @@ record Shape (octets begun text : List ℕ) (after : List (List ℕ)) : Type 0 w
   short : is_short (begun ++ front) ≡ true
   shorts : list_all is_short others ≡ true
 
-without-return : (q : List ℕ) → without_return (q ++ 13 ∷ []) ≡ q
+pub without-return : (q : List ℕ) → without_return (q ++ 13 ∷ []) ≡ q
 without-return q =
     let n : length (q ++ 13 ∷ []) - 1 ≡ length q = omega (arith, length_push q 13) in
     let last : get_or (q ++ 13 ∷ []) (length q) 0 ≡ 13 = get_or_at q 13 [] 0 (length q) refl in

@@ -21,5 +21,5 @@ fn are_name_octets(text: &str) -> bool
 fn is_name_octet(octet: u8) -> bool
     ensures { result ≡ is_name_octet octet }
 {
-    octet.is_ascii_alphabetic() || octet.is_ascii_digit() || octet == b'-'
+    octet.is_ascii_alphanumeric() || octet == b'-'
 }

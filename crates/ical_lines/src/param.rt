@@ -71,10 +71,8 @@ impl<'a> Iterator for Params<'a> {
     ghost remaining = { item_count params_left };
 
     fn next(&mut self) -> Option<Param<'a>> {
-        match self.pieces.next() {
-            Some(piece) => Some(Param::of(piece)),
-            None => None,
-        }
+        let piece = self.pieces.next()?;
+        Some(Param::of(piece))
     }
 }
 

@@ -126,9 +126,7 @@ impl<'a> Iterator for Pieces<'a> {
     ghost remaining = { item_count pieces_left };
 
     fn next(&mut self) -> Option<&'a str> {
-        let Some(text) = self.rest else {
-            return None;
-        };
+        let text = self.rest?;
         let (piece, rest) = split_outside(text, self.stop);
         self.rest = rest;
         Some(piece)

@@ -175,8 +175,5 @@ fn split_line(text: &str) -> (&str, &str)
 fn without_return(line: &str) -> &str
     ensures { result.now ≡ without_return line.now }
 {
-    match line.as_bytes() {
-        [rest @ .., b'\r'] => line.split_at(rest.len()).0,
-        _ => line,
-    }
+    line.strip_suffix('\r').unwrap_or(line)
 }
