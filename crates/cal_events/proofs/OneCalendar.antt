@@ -1,8 +1,9 @@
--- The VEVENTs of a calendar say at most one calendar for a room, and none where a fault stands in them.
+-- The VEVENTs of an object say at most one calendar for a room, and none where a fault stands in them.
 use Rattle.std.proofs.Common.{◌≡◌, ◌≢◌, ℕ, zero, suc, Bool, false, List, [], ◌∷◌, map, subst, sym, refl, ap, ◌∙◌, arith}
 use Rattle.std.specs.Prelude.{Contains, AllPairs}
 use Rattle.std.specs.List.{AllZip}
 use Rattle.std.proofs.lemmas.Bool.{true≢false}
+use Rattle.profile.specs.Trees.{Tree, vevents}
 use Rattle.profile.specs.Instances.{Booked}
 use Rattle.profile.specs.Events.{Event, SaysEvent, EventFault, SaysCalendar, CalendarFault, in_event, one_meeting, not_yet, confirmed, meeting_said}
 
@@ -29,11 +30,11 @@ event_at (x ∷ vs) [] v h c = absurd h
 event_at (x ∷ vs) (y ∷ es) v h (zero, w, e) = (y, subst (λ (z : Lines). SaysEvent false z y) e h.0)
 event_at (x ∷ vs) (y ∷ es) v h (suc k, w, e) = event_at vs es v h.1 (k, omega arith, e)
 
-pub one_calendar : OneEvent → (room : List ℕ) (vs : List Lines) (a b : List Booked) → SaysCalendar room vs a → SaysCalendar room vs b → a ≡ b
-one_calendar one room vs a b s t = s.is ∙ ap (confirmed room) (same_events one vs s.events t.events s.says t.says) ∙ sym t.is
+pub one_calendar : OneEvent → (room : List ℕ) (object : Tree) (a b : List Booked) → SaysCalendar room object a → SaysCalendar room object b → a ≡ b
+one_calendar one room object a b s t = s.is ∙ ap (confirmed room) (same_events one (vevents object) s.events t.events s.says t.says) ∙ sym t.is
 
-pub no_fault : OneEvent → NoFault → (room : List ℕ) (vs : List Lines) (a : List Booked) (n : ℕ) → SaysCalendar room vs a → CalendarFault vs n → ⊥
-no_fault one sound room vs a n s (in_event lines at fault) = let e = event_at vs s.events lines s.says at in sound false lines e.0 n e.1 fault
-no_fault one sound room vs a n s (one_meeting events zip twins) =
-    twins (subst (λ (es : List Event). AllPairs ◌≢◌ (map meeting_said es)) (same_events one vs s.events events s.says zip) s.differ)
-no_fault one sound room vs a n s (not_yet h) = true≢false (sym h ∙ s.read)
+pub no_fault : OneEvent → NoFault → (room : List ℕ) (object : Tree) (a : List Booked) (n : ℕ) → SaysCalendar room object a → CalendarFault object n → ⊥
+no_fault one sound room object a n s (in_event lines at fault) = let e = event_at (vevents object) s.events lines s.says at in sound false lines e.0 n e.1 fault
+no_fault one sound room object a n s (one_meeting events zip twins) =
+    twins (subst (λ (es : List Event). AllPairs ◌≢◌ (map meeting_said es)) (same_events one (vevents object) s.events events s.says zip) s.differ)
+no_fault one sound room object a n s (not_yet h) = true≢false (sym h ∙ s.read)

@@ -4,7 +4,7 @@ use Rattle.std.proofs.lemmas.Bool.{true≢false}
 use Rattle.ical_lines.proofs.ContentLemmas.{read_fine}
 use Rattle.profile.specs.Lines.{logical_lines}
 use Rattle.profile.specs.Objects.{SpellsTree, IsObject, has_version, lines_have}
-use Rattle.profile.specs.Trees.{Tree, tree_name, tree_own, tree_inside, vevents}
+use Rattle.profile.specs.Trees.{Tree, tree_name, tree_own, tree_inside}
 use Rattle.profile.specs.Instances.{Booked}
 use Rattle.profile.specs.Events.{SaysCalendar, CalendarFault}
 use Rattle.profile.specs.Calendars.{SpellsCalendar, CalendarTextFault, in_lines, in_tree, no_version, in_vevents}
@@ -19,15 +19,15 @@ abbrev PairsUp : Type 0
 PairsUp = (bounded : Bool) (t : Tree) (lines : Lines) (n : ℕ) → IsObject tree_name tree_own tree_inside bounded t lines → lines_have n lines ≡ true → ⊥
 
 abbrev OneCalendar : Type 0
-OneCalendar = (room : List ℕ) (vs : List Lines) (a b : List Booked) → SaysCalendar room vs a → SaysCalendar room vs b → a ≡ b
+OneCalendar = (room : List ℕ) (object : Tree) (a b : List Booked) → SaysCalendar room object a → SaysCalendar room object b → a ≡ b
 
 abbrev NoFault : Type 0
-NoFault = (room : List ℕ) (vs : List Lines) (a : List Booked) (n : ℕ) → SaysCalendar room vs a → CalendarFault vs n → ⊥
+NoFault = (room : List ℕ) (object : Tree) (a : List Booked) (n : ℕ) → SaysCalendar room object a → CalendarFault object n → ⊥
 
 pub one_spelled : OneTree → OneCalendar → (room octets : List ℕ) (a b : List Booked) → SpellsCalendar room octets a → SpellsCalendar room octets b → a ≡ b
 one_spelled tree calendar room octets a b s t =
     let same : s.tree ≡ t.tree = tree 7 7 (logical_lines octets) s.tree t.tree s.object.spelled t.object.spelled in
-    calendar room (vevents t.tree) a b (subst (λ (x : Tree). SaysCalendar room (vevents x) a) same s.says) t.says
+    calendar room t.tree a b (subst (λ (x : Tree). SaysCalendar room x a) same s.says) t.says
 
 -- ---- no fault stands in octets that read
 
@@ -39,4 +39,4 @@ no_fault one pairs none room octets all n s (no_version t spelled h) =
     true≢false (sym s.object.version ∙ (ap (λ (x : Tree). has_version (tree_own x)) same ∙ h))
 no_fault one pairs none room octets all n s (in_vevents t object fault) =
     let same : s.tree ≡ t = one 7 7 (logical_lines octets) s.tree t s.object.spelled object.spelled in
-    none room (vevents t) all n (subst (λ (x : Tree). SaysCalendar room (vevents x) all) same s.says) fault
+    none room t all n (subst (λ (x : Tree). SaysCalendar room x all) same s.says) fault

@@ -2,7 +2,7 @@
 use Rattle.std.proofs.Common.{◌≡◌, ◌≢◌, ℕ, zero, ◌+◌, ◌<◌, Bool, true, false, cond, List, [], ◌∷◌, ◌++◌, ◌||◌, length, map, filter, get_or, take, drop, subst, sym, refl, ap, inl, inr, ◌∙◌, arith}
 use Rattle.ical_lines.specs.Fault.{RefusesBy}
 use Rattle.std.specs.Prelude.{Contains, AllPairs, Result, Ok, Err, IfOk, IfErr}
-use Rattle.std.specs.List.{list_any}
+use Rattle.std.specs.List.{list_any, AllZip}
 use Rattle.std.proofs.lemmas.List.{map-append, take-append-drop, append-nil, length-map}
 use Rattle.std.proofs.lemmas.List.Elements.{Contains-append_right, filter_more, filter-append}
 use Rattle.std.proofs.lemmas.List.Folds.{list_any-append, list_any_at}
@@ -11,6 +11,7 @@ use Rattle.ical_lines.specs.declared.fault.Fault.TheVariants.{Refused, Memory}
 use Rattle.ical_tree.specs.Tree.{component_lines}
 use Rattle.ical_tree.specs.declared.component.Component.{Component}
 use Rattle.ical_tree.proofs.OneLine.{at_place}
+use Rattle.profile.specs.Trees.{Tree, vevents}
 use Rattle.profile.specs.Instances.{Booked}
 use Rattle.profile.specs.Events.{Event, SaysEvent, SaysCalendar, CalendarFault, in_event, one_meeting, not_yet, has_unread, booked_by, is_confirmed, confirmed, meeting_said}
 use Rattle.cal_events.specs.declared.calendar.Entry.{Entry}
@@ -79,9 +80,10 @@ read_event cs i c w e h before here =
     ∙ ap (λ b. b || false) here
 
 -- what isn't read yet is a fault
-pub unread_stands : (vs : List Lines) (f : Fault) → RefusesBy (λ n. (n ≡ 99) × (list_any has_unread vs ≡ true)) f → RefusesBy (CalendarFault vs) f
-unread_stands vs Memory s = tt
-unread_stands vs (Refused r) s = subst (CalendarFault vs) (sym s.0) (not_yet s.1)
+pub unread_stands : (object : Tree) (vs : List Lines) (f : Fault) → vevents object ≡ vs → RefusesBy (λ n. (n ≡ 99) × (list_any has_unread vs ≡ true)) f
+    → RefusesBy (CalendarFault object) f
+unread_stands object vs Memory e s = tt
+unread_stands object vs (Refused r) e s = subst (CalendarFault object) (sym s.0) (not_yet (ap (list_any has_unread) e ∙ s.1))
 
 -- one of the VEVENTs that isn't read
 pub unread_among : (vs : List Lines) (lines : Lines) → Contains vs lines → has_unread lines ≡ true → list_any has_unread vs ≡ true
@@ -127,27 +129,29 @@ same_meetings room (e ∷ es) (x ∷ events) h =
 
 -- ---- the calendar
 
-pub calendar_said : (r : Result (List Booked) Fault) (room : List ℕ) (vs : List Lines) (es : List Entry) → AreEntries room vs es → list_any has_unread vs ≡ false
-    → IfOk r (λ c. c ≡ confirmed_in es) → IfOk r (λ _. MeetingsDiffer es) → IfOk r (SaysCalendar room vs)
-calendar_said (Ok c) room vs es (events, zip, are) read is differ = record {
+pub calendar_said : (r : Result (List Booked) Fault) (room : List ℕ) (object : Tree) (vs : List Lines) (es : List Entry) → vevents object ≡ vs → AreEntries room vs es
+    → list_any has_unread vs ≡ false → IfOk r (λ c. c ≡ confirmed_in es) → IfOk r (λ _. MeetingsDiffer es) → IfOk r (SaysCalendar room object)
+calendar_said (Ok c) room object vs es same (events, zip, are) read is differ = record {
   events = events;
-  says = zip;
-  read = read;
+  says = subst (λ (xs : List Lines). AllZip (SaysEvent false) xs events) (sym same) zip;
+  read = ap (list_any has_unread) same ∙ read;
   differ = subst (AllPairs ◌≢◌) (same_meetings room es events are) differ;
   is = is ∙ same_confirmed room es events are;
 }
-calendar_said (Err f) room vs es h read is differ = tt
+calendar_said (Err f) room object vs es same h read is differ = tt
 
-pub twins_stand : (r : Result (List Booked) Fault) (room : List ℕ) (vs : List Lines) (es : List Entry) → AreEntries room vs es → IfErr r (IsTwinsFault es)
-    → IfErr r (RefusesBy (CalendarFault vs))
-twins_stand (Ok c) room vs es h t = tt
-twins_stand (Err Memory) room vs es h t = tt
-twins_stand (Err (Refused x)) room vs es (events, zip, are) (n, (i, j, d, lt, w, e)) =
+pub twins_stand : (r : Result (List Booked) Fault) (room : List ℕ) (object : Tree) (vs : List Lines) (es : List Entry) → vevents object ≡ vs → AreEntries room vs es
+    → IfErr r (IsTwinsFault es) → IfErr r (RefusesBy (CalendarFault object))
+twins_stand (Ok c) room object vs es same h t = tt
+twins_stand (Err Memory) room object vs es same h t = tt
+twins_stand (Err (Refused x)) room object vs es same (events, zip, are) (n, (i, j, d, lt, w, e)) =
     let e' = subst (λ (l : List (List ℕ × List ℕ)). get_or l i d ≡ get_or l j d) (same_meetings room es events are) e in
     let lens : length es ≡ length (map meeting_said events) = sym (length-map es meeting_of) ∙ ap length (same_meetings room es events are) in
-    subst (CalendarFault vs) (sym n) (one_meeting events zip (λ apart. apart i j d lt (omega (arith, lens)) e'))
+    let said = subst (λ (xs : List Lines). AllZip (SaysEvent false) xs events) (sym same) zip in
+    subst (CalendarFault object) (sym n) (one_meeting events said (λ apart. apart i j d lt (omega (arith, lens)) e'))
 
-pub event_stands : (vs : List Lines) (lines : Lines) (f : Fault) → Contains vs lines → RefusesBy (IsUnreadOrFault false lines) f → RefusesBy (CalendarFault vs) f
-event_stands vs lines Memory h s = tt
-event_stands vs lines (Refused r) h (inl u) = subst (CalendarFault vs) (sym u.0) (not_yet (unread_among vs lines h u.1))
-event_stands vs lines (Refused r) h (inr s) = in_event lines h s
+pub event_stands : (object : Tree) (vs : List Lines) (lines : Lines) (f : Fault) → vevents object ≡ vs → Contains vs lines → RefusesBy (IsUnreadOrFault false lines) f
+    → RefusesBy (CalendarFault object) f
+event_stands object vs lines Memory e h s = tt
+event_stands object vs lines (Refused r) e h (inl u) = subst (CalendarFault object) (sym u.0) (not_yet (ap (list_any has_unread) e ∙ unread_among vs lines h u.1))
+event_stands object vs lines (Refused r) e h (inr s) = in_event lines (subst (λ (xs : List Lines). Contains xs lines) (sym e) h) s

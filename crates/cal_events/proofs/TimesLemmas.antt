@@ -1,5 +1,5 @@
 -- What DTSTART, DTEND and DURATION say, put together.
-use Rattle.std.proofs.Common.{◌≡◌, ◌∙◌, ℕ, ◌+◌, ◌*◌, ◌<◌, ◌≤◌, ◌^◌, Bool, true, false, true≢false, List, codes, subst, sym, refl, ap, inl, inr, arith, ℤ, pos, ◌+ℤ◌, ◌<ℤ◌, negsuc, ◌≤ℤ◌}
+use Rattle.std.proofs.Common.{◌≡◌, ◌∙◌, ℕ, ◌+◌, ◌*◌, ◌<◌, ◌≤◌, ◌^◌, Bool, true, false, true≢false, List, codes, subst, sym, refl, ap, inl, inr, arith, ℤ, pos, ◌+ℤ◌, ◌<ℤ◌}
 use Rattle.std.specs.Prelude.{Option, Some, None, ◌⊎◌, IsTrue}
 use Rattle.std.proofs.lemmas.Int.{ints}
 use Rattle.profile.specs.Trees.{Tree}
@@ -7,7 +7,7 @@ use Rattle.profile.specs.Lines.{line_value}
 use Rattle.profile.specs.Values.{SpellsDuration, SpellsNegative, SpellsLong}
 use Rattle.profile.specs.Events.{IsLength}
 use Rattle.profile.specs.Properties.{StandsAtMostOnce, SomeLine, length_seconds, IsNoDuration, IsNegativeOrLong}
-use Rattle.profile.specs.ZonedTimes.{EventTimes, IsInDates, LastsSo, SaysInstant, SaysInDates, SaysOutOfDates, SaysEventTimes, EventTimesFault, is_in_zone, HasDays, bad_duration, ends_early, ends_late, ends_out, lasts_long, starts_out, nominal}
+use Rattle.profile.specs.ZonedTimes.{EventTimes, LastsSo, SaysInstant, SaysInDates, SaysOutOfDates, SaysEventTimes, EventTimesFault, is_in_zone, HasDays, bad_duration, ends_early, ends_late, ends_out, lasts_long, starts_out, nominal}
 use Rattle.cal_events.specs.declared.component.Extent.{Extent}
 use Rattle.cal_events.specs.declared.component.Extent.TheVariants.{ToEnd, For}
 use Rattle.cal_events.specs.declared.event_times.SaidTimes.{SaidTimes}

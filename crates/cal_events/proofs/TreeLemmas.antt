@@ -42,11 +42,11 @@ vevents_tree c =
     ap (λ (ts : List Tree). map tree_own (filter (λ t. is_same_name (tree_name t) (codes "VEVENT")) ts)) (tree_of-inside c) ∙ same_events (component_children c)
 
 pub faults_there : (r : Result (List Booked) Fault) (octets : List ℕ) (c : Component) → IsObjectOf false c (logical_lines octets)
-    → IfErr r (RefusesBy (CalendarFault (vevents_of c))) → IfErr r (RefusesBy (CalendarTextFault octets))
+    → IfErr r (RefusesBy (CalendarFault (tree_of c))) → IfErr r (RefusesBy (CalendarTextFault octets))
 faults_there (Ok all) octets c object h = tt
 faults_there (Err Memory) octets c object h = tt
 faults_there (Err (Refused x)) octets c object h =
-    in_vevents (tree_of c) (object_tree false c (logical_lines octets) object) (subst (λ (vs : List Lines). CalendarFault vs x.number) (sym (vevents_tree c)) h)
+    in_vevents (tree_of c) (object_tree false c (logical_lines octets) object) h
 
 -- what is wrong with the one VCALENDAR: nothing counts its VEVENTs here
 version_wrong : (octets : List ℕ) (n : ℕ) (c : Component) → SpellsTree component_name component_lines component_children 7 c (logical_lines octets) → IsTrue (calendar_has false n c)
@@ -67,7 +67,7 @@ pub object_refused : (r : Result (List Booked) Fault) (octets : List ℕ) (f : F
 object_refused r octets f e h = err_exit r (RefusesBy (CalendarTextFault octets)) f e (no_object octets f h)
 
 pub calendar_spelled : (r : Result (List Booked) Fault) (room octets : List ℕ) (c : Component) → reads_as_lines false octets ≡ true
-    → IsObjectOf false c (logical_lines octets) → IfOk r (SaysCalendar room (vevents_of c)) → IfOk r (SpellsCalendar room octets)
+    → IsObjectOf false c (logical_lines octets) → IfOk r (SaysCalendar room (tree_of c)) → IfOk r (SpellsCalendar room octets)
 calendar_spelled (Ok all) room octets c lines object says =
-    record { lines = lines; tree = tree_of c; object = object_tree false c (logical_lines octets) object; says = subst (λ (vs : List Lines). SaysCalendar room vs all) (sym (vevents_tree c)) says }
+    record { lines = lines; tree = tree_of c; object = object_tree false c (logical_lines octets) object; says = says }
 calendar_spelled (Err e) room octets c lines object says = tt

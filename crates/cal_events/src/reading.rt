@@ -7,7 +7,8 @@ ghost use Rattle.profile.specs.Faults.{is_calendar_fault, is_unread};
 ghost use Rattle.profile.specs.Instances.{Booked};
 ghost use Rattle.profile.specs.Calendars.{SpellsCalendar, CalendarTextFault};
 ghost use Rattle.profile.specs.Events.{is_confirmed, SaysCalendar, SaysEvent, CalendarFault, has_unread};
-ghost use Rattle.ical_tree.specs.Tree.{component_lines};
+ghost use Rattle.profile.specs.Trees.{Tree};
+ghost use Rattle.ical_tree.specs.Tree.{component_lines, tree_of};
 ghost use Rattle.cal_events.specs.Events.{IsUnreadOrFault, is_message, event_of, vevents_of, entry_view, entry_said, AreEntries};
 
 use crate::calendar::{Calendar, Entry};
@@ -37,9 +38,9 @@ impl Calendar {
     /// The calendar of an object that was read.
     /// Refused: as by `read`, but for the object.
     pub fn of_object(alloc: Global, object: &Component, room: &Address) -> Result<Calendar, Fault>
-        ensures says { IfOk result (SaysCalendar (address_octets room.now) (vevents_of object.now)) }
+        ensures says { IfOk result (SaysCalendar (address_octets room.now) (tree_of object.now)) }
         ensures refuses { IfErr result (RefusesOnly is_calendar_fault) }
-        ensures stands { IfErr result (RefusesBy (CalendarFault (vevents_of object.now))) }
+        ensures stands { IfErr result (RefusesBy (CalendarFault (tree_of object.now))) }
     {
         let entries = match entries_of(alloc, object, room) {
             Ok(entries) => entries,
@@ -53,12 +54,12 @@ impl Calendar {
     }
 }
 
-/// The VEVENTs of a calendar say at most one calendar for a room, and none where a fault stands in them.
+/// The VEVENTs of an object say at most one calendar for a room, and none where a fault stands in them.
 pub fn one_calendar()
-    ensures one { (room : List ℕ) (vevents : List (List (List ℕ))) (a b : List Booked)
-        → SaysCalendar room vevents a → SaysCalendar room vevents b → a ≡ b }
-    ensures or_a_fault { (room : List ℕ) (vevents : List (List (List ℕ))) (a : List Booked) (n : ℕ)
-        → SaysCalendar room vevents a → CalendarFault vevents n → ⊥ }
+    ensures one { (room : List ℕ) (object : Tree) (a b : List Booked)
+        → SaysCalendar room object a → SaysCalendar room object b → a ≡ b }
+    ensures or_a_fault { (room : List ℕ) (object : Tree) (a : List Booked) (n : ℕ)
+        → SaysCalendar room object a → CalendarFault object n → ⊥ }
 {
     one_event();
 }
@@ -125,7 +126,7 @@ fn entries_of(alloc: Global, object: &Component, room: &Address) -> Result<Vec<E
     ensures says { IfOk result (λ entries. AreEntries (address_octets room.now) (vevents_of object.now) entries.items) }
     ensures read { OnOk result (list_any has_unread (vevents_of object.now) ≡ false) }
     ensures refuses { IfErr result (RefusesOnly is_calendar_fault) }
-    ensures stands { IfErr result (RefusesBy (CalendarFault (vevents_of object.now))) }
+    ensures stands { IfErr result (RefusesBy (CalendarFault (tree_of object.now))) }
 {
     let mut entries = Vec::new(alloc);
     for component in object.children() {

@@ -11,9 +11,10 @@ use Rattle.ical_lines.specs.declared.fault.Fault.{Fault}
 use Rattle.ical_lines.specs.declared.fault.Fault.TheVariants.{Refused, Memory}
 use Rattle.ical_lines.specs.declared.fault.Refusal.{Refusal}
 use Rattle.profile.specs.Lines.{line_value}
-use Rattle.profile.specs.Events.{Event, SaysEvent, EventFault, has_unread}
+use Rattle.profile.specs.Trees.{Tree, tree_own, vevents}
+use Rattle.profile.specs.Events.{Event, SaysEvent, has_unread}
 use Rattle.profile.specs.Messages.{SaysRequest, MethodFault, bad_method, unread_method, MessageFault, in_event, not_yet, no_event, two_meetings, two_wholes, is_same_meeting, are_one_meeting, is_unread_method, is_method}
-use Rattle.profile.specs.Properties.{BothOrNeither, StandsAtMostOnce}
+use Rattle.profile.specs.Properties.{lines_named, BothOrNeither, StandsAtMostOnce}
 use Rattle.cal_events.specs.declared.component.EventComponent.{EventComponent}
 use Rattle.cal_events.specs.Events.{event_of, IsUnreadOrFault}
 use Rattle.cal_events.proofs.EventLemmas.{some_line, push_zip}
@@ -50,28 +51,33 @@ pub one_meeting_is : (events : List EventComponent) (first : EventComponent) (ot
 one_meeting_is events first others b e h =
     ap (λ es. are_one_meeting (map event_of es)) e ∙ sym (all_mapped (is_same_meeting (event_of first)) others) ∙ sym h
 
-pub none_said : (vevents : List Lines) → AllZip (SaysEvent true) vevents [] → vevents ≡ []
+pub none_said : (vs : List Lines) → AllZip (SaysEvent true) vs [] → vs ≡ []
 none_said [] z = refl
 none_said (v ∷ vs) z = absurd z
 
-pub meeting_stands : (own : Lines) (vevents : List Lines) (events : List Event) (n : ℕ) → AllZip (SaysEvent true) vevents events → MeetingFault events n → MessageFault own vevents n
-meeting_stands own vevents events n zip w = elim w [
-  | inl h ↦ subst (MessageFault own vevents) (sym h.0) (no_event (none_said vevents (subst (λ (es : List Event). AllZip (SaysEvent true) vevents es) h.1 zip)))
-  | inr (inl h) ↦ subst (MessageFault own vevents) (sym h.0) (two_meetings events zip h.1)
-  | inr (inr h) ↦ subst (MessageFault own vevents) (sym h.0) (two_wholes events zip h.1 h.2)
-]
+pub meeting_stands : (object : Tree) (vs : List Lines) (events : List Event) (n : ℕ) → vevents object ≡ vs → AllZip (SaysEvent true) vs events → MeetingFault events n
+    → MessageFault object n
+meeting_stands object vs events n e zip w =
+    let said = subst (λ (xs : List Lines). AllZip (SaysEvent true) xs events) (sym e) zip in
+    elim w [
+      | inl h ↦ subst (MessageFault object) (sym h.0) (no_event (none_said (vevents object) (subst (λ (es : List Event). AllZip (SaysEvent true) (vevents object) es) h.1 said)))
+      | inr (inl h) ↦ subst (MessageFault object) (sym h.0) (two_meetings events said h.1)
+      | inr (inr h) ↦ subst (MessageFault object) (sym h.0) (two_wholes events said h.1 h.2)
+    ]
 
 -- ---- VEVENTs
 
-pub event_stands : (own : Lines) (vevents : List Lines) (lines : Lines) (f : Fault) → Contains vevents lines → RefusesBy (IsUnreadOrFault true lines) f → RefusesBy (MessageFault own vevents) f
-event_stands own vevents lines Memory h s = tt
-event_stands own vevents lines (Refused r) h (inl u) = subst (MessageFault own vevents) (sym u.0) (not_yet (unread_among vevents lines h u.1))
-event_stands own vevents lines (Refused r) h (inr s) = in_event lines h s
+pub event_stands : (object : Tree) (vs : List Lines) (lines : Lines) (f : Fault) → vevents object ≡ vs → Contains vs lines → RefusesBy (IsUnreadOrFault true lines) f
+    → RefusesBy (MessageFault object) f
+event_stands object vs lines Memory e h s = tt
+event_stands object vs lines (Refused r) e h (inl u) = subst (MessageFault object) (sym u.0) (not_yet (ap (list_any has_unread) e ∙ unread_among vs lines h u.1))
+event_stands object vs lines (Refused r) e h (inr s) = in_event lines (subst (λ (xs : List Lines). Contains xs lines) (sym e) h) s
 
 -- what isn't read yet is a fault
-pub unread_stands : (own : Lines) (vevents : List Lines) (f : Fault) → RefusesBy (λ n. (n ≡ 99) × (list_any has_unread vevents ≡ true)) f → RefusesBy (MessageFault own vevents) f
-unread_stands own vevents Memory s = tt
-unread_stands own vevents (Refused r) s = subst (MessageFault own vevents) (sym s.0) (not_yet s.1)
+pub unread_stands : (object : Tree) (vs : List Lines) (f : Fault) → vevents object ≡ vs → RefusesBy (λ n. (n ≡ 99) × (list_any has_unread vs ≡ true)) f
+    → RefusesBy (MessageFault object) f
+unread_stands object vs Memory e s = tt
+unread_stands object vs (Refused r) e s = subst (MessageFault object) (sym s.0) (not_yet (ap (list_any has_unread) e ∙ s.1))
 
 -- one VEVENT more
 pub event_pushed : (vs : List Lines) (lines : Lines) (old new : List EventComponent) (event : EventComponent) → AllZip (SaysEvent true) vs (map event_of old) → SaysEvent true lines (event_of event)
@@ -95,37 +101,38 @@ some_itself None h = cc
 some_itself (Some x) h = refl
 
 -- the one VEVENT of a message
-pub record OneSaid (vevents : List Lines) (event : EventComponent) : Type 0 where
+pub record OneSaid (vs : List Lines) (event : EventComponent) : Type 0 where
   pub lines : Lines
-  pub one : vevents ≡ lines ∷ []
+  pub one : vs ≡ lines ∷ []
   pub says : SaysEvent true lines (event_of event)
 
-pub one_said : (vevents : List Lines) (es : List EventComponent) (event : EventComponent) → length es ≡ 1 → event ≡ get_or es 0 event → AllZip (SaysEvent true) vevents (map event_of es) → OneSaid vevents event
-one_said vevents [] event n at zip = absurd (omega (arith, n))
-one_said vevents (e ∷ f ∷ es) event n at zip = absurd (omega (arith, n))
+pub one_said : (vs : List Lines) (es : List EventComponent) (event : EventComponent) → length es ≡ 1 → event ≡ get_or es 0 event → AllZip (SaysEvent true) vs (map event_of es) → OneSaid vs event
+one_said vs [] event n at zip = absurd (omega (arith, n))
+one_said vs (e ∷ f ∷ es) event n at zip = absurd (omega (arith, n))
 one_said [] (e ∷ []) event n at zip = absurd zip
 one_said (v ∷ w ∷ vs) (e ∷ []) event n at zip = absurd zip.1
 one_said (v ∷ []) (e ∷ []) event n at zip = record { lines = v; one = refl; says = subst (λ (x : EventComponent). SaysEvent true v (event_of x)) (sym at) zip.0 }
 
-pub organiser_given : (vevents : List Lines) (event : EventComponent) → OneSaid vevents event → IsSome event.organiser
-organiser_given vevents event o =
+pub organiser_given : (vs : List Lines) (event : EventComponent) → OneSaid vs event → IsSome event.organiser
+organiser_given vs event o =
     let s = o.says.organiser in
     some_of_map _ event.organiser (given _ s.line (event_of event).organiser (s.stands refl) s.is)
 
-pub stamp_given : (vevents : List Lines) (event : EventComponent) → OneSaid vevents event → IsSome event.stamp
-stamp_given vevents event o =
+pub stamp_given : (vs : List Lines) (event : EventComponent) → OneSaid vs event → IsSome event.stamp
+stamp_given vs event o =
     let s = o.says.stamp in
     some_itself event.stamp (given _ s.line (event_of event).stamp (s.stands refl) s.is)
 
--- the message's lines say a REQUEST for it
-pub request_said : (own : Lines) (vevents : List Lines) (event : EventComponent) → NamesRequest own → list_any has_unread vevents ≡ false → OneSaid vevents event → SaysRequest own vevents (event_of event)
-request_said own vevents event named read o = record {
+-- the object says a REQUEST for it
+pub request_said : (object : Tree) (own : Lines) (vs : List Lines) (event : EventComponent) → tree_own object ≡ own → vevents object ≡ vs → NamesRequest own
+    → list_any has_unread vs ≡ false → OneSaid vs event → SaysRequest object (event_of event)
+request_said object own vs event mine inner named read o = record {
   method_line = named.0;
-  method = named.1;
+  method = ap (lines_named (codes "METHOD")) mine ∙ named.1;
   request = named.2;
   lines = o.lines;
-  one = o.one;
-  read = (or_parts (has_unread o.lines) false (subst (λ (vs : List Lines). list_any has_unread vs ≡ false) o.one read)).0;
+  one = inner ∙ o.one;
+  read = (or_parts (has_unread o.lines) false (subst (λ (xs : List Lines). list_any has_unread xs ≡ false) o.one read)).0;
   says = o.says;
 }
 

@@ -10,7 +10,7 @@ use Rattle.ical_lines.proofs.ContentLemmas.{read_fine}
 use Rattle.ical_tree.proofs.OneLine.{at_one}
 use Rattle.profile.specs.Lines.{logical_lines, line_value, is_same_name}
 use Rattle.profile.specs.Objects.{SpellsTree, IsObject, has_version, lines_have, count_inside, most_events}
-use Rattle.profile.specs.Trees.{Tree, tree_name, tree_own, tree_inside, vevents}
+use Rattle.profile.specs.Trees.{Tree, tree_name, tree_own, tree_inside}
 use Rattle.profile.specs.Events.{Event, SaysEvent, EventFault, has_unread}
 use Rattle.profile.specs.Messages.{SaysRequest, SpellsRequest, MethodFault, two_methods, bad_method, unread_method, no_method, MessageFault, in_method, in_event, not_yet, no_event, two_meetings, two_wholes, is_unread_method, is_method, are_one_meeting}
 use Rattle.profile.specs.Streams.{ObjectFault}
@@ -56,39 +56,39 @@ not_unread word h =
 is_taken : (word : List ℕ) → is_same_name word (codes "REQUEST") ≡ true → is_method word ≡ true
 is_taken word h = rw h refl
 
-no_method_fault : (own : Lines) (vs : List Lines) (a : Event) (n : ℕ) → SaysRequest own vs a → MethodFault own n → ⊥
-no_method_fault own vs a n s (two_methods h) =
+no_method_fault : (object : Tree) (a : Event) (n : ℕ) → SaysRequest object a → MethodFault (tree_own object) n → ⊥
+no_method_fault object a n s (two_methods h) =
     let k = ap length s.method in absurd (omega (arith, h, k))
-no_method_fault own vs a n s (bad_method (line, at, h)) =
+no_method_fault object a n s (bad_method (line, at, h)) =
     let e = at_one s.method_line line (subst (λ (xs : Lines). Contains xs line) s.method at) in
     true≢false (sym (is_taken (line_value line) (subst (λ (x : List ℕ). is_same_name (line_value x) (codes "REQUEST") ≡ true) e s.request)) ∙ h)
-no_method_fault own vs a n s (unread_method (line, at, h)) =
+no_method_fault object a n s (unread_method (line, at, h)) =
     let e = at_one s.method_line line (subst (λ (xs : Lines). Contains xs line) s.method at) in
     true≢false (sym h ∙ not_unread (line_value line) (subst (λ (x : List ℕ). is_same_name (line_value x) (codes "REQUEST") ≡ true) e s.request))
-no_method_fault own vs a n s (no_method h) =
+no_method_fault object a n s (no_method h) =
     let k : 0 ≡ 1 = sym (ap length h) ∙ ap length s.method in absurd (omega (arith, k))
 
--- ---- the lines of a VCALENDAR and of its VEVENTs
+-- ---- a VCALENDAR
 
-one_said : OneEvent → (own : Lines) (vs : List Lines) (a b : Event) → SaysRequest own vs a → SaysRequest own vs b → a ≡ b
-one_said one own vs a b s t =
+one_said : OneEvent → (object : Tree) (a b : Event) → SaysRequest object a → SaysRequest object b → a ≡ b
+one_said one object a b s t =
     let same : s.lines ≡ t.lines = one_line s.lines t.lines (sym s.one ∙ t.one) in
     one true t.lines a b (subst (λ (x : Lines). SaysEvent true x a) same s.says) t.says
 
-no_message_fault : NoFault → (own : Lines) (vs : List Lines) (a : Event) (n : ℕ) → SaysRequest own vs a → MessageFault own vs n → ⊥
-no_message_fault sound own vs a n s (in_method h) = no_method_fault own vs a n s h
-no_message_fault sound own vs a n s (in_event lines at fault) =
+no_message_fault : NoFault → (object : Tree) (a : Event) (n : ℕ) → SaysRequest object a → MessageFault object n → ⊥
+no_message_fault sound object a n s (in_method h) = no_method_fault object a n s h
+no_message_fault sound object a n s (in_event lines at fault) =
     let e = at_one s.lines lines (subst (λ (xs : List Lines). Contains xs lines) s.one at) in
     sound true lines a n (subst (λ (x : Lines). SaysEvent true x a) e s.says) fault
-no_message_fault sound own vs a n s (not_yet h) =
+no_message_fault sound object a n s (not_yet h) =
     let k : (has_unread s.lines || false) ≡ true = sym (ap (λ (xs : List Lines). list_any has_unread xs) s.one) ∙ h in
     true≢false (sym (rw s.read at k))
-no_message_fault sound own vs a n s (no_event h) =
+no_message_fault sound object a n s (no_event h) =
     let k : 0 ≡ 1 = sym (ap length h) ∙ ap length s.one in absurd (omega (arith, k))
-no_message_fault sound own vs a n s (two_meetings events zip h) =
+no_message_fault sound object a n s (two_meetings events zip h) =
     let one = one_zip s.lines events (subst (λ (xs : List Lines). AllZip (SaysEvent true) xs events) s.one zip) in
     true≢false (sym (one_of_one events one) ∙ h)
-no_message_fault sound own vs a n s (two_wholes events zip h more) =
+no_message_fault sound object a n s (two_wholes events zip h more) =
     let one = one_zip s.lines events (subst (λ (xs : List Lines). AllZip (SaysEvent true) xs events) s.one zip) in
     absurd (omega (arith, one, more))
 
@@ -97,7 +97,7 @@ no_message_fault sound own vs a n s (two_wholes events zip h more) =
 pub one_spelled : OneTree → OneEvent → (octets : List ℕ) (a b : Event) → SpellsRequest octets a → SpellsRequest octets b → a ≡ b
 one_spelled tree one octets a b s t =
     let same : s.tree ≡ t.tree = tree 7 7 (logical_lines octets) s.tree t.tree s.object.spelled t.object.spelled in
-    one_said one (tree_own t.tree) (vevents t.tree) a b (subst (λ (x : Tree). SaysRequest (tree_own x) (vevents x) a) same s.says) t.says
+    one_said one t.tree a b (subst (λ (x : Tree). SaysRequest x a) same s.says) t.says
 
 pub no_fault : OneTree → PairsUp → NoFault → (octets : List ℕ) (a : Event) (n : ℕ) → SpellsRequest octets a → ObjectFault n octets → ⊥
 no_fault one pairs sound octets a n s (inl h) = true≢false (sym h ∙ read_fine true octets n s.lines)
@@ -112,4 +112,4 @@ no_fault one pairs sound octets a n s (inr (inr (inl (t, spelled, inr (e, h)))))
     true≢false (sym over ∙ s.object.events)
 no_fault one pairs sound octets a n s (inr (inr (inr r))) =
     let same : s.tree ≡ r.tree = one 7 7 (logical_lines octets) s.tree r.tree s.object.spelled r.object.spelled in
-    no_message_fault sound (tree_own r.tree) (vevents r.tree) a n (subst (λ (x : Tree). SaysRequest (tree_own x) (vevents x) a) same s.says) r.fault
+    no_message_fault sound r.tree a n (subst (λ (x : Tree). SaysRequest x a) same s.says) r.fault

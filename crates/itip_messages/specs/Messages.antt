@@ -4,6 +4,7 @@ use Rattle.ical_lines.specs.Fault.{RefusesBy}
 use Rattle.std.specs.List.{list_any}
 use Rattle.std.specs.Str.{bytes_eq}
 use Rattle.profile.specs.Lines.{line_value, is_same_name}
+use Rattle.profile.specs.Trees.{Tree}
 use Rattle.profile.specs.Events.{Event, booked_by}
 use Rattle.profile.specs.Properties.{lines_named}
 use Rattle.profile.specs.Messages.{IsCanonical, SaysRequest, SpellsRequest, RequestFault, is_method, is_unread_method, are_one_meeting}
@@ -34,9 +35,9 @@ pub record StandsFor (message : Message) (event : Event) : Type 0 where
   pub one : message.components.items ≡ component ∷ []
   pub says : SaysComponent component event
 
--- the lines of the VCALENDAR and of its VEVENTs say a REQUEST, and the message is that
-abbrev pub IsMessageOf : List (List ℕ) → List (List (List ℕ)) → Message → Type 0
-IsMessageOf own vevents message = (event : Event) × SaysRequest own vevents event × StandsFor message event
+-- the object says a REQUEST, and the message is that
+abbrev pub IsMessageOf : Tree → Message → Type 0
+IsMessageOf object message = (event : Event) × SaysRequest object event × StandsFor message event
 
 -- the octets spell a REQUEST, and the message is that
 abbrev pub IsSpelled : List ℕ → Message → Type 0

@@ -4,7 +4,7 @@ ghost use Rattle.std.specs.Prelude.{◌≡◌, ◌++◌, [], true, false, codes,
 ghost use Rattle.std.specs.List.{list_all, list_any, AllZip};
 ghost use Rattle.ical_lines.specs.Fault.{RefusesOnly, RefusesBy};
 ghost use Rattle.ical_lines.specs.Text.{line_text};
-ghost use Rattle.ical_tree.specs.Tree.{component_lines};
+ghost use Rattle.ical_tree.specs.Tree.{tree_of};
 ghost use Rattle.ical_values.specs.Octets.{address_octets};
 ghost use Rattle.profile.specs.Faults.{is_message_fault};
 ghost use Rattle.profile.specs.Lines.{line_value, is_same_name};
@@ -83,9 +83,9 @@ impl Message {
     /// The message that an object is.
     /// Refused: as by `read`, but for the object.
     pub fn of_object(alloc: Global, object: &Component) -> Result<Message, Fault>
-        ensures says { IfOk result (IsMessageOf (component_lines object.now) (vevents_of object.now)) }
+        ensures says { IfOk result (IsMessageOf (tree_of object.now)) }
         ensures refuses { IfErr result (RefusesOnly is_message_fault) }
-        ensures stands { IfErr result (RefusesBy (MessageFault (component_lines object.now) (vevents_of object.now))) }
+        ensures stands { IfErr result (RefusesBy (MessageFault (tree_of object.now))) }
     {
         match Message::of_readable(alloc, object) {
             Ok(message) => Ok(message),
@@ -99,9 +99,9 @@ impl Message {
 
     /// The same, where any fault may go before what isn't read yet.
     fn of_readable(alloc: Global, object: &Component) -> Result<Message, Fault>
-        ensures says { IfOk result (IsMessageOf (component_lines object.now) (vevents_of object.now)) }
+        ensures says { IfOk result (IsMessageOf (tree_of object.now)) }
         ensures refuses { IfErr result (RefusesOnly is_message_fault) }
-        ensures stands { IfErr result (RefusesBy (MessageFault (component_lines object.now) (vevents_of object.now))) }
+        ensures stands { IfErr result (RefusesBy (MessageFault (tree_of object.now))) }
     {
         let properties = Properties::of(alloc, object)?;
         let method = method_of(&properties)?;
@@ -215,7 +215,7 @@ fn events_of(alloc: Global, object: &Component) -> Result<Vec<EventComponent>, F
     ensures says { IfOk result (λ events. AllZip (SaysEvent true) (vevents_of object.now) (map event_of events.items)) }
     ensures read { OnOk result (list_any has_unread (vevents_of object.now) ≡ false) }
     ensures refuses { IfErr result (RefusesOnly is_message_fault) }
-    ensures stands { IfErr result (RefusesBy (MessageFault (component_lines object.now) (vevents_of object.now))) }
+    ensures stands { IfErr result (RefusesBy (MessageFault (tree_of object.now))) }
 {
     let mut events = Vec::new(alloc);
     for component in object.children() {

@@ -2,7 +2,7 @@
 use Rattle.std.specs.Prelude.{◌≡◌, ℕ, true, false, List}
 use Rattle.profile.specs.Lines.{logical_lines, text_has, reads_as_lines}
 use Rattle.profile.specs.Objects.{SpellsTree, IsObject, has_version, lines_have}
-use Rattle.profile.specs.Trees.{Tree, tree_name, tree_own, tree_inside, vevents}
+use Rattle.profile.specs.Trees.{Tree, tree_name, tree_own, tree_inside}
 use Rattle.profile.specs.Instances.{Booked}
 use Rattle.profile.specs.Certificates.{CertificateStands}
 use Rattle.profile.specs.Events.{SaysCalendar, CalendarFault}
@@ -16,7 +16,7 @@ pub record SpellsCalendar (room octets : List ℕ) (all : List Booked) : Type 0 
   pub lines : reads_as_lines false octets ≡ true
   pub tree : Tree
   pub object : IsCalendarText tree octets
-  pub says : SaysCalendar room (vevents tree) all
+  pub says : SaysCalendar room tree all
 
 -- the fault of this number stands in the octets
 pub data CalendarTextFault (octets : List ℕ) : ℕ → Type 0 where
@@ -27,7 +27,7 @@ pub data CalendarTextFault (octets : List ℕ) : ℕ → Type 0 where
   -- VERSION doesn't stand once, or isn't `2.0`
   no_version : (t : Tree) → SpellsTree tree_name tree_own tree_inside 7 t (logical_lines octets) → has_version (tree_own t) ≡ false → CalendarTextFault octets 24
   -- in the VEVENTs of the calendar that stands there
-  in_vevents : {n : ℕ} → (t : Tree) → IsCalendarText t octets → CalendarFault (vevents t) n → CalendarTextFault octets n
+  in_vevents : {n : ℕ} → (t : Tree) → IsCalendarText t octets → CalendarFault t n → CalendarTextFault octets n
 
 -- the certificate's octets stand for the room's calendar: the calendar spells confirmed instances, the certificate
 -- is one for them, and no two of them clash

@@ -3,6 +3,7 @@ use Rattle.std.specs.Prelude.{◌≡◌, ◌≢◌, ℕ, Contains, AllPairs, ◌
 use Rattle.std.specs.List.{find, list_any, AllZip}
 use Rattle.std.specs.Str.{bytes_eq}
 use Rattle.profile.specs.Lines.{line_value, line_param, is_same_name}
+use Rattle.profile.specs.Trees.{Tree, vevents}
 use Rattle.profile.specs.Values.{IsUid, unescaped}
 use Rattle.profile.specs.Instances.{Booked}
 use Rattle.profile.specs.Properties.{is_of, lines_named, StandsAtMostOnce, IsTime, IsStampLine, IsSequenceLine, IsAddressLine, Says, IsUidLine, Length, length_seconds, LastsFor, longest, first_second, StandsTwice, IsMissing, SomeLine, IsNoStamp, TimeFault, IsNoAddress, IsNoSequence, IsNoDuration, IsNegativeOrLong}
@@ -140,12 +141,12 @@ confirmed room events = map booked_by (filter (is_confirmed room) events)
 abbrev pub meeting_said : Event → List ℕ × List ℕ
 meeting_said event = (unwrap_or event.organiser [], event.uid)
 
--- the VEVENTs of a calendar, each as its lines, say events of which no two are of one meeting (RFC 5545 3.8.4.4),
--- nothing in them isn't read yet, and these instances of them are confirmed for the room
-pub record SaysCalendar (room : List ℕ) (vevents : List (List (List ℕ))) (all : List Booked) : Type 0 where
+-- the VEVENTs of an object say events of which no two are of one meeting (RFC 5545 3.8.4.4), nothing in them isn't read
+-- yet, and these instances of them are confirmed for the room
+pub record SaysCalendar (room : List ℕ) (object : Tree) (all : List Booked) : Type 0 where
   pub events : List Event
-  pub says : AllZip (SaysEvent false) vevents events
-  pub read : list_any has_unread vevents ≡ false
+  pub says : AllZip (SaysEvent false) (vevents object) events
+  pub read : list_any has_unread (vevents object) ≡ false
   pub differ : AllPairs ◌≢◌ (map meeting_said events)
   pub is : all ≡ confirmed room events
 
@@ -185,12 +186,12 @@ pub data EventFault (in_message : Bool) (lines : List (List ℕ)) : ℕ → Type
   end_and_duration : SomeLine (codes "DTEND") (λ _. Unit {0}) lines → SomeLine (codes "DURATION") (λ _. Unit {0}) lines → EventFault in_message lines 61
   no_organiser : in_message ≡ true → IsMissing (codes "ORGANIZER") lines → EventFault in_message lines 63
 
--- ---- what can be wrong with a calendar's VEVENTs, each of them as its lines
+-- ---- what can be wrong with the VEVENTs of an object, as a calendar
 
-pub data CalendarFault (vevents : List (List (List ℕ))) : ℕ → Type 0 where
+pub data CalendarFault (object : Tree) : ℕ → Type 0 where
   -- one of them has this fault
-  in_event : {n : ℕ} → (lines : List (List ℕ)) → Contains vevents lines → EventFault false lines n → CalendarFault vevents n
+  in_event : {n : ℕ} → (lines : List (List ℕ)) → Contains (vevents object) lines → EventFault false lines n → CalendarFault object n
   -- two of them are of one meeting
-  one_meeting : (events : List Event) → AllZip (SaysEvent false) vevents events → (AllPairs ◌≢◌ (map meeting_said events) → ⊥) → CalendarFault vevents 53
+  one_meeting : (events : List Event) → AllZip (SaysEvent false) (vevents object) events → (AllPairs ◌≢◌ (map meeting_said events) → ⊥) → CalendarFault object 53
   -- something in them isn't read yet
-  not_yet : list_any has_unread vevents ≡ true → CalendarFault vevents 99
+  not_yet : list_any has_unread (vevents object) ≡ true → CalendarFault object 99

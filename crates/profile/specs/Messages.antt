@@ -14,14 +14,14 @@ use Rattle.profile.specs.Revisions.{Part, Slot, Whole, At, Set}
 
 -- ---- what a message says
 
--- the lines of the VCALENDAR and of each VEVENT in it say that this is a REQUEST for this one event: METHOD stands once,
--- nothing in the VEVENTs is left unread (RFC 5546 3.2.2)
-pub record SaysRequest (own : List (List ℕ)) (events : List (List (List ℕ))) (event : Event) : Type 0 where
+-- a VCALENDAR says that it is a REQUEST for this one event: METHOD stands once, nothing in its VEVENT is left unread
+-- (RFC 5546 3.2.2)
+pub record SaysRequest (object : Tree) (event : Event) : Type 0 where
   pub method_line : List ℕ
-  pub method : lines_named (codes "METHOD") own ≡ method_line ∷ []
+  pub method : lines_named (codes "METHOD") (tree_own object) ≡ method_line ∷ []
   pub request : is_same_name (line_value method_line) (codes "REQUEST") ≡ true
   pub lines : List (List ℕ)
-  pub one : events ≡ lines ∷ []
+  pub one : vevents object ≡ lines ∷ []
   pub read : has_unread lines ≡ false
   pub says : SaysEvent true lines event
 
@@ -30,7 +30,7 @@ pub record SpellsRequest (octets : List ℕ) (event : Event) : Type 0 where
   pub lines : reads_as_lines true octets ≡ true
   pub tree : Tree
   pub object : IsObject tree_name tree_own tree_inside true tree (logical_lines octets)
-  pub says : SaysRequest (tree_own tree) (vevents tree) event
+  pub says : SaysRequest tree event
 
 -- ---- what can be wrong with a message
 
@@ -59,21 +59,21 @@ abbrev pub are_one_meeting : List Event → Bool
 are_one_meeting [] = true
 are_one_meeting (event ∷ events) = list_all (is_same_meeting event) events
 
--- the fault of this number stands in the lines of the VCALENDAR or of its VEVENTs
-pub data MessageFault (own : List (List ℕ)) (vevents : List (List (List ℕ))) : ℕ → Type 0 where
-  in_method : {n : ℕ} → MethodFault own n → MessageFault own vevents n
-  in_event : {n : ℕ} → (lines : List (List ℕ)) → Contains vevents lines → EventFault true lines n → MessageFault own vevents n
-  not_yet : list_any has_unread vevents ≡ true → MessageFault own vevents 99
-  no_event : vevents ≡ [] → MessageFault own vevents 66
-  two_meetings : (events : List Event) → AllZip (SaysEvent true) vevents events → are_one_meeting events ≡ false → MessageFault own vevents 62
+-- the fault of this number stands in the lines of a VCALENDAR or of its VEVENTs
+pub data MessageFault (object : Tree) : ℕ → Type 0 where
+  in_method : {n : ℕ} → MethodFault (tree_own object) n → MessageFault object n
+  in_event : {n : ℕ} → (lines : List (List ℕ)) → Contains (vevents object) lines → EventFault true lines n → MessageFault object n
+  not_yet : list_any has_unread (vevents object) ≡ true → MessageFault object 99
+  no_event : vevents object ≡ [] → MessageFault object 66
+  two_meetings : (events : List Event) → AllZip (SaysEvent true) (vevents object) events → are_one_meeting events ≡ false → MessageFault object 62
   -- without RECURRENCE-ID each VEVENT is the whole meeting
-  two_wholes : (events : List Event) → AllZip (SaysEvent true) vevents events → are_one_meeting events ≡ true → 1 < length events → MessageFault own vevents 53
+  two_wholes : (events : List Event) → AllZip (SaysEvent true) (vevents object) events → are_one_meeting events ≡ true → 1 < length events → MessageFault object 53
 
 -- the octets are one VCALENDAR, within the limits of a message, and the fault of this number stands in it
 pub record RequestFault (octets : List ℕ) (n : ℕ) : Type 0 where
   pub tree : Tree
   pub object : IsObject tree_name tree_own tree_inside true tree (logical_lines octets)
-  pub fault : MessageFault (tree_own tree) (vevents tree) n
+  pub fault : MessageFault tree n
 
 -- ---- its parts
 

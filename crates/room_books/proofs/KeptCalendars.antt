@@ -71,10 +71,11 @@ calendar_spelled back reads room octets answers each b apart is =
     let content = object_content None b.owns no_method b.content in
     let whole : octets ≡ written lines = is ∙ ap (λ l. written (object_lines None l)) b.are in
     let logical : logical_lines octets ≡ lines = ap logical_lines whole ∙ back lines content in
-    let says : SaysCalendar room b.owns (flat_map books answers) = record {
+    let owns = calendar_vevents None b.owns in
+    let says : SaysCalendar room (calendar_tree None b.owns) (flat_map books answers) = record {
       events = b.saids;
-      says = b.says;
-      read = b.read;
+      says = subst (λ (l : List Lines). AllZip (SaysEvent false) l b.saids) (sym owns) b.says;
+      read = ap (list_any has_unread) owns ∙ b.read;
       differ = subst (AllPairs ◌≢◌) (sym b.meetings) (meetings_differ answers apart);
       is = sym b.confirmed;
     } in
@@ -82,7 +83,7 @@ calendar_spelled back reads room octets answers each b apart is =
       lines = ap (reads_as_lines false) whole ∙ reads lines content;
       tree = calendar_tree None b.owns;
       object = subst (λ (l : Lines). IsObject tree_name tree_own tree_inside false (calendar_tree None b.owns) l) (sym logical) (object_spelled None b.owns b.properties);
-      says = subst (λ (v : List Lines). SaysCalendar room v (flat_map books answers)) (sym (calendar_vevents None b.owns)) says;
+      says = says;
     }
 
 -- ---- the certificate

@@ -1,13 +1,14 @@
 use Rattle.std.proofs.Common.{◌≡◌, ◌<◌, List, length, get_or, take, sym, ap, subst, ◌∙◌}
 use Rattle.std.specs.List.{list_any}
 use Rattle.ical_lines.specs.Fault.{RefusesBy}
-use Rattle.ical_tree.specs.Tree.{component_lines, component_children}
+use Rattle.ical_tree.specs.Tree.{component_lines, component_children, tree_of}
 use Rattle.ical_tree.specs.declared.component.Component.{Component}
 use Rattle.ical_values.specs.Octets.{address_octets}
 use Rattle.ical_values.proofs.Exits.{err_exit}
 use Rattle.profile.specs.Events.{CalendarFault, has_unread}
 use Rattle.cal_events.specs.Events.{event_of, vevents_of, AreEntries}
 use Rattle.cal_events.proofs.ReadingLemmas.{events_in, is_among, take_other, take_event, read_event, entry_pushed, event_stands}
+use Rattle.cal_events.proofs.TreeLemmas.{vevents_tree}
 use Rattle.cal_events.proofs.reading.entries_of.Goals as goal
 use Rattle.cal_events.proofs.reading.entries_of.Goals.{then-is_named+in_ok-event+in_ok-entry_of+in_ok-push, else-is_named}
 
@@ -19,8 +20,8 @@ returns-in_err-event-clause-stands c =
     let same = c.children-component-items.ensures in
     let within = subst (λ (l : List Component). i < length l) same c.loop-component-test.true in
     let here = subst (λ (l : List Component). x ≡ get_or l i x) same c.component-item.is in
-    err_exit _ (RefusesBy (CalendarFault (vevents_of c.args.object.now))) _ c.from_residual.ensures.1
-    (event_stands (vevents_of c.args.object.now) (component_lines x) _ (is_among all i x within here (sym c.if-is_named.ensures))
+    err_exit _ (RefusesBy (CalendarFault (tree_of c.args.object.now))) _ c.from_residual.ensures.1
+    (event_stands (tree_of c.args.object.now) (vevents_of c.args.object.now) (component_lines x) _ (vevents_tree c.args.object.now) (is_among all i x within here (sym c.if-is_named.ensures))
     c.in_err-event.ensures.stands)
 
 pub loop-component-preserved : goal.loop-component-preserved

@@ -1,24 +1,26 @@
-use Rattle.std.proofs.Common.{map}
+use Rattle.std.proofs.Common.{◌∙◌, ℕ, List, map, subst, sym}
 use Rattle.ical_lines.specs.Fault.{RefusesBy}
-use Rattle.ical_tree.specs.Tree.{component_lines}
-use Rattle.profile.specs.Messages.{MessageFault, in_method}
+use Rattle.ical_tree.specs.Tree.{component_lines, tree_of}
+use Rattle.ical_tree.proofs.TreeOfLemmas.{tree_of-own}
+use Rattle.profile.specs.Messages.{MethodFault, MessageFault, in_method}
 use Rattle.cal_events.specs.Events.{event_of, vevents_of}
+use Rattle.cal_events.proofs.TreeLemmas.{vevents_tree}
 use Rattle.itip_messages.proofs.MessageLemmas.{meeting_stands, one_said, organiser_given, stamp_given, request_said}
 use Rattle.ical_values.proofs.Exits.{err_exit}
 use Rattle.itip_messages.proofs.message.Message.of_readable.Goals as goal
 
 pub returns-in_err-method-clause-stands : goal.returns-in_err-method-clause-stands
 returns-in_err-method-clause-stands c =
-    let P = MessageFault (component_lines c.args.object.now) (vevents_of c.args.object.now) in
-    err_exit _ (RefusesBy P) _ c.from_residual-in_err-method.ensures.1 (in_method (rw c.in_ok-properties.ensures at c.in_err-method.ensures.stands))
+    let object = c.args.object.now in
+    let own = subst (λ (ls : List (List ℕ)). MethodFault ls c.in_err-method.field-0.0.number) (c.in_ok-properties.ensures ∙ sym (tree_of-own object)) c.in_err-method.ensures.stands in
+    err_exit _ (RefusesBy (MessageFault (tree_of object))) _ c.from_residual-in_err-method.ensures.1 (in_method own)
 
 pub returns-in_err-judge_meeting-clause-stands : goal.returns-in_err-judge_meeting-clause-stands
 returns-in_err-judge_meeting-clause-stands c =
-    let own = component_lines c.args.object.now in
-    let vevents = vevents_of c.args.object.now in
+    let object = c.args.object.now in
     let wrong = rw c.as_slice.ensures.value at c.in_err-judge_meeting.ensures.stands in
-    err_exit _ (RefusesBy (MessageFault own vevents)) _ c.from_residual-in_err-judge_meeting.ensures.1
-    (meeting_stands own vevents (map event_of c.in_ok-events.events.items) _ c.in_ok-events.ensures.says wrong)
+    err_exit _ (RefusesBy (MessageFault (tree_of object))) _ c.from_residual-in_err-judge_meeting.ensures.1
+    (meeting_stands (tree_of object) (vevents_of object) (map event_of c.in_ok-events.events.items) _ (vevents_tree object) c.in_ok-events.ensures.says wrong)
 
 pub of-requires-2-clause-organiser : goal.of-requires-2-clause-organiser
 of-requires-2-clause-organiser c =
@@ -34,11 +36,11 @@ of-requires-2-clause-stamp c =
 
 pub returns-clause-says : goal.returns-clause-says
 returns-clause-says c =
-    let own = component_lines c.args.object.now in
-    let vevents = vevents_of c.args.object.now in
+    let object = c.args.object.now in
+    let vevents = vevents_of object in
     let one = rw c.as_slice.ensures.value at c.in_ok-judge_meeting.ensures.one in (
       event_of c.remove-event.result,
-      request_said own vevents c.remove-event.result (rw c.in_ok-properties.ensures at c.in_ok-method.ensures.named) c.in_ok-events.ensures.read
+      request_said (tree_of object) (component_lines object) vevents c.remove-event.result (tree_of-own object) (vevents_tree object) (rw c.in_ok-properties.ensures at c.in_ok-method.ensures.named) c.in_ok-events.ensures.read
           (one_said vevents c.in_ok-events.events.items c.remove-event.result one c.remove-event.ensures.value c.in_ok-events.ensures.says),
       c.in_ok-of.ensures,
     )
