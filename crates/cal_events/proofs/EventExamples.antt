@@ -5,8 +5,10 @@ use Rattle.std.proofs.lemmas.Bool.{true≢false}
 use Rattle.std.proofs.lemmas.Int.{ints}
 use Rattle.profile.specs.Days.{days_before_year, days_of_months}
 use Rattle.profile.specs.Values.{SpellsStamp, SpellsDuration, unescaped}
+use Rattle.profile.specs.Trees.{Tree}
 use Rattle.profile.specs.Events.{Event, Accepted, Declined, SaysEvent, EventFault, confirmed, has_unread, no_organiser}
 use Rattle.profile.specs.Properties.{IsDateText, TimeFault}
+use Rattle.cal_events.proofs.Meanings.{utc_means}
 
 -- 2025-03-10T09:00:00Z is 1,741,597,200
 nine : SpellsStamp (codes "20250310T090000Z") (pos 1_741_597_200)
@@ -62,30 +64,39 @@ said = record {
   organiser = None;
   stamp = None;
   sequence = 0;
-  start = pos 1_741_597_200;
-  length = record { days = 0; seconds = 5_400 };
+  times = record { zone = None; local = pos 1_741_597_200; start = pos 1_741_597_200; length = record { days = 0; seconds = 5_400 } };
   attendees = record { address = codes "mailto:room@example.com"; participation = Accepted } ∷ record { address = codes "mailto:room@example.com"; participation = Declined } ∷ [];
 }
 
 no_need : {A : Type 0} → false ≡ true → A
 no_need h = absurd (true≢false (sym h))
 
--- the lines of a calendar's VEVENT say this event
-say : SaysEvent false lines said
+-- the lines of a calendar's VEVENT say this event, in whatever object they stand
+say : (object : Tree) → SaysEvent object false lines said
 unfolding lines said unescaped
-say = record {
+say object = record {
   uid = record { line = Some (codes "uid:a"); once = refl; stands = λ _. refl; is = (refl, (omega arith, omega arith)) };
   organiser = record { line = None; once = refl; stands = no_need; is = tt };
   stamp = record { line = None; once = refl; stands = no_need; is = tt };
   sequence = (None, record { line = None; once = refl; stands = no_need; is = tt }, refl);
   status = (None, refl);
-  start = record { line = Some (codes "DTSTART;VALUE=date-time:20250310T090000Z"); once = refl; stands = λ _. refl; is = (refl, nine) };
-  length = record { end_line = None; duration_line = Some (codes "DURATION:PT90M"); end_once = refl; duration_once = refl; is = ninety_minutes; most = omega arith };
+  times = record {
+    line = codes "DTSTART;VALUE=date-time:20250310T090000Z";
+    once = refl;
+    says = (refl, nine);
+    means = utc_means (pos 1_741_597_200);
+    end_line = None;
+    duration_line = Some (codes "DURATION:PT90M");
+    end_once = refl;
+    duration_once = refl;
+    lasts = (ninety_minutes, λ h. no_need h);
+    most = omega arith;
+    in_dates = (omega (arith, ints), omega (arith, ints), omega (arith, ints));
+  };
   attendees = (
     (((codes "MAILTO", codes "Room@example.com", refl, refl, refl, omega arith), refl), refl),
     ((((codes "mailto", codes "room@example.com", refl, refl, refl, omega arith), refl), refl), tt),
   );
-  from_1970 = omega (arith, ints);
 }
 
 -- the first answer counts: the room has accepted, and the event holds it for ninety minutes
@@ -94,9 +105,9 @@ unfolding said
 books = refl
 
 -- a message lacks an organiser there
-lacks : EventFault true lines 63
+lacks : (object : Tree) → EventFault object true lines 63
 unfolding lines
-lacks = no_organiser refl refl
+lacks object = no_organiser refl refl
 
 -- what is wrong with a start: VALUE decides first, then the text
 a_period : TimeFault (codes "DTSTART;VALUE=Period:20250310T090000Z/PT1H") 56

@@ -15,14 +15,12 @@ use Rattle.ical_values.specs.Refused.{IfRefused}
 use Rattle.ical_values.specs.Octets.{text_octets}
 use Rattle.ical_values.specs.declared.text.Text.{Text}
 use Rattle.cal_events.specs.declared.component.Attendee.{Attendee}
-use Rattle.cal_events.specs.declared.component.Extent.{Extent}
-use Rattle.cal_events.specs.declared.component.Extent.TheVariants.{ToEnd, For}
-use Rattle.ical_values.specs.declared.duration.Duration.{Duration}
 use Rattle.profile.specs.Lines.{line_value}
 use Rattle.profile.specs.Values.{SpellsDate, SpellsLocal, SpellsStamp, SpellsSequence, SpellsDuration, SpellsNegative, SpellsLong, IsUid, unescaped}
-use Rattle.profile.specs.Events.{SaysSequence, EventFault, IsAttendee, SaysLength, IsLength, bad_duration, bad_attendee, lasts_long, ends_early, ends_late, starts_early}
-use Rattle.profile.specs.Properties.{is_of, lines_named, StandsAtMostOnce, SomeLine, Says, IsUidLine, TimeKind, DateTime, time_kind, IsTime, IsDateText, IsLocalText, KindFault, TimeFault, IsNoDuration, IsNegativeOrLong, IsNoAddress, BothOrNeither, length_seconds}
-use Rattle.cal_events.specs.Events.{attendee_of, length_of, IsExtent, GivesLength, ExtentFault, TimesFault, ends_early as lies_before, ends_late as lies_late, lasts_long as is_long, in_extent, starts_early as lies_early}
+use Rattle.profile.specs.Trees.{Tree}
+use Rattle.profile.specs.Events.{SaysSequence, EventFault, IsAttendee, bad_attendee}
+use Rattle.profile.specs.Properties.{is_of, lines_named, StandsAtMostOnce, SomeLine, Says, IsUidLine, TimeKind, DateTime, time_kind, IsDateText, IsLocalText, KindFault, TimeFault, IsNoDuration, IsNegativeOrLong, IsNoAddress, BothOrNeither, length_seconds}
+use Rattle.cal_events.specs.Events.{attendee_of, IsTime}
 use Rattle.ical_tree.proofs.OneLine.{the_line}
 
 -- ---- faults
@@ -62,11 +60,6 @@ sequence_said (Ok n) lines line value once v h = (
 )
 sequence_said (Err e) lines line value once v h = tt
 
-pub start_said : (r : Result ℤ Refusal) (lines : List (List ℕ)) (line : List ℕ) → StandsAtMostOnce (codes "DTSTART") lines (Some line)
-    → IfOk r (IsTime line) → IfOk r (λ t. Says (codes "DTSTART") true IsTime lines (Some t))
-start_said (Ok t) lines line once h = record { line = Some line; once = once; stands = λ _. refl; is = h }
-start_said (Err e) lines line once h = tt
-
 -- ---- times
 
 -- a text is a local time where it is read as one
@@ -95,18 +88,6 @@ long_length line (d, s, spells, inr h) = inr (record { days = d; seconds = s }, 
 
 abbrev pub IsNone : List ℕ → Type 0
 IsNone text = (days seconds : ℕ) → SpellsDuration text days seconds → ⊥
-
-pub duration_fault : (m : Bool) (lines : List (List ℕ)) (line text : List ℕ) (n : ℕ) → StandsAtMostOnce (codes "DURATION") lines (Some line) → text ≡ line_value line
-    → (n ≡ 12) ⊎ (n ≡ 51) → (n ≡ 12 → IsNone text) → (n ≡ 12 → SpellsNegative text → ⊥) → (n ≡ 51 → SpellsNegative text ⊎ SpellsLong text)
-    → EventFault m lines n
-duration_fault m lines line text n once e (inl k) none positive long =
-    let none' = subst IsNone e (none k) in
-    let no' = subst (λ (t : List ℕ). SpellsNegative t → ⊥) e (positive k) in
-    subst (EventFault m lines) (sym k) (bad_duration (some_line (codes "DURATION") IsNoDuration lines line once (none', no')))
-duration_fault m lines line text n once e (inr k) none positive long =
-    let long' = subst (λ (t : List ℕ). SpellsNegative t ⊎ SpellsLong t) e (long k) in
-    subst (EventFault m lines) (sym k)
-    (lasts_long (some_line (codes "DURATION") IsNegativeOrLong lines line once (elim long' [ inl h ↦ inl h | inr h ↦ long_length line h ])))
 
 -- ---- attendees
 
@@ -143,12 +124,12 @@ attendee_pushed all left rest done line old new a e s h zip n is = (
       (push_zip IsAttendee done (map attendee_of old) line (attendee_of a) zip is),
 )
 
-pub attendee_fault : (m : Bool) (all left rest done : List (List ℕ)) (line : List ℕ) (f : Fault)
+pub attendee_fault : (object : Tree) (m : Bool) (all left rest done : List (List ℕ)) (line : List ℕ) (f : Fault)
     → lines_named (codes "ATTENDEE") all ≡ done ++ lines_named (codes "ATTENDEE") left → left ≡ line ∷ rest → is_of (codes "ATTENDEE") line ≡ true
-    → RefusesBy (λ n. (n ≡ 15) × IsNoAddress line) f → RefusesBy (EventFault m all) f
-attendee_fault m all left rest done line Memory e s h w = tt
-attendee_fault m all left rest done line (Refused r) e s h w =
-    subst (EventFault m all) (sym w.0)
+    → RefusesBy (λ n. (n ≡ 15) × IsNoAddress line) f → RefusesBy (EventFault object m all) f
+attendee_fault object m all left rest done line Memory e s h w = tt
+attendee_fault object m all left rest done line (Refused r) e s h w =
+    subst (EventFault object m all) (sym w.0)
     (bad_attendee (line, in_rest done (lines_named (codes "ATTENDEE") rest) (lines_named (codes "ATTENDEE") all) line (named_next (codes "ATTENDEE") all left rest done line e s h), w.1))
 
 -- the first element of a kind, from a place on, where the one that stands there is none
@@ -156,55 +137,3 @@ pub find_drop : {X Y : Type 0} (p : Y → Bool) (g : X → Y) (xs : List X) (i :
     → find p (map g (drop i xs)) ≡ find p (map g (drop (i + 1) xs))
 find_drop p g xs i x w e f =
     rw (add-one, drop-cons xs i x w) (ap (λ b. cond b (Some (g (get_or xs i x))) (find p (map g (drop (suc i) xs)))) (ap (λ y. p (g y)) (sym e) ∙ f))
-
--- ---- the length, and what is wrong with the times
-
-pub length_said : (lines : List (List ℕ)) (start : ℤ) (extent : Extent) (length : Duration) → IsExtent lines start extent → GivesLength extent length
-    → length_seconds (length_of length) ≤ 31_622_400 → SaysLength lines start (length_of length)
-length_said lines start (ToEnd s) length (line, once, none, time) (days, seconds) most = record {
-  end_line = Some line;
-  duration_line = None;
-  end_once = once;
-  duration_once = none;
-  is = (days, subst (λ (x : ℤ). IsTime line (start +ℤ x)) seconds time);
-  most = most;
-}
-length_said lines start (For d) length (line, none, once, is) e most = record {
-  end_line = None;
-  duration_line = line;
-  end_once = none;
-  duration_once = once;
-  is = subst (λ (x : Duration). IsLength start None line (length_of x)) (sym e) is;
-  most = most;
-}
-
--- a start that was read stands in the lines
-start_line : (lines : List (List ℕ)) (start : ℤ) → Says (codes "DTSTART") true IsTime lines (Some start) → SomeLine (codes "DTSTART") (λ line. IsTime line start) lines
-start_line lines start says = go says.line says.once says.is
-  where
-    go : (line : Option (List ℕ)) → StandsAtMostOnce (codes "DTSTART") lines line → BothOrNeither IsTime line (Some start) → SomeLine (codes "DTSTART") (λ l. IsTime l start) lines
-    go None once is = absurd is
-    go (Some line) once is = some_line (codes "DTSTART") (λ l. IsTime l start) lines line once is
-
-long_duration : (m : Bool) (lines : List (List ℕ)) (start : ℤ) (d : Duration) (line : Option (List ℕ)) → StandsAtMostOnce (codes "DURATION") lines line
-    → IsLength start None line (length_of d) → 31_622_400 < length_seconds (length_of d) → EventFault m lines 51
-long_duration m lines start d None once is h =
-    let zero' : length_seconds (length_of d) ≡ 0 = ap length_seconds is in
-    absurd (omega arith)
-long_duration m lines start d (Some line) once is h =
-    lasts_long (some_line (codes "DURATION") IsNegativeOrLong lines line once (inr (length_of d, is, h)))
-
-extent_fault : (m : Bool) (lines : List (List ℕ)) (start : ℤ) (extent : Extent) (n : ℕ) → SomeLine (codes "DTSTART") (λ line. IsTime line start) lines
-    → ExtentFault extent n → IsExtent lines start extent → EventFault m lines n
-extent_fault m lines start extent n first (lies_before s h) (line, once, none, time) =
-    let early : (start +ℤ s) <ℤ start = omega (arith, ints) in
-    ends_early (start, start +ℤ s, first, some_line (codes "DTEND") (λ l. IsTime l (start +ℤ s)) lines line once time, early)
-extent_fault m lines start extent n first (lies_late s h) (line, once, none, time) =
-    let late : (start +ℤ pos 31_622_400) <ℤ (start +ℤ s) = omega (arith, ints) in
-    ends_late (start, start +ℤ s, first, some_line (codes "DTEND") (λ l. IsTime l (start +ℤ s)) lines line once time, late)
-extent_fault m lines start extent n first (is_long d h) (line, none, once, is) = long_duration m lines start d line once is h
-
-pub times_fault : (m : Bool) (lines : List (List ℕ)) (start : ℤ) (extent : Extent) (n : ℕ) → Says (codes "DTSTART") true IsTime lines (Some start)
-    → IsExtent lines start extent → TimesFault start extent n → EventFault m lines n
-times_fault m lines start extent n says x (in_extent h) = extent_fault m lines start extent n (start_line lines start says) h x
-times_fault m lines start extent n says x (lies_early h) = starts_early start (start_line lines start says) h

@@ -2,6 +2,9 @@ mod EventExamples
 pub mod EventLemmas
 pub mod ReadingLemmas
 pub mod TreeLemmas
+pub mod Meanings
+pub mod NumberLemmas
+pub mod OneTimes
 pub mod OneEvent
 pub mod OneCalendar
 pub mod OneText

@@ -1,5 +1,5 @@
 -- A line says at most one local time in one zone, and none where a fault stands in it.
-use Rattle.std.proofs.Common.{◌≡◌, ◌∙◌, sym, subst, inl, inr, ℕ, List, ℤ, codes}
+use Rattle.std.proofs.Common.{◌≡◌, ap, refl, subst, inl, inr, ℕ, List, ℤ, codes}
 use Rattle.std.specs.Prelude.{Option, Some, None}
 use Rattle.profile.specs.Lines.{line_param, line_value}
 use Rattle.profile.specs.Trees.{Tree}
@@ -25,12 +25,16 @@ same_zone : OneZone → (o : Option Tree) (a b : Zone) → SaysZoneOf o a → Sa
 same_zone f None a b h k = absurd h
 same_zone f (Some t) a b h k = f t a b h k
 
-same_spelled : OneStamp → OneLocal → OneZone → (object : Tree) (o : Option (List ℕ)) (text : List ℕ) (a b : Zone) (s t : ℤ)
+same_spelled : OneStamp → OneLocal → OneZone → (object : Tree) (o : Option (List ℕ)) (text : List ℕ) (a b : Option Zone) (s t : ℤ)
     → SpellsZoned object o text a s → SpellsZoned object o text b t → (a ≡ b) × (s ≡ t)
-same_spelled f g z object None text a b s t (e, h) (d, k) = (e ∙ sym d, f text s t h k)
-same_spelled f g z object (Some name) text a b s t (h, p) (k, q) = (same_zone z (zone_named name object) a b p q, g text s t h k)
+same_spelled f g z object None text None None s t h k = (refl, f text s t h k)
+same_spelled f g z object None text (Some a) b s t h k = absurd h
+same_spelled f g z object None text None (Some b) s t h k = absurd k
+same_spelled f g z object (Some name) text None b s t h k = absurd h
+same_spelled f g z object (Some name) text (Some a) None s t h k = absurd k
+same_spelled f g z object (Some name) text (Some a) (Some b) s t (h, p) (k, q) = (ap Some (same_zone z (zone_named name object) a b p q), g text s t h k)
 
-pub one : OneStamp → OneLocal → OneZone → (object : Tree) (line : List ℕ) (a b : Zone) (s t : ℤ) → SaysZonedTime object line a s → SaysZonedTime object line b t → (a ≡ b) × (s ≡ t)
+pub one : OneStamp → OneLocal → OneZone → (object : Tree) (line : List ℕ) (a b : Option Zone) (s t : ℤ) → SaysZonedTime object line a s → SaysZonedTime object line b t → (a ≡ b) × (s ≡ t)
 one f g z object line a b s t h k = same_spelled f g z object (line_param (codes "TZID") line) (line_value line) a b s t h.1 k.1
 
 no_named : NoFault → (o : Option Tree) (a : Zone) (n : ℕ) → SaysZoneOf o a → NamedFault o n → ⊥
@@ -43,11 +47,13 @@ no_local kind text s n e h f = (subst (λ k. LocalFault k text n) e f).0 (s, h)
 no_stamp : (kind : TimeKind) (text : List ℕ) (s : ℤ) (n : ℕ) → kind ≡ DateTime → SpellsStamp text s → KindFault kind text n → ⊥
 no_stamp kind text s n e h f = (subst (λ k. KindFault k text n) e f).0 s h
 
-no_spelled : NoFault → (object : Tree) (o : Option (List ℕ)) (line : List ℕ) (a : Zone) (s : ℤ) (n : ℕ) → time_kind line ≡ DateTime
+no_spelled : NoFault → (object : Tree) (o : Option (List ℕ)) (line : List ℕ) (a : Option Zone) (s : ℤ) (n : ℕ) → time_kind line ≡ DateTime
     → SpellsZoned object o (line_value line) a s → FaultIn object o line n → ⊥
-no_spelled z object None line a s n k (e, h) f = no_stamp (time_kind line) (line_value line) s n k h f
-no_spelled z object (Some name) line a s n k (h, p) (inl f) = no_local (time_kind line) (line_value line) s n k h f
-no_spelled z object (Some name) line a s n k (h, p) (inr (_, _, f)) = no_named z (zone_named name object) a n p f
+no_spelled z object None line None s n k h f = no_stamp (time_kind line) (line_value line) s n k h f
+no_spelled z object None line (Some a) s n k h f = absurd h
+no_spelled z object (Some name) line None s n k h f = absurd h
+no_spelled z object (Some name) line (Some a) s n k (h, p) (inl f) = no_local (time_kind line) (line_value line) s n k h f
+no_spelled z object (Some name) line (Some a) s n k (h, p) (inr (_, _, f)) = no_named z (zone_named name object) a n p f
 
-pub or_a_fault : NoFault → (object : Tree) (line : List ℕ) (a : Zone) (s : ℤ) (n : ℕ) → SaysZonedTime object line a s → ZonedTimeFault object line n → ⊥
+pub or_a_fault : NoFault → (object : Tree) (line : List ℕ) (a : Option Zone) (s : ℤ) (n : ℕ) → SaysZonedTime object line a s → ZonedTimeFault object line n → ⊥
 or_a_fault z object line a s n h f = no_spelled z object (line_param (codes "TZID") line) line a s n h.0 h.1 f

@@ -91,11 +91,11 @@ unread_among vs lines (k, w, e) h = list_any_at has_unread vs k lines w (ap has_
 
 -- ---- entries
 
-pub entry_pushed : (room : List ℕ) (vs : List Lines) (lines : Lines) (event : Event) (old new : List Entry) (e : Entry) → AreEntries room vs old
-    → SaysEvent false lines event → entry_view e ≡ entry_said room event → new ≡ old ++ e ∷ [] → AreEntries room (vs ++ lines ∷ []) new
-entry_pushed room vs lines event old new e (events, zip, are) says view n = (
+pub entry_pushed : (object : Tree) (room : List ℕ) (vs : List Lines) (lines : Lines) (event : Event) (old new : List Entry) (e : Entry) → AreEntries object room vs old
+    → SaysEvent object false lines event → entry_view e ≡ entry_said room event → new ≡ old ++ e ∷ [] → AreEntries object room (vs ++ lines ∷ []) new
+entry_pushed object room vs lines event old new e (events, zip, are) says view n = (
   events ++ event ∷ [],
-  push_zip (SaysEvent false) vs events lines event zip says,
+  push_zip (SaysEvent object false) vs events lines event zip says,
   ap (map entry_view) n ∙ map-append entry_view old (e ∷ []) ∙ ap (λ l. l ++ entry_view e ∷ []) are ∙ ap (λ x. map (entry_said room) events ++ x ∷ []) view
       ∙ sym (map-append (entry_said room) events (event ∷ [])),
 )
@@ -129,28 +129,28 @@ same_meetings room (e ∷ es) (x ∷ events) h =
 
 -- ---- the calendar
 
-pub calendar_said : (r : Result (List Booked) Fault) (room : List ℕ) (object : Tree) (vs : List Lines) (es : List Entry) → vevents object ≡ vs → AreEntries room vs es
+pub calendar_said : (r : Result (List Booked) Fault) (room : List ℕ) (object : Tree) (vs : List Lines) (es : List Entry) → vevents object ≡ vs → AreEntries object room vs es
     → list_any has_unread vs ≡ false → IfOk r (λ c. c ≡ confirmed_in es) → IfOk r (λ _. MeetingsDiffer es) → IfOk r (SaysCalendar room object)
 calendar_said (Ok c) room object vs es same (events, zip, are) read is differ = record {
   events = events;
-  says = subst (λ (xs : List Lines). AllZip (SaysEvent false) xs events) (sym same) zip;
+  says = subst (λ (xs : List Lines). AllZip (SaysEvent object false) xs events) (sym same) zip;
   read = ap (list_any has_unread) same ∙ read;
   differ = subst (AllPairs ◌≢◌) (same_meetings room es events are) differ;
   is = is ∙ same_confirmed room es events are;
 }
 calendar_said (Err f) room object vs es same h read is differ = tt
 
-pub twins_stand : (r : Result (List Booked) Fault) (room : List ℕ) (object : Tree) (vs : List Lines) (es : List Entry) → vevents object ≡ vs → AreEntries room vs es
+pub twins_stand : (r : Result (List Booked) Fault) (room : List ℕ) (object : Tree) (vs : List Lines) (es : List Entry) → vevents object ≡ vs → AreEntries object room vs es
     → IfErr r (IsTwinsFault es) → IfErr r (RefusesBy (CalendarFault object))
 twins_stand (Ok c) room object vs es same h t = tt
 twins_stand (Err Memory) room object vs es same h t = tt
 twins_stand (Err (Refused x)) room object vs es same (events, zip, are) (n, (i, j, d, lt, w, e)) =
     let e' = subst (λ (l : List (List ℕ × List ℕ)). get_or l i d ≡ get_or l j d) (same_meetings room es events are) e in
     let lens : length es ≡ length (map meeting_said events) = sym (length-map es meeting_of) ∙ ap length (same_meetings room es events are) in
-    let said = subst (λ (xs : List Lines). AllZip (SaysEvent false) xs events) (sym same) zip in
+    let said = subst (λ (xs : List Lines). AllZip (SaysEvent object false) xs events) (sym same) zip in
     subst (CalendarFault object) (sym n) (one_meeting events said (λ apart. apart i j d lt (omega (arith, lens)) e'))
 
-pub event_stands : (object : Tree) (vs : List Lines) (lines : Lines) (f : Fault) → vevents object ≡ vs → Contains vs lines → RefusesBy (IsUnreadOrFault false lines) f
+pub event_stands : (object : Tree) (vs : List Lines) (lines : Lines) (f : Fault) → vevents object ≡ vs → Contains vs lines → RefusesBy (IsUnreadOrFault object false lines) f
     → RefusesBy (CalendarFault object) f
 event_stands object vs lines Memory e h s = tt
 event_stands object vs lines (Refused r) e h (inl u) = subst (CalendarFault object) (sym u.0) (not_yet (ap (list_any has_unread) e ∙ unread_among vs lines h u.1))

@@ -5,16 +5,14 @@ use Rattle.std.proofs.lemmas.Int.{ints}
 use Rattle.profile.specs.Trees.{Tree}
 use Rattle.profile.specs.Lines.{line_value}
 use Rattle.profile.specs.Values.{SpellsDuration, SpellsNegative, SpellsLong}
-use Rattle.profile.specs.Events.{IsLength}
 use Rattle.profile.specs.Properties.{StandsAtMostOnce, SomeLine, length_seconds, IsNoDuration, IsNegativeOrLong}
 use Rattle.profile.specs.ZonedTimes.{EventTimes, LastsSo, SaysInstant, SaysInDates, SaysOutOfDates, SaysEventTimes, EventTimesFault, is_in_zone, HasDays, bad_duration, ends_early, ends_late, ends_out, lasts_long, starts_out, nominal}
-use Rattle.cal_events.specs.declared.component.Extent.{Extent}
-use Rattle.cal_events.specs.declared.component.Extent.TheVariants.{ToEnd, For}
+use Rattle.cal_events.specs.declared.event_times.Extent.{Extent}
+use Rattle.cal_events.specs.declared.event_times.Extent.TheVariants.{ToEnd, For}
 use Rattle.cal_events.specs.declared.event_times.SaidTimes.{SaidTimes}
 use Rattle.ical_values.specs.declared.duration.Duration.{Duration}
-use Rattle.cal_zones.specs.Kinds.{zone_of}
-use Rattle.cal_events.specs.Events.{length_of, GivesLength, ExtentFault, ends_early as lies_before, ends_late as lies_late, lasts_long as is_long}
-use Rattle.cal_events.specs.Zoned.{EndsSo, IsExtentIn, IsExact, IsNominal, AreSaid}
+use Rattle.cal_events.specs.Events.{length_of, zone_said, GivesLength, ExtentFault, ends_early as lies_before, ends_late as lies_late, lasts_long as is_long}
+use Rattle.cal_events.specs.Zoned.{LastsGiven, EndsSo, IsExtentIn, IsExact, IsNominal, AreSaid}
 use Rattle.cal_events.proofs.EventLemmas.{some_line, IsNone, long_length}
 
 abbrev Lines : Type 0
@@ -22,7 +20,7 @@ Lines = List (List ℕ)
 
 -- DURATION, or nothing
 long_given : (object : Tree) (lines : Lines) (start : ℤ) (d : Duration) (line : Option (List ℕ)) → StandsAtMostOnce (codes "DURATION") lines line
-    → IsLength start None line (length_of d) → 31_622_400 < length_seconds (length_of d) → EventTimesFault object lines 51
+    → LastsGiven line (length_of d) → 31_622_400 < length_seconds (length_of d) → EventTimesFault object lines 51
 long_given object lines start d None once is h =
     let zero' : length_seconds (length_of d) ≡ 0 = ap length_seconds is in
     absurd (omega arith)
@@ -30,7 +28,7 @@ long_given object lines start d (Some line) once is h =
     lasts_long (some_line (codes "DURATION") IsNegativeOrLong lines line once (inr (length_of d, is, h)))
 
 days_given : (object : Tree) (lines : Lines) (start : ℤ) (begin : List ℕ) (d : Duration) (line : Option (List ℕ)) → StandsAtMostOnce (codes "DTSTART") lines (Some begin)
-    → StandsAtMostOnce (codes "DURATION") lines line → IsLength start None line (length_of d) → is_in_zone begin ≡ true → 0 < d.days → EventTimesFault object lines 99
+    → StandsAtMostOnce (codes "DURATION") lines line → LastsGiven line (length_of d) → is_in_zone begin ≡ true → 0 < d.days → EventTimesFault object lines 99
 days_given object lines start begin d None first once is zoned h =
     let zero' : d.days ≡ 0 = ap (λ l. l.days) is in
     absurd (omega arith)
@@ -44,38 +42,37 @@ nominal_given object lines start ends_in begin (For d) first (line, none, once, 
 
 -- ---- the times together
 
-seconds_lasted : (object : Tree) (in_zone : Bool) (start : ℤ) (d : Duration) (line : Option (List ℕ)) → IsLength start None line (length_of d) → (in_zone ≡ true → d.days ≡ 0)
-    → LastsSo object in_zone start None line (length_seconds (length_of d))
-seconds_lasted object in_zone start d None is exact = ap length_seconds is
-seconds_lasted object in_zone start d (Some line) is exact = (length_of d, is, exact, refl)
+lasted : (object : Tree) (in_zone : Bool) (start : ℤ) (d : Duration) (line : Option (List ℕ)) → LastsGiven line (length_of d) → (in_zone ≡ true → d.days ≡ 0)
+    → LastsSo object in_zone start None line (length_of d)
+lasted object in_zone start d None is exact = is
+lasted object in_zone start d (Some line) is exact = (is, exact)
 
-abbrev judged : SaidTimes → Duration → EventTimes
-judged said length = record { zone = zone_of said.start.zone; local = said.start.local; start = said.instant; seconds = length_seconds (length_of length) }
+abbrev judged : SaidTimes → ℤ → Duration → EventTimes
+judged said start length = record { zone = zone_said said.start; local = said.start.local; start = start; length = length_of length }
 
 -- the line says that instant, and it lies in the dates
 pub ends_within : (object : Tree) (line : List ℕ) (instant : ℤ) (ends_in : Bool) → EndsSo object line instant ends_in → IsTrue ends_in → SaysInDates object line instant
 ends_within object line instant ends_in (zone, local, says, means, dates) within = (zone, local, says, means, dates.0 within)
 
-pub times_said : (object : Tree) (lines : Lines) (said : SaidTimes) (length : Duration) → AreSaid object lines said → GivesLength said.extent length
-    → length_seconds (length_of length) ≤ 31_622_400 → IsTrue said.starts_in → IsTrue said.ends_in → SaysEventTimes object lines (judged said length)
-times_said object lines said length a gives most starts_in ends_in = go said.extent a.extent a.exact gives
+pub times_said : (object : Tree) (lines : Lines) (said : SaidTimes) (length : Duration) (start : ℤ) → start ≡ said.instant → AreSaid object lines said → GivesLength said.extent length
+    → length_seconds (length_of length) ≤ 31_622_400 → IsTrue said.starts_in → IsTrue said.ends_in → SaysEventTimes object lines (judged said start length)
+times_said object lines said length start same a gives most starts_in ends_in =
+    subst (λ (t : ℤ). SaysEventTimes object lines (judged said t length)) (sym same) (go said.extent a.extent a.exact gives)
   where
-    go : (extent : Extent) → IsExtentIn object lines said.instant said.ends_in extent → IsExact (is_in_zone a.line) extent → GivesLength extent length → SaysEventTimes object lines (judged said length)
-    go (ToEnd s) (line, once, none, time) exact (days, seconds) =
-        let n : length.seconds ≡ 86_400 * length.days + length.seconds = omega arith in
-        record {
-          line = a.line;
-          once = a.once;
-          says = a.says;
-          means = a.means;
-          end_line = Some line;
-          duration_line = None;
-          end_once = once;
-          duration_once = none;
-          lasts = subst (λ (x : ℤ). SaysInDates object line (said.instant +ℤ x)) (seconds ∙ ap pos n) (ends_within object line (said.instant +ℤ s) said.ends_in time ends_in);
-          most = most;
-          in_dates = a.starts.0 starts_in;
-        }
+    go : (extent : Extent) → IsExtentIn object lines said.instant said.ends_in extent → IsExact (is_in_zone a.line) extent → GivesLength extent length → SaysEventTimes object lines (judged said said.instant length)
+    go (ToEnd s) (line, once, none, time) exact (days, seconds) = record {
+      line = a.line;
+      once = a.once;
+      says = a.says;
+      means = a.means;
+      end_line = Some line;
+      duration_line = None;
+      end_once = once;
+      duration_once = none;
+      lasts = (days, subst (λ (x : ℤ). SaysInDates object line (said.instant +ℤ x)) seconds (ends_within object line (said.instant +ℤ s) said.ends_in time ends_in));
+      most = most;
+      in_dates = a.starts.0 starts_in;
+    }
     go (For d) (line, none, once, is, no_end) exact e = record {
       line = a.line;
       once = a.once;
@@ -85,7 +82,7 @@ times_said object lines said length a gives most starts_in ends_in = go said.ext
       duration_line = line;
       end_once = none;
       duration_once = once;
-      lasts = subst (λ (x : Duration). LastsSo object (is_in_zone a.line) said.instant None line (length_seconds (length_of x))) (sym e) (seconds_lasted object (is_in_zone a.line) said.instant d line is exact);
+      lasts = subst (λ (x : Duration). LastsSo object (is_in_zone a.line) said.instant None line (length_of x)) (sym e) (lasted object (is_in_zone a.line) said.instant d line is exact);
       most = most;
       in_dates = a.starts.0 starts_in;
     }
@@ -93,7 +90,7 @@ times_said object lines said length a gives most starts_in ends_in = go said.ext
 -- the instant that DTSTART says
 begins : (object : Tree) (lines : Lines) (said : SaidTimes) → AreSaid object lines said → SomeLine (codes "DTSTART") (λ line. SaysInstant object line said.instant) lines
 begins object lines said a =
-    some_line (codes "DTSTART") (λ line. SaysInstant object line said.instant) lines a.line a.once (zone_of said.start.zone, said.start.local, a.says, a.means)
+    some_line (codes "DTSTART") (λ line. SaysInstant object line said.instant) lines a.line a.once (zone_said said.start, said.start.local, a.says, a.means)
 
 ends_at : (object : Tree) (line : List ℕ) (instant : ℤ) (ends_in : Bool) → EndsSo object line instant ends_in → SaysInstant object line instant
 ends_at object line instant ends_in (zone, local, says, means, dates) = (zone, local, says, means)
@@ -124,7 +121,7 @@ end_out object lines start ends_in (For d) (line, none, once, is, within) outsid
 pub start_judged : (object : Tree) (lines : Lines) (said : SaidTimes) → AreSaid object lines said → said.starts_in ≡ false → EventTimesFault object lines 52
 start_judged object lines said a outside =
     starts_out (some_line (codes "DTSTART") (SaysOutOfDates object) lines a.line a.once
-    (zone_of said.start.zone, said.start.local, said.instant, a.says, a.means, λ w. not_true said.starts_in outside (a.starts.1 w)))
+    (zone_said said.start, said.start.local, said.instant, a.says, a.means, λ w. not_true said.starts_in outside (a.starts.1 w)))
 
 pub end_judged : (object : Tree) (lines : Lines) (said : SaidTimes) → AreSaid object lines said → said.ends_in ≡ false → EventTimesFault object lines 52
 end_judged object lines said a outside = end_out object lines said.instant said.ends_in said.extent a.extent outside

@@ -9,11 +9,12 @@ use Rattle.ical_tree.specs.declared.component.Component.{Component}
 use Rattle.ical_tree.proofs.TreeOfLemmas.{tree_of-name, tree_of-own, tree_of-inside}
 use Rattle.profile.specs.Lines.{line_param, line_value, is_same_name}
 use Rattle.profile.specs.Trees.{Tree, tree_name, tree_own}
-use Rattle.profile.specs.Zones.{Zone, Constant}
+use Rattle.profile.specs.Zones.{Zone}
 use Rattle.profile.specs.ZoneTexts.{SaysZone, ZoneFault}
 use Rattle.profile.specs.Values.{SpellsStamp}
-use Rattle.profile.specs.Properties.{TimeKind, DateTime, time_kind, IsTime, TimeFault}
+use Rattle.profile.specs.Properties.{TimeKind, DateTime, time_kind, TimeFault}
 use Rattle.profile.specs.ZonedTimes.{has_zone_name, zone_named, SaysZoneOf, SpellsZoned, SaysZonedTime, LocalFault, NamedFault, InZoneFault, FaultIn, ZonedTimeFault}
+use Rattle.cal_events.specs.Events.{IsTime}
 use Rattle.cal_events.specs.Zoned.{is_zone_called}
 
 -- ---- the first component of a name
@@ -76,7 +77,7 @@ pub local_fault : (line text : List ℕ) (kind : TimeKind) (n : ℕ) → kind �
 local_fault line text kind n k e f = subst (λ (x : TimeKind). LocalFault x (line_value line) n) k (subst (λ (t : List ℕ). LocalFault kind t n) e f)
 
 -- a line with TZID
-pub zoned_said : (object : Tree) (line name : List ℕ) (zone : Zone) (local : ℤ) → line_param (codes "TZID") line ≡ Some name
+pub zoned_said : (object : Tree) (line name : List ℕ) (zone : Option Zone) (local : ℤ) → line_param (codes "TZID") line ≡ Some name
     → (time_kind line ≡ DateTime) × SpellsZoned object (Some name) (line_value line) zone local → SaysZonedTime object line zone local
 zoned_said object line name zone local e h = (h.0, subst (λ (o : Option (List ℕ)). SpellsZoned object o (line_value line) zone local) (sym e) h.1)
 
@@ -85,10 +86,13 @@ pub zoned_fault : (object : Tree) (line name : List ℕ) (n : ℕ) → line_para
 zoned_fault object line name n e h = subst (λ (o : Option (List ℕ)). FaultIn object o line n) (sym e) h
 
 -- one without
-pub utc_said : (object : Tree) (line : List ℕ) (zone : Zone) (local instant : ℤ) → line_param (codes "TZID") line ≡ None → zone ≡ Constant (pos 0) → local ≡ instant
+pub utc_said : (object : Tree) (line : List ℕ) (zone : Option Zone) (local instant : ℤ) → line_param (codes "TZID") line ≡ None → zone ≡ None → local ≡ instant
     → IsTime line instant → SaysZonedTime object line zone local
 utc_said object line zone local instant e z l h =
-    (h.0, subst (λ (o : Option (List ℕ)). SpellsZoned object o (line_value line) zone local) (sym e) (z, subst (λ t. SpellsStamp (line_value line) t) (sym l) h.1))
+    let text = line_value line in
+    let spelled : SpellsZoned object None text None local = subst (λ t. SpellsStamp text t) (sym l) h.1 in
+    let none : SpellsZoned object None text zone local = subst (λ (y : Option Zone). SpellsZoned object None text y local) (sym z) spelled in
+    (h.0, subst (λ (o : Option (List ℕ)). SpellsZoned object o text zone local) (sym e) none)
 
 pub utc_fault : (object : Tree) (line : List ℕ) (n : ℕ) → line_param (codes "TZID") line ≡ None → TimeFault line n → ZonedTimeFault object line n
 utc_fault object line n e h = subst (λ (o : Option (List ℕ)). FaultIn object o line n) (sym e) h

@@ -6,29 +6,28 @@ use Rattle.profile.specs.Lines.{is_same_name}
 use Rattle.profile.specs.Trees.{Tree}
 use Rattle.profile.specs.Zones.{Zone, Means}
 use Rattle.std.specs.List.{AllZip}
-use Rattle.profile.specs.Events.{IsLength, SaysSequence, Attendee, IsAttendee}
-use Rattle.profile.specs.Properties.{StandsAtMostOnce, Says, IsUidLine, IsAddressLine, IsStampLine, lines_named}
-use Rattle.profile.specs.ZonedTimes.{has_zone_name, is_in_zone, EventTimes, IsInDates, SaysZonedTime}
-use Rattle.cal_zones.specs.Kinds.{zone_of}
-use Rattle.cal_events.specs.Events.{length_of}
-use Rattle.cal_events.specs.declared.component.Extent.{Extent}
-use Rattle.cal_events.specs.declared.component.Extent.TheVariants.{ToEnd, For}
-use Rattle.cal_events.specs.declared.event_times.EventTimes as rust
+use Rattle.profile.specs.Events.{SaysSequence, Attendee, IsAttendee}
+use Rattle.profile.specs.Properties.{Length, LastsFor, StandsAtMostOnce, Says, IsUidLine, IsAddressLine, IsStampLine, lines_named}
+use Rattle.profile.specs.ZonedTimes.{has_zone_name, is_in_zone, IsInDates, SaysZonedTime, clock_of}
+use Rattle.cal_events.specs.Events.{length_of, zone_said}
+use Rattle.cal_events.specs.declared.event_times.Extent.{Extent}
+use Rattle.cal_events.specs.declared.event_times.Extent.TheVariants.{ToEnd, For}
 use Rattle.cal_events.specs.declared.event_times.SaidTimes.{SaidTimes}
 
 -- a VTIMEZONE of this name
 abbrev pub is_zone_called : List ℕ → Component → Bool
 is_zone_called name c = is_same_name (component_name c) (codes "VTIMEZONE") && has_zone_name name (component_lines c)
 
--- the times of a VEVENT that were read
-abbrev pub times_of : rust.EventTimes → EventTimes
-times_of t = record { zone = zone_of t.start.zone; local = t.start.local; start = t.instant; seconds = t.seconds }
-
 -- the line says this instant, which lies in the dates that an event may name, or doesn't
 abbrev pub EndsSo : Tree → List ℕ → ℤ → Bool → Type 0
 EndsSo object line instant in_dates =
-    (zone : Zone) × (local : ℤ) × SaysZonedTime object line zone local × Means zone local instant
+    (zone : Option Zone) × (local : ℤ) × SaysZonedTime object line zone local × Means (clock_of zone) local instant
     × (IsTrue in_dates ↔ IsInDates (is_in_zone line) local instant)
+
+-- the length that a DURATION gives, or none
+abbrev pub LastsGiven : Option (List ℕ) → Length → Type 0
+LastsGiven None length = length ≡ record { days = 0; seconds = 0 }
+LastsGiven (Some line) length = LastsFor line length
 
 -- DTEND lies so many seconds from the start, in the dates or not, or DURATION is so, or neither stands
 abbrev pub IsExtentIn : Tree → List (List ℕ) → ℤ → Bool → Extent → Type 0
@@ -37,7 +36,7 @@ IsExtentIn object lines start in_dates (ToEnd seconds) =
     × EndsSo object line (start +ℤ seconds) in_dates
 IsExtentIn object lines start in_dates (For duration) =
     (line : Option (List ℕ)) × StandsAtMostOnce (codes "DTEND") lines None × StandsAtMostOnce (codes "DURATION") lines line
-    × IsLength start None line (length_of duration) × (in_dates ≡ true)
+    × LastsGiven line (length_of duration) × (in_dates ≡ true)
 
 -- in a zone a DURATION has no days
 abbrev pub IsExact : Bool → Extent → Type 0
@@ -52,8 +51,8 @@ IsNominal in_zone (For duration) = (in_zone ≡ true) × (0 < duration.days)
 pub record AreSaid (object : Tree) (lines : List (List ℕ)) (said : SaidTimes) : Type 0 where
   pub line : List ℕ
   pub once : StandsAtMostOnce (codes "DTSTART") lines (Some line)
-  pub says : SaysZonedTime object line (zone_of said.start.zone) said.start.local
-  pub means : Means (zone_of said.start.zone) said.start.local said.instant
+  pub says : SaysZonedTime object line (zone_said said.start) said.start.local
+  pub means : Means (clock_of (zone_said said.start)) said.start.local said.instant
   pub starts : IsTrue said.starts_in ↔ IsInDates (is_in_zone line) said.start.local said.instant
   pub extent : IsExtentIn object lines said.instant said.ends_in said.extent
   pub exact : IsExact (is_in_zone line) said.extent

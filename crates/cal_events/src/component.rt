@@ -1,32 +1,30 @@
 //! One VEVENT, read: its values, judged one property after another in a fixed order, and then
-//! together (RFC 5545 3.6.1). So far only single events with UTC times are read.
-ghost use Rattle.std.specs.Prelude.{ℕ, List, ◌≡◌, ◌⊎◌, ◌↔◌, ◌≤◌, ◌^◌, ◌++◌, ◌<ℤ◌, length, Bool, Some, map, codes, pos, negsuc, ◌+ℤ◌, ◌≤ℤ◌, option_map, true, IfOk, IfErr, OnOk, IsTrue};
+//! together (RFC 5545 3.6.1). So far only single events are read.
+ghost use Rattle.std.specs.Prelude.{ℕ, List, ◌≡◌, ◌⊎◌, ◌↔◌, Bool, Some, map, codes, pos, ◌+ℤ◌, option_map, true, IfOk, IfErr, OnOk, IsTrue};
 ghost use Rattle.std.specs.List.{AllZip};
 ghost use Rattle.ical_lines.specs.Fault.{RefusesOnly, RefusesBy};
 ghost use Rattle.ical_lines.specs.Text.{line_text};
+ghost use Rattle.ical_tree.specs.Tree.{tree_of};
 ghost use Rattle.ical_values.specs.Octets.{address_octets, text_octets};
-ghost use Rattle.profile.specs.Faults.{is_event_fault};
+ghost use Rattle.profile.specs.Trees.{Tree};
+ghost use Rattle.profile.specs.Faults.{is_event_fault, is_zoned_event_fault};
 ghost use Rattle.profile.specs.Values.{SpellsStamp};
 ghost use Rattle.profile.specs.Events.{Event, answer_named, answer_of, SaysSequence, SaysEvent, IsAttendee, EventFault};
-ghost use Rattle.profile.specs.Properties.{length_seconds, lines_named, malformed_number, Says, IsUidLine, IsAddressLine, IsStampLine, IsTime, IsDateText, IsLocalText, IsNoAddress, UnfixedOrMalformed, time_kind, DateTime, KindFault, TimeFault};
-ghost use Rattle.cal_events.specs.Events.{is_message, participation_of, attendee_of, length_of, event_of, said_kind, IsExtent, GivesLength, ExtentFault, TimesFault};
+ghost use Rattle.profile.specs.Properties.{length_seconds, lines_named, malformed_number, Says, IsUidLine, IsAddressLine, IsStampLine, IsDateText, IsLocalText, IsNoAddress, UnfixedOrMalformed, time_kind, DateTime, KindFault, TimeFault};
+ghost use Rattle.cal_events.specs.Events.{is_message, participation_of, attendee_of, length_of, event_of, said_kind, IsTime};
 ghost use Rattle.cal_events.specs.Zoned.{SaysHeading, SayAttendees};
 
+use crate::event_times::{EventTimes, SaidTimes, seconds_of};
 use crate::properties::{optional, required};
+use crate::zoned::one_zoned_time;
 use ical_lines::{Fault, Line, Refusal};
-use ical_tree::Properties;
+use ical_tree::{Component, Properties};
 use ical_values::date::read_date;
 use ical_values::duration::one_duration;
 use ical_values::sequence::one_sequence;
 use ical_values::stamp::{ends_in_z, one_stamp};
-use ical_values::{Address, DAY_SECONDS, Duration, LocalTime, Sequence, Stamp, Text};
+use ical_values::{Address, LocalTime, Sequence, Stamp, Text};
 use std::alloc::Global;
-
-/// The longest event, 366 days in seconds; this profile's choice.
-const LONGEST: i64 = 366 * DAY_SECONDS;
-
-/// The first second that an event may name, 1969-12-31T00:00:00Z: a local time of 1970 may be as early.
-pub(crate) const FIRST_SECOND: i64 = -DAY_SECONDS;
 
 /// What a VEVENT is read for: this says which properties have to stand.
 #[derive(Clone, Copy, Debug, PartialEq, Eq)]
@@ -79,44 +77,40 @@ pub struct EventComponent {
     pub stamp: Option<Stamp>,
     /// SEQUENCE, 0 where it is missing.
     pub sequence: Sequence,
-    /// DTSTART in UTC.
-    pub start: Stamp,
-    /// How long it lasts: exact seconds to DTEND, or DURATION as it is written, or nothing. At most 366 days.
-    pub length: Duration,
+    /// When it starts and how long it lasts.
+    pub times: EventTimes,
     /// The ATTENDEE lines in the order of the text. Of several with one address the first counts.
     pub attendees: Vec<Attendee>,
 }
 
 impl EventComponent {
-    /// Reads the properties of a VEVENT.
-    /// Refused: 10 to 12 and 14 to 16 for a value, 50 to 52 for times that don't go together or lie outside
-    /// 1970 to 9999, 55 for a date or a floating time, 56 for a period, 61 and 63 for a property that is
-    /// missing, stands twice or excludes another.
+    /// Reads the properties of a VEVENT of an object.
+    /// Refused: 10 and 14 to 16 for a value, 61 and 63 for a property that is missing, stands twice or excludes
+    /// another; as by `SaidTimes::read` and `SaidTimes::judge` for its times.
     pub fn read(
         alloc: Global,
+        object: &Component,
         properties: &Properties<'_>,
         purpose: Purpose,
     ) -> Result<EventComponent, Fault>
-        ensures says { IfOk result (λ event. SaysEvent (is_message purpose) properties.now (event_of event)) }
-        ensures refuses { IfErr result (RefusesOnly is_event_fault) }
-        ensures stands { IfErr result (RefusesBy (EventFault (is_message purpose) properties.now)) }
+        ensures says { IfOk result (λ event. SaysEvent (tree_of object.now) (is_message purpose) properties.now (event_of event)) }
+        ensures refuses { IfErr result (RefusesOnly is_zoned_event_fault) }
+        ensures stands { IfErr result (RefusesBy (EventFault (tree_of object.now) (is_message purpose) properties.now)) }
     {
         let uid = read_uid(alloc, properties)?;
         let organiser = read_organiser(alloc, properties, purpose)?;
         let stamp = read_stamp(properties, purpose)?;
         let sequence = read_sequence(properties)?;
         let _status = optional(properties, "STATUS")?;
-        let start = read_start(properties)?;
-        let extent = read_extent(properties, start)?;
+        let said = SaidTimes::read(alloc, object, properties)?;
         let attendees = read_attendees(alloc, properties)?;
-        let length = judge_times(start, extent)?;
+        let times = said.judge()?;
         Ok(EventComponent {
             uid,
             organiser,
             stamp,
             sequence,
-            start,
-            length,
+            times,
             attendees,
         })
     }
@@ -130,7 +124,7 @@ impl EventComponent {
     ) -> Result<(), Fault>
         ensures judged { OnOk result (SaysHeading (is_message purpose) properties.now) }
         ensures refuses { IfErr result (RefusesOnly is_event_fault) }
-        ensures stands { IfErr result (RefusesBy (EventFault (is_message purpose) properties.now)) }
+        ensures stands { (object : Tree) → IfErr result (RefusesBy (EventFault object (is_message purpose) properties.now)) }
     {
         read_uid(alloc, properties)?;
         read_organiser(alloc, properties, purpose)?;
@@ -145,7 +139,7 @@ impl EventComponent {
     pub fn judge_attendees(alloc: Global, properties: &Properties<'_>) -> Result<(), Fault>
         ensures judged { OnOk result (SayAttendees properties.now) }
         ensures refuses { IfErr result (RefusesOnly is_event_fault) }
-        ensures stands { (in_message : Bool) → IfErr result (RefusesBy (EventFault in_message properties.now)) }
+        ensures stands { (object : Tree) (in_message : Bool) → IfErr result (RefusesBy (EventFault object in_message properties.now)) }
     {
         read_attendees(alloc, properties)?;
         Ok(())
@@ -153,9 +147,14 @@ impl EventComponent {
 
     /// The first second after the event, in seconds from 1970-01-01T00:00:00Z.
     pub fn end(&self) -> i64
-        ensures { result ≡ self.now.start +ℤ pos (length_seconds (length_of self.now.length)) }
+        ensures { result ≡ self.now.times.instant +ℤ pos (length_seconds (length_of self.now.times.length)) }
     {
-        self.start.instant().saturating_add(seconds_of(self.length))
+        let EventTimes {
+            instant,
+            length,
+            ..
+        } = self.times;
+        instant.instant().saturating_add(seconds_of(length))
     }
 
     /// What the attendee of this address answered, None where none has it.
@@ -171,24 +170,25 @@ impl EventComponent {
     }
 }
 
-/// The lines of a VEVENT say at most one event, and none where a fault stands in them. A start or an end has at most
-/// one fault.
+/// The lines of a VEVENT of an object say at most one event, and none where a fault stands in them. A start or an end
+/// without TZID has at most one fault.
 pub fn one_event()
-    ensures one { (in_message : Bool) (lines : List (List ℕ)) (a b : Event)
-        → SaysEvent in_message lines a → SaysEvent in_message lines b → a ≡ b }
-    ensures or_a_fault { (in_message : Bool) (lines : List (List ℕ)) (a : Event) (n : ℕ)
-        → SaysEvent in_message lines a → EventFault in_message lines n → ⊥ }
+    ensures one { (object : Tree) (in_message : Bool) (lines : List (List ℕ)) (a b : Event)
+        → SaysEvent object in_message lines a → SaysEvent object in_message lines b → a ≡ b }
+    ensures or_a_fault { (object : Tree) (in_message : Bool) (lines : List (List ℕ)) (a : Event) (n : ℕ)
+        → SaysEvent object in_message lines a → EventFault object in_message lines n → ⊥ }
     ensures one_number { (line : List ℕ) (m n : ℕ) → TimeFault line m → TimeFault line n → m ≡ n }
 {
     one_stamp();
     one_duration();
     one_sequence();
+    one_zoned_time();
 }
 
 fn read_uid(alloc: Global, properties: &Properties<'_>) -> Result<Text, Fault>
     ensures reads { IfOk result (λ uid. Says (codes "UID") true IsUidLine properties.now (Some (text_octets uid))) }
     ensures refuses { IfErr result (RefusesOnly is_event_fault) }
-    ensures stands { (in_message : Bool) → IfErr result (RefusesBy (EventFault in_message properties.now)) }
+    ensures stands { (object : Tree) (in_message : Bool) → IfErr result (RefusesBy (EventFault object in_message properties.now)) }
 {
     let line = required(properties, "UID")?;
     Text::read_uid(alloc, line.value())
@@ -201,7 +201,7 @@ fn read_organiser(
 ) -> Result<Option<Address>, Fault>
     ensures reads { IfOk result (λ found. Says (codes "ORGANIZER") (is_message purpose) IsAddressLine properties.now (option_map address_octets found)) }
     ensures refuses { IfErr result (RefusesOnly is_event_fault) }
-    ensures stands { IfErr result (RefusesBy (EventFault (is_message purpose) properties.now)) }
+    ensures stands { (object : Tree) → IfErr result (RefusesBy (EventFault object (is_message purpose) properties.now)) }
 {
     match (optional(properties, "ORGANIZER")?, purpose) {
         (Some(line), _) => Ok(Some(Address::read(alloc, line.value())?)),
@@ -213,7 +213,7 @@ fn read_organiser(
 fn read_stamp(properties: &Properties<'_>, purpose: Purpose) -> Result<Option<Stamp>, Refusal>
     ensures reads { IfOk result (λ found. Says (codes "DTSTAMP") (is_message purpose) IsStampLine properties.now found) }
     ensures refuses { IfErr result (λ e. IsTrue (is_event_fault e.number)) }
-    ensures stands { IfErr result (λ e. EventFault (is_message purpose) properties.now e.number) }
+    ensures stands { (object : Tree) → IfErr result (λ e. EventFault object (is_message purpose) properties.now e.number) }
 {
     match (optional(properties, "DTSTAMP")?, purpose) {
         (Some(line), _) => Ok(Some(Stamp::read(line.value())?)),
@@ -225,64 +225,12 @@ fn read_stamp(properties: &Properties<'_>, purpose: Purpose) -> Result<Option<St
 fn read_sequence(properties: &Properties<'_>) -> Result<Sequence, Refusal>
     ensures reads { IfOk result (SaysSequence properties.now) }
     ensures refuses { IfErr result (λ e. IsTrue (is_event_fault e.number)) }
-    ensures stands { (in_message : Bool) → IfErr result (λ e. EventFault in_message properties.now e.number) }
+    ensures stands { (object : Tree) (in_message : Bool) → IfErr result (λ e. EventFault object in_message properties.now e.number) }
 {
     match optional(properties, "SEQUENCE")? {
         Some(line) => Sequence::read(line.value()),
         None => Ok(Sequence::zero()),
     }
-}
-
-/// Refused: 61 where DTSTART is missing or stands twice, and what a time is refused for.
-fn read_start(properties: &Properties<'_>) -> Result<Stamp, Refusal>
-    ensures reads { IfOk result (λ start. Says (codes "DTSTART") true IsTime properties.now (Some start)) }
-    ensures refuses { IfErr result (λ e. IsTrue (is_event_fault e.number)) }
-    ensures stands { (in_message : Bool) → IfErr result (λ e. EventFault in_message properties.now e.number) }
-{
-    let line = required(properties, "DTSTART")?;
-    read_time(line)
-}
-
-/// How long an event is said to last.
-#[derive(Clone, Copy)]
-pub(crate) enum Extent {
-    /// DTEND: seconds from DTSTART, negative where it lies before.
-    ToEnd(i64),
-    /// DURATION, or nothing where neither stands.
-    For(Duration),
-}
-
-fn read_extent(properties: &Properties<'_>, start: Stamp) -> Result<Extent, Refusal>
-    ensures reads { IfOk result (IsExtent properties.now start) }
-    ensures refuses { IfErr result (λ e. IsTrue (is_event_fault e.number)) }
-    ensures stands { (in_message : Bool) → IfErr result (λ e. EventFault in_message properties.now e.number) }
-{
-    let end = optional(properties, "DTEND")?;
-    let duration = optional(properties, "DURATION")?;
-    match (end, duration) {
-        (Some(_), Some(_)) => Err(Refusal::BAD_PROPERTY),
-        (Some(line), None) => Ok(Extent::ToEnd(seconds_between(start, read_time(line)?))),
-        (None, Some(line)) => Ok(Extent::For(Duration::read(line.value())?)),
-        (None, None) => Ok(Extent::For(Duration {
-            days: 0,
-            seconds: 0,
-        })),
-    }
-}
-
-/// The seconds from one time to another.
-fn seconds_between(start: Stamp, end: Stamp) -> i64
-    ensures { start +ℤ result ≡ end }
-{
-    end.instant() - start.instant()
-}
-
-/// A duration in seconds, days as 86,400: in UTC no day is longer or shorter.
-pub(crate) fn seconds_of(duration: Duration) -> i64
-    ensures value { result ≡ pos (length_seconds (length_of duration)) }
-    ensures range { result <ℤ pos (2 ^ 49) }
-{
-    i64::from(duration.days) * DAY_SECONDS + i64::from(duration.seconds)
 }
 
 /// What a line of a date-time says by its VALUE parameter (RFC 5545 3.2.20).
@@ -385,7 +333,7 @@ pub(crate) fn is_date(text: &str) -> bool
 fn read_attendees(alloc: Global, properties: &Properties<'_>) -> Result<Vec<Attendee>, Fault>
     ensures reads { IfOk result (λ v. AllZip IsAttendee (lines_named (codes "ATTENDEE") properties.now) (map attendee_of v.items)) }
     ensures refuses { IfErr result (RefusesOnly is_event_fault) }
-    ensures stands { (in_message : Bool) → IfErr result (RefusesBy (EventFault in_message properties.now)) }
+    ensures stands { (object : Tree) (in_message : Bool) → IfErr result (RefusesBy (EventFault object in_message properties.now)) }
 {
     let mut attendees = Vec::new(alloc);
     for line in properties.lines() {
@@ -404,38 +352,4 @@ fn read_attendee(alloc: Global, line: Line<'_>) -> Result<Attendee, Fault>
     let address = Address::read(alloc, line.value())?;
     let status = ParticipationStatus::of(line.param("PARTSTAT"));
     Ok(Attendee { address, status })
-}
-
-/// Judges the times of an event together, and gives its length.
-/// Refused: 50 where it ends before it starts, 51 past 366 days, 52 where it starts before 1969-12-31T00:00:00Z.
-fn judge_times(start: Stamp, extent: Extent) -> Result<Duration, Refusal>
-    ensures length { IfOk result (GivesLength extent) }
-    ensures most { IfOk result (λ length. length_seconds (length_of length) ≤ 31_622_400) }
-    ensures from_1970 { OnOk result (negsuc 86_399 ≤ℤ start) }
-    ensures refuses { IfErr result (λ e. IsTrue (is_event_fault e.number)) }
-    ensures stands { IfErr result (λ e. TimesFault start extent e.number) }
-{
-    let length = judge_extent(extent)?;
-    if start.instant() < FIRST_SECOND {
-        return Err(Refusal::OUT_OF_DATES);
-    }
-    Ok(length)
-}
-
-pub(crate) fn judge_extent(extent: Extent) -> Result<Duration, Refusal>
-    ensures length { IfOk result (GivesLength extent) }
-    ensures most { IfOk result (λ length. length_seconds (length_of length) ≤ 31_622_400) }
-    ensures refuses { IfErr result (λ e. IsTrue (is_event_fault e.number)) }
-    ensures stands { IfErr result (λ e. ExtentFault extent e.number) }
-{
-    match extent {
-        Extent::ToEnd(seconds) if seconds < 0 => Err(Refusal::END_BEFORE_START),
-        Extent::ToEnd(seconds) if seconds > LONGEST => Err(Refusal::LONG_OR_NEGATIVE),
-        Extent::ToEnd(seconds) => Ok(Duration {
-            days: 0,
-            seconds: seconds as u32,
-        }),
-        Extent::For(duration) if seconds_of(duration) > LONGEST => Err(Refusal::LONG_OR_NEGATIVE),
-        Extent::For(duration) => Ok(duration),
-    }
 }

@@ -1,35 +1,60 @@
-//! When an event starts and how long it lasts, where DTSTART and DTEND may have TZID (RFC 5545 3.6.1): first its three
-//! properties as they are said, then all of them together. Days in a DURATION aren't read yet beside a DTSTART with TZID.
+//! When an event starts and how long it lasts (RFC 5545 3.6.1): first its three properties as they are said, in UTC or
+//! where TZID names a zone, then all of them together. Days in a DURATION aren't read yet beside a DTSTART with TZID.
 
-ghost use Rattle.std.specs.Prelude.{◌≡◌, ◌↔◌, ℕ, List, Some, ◌+ℤ◌, IfOk, IfErr, OnOk, OnErr, IfSome, IfNone, IsTrue};
+ghost use Rattle.std.specs.Prelude.{◌≡◌, ◌↔◌, ◌≤◌, ◌^◌, ℕ, List, Some, pos, ◌+ℤ◌, ◌<ℤ◌, IfOk, IfErr, OnOk, OnErr, IfSome, IfNone, IsTrue};
 ghost use Rattle.ical_lines.specs.Fault.{RefusesBy};
 ghost use Rattle.ical_lines.specs.Text.{line_text};
 ghost use Rattle.ical_tree.specs.Tree.{tree_of};
 ghost use Rattle.profile.specs.Trees.{Tree};
 ghost use Rattle.profile.specs.Zones.{IsNearEpoch};
-ghost use Rattle.profile.specs.Properties.{StandsAtMostOnce};
+ghost use Rattle.profile.specs.Faults.{is_event_fault};
+ghost use Rattle.profile.specs.Properties.{StandsAtMostOnce, length_seconds};
 ghost use Rattle.profile.specs.ZonedTimes.{is_in_zone, IsInDates, ZonedTimeFault, HasCountedDays, HasNominalLength, SaysEventTimes, EventTimesFault};
-ghost use Rattle.cal_events.specs.Zoned.{times_of, EndsSo, IsExtentIn, IsExact, IsNominal, AreSaid};
+ghost use Rattle.cal_events.specs.Events.{times_of, length_of, GivesLength, ExtentFault};
+ghost use Rattle.cal_events.specs.Zoned.{EndsSo, IsExtentIn, IsExact, IsNominal, AreSaid};
 
-use crate::component::{Extent, FIRST_SECOND, judge_extent, seconds_of};
 use crate::instance::HORIZON;
 use crate::properties::{optional, required};
 use crate::zoned::ZonedTime;
 use ical_lines::{Fault, Line, Refusal};
 use ical_tree::{Component, Properties};
 use ical_values::duration::one_duration;
-use ical_values::{Duration, LocalTime};
+use ical_values::{DAY_SECONDS, Duration, LocalTime, Stamp};
 use std::alloc::Global;
+
+/// The longest event, 366 days in seconds; this profile's choice.
+const LONGEST: i64 = 366 * DAY_SECONDS;
+
+/// The first second that an event may name, 1969-12-31T00:00:00Z: a local time of 1970 may be as early.
+const FIRST_SECOND: i64 = -DAY_SECONDS;
 
 /// The times of an event, judged together.
 #[derive(Clone, Copy, Debug)]
 pub struct EventTimes {
     /// DTSTART.
     pub start: ZonedTime,
-    /// The instant that DTSTART means, in seconds from 1970-01-01T00:00:00Z.
-    pub instant: i64,
-    /// How long each instance lasts in exact seconds, at most 366 days.
-    pub seconds: u32,
+    /// The instant that DTSTART means.
+    pub instant: Stamp,
+    /// How long it lasts: exact seconds to DTEND, or DURATION as it is written, or nothing. At most 366 days.
+    pub length: Duration,
+}
+
+impl EventTimes {
+    /// How long each instance lasts in exact seconds.
+    pub fn seconds(&self) -> u64
+        ensures { result ≡ length_seconds (length_of self.now.length) }
+    {
+        seconds_of(self.length) as u64
+    }
+}
+
+/// How long an event is said to last.
+#[derive(Clone, Copy)]
+enum Extent {
+    /// DTEND: seconds from DTSTART, negative where it lies before.
+    ToEnd(i64),
+    /// DURATION, or nothing where neither stands.
+    For(Duration),
 }
 
 /// What DTSTART, DTEND and DURATION say, each judged alone.
@@ -50,8 +75,8 @@ impl SaidTimes {
     /// `ZonedTime::read` for the two times; 12 and 51 for DURATION; 99 for days in it beside a DTSTART with TZID.
     pub fn read(
         alloc: Global,
-        properties: &Properties<'_>,
         object: &Component,
+        properties: &Properties<'_>,
     ) -> Result<SaidTimes, Fault>
         ensures said { IfOk result (AreSaid (tree_of object.now) properties.now) }
         ensures stands { IfErr result (RefusesBy (EventTimesFault (tree_of object.now) properties.now)) }
@@ -61,7 +86,7 @@ impl SaidTimes {
         let instant = start.instant();
         let in_zone = is_in_zone(line);
         let starts_in = is_in_dates(in_zone, start.local, instant);
-        let (extent, ends_in) = read_extent(alloc, properties, object, instant)?;
+        let (extent, ends_in) = read_extent(alloc, object, properties, instant)?;
         refuse_nominal(in_zone, extent)?;
         Ok(SaidTimes {
             start,
@@ -85,10 +110,13 @@ impl SaidTimes {
         if !self.starts_in || !self.ends_in {
             return Err(Refusal::OUT_OF_DATES);
         }
+        let Some(instant) = Stamp::of_instant(self.instant) else {
+            return Err(Refusal::OUT_OF_DATES);
+        };
         Ok(EventTimes {
             start: self.start,
-            instant: self.instant,
-            seconds: seconds_of(length) as u32,
+            instant,
+            length,
         })
     }
 }
@@ -162,14 +190,14 @@ fn is_in_dates(in_zone: bool, local: LocalTime, instant: i64) -> bool
     ensures { IsTrue result ↔ IsInDates in_zone local instant }
 {
     let first = if in_zone { 0 } else { FIRST_SECOND };
-    local.seconds() >= first && instant < HORIZON
+    local.seconds() >= first && instant >= FIRST_SECOND && instant < HORIZON
 }
 
 /// What DTEND or DURATION say of an event that starts at an instant, and whether DTEND lies in the dates that an event may name.
 fn read_extent(
     alloc: Global,
-    properties: &Properties<'_>,
     object: &Component,
+    properties: &Properties<'_>,
     start: i64,
 ) -> Result<(Extent, bool), Fault>
     requires { IsNearEpoch start }
@@ -212,4 +240,32 @@ fn seconds_to(
         instant - start,
         is_in_dates(is_in_zone(line), end.local, instant),
     ))
+}
+
+/// Judges what DTEND or DURATION say, and gives the length.
+/// Refused: 50 where the event ends before it starts, 51 past 366 days.
+fn judge_extent(extent: Extent) -> Result<Duration, Refusal>
+    ensures length { IfOk result (GivesLength extent) }
+    ensures most { IfOk result (λ length. length_seconds (length_of length) ≤ 31_622_400) }
+    ensures refuses { IfErr result (λ e. IsTrue (is_event_fault e.number)) }
+    ensures stands { IfErr result (λ e. ExtentFault extent e.number) }
+{
+    match extent {
+        Extent::ToEnd(seconds) if seconds < 0 => Err(Refusal::END_BEFORE_START),
+        Extent::ToEnd(seconds) if seconds > LONGEST => Err(Refusal::LONG_OR_NEGATIVE),
+        Extent::ToEnd(seconds) => Ok(Duration {
+            days: 0,
+            seconds: seconds as u32,
+        }),
+        Extent::For(duration) if seconds_of(duration) > LONGEST => Err(Refusal::LONG_OR_NEGATIVE),
+        Extent::For(duration) => Ok(duration),
+    }
+}
+
+/// A duration in seconds, days as 86,400: in UTC no day is longer or shorter.
+pub(crate) fn seconds_of(duration: Duration) -> i64
+    ensures value { result ≡ pos (length_seconds (length_of duration)) }
+    ensures range { result <ℤ pos (2 ^ 49) }
+{
+    i64::from(duration.days) * DAY_SECONDS + i64::from(duration.seconds)
 }

@@ -104,26 +104,27 @@ fn refuse_unread(event: &Properties<'_>) -> Result<(), Refusal>
     Ok(())
 }
 
-/// What a VEVENT says. Its lines are parsed once, for all that is asked of them.
+/// What a VEVENT of an object says. Its lines are parsed once, for all that is asked of them.
 /// Refused: 99 where it has something that roombox doesn't read yet, and else as by `EventComponent::read`.
 pub fn read_event(
     alloc: Global,
+    object: &Component,
     component: &Component,
     purpose: Purpose,
 ) -> Result<EventComponent, Fault>
-    ensures says { IfOk result (λ event. SaysEvent (is_message purpose) (component_lines component.now) (event_of event)) }
+    ensures says { IfOk result (λ event. SaysEvent (tree_of object.now) (is_message purpose) (component_lines component.now) (event_of event)) }
     ensures read { OnOk result (has_unread (component_lines component.now) ≡ false) }
     ensures refuses { IfErr result (RefusesOnly is_calendar_fault) }
-    ensures stands { IfErr result (RefusesBy (IsUnreadOrFault (is_message purpose) (component_lines component.now))) }
+    ensures stands { IfErr result (RefusesBy (IsUnreadOrFault (tree_of object.now) (is_message purpose) (component_lines component.now))) }
 {
     let properties = Properties::of(alloc, component)?;
     refuse_unread(&properties)?;
-    EventComponent::read(alloc, &properties, purpose)
+    EventComponent::read(alloc, object, &properties, purpose)
 }
 
 /// What the VEVENTs of an object book, in order.
 fn entries_of(alloc: Global, object: &Component, room: &Address) -> Result<Vec<Entry>, Fault>
-    ensures says { IfOk result (λ entries. AreEntries (address_octets room.now) (vevents_of object.now) entries.items) }
+    ensures says { IfOk result (λ entries. AreEntries (tree_of object.now) (address_octets room.now) (vevents_of object.now) entries.items) }
     ensures read { OnOk result (list_any has_unread (vevents_of object.now) ≡ false) }
     ensures refuses { IfErr result (RefusesOnly is_calendar_fault) }
     ensures stands { IfErr result (RefusesBy (CalendarFault (tree_of object.now))) }
@@ -131,7 +132,7 @@ fn entries_of(alloc: Global, object: &Component, room: &Address) -> Result<Vec<E
     let mut entries = Vec::new(alloc);
     for component in object.children() {
         if component.is_named("VEVENT") {
-            let event = read_event(alloc, component, Purpose::Calendar)?;
+            let event = read_event(alloc, object, component, Purpose::Calendar)?;
             entries.push(entry_of(alloc, &event, room)?)?;
         }
     }
@@ -143,7 +144,7 @@ fn entry_of(alloc: Global, event: &EventComponent, room: &Address) -> Result<Ent
     ensures { IfOk result (λ entry. entry_view entry ≡ entry_said (address_octets room.now) (event_of event.now)) }
 {
     let confirmed = has_accepted(event, room);
-    let start = event.start.instant();
+    let start = event.times.instant.instant();
     let end = event.end();
     let booking = Booking {
         organiser: organiser_of(alloc, event)?,

@@ -1,6 +1,6 @@
 //! A start or an end with its zone: TZID names a VTIMEZONE of the object that the line stands in
 //! (RFC 5545 3.2.19, 3.3.5, 3.6.5, 3.8.3.1). A VTIMEZONE that no line names isn't read.
-ghost use Rattle.std.specs.Prelude.{◌≡◌, ◌&&◌, ℕ, List, None, Some, codes, ℤ, pos, find, option_map, IfOk, IfErr};
+ghost use Rattle.std.specs.Prelude.{◌≡◌, ◌&&◌, ℕ, List, Option, None, Some, codes, ℤ, find, option_map, IfOk, IfErr};
 ghost use Rattle.ical_lines.specs.Fault.{RefusesBy};
 ghost use Rattle.ical_lines.specs.Text.{line_text};
 ghost use Rattle.ical_tree.specs.Tree.{component_name, component_lines, tree_of};
@@ -8,10 +8,11 @@ ghost use Rattle.profile.specs.Lines.{line_value, is_same_name};
 ghost use Rattle.profile.specs.Trees.{Tree};
 ghost use Rattle.profile.specs.Values.{SpellsLocal};
 ghost use Rattle.profile.specs.Zones as zones;
-ghost use Rattle.profile.specs.Zones.{Constant, Means, IsNearEpoch};
+ghost use Rattle.profile.specs.Zones.{Means, IsNearEpoch};
 ghost use Rattle.profile.specs.Properties.{is_of, time_kind, DateTime};
-ghost use Rattle.profile.specs.ZonedTimes.{has_zone_name, zone_named, SaysZoneOf, SpellsZoned, SaysZonedTime, DateOrMalformed, LocalFault, NamedFault, InZoneFault, ZonedTimeFault};
+ghost use Rattle.profile.specs.ZonedTimes.{has_zone_name, zone_named, SaysZoneOf, SpellsZoned, SaysZonedTime, clock_of, DateOrMalformed, LocalFault, NamedFault, InZoneFault, ZonedTimeFault};
 ghost use Rattle.cal_zones.specs.Kinds.{zone_of};
+ghost use Rattle.cal_events.specs.Events.{zone_said};
 ghost use Rattle.cal_events.specs.Zoned.{is_zone_called};
 
 use crate::component::{TimeKind, is_date, kind_of, read_time};
@@ -23,11 +24,12 @@ use ical_values::stamp::one_stamp;
 use ical_values::{LocalTime, Stamp, Text};
 use std::alloc::{AllocError, Global};
 
-/// A local time, and the zone whose clocks show it. A UTC time is one of UTC.
+/// A start or an end: a local time, and the zone whose clocks show it. A UTC time has none: UTC is no zone of offset 0.
 #[derive(Clone, Copy, Debug)]
 pub struct ZonedTime {
     pub local: LocalTime,
-    pub zone: Zone,
+    /// None is UTC.
+    pub zone: Option<Zone>,
 }
 
 impl ZonedTime {
@@ -36,7 +38,7 @@ impl ZonedTime {
     /// Refused with TZID: 11 for a text that is no local time, also where it ends in `Z`, 55 for a date, 56 where VALUE
     /// is PERIOD; 43 where no VTIMEZONE of the object has that name; 11, 13 and 40 to 42 for the first that has it.
     pub fn read(alloc: Global, line: Line<'_>, object: &Component) -> Result<ZonedTime, Fault>
-        ensures says { IfOk result (λ t. SaysZonedTime (tree_of object.now) (line_text line.entry) (zone_of t.zone) t.local) }
+        ensures says { IfOk result (λ t. SaysZonedTime (tree_of object.now) (line_text line.entry) (zone_said t) t.local) }
         ensures stands { IfErr result (RefusesBy (ZonedTimeFault (tree_of object.now) (line_text line.entry))) }
     {
         match line.param("TZID") {
@@ -48,29 +50,39 @@ impl ZonedTime {
     /// The instant that it means, in seconds from 1970-01-01T00:00:00Z: the first of two where the clocks show it twice,
     /// and where they skip it what it means with the offset before (RFC 5545 3.3.5).
     pub fn instant(&self) -> i64
-        ensures meaning { Means (zone_of self.now.zone) self.now.local result }
+        ensures meaning { Means (clock_of (zone_said self.now)) self.now.local result }
         ensures range { IsNearEpoch result }
     {
-        self.zone.resolve(self.local)
+        self.clock().resolve(self.local)
+    }
+
+    /// The clocks that show it: those of its zone, else those of UTC.
+    pub fn clock(&self) -> Zone
+        ensures { zone_of result ≡ clock_of (zone_said self.now) }
+    {
+        match self.zone {
+            Some(zone) => zone,
+            None => Zone::utc(),
+        }
     }
 
     /// The clocks of UTC show the instant itself.
     fn of_stamp(stamp: Stamp) -> ZonedTime
-        ensures zone { zone_of result.zone ≡ Constant (pos 0) }
+        ensures zone { zone_said result ≡ None }
         ensures local { result.local ≡ stamp }
     {
         ZonedTime {
             local: LocalTime::of_seconds(stamp.instant()).unwrap(),
-            zone: Zone::utc(),
+            zone: None,
         }
     }
 }
 
 /// A line says at most one local time in one zone, and none where a fault stands in it.
 pub fn one_zoned_time()
-    ensures one { (object : Tree) (line : List ℕ) (a b : zones.Zone) (s t : ℤ)
+    ensures one { (object : Tree) (line : List ℕ) (a b : Option zones.Zone) (s t : ℤ)
         → SaysZonedTime object line a s → SaysZonedTime object line b t → (a ≡ b) × (s ≡ t) }
-    ensures or_a_fault { (object : Tree) (line : List ℕ) (a : zones.Zone) (s : ℤ) (n : ℕ)
+    ensures or_a_fault { (object : Tree) (line : List ℕ) (a : Option zones.Zone) (s : ℤ) (n : ℕ)
         → SaysZonedTime object line a s → ZonedTimeFault object line n → ⊥ }
 {
     one_stamp();
@@ -86,12 +98,15 @@ fn read_in_zone(
     object: &Component,
 ) -> Result<ZonedTime, Fault>
     ensures says { IfOk result (λ t. (time_kind (line_text line.entry) ≡ DateTime)
-        × SpellsZoned (tree_of object.now) (Some name.now) (line_value (line_text line.entry)) (zone_of t.zone) t.local) }
+        × SpellsZoned (tree_of object.now) (Some name.now) (line_value (line_text line.entry)) (zone_said t) t.local) }
     ensures stands { IfErr result (RefusesBy (InZoneFault (tree_of object.now) name.now (time_kind (line_text line.entry)) (line_value (line_text line.entry)))) }
 {
     let local = read_local(line)?;
     let zone = read_zone(alloc, object, name)?;
-    Ok(ZonedTime { local, zone })
+    Ok(ZonedTime {
+        local,
+        zone: Some(zone),
+    })
 }
 
 /// The local time that a line with TZID spells (RFC 5545 3.3.5, form 3).

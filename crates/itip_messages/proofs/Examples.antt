@@ -1,5 +1,5 @@
 -- Worked examples of the definitions of messages and replies, computed.
-use Rattle.std.proofs.Common.{◌≡◌, ℕ, pos, true, false, List, [], ◌∷◌, Some, refl, codes}
+use Rattle.std.proofs.Common.{◌≡◌, ℕ, pos, true, false, List, [], ◌∷◌, Some, None, refl, codes}
 use Rattle.profile.specs.Events.{Event, NeedsAction}
 use Rattle.profile.specs.Messages.{word, object_lines, is_method, is_unread_method, are_one_meeting, names_room}
 
@@ -50,8 +50,7 @@ meeting uid organiser = record {
   organiser = Some organiser;
   stamp = Some (pos 1_740_830_400);
   sequence = 0;
-  start = pos 1_741_597_200;
-  length = record { days = 0; seconds = 3600 };
+  times = record { zone = None; local = pos 1_741_597_200; start = pos 1_741_597_200; length = record { days = 0; seconds = 3600 } };
   attendees = record { address = codes "mailto:r1@example.com"; participation = NeedsAction } ∷ [];
 }
 

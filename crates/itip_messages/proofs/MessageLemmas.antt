@@ -51,23 +51,23 @@ pub one_meeting_is : (events : List EventComponent) (first : EventComponent) (ot
 one_meeting_is events first others b e h =
     ap (λ es. are_one_meeting (map event_of es)) e ∙ sym (all_mapped (is_same_meeting (event_of first)) others) ∙ sym h
 
-pub none_said : (vs : List Lines) → AllZip (SaysEvent true) vs [] → vs ≡ []
-none_said [] z = refl
-none_said (v ∷ vs) z = absurd z
+pub none_said : (object : Tree) (vs : List Lines) → AllZip (SaysEvent object true) vs [] → vs ≡ []
+none_said object [] z = refl
+none_said object (v ∷ vs) z = absurd z
 
-pub meeting_stands : (object : Tree) (vs : List Lines) (events : List Event) (n : ℕ) → vevents object ≡ vs → AllZip (SaysEvent true) vs events → MeetingFault events n
+pub meeting_stands : (object : Tree) (vs : List Lines) (events : List Event) (n : ℕ) → vevents object ≡ vs → AllZip (SaysEvent object true) vs events → MeetingFault events n
     → MessageFault object n
 meeting_stands object vs events n e zip w =
-    let said = subst (λ (xs : List Lines). AllZip (SaysEvent true) xs events) (sym e) zip in
+    let said = subst (λ (xs : List Lines). AllZip (SaysEvent object true) xs events) (sym e) zip in
     elim w [
-      | inl h ↦ subst (MessageFault object) (sym h.0) (no_event (none_said (vevents object) (subst (λ (es : List Event). AllZip (SaysEvent true) (vevents object) es) h.1 said)))
+      | inl h ↦ subst (MessageFault object) (sym h.0) (no_event (none_said object (vevents object) (subst (λ (es : List Event). AllZip (SaysEvent object true) (vevents object) es) h.1 said)))
       | inr (inl h) ↦ subst (MessageFault object) (sym h.0) (two_meetings events said h.1)
       | inr (inr h) ↦ subst (MessageFault object) (sym h.0) (two_wholes events said h.1 h.2)
     ]
 
 -- ---- VEVENTs
 
-pub event_stands : (object : Tree) (vs : List Lines) (lines : Lines) (f : Fault) → vevents object ≡ vs → Contains vs lines → RefusesBy (IsUnreadOrFault true lines) f
+pub event_stands : (object : Tree) (vs : List Lines) (lines : Lines) (f : Fault) → vevents object ≡ vs → Contains vs lines → RefusesBy (IsUnreadOrFault object true lines) f
     → RefusesBy (MessageFault object) f
 event_stands object vs lines Memory e h s = tt
 event_stands object vs lines (Refused r) e h (inl u) = subst (MessageFault object) (sym u.0) (not_yet (ap (list_any has_unread) e ∙ unread_among vs lines h u.1))
@@ -80,11 +80,11 @@ unread_stands object vs Memory e s = tt
 unread_stands object vs (Refused r) e s = subst (MessageFault object) (sym s.0) (not_yet (ap (list_any has_unread) e ∙ s.1))
 
 -- one VEVENT more
-pub event_pushed : (vs : List Lines) (lines : Lines) (old new : List EventComponent) (event : EventComponent) → AllZip (SaysEvent true) vs (map event_of old) → SaysEvent true lines (event_of event)
-    → new ≡ old ++ event ∷ [] → AllZip (SaysEvent true) (vs ++ lines ∷ []) (map event_of new)
-event_pushed vs lines old new event zip says n =
-    subst (λ (es : List Event). AllZip (SaysEvent true) (vs ++ lines ∷ []) es) (sym (ap (map event_of) n ∙ map-append event_of old (event ∷ [])))
-    (push_zip (SaysEvent true) vs (map event_of old) lines (event_of event) zip says)
+pub event_pushed : (object : Tree) (vs : List Lines) (lines : Lines) (old new : List EventComponent) (event : EventComponent) → AllZip (SaysEvent object true) vs (map event_of old) → SaysEvent object true lines (event_of event)
+    → new ≡ old ++ event ∷ [] → AllZip (SaysEvent object true) (vs ++ lines ∷ []) (map event_of new)
+event_pushed object vs lines old new event zip says n =
+    subst (λ (es : List Event). AllZip (SaysEvent object true) (vs ++ lines ∷ []) es) (sym (ap (map event_of) n ∙ map-append event_of old (event ∷ [])))
+    (push_zip (SaysEvent object true) vs (map event_of old) lines (event_of event) zip says)
 
 given : {V : Type 0} (R : List ℕ → V → Type 0) (line : Option (List ℕ)) (value : Option V) → is_some line ≡ true → BothOrNeither R line value → is_some value ≡ true
 given R None None h b = h
@@ -101,31 +101,31 @@ some_itself None h = cc
 some_itself (Some x) h = refl
 
 -- the one VEVENT of a message
-pub record OneSaid (vs : List Lines) (event : EventComponent) : Type 0 where
+pub record OneSaid (object : Tree) (vs : List Lines) (event : EventComponent) : Type 0 where
   pub lines : Lines
   pub one : vs ≡ lines ∷ []
-  pub says : SaysEvent true lines (event_of event)
+  pub says : SaysEvent object true lines (event_of event)
 
-pub one_said : (vs : List Lines) (es : List EventComponent) (event : EventComponent) → length es ≡ 1 → event ≡ get_or es 0 event → AllZip (SaysEvent true) vs (map event_of es) → OneSaid vs event
-one_said vs [] event n at zip = absurd (omega (arith, n))
-one_said vs (e ∷ f ∷ es) event n at zip = absurd (omega (arith, n))
-one_said [] (e ∷ []) event n at zip = absurd zip
-one_said (v ∷ w ∷ vs) (e ∷ []) event n at zip = absurd zip.1
-one_said (v ∷ []) (e ∷ []) event n at zip = record { lines = v; one = refl; says = subst (λ (x : EventComponent). SaysEvent true v (event_of x)) (sym at) zip.0 }
+pub one_said : (object : Tree) (vs : List Lines) (es : List EventComponent) (event : EventComponent) → length es ≡ 1 → event ≡ get_or es 0 event → AllZip (SaysEvent object true) vs (map event_of es) → OneSaid object vs event
+one_said object vs [] event n at zip = absurd (omega (arith, n))
+one_said object vs (e ∷ f ∷ es) event n at zip = absurd (omega (arith, n))
+one_said object [] (e ∷ []) event n at zip = absurd zip
+one_said object (v ∷ w ∷ vs) (e ∷ []) event n at zip = absurd zip.1
+one_said object (v ∷ []) (e ∷ []) event n at zip = record { lines = v; one = refl; says = subst (λ (x : EventComponent). SaysEvent object true v (event_of x)) (sym at) zip.0 }
 
-pub organiser_given : (vs : List Lines) (event : EventComponent) → OneSaid vs event → IsSome event.organiser
-organiser_given vs event o =
+pub organiser_given : (object : Tree) (vs : List Lines) (event : EventComponent) → OneSaid object vs event → IsSome event.organiser
+organiser_given object vs event o =
     let s = o.says.organiser in
     some_of_map _ event.organiser (given _ s.line (event_of event).organiser (s.stands refl) s.is)
 
-pub stamp_given : (vs : List Lines) (event : EventComponent) → OneSaid vs event → IsSome event.stamp
-stamp_given vs event o =
+pub stamp_given : (object : Tree) (vs : List Lines) (event : EventComponent) → OneSaid object vs event → IsSome event.stamp
+stamp_given object vs event o =
     let s = o.says.stamp in
     some_itself event.stamp (given _ s.line (event_of event).stamp (s.stands refl) s.is)
 
 -- the object says a REQUEST for it
 pub request_said : (object : Tree) (own : Lines) (vs : List Lines) (event : EventComponent) → tree_own object ≡ own → vevents object ≡ vs → NamesRequest own
-    → list_any has_unread vs ≡ false → OneSaid vs event → SaysRequest object (event_of event)
+    → list_any has_unread vs ≡ false → OneSaid object vs event → SaysRequest object (event_of event)
 request_said object own vs event mine inner named read o = record {
   method_line = named.0;
   method = ap (lines_named (codes "METHOD")) mine ∙ named.1;

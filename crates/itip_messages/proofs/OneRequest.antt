@@ -25,20 +25,20 @@ abbrev PairsUp : Type 0
 PairsUp = (bounded : Bool) (t : Tree) (lines : Lines) (n : ℕ) → IsObject tree_name tree_own tree_inside bounded t lines → lines_have n lines ≡ true → ⊥
 
 abbrev OneEvent : Type 0
-OneEvent = (m : Bool) (lines : Lines) (a b : Event) → SaysEvent m lines a → SaysEvent m lines b → a ≡ b
+OneEvent = (object : Tree) (m : Bool) (lines : Lines) (a b : Event) → SaysEvent object m lines a → SaysEvent object m lines b → a ≡ b
 
 abbrev NoFault : Type 0
-NoFault = (m : Bool) (lines : Lines) (a : Event) (n : ℕ) → SaysEvent m lines a → EventFault m lines n → ⊥
+NoFault = (object : Tree) (m : Bool) (lines : Lines) (a : Event) (n : ℕ) → SaysEvent object m lines a → EventFault object m lines n → ⊥
 
 -- ---- lists of one
 
 one_line : (x y : Lines) → x ∷ [] ≡ y ∷ [] → x ≡ y
 one_line x y e = ap (λ xs. get_or xs 0 []) e
 
-one_zip : (x : Lines) (events : List Event) → AllZip (SaysEvent true) (x ∷ []) events → length events ≡ 1
-one_zip x [] h = absurd h
-one_zip x (y ∷ []) h = refl
-one_zip x (y ∷ z ∷ zs) h = absurd h.1
+one_zip : (object : Tree) (x : Lines) (events : List Event) → AllZip (SaysEvent object true) (x ∷ []) events → length events ≡ 1
+one_zip object x [] h = absurd h
+one_zip object x (y ∷ []) h = refl
+one_zip object x (y ∷ z ∷ zs) h = absurd h.1
 
 one_of_one : (events : List Event) → length events ≡ 1 → are_one_meeting events ≡ true
 one_of_one [] e = refl
@@ -73,23 +73,23 @@ no_method_fault object a n s (no_method h) =
 one_said : OneEvent → (object : Tree) (a b : Event) → SaysRequest object a → SaysRequest object b → a ≡ b
 one_said one object a b s t =
     let same : s.lines ≡ t.lines = one_line s.lines t.lines (sym s.one ∙ t.one) in
-    one true t.lines a b (subst (λ (x : Lines). SaysEvent true x a) same s.says) t.says
+    one object true t.lines a b (subst (λ (x : Lines). SaysEvent object true x a) same s.says) t.says
 
 no_message_fault : NoFault → (object : Tree) (a : Event) (n : ℕ) → SaysRequest object a → MessageFault object n → ⊥
 no_message_fault sound object a n s (in_method h) = no_method_fault object a n s h
 no_message_fault sound object a n s (in_event lines at fault) =
     let e = at_one s.lines lines (subst (λ (xs : List Lines). Contains xs lines) s.one at) in
-    sound true lines a n (subst (λ (x : Lines). SaysEvent true x a) e s.says) fault
+    sound object true lines a n (subst (λ (x : Lines). SaysEvent object true x a) e s.says) fault
 no_message_fault sound object a n s (not_yet h) =
     let k : (has_unread s.lines || false) ≡ true = sym (ap (λ (xs : List Lines). list_any has_unread xs) s.one) ∙ h in
     true≢false (sym (rw s.read at k))
 no_message_fault sound object a n s (no_event h) =
     let k : 0 ≡ 1 = sym (ap length h) ∙ ap length s.one in absurd (omega (arith, k))
 no_message_fault sound object a n s (two_meetings events zip h) =
-    let one = one_zip s.lines events (subst (λ (xs : List Lines). AllZip (SaysEvent true) xs events) s.one zip) in
+    let one = one_zip object s.lines events (subst (λ (xs : List Lines). AllZip (SaysEvent object true) xs events) s.one zip) in
     true≢false (sym (one_of_one events one) ∙ h)
 no_message_fault sound object a n s (two_wholes events zip h more) =
-    let one = one_zip s.lines events (subst (λ (xs : List Lines). AllZip (SaysEvent true) xs events) s.one zip) in
+    let one = one_zip object s.lines events (subst (λ (xs : List Lines). AllZip (SaysEvent object true) xs events) s.one zip) in
     absurd (omega (arith, one, more))
 
 -- ---- octets

@@ -22,7 +22,7 @@ pub record SaysComponent (component : MessageComponent) (event : Event) : Type 0
   pub slot : component.slot ≡ Whole
   pub sequence : component.revision.sequence ≡ event.sequence
   pub stamp : event.stamp ≡ Some component.revision.stamp
-  pub start : component.start ≡ event.start
+  pub start : component.start ≡ event.times.start
   pub end : component.end ≡ (booked_by event).end
   pub canonical : IsCanonical component.canonical.items event
   pub attendees : component.attendees ≡ event.attendees

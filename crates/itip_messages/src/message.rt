@@ -36,7 +36,7 @@ pub struct MessageComponent {
     pub slot: Slot,
     /// SEQUENCE and DTSTAMP.
     pub revision: Revision,
-    /// DTSTART in UTC.
+    /// The instant at which it starts.
     pub start: Stamp,
     /// The first second after it, in seconds from 1970-01-01T00:00:00Z.
     pub end: i64,
@@ -128,7 +128,7 @@ impl Message {
                 sequence: event.sequence,
                 stamp,
             },
-            start: event.start,
+            start: event.times.instant,
             end,
             canonical,
             attendees,
@@ -212,7 +212,7 @@ fn is_unread_method(word: &str) -> bool
 
 /// What each VEVENT of a message says, in the order of the text.
 fn events_of(alloc: Global, object: &Component) -> Result<Vec<EventComponent>, Fault>
-    ensures says { IfOk result (λ events. AllZip (SaysEvent true) (vevents_of object.now) (map event_of events.items)) }
+    ensures says { IfOk result (λ events. AllZip (SaysEvent (tree_of object.now) true) (vevents_of object.now) (map event_of events.items)) }
     ensures read { OnOk result (list_any has_unread (vevents_of object.now) ≡ false) }
     ensures refuses { IfErr result (RefusesOnly is_message_fault) }
     ensures stands { IfErr result (RefusesBy (MessageFault (tree_of object.now))) }
@@ -220,7 +220,7 @@ fn events_of(alloc: Global, object: &Component) -> Result<Vec<EventComponent>, F
     let mut events = Vec::new(alloc);
     for component in object.children() {
         if component.is_named("VEVENT") {
-            events.push(read_event(alloc, component, Purpose::Request)?)?;
+            events.push(read_event(alloc, object, component, Purpose::Request)?)?;
         }
     }
     Ok(events)
@@ -274,9 +274,9 @@ fn canonical_body(alloc: Global, event: &EventComponent) -> Result<Vec<u8>, Allo
     ensures { IfOk result (λ body. IsCanonical body.items (event_of event.now)) }
 {
     let mut body = Vec::from_slice(alloc, b"DTSTART:")?;
-    event.start.write(&mut body)?;
+    event.times.instant.write(&mut body)?;
     body.extend_from_slice(b"\r\nDURATION:")?;
-    write_length(event.length, &mut body)?;
+    write_length(event.times.length, &mut body)?;
     body.extend_from_slice(b"\r\n")?;
     Ok(body)
 }

@@ -85,8 +85,7 @@ event_with first second = record {
   organiser = None;
   stamp = None;
   sequence = 0;
-  start = pos 100;
-  length = record { days = 1; seconds = 1 };
+  times = record { zone = None; local = pos 100; start = pos 100; length = record { days = 1; seconds = 1 } };
   attendees = record { address = codes "r:1"; participation = first } ∷ record { address = codes "r:1"; participation = second } ∷ [];
 }
 

@@ -1,12 +1,14 @@
--- VEVENTs: what their lines say (RFC 5545 3.6.1), for single events in UTC. A VEVENT is its content lines here.
-use Rattle.std.specs.Prelude.{◌≡◌, ◌≢◌, ℕ, Contains, AllPairs, ◌≤◌, Bool, true, false, if◌then◌else◌, ◌&&◌, ◌||◌, List, [], ◌∷◌, length, map, filter, codes, Option, Some, None, is_some, option_map, unwrap_or, ℤ, pos, ◌+ℤ◌, ◌≤ℤ◌, ◌<ℤ◌}
+-- VEVENTs: what their lines say (RFC 5545 3.6.1), and what a room books of them, so far of single events in UTC. A VEVENT is its
+-- content lines here, beside the object that it stands in: its times may name a VTIMEZONE of that.
+use Rattle.std.specs.Prelude.{◌≡◌, ◌≢◌, ℕ, Contains, AllPairs, ◌≤◌, Bool, true, false, if◌then◌else◌, ◌&&◌, ◌||◌, List, [], ◌∷◌, length, map, filter, codes, Option, Some, None, is_some, option_map, unwrap_or, ℤ, pos, ◌+ℤ◌}
 use Rattle.std.specs.List.{find, list_any, AllZip}
 use Rattle.std.specs.Str.{bytes_eq}
 use Rattle.profile.specs.Lines.{line_value, line_param, is_same_name}
 use Rattle.profile.specs.Trees.{Tree, vevents}
 use Rattle.profile.specs.Values.{IsUid, unescaped}
 use Rattle.profile.specs.Instances.{Booked}
-use Rattle.profile.specs.Properties.{is_of, lines_named, StandsAtMostOnce, IsTime, IsStampLine, IsSequenceLine, IsAddressLine, Says, IsUidLine, Length, length_seconds, LastsFor, longest, first_second, StandsTwice, IsMissing, SomeLine, IsNoStamp, TimeFault, IsNoAddress, IsNoSequence, IsNoDuration, IsNegativeOrLong}
+use Rattle.profile.specs.Properties.{is_of, lines_named, StandsAtMostOnce, IsStampLine, IsSequenceLine, IsAddressLine, Says, IsUidLine, length_seconds, StandsTwice, IsMissing, SomeLine, IsNoStamp, IsNoAddress, IsNoSequence}
+use Rattle.profile.specs.ZonedTimes.{is_in_zone, EventTimes, SaysEventTimes, EventTimesFault}
 
 -- ---- attendees
 
@@ -45,47 +47,23 @@ pub record Event : Type 0 where
   pub organiser : Option (List ℕ)
   pub stamp : Option ℤ
   pub sequence : ℕ
-  pub start : ℤ
-  pub length : Length
+  pub times : EventTimes
   pub attendees : List Attendee
-
--- the length that DTEND gives, in exact seconds; DTEND isn't before DTSTART (RFC 5545 3.8.2.2 wants it later; that it may be
--- DTSTART itself is this profile's choice)
-abbrev pub LastsUntil : ℤ → List ℕ → Length → Type 0
-LastsUntil start line length = (length.days ≡ 0) × IsTime line (start +ℤ pos length.seconds)
-
--- DTEND, or DURATION, or neither: then it ends where it starts, and holds nothing (RFC 5545 3.6.1)
-abbrev pub IsLength : ℤ → Option (List ℕ) → Option (List ℕ) → Length → Type 0
-IsLength start None None length = length ≡ record { days = 0; seconds = 0 }
-IsLength start (Some line) None length = LastsUntil start line length
-IsLength start None (Some line) length = LastsFor line length
-IsLength start (Some line) (Some other) length = ⊥
-
--- the length of an event
-pub record SaysLength (lines : List (List ℕ)) (start : ℤ) (length : Length) : Type 0 where
-  pub end_line : Option (List ℕ)
-  pub duration_line : Option (List ℕ)
-  pub end_once : StandsAtMostOnce (codes "DTEND") lines end_line
-  pub duration_once : StandsAtMostOnce (codes "DURATION") lines duration_line
-  pub is : IsLength start end_line duration_line length
-  pub most : length_seconds length ≤ longest
 
 -- SEQUENCE, 0 where it is missing (RFC 5545 3.8.7.4)
 abbrev pub SaysSequence : List (List ℕ) → ℕ → Type 0
 SaysSequence lines n = (given : Option ℕ) × Says (codes "SEQUENCE") false IsSequenceLine lines given × (n ≡ unwrap_or given 0)
 
--- the lines of a VEVENT say this event. In a message ORGANIZER and DTSTAMP have to stand; UID and DTSTART always
+-- the lines of a VEVENT of an object say this event. In a message ORGANIZER and DTSTAMP have to stand; UID and DTSTART always
 -- (RFC 5545 3.6.1, RFC 5546 3.2). That a calendar's VEVENT may lack DTSTAMP and that a REQUEST may lack ATTENDEE is this profile's choice
-pub record SaysEvent (in_message : Bool) (lines : List (List ℕ)) (event : Event) : Type 0 where
+pub record SaysEvent (object : Tree) (in_message : Bool) (lines : List (List ℕ)) (event : Event) : Type 0 where
   pub uid : Says (codes "UID") true IsUidLine lines (Some event.uid)
   pub organiser : Says (codes "ORGANIZER") in_message IsAddressLine lines event.organiser
   pub stamp : Says (codes "DTSTAMP") in_message IsStampLine lines event.stamp
   pub sequence : SaysSequence lines event.sequence
   pub status : (line : Option (List ℕ)) × StandsAtMostOnce (codes "STATUS") lines line
-  pub start : Says (codes "DTSTART") true IsTime lines (Some event.start)
-  pub length : SaysLength lines event.start event.length
+  pub times : SaysEventTimes object lines event.times
   pub attendees : AllZip IsAttendee (lines_named (codes "ATTENDEE") lines) event.attendees
-  pub from_1970 : first_second ≤ℤ event.start
 
 -- ---- what isn't read yet
 
@@ -100,7 +78,7 @@ is_end_of_event line = is_of (codes "DTSTART") line || is_of (codes "DTEND") lin
 abbrev pub is_unread_line : List ℕ → Bool
 is_unread_line line =
     is_recurrence line || (is_of (codes "STATUS") line && is_same_name (line_value line) (codes "CANCELLED"))
-    || (is_end_of_event line && is_some (line_param (codes "TZID") line))
+    || (is_end_of_event line && is_in_zone line)
 
 -- something in the lines isn't read yet
 abbrev pub has_unread : List (List ℕ) → Bool
@@ -111,9 +89,9 @@ has_unread lines = list_any is_unread_line lines
 -- its one instance: the original start is its start (RFC 5545 3.8.4.4); a missing organiser is the empty address
 abbrev pub booked_by : Event → Booked
 booked_by event = record {
-  key = record { organiser = unwrap_or event.organiser []; uid = event.uid; slot = event.start };
-  start = event.start;
-  end = event.start +ℤ pos (length_seconds event.length);
+  key = record { organiser = unwrap_or event.organiser []; uid = event.uid; slot = event.times.start };
+  start = event.times.start;
+  end = event.times.start +ℤ pos (length_seconds event.times.length);
 }
 
 -- the attendee of this address answered so; of several lines of one address the first counts
@@ -145,53 +123,36 @@ meeting_said event = (unwrap_or event.organiser [], event.uid)
 -- yet, and these instances of them are confirmed for the room
 pub record SaysCalendar (room : List ℕ) (object : Tree) (all : List Booked) : Type 0 where
   pub events : List Event
-  pub says : AllZip (SaysEvent false) (vevents object) events
+  pub says : AllZip (SaysEvent object false) (vevents object) events
   pub read : list_any has_unread (vevents object) ≡ false
   pub differ : AllPairs ◌≢◌ (map meeting_said events)
   pub is : all ≡ confirmed room events
 
 -- ---- what can be wrong with a VEVENT, by the number of its refusal
 
--- the properties that stand at most once
+-- the properties that stand at most once, beside those of the times
 abbrev pub single_names : List (List ℕ)
-single_names =
-    codes "UID" ∷ codes "ORGANIZER" ∷ codes "DTSTAMP" ∷ codes "SEQUENCE" ∷ codes "STATUS" ∷ codes "DTSTART" ∷ codes "DTEND" ∷ codes "DURATION" ∷ []
+single_names = codes "UID" ∷ codes "ORGANIZER" ∷ codes "DTSTAMP" ∷ codes "SEQUENCE" ∷ codes "STATUS" ∷ []
 
--- the lines hold a start and an end, and so do the two lie
-abbrev pub StartAndEnd : (ℤ → ℤ → Type 0) → List (List ℕ) → Type 0
-StartAndEnd R lines =
-    (start : ℤ) × (end : ℤ) × SomeLine (codes "DTSTART") (λ line. IsTime line start) lines × SomeLine (codes "DTEND") (λ line. IsTime line end) lines × R start end
-
--- the fault of this number stands in the lines of a VEVENT
-pub data EventFault (in_message : Bool) (lines : List (List ℕ)) : ℕ → Type 0 where
-  bad_start : {n : ℕ} → SomeLine (codes "DTSTART") (λ line. TimeFault line n) lines → EventFault in_message lines n
-  bad_end : {n : ℕ} → SomeLine (codes "DTEND") (λ line. TimeFault line n) lines → EventFault in_message lines n
-  bad_stamp : SomeLine (codes "DTSTAMP") (λ line. IsNoStamp (line_value line)) lines → EventFault in_message lines 10
-  bad_duration : SomeLine (codes "DURATION") IsNoDuration lines → EventFault in_message lines 12
-  bad_uid : SomeLine (codes "UID") (λ line. IsUid (unescaped (line_value line)) → ⊥) lines → EventFault in_message lines 14
-  bad_organiser : SomeLine (codes "ORGANIZER") IsNoAddress lines → EventFault in_message lines 15
-  bad_attendee : SomeLine (codes "ATTENDEE") IsNoAddress lines → EventFault in_message lines 15
-  bad_sequence : SomeLine (codes "SEQUENCE") IsNoSequence lines → EventFault in_message lines 16
-  -- it ends before it starts
-  ends_early : StartAndEnd (λ start end. end <ℤ start) lines → EventFault in_message lines 50
-  -- it lasts longer than 366 days
-  ends_late : StartAndEnd (λ start end. (start +ℤ pos longest) <ℤ end) lines → EventFault in_message lines 51
-  lasts_long : SomeLine (codes "DURATION") IsNegativeOrLong lines → EventFault in_message lines 51
-  -- it starts before 1969-12-31T00:00:00Z
-  starts_early : (start : ℤ) → SomeLine (codes "DTSTART") (λ line. IsTime line start) lines → start <ℤ first_second → EventFault in_message lines 52
-  no_uid : IsMissing (codes "UID") lines → EventFault in_message lines 61
-  no_start : IsMissing (codes "DTSTART") lines → EventFault in_message lines 61
-  no_stamp_given : in_message ≡ true → IsMissing (codes "DTSTAMP") lines → EventFault in_message lines 61
-  twice : (name : List ℕ) → Contains single_names name → StandsTwice name lines → EventFault in_message lines 61
-  end_and_duration : SomeLine (codes "DTEND") (λ _. Unit {0}) lines → SomeLine (codes "DURATION") (λ _. Unit {0}) lines → EventFault in_message lines 61
-  no_organiser : in_message ≡ true → IsMissing (codes "ORGANIZER") lines → EventFault in_message lines 63
+-- the fault of this number stands in the lines of a VEVENT of an object
+pub data EventFault (object : Tree) (in_message : Bool) (lines : List (List ℕ)) : ℕ → Type 0 where
+  in_times : {n : ℕ} → EventTimesFault object lines n → EventFault object in_message lines n
+  bad_stamp : SomeLine (codes "DTSTAMP") (λ line. IsNoStamp (line_value line)) lines → EventFault object in_message lines 10
+  bad_uid : SomeLine (codes "UID") (λ line. IsUid (unescaped (line_value line)) → ⊥) lines → EventFault object in_message lines 14
+  bad_organiser : SomeLine (codes "ORGANIZER") IsNoAddress lines → EventFault object in_message lines 15
+  bad_attendee : SomeLine (codes "ATTENDEE") IsNoAddress lines → EventFault object in_message lines 15
+  bad_sequence : SomeLine (codes "SEQUENCE") IsNoSequence lines → EventFault object in_message lines 16
+  no_uid : IsMissing (codes "UID") lines → EventFault object in_message lines 61
+  no_stamp_given : in_message ≡ true → IsMissing (codes "DTSTAMP") lines → EventFault object in_message lines 61
+  twice : (name : List ℕ) → Contains single_names name → StandsTwice name lines → EventFault object in_message lines 61
+  no_organiser : in_message ≡ true → IsMissing (codes "ORGANIZER") lines → EventFault object in_message lines 63
 
 -- ---- what can be wrong with the VEVENTs of an object, as a calendar
 
 pub data CalendarFault (object : Tree) : ℕ → Type 0 where
   -- one of them has this fault
-  in_event : {n : ℕ} → (lines : List (List ℕ)) → Contains (vevents object) lines → EventFault false lines n → CalendarFault object n
+  in_event : {n : ℕ} → (lines : List (List ℕ)) → Contains (vevents object) lines → EventFault object false lines n → CalendarFault object n
   -- two of them are of one meeting
-  one_meeting : (events : List Event) → AllZip (SaysEvent false) (vevents object) events → (AllPairs ◌≢◌ (map meeting_said events) → ⊥) → CalendarFault object 53
+  one_meeting : (events : List Event) → AllZip (SaysEvent object false) (vevents object) events → (AllPairs ◌≢◌ (map meeting_said events) → ⊥) → CalendarFault object 53
   -- something in them isn't read yet
   not_yet : list_any has_unread (vevents object) ≡ true → CalendarFault object 99

@@ -30,9 +30,17 @@ is_value_fault = is_between 10 16
 abbrev pub is_event_fault : ℕ → Bool
 is_event_fault n = is_value_fault n || is_between 50 52 n || is_between 55 56 n || n == 61 || n == 63
 
+-- a fault of the VTIMEZONE that a TZID names, or the want of one (RFC 5545 3.6.5); what is wrong with its values has a value's number
+abbrev pub is_zone_fault : ℕ → Bool
+is_zone_fault = is_between 40 43
+
 -- what isn't read yet
 abbrev pub is_unread : ℕ → Bool
 is_unread n = n == 99
+
+-- a fault of one VEVENT whose times may name a VTIMEZONE of its object
+abbrev pub is_zoned_event_fault : ℕ → Bool
+is_zoned_event_fault n = is_event_fault n || is_zone_fault n || is_unread n
 
 -- a fault of a calendar: an object, its VEVENTs, two masters or two overrides of one start, or what isn't read yet
 abbrev pub is_calendar_fault : ℕ → Bool

@@ -23,7 +23,7 @@ pub record SaysRequest (object : Tree) (event : Event) : Type 0 where
   pub lines : List (List ℕ)
   pub one : vevents object ≡ lines ∷ []
   pub read : has_unread lines ≡ false
-  pub says : SaysEvent true lines event
+  pub says : SaysEvent object true lines event
 
 -- the octets are one VCALENDAR, within the limits of a message, and say a REQUEST for this event
 pub record SpellsRequest (octets : List ℕ) (event : Event) : Type 0 where
@@ -62,12 +62,12 @@ are_one_meeting (event ∷ events) = list_all (is_same_meeting event) events
 -- the fault of this number stands in the lines of a VCALENDAR or of its VEVENTs
 pub data MessageFault (object : Tree) : ℕ → Type 0 where
   in_method : {n : ℕ} → MethodFault (tree_own object) n → MessageFault object n
-  in_event : {n : ℕ} → (lines : List (List ℕ)) → Contains (vevents object) lines → EventFault true lines n → MessageFault object n
+  in_event : {n : ℕ} → (lines : List (List ℕ)) → Contains (vevents object) lines → EventFault object true lines n → MessageFault object n
   not_yet : list_any has_unread (vevents object) ≡ true → MessageFault object 99
   no_event : vevents object ≡ [] → MessageFault object 66
-  two_meetings : (events : List Event) → AllZip (SaysEvent true) (vevents object) events → are_one_meeting events ≡ false → MessageFault object 62
+  two_meetings : (events : List Event) → AllZip (SaysEvent object true) (vevents object) events → are_one_meeting events ≡ false → MessageFault object 62
   -- without RECURRENCE-ID each VEVENT is the whole meeting
-  two_wholes : (events : List Event) → AllZip (SaysEvent true) (vevents object) events → are_one_meeting events ≡ true → 1 < length events → MessageFault object 53
+  two_wholes : (events : List Event) → AllZip (SaysEvent object true) (vevents object) events → are_one_meeting events ≡ true → 1 < length events → MessageFault object 53
 
 -- the octets are one VCALENDAR, within the limits of a message, and the fault of this number stands in it
 pub record RequestFault (octets : List ℕ) (n : ℕ) : Type 0 where
@@ -81,8 +81,8 @@ pub record RequestFault (octets : List ℕ) (n : ℕ) : Type 0 where
 -- 24 hours are two; this profile's choice
 pub record IsCanonical (octets : List ℕ) (event : Event) : Type 0 where
   pub start : List ℕ
-  pub written : WritesStamp start event.start
-  pub is : octets ≡ codes "DTSTART:" ++ start ++ codes "\r\nDURATION:" ++ duration_text event.length.days event.length.seconds ++ codes "\r\n"
+  pub written : WritesStamp start event.times.start
+  pub is : octets ≡ codes "DTSTART:" ++ start ++ codes "\r\nDURATION:" ++ duration_text event.times.length.days event.times.length.seconds ++ codes "\r\n"
 
 -- an ATTENDEE line of the event has the room's address
 abbrev pub names_room : List ℕ → Event → Bool

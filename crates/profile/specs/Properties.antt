@@ -89,10 +89,6 @@ time_kind line = unwrap_or (option_map kind_named (line_param (codes "VALUE") li
 abbrev pub is_date_time : List ℕ → Bool
 is_date_time line = unwrap_or (option_map (λ word. is_same_name word (codes "DATE-TIME")) (line_param (codes "VALUE") line)) true
 
--- the value of the line is this instant, as a UTC date-time (RFC 5545 3.3.5, form 2)
-abbrev pub IsTime : List ℕ → ℤ → Type 0
-IsTime line instant = (time_kind line ≡ DateTime) × SpellsStamp (line_value line) instant
-
 -- the text ends as a UTC time does: with `Z`
 abbrev pub ends_in_z : List ℕ → Bool
 ends_in_z text = slice_index text (length text - 1) == 90

@@ -1,5 +1,5 @@
--- Times in zones: what a start or an end says where TZID names a VTIMEZONE of its object (RFC 5545 3.2.19, 3.3.5, 3.6.5).
--- A line is its octets here; its object, the VCALENDAR that it stands in, is a tree.
+-- Times: what a start or an end says, in UTC or where TZID names a VTIMEZONE of its object (RFC 5545 3.2.19, 3.3.5, 3.6.5), and what
+-- DTSTART, DTEND and DURATION of a VEVENT say together. A line is its octets here; its object, the VCALENDAR that it stands in, is a tree.
 use Rattle.std.specs.Prelude.{◌≡◌, ℕ, ◌^◌, ◌<◌, ◌≤◌, ◌⊎◌, Bool, true, false, if◌then◌else◌, List, [], ◌∷◌, filter, Contains, codes, Option, Some, None, is_some, option_map, unwrap_or, ℤ, pos, ◌+ℤ◌, ◌≤ℤ◌, ◌<ℤ◌}
 use Rattle.std.specs.List.{find}
 use Rattle.std.specs.Str.{bytes_eq}
@@ -41,20 +41,27 @@ abbrev pub SaysZoneOf : Option Tree → Zone → Type 0
 SaysZoneOf None zone = ⊥
 SaysZoneOf (Some part) zone = SaysZone part zone
 
--- without TZID the text is a UTC time: the clocks of UTC show the instant itself (form 2). With TZID it is a local time, shown by
--- the clocks of the VTIMEZONE of that name (form 3)
-abbrev pub SpellsZoned : Tree → Option (List ℕ) → List ℕ → Zone → ℤ → Type 0
-SpellsZoned object None text zone local = (zone ≡ Constant (pos 0)) × SpellsStamp text local
-SpellsZoned object (Some name) text zone local = SpellsLocal text local × SaysZoneOf (zone_named name object) zone
+-- without TZID the text is a UTC time, of no zone (form 2): UTC is not a zone of offset 0. With TZID it is a local time, in the zone
+-- that the VTIMEZONE of that name says (form 3)
+abbrev pub SpellsZoned : Tree → Option (List ℕ) → List ℕ → Option Zone → ℤ → Type 0
+SpellsZoned object None text None local = SpellsStamp text local
+SpellsZoned object (Some name) text (Some zone) local = SpellsLocal text local × SaysZoneOf (zone_named name object) zone
+SpellsZoned object None text (Some zone) local = ⊥
+SpellsZoned object (Some name) text None local = ⊥
 
--- the line says this local time in this zone
-abbrev pub SaysZonedTime : Tree → List ℕ → Zone → ℤ → Type 0
+-- the line says this local time in this zone, or in UTC
+abbrev pub SaysZonedTime : Tree → List ℕ → Option Zone → ℤ → Type 0
 SaysZonedTime object line zone local =
     (time_kind line ≡ DateTime) × SpellsZoned object (line_param (codes "TZID") line) (line_value line) zone local
 
+-- the clocks that show it: those of its zone, else those of UTC, which show the instant itself
+abbrev pub clock_of : Option Zone → Zone
+clock_of zone = unwrap_or zone (Constant (pos 0))
+
 -- the line says this instant
 abbrev pub SaysInstant : Tree → List ℕ → ℤ → Type 0
-SaysInstant object line instant = (zone : Zone) × (local : ℤ) × SaysZonedTime object line zone local × Means zone local instant
+SaysInstant object line instant =
+    (zone : Option Zone) × (local : ℤ) × SaysZonedTime object line zone local × Means (clock_of zone) local instant
 
 -- ---- the dates that an event may name: the local years 1970 to 9999, before 10000-01-01T00:00:00Z
 
@@ -63,19 +70,21 @@ SaysInstant object line instant = (zone : Zone) × (local : ℤ) × SaysZonedTim
 abbrev pub first_local : Bool → ℤ
 first_local in_zone = if in_zone then pos 0 else first_second
 
--- a local time, with TZID or without, and the instant that it means
+-- a local time, with TZID or without, and the instant that it means. No local time from 1970 on means an earlier one than the second part
+-- asks for
 abbrev pub IsInDates : Bool → ℤ → ℤ → Type 0
-IsInDates in_zone local instant = (first_local in_zone ≤ℤ local) × (instant <ℤ horizon)
+IsInDates in_zone local instant = (first_local in_zone ≤ℤ local) × (first_second ≤ℤ instant) × (instant <ℤ horizon)
 
 -- the line says this instant, in those dates
 abbrev pub SaysInDates : Tree → List ℕ → ℤ → Type 0
 SaysInDates object line instant =
-    (zone : Zone) × (local : ℤ) × SaysZonedTime object line zone local × Means zone local instant × IsInDates (is_in_zone line) local instant
+    (zone : Option Zone) × (local : ℤ) × SaysZonedTime object line zone local × Means (clock_of zone) local instant
+    × IsInDates (is_in_zone line) local instant
 
 -- the line says an instant outside of them
 abbrev pub SaysOutOfDates : Tree → List ℕ → Type 0
 SaysOutOfDates object line =
-    (zone : Zone) × (local : ℤ) × (instant : ℤ) × SaysZonedTime object line zone local × Means zone local instant
+    (zone : Option Zone) × (local : ℤ) × (instant : ℤ) × SaysZonedTime object line zone local × Means (clock_of zone) local instant
     × (IsInDates (is_in_zone line) local instant → ⊥)
 
 -- ---- what can be wrong with a line, by the number of its refusal
@@ -111,37 +120,38 @@ ZonedTimeFault object line number = FaultIn object (line_param (codes "TZID") li
 
 -- ---- the times of a VEVENT
 
--- DTSTART as a local time in a zone and as the instant that it means, and how long the event lasts in exact seconds
+-- DTSTART as a local time in a zone, or in UTC, and as the instant that it means; and how long the event lasts, as it is written
 pub record EventTimes : Type 0 where
-  pub zone : Zone
+  pub zone : Option Zone
   pub local : ℤ
   pub start : ℤ
-  pub seconds : ℕ
+  pub length : Length
 
--- DURATION in exact seconds. In UTC a day is 86,400 of them (RFC 5545 3.3.6); days beside a DTSTART with TZID aren't read yet
-abbrev pub LastsSeconds : Bool → List ℕ → ℕ → Type 0
-LastsSeconds in_zone line seconds =
-    (length : Length) × LastsFor line length × (in_zone ≡ true → length.days ≡ 0) × (seconds ≡ length_seconds length)
+-- the length that DTEND gives, in exact seconds; DTEND isn't before DTSTART (RFC 5545 3.8.2.2 wants it later; that it may be
+-- DTSTART itself is this profile's choice)
+abbrev pub LastsUntil : Tree → ℤ → List ℕ → Length → Type 0
+LastsUntil object start line length = (length.days ≡ 0) × SaysInDates object line (start +ℤ pos length.seconds)
 
--- DTEND, or DURATION, or neither: then it ends where it starts (RFC 5545 3.6.1)
-abbrev pub LastsSo : Tree → Bool → ℤ → Option (List ℕ) → Option (List ℕ) → ℕ → Type 0
-LastsSo object in_zone start None None seconds = seconds ≡ 0
-LastsSo object in_zone start (Some line) None seconds = SaysInDates object line (start +ℤ pos seconds)
-LastsSo object in_zone start None (Some line) seconds = LastsSeconds in_zone line seconds
-LastsSo object in_zone start (Some line) (Some other) seconds = ⊥
+-- DTEND, or DURATION, or neither: then it ends where it starts, and holds nothing (RFC 5545 3.6.1). In UTC a day of a DURATION is
+-- 86,400 seconds (RFC 5545 3.3.6); days beside a DTSTART with TZID aren't read yet
+abbrev pub LastsSo : Tree → Bool → ℤ → Option (List ℕ) → Option (List ℕ) → Length → Type 0
+LastsSo object in_zone start None None length = length ≡ record { days = 0; seconds = 0 }
+LastsSo object in_zone start (Some line) None length = LastsUntil object start line length
+LastsSo object in_zone start None (Some line) length = LastsFor line length × (in_zone ≡ true → length.days ≡ 0)
+LastsSo object in_zone start (Some line) (Some other) length = ⊥
 
 -- the lines of a VEVENT say these times
 pub record SaysEventTimes (object : Tree) (lines : List (List ℕ)) (times : EventTimes) : Type 0 where
   pub line : List ℕ
   pub once : StandsAtMostOnce (codes "DTSTART") lines (Some line)
   pub says : SaysZonedTime object line times.zone times.local
-  pub means : Means times.zone times.local times.start
+  pub means : Means (clock_of times.zone) times.local times.start
   pub end_line : Option (List ℕ)
   pub duration_line : Option (List ℕ)
   pub end_once : StandsAtMostOnce (codes "DTEND") lines end_line
   pub duration_once : StandsAtMostOnce (codes "DURATION") lines duration_line
-  pub lasts : LastsSo object (is_in_zone line) times.start end_line duration_line times.seconds
-  pub most : times.seconds ≤ longest
+  pub lasts : LastsSo object (is_in_zone line) times.start end_line duration_line times.length
+  pub most : length_seconds times.length ≤ longest
   pub in_dates : IsInDates (is_in_zone line) times.local times.start
 
 -- the lines hold a start and an end, and so do the instants lie

@@ -104,11 +104,11 @@ pub record BodyLines (octets : List ℕ) : Type 0 where
   pub unbroken : list_all is_unbroken body ≡ true
   pub utf8 : IsUtf8 octets
 
-pub body_lines : (octets : List ℕ) (event : Event) → IsCanonical octets event → length_seconds event.length < 2 ^ 64 → BodyLines octets
+pub body_lines : (octets : List ℕ) (event : Event) → IsCanonical octets event → length_seconds event.times.length < 2 ^ 64 → BodyLines octets
 body_lines octets event c few =
-    let days = event.length.days in
-    let seconds = event.length.seconds in
-    let start = shown_stamp c.start event.start c.written in
+    let days = event.times.length.days in
+    let seconds = event.times.length.seconds in
+    let start = shown_stamp c.start event.times.start c.written in
     let long = shown_duration days seconds (omega (arith, few)) (omega (arith, few)) in
     record {
       body = two_lines c.start (duration_text days seconds);

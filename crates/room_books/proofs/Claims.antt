@@ -44,7 +44,7 @@ pub span_is : (message : Message) (event : Event) (component : MessageComponent)
 span_is message event component start at is s =
     let one : Some component ≡ Some s.component = at ∙ ap (λ l. slice_get l 0) s.one in
     let same : component ≡ s.component = ap (λ o. unwrap_or o component) one in
-    let first : start ≡ event.start = is ∙ ap (λ (c : MessageComponent). c.start) same ∙ s.says.start in
+    let first : start ≡ event.times.start = is ∙ ap (λ (c : MessageComponent). c.start) same ∙ s.says.start in
     let last : component.end ≡ (booked_by event).end = ap (λ (c : MessageComponent). c.end) same ∙ s.says.end in
     λ i. Some (record { start = first i; end = last i })
 
@@ -64,7 +64,7 @@ asks_set room event p h = ap is_set_body h.1.body
 pub claims_are : (room : List ℕ) (event : Event) (p : Part) (span : Span) → AreParts room event (p ∷ []) → span ≡ span_said event → AreClaims room event (claim_of p span ∷ [])
 claims_are room event p span h is =
     let organiser : p.organiser ≡ unwrap_or event.organiser [] = ap (λ o. unwrap_or o []) (sym h.1.organiser) in
-    let start : span.start ≡ event.start = ap (λ (s : Span). s.start) is in
+    let start : span.start ≡ event.times.start = ap (λ (s : Span). s.start) is in
     let end : span.end ≡ (booked_by event).end = ap (λ (s : Span). s.end) is in
     record {
       parts = p ∷ [];

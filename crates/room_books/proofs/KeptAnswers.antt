@@ -4,7 +4,7 @@ use Rattle.std.specs.List.{list_all, Contains, AllZip}
 use Rattle.std.specs.Str.{bytes_eq}
 use Rattle.std.proofs.lemmas.Slice.Eq.{bytes_eq-Decides}
 use Rattle.profile.specs.Lines.{is_content, line_value, logical_lines}
-use Rattle.profile.specs.Trees.{vevents}
+use Rattle.profile.specs.Trees.{Tree, vevents}
 use Rattle.profile.specs.Objects.{is_property}
 use Rattle.profile.specs.Values.{IsAddress, SpellsSequence, escaped, lower_case, duration_text}
 use Rattle.profile.specs.Instances.{Booked}
@@ -45,7 +45,7 @@ pub record ReadsBack (room : List ℕ) (answer : Answer) (lines : Lines) : Type 
   pub are : lines ≡ vevent_lines own
   pub properties : list_all is_property own ≡ true
   pub content : list_all is_content own ≡ true
-  pub says : SaysEvent false own said
+  pub says : (object : Tree) → SaysEvent object false own said
   pub read : has_unread own ≡ false
   pub confirmed : is_confirmed room said ≡ true
   pub books : answer.claim.books ≡ booked_by said ∷ []
@@ -76,8 +76,9 @@ small_sequence lines n (Some m, s, e) = let g = given (codes "SEQUENCE") false I
 
 -- the lines of the VEVENT of a message, whose values are clean
 record Message (event : Event) : Type 0 where
+  object : Tree
   lines : Lines
-  says : SaysEvent true lines event
+  says : SaysEvent object true lines event
   clean : (line : List ℕ) → Contains lines line → IsClean (line_value line)
 
 message : (room : List ℕ) (claim : Claim) (a : IsAsked room claim) → Message a.event
@@ -85,6 +86,7 @@ message room claim a =
     let s = a.spells.says in
     let here : Contains (vevents a.spells.tree) s.lines = subst (λ (l : List Lines). Contains l s.lines) (sym s.one) (in_head s.lines []) in
     record {
+      object = a.spells.tree;
       lines = s.lines;
       says = s.says;
       clean = λ line c. clean_value true a.octets line a.spells.lines (vevent_among true a.spells.tree (logical_lines a.octets) s.lines a.spells.object here line c);
@@ -148,10 +150,10 @@ reads_back room answer lines a k =
     let n = named room answer.claim a in
     let r = asked_room room answer.claim a in
     let c = a.part.canonical in
-    let most = m.says.length.most in
-    let duration = duration_text event.length.days event.length.seconds in
-    let shown_start = shown_stamp c.start event.start c.written in
-    let long = shown_duration event.length.days event.length.seconds (omega (arith, most)) (omega (arith, most)) in
+    let most = m.says.times.most in
+    let duration = duration_text event.times.length.days event.times.length.seconds in
+    let shown_start = shown_stamp c.start event.times.start c.written in
+    let long = shown_duration event.times.length.days event.times.length.seconds (omega (arith, most)) (omega (arith, most)) in
     let two : k.body ≡ two_lines c.start duration = body_is k.body a.part.octets c.start duration shown_start long k.whole_lines c.is (sym k.body_is ∙ a.part.body) in
     let small : part.revision.sequence < 2 ^ 31 = omega (arith, small_sequence m.lines event.sequence m.says.sequence, a.part.sequence) in
     let uid = escaped part.uid in
@@ -161,10 +163,11 @@ reads_back room answer lines a k =
       is_uid = (given (codes "UID") true IsUidLine m.lines event.uid m.says.uid).is.1;
       numbered = subst (SpellsSequence sequence) a.part.sequence (sequence_written part.revision.sequence small);
       stamped_is = stamp_written k.stamp part.revision.stamp k.written_stamp;
-      starts = stamp_written c.start event.start c.written;
-      lasts = duration_written event.length.days event.length.seconds (omega (arith, most)) (omega (arith, most));
+      starts = stamp_written c.start event.times.start c.written;
+      lasts = duration_written event.times.length.days event.times.length.seconds (omega (arith, most)) (omega (arith, most));
       most = most;
-      from_1970 = m.says.from_1970;
+      from_1970 = m.says.times.in_dates.1;
+      to_9999 = m.says.times.in_dates.2;
       organised = n.organiser.address;
       lower = n.lower;
       addressed = r.text.address;

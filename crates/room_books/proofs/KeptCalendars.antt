@@ -4,7 +4,7 @@ use Rattle.std.specs.List.{filter, flat_map, list_all, list_any, Contains, AllPa
 use Rattle.std.proofs.lemmas.Bool.{and_from, or_from}
 use Rattle.profile.specs.Lines.{is_content, logical_lines, reads_as_lines, written}
 use Rattle.profile.specs.Objects.{is_property, IsObject}
-use Rattle.profile.specs.Trees.{tree_name, tree_own, tree_inside}
+use Rattle.profile.specs.Trees.{Tree, tree_name, tree_own, tree_inside}
 use Rattle.profile.specs.Events as events
 use Rattle.profile.specs.Events.{Event, SaysEvent, SaysCalendar, has_unread, booked_by, meeting_said}
 use Rattle.profile.specs.Calendars.{SpellsCalendar, CertificateHolds}
@@ -35,7 +35,7 @@ record AllBack (room : List ℕ) (answers : List Answer) (each : List Lines) : T
   are : flat_map (λ lines. lines) each ≡ flat_map vevent_lines owns
   properties : list_all (list_all is_property) owns ≡ true
   content : list_all (list_all is_content) owns ≡ true
-  says : AllZip (SaysEvent false) owns saids
+  says : (object : Tree) → AllZip (SaysEvent object false) owns saids
   read : list_any has_unread owns ≡ false
   confirmed : events.confirmed room saids ≡ flat_map books answers
   meetings : map meeting_said saids ≡ map meeting_of answers
@@ -44,7 +44,7 @@ one_confirmed : (room : List ℕ) (said : Event) (saids : List Event) → events
 one_confirmed room said saids h = ap (λ b. map booked_by (cond b (said ∷ filter (events.is_confirmed room) saids) (filter (events.is_confirmed room) saids))) h
 
 all_back : (room : List ℕ) (answers : List Answer) (each : List Lines) → ((a : Answer) → Contains answers a → IsAsked room a.claim) → AllZip (IsKeptEvent room) answers each → AllBack room answers each
-all_back room [] [] f z = record { owns = []; saids = []; are = refl; properties = refl; content = refl; says = tt; read = refl; confirmed = refl; meetings = refl }
+all_back room [] [] f z = record { owns = []; saids = []; are = refl; properties = refl; content = refl; says = λ _. tt; read = refl; confirmed = refl; meetings = refl }
 all_back room [] (lines ∷ each) f z = absurd z
 all_back room (a ∷ answers) [] f z = absurd z
 all_back room (a ∷ answers) (lines ∷ each) f z =
@@ -56,7 +56,7 @@ all_back room (a ∷ answers) (lines ∷ each) f z =
       are = ap₂ (λ x y. x ++ y) one.are rest.are;
       properties = and_from _ _ one.properties rest.properties;
       content = and_from _ _ one.content rest.content;
-      says = (one.says, rest.says);
+      says = λ object. (one.says object, rest.says object);
       read = or_from _ _ one.read rest.read;
       confirmed = one_confirmed room one.said rest.saids one.confirmed ∙ ap₂ (λ x y. x ++ y) (sym one.books) rest.confirmed;
       meetings = ap₂ (λ x y. x ∷ y) one.meeting rest.meetings;
@@ -74,7 +74,7 @@ calendar_spelled back reads room octets answers each b apart is =
     let owns = calendar_vevents None b.owns in
     let says : SaysCalendar room (calendar_tree None b.owns) (flat_map books answers) = record {
       events = b.saids;
-      says = subst (λ (l : List Lines). AllZip (SaysEvent false) l b.saids) (sym owns) b.says;
+      says = subst (λ (l : List Lines). AllZip (SaysEvent (calendar_tree None b.owns) false) l b.saids) (sym owns) (b.says (calendar_tree None b.owns));
       read = ap (list_any has_unread) owns ∙ b.read;
       differ = subst (AllPairs ◌≢◌) (sym b.meetings) (meetings_differ answers apart);
       is = sym b.confirmed;

@@ -1,11 +1,15 @@
 -- What the lines of a kept event say: the event again, for the room alone, which has accepted.
-use Rattle.std.proofs.Common.{◌≡◌, ℕ, ℤ, negsuc, ◌≤◌, ◌≤ℤ◌, true, false, cond, List, [], ◌∷◌, ◌++◌, codes, Option, Some, None, refl, sym, ap}
+use Rattle.std.proofs.Common.{◌≡◌, ℕ, ℤ, negsuc, ◌≤◌, ◌≤ℤ◌, ◌<ℤ◌, true, false, cond, List, [], ◌∷◌, ◌++◌, codes, Option, Some, None, refl, sym, ap}
 use Rattle.std.specs.Str.{bytes_eq}
 use Rattle.std.specs.Prelude.{unwrap_or, option_map}
 use Rattle.std.proofs.lemmas.Slice.Eq.{bytes_eq-Decides}
 use Rattle.profile.specs.Values.{SpellsStamp, SpellsSequence, SpellsDuration, unescaped, IsAddress, IsUid, lower_case}
+use Rattle.std.proofs.lemmas.Bool.{false≢true}
+use Rattle.profile.specs.Trees.{Tree}
+use Rattle.profile.specs.Instances.{horizon}
 use Rattle.profile.specs.Events.{Event, Attendee, Accepted, SaysEvent, has_unread, is_confirmed, booked_by, is_accepted}
 use Rattle.profile.specs.Properties.{length_seconds}
+use Rattle.cal_events.proofs.Meanings.{utc_means}
 
 -- the own lines of a kept VEVENT with these values
 abbrev pub kept_own : (uid sequence stamp start duration organiser room : List ℕ) → List (List ℕ)
@@ -13,11 +17,12 @@ kept_own uid sequence stamp start duration organiser room =
     (codes "UID:" ++ uid) ∷ (codes "SEQUENCE:" ++ sequence) ∷ (codes "DTSTAMP:" ++ stamp) ∷ (codes "DTSTART:" ++ start) ∷ (codes "DURATION:" ++ duration)
     ∷ (codes "ORGANIZER:" ++ organiser) ∷ (codes "ATTENDEE;PARTSTAT=ACCEPTED:" ++ room) ∷ []
 
--- the event that is kept of a REQUEST's: the room is its one attendee
+-- the event that is kept of a REQUEST's: its start in UTC, and the room is its one attendee
 abbrev pub kept_event : Event → List ℕ → ℤ → List ℕ → Event
 kept_event event organiser stamp room = record event {
   organiser = Some organiser;
   stamp = Some stamp;
+  times = record { zone = None; local = event.times.start; start = event.times.start; length = event.times.length };
   attendees = record { address = room; participation = Accepted } ∷ [];
 }
 
@@ -27,27 +32,38 @@ pub record Spell (event : Event) (uid sequence stamp start duration organiser ro
   pub is_uid : IsUid event.uid
   pub numbered : SpellsSequence sequence event.sequence
   pub stamped_is : SpellsStamp stamp stamped
-  pub starts : SpellsStamp start event.start
-  pub lasts : SpellsDuration duration event.length.days event.length.seconds
-  pub most : length_seconds event.length ≤ 31_622_400
-  pub from_1970 : negsuc 86_399 ≤ℤ event.start
+  pub starts : SpellsStamp start event.times.start
+  pub lasts : SpellsDuration duration event.times.length.days event.times.length.seconds
+  pub most : length_seconds event.times.length ≤ 31_622_400
+  pub from_1970 : negsuc 86_399 ≤ℤ event.times.start
+  pub to_9999 : event.times.start <ℤ horizon
   pub organised : IsAddress organiser
   pub lower : lower_case organiser ≡ organiser
   pub addressed : IsAddress room
   pub room_lower : lower_case room ≡ room
 
 pub kept_says : (event : Event) (uid sequence stamp start duration organiser room : List ℕ) (stamped : ℤ) → Spell event uid sequence stamp start duration organiser room stamped
-    → SaysEvent false (kept_own uid sequence stamp start duration organiser room) (kept_event event organiser stamped room)
-kept_says event uid sequence stamp start duration organiser room stamped s = record {
+    → (object : Tree) → SaysEvent object false (kept_own uid sequence stamp start duration organiser room) (kept_event event organiser stamped room)
+kept_says event uid sequence stamp start duration organiser room stamped s object = record {
   uid = record { line = Some (codes "UID:" ++ uid); once = refl; stands = λ _. refl; is = (s.uid_is, s.is_uid) };
   organiser = record { line = Some (codes "ORGANIZER:" ++ organiser); once = refl; stands = λ _. refl; is = (s.organised, sym s.lower) };
   stamp = record { line = Some (codes "DTSTAMP:" ++ stamp); once = refl; stands = λ _. refl; is = s.stamped_is };
   sequence = (Some event.sequence, record { line = Some (codes "SEQUENCE:" ++ sequence); once = refl; stands = λ _. refl; is = s.numbered }, refl);
   status = (None, refl);
-  start = record { line = Some (codes "DTSTART:" ++ start); once = refl; stands = λ _. refl; is = (refl, s.starts) };
-  length = record { end_line = None; duration_line = Some (codes "DURATION:" ++ duration); end_once = refl; duration_once = refl; is = s.lasts; most = s.most };
+  times = record {
+    line = codes "DTSTART:" ++ start;
+    once = refl;
+    says = (refl, s.starts);
+    means = utc_means event.times.start;
+    end_line = None;
+    duration_line = Some (codes "DURATION:" ++ duration);
+    end_once = refl;
+    duration_once = refl;
+    lasts = (s.lasts, λ h. absurd (false≢true h));
+    most = s.most;
+    in_dates = (s.from_1970, s.from_1970, s.to_9999);
+  };
   attendees = (((s.addressed, sym s.room_lower), refl), tt);
-  from_1970 = s.from_1970;
 }
 
 -- nothing in them is left unread

@@ -17,6 +17,7 @@ use Rattle.profile.specs.Revisions.{Part, Whole, Set}
 use Rattle.profile.specs.Rooms.{Book, Delivery, Runs, empty_book, confirmed, answered}
 use Rattle.profile.specs.Streams.{IsDelivered, claim}
 use Rattle.profile.specs.Kept.{IsKeptCalendar}
+use Rattle.cal_events.proofs.Meanings.{utc_means}
 use Rattle.itip_order.proofs.Lists.{in_cons, none_in_nil}
 use Rattle.ical_values.proofs.Readings.{stamp_written}
 use Rattle.room_books.proofs.Bodies.{with_ends}
@@ -48,8 +49,7 @@ event = record {
   organiser = Some (codes "mailto:ann@example.com");
   stamp = Some (pos 1_740_830_400);
   sequence = 0;
-  start = pos 1_741_597_200;
-  length = record { days = 0; seconds = 3600 };
+  times = record { zone = None; local = pos 1_741_597_200; start = pos 1_741_597_200; length = record { days = 0; seconds = 3600 } };
   attendees = record { address = codes "mailto:r1@example.com"; participation = NeedsAction } ∷ [];
 }
 
@@ -86,18 +86,28 @@ ann = (codes "mailto", codes "ann@example.com", refl, refl, refl, omega arith)
 the_room : IsAddress room
 the_room = (codes "mailto", codes "r1@example.com", refl, refl, refl, omega arith)
 
-says : SaysEvent true own_lines event
+says : (object : Tree) → SaysEvent object true own_lines event
 unfolding unescaped
-says = record {
+says object = record {
   uid = record { line = Some (codes "UID:a"); once = refl; stands = λ _. refl; is = (refl, (omega arith, omega arith)) };
   organiser = record { line = Some (codes "ORGANIZER:mailto:ann@example.com"); once = refl; stands = λ _. refl; is = (ann, refl) };
   stamp = record { line = Some (codes "DTSTAMP:20250301T120000Z"); once = refl; stands = λ _. refl; is = stamp_written _ _ stamp };
   sequence = (None, record { line = None; once = refl; stands = λ h. absurd (false≢true h); is = tt }, refl);
   status = (None, refl);
-  start = record { line = Some (codes "DTSTART:20250310T090000Z"); once = refl; stands = λ _. refl; is = (refl, stamp_written _ _ start) };
-  length = record { end_line = None; duration_line = Some (codes "DURATION:PT1H"); end_once = refl; duration_once = refl; is = an_hour; most = omega arith };
+  times = record {
+    line = codes "DTSTART:20250310T090000Z";
+    once = refl;
+    says = (refl, stamp_written _ _ start);
+    means = utc_means (pos 1_741_597_200);
+    end_line = None;
+    duration_line = Some (codes "DURATION:PT1H");
+    end_once = refl;
+    duration_once = refl;
+    lasts = (an_hour, λ h. absurd (false≢true h));
+    most = omega arith;
+    in_dates = (omega (arith, ints), omega (arith, ints), omega (arith, ints));
+  };
   attendees = (((the_room, refl), refl), tt);
-  from_1970 = omega (arith, ints);
 }
 
 abbrev message : Tree
@@ -131,7 +141,7 @@ spells = record {
   lines = read;
   tree = message;
   object = subst (λ (l : Lines). IsObject tree_name tree_own tree_inside true message l) (sym are_lines) object;
-  says = record { method_line = codes "METHOD:REQUEST"; method = refl; request = refl; lines = own_lines; one = refl; read = refl; says = says };
+  says = record { method_line = codes "METHOD:REQUEST"; method = refl; request = refl; lines = own_lines; one = refl; read = refl; says = says message };
 }
 
 -- ---- the run: the message comes, and comes again

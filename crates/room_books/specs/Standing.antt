@@ -61,7 +61,7 @@ pub record Covers (entries : List (MeetingKey × Meeting)) (part : Part) : Type 
 
 -- the part is that of some event, of no more seconds than 64 bits count
 abbrev pub IsOfEvent : Part → Type 0
-IsOfEvent part = (event : Event) × IsPart event part × (length_seconds event.length < 2 ^ 64)
+IsOfEvent part = (event : Event) × IsPart event part × (length_seconds event.times.length < 2 ^ 64)
 
 -- the keys are those of these parts' meetings, in order
 abbrev pub AreKeysOf : List MeetingKey → List Part → Type 0

@@ -149,7 +149,7 @@ fn is_request(part: &Part) -> bool
 fn span_of(message: &Message) -> Option<Span>
     ensures said { (event : Event) → StandsFor message.now event → result ≡ Some (span_said event) }
     ensures dated { IfSome result (λ span. IsClockSeconds span.start) }
-    ensures short { (event : Event) → StandsFor message.now event → length_seconds event.length < 2 ^ 64 }
+    ensures short { (event : Event) → StandsFor message.now event → length_seconds event.times.length < 2 ^ 64 }
 {
     match message.components().first() {
         Some(component) => Some(Span {

@@ -8,7 +8,9 @@ ghost use Rattle.profile.specs.Days.{day_index};
 ghost use Rattle.profile.specs.Values.{IsClockSeconds};
 ghost use Rattle.profile.specs.Rules.{Parts, rule_days_from};
 ghost use Rattle.profile.specs.Zones.{Means, IsNearEpoch, local_time};
-ghost use Rattle.cal_zones.specs.Kinds.{zone_of};
+ghost use Rattle.profile.specs.Properties.{length_seconds};
+ghost use Rattle.profile.specs.ZonedTimes.{clock_of};
+ghost use Rattle.cal_events.specs.Events.{length_of, zone_said};
 ghost use Rattle.sched_cli.specs.Expanding.{IsInstanceLine, IsPrinted, IsPrintedOn, IsHandedOver, IsSecondOf, PrintsFirst, PrintsRule, PrintsOne};
 
 use crate::status::{DONE, report_device, report_memory, report_refused};
@@ -72,7 +74,7 @@ impl Series {
         let properties = Properties::of(alloc, one_event(&object)?)?;
         refuse_unread(&properties)?;
         EventComponent::judge_heading(alloc, &properties, Purpose::Calendar)?;
-        let said = SaidTimes::read(alloc, &properties, &object)?;
+        let said = SaidTimes::read(alloc, &object, &properties)?;
         let text = rule_text(alloc, &properties)?;
         EventComponent::judge_attendees(alloc, &properties)?;
         let times = said.judge()?;
@@ -85,10 +87,10 @@ impl Series {
 
     fn print<W: Write>(&self, alloc: Global, limit: usize, writer: &mut W) -> Result<(), PrintFault>
         ensures rule { OnOk result ((rule : Parts) → self.now.rule ≡ Some rule
-            → PrintsRule (zone_of self.now.times.start.zone) self.now.times.start.local self.now.times.seconds limit rule (W.contents writer.old) (W.contents writer.new)) }
-        ensures one { OnOk result (self.now.rule ≡ None → PrintsOne (zone_of self.now.times.start.zone) self.now.times.start.local self.now.times.seconds (W.contents writer.old) (W.contents writer.new)) }
+            → PrintsRule (clock_of (zone_said self.now.times.start)) self.now.times.start.local (length_seconds (length_of self.now.times.length)) limit rule (W.contents writer.old) (W.contents writer.new)) }
+        ensures one { OnOk result (self.now.rule ≡ None → PrintsOne (clock_of (zone_said self.now.times.start)) self.now.times.start.local (length_seconds (length_of self.now.times.length)) (W.contents writer.old) (W.contents writer.new)) }
     {
-        let mut lines = Lines::new(alloc, self.times.seconds)?;
+        let mut lines = Lines::new(alloc, self.times.seconds())?;
         let Some(rule) = &self.rule else {
             lines.append_instant(self.times.start.instant())?;
             lines.finish(writer)?;
@@ -109,8 +111,8 @@ impl Series {
         writer: &mut W,
     ) -> Result<(), PrintFault>
         requires text { lines.old.text.items ≡ [] }
-        requires length { lines.old.length.items ≡ decimal self.now.times.seconds ++ 10 ∷ [] }
-        ensures { OnOk result ((second : ℕ) × IsSecondOf self.now.times.start.local second × PrintsFirst (zone_of self.now.times.start.zone) second self.now.times.seconds limit
+        requires length { lines.old.length.items ≡ decimal (length_seconds (length_of self.now.times.length)) ++ 10 ∷ [] }
+        ensures { OnOk result ((second : ℕ) × IsSecondOf self.now.times.start.local second × PrintsFirst (clock_of (zone_said self.now.times.start)) second (length_seconds (length_of self.now.times.length)) limit
             (rule_days_from rule.now rule.now.pattern.start) (W.contents writer.old) (W.contents writer.new) lines.new.text.items) }
     {
         let (_, second) = self.times.start.local.day_and_second();
@@ -132,9 +134,9 @@ impl Series {
         lines: &mut Lines,
         writer: &mut W,
     ) -> Result<(), PrintFault>
-        requires { lines.old.length.items ≡ decimal self.now.times.seconds ++ 10 ∷ [] }
+        requires { lines.old.length.items ≡ decimal (length_seconds (length_of self.now.times.length)) ++ 10 ∷ [] }
         ensures length { lines.new.length.items ≡ lines.old.length.items }
-        ensures line { OnOk result ((line : List ℕ) × IsPrintedOn (zone_of self.now.times.start.zone) second self.now.times.seconds (day_index day) line
+        ensures line { OnOk result ((line : List ℕ) × IsPrintedOn (clock_of (zone_said self.now.times.start)) second (length_seconds (length_of self.now.times.length)) (day_index day) line
             × IsHandedOver (W.contents writer.old) (W.contents writer.new) lines.new.text.items (lines.old.text.items ++ line)) }
     {
         self.append_day(day, second, lines)?;
@@ -146,9 +148,9 @@ impl Series {
 
     /// Adds the line of the instance of a day.
     fn append_day(&self, day: Day, second: u32, lines: &mut Lines) -> Result<(), AllocError>
-        requires { lines.old.length.items ≡ decimal self.now.times.seconds ++ 10 ∷ [] }
+        requires { lines.old.length.items ≡ decimal (length_seconds (length_of self.now.times.length)) ++ 10 ∷ [] }
         ensures length { lines.new.length.items ≡ lines.old.length.items }
-        ensures line { OnOk result ((line : List ℕ) × IsPrintedOn (zone_of self.now.times.start.zone) second self.now.times.seconds (day_index day) line
+        ensures line { OnOk result ((line : List ℕ) × IsPrintedOn (clock_of (zone_said self.now.times.start)) second (length_seconds (length_of self.now.times.length)) (day_index day) line
             × (lines.new.text.items ≡ lines.old.text.items ++ line)) }
     {
         let Some(instant) = start_on(&self.times.start, day, second) else {
@@ -177,7 +179,7 @@ struct Lines {
 
 impl Lines {
     /// None yet.
-    fn new(alloc: Global, seconds: u32) -> Result<Lines, AllocError>
+    fn new(alloc: Global, seconds: u64) -> Result<Lines, AllocError>
         ensures text { IfOk result (λ lines. lines.text.items ≡ []) }
         ensures length { IfOk result (λ lines. lines.length.items ≡ decimal seconds ++ 10 ∷ []) }
     {
@@ -309,7 +311,7 @@ fn last_day(until: Option<Until>, start: &ZonedTime) -> Option<Day> {
 fn day_until(until: &Until, start: &ZonedTime) -> Option<Day> {
     match until {
         Until::Date(day) => Some(*day),
-        Until::Local(local) => last_day_at(start, start.zone.resolve(*local)),
+        Until::Local(local) => last_day_at(start, start.clock().resolve(*local)),
         Until::Utc(stamp) => last_day_at(start, stamp.instant()),
     }
 }
@@ -317,15 +319,15 @@ fn day_until(until: &Until, start: &ZonedTime) -> Option<Day> {
 /// The last day whose start isn't past an instant.
 fn last_day_at(start: &ZonedTime, until: i64) -> Option<Day> {
     let (_, second) = start.local.day_and_second();
-    start.zone.last_day(second, until)
+    start.clock().last_day(second, until)
 }
 
 /// The instant at which an instance starts on a day: at that second of the day on the clock of the zone.
 fn start_on(start: &ZonedTime, day: Day, second: u32) -> Option<i64>
-    ensures means { IfSome result (Means (zone_of start.now.zone) (local_time (day_index day) second)) }
+    ensures means { IfSome result (Means (clock_of (zone_said start.now)) (local_time (day_index day) second)) }
     ensures range { IfSome result IsNearEpoch }
     ensures none { IfNone result (IsClockSeconds (local_time (day_index day) second) → ⊥) }
 {
     let local = LocalTime::of_seconds(day.number() * DAY_SECONDS + i64::from(second))?;
-    Some(start.zone.resolve(local))
+    Some(start.clock().resolve(local))
 }

@@ -41,7 +41,7 @@ pub fn answered(alloc: Global, octets: &[u8], room: &Address) -> Result<String, 
     let mut list = String::new(alloc);
     for component in object.children() {
         let properties = Properties::of(alloc, component)?;
-        let event = EventComponent::read(alloc, &properties, Purpose::Request)?;
+        let event = EventComponent::read(alloc, &object, &properties, Purpose::Request)?;
         let word = status_word(event.status_of(room));
         let item = format!(in alloc; "ends {} {word}", event.end())?;
         append(&mut list, ", ", item.as_str())?;
@@ -74,10 +74,10 @@ pub fn times(alloc: Global, octets: &[u8]) -> Result<String, NoAnswer> {
 fn times_of(alloc: Global, component: &Component, object: &Component) -> Result<String, NoAnswer> {
     let properties = Properties::of(alloc, component)?;
     EventComponent::judge_heading(alloc, &properties, Purpose::Calendar)?;
-    let said = SaidTimes::read(alloc, &properties, object)?;
+    let said = SaidTimes::read(alloc, object, &properties)?;
     EventComponent::judge_attendees(alloc, &properties)?;
     let times = said.judge()?;
-    Ok(format!(in alloc; "from {} for {}", times.instant, times.seconds)?)
+    Ok(format!(in alloc; "from {} for {}", times.instant.instant(), times.seconds())?)
 }
 
 pub fn ends(alloc: Global, octets: &[u8]) -> Result<String, NoAnswer> {

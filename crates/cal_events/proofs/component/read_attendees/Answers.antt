@@ -13,15 +13,15 @@ use Rattle.cal_events.proofs.component.read_attendees.Goals as goal
 use Rattle.cal_events.proofs.component.read_attendees.Goals.{then-is_named+in_ok-read_attendee+in_ok-push, else-is_named}
 
 pub returns-in_err-read_attendee-clause-stands : goal.returns-in_err-read_attendee-clause-stands
-returns-in_err-read_attendee-clause-stands c = λ m.
+returns-in_err-read_attendee-clause-stands c = λ object m.
     let inv = c.loop-line.invariant in
     let lines = c.lines-line-items.result.now in
     let i = c.loop-line.line-index in
     let x = c.line-item.result in
     let steps : map line_text (drop i lines) ≡ line_text x ∷ map line_text (drop (i + 1) lines) =
     ap (map line_text) (at_place lines i x c.loop-line-test.true c.line-item.is) in
-    err_exit _ (RefusesBy (EventFault m c.args.properties.now)) _ c.from_residual.ensures.1
-    (attendee_fault m c.args.properties.now (map line_text (drop i lines)) (map line_text (drop (i + 1) lines)) inv.0 (line_text x) _ inv.1
+    err_exit _ (RefusesBy (EventFault object m c.args.properties.now)) _ c.from_residual.ensures.1
+    (attendee_fault object m c.args.properties.now (map line_text (drop i lines)) (map line_text (drop (i + 1) lines)) inv.0 (line_text x) _ inv.1
     steps (sym c.if-is_named.ensures) c.in_err-read_attendee.ensures.stands)
 
 pub loop-line-preserved : goal.loop-line-preserved

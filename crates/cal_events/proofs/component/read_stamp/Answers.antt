@@ -12,14 +12,14 @@ use Rattle.ical_values.proofs.Exits.{refusal_exit}
 use Rattle.cal_events.proofs.component.read_stamp.Goals as goal
 
 pub returns-in_err-line-clause-stands : goal.returns-in_err-line-clause-stands
-returns-in_err-line-clause-stands c =
-    let P = EventFault (is_message c.args.purpose) c.args.properties.now in
+returns-in_err-line-clause-stands c object =
+    let P = EventFault object (is_message c.args.purpose) c.args.properties.now in
     refusal_exit _ P _ c.from_residual.ensures.1
     (subst P (sym c.in_err-line.ensures.refuses) (twice (codes "DTSTAMP") (2, omega arith, refl) c.in_err-line.ensures.twice))
 
 pub returns-in_err-read-in-Some-default-clause-stands : goal.returns-in_err-read-in-Some-default-clause-stands
-returns-in_err-read-in-Some-default-clause-stands c =
-    let P = EventFault (is_message c.args.purpose) c.args.properties.now in
+returns-in_err-read-in-Some-default-clause-stands c object =
+    let P = EventFault object (is_message c.args.purpose) c.args.properties.now in
     let once = c.in_ok-line.ensures.found ∙ ap (λ l. option_to_list (option_map line_text l)) c.in-Some-default.is-0 in
     refusal_exit _ P _ c.from_residual-in_err-read-in-Some-default.ensures.1
     (subst P (sym c.in_err-read-in-Some-default.ensures.refuses)
@@ -27,5 +27,5 @@ returns-in_err-read-in-Some-default-clause-stands c =
     (subst IsNoStamp c.value.ensures c.in_err-read-in-Some-default.ensures.none))))
 
 pub returns-in-None-Request-clause-stands : goal.returns-in-None-Request-clause-stands
-returns-in-None-Request-clause-stands c =
+returns-in-None-Request-clause-stands c object =
     no_stamp_given (ap is_message c.in-None-Request.is-1) (c.in_ok-line.ensures.found ∙ ap (λ l. option_to_list (option_map line_text l)) c.in-None-Request.is-0)

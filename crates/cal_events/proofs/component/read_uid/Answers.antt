@@ -12,8 +12,8 @@ use Rattle.cal_events.proofs.EventLemmas.{by_number, some_line, uid_said}
 use Rattle.cal_events.proofs.component.read_uid.Goals as goal
 
 pub returns-in_err-line-clause-stands : goal.returns-in_err-line-clause-stands
-returns-in_err-line-clause-stands c = λ m.
-    let P = EventFault m c.args.properties.now in
+returns-in_err-line-clause-stands c = λ object m.
+    let P = EventFault object m c.args.properties.now in
     err_exit _ (RefusesBy P) _ c.from_residual.ensures.1
     (subst P (sym c.in_err-line.ensures.refuses)
     (elim c.in_err-line.ensures.faulty [ inl h ↦ no_uid h | inr h ↦ twice (codes "UID") (0, omega arith, refl) h ]))
@@ -23,8 +23,8 @@ returns-clause-reads c =
     uid_said _ _ (line_text c.in_ok-line.line) _ c.in_ok-line.ensures.found c.value.ensures c.read_uid.ensures.reads c.read_uid.ensures.uid
 
 pub returns-clause-stands : goal.returns-clause-stands
-returns-clause-stands c = λ m.
-    let P = EventFault m c.args.properties.now in
+returns-clause-stands c = λ object m.
+    let P = EventFault object m c.args.properties.now in
     let value = c.value.result.now in
     let line = line_text c.in_ok-line.line in
     err_both _ (RefusesOnly is_uid_fault) (IfRefused (¬ (IsUid (unescaped value)))) (RefusesBy P)

@@ -36,14 +36,14 @@ loop-component-preserved c =
     let new = c.if-is_named.entries.items in
     elim c.if-is_named.branch [
       | then-is_named+in_ok-event+in_ok-entry_of+in_ok-push w ↦ (
-        subst (λ vs. AreEntries room vs new) (sym (take_event all i x within here (sym w.if-is_named.ensures)))
-            (entry_pushed room (events_in (take i all)) (component_lines x) (event_of w.in_ok-event.event) c.loop-component.entries.items new w.in_ok-entry_of.field-0
+        subst (λ vs. AreEntries (tree_of c.args.object.now) room vs new) (sym (take_event all i x within here (sym w.if-is_named.ensures)))
+            (entry_pushed (tree_of c.args.object.now) room (events_in (take i all)) (component_lines x) (event_of w.in_ok-event.event) c.loop-component.entries.items new w.in_ok-entry_of.field-0
             c.loop-component.invariant.0 w.in_ok-event.ensures.says w.in_ok-entry_of.ensures (ap (λ v. v.items) w.entries-is ∙ w.in_ok-push.ensures.items)),
         read_event all i x within here (sym w.if-is_named.ensures) c.loop-component.invariant.1 w.in_ok-event.ensures.read,
       )
       | else-is_named w ↦ (
-        subst (λ vs. AreEntries room vs new) (sym (take_other all i x within here (sym w.if-is_named.ensures)))
-            (subst (λ es. AreEntries room (events_in (take i all)) es) (sym (ap (λ v. v.items) w.entries-is)) c.loop-component.invariant.0),
+        subst (λ vs. AreEntries (tree_of c.args.object.now) room vs new) (sym (take_other all i x within here (sym w.if-is_named.ensures)))
+            (subst (λ es. AreEntries (tree_of c.args.object.now) room (events_in (take i all)) es) (sym (ap (λ v. v.items) w.entries-is)) c.loop-component.invariant.0),
         ap (list_any has_unread) (take_other all i x within here (sym w.if-is_named.ensures)) ∙ c.loop-component.invariant.1,
       )
     ]

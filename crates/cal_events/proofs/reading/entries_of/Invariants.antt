@@ -1,6 +1,6 @@
 use Rattle.std.proofs.Common.{◌≡◌, false, take}
 use Rattle.std.specs.List.{list_any}
-use Rattle.ical_tree.specs.Tree.{component_children}
+use Rattle.ical_tree.specs.Tree.{component_children, tree_of}
 use Rattle.ical_values.specs.Octets.{address_octets}
 use Rattle.profile.specs.Events.{has_unread}
 use Rattle.cal_events.specs.Events.{AreEntries}
@@ -11,4 +11,4 @@ use Rattle.cal_events.proofs.reading.entries_of.Given as goal
 abbrev pub invariant-loop-component : goal.invariant-loop-component
 invariant-loop-component l =
     let so_far = events_in (take l.component-index (component_children l.object)) in
-    AreEntries (address_octets l.room) so_far l.entries.items × (list_any has_unread so_far ≡ false)
+    AreEntries (tree_of l.object) (address_octets l.room) so_far l.entries.items × (list_any has_unread so_far ≡ false)

@@ -38,14 +38,14 @@ loop-component-preserved c =
     let new = c.if-is_named.events.items in
     elim c.if-is_named.branch [
       | then-is_named+in_ok-read_event+in_ok-push w ↦ (
-        subst (λ vs. AllZip (SaysEvent true) vs (map event_of new)) (sym (take_event all i x within here (sym w.if-is_named.ensures)))
-            (event_pushed (events_in (take i all)) (component_lines x) old new w.in_ok-read_event.field-0 c.loop-component.invariant.0 w.in_ok-read_event.ensures.says
+        subst (λ vs. AllZip (SaysEvent (tree_of c.args.object.now) true) vs (map event_of new)) (sym (take_event all i x within here (sym w.if-is_named.ensures)))
+            (event_pushed (tree_of c.args.object.now) (events_in (take i all)) (component_lines x) old new w.in_ok-read_event.field-0 c.loop-component.invariant.0 w.in_ok-read_event.ensures.says
             (ap (λ v. v.items) w.events-is ∙ w.in_ok-push.ensures.items)),
         read_event all i x within here (sym w.if-is_named.ensures) c.loop-component.invariant.1 w.in_ok-read_event.ensures.read,
       )
       | else-is_named w ↦ (
-        subst (λ vs. AllZip (SaysEvent true) vs (map event_of new)) (sym (take_other all i x within here (sym w.if-is_named.ensures)))
-            (subst (λ es. AllZip (SaysEvent true) (events_in (take i all)) (map event_of es)) (sym (ap (λ v. v.items) w.events-is)) c.loop-component.invariant.0),
+        subst (λ vs. AllZip (SaysEvent (tree_of c.args.object.now) true) vs (map event_of new)) (sym (take_other all i x within here (sym w.if-is_named.ensures)))
+            (subst (λ es. AllZip (SaysEvent (tree_of c.args.object.now) true) (events_in (take i all)) (map event_of es)) (sym (ap (λ v. v.items) w.events-is)) c.loop-component.invariant.0),
         ap (list_any has_unread) (take_other all i x within here (sym w.if-is_named.ensures)) ∙ c.loop-component.invariant.1,
       )
     ]

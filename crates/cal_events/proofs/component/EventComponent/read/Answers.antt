@@ -1,35 +1,69 @@
 use Rattle.std.proofs.Common.{codes, sym, subst, refl, arith}
-use Rattle.ical_lines.specs.Fault.{RefusesBy}
+use Rattle.ical_lines.specs.Fault.{RefusesOnly, RefusesBy}
 use Rattle.std.specs.Prelude.{option_map}
+use Rattle.std.proofs.lemmas.Result.{IfOk-weaker}
 use Rattle.ical_lines.specs.Text.{line_text}
-use Rattle.profile.specs.Events.{EventFault, twice}
+use Rattle.ical_tree.specs.Tree.{tree_of}
+use Rattle.profile.specs.Faults.{is_zoned_event_fault}
+use Rattle.profile.specs.Events.{EventFault, in_times, twice}
+use Rattle.profile.specs.ZonedTimes.{EventTimesFault}
 use Rattle.cal_events.specs.Events.{is_message}
-use Rattle.cal_events.proofs.EventLemmas.{length_said, times_fault}
+use Rattle.cal_events.proofs.NumberLemmas.{times_refused, times_number}
+use Rattle.cal_events.proofs.ZonedLemmas.{weaker_fault}
 use Rattle.ical_values.proofs.Exits.{err_exit}
 use Rattle.cal_events.proofs.component.EventComponent.read.Goals as goal
 
 pub returns-in_err-uid-clause-stands : goal.returns-in_err-uid-clause-stands
 returns-in_err-uid-clause-stands c =
     let m = is_message c.args.purpose in
-    err_exit _ (RefusesBy (EventFault m c.args.properties.now)) _ c.from_residual.ensures.1 (c.in_err-uid.ensures.stands m)
+    let object = tree_of c.args.object.now in
+    err_exit _ (RefusesBy (EventFault object m c.args.properties.now)) _ c.from_residual.ensures.1 (c.in_err-uid.ensures.stands object m)
+
+pub returns-in_err-organiser-clause-stands : goal.returns-in_err-organiser-clause-stands
+returns-in_err-organiser-clause-stands c =
+    let object = tree_of c.args.object.now in
+    err_exit _ (RefusesBy (EventFault object (is_message c.args.purpose) c.args.properties.now)) _ c.from_residual-in_err-organiser.ensures.1
+    (c.in_err-organiser.ensures.stands object)
 
 pub returns-in_err-_status-clause-stands : goal.returns-in_err-_status-clause-stands
 returns-in_err-_status-clause-stands c =
-    let P = EventFault (is_message c.args.purpose) c.args.properties.now in
+    let P = EventFault (tree_of c.args.object.now) (is_message c.args.purpose) c.args.properties.now in
     err_exit _ (RefusesBy P) _ c.from_residual-in_err-_status.ensures.1
     (subst P (sym c.in_err-_status.ensures.refuses) (twice (codes "STATUS") (4, omega arith, refl) c.in_err-_status.ensures.twice))
 
-pub returns-in_err-attendees-clause-stands : goal.returns-in_err-attendees-clause-stands
-returns-in_err-attendees-clause-stands c =
-    let m = is_message c.args.purpose in
-    err_exit _ (RefusesBy (EventFault m c.args.properties.now)) _ c.from_residual-in_err-attendees.ensures.1 (c.in_err-attendees.ensures.stands m)
+pub returns-in_err-said-clause-refuses : goal.returns-in_err-said-clause-refuses
+returns-in_err-said-clause-refuses c =
+    err_exit _ (RefusesOnly is_zoned_event_fault) _ c.from_residual-in_err-said.ensures.1
+    (times_refused (tree_of c.args.object.now) c.args.properties.now _ c.in_err-said.ensures.stands)
 
-pub returns-in_err-length-clause-stands : goal.returns-in_err-length-clause-stands
-returns-in_err-length-clause-stands c =
+pub returns-in_err-said-clause-stands : goal.returns-in_err-said-clause-stands
+returns-in_err-said-clause-stands c =
+    let object = tree_of c.args.object.now in
     let m = is_message c.args.purpose in
     let lines = c.args.properties.now in
-    err_exit _ (RefusesBy (EventFault m lines)) _ c.from_residual-in_err-length.ensures.1
-    (times_fault m lines c.in_ok-start.start c.in_ok-extent.extent _ c.in_ok-start.ensures.reads c.in_ok-extent.ensures.reads c.in_err-length.ensures.stands)
+    err_exit _ (RefusesBy (EventFault object m lines)) _ c.from_residual-in_err-said.ensures.1
+    (weaker_fault _ (EventTimesFault object lines) (EventFault object m lines) (λ n h. in_times h) c.in_err-said.ensures.stands)
+
+pub returns-in_err-attendees-clause-stands : goal.returns-in_err-attendees-clause-stands
+returns-in_err-attendees-clause-stands c =
+    let object = tree_of c.args.object.now in
+    let m = is_message c.args.purpose in
+    err_exit _ (RefusesBy (EventFault object m c.args.properties.now)) _ c.from_residual-in_err-attendees.ensures.1 (c.in_err-attendees.ensures.stands object m)
+
+pub returns-in_err-times-clause-refuses : goal.returns-in_err-times-clause-refuses
+returns-in_err-times-clause-refuses c =
+    let object = tree_of c.args.object.now in
+    let lines = c.args.properties.now in
+    err_exit _ (RefusesOnly is_zoned_event_fault) _ c.from_residual-in_err-times.ensures.1
+    (times_number object lines _ (c.in_err-times.ensures.stands object lines c.in_ok-said.ensures.said))
+
+pub returns-in_err-times-clause-stands : goal.returns-in_err-times-clause-stands
+returns-in_err-times-clause-stands c =
+    let object = tree_of c.args.object.now in
+    let m = is_message c.args.purpose in
+    let lines = c.args.properties.now in
+    err_exit _ (RefusesBy (EventFault object m lines)) _ c.from_residual-in_err-times.ensures.1
+    (in_times (c.in_err-times.ensures.stands object lines c.in_ok-said.ensures.said))
 
 pub returns-clause-says : goal.returns-clause-says
 returns-clause-says c = record {
@@ -38,8 +72,6 @@ returns-clause-says c = record {
   stamp = c.in_ok-stamp.ensures.reads;
   sequence = c.in_ok-sequence.ensures.reads;
   status = (option_map line_text c.in_ok-_status._status, c.in_ok-_status.ensures.found);
-  start = c.in_ok-start.ensures.reads;
-  length = length_said c.args.properties.now c.in_ok-start.start c.in_ok-extent.extent c.in_ok-length.length c.in_ok-extent.ensures.reads c.in_ok-length.ensures.length c.in_ok-length.ensures.most;
+  times = c.in_ok-times.ensures.says (tree_of c.args.object.now) c.args.properties.now c.in_ok-said.ensures.said;
   attendees = c.in_ok-attendees.ensures.reads;
-  from_1970 = c.in_ok-length.ensures.from_1970;
 }

@@ -1,7 +1,6 @@
 use Rattle.std.proofs.Common.{◌≡◌, codes, sym, subst, refl, inl, inr, arith, to_z, of_z, w64, ℤ}
 use Rattle.std.proofs.lemmas.Int.{ints}
 use Rattle.profile.specs.Zones.{Means}
-use Rattle.cal_zones.specs.Kinds.{zone_of}
 use Rattle.ical_lines.specs.Fault.{RefusesBy}
 use Rattle.ical_lines.specs.Text.{line_text}
 use Rattle.ical_tree.specs.Tree.{tree_of}
@@ -11,7 +10,8 @@ use Rattle.cal_events.proofs.EventLemmas.{some_line}
 use Rattle.cal_events.proofs.TimesLemmas.{nominal_given}
 use Rattle.cal_events.proofs.ZonedLemmas.{weaker_fault}
 use Rattle.std.specs.Prelude.{◌↔◌, IsTrue}
-use Rattle.profile.specs.ZonedTimes.{IsInDates}
+use Rattle.profile.specs.ZonedTimes.{IsInDates, clock_of}
+use Rattle.cal_events.specs.Events.{zone_said}
 use Rattle.cal_events.specs.Zoned.{IsNominal, IsExact}
 use Rattle.cal_events.proofs.event_times.SaidTimes.read.Goals as goal
 
@@ -53,7 +53,7 @@ returns-clause-said c =
       line = line_text c.in_ok-line.line;
       once = c.in_ok-line.ensures.found;
       says = c.in_ok-start.ensures.says;
-      means = subst (λ (x : ℤ). Means (zone_of start.zone) start.local x) (sym same) c.instant-instant.ensures.meaning;
+      means = subst (λ (x : ℤ). Means (clock_of (zone_said start)) start.local x) (sym same) c.instant-instant.ensures.meaning;
       starts = subst (λ b. IsTrue c.is_in_dates-starts_in.result ↔ IsInDates b start.local (to_z w64 (of_z w64 c.instant-instant.result))) c.is_in_zone-in_zone.ensures c.is_in_dates-starts_in.ensures;
       extent = c.in_ok-extent.ensures.reads;
       exact = subst (λ b. IsExact b c.in_ok-extent.extent) c.is_in_zone-in_zone.ensures c.in_ok-refuse_nominal.ensures.exact;

@@ -12,7 +12,7 @@ returns c =
     let component : MessageComponent = record {
       slot = Whole;
       revision = record { sequence = event.sequence; stamp = c.in-Some-Some.stamp };
-      start = event.start;
+      start = event.times.instant;
       end = to_z w64 (of_z w64 c.end-end.result);
       canonical = c.in_ok-canonical.canonical;
       attendees = c.in_ok-attendees.attendees;

@@ -26,13 +26,13 @@ pub of-requires-2-clause-organiser : goal.of-requires-2-clause-organiser
 of-requires-2-clause-organiser c =
     let vevents = vevents_of c.args.object.now in
     let one = rw c.as_slice.ensures.value at c.in_ok-judge_meeting.ensures.one in
-    organiser_given vevents c.remove-event.result (one_said vevents c.in_ok-events.events.items c.remove-event.result one c.remove-event.ensures.value c.in_ok-events.ensures.says)
+    organiser_given (tree_of c.args.object.now) vevents c.remove-event.result (one_said (tree_of c.args.object.now) vevents c.in_ok-events.events.items c.remove-event.result one c.remove-event.ensures.value c.in_ok-events.ensures.says)
 
 pub of-requires-2-clause-stamp : goal.of-requires-2-clause-stamp
 of-requires-2-clause-stamp c =
     let vevents = vevents_of c.args.object.now in
     let one = rw c.as_slice.ensures.value at c.in_ok-judge_meeting.ensures.one in
-    stamp_given vevents c.remove-event.result (one_said vevents c.in_ok-events.events.items c.remove-event.result one c.remove-event.ensures.value c.in_ok-events.ensures.says)
+    stamp_given (tree_of c.args.object.now) vevents c.remove-event.result (one_said (tree_of c.args.object.now) vevents c.in_ok-events.events.items c.remove-event.result one c.remove-event.ensures.value c.in_ok-events.ensures.says)
 
 pub returns-clause-says : goal.returns-clause-says
 returns-clause-says c =
@@ -41,6 +41,6 @@ returns-clause-says c =
     let one = rw c.as_slice.ensures.value at c.in_ok-judge_meeting.ensures.one in (
       event_of c.remove-event.result,
       request_said (tree_of object) (component_lines object) vevents c.remove-event.result (tree_of-own object) (vevents_tree object) (rw c.in_ok-properties.ensures at c.in_ok-method.ensures.named) c.in_ok-events.ensures.read
-          (one_said vevents c.in_ok-events.events.items c.remove-event.result one c.remove-event.ensures.value c.in_ok-events.ensures.says),
+          (one_said (tree_of object) vevents c.in_ok-events.events.items c.remove-event.result one c.remove-event.ensures.value c.in_ok-events.ensures.says),
       c.in_ok-of.ensures,
     )

@@ -2,7 +2,9 @@ use Rattle.std.proofs.Common.{◌∙◌, List, ℕ}
 use Rattle.profile.specs.Days.{day_index}
 use Rattle.profile.specs.Rules.{rule_days_from}
 use Rattle.cal_rules.specs.Left.{days_left}
-use Rattle.cal_zones.specs.Kinds.{zone_of}
+use Rattle.profile.specs.Properties.{length_seconds}
+use Rattle.profile.specs.ZonedTimes.{clock_of}
+use Rattle.cal_events.specs.Events.{length_of, zone_said}
 use Rattle.sched_cli.proofs.Printing.{one_more}
 use Rattle.sched_cli.proofs.expand.Series.print_days.Goals as goal
 
@@ -12,7 +14,7 @@ loop-count-preserved g c =
     let moved = c.in_ok-print_day.ensures.line in
     record {
       length = ◌∙◌ {A = List ℕ} c.print_day.ensures.length i.length;
-      printed = one_more (zone_of c.args.self.now.times.start.zone) c.day_and_second-second.result.1 c.args.self.now.times.seconds c.loop-count.count (day_index c.in-Some.day)
+      printed = one_more (clock_of (zone_said c.args.self.now.times.start)) c.day_and_second-second.result.1 (length_seconds (length_of c.args.self.now.times.length)) c.loop-count.count (day_index c.in-Some.day)
           (rule_days_from c.args.rule.now c.args.rule.now.pattern.start) (days_left c.loop-count.days) (days_left c.next.new.self)
           (g.W.Write.contents c.args.writer.now) (g.W.Write.contents c.loop-count.writer) (g.W.Write.contents c.print_day.new.writer)
           c.loop-count.lines.text.items c.print_day.new.lines.text.items moved.0 c.in-Some.ensures.steps moved.1 moved.2 i.printed;

@@ -2,7 +2,7 @@ use Rattle.std.proofs.Common.{subst, sym, arith}
 use Rattle.std.proofs.lemmas.Int.{ints}
 use Rattle.cal_events.specs.Events.{ExtentFault}
 use Rattle.cal_events.specs.Events.{ends_early, ends_late, lasts_long}
-use Rattle.cal_events.proofs.component.judge_extent.Goals as goal
+use Rattle.cal_events.proofs.event_times.judge_extent.Goals as goal
 
 pub returns-in-ToEnd-clause-stands : goal.returns-in-ToEnd-clause-stands
 returns-in-ToEnd-clause-stands c =

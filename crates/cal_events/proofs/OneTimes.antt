@@ -1,0 +1,184 @@
+-- The lines of a VEVENT say its times in at most one way, and not at all where a fault stands in them.
+use Rattle.std.proofs.Common.{◌≡◌, ℕ, ◌+◌, ◌*◌, ◌<◌, ◌≤◌, Bool, true, false, List, [], ◌∷◌, length, codes, subst, sym, refl, ap, ◌∙◌, inl, inr, arith, ℤ, pos, ◌+ℤ◌, ◌<ℤ◌, ◌≤ℤ◌}
+use Rattle.std.specs.Prelude.{Option, Some, None, All, ◌⊎◌}
+use Rattle.std.proofs.lemmas.Bool.{true≢false}
+use Rattle.std.proofs.lemmas.Int.{ints}
+use Rattle.std.proofs.lemmas.List.Elements.{All-from_recursion, All-contains}
+use Rattle.std.proofs.lemmas.Option.{same_Some}
+use Rattle.profile.specs.Lines.{line_value, line_param}
+use Rattle.profile.specs.Trees.{Tree}
+use Rattle.profile.specs.Values.{SpellsDuration, SpellsNegative}
+use Rattle.profile.specs.Zones.{Zone, Constant, IsOneMeaning, Means}
+use Rattle.profile.specs.Properties.{lines_named, StandsAtMostOnce, SomeLine, Length, length_seconds, LastsFor, IsNegativeOrLong}
+use Rattle.profile.specs.ZonedTimes.{zone_named, is_in_zone, SaysZoneOf, SpellsZoned, SaysZonedTime, clock_of, SaysInstant, IsInDates, SaysInDates, SaysOutOfDates, ZonedTimeFault, EventTimes, LastsUntil, LastsSo, SaysEventTimes, StartAndEndLie, HasDays, names_of_times, EventTimesFault, bad_start, bad_end, bad_duration, ends_early, ends_late, lasts_long, starts_out, ends_out, no_start, twice, end_and_duration, nominal}
+use Rattle.ical_tree.proofs.OneLine.{IsFunctional, same_option, only_line}
+use Rattle.cal_events.proofs.Meanings.{one_meaning}
+
+abbrev pub Lines : Type 0
+Lines = List (List ℕ)
+
+abbrev pub OneZonedTime : Type 0
+OneZonedTime = (object : Tree) (line : List ℕ) (a b : Option Zone) (s t : ℤ) → SaysZonedTime object line a s → SaysZonedTime object line b t → (a ≡ b) × (s ≡ t)
+
+abbrev pub NoTimeFault : Type 0
+NoTimeFault = (object : Tree) (line : List ℕ) (a : Option Zone) (s : ℤ) (n : ℕ) → SaysZonedTime object line a s → ZonedTimeFault object line n → ⊥
+
+abbrev pub OneDuration : Type 0
+OneDuration = (text : List ℕ) (d s e t : ℕ) → SpellsDuration text d s → SpellsDuration text e t → (d ≡ e) × (s ≡ t)
+
+abbrev pub NotBoth : Type 0
+NotBoth = (text : List ℕ) (d s : ℕ) → SpellsDuration text d s → SpellsNegative text → ⊥
+
+pub same_line : (name : List ℕ) (lines : Lines) (a b : Option (List ℕ)) → StandsAtMostOnce name lines a → StandsAtMostOnce name lines b → a ≡ b
+same_line name lines a b h k = same_option a b (sym h ∙ k)
+
+pub at_most_one : (name : List ℕ) (lines : Lines) (l : Option (List ℕ)) → StandsAtMostOnce name lines l → length (lines_named name lines) ≤ 1
+at_most_one name lines None h = let e : length (lines_named name lines) ≡ 0 = ap length h in omega arith
+at_most_one name lines (Some x) h = let e : length (lines_named name lines) ≡ 1 = ap length h in omega arith
+
+abbrev pub IsLone : Lines → List ℕ → Type 0
+IsLone lines name = length (lines_named name lines) ≤ 1
+
+-- ---- one instant
+
+-- the clocks of what a line says show a local time at one instant
+clock_one : (object : Tree) (line : List ℕ) (zone : Option Zone) (local : ℤ) → SaysZonedTime object line zone local → IsOneMeaning (clock_of zone)
+clock_one object line None local h = one_meaning (Constant (pos 0)) tt
+clock_one object line (Some zone) local h = spelled (line_param (codes "TZID") line) h.1
+  where
+    named : (o : Option Tree) → SaysZoneOf o zone → IsOneMeaning zone
+    named None says = absurd says
+    named (Some part) says = one_meaning zone says.matched
+
+    spelled : (o : Option (List ℕ)) → SpellsZoned object o (line_value line) (Some zone) local → IsOneMeaning zone
+    spelled None says = absurd says
+    spelled (Some name) says = named (zone_named name object) says.1
+
+pub one_instant : OneZonedTime → (object : Tree) (line : List ℕ) (s t : ℤ) → SaysInstant object line s → SaysInstant object line t → s ≡ t
+one_instant one object line s t (zone, local, says, means) (other, clock, said, meant) =
+    let e = one object line zone other local clock says said in
+    let means' = subst (λ (l : ℤ). Means (clock_of other) l s) e.1 (subst (λ (z : Option Zone). Means (clock_of z) local s) e.0 means) in
+    clock_one object line other clock said clock s t means' meant
+
+dated : (object : Tree) (line : List ℕ) (t : ℤ) → SaysInDates object line t → SaysInstant object line t
+dated object line t (zone, local, says, means, dates) = (zone, local, says, means)
+
+-- an instant that lies in the dates doesn't lie outside
+not_out : OneZonedTime → (object : Tree) (line : List ℕ) (zone : Option Zone) (local t : ℤ) → SaysZonedTime object line zone local → Means (clock_of zone) local t
+    → IsInDates (is_in_zone line) local t → SaysOutOfDates object line → ⊥
+not_out one object line zone local t says means dates (other, clock, instant, said, meant, out) =
+    let e = one object line zone other local clock says said in
+    let i = one_instant one object line t instant (zone, local, says, means) (other, clock, said, meant) in
+    out (subst (λ (x : ℤ). IsInDates (is_in_zone line) clock x) i (subst (λ (l : ℤ). IsInDates (is_in_zone line) l t) e.1 dates))
+
+-- ---- one length
+
+length_same : (a b : Length) → a.days ≡ b.days → a.seconds ≡ b.seconds → a ≡ b
+length_same a b p q = λ i. record { days = p i; seconds = q i }
+
+length_one : OneDuration → IsFunctional LastsFor
+length_one one line a b h k = let e = one (line_value line) a.days a.seconds b.days b.seconds h k in length_same a b e.0 e.1
+
+same_length : OneZonedTime → OneDuration → (object : Tree) (in_zone : Bool) (start : ℤ) (e d : Option (List ℕ)) (a b : Length) → LastsSo object in_zone start e d a → LastsSo object in_zone start e d b → a ≡ b
+same_length one two object in_zone start None None a b h k = h ∙ sym k
+same_length one two object in_zone start None (Some l) a b h k = length_one two l a b h.0 k.0
+same_length one two object in_zone start (Some l) None a b h k =
+    let e = one_instant one object l (start +ℤ pos a.seconds) (start +ℤ pos b.seconds) (dated object l _ h.1) (dated object l _ k.1) in
+    length_same a b (h.0 ∙ sym k.0) (omega (arith, ints))
+same_length one two object in_zone start (Some l) (Some o) a b h k = absurd h
+
+-- ---- one event's times
+
+times_same : (a b : EventTimes) → a.zone ≡ b.zone → a.local ≡ b.local → a.start ≡ b.start → a.length ≡ b.length → a ≡ b
+times_same a b p q r s = λ i. record { zone = p i; local = q i; start = r i; length = s i }
+
+pub one_times : OneZonedTime → OneDuration → (object : Tree) (lines : Lines) (a b : EventTimes) → SaysEventTimes object lines a → SaysEventTimes object lines b → a ≡ b
+one_times one two object lines a b s t =
+    let line : s.line ≡ t.line = same_Some s.line t.line (same_line (codes "DTSTART") lines (Some s.line) (Some t.line) s.once t.once) in
+    let says : SaysZonedTime object t.line a.zone a.local = subst (λ (l : List ℕ). SaysZonedTime object l a.zone a.local) line s.says in
+    let e = one object t.line a.zone b.zone a.local b.local says t.says in
+    let start = one_instant one object t.line a.start b.start (a.zone, a.local, says, s.means) (b.zone, b.local, t.says, t.means) in
+    let end = same_line (codes "DTEND") lines s.end_line t.end_line s.end_once t.end_once in
+    let duration = same_line (codes "DURATION") lines s.duration_line t.duration_line s.duration_once t.duration_once in
+    let lasts : LastsSo object (is_in_zone t.line) b.start t.end_line t.duration_line a.length =
+    subst (λ (d : Option (List ℕ)). LastsSo object (is_in_zone t.line) b.start t.end_line d a.length) duration
+    (subst (λ (x : Option (List ℕ)). LastsSo object (is_in_zone t.line) b.start x s.duration_line a.length) end
+    (subst (λ (x : ℤ). LastsSo object (is_in_zone t.line) x s.end_line s.duration_line a.length) start
+    (subst (λ (l : List ℕ). LastsSo object (is_in_zone l) a.start s.end_line s.duration_line a.length) line s.lasts))) in
+    times_same a b e.0 e.1 start (same_length one two object (is_in_zone t.line) b.start t.end_line t.duration_line a.length b.length lasts t.lasts)
+
+-- ---- no fault stands where times are said
+
+module _ (one : OneZonedTime) (none : NoTimeFault) (two : OneDuration) (apart : NotBoth) (object : Tree) (lines : Lines) (times : EventTimes) (s : SaysEventTimes object lines times) where
+  -- the start that stands
+  start_is : (P : List ℕ → Type 0) (l : SomeLine (codes "DTSTART") P lines) → s.line ≡ l.0
+  start_is P l = same_Some s.line l.0 (only_line (codes "DTSTART") lines (Some s.line) l.0 s.once l.1)
+
+  -- the end that stands
+  end_said : (P : List ℕ → Type 0) (l : SomeLine (codes "DTEND") P lines) → LastsUntil object times.start l.0 times.length
+  end_said P l = go s.end_line s.duration_line (only_line (codes "DTEND") lines s.end_line l.0 s.end_once l.1) s.lasts
+    where
+      go : (e d : Option (List ℕ)) → e ≡ Some l.0 → LastsSo object (is_in_zone s.line) times.start e d times.length → LastsUntil object times.start l.0 times.length
+      go None d h lasts = cc
+      go (Some x) (Some o) h lasts = absurd lasts
+      go (Some x) None h lasts = subst (λ (y : List ℕ). LastsUntil object times.start y times.length) (same_Some x l.0 h) lasts
+
+  -- the DURATION that stands
+  duration_said : (P : List ℕ → Type 0) (l : SomeLine (codes "DURATION") P lines) → LastsFor l.0 times.length × (is_in_zone s.line ≡ true → times.length.days ≡ 0)
+  duration_said P l = go s.end_line s.duration_line (only_line (codes "DURATION") lines s.duration_line l.0 s.duration_once l.1) s.lasts
+    where
+      go : (e d : Option (List ℕ)) → d ≡ Some l.0 → LastsSo object (is_in_zone s.line) times.start e d times.length → LastsFor l.0 times.length × (is_in_zone s.line ≡ true → times.length.days ≡ 0)
+      go e None h lasts = cc
+      go (Some x) (Some o) h lasts = absurd lasts
+      go None (Some o) h lasts = (subst (λ (y : List ℕ). LastsFor y times.length) (same_Some o l.0 h) lasts.0, lasts.1)
+
+  -- the start and the end that stand are those of the times
+  ends_said : (R : ℤ → ℤ → Type 0) → StartAndEndLie object R lines → R times.start (times.start +ℤ pos times.length.seconds)
+  ends_said R (start, end, first, last, r) =
+      let here : SaysInstant object first.0 times.start = subst (λ (l : List ℕ). SaysInstant object l times.start) (start_is _ first) (times.zone, times.local, s.says, s.means) in
+      let a = one_instant one object first.0 times.start start here first.2 in
+      let until = end_said _ last in
+      let b = one_instant one object last.0 (times.start +ℤ pos times.length.seconds) end (dated object last.0 _ until.1) last.2 in
+      subst (λ (z : ℤ). R times.start z) (sym b) (subst (λ (z : ℤ). R z end) (sym a) r)
+
+  all_lone : All (IsLone lines) names_of_times
+  all_lone =
+      All-from_recursion (IsLone lines) names_of_times (
+        at_most_one (codes "DTSTART") lines (Some s.line) s.once,
+        (at_most_one (codes "DTEND") lines s.end_line s.end_once, (at_most_one (codes "DURATION") lines s.duration_line s.duration_once, tt)),
+      )
+
+  pub no_times_fault : (n : ℕ) → EventTimesFault object lines n → ⊥
+  no_times_fault n (bad_start l) = none object l.0 times.zone times.local n (subst (λ (x : List ℕ). SaysZonedTime object x times.zone times.local) (start_is _ l) s.says) l.2
+  no_times_fault n (bad_end l) = let until = end_said _ l in none object l.0 until.1.0 until.1.1 n until.1.2 l.2
+  no_times_fault n (bad_duration l) = l.2.0 times.length.days times.length.seconds (duration_said _ l).0
+  no_times_fault n (ends_early x) = let h = ends_said (λ start end. end <ℤ start) x in absurd (omega (arith, ints))
+  no_times_fault n (ends_late x) =
+      let h = ends_said (λ start end. (start +ℤ pos 31_622_400) <ℤ end) x in
+      let most : 86_400 * times.length.days + times.length.seconds ≤ 31_622_400 = s.most in
+      absurd (omega (arith, ints))
+  no_times_fault n (lasts_long (line, at, inl negative)) =
+      apart (line_value line) times.length.days times.length.seconds (duration_said IsNegativeOrLong (line, at, inl negative)).0 negative
+  no_times_fault n (lasts_long (line, at, inr (length, lasts, long))) =
+      let e = length_one two line times.length length (duration_said IsNegativeOrLong (line, at, inr (length, lasts, long))).0 lasts in
+      let most : length_seconds length ≤ 31_622_400 = subst (λ (x : Length). length_seconds x ≤ 31_622_400) e s.most in
+      absurd (omega arith)
+  no_times_fault n (starts_out l) =
+      not_out one object s.line times.zone times.local times.start s.says s.means s.in_dates (subst (λ (x : List ℕ). SaysOutOfDates object x) (sym (start_is _ l)) l.2)
+  no_times_fault n (ends_out l) = let until = end_said _ l in not_out one object l.0 until.1.0 until.1.1 _ until.1.2 until.1.3 until.1.4 l.2
+  no_times_fault n (no_start h) = let k : 0 ≡ 1 = sym (ap length h) ∙ ap length s.once in absurd (omega (arith, k))
+  no_times_fault n (twice name c h) = let l = All-contains (IsLone lines) names_of_times name all_lone c in absurd (omega arith)
+  no_times_fault n (end_and_duration e d) =
+      go s.end_line s.duration_line (only_line (codes "DTEND") lines s.end_line e.0 s.end_once e.1) (only_line (codes "DURATION") lines s.duration_line d.0 s.duration_once d.1) s.lasts
+    where
+      go : (x y : Option (List ℕ)) → x ≡ Some e.0 → y ≡ Some d.0 → LastsSo object (is_in_zone s.line) times.start x y times.length → ⊥
+      go None y h k is = cc
+      go (Some x) None h k is = cc
+      go (Some x) (Some y) h k is = is
+  no_times_fault n (nominal first (line, at, (length, lasts, some))) =
+      let zoned : is_in_zone s.line ≡ true = ap is_in_zone (start_is _ first) ∙ first.2 in
+      let said = duration_said HasDays (line, at, (length, lasts, some)) in
+      let e = length_one two line times.length length said.0 lasts in
+      let d : times.length.days ≡ length.days = ap (λ (x : Length). x.days) e in
+      let z = said.1 zoned in
+      absurd (omega (arith, d, z, some))
