@@ -1,12 +1,15 @@
 pub mod Examples
+pub mod Timelines
 pub mod Views
 pub mod Runs
 pub mod Deciding
 pub mod Keys
+pub mod Places
 pub mod Meetings
 pub mod Partition
 pub mod Arrivals
 pub mod Dates
+pub mod Confirming
 pub mod Bodies
 pub mod Writing
 pub mod Stepping

@@ -1,4 +1,5 @@
 pub mod Views
+pub mod Timelines
 pub mod Takings
 pub mod Standing
 pub mod Replying

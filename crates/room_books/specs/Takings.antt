@@ -1,7 +1,6 @@
 -- What a part does to its meeting.
 use Rattle.std.specs.Prelude.{◌≡◌, ℕ, ℤ, List, [], ◌∷◌, ◌++◌, Option, Some, None, option_map, Vec}
 use Rattle.profile.specs.Values.{IsClockSeconds}
-use Rattle.indexmap.specs.IndexMap.{IsUnchanged}
 use Rattle.clash_cert.specs.Makings.{key_of}
 use Rattle.itip_order.specs.Registers.{StandsFor}
 use Rattle.itip_order.specs.Parts.{part_of}
@@ -19,15 +18,9 @@ use Rattle.room_books.specs.declared.meeting.MeetingKey.{MeetingKey}
 use Rattle.room_books.specs.declared.meeting.Meeting.{Meeting}
 use Rattle.room_books.specs.declared.meeting.Decided.{Decided}
 use Rattle.room_books.specs.declared.meeting.Span.{Span}
-use Rattle.room_books.specs.declared.room.Room.{Room}
 use Rattle.room_books.specs.declared.taking.Asked.{Asked}
 use Rattle.room_books.specs.declared.taking.Taken.{Taken}
 use Rattle.room_books.specs.Views.{booked_of, outcome_of, others, IsDecision}
-
--- the address and the meetings are as they were
-pub record IsRoomUnchanged (old new : Room) : Type 0 where
-  pub address : new.address ≡ old.address
-  pub meetings : IsUnchanged old.meetings new.meetings
 
 -- the parts that a meeting stands for; none where it was never heard of
 abbrev pub StandsAt : Option Meeting → List revisions.Part → Type 0

@@ -15,7 +15,6 @@ use Rattle.room_books.specs.declared.meeting.Decided.{Decided}
 use Rattle.room_books.specs.declared.meeting.Span.{Span}
 use Rattle.room_books.specs.declared.meeting.Outcome.{Outcome}
 use Rattle.room_books.specs.declared.meeting.Outcome.TheVariants.{Accepted, Declined, Limit}
-use Rattle.room_books.specs.declared.decide.Seen.{Seen}
 use Rattle.clash_cert.specs.declared.making.Clash.{Clash}
 
 -- the key of a meeting with this organiser and this UID
@@ -75,25 +74,10 @@ others key entries = flat_map confirmed_of (filter (is_other key) entries)
 abbrev pub all_confirmed : List (MeetingKey × Meeting) → List Booked
 all_confirmed entries = flat_map confirmed_of entries
 
--- the entry holds the room
-abbrev pub is_booked : Option (MeetingKey × Meeting) → Bool
-is_booked None = false
-is_booked (Some entry) = is_some (confirmed_span entry.1.decided)
-
--- at most one instance, as a list
-abbrev pub listed : Option (Bor MeetingKey × Span) → List Booked
-listed None = []
-listed (Some p) = booked_of p.0.now p.1 ∷ []
-
 -- the place is the own one
 abbrev pub is_place : Option ℕ → ℕ → Bool
 is_place None place = false
 is_place (Some own) place = own == place
-
--- what the entry in a place has confirmed, none for the own place
-abbrev pub confirmed_at : Option ℕ → ℕ → Option (MeetingKey × Meeting) → List Booked
-confirmed_at own place None = []
-confirmed_at own place (Some entry) = if is_place own place then [] else confirmed_of entry
 
 -- the span of an instance
 abbrev pub span_of : Booked → Span
@@ -123,11 +107,6 @@ IsFree all span = (b : Booked) (t : ℤ) → Contains all b → HaveInstant span
 abbrev pub IsBusyIn : List Booked → Span → Option (Bor MeetingKey × Span) → Type 0
 IsBusyIn all span None = IsFree all span
 IsBusyIn all span (Some p) = Contains all (booked_of p.0.now p.1) × Overlap span p.1
-
--- how many there are, and one that overlaps
-pub record HasSeen (all : List Booked) (span : Span) (seen : Seen) : Type 0 where
-  pub count : seen.confirmed ≡ length all
-  pub busy : IsBusyIn all span seen.busy
 
 -- the clash is that of the instance and one of these, at the later start, the lesser named first
 pub record IsClashWith (all : List Booked) (asked : Booked) (clash : Clash) : Type 0 where

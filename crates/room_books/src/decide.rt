@@ -1,13 +1,16 @@
 //! The decision: may an instance be confirmed beside those that are?
 
-ghost use Rattle.std.specs.Prelude.{◌≡◌, true, false, ℤ, ◌≤ℤ◌, ◌<ℤ◌, ◌↔◌, IsTrue, [], ◌∷◌, ◌+◌, ◌<◌, ◌^◌, ◌⊎◌, ◌++◌, List, IfOk, Some, None, slice_get};
+ghost use Rattle.std.specs.Prelude.{◌≡◌, true, false, ℤ, ◌≤ℤ◌, ◌<ℤ◌, ◌↔◌, IsTrue, ◌⊎◌, IfOk, length};
 ghost use Rattle.std.specs.Ordering.{is_lt};
-ghost use Rattle.profile.specs.Instances.{Booked, booked_cmp, horizon};
+ghost use Rattle.profile.specs.Instances.{booked_cmp, horizon};
 ghost use Rattle.clash_cert.specs.Makings.{AreNamed, HasKeys};
-ghost use Rattle.room_books.specs.Views.{booked_of, listed, others, span_of, confirmed_at, HaveInstant, IsLater, Overlap, IsBusyIn, HasSeen, IsDecision};
+ghost use Rattle.room_books.specs.Views.{booked_of, others, span_of, HaveInstant, IsLater, Overlap, IsBusyIn, IsDecision};
+ghost use Rattle.room_books.specs.Timelines.{IsTimelineOf};
 
 use crate::answer::LimitKind;
 use crate::meeting::{Meeting, MeetingKey, Outcome, Span};
+use crate::room::keys_differ;
+use crate::timeline::Timeline;
 use cal_events::HORIZON;
 use clash_cert::Clash;
 use indexmap::IndexMap;
@@ -21,93 +24,55 @@ pub type Meetings = IndexMap<MeetingKey, Meeting>;
 
 /// What is decided of an instance of this meeting, beside everything that other meetings have confirmed: the limit
 /// is looked at first, then whether an instant is shared.
-pub fn decide(meetings: &Meetings, key: &MeetingKey, span: Span) -> Result<Outcome, AllocError>
+pub(crate) fn decide(
+    meetings: &Meetings,
+    timeline: &Timeline,
+    key: &MeetingKey,
+    span: Span,
+) -> Result<Outcome, AllocError>
+    requires { IsTimelineOf meetings.now.entries timeline.now.busy.items timeline.now.confirmed }
     ensures { IfOk result (IsDecision (others key.now meetings.now.entries) (booked_of key.now span)) }
 {
-    let seen = look(meetings, key, span);
-    if seen.confirmed >= MOST_SINGLES {
+    if confirmed_beside(meetings, timeline, key) >= MOST_SINGLES {
         return Ok(Outcome::Limit(LimitKind::Singles));
     }
-    match seen.busy {
+    match busy_beside(meetings, timeline, key, span) {
         Some((other, booked)) => Ok(Outcome::Declined(clash_between(key, span, other, booked)?)),
         None => Ok(Outcome::Accepted),
     }
 }
 
-/// What a pass over confirmed instances has seen: how many there are, and the first that shares an instant.
-#[derive(Clone, Copy)]
-struct Seen<'a> {
-    confirmed: usize,
-    busy: Option<(&'a MeetingKey, Span)>,
-}
-
-/// One pass over what the other meetings have confirmed.
-fn look<'a>(meetings: &'a Meetings, key: &MeetingKey, span: Span) -> Seen<'a>
-    ensures { HasSeen (others key.now meetings.now.entries) span result }
+/// How many instances the other meetings have confirmed.
+fn confirmed_beside(meetings: &Meetings, timeline: &Timeline, key: &MeetingKey) -> usize
+    requires { IsTimelineOf meetings.now.entries timeline.now.busy.items timeline.now.confirmed }
+    ensures { result ≡ length (others key.now meetings.now.entries) }
 {
-    let own = meetings.get_index_of(key);
-    let mut seen = Seen {
-        confirmed: 0,
-        busy: None,
-    };
-    for place in 0..meetings.len() {
-        let booked = confirmed_at(meetings, own, place);
-        seen = with(seen, booked, span);
-    }
-    seen
-}
-
-/// What the meeting in a place has confirmed, None for the own one.
-fn confirmed_at(
-    meetings: &Meetings,
-    own: Option<usize>,
-    place: usize,
-) -> Option<(&MeetingKey, Span)>
-    ensures { listed result ≡ confirmed_at own place (slice_get meetings.now.entries place) }
-{
-    if own == Some(place) {
-        return None;
-    }
-    let Some((key, meeting)) = meetings.get_index(place) else {
-        return None;
-    };
-    match meeting.confirmed() {
-        Some(span) => Some((key, span)),
-        None => None,
+    keys_differ(meetings);
+    let confirmed = timeline.confirmed();
+    match meetings.get(key) {
+        Some(meeting) if meeting.confirmed().is_some() => confirmed - 1,
+        _ => confirmed,
     }
 }
 
-/// What was seen with one more.
-fn with<'a>(seen: Seen<'a>, booked: Option<(&'a MeetingKey, Span)>, span: Span) -> Seen<'a>
-    requires { seen.confirmed + 1 < 2 ^ 64 }
-    ensures { (all : List Booked) → HasSeen all span seen.entry → HasSeen (all ++ listed booked.entry) span result }
-{
-    let Some((key, other)) = booked else {
-        return seen;
-    };
-    let busy = first_busy(seen.busy, key, other, span);
-    Seen {
-        confirmed: seen.confirmed + 1,
-        busy,
-    }
-}
-
-/// The first instance that overlaps with the span, where this one comes next.
-fn first_busy<'a>(
-    busy: Option<(&'a MeetingKey, Span)>,
-    key: &'a MeetingKey,
-    other: Span,
+/// An instance of another meeting that shares an instant with the span: only the first that ends after its start can do so before all
+/// others.
+fn busy_beside<'a>(
+    meetings: &'a Meetings,
+    timeline: &Timeline,
+    key: &MeetingKey,
     span: Span,
 ) -> Option<(&'a MeetingKey, Span)>
-    ensures { (all : List Booked) → IsBusyIn all span busy.entry → IsBusyIn (all ++ booked_of key.now other ∷ []) span result }
+    requires { IsTimelineOf meetings.now.entries timeline.now.busy.items timeline.now.confirmed }
+    ensures { IsBusyIn (others key.now meetings.now.entries) span result }
 {
-    if busy.is_some() {
-        return busy;
+    let own = meetings.get_index_of(key);
+    let first = timeline.first_after(span.start, own)?;
+    if !share_an_instant(span, first.span) {
+        return None;
     }
-    if share_an_instant(span, other) {
-        return Some((key, other));
-    }
-    None
+    let (other, _) = meetings.get_index(first.place)?;
+    Some((other, first.span))
 }
 
 /// Whether two half-open spans share an instant before year 10000.

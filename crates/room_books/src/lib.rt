@@ -9,6 +9,7 @@ mod reply;
 pub mod room;
 mod taking;
 mod texts;
+pub mod timeline;
 
 pub use answer::{Answer, Kind, LimitKind};
 pub use laws::{

@@ -1,9 +1,9 @@
 //! A room takes messages one after another. A message is taken whole or not at all: everything is computed
 //! beside the room, and put into it by the last step.
 
-ghost use Rattle.std.specs.Prelude.{◌≡◌, true, false, Some, List, [], ◌∷◌, ◌<◌, ◌^◌, None, IfOk, IfSome, OnErr};
+ghost use Rattle.std.specs.Prelude.{◌≡◌, true, false, Some, List, [], ◌∷◌, ◌<◌, ◌^◌, None, IfOk, IfSome, OnOk, OnErr};
 ghost use Rattle.std.specs.List.{IsDistinct};
-ghost use Rattle.indexmap.specs.IndexMap.{keys};
+ghost use Rattle.indexmap.specs.IndexMap.{keys, insert_entry, IsUnchanged, Updates};
 ghost use Rattle.itip_order.specs.Parts.{part_of};
 ghost use Rattle.ical_values.specs.Octets.{address_octets};
 ghost use Rattle.itip_messages.specs.Messages.{StandsFor};
@@ -13,19 +13,21 @@ ghost use Rattle.profile.specs.Messages.{AreParts};
 ghost use Rattle.profile.specs.Revisions as revisions;
 ghost use Rattle.profile.specs.Values.{IsClockSeconds};
 ghost use Rattle.profile.specs.Rooms.{Claim, Book, empty_book, is_set};
-ghost use Rattle.room_books.specs.Views.{same_key};
-ghost use Rattle.room_books.specs.Takings.{IsRoomUnchanged, kind_view, reply_octets};
+ghost use Rattle.room_books.specs.Views.{same_key, confirmed_span};
+ghost use Rattle.room_books.specs.Timelines.{IsTimelineOf, ConfirmsAfter, span_by};
+ghost use Rattle.room_books.specs.Takings.{kind_view, reply_octets};
 ghost use Rattle.room_books.specs.Standing.{Stands, StepsWith, IsOfEvent, claim_of, part_list, span_said, AreClaims};
 
 use crate::answer::{Answer, Kind};
 use crate::decide::Meetings;
-use crate::meeting::{MeetingKey, Span};
+use crate::meeting::{Meeting, MeetingKey, Span};
 use crate::reply::reply_to;
-use crate::taking::{Asked, kind_of, meeting_after};
+use crate::taking::{Asked, Taken, kind_of, meeting_after};
+use crate::timeline::Timeline;
 use ical_values::{Address, Stamp};
 use indexmap::IndexMap;
 use itip_messages::Message;
-use itip_order::{Body, Part, Slot};
+use itip_order::{Body, Freshness, Part, Slot};
 use std::alloc::{AllocError, Global};
 
 /// A room with all that it ever took.
@@ -34,6 +36,8 @@ pub struct Room {
     alloc: Global,
     address: Address,
     meetings: Meetings,
+    timeline: Timeline,
+    ghost timed: { IsTimelineOf meetings.entries timeline.busy.items timeline.confirmed },
 }
 
 impl Room {
@@ -46,6 +50,7 @@ impl Room {
             alloc,
             address,
             meetings: IndexMap::new(alloc),
+            timeline: Timeline::new(alloc),
         }
     }
 
@@ -68,6 +73,14 @@ impl Room {
         &self.meetings
     }
 
+    /// What the meetings have confirmed, in order of time.
+    pub(crate) fn timeline(&self) -> &Timeline
+        ensures itself { result.now ≡ self.now.timeline }
+        ensures timed { IsTimelineOf self.now.meetings.entries self.now.timeline.busy.items self.now.timeline.confirmed }
+    {
+        &self.timeline
+    }
+
     /// Takes a message at a moment, and answers it. Where memory is refused nothing has changed.
     /// So far a message has one part for a room, of the whole of its meeting, or isn't addressed to it.
     pub fn take(&mut self, message: &Message, now: Stamp) -> Result<Answer, AllocError>
@@ -77,7 +90,7 @@ impl Room {
             × StepsWith (address_octets self.old.address) self.new.meetings.entries book claims now (kind_view answer.kind) (reply_octets answer)) }
         ensures address { self.new.address ≡ self.old.address }
         ensures refresh { IfOk result (λ answer. answer.refresh ≡ None) }
-        ensures err { OnErr result (IsRoomUnchanged self.old self.new) }
+        ensures err { OnErr result (IsUnchanged self.old.meetings self.new.meetings) }
     {
         let found = self.part_for(message)?;
         let Some(part) = found else {
@@ -114,7 +127,7 @@ impl Room {
             → StepsWith (address_octets self.old.address) self.new.meetings.entries book (claim_of (part_of part.now) span ∷ []) now (kind_view answer.kind) (reply_octets answer)) }
         ensures address { self.new.address ≡ self.old.address }
         ensures refresh { IfOk result (λ answer. answer.refresh ≡ None) }
-        ensures err { OnErr result (IsRoomUnchanged self.old self.new) }
+        ensures err { OnErr result (IsUnchanged self.old.meetings self.new.meetings) }
     {
         keys_differ(&self.meetings);
         let key = MeetingKey::of(&part.organiser, &part.uid)?;
@@ -124,15 +137,43 @@ impl Room {
             span,
             moment: now,
         };
-        let taken = meeting_after(self.alloc, &self.meetings, &asked)?;
+        let taken = meeting_after(self.alloc, &self.meetings, &self.timeline, &asked)?;
         let reply = reply_to(self.alloc, &self.address, part, &taken)?;
         let kind = kind_of(taken.freshness, &taken.meeting.decided)?;
-        self.meetings.insert(key, taken.meeting)?;
+        self.put(key, taken)?;
         Ok(Answer {
             kind,
             reply,
             refresh: None,
         })
+    }
+
+    /// Puts a meeting in its place, and what it confirms now into the timeline.
+    fn put(&mut self, key: MeetingKey, taken: Taken) -> Result<(), AllocError>
+        requires distinct { IsDistinct same_key (keys self.old.meetings) }
+        requires confirms { ConfirmsAfter taken.freshness key self.old.meetings.entries (confirmed_span taken.meeting.decided) }
+        ensures updates { OnOk result (Updates same_key self.old.meetings self.new.meetings key (Some taken.meeting)) }
+        ensures entries { OnOk result (self.new.meetings.entries ≡ insert_entry same_key self.old.meetings.entries key taken.meeting) }
+        ensures address { self.new.address ≡ self.old.address }
+        ensures err { OnErr result (IsUnchanged self.old.meetings self.new.meetings) }
+    {
+        self.timeline.reserve()?;
+        let confirmed = taken.meeting.confirmed();
+        let (place, old) = self.meetings.insert_full(key, taken.meeting)?;
+        if let Freshness::Fresh = taken.freshness {
+            self.timeline.change(place, confirmed_by(&old), confirmed);
+        }
+        Ok(())
+    }
+}
+
+/// What a meeting confirms, nothing where there is none.
+fn confirmed_by(meeting: &Option<Meeting>) -> Option<Span>
+    ensures { result ≡ span_by meeting.now }
+{
+    match meeting {
+        Some(meeting) => meeting.confirmed(),
+        None => None,
     }
 }
 

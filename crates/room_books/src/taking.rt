@@ -6,11 +6,13 @@ ghost use Rattle.profile.specs.Revisions as revisions;
 ghost use Rattle.profile.specs.Rooms as rooms;
 ghost use Rattle.itip_order.specs.Registers.{StandsFor};
 ghost use Rattle.room_books.specs.Views.{others, booked_of, same_key, outcome_of, IsDecision};
+ghost use Rattle.room_books.specs.Timelines.{IsTimelineOf};
 ghost use Rattle.room_books.specs.Takings.{StandsAt, told_in, told_by, kind_view, kind_after, IsMeetingAfter};
 
 use crate::answer::Kind;
 use crate::decide::{Meetings, decide};
 use crate::meeting::{Decided, Meeting, MeetingKey, Outcome, Span};
+use crate::timeline::Timeline;
 use ical_values::Stamp;
 use itip_order::{Freshness, Held, Part};
 use std::alloc::{AllocError, Global};
@@ -35,15 +37,17 @@ pub struct Taken {
 pub fn meeting_after(
     alloc: Global,
     meetings: &Meetings,
+    timeline: &Timeline,
     asked: &Asked<'_>,
 ) -> Result<Taken, AllocError>
+    requires { IsTimelineOf meetings.now.entries timeline.now.busy.items timeline.now.confirmed }
     ensures { IfOk result (IsMeetingAfter (get_by (same_key asked.now.key.now) meetings.now) meetings.now.entries asked.now) }
 {
     let before = meetings.get(asked.key);
     let mut held = held_of(alloc, before)?;
     let freshness = held.take(asked.part.clone()?)?;
     let decided = match freshness {
-        Freshness::Fresh => Some(decided_now(meetings, asked)?),
+        Freshness::Fresh => Some(decided_now(meetings, timeline, asked)?),
         Freshness::Same | Freshness::Stale => decided_before(before)?,
     };
     Ok(Taken {
@@ -53,12 +57,17 @@ pub fn meeting_after(
 }
 
 /// The answer to a part that is new.
-fn decided_now(meetings: &Meetings, asked: &Asked<'_>) -> Result<Decided, AllocError>
+fn decided_now(
+    meetings: &Meetings,
+    timeline: &Timeline,
+    asked: &Asked<'_>,
+) -> Result<Decided, AllocError>
+    requires { IsTimelineOf meetings.now.entries timeline.now.busy.items timeline.now.confirmed }
     ensures moment { IfOk result (λ d. d.moment ≡ asked.now.moment) }
     ensures span { IfOk result (λ d. d.span ≡ asked.now.span) }
     ensures outcome { IfOk result (λ d. IsDecision (others asked.now.key.now meetings.now.entries) (booked_of asked.now.key.now asked.now.span) d.outcome) }
 {
-    let outcome = decide(meetings, asked.key, asked.span)?;
+    let outcome = decide(meetings, timeline, asked.key, asked.span)?;
     Ok(Decided {
         moment: asked.moment,
         outcome,

@@ -1,6 +1,6 @@
 //! What a room keeps, as octets: its calendar, and the certificate for it.
 
-ghost use Rattle.std.specs.Prelude.{◌≡◌, ◌++◌, true, List, ℕ, take, IfOk, OnOk, length, slice_get};
+ghost use Rattle.std.specs.Prelude.{◌≡◌, ◌++◌, true, List, ℕ, take, IfOk, OnOk};
 ghost use Rattle.std.specs.List.{list_all};
 ghost use Rattle.std.specs.Str.{IsUtf8};
 ghost use Rattle.std.specs.Str.Lines.{lines};
@@ -11,7 +11,6 @@ ghost use Rattle.profile.specs.Kept.{first_parts, kept_of, kept_certificate, IsK
 ghost use Rattle.profile.specs.Lines.{written};
 ghost use Rattle.profile.specs.Revisions as revisions;
 ghost use Rattle.profile.specs.Rooms.{Answer, Book};
-ghost use Rattle.room_books.specs.Views.{all_confirmed, is_booked};
 ghost use Rattle.room_books.specs.Standing.{IsOfEvent, Meets, Stands, is_of};
 ghost use Rattle.room_books.specs.Keeping.{WritesAnswers, WritesEvent, kept_parts};
 
@@ -44,31 +43,8 @@ impl Room {
     {
         keys_differ(self.meetings());
         let mut octets = Vec::new(self.alloc());
-        Certificate::of(confirmed_count(self.meetings())).write(&mut octets)?;
+        Certificate::of(self.timeline().confirmed() as u64).write(&mut octets)?;
         Ok(octets)
-    }
-}
-
-/// How many meetings hold the room.
-fn confirmed_count(meetings: &Meetings) -> u64
-    ensures { result ≡ length (all_confirmed meetings.now.entries) }
-{
-    let mut singles = 0u64;
-    for place in 0..meetings.len() {
-        if is_confirmed(meetings, place) {
-            singles += 1;
-        }
-    }
-    singles
-}
-
-/// Whether the meeting in a place holds the room.
-fn is_confirmed(meetings: &Meetings, place: usize) -> bool
-    ensures { result ≡ is_booked (slice_get meetings.now.entries place) }
-{
-    match meetings.get_index(place) {
-        Some((_, meeting)) => meeting.confirmed().is_some(),
-        None => false,
     }
 }
 
