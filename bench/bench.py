@@ -80,6 +80,8 @@ LISTS = (
     ("BYSETPOS", range(1, 37)),
 )
 LISTED = 95_000
+# The meetings of a room that are revised: an even number, below the limit of a room.
+MEETINGS = 9_000
 # How often a hostile object or line stands in a run, so that the program's own start counts for little.
 HOSTILE = 20
 
@@ -104,6 +106,24 @@ def requests(count, rooms=1):
     for number in range(count):
         room = ROOM.format(number % rooms)
         yield crlf(REQUEST.format(number=number, room=room, start=stamp(number), extra=""))
+
+
+def declines(count):
+    """A request that is accepted, and so many others onto its time."""
+    yield preamble(1)
+    for number in range(count + 1):
+        yield crlf(REQUEST.format(number=number, room=ROOM.format(0), start=stamp(0), extra=""))
+
+
+def revisions(count):
+    """So many revisions of MEETINGS meetings of one room, after these. Every second one asks for a busy time: that of the meeting before it."""
+    yield from requests(MEETINGS)
+    for number in range(count):
+        turn, meeting = divmod(number, MEETINGS)
+        # a meeting moves behind all others, and back
+        hour = meeting - meeting % 2 + (MEETINGS if turn % 2 == 0 else 0)
+        request = REQUEST.replace("SEQUENCE:0", f"SEQUENCE:{turn + 1}")
+        yield crlf(request.format(number=meeting, room=ROOM.format(0), start=stamp(hour), extra=""))
 
 
 def large_objects(count):
@@ -266,6 +286,9 @@ def main():
     grown("requests for one room", (1_000, 10_000), lambda count: serve(program, requests(count), count), None)
     for rooms in (16, 50):
         grown(f"the same requests over {rooms} rooms", (1_000, 10_000), lambda count: serve(program, requests(count, rooms), count), None)
+    grown("requests onto one busy time", (6_000, 60_000), lambda count: serve(program, declines(count), 1), None)
+    revised = lambda count: serve(program, revisions(count), MEETINGS + count // 2)
+    grown(f"revisions of {MEETINGS:,} meetings", (10_000, 100_000), revised, None)
     grown("objects of 1 MB with folded lines", (20,), lambda count: serve(program, large_objects(count), count), "octets")
     grown("singles checked", (100_000, 1_000_000), lambda count: check(program, calendar(count), count), "octets")
     for work, start, rule in RULES:
