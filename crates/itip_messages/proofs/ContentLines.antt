@@ -1,10 +1,10 @@
 -- Lines that are written from clean texts are content lines, and so are those of the object round some VEVENTs.
-use Rattle.std.proofs.Common.{◌≡◌, ◌∙◌, ℕ, true, false, List, [], ◌∷◌, ◌++◌, length, codes, Option, None, Some, refl, arith, lt-ltb}
+use Rattle.std.proofs.Common.{◌≡◌, ◌∙◌, ℕ, true, false, List, [], ◌∷◌, ◌++◌, length, codes, Option, None, Some, refl, arith, lt-ltb, append_assoc, append-nil}
 use Rattle.std.specs.List.{list_all, flat_map}
 use Rattle.std.proofs.lemmas.Bool.{and_from, and_parts}
 use Rattle.std.proofs.lemmas.List.Folds.{list_all-append}
 use Rattle.profile.specs.Lines.{is_content, folded, logical_lines, reads_as_lines}
-use Rattle.profile.specs.Messages.{method_lines, object_lines}
+use Rattle.profile.specs.Messages.{canonical, method_lines, object_lines}
 use Rattle.ical_lines.proofs.CleanLines.{IsClean, valued, fixed}
 use Rattle.itip_messages.proofs.ObjectTree.{Lines, vevent_lines}
 
@@ -24,6 +24,17 @@ organiser_line v c = valued (codes "ORGANIZER:") v (lt-ltb 9 (length (codes "ORG
 
 pub accepted_line : (v : List ℕ) → IsClean v → is_content (codes "ATTENDEE;PARTSTAT=ACCEPTED:" ++ v) ≡ true
 accepted_line v c = valued (codes "ATTENDEE;PARTSTAT=ACCEPTED:") v (lt-ltb 26 (length (codes "ATTENDEE;PARTSTAT=ACCEPTED:" ++ v)) (omega arith)) refl refl refl c
+
+-- ---- the content of an event
+
+abbrev pub two_lines : List ℕ → List ℕ → Lines
+two_lines start duration = (codes "DTSTART:" ++ start) ∷ (codes "DURATION:" ++ duration) ∷ []
+
+pub two_octets : (start duration : List ℕ) → codes "DTSTART:" ++ start ++ codes "\r\nDURATION:" ++ duration ++ codes "\r\n" ≡ canonical (two_lines start duration)
+two_octets start duration = regroup (codes "DTSTART:") start (codes "\r\n") (codes "DURATION:") duration
+  where
+    regroup : (a s e m d : List ℕ) → (((a ++ s) ++ (e ++ m)) ++ d) ++ e ≡ ((a ++ s) ++ e) ++ (((m ++ d) ++ e) ++ [])
+    regroup a s e m d = simp (append_assoc, append-nil)
 
 -- ---- the lines of an object
 

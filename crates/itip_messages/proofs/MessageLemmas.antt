@@ -160,14 +160,14 @@ one_part room message event parts b is on are s =
     let named : names_room room event ≡ true = sym (addressed room message event s) ∙ sym is ∙ on in
     let here : component_names room s.component ≡ true = names_said room message event s ∙ named in
     let part = part_for room message s.component in
-    let said : IsPart event part = record {
-      octets = s.component.canonical.items;
+    let c = s.says.canonical in
+    let said : IsPart event c.content part = record {
       organiser = s.organiser;
       uid = s.uid;
       slot = ap slot_of s.says.slot;
       sequence = s.says.sequence;
       stamp = s.says.stamp;
-      canonical = s.says.canonical;
-      body = ap (λ (b : Bool). cond b (revisions.Set s.component.canonical.items) revisions.Absent) here;
+      when = c.when;
+      body = ap (λ (b : Bool). cond b (revisions.Set s.component.canonical.items) revisions.Absent) here ∙ ap revisions.Set c.is;
     } in
-    subst (λ (ps : List revisions.Part). AreParts room event ps) (sym (are ∙ ap (map (part_for room message)) s.one)) (named, said)
+    subst (λ (ps : List revisions.Part). AreParts room event ps) (sym (are ∙ ap (map (part_for room message)) s.one)) (named, (c.content, said))

@@ -7,7 +7,7 @@ use Rattle.profile.specs.Lines.{line_value, is_same_name}
 use Rattle.profile.specs.Trees.{Tree}
 use Rattle.profile.specs.Events.{Event, booked_by}
 use Rattle.profile.specs.Properties.{lines_named}
-use Rattle.profile.specs.Messages.{IsCanonical, SaysRequest, SpellsRequest, RequestFault, is_method, is_unread_method, are_one_meeting}
+use Rattle.profile.specs.Messages.{IsContent, canonical, SaysRequest, SpellsRequest, RequestFault, is_method, is_unread_method, are_one_meeting}
 use Rattle.profile.specs.Revisions as revisions
 use Rattle.ical_values.specs.Octets.{text_octets, address_octets}
 use Rattle.ical_lines.specs.declared.fault.Fault.{Fault}
@@ -16,6 +16,12 @@ use Rattle.itip_order.specs.declared.part.Slot.TheVariants.{Whole}
 use Rattle.itip_order.specs.Parts.{slot_of, revision_of}
 use Rattle.itip_messages.specs.declared.message.MessageComponent.{MessageComponent}
 use Rattle.itip_messages.specs.declared.message.Message.{Message}
+
+-- the octets are the event's content, in its one form
+pub record IsCanonical (octets : List ℕ) (event : Event) : Type 0 where
+  pub content : List (List ℕ)
+  pub when : IsContent content event
+  pub is : octets ≡ canonical content
 
 -- the component is the whole of this event
 pub record SaysComponent (component : MessageComponent) (event : Event) : Type 0 where

@@ -11,9 +11,9 @@ ghost use Rattle.profile.specs.Lines.{line_value, is_same_name};
 ghost use Rattle.profile.specs.Values.{duration_text};
 ghost use Rattle.profile.specs.Events.{SaysEvent, has_unread};
 ghost use Rattle.profile.specs.Properties.{StandsAtMostOnce, StandsTwice};
-ghost use Rattle.profile.specs.Messages.{IsCanonical, MethodFault, MessageFault, is_same_meeting, is_unread_method};
+ghost use Rattle.profile.specs.Messages.{MethodFault, MessageFault, is_same_meeting, is_unread_method};
 ghost use Rattle.cal_events.specs.Events.{event_of, vevents_of};
-ghost use Rattle.itip_messages.specs.Messages.{IsMessageOf, IsSpelled, MeetingFault, NamesRequest, ReadFault, StandsFor, WordFault, component_names};
+ghost use Rattle.itip_messages.specs.Messages.{IsCanonical, IsMessageOf, IsSpelled, MeetingFault, NamesRequest, ReadFault, StandsFor, WordFault, component_names};
 
 use crate::attendees::Attendees;
 use cal_events::{EventComponent, Purpose, read_event, refuse_unread_events};

@@ -1,7 +1,8 @@
 -- Worked examples of definitions, computed. Those of the other files stand beside the crates that meet them: Lines in ical_lines,
 -- Objects in ical_tree, Days and Values in cal_days and ical_values, Instances in cal_events, Certificates in clash_cert,
 -- Revisions in itip_order, Messages in itip_messages, Rooms in room_books.
-use Rattle.std.proofs.Common.{◌≡◌, ℕ, pos, true, false, List, [], ◌∷◌, ◌++◌, None, refl, codes, ap, lit<}
+use Rattle.std.proofs.Common.{◌≡◌, ◌<◌, ◌∙◌, ℕ, zero, suc, pos, true, false, List, [], ◌∷◌, ◌++◌, None, refl, codes, ap, arith, get_or, lit<}
+use Rattle.std.proofs.lemmas.Bool.{false≢true}
 use Rattle.std.proofs.lemmas.Fmt.{decimal_digit}
 use Rattle.profile.specs.Faults.{is_event_fault, is_calendar_fault, is_message_fault}
 use Rattle.profile.specs.Lines.{line_param}
@@ -9,10 +10,10 @@ use Rattle.profile.specs.Calendars.{CalendarTextFault, in_lines, in_tree}
 use Rattle.profile.specs.Trees.{Tree, tree, none, more, vevents}
 use Rattle.profile.specs.Events.{Event, Participation, Accepted, Declined, NeedsAction, is_unread_line, has_unread, answer_named, booked_by, confirmed}
 use Rattle.profile.specs.Properties.{lines_named}
-use Rattle.profile.specs.Revisions.{Part, Whole, Set}
+use Rattle.profile.specs.Revisions.{Part, Whole, Set, same_meeting}
 use Rattle.profile.specs.Messages.{Accept, SinglesLimit, MethodFault, no_method, object_lines, word}
-use Rattle.profile.specs.Rooms.{Book, Claim, empty_book}
-use Rattle.profile.specs.Kept.{kept, kept_certificate, first_parts}
+use Rattle.profile.specs.Rooms.{Answer, Book, Claim, empty_book, is_confirmed}
+use Rattle.profile.specs.Kept.{IsKept, kept_certificate, first_parts}
 use Rattle.profile.specs.Streams.{Now, Room, moments, rooms, refused_line, AreObjects}
 
 -- ---- lists of refusals
@@ -125,7 +126,7 @@ part_of uid sequence = record {
 }
 
 abbrev claim_of : List ℕ → ℕ → Claim
-claim_of uid sequence = record { part = part_of uid sequence; books = record { key = record { organiser = codes "o:1"; uid = uid; slot = pos 0 }; start = pos 0; end = pos 1 } ∷ [] }
+claim_of uid sequence = record { part = part_of uid sequence; content = codes "DTSTART:19700101T000000Z" ∷ codes "DURATION:PT1S" ∷ []; singles = record { key = record { organiser = codes "o:1"; uid = uid; slot = pos 0 }; start = pos 0; end = pos 1 } ∷ [] }
 
 -- b came first and was declined; a was accepted
 abbrev two_meetings : Book
@@ -137,8 +138,22 @@ two_meetings = record {
 in_order_of_arrival : first_parts two_meetings.taken ≡ part_of (codes "b") 0 ∷ part_of (codes "a") 0 ∷ []
 in_order_of_arrival = refl
 
-the_declined_is_not_kept : kept two_meetings ≡ record { claim = claim_of (codes "a") 0; moment = pos 9; outcome = Accept } ∷ []
-the_declined_is_not_kept = refl
+the_accepted_is_kept : IsKept two_meetings (part_of (codes "a") 0) (claim_of (codes "a") 0)
+the_accepted_is_kept = record {
+  of_meeting = refl;
+  answer = record { claim = claim_of (codes "a") 0; moment = pos 9; outcome = Accept };
+  given = (1, lit< tt, refl);
+  to = refl;
+  confirms = refl;
+}
+
+the_declined_is_not_kept : IsKept two_meetings (part_of (codes "b") 0) (claim_of (codes "b") 0) → ⊥
+the_declined_is_not_kept k = by_place k.given.0 k.given.1 k.given.2
+  where
+    by_place : (place : ℕ) → place < 2 → get_or two_meetings.answers place k.answer ≡ k.answer → ⊥
+    by_place zero l at = false≢true (ap (λ a. is_confirmed two_meetings.taken a) at ∙ k.confirms)
+    by_place (suc zero) l at = false≢true (ap (λ (a : Answer). same_meeting (part_of (codes "b") 0) a.claim.part) at ∙ ap (λ (c : Claim). same_meeting (part_of (codes "b") 0) c.part) k.to)
+    by_place (suc (suc place)) l at = absurd (omega arith)
 
 one_single : kept_certificate two_meetings ≡ codes "ROOMCERT 1\nSINGLES 1\nSERIES 0\nDONE\n"
 one_single = ap (λ (d : List ℕ). codes "ROOMCERT 1\nSINGLES " ++ (d ++ codes "\nSERIES 0\nDONE\n")) (decimal_digit 1 (lit< tt))

@@ -1,6 +1,6 @@
 -- VEVENTs: what their lines say (RFC 5545 3.6.1), and what a room books of them, so far of single events in UTC. A VEVENT is its
 -- content lines here, beside the object that it stands in: its times may name a VTIMEZONE of that.
-use Rattle.std.specs.Prelude.{◌≡◌, ◌≢◌, ℕ, Contains, AllPairs, ◌≤◌, Bool, true, false, if◌then◌else◌, ◌&&◌, ◌||◌, List, [], ◌∷◌, length, map, filter, codes, Option, Some, None, is_some, option_map, unwrap_or, ℤ, pos, ◌+ℤ◌}
+use Rattle.std.specs.Prelude.{◌≡◌, ◌≢◌, ℕ, Contains, AllPairs, Bool, true, false, if◌then◌else◌, ◌&&◌, ◌||◌, List, [], ◌∷◌, map, filter, codes, Option, Some, option_map, unwrap_or, ℤ, pos, ◌+ℤ◌}
 use Rattle.std.specs.List.{find, list_any, AllZip}
 use Rattle.std.specs.Str.{bytes_eq}
 use Rattle.profile.specs.Lines.{line_value, line_param, is_same_name}

@@ -1,11 +1,11 @@
 -- The headline, sentence by sentence. Each is the contract of a law: `kept_texts_pass` and `accepted_where_clear` of room_books,
 -- `yes_means_free` of clash_check. That the program does what is said here of runs and of the checker's yes is what the contracts of
 -- `Room::take`, `Room::calendar_text`, `Room::certificate_text` and `check` say.
-use Rattle.std.specs.Prelude.{◌≡◌, ◌↔◌, ◌<◌, ◌≤◌, ◌++◌, ℕ, ℤ, ◌<ℤ◌, List, Contains, AllPairs, IsTrue, flat_map, length, nat_lt}
+use Rattle.std.specs.Prelude.{◌≡◌, ◌↔◌, ◌≤◌, ℕ, ℤ, ◌<ℤ◌, List, Contains, AllPairs, IsTrue, length, nat_lt}
 use Rattle.profile.specs.Instances.{Key, Booked, IsWithin, IsClear, horizon}
 use Rattle.profile.specs.Calendars.{CertificateHolds, SpellsCalendar}
 use Rattle.profile.specs.Messages.{Outcome, Accept, Busy}
-use Rattle.profile.specs.Rooms.{Book, Claim, Delivery, Runs, IsStep, NamesClash, asked, confirmed_in, empty_book, most_singles}
+use Rattle.profile.specs.Rooms.{Book, Claim, Delivery, Runs, IsStep, NamesClash, asked, confirmed, if_accepted, empty_book, most_singles}
 use Rattle.profile.specs.Streams.{IsDelivered}
 use Rattle.profile.specs.Kept.{IsKeptCalendar, kept_certificate}
 
@@ -24,10 +24,9 @@ YesMeansFree =
     → (all : List Booked) → SpellsCalendar room calendar all
     → AllPairs (λ a b. (t : ℤ) → IsWithin a.start a.end t → IsWithin b.start b.end t → t <ℤ horizon → ⊥) all
 
--- the confirmed instances that there would be, were the parts of a message that are asked accepted
-abbrev pub would_be : Book → List Claim → Book → List Booked
-would_be before claims after =
-    confirmed_in after.taken before.answers ++ flat_map (λ c. c.books) (asked before.taken after.taken claims)
+-- the instances that would be confirmed after a message, were each of its parts that is asked accepted
+abbrev pub would_be : Book → List Claim → ℤ → Book → List Booked
+would_be before claims moment after = confirmed (if_accepted before claims moment after.taken)
 
 -- and a new revision is accepted exactly where that stays true, within the limit, each decline naming two instances and an instant
 -- in both.
@@ -35,5 +34,5 @@ abbrev pub AcceptedWhereClear : Type 0
 AcceptedWhereClear =
     (before : Book) (claims : List Claim) (moment : ℤ) (outcome : Outcome) (after : Book) → IsStep before claims moment outcome after
     → IsTrue (nat_lt 0 (length (asked before.taken after.taken claims)))
-    → ((outcome ≡ Accept) ↔ ((length (would_be before claims after) ≤ most_singles) × IsClear (would_be before claims after)))
-    × ((first second : Key) (t : ℤ) → outcome ≡ Busy first second t → NamesClash (would_be before claims after) first second t)
+    → ((outcome ≡ Accept) ↔ ((length (would_be before claims moment after) ≤ most_singles) × IsClear (would_be before claims moment after)))
+    × ((first second : Key) (t : ℤ) → outcome ≡ Busy first second t → NamesClash (would_be before claims moment after) first second t)

@@ -1,10 +1,11 @@
--- What a room writes, as octets: its replies, its kept calendar and the certificate for it. So far a meeting has one slot.
-use Rattle.std.specs.Prelude.{◌≡◌, ℕ, Bool, true, not, ◌&&◌, ◌==◌, IsTrue, List, [], ◌∷◌, ◌++◌, length, filter, codes, decimal, Contains, Option, Some, None}
-use Rattle.std.specs.List.{flat_map, list_all, AllZip}
+-- What a room writes, as octets: its replies, its kept calendar and the certificate for it.
+use Rattle.std.specs.Prelude.{◌≡◌, ℕ, true, not, ◌&&◌, ◌==◌, ◌↔◌, IsTrue, List, [], ◌∷◌, ◌++◌, length, filter, codes, decimal, Contains, AllPairs, Option, Some, None}
+use Rattle.std.specs.List.{flat_map, AllZip}
 use Rattle.profile.specs.Lines.{written}
 use Rattle.profile.specs.Values.{WritesStamp, escaped}
 use Rattle.profile.specs.Certificates.{text_of}
-use Rattle.profile.specs.Revisions.{Part, Set, same_meeting}
+use Rattle.profile.specs.Revisions.{Part, same_meeting, slot_cmp}
+use Rattle.std.specs.declared.cmp.Ordering.TheVariants.{Less}
 use Rattle.profile.specs.Messages.{IsReplyEvent, object_lines}
 use Rattle.profile.specs.Rooms.{Claim, Answer, Book, confirmed, is_confirmed, shown, answers_part}
 
@@ -35,33 +36,39 @@ abbrev pub first_parts : List Part → List Part
 first_parts [] = []
 first_parts (p ∷ ps) = p ∷ filter (λ other. not (same_meeting p other)) (first_parts ps)
 
--- the confirmed answers of the meeting of a part
-abbrev pub kept_of : Book → Part → List Answer
-kept_of book p = filter (λ a. same_meeting p a.claim.part && is_confirmed book.taken a) book.answers
+-- the room keeps the claim of the meeting that the first part is of: the claim's part is in the view, and was accepted
+pub record IsKept (book : Book) (first : Part) (claim : Claim) : Type 0 where
+  pub of_meeting : same_meeting first claim.part ≡ true
+  pub answer : Answer
+  pub given : Contains book.answers answer
+  pub to : answer.claim ≡ claim
+  pub confirms : is_confirmed book.taken answer ≡ true
 
--- the confirmed answers, the meetings in order of first arrival
-abbrev pub kept : Book → List Answer
-kept book = flat_map (kept_of book) (first_parts book.taken)
+-- these are all that it keeps of that meeting, by their slots
+pub record AreKeptOf (book : Book) (first : Part) (claims : List Claim) : Type 0 where
+  pub exact : (claim : Claim) → Contains claims claim ↔ IsKept book first claim
+  pub order : AllPairs (λ a b. slot_cmp a.part.slot b.part.slot ≡ Less) claims
 
--- no LF stands in the line
-abbrev pub is_unbroken : List ℕ → Bool
-is_unbroken line = list_all (λ c. not (c == 10)) line
+-- these are all that it keeps, the meetings in order of first arrival
+pub record AreKept (book : Book) (claims : List Claim) : Type 0 where
+  pub by_meeting : List (List Claim)
+  pub each : AllZip (AreKeptOf book) (first_parts book.taken) by_meeting
+  pub are : claims ≡ flat_map (λ c. c) by_meeting
 
--- the lines of a VEVENT of the kept calendar: the part's own, and the room as its one attendee, who has accepted
-pub record IsKeptEvent (room : List ℕ) (answer : Answer) (lines : List (List ℕ)) : Type 0 where
+-- the lines of a VEVENT of the kept calendar: its part's, when it is, and the room as its one attendee, who has accepted
+pub record IsKeptEvent (room : List ℕ) (claim : Claim) (lines : List (List ℕ)) : Type 0 where
   pub stamp : List ℕ
-  pub body : List (List ℕ)
-  pub written_stamp : WritesStamp stamp answer.claim.part.revision.stamp
-  pub body_is : answer.claim.part.body ≡ Set (flat_map (λ line. line ++ codes "\r\n") body)
-  pub whole_lines : list_all is_unbroken body ≡ true
-  pub is : lines ≡ (codes "BEGIN:VEVENT" ∷ (codes "UID:" ++ escaped answer.claim.part.uid) ∷ (codes "SEQUENCE:" ++ decimal answer.claim.part.revision.sequence) ∷ (codes "DTSTAMP:" ++ stamp) ∷ [])
-      ++ body
-      ++ ((codes "ORGANIZER:" ++ answer.claim.part.organiser) ∷ (codes "ATTENDEE;PARTSTAT=ACCEPTED:" ++ room) ∷ codes "END:VEVENT" ∷ [])
+  pub written_stamp : WritesStamp stamp claim.part.revision.stamp
+  pub is : lines ≡ (codes "BEGIN:VEVENT" ∷ (codes "UID:" ++ escaped claim.part.uid) ∷ (codes "SEQUENCE:" ++ decimal claim.part.revision.sequence) ∷ (codes "DTSTAMP:" ++ stamp) ∷ [])
+      ++ claim.content
+      ++ ((codes "ORGANIZER:" ++ claim.part.organiser) ∷ (codes "ATTENDEE;PARTSTAT=ACCEPTED:" ++ room) ∷ codes "END:VEVENT" ∷ [])
 
 -- the octets are the room's kept calendar
 pub record IsKeptCalendar (room : List ℕ) (book : Book) (octets : List ℕ) : Type 0 where
+  pub claims : List Claim
+  pub kept : AreKept book claims
   pub events : List (List (List ℕ))
-  pub each : AllZip (IsKeptEvent room) (kept book) events
+  pub each : AllZip (IsKeptEvent room) claims events
   pub is : octets ≡ written (object_lines None (flat_map (λ lines. lines) events))
 
 -- the certificate for it: its count of singles

@@ -77,32 +77,34 @@ pub record RequestFault (octets : List ℕ) (n : ℕ) : Type 0 where
 
 -- ---- its parts
 
--- the lines of a body in their one form, unfolded, each ended by CRLF: two bodies are one where these octets are equal, so a day and
--- 24 hours are two; this profile's choice
-pub record IsCanonical (octets : List ℕ) (event : Event) : Type 0 where
+-- the lines of a VEVENT that say when its event is, in their one form, unfolded and without line ends
+pub record IsContent (content : List (List ℕ)) (event : Event) : Type 0 where
   pub start : List ℕ
   pub written : WritesStamp start event.times.start
-  pub is : octets ≡ codes "DTSTART:" ++ start ++ codes "\r\nDURATION:" ++ duration_text event.times.length.days event.times.length.seconds ++ codes "\r\n"
+  pub is : content ≡ (codes "DTSTART:" ++ start) ∷ (codes "DURATION:" ++ duration_text event.times.length.days event.times.length.seconds) ∷ []
+
+-- those lines, each ended by CRLF: two bodies are one where these octets are equal, so a day and 24 hours are two; this profile's choice
+abbrev pub canonical : List (List ℕ) → List ℕ
+canonical content = flat_map (λ line. line ++ codes "\r\n") content
 
 -- an ATTENDEE line of the event has the room's address
 abbrev pub names_room : List ℕ → Event → Bool
 names_room room event = list_any (λ a. bytes_eq a.address room) event.attendees
 
--- the part that the event of a REQUEST is: of the whole meeting, and to take place
-pub record IsPart (event : Event) (part : Part) : Type 0 where
-  pub octets : List ℕ
+-- the part that the event of a REQUEST is, with this content: of the whole meeting, and to take place
+pub record IsPart (event : Event) (content : List (List ℕ)) (part : Part) : Type 0 where
   pub organiser : event.organiser ≡ Some part.organiser
   pub uid : part.uid ≡ event.uid
   pub slot : part.slot ≡ Whole
   pub sequence : part.revision.sequence ≡ event.sequence
   pub stamp : event.stamp ≡ Some part.revision.stamp
-  pub canonical : IsCanonical octets event
-  pub body : part.body ≡ Set octets
+  pub when : IsContent content event
+  pub body : part.body ≡ Set (canonical content)
 
 -- the parts that a REQUEST has for a room: one where it names the room, else none, as it isn't addressed to it
 abbrev pub AreParts : List ℕ → Event → List Part → Type 0
 AreParts room event [] = names_room room event ≡ false
-AreParts room event (part ∷ []) = (names_room room event ≡ true) × IsPart event part
+AreParts room event (part ∷ []) = (names_room room event ≡ true) × ((content : List (List ℕ)) × IsPart event content part)
 AreParts room event (part ∷ other ∷ parts) = ⊥
 
 -- ---- replies

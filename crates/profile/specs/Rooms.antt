@@ -8,10 +8,12 @@ use Rattle.profile.specs.Messages.{Outcome, Accept, Busy, SeriesLimit, SinglesLi
 
 -- ---- what a room keeps
 
--- a part of a message, and the instances that it books if it takes place
+-- a part of a message, and what it asks for if it is to take place: the lines that say when, without line ends, and the instances. So far
+-- these are single instances: no series
 pub record Claim : Type 0 where
   pub part : Part
-  pub books : List Booked
+  pub content : List (List ℕ)
+  pub singles : List Booked
 
 -- what was decided about a part, and when; it stays for good
 pub record Answer : Type 0 where
@@ -40,7 +42,7 @@ is_confirmed taken answer = is_accept answer.outcome && in_view taken answer.cla
 
 -- the confirmed instances, where these parts were taken and so answered
 abbrev pub confirmed_in : List Part → List Answer → List Booked
-confirmed_in taken answers = flat_map (λ a. a.claim.books) (filter (is_confirmed taken) answers)
+confirmed_in taken answers = flat_map (λ a. a.claim.singles) (filter (is_confirmed taken) answers)
 
 abbrev pub confirmed : Book → List Booked
 confirmed book = confirmed_in book.taken book.answers
@@ -100,13 +102,18 @@ Decides all SeriesLimit = ⊥
 abbrev pub answered : ℤ → Outcome → List Claim → List Answer
 answered moment outcome claims = map (λ c. record { claim = c; moment = moment; outcome = outcome }) claims
 
+-- the book that there would be after these parts, were each that is asked accepted
+abbrev pub if_accepted : Book → List Claim → ℤ → List Part → Book
+if_accepted before claims moment taken =
+    record { taken = taken; answers = before.answers ++ answered moment Accept (asked before.taken taken claims) }
+
 -- A message with these parts is taken at a moment: its parts are taken, the old answers stay, and each part that is asked
--- gets the one outcome, which the instances decide that would be confirmed with those parts accepted
+-- gets the one outcome, which the instances decide that would be confirmed, were each accepted
 pub record IsStep (before : Book) (claims : List Claim) (moment : ℤ) (outcome : Outcome) (after : Book) : Type 0 where
   pub taken : after.taken ≡ before.taken ++ parts_of claims
   pub answers : after.answers ≡ before.answers ++ answered moment outcome (asked before.taken after.taken claims)
   pub decided : IsTrue (nat_lt 0 (length (asked before.taken after.taken claims)))
-      → Decides (confirmed_in after.taken before.answers ++ flat_map (λ c. c.books) (asked before.taken after.taken claims)) outcome
+      → Decides (confirmed (if_accepted before claims moment after.taken)) outcome
 
 -- a message, at a moment
 pub record Delivery : Type 0 where

@@ -7,8 +7,7 @@ use Rattle.profile.specs.Lines.{logical_lines, text_has}
 use Rattle.profile.specs.Objects.{SpellsTree, most_events, count_inside, has_version, lines_have, is_begun, after_object}
 use Rattle.profile.specs.Trees.{Tree, tree_name, tree_own, tree_inside}
 use Rattle.profile.specs.Events.{Event, booked_by}
-use Rattle.profile.specs.Messages.{SpellsRequest, RequestFault, AreParts, Outcome}
-use Rattle.profile.specs.Revisions.{Part}
+use Rattle.profile.specs.Messages.{SpellsRequest, RequestFault, IsPart, names_room, Outcome}
 use Rattle.profile.specs.Rooms.{Claim, Book, Delivery, IsStep, empty_book}
 use Rattle.profile.specs.Kept.{Replies}
 use Rattle.profile.specs.Values.{SpellsStamp, IsAddress, lower_case}
@@ -115,68 +114,75 @@ ObjectFault n octets =
 
 -- ---- the answers
 
--- the claim that a part makes: it books the event's one instance
-abbrev pub claim : Event → Part → Claim
-claim event part = record { part = part; books = booked_by event ∷ [] }
+-- what the event of a REQUEST claims: the part that it is, and its one instance
+pub record IsClaim (event : Event) (claim : Claim) : Type 0 where
+  pub part : IsPart event claim.content claim.part
+  pub singles : claim.singles ≡ booked_by event ∷ []
+
+-- what it claims of a room: that where it names the room, else nothing, as it isn't addressed to it
+abbrev pub AreClaims : List ℕ → Event → List Claim → Type 0
+AreClaims room event [] = names_room room event ≡ false
+AreClaims room event (claim ∷ []) = (names_room room event ≡ true) × IsClaim event claim
+AreClaims room event (claim ∷ other ∷ claims) = ⊥
 
 -- the delivery hands to a room what octets that spell a REQUEST claim of it
 pub record IsDelivered (room : List ℕ) (delivery : Delivery) : Type 0 where
   pub octets : List ℕ
   pub event : Event
   pub spells : SpellsRequest octets event
-  pub parts : List Part
-  pub are : AreParts room event parts
-  pub claims : delivery.claims ≡ map (claim event) parts
+  pub are : AreClaims room event delivery.claims
 
--- a room that has this address and this book takes the event, and answers these octets
-pub record Takes (moment : ℤ) (event : Event) (room : List ℕ) (before after : Book) (octets : List ℕ) : Type 0 where
-  pub parts : List Part
-  pub are : AreParts room event parts
+-- what a box keeps of a room that it hosts
+pub record Hosted : Type 0 where
+  pub address : List ℕ
+  pub book : Book
+
+-- a room takes the event, and answers these octets
+pub record Takes (moment : ℤ) (event : Event) (before after : Hosted) (octets : List ℕ) : Type 0 where
+  pub same : after.address ≡ before.address
+  pub claims : List Claim
+  pub are : AreClaims before.address event claims
   pub outcome : Outcome
-  pub step : IsStep before (map (claim event) parts) moment outcome after
+  pub step : IsStep before.book claims moment outcome after.book
   pub reply : Option (List ℕ)
-  pub replies : Replies room after (map (claim event) parts) reply
+  pub replies : Replies before.address after.book claims reply
   pub is : octets ≡ flat_map (λ x. x) (option_to_list reply)
 
 -- all rooms take it, one after another; their answers stand in the same order
-abbrev pub AllTake : ℤ → Event → List (List ℕ) → List Book → List Book → List ℕ → Type 0
-AllTake moment event [] [] [] octets = octets ≡ []
-AllTake moment event (room ∷ rooms) (before ∷ befores) (after ∷ afters) octets =
-    (first : List ℕ) × (rest : List ℕ) × (octets ≡ first ++ rest) × Takes moment event room before after first × AllTake moment event rooms befores afters rest
-AllTake moment event _ _ _ octets = ⊥
+abbrev pub AllTake : ℤ → Event → List Hosted → List Hosted → List ℕ → Type 0
+AllTake moment event [] [] octets = octets ≡ []
+AllTake moment event (before ∷ befores) (after ∷ afters) octets =
+    (first : List ℕ) × (rest : List ℕ) × (octets ≡ first ++ rest) × Takes moment event before after first × AllTake moment event befores afters rest
+AllTake moment event _ _ octets = ⊥
 
 -- the line for a refused object, by its place in the stream from 1
 abbrev pub refused_line : ℕ → ℕ → List ℕ
 refused_line k n = codes "REFUSED;OBJECT=" ++ decimal k ++ codes ":" ++ decimal n ++ codes "\r\n"
 
--- these octets answer object k: what the rooms answer to it, or the line for a refusal, which changes no book; so many refusals it is
-abbrev pub Answers : ℤ → List (List ℕ) → ℕ → List ℕ → List Book → List Book → List ℕ → ℕ → Type 0
-Answers moment rooms k object befores afters octets refused =
-    ((event : Event) × SpellsRequest object event × AllTake moment event rooms befores afters octets × (refused ≡ 0))
-    ⊎ ((n : ℕ) × ObjectFault n object × (afters ≡ befores) × (octets ≡ refused_line k n) × (refused ≡ 1))
+-- one step of a box, which hosts these rooms: the octets answer object k with what the rooms answer to it, or with the line for a refusal,
+-- which changes no room; so many refusals it is
+abbrev pub Answers : ℤ → ℕ → List ℕ → List Hosted → List Hosted → List ℕ → ℕ → Type 0
+Answers moment k object before after octets refused =
+    ((event : Event) × SpellsRequest object event × AllTake moment event before after octets × (refused ≡ 0))
+    ⊎ ((n : ℕ) × ObjectFault n object × (after ≡ before) × (octets ≡ refused_line k n) × (refused ≡ 1))
 
--- the answers to objects from number k on, one behind another, and how many objects are refused
-abbrev pub AllAnswers : ℤ → List (List ℕ) → ℕ → List (List ℕ) → List Book → List Book → List ℕ → ℕ → Type 0
-AllAnswers moment rooms k [] befores afters octets refused = (afters ≡ befores) × (octets ≡ []) × (refused ≡ 0)
-AllAnswers moment rooms k (object ∷ objects) befores afters octets refused =
-    (mids : List Book) × (first : List ℕ) × (rest : List ℕ) × (one : ℕ) × (others : ℕ) × (octets ≡ first ++ rest) × (refused ≡ one + others)
-    × Answers moment rooms k object befores mids first one × AllAnswers moment rooms (k + 1) objects mids afters rest others
+-- step by step the answers to objects from number k on, one behind another, and how many objects are refused
+abbrev pub AllAnswers : ℤ → ℕ → List (List ℕ) → List Hosted → List Hosted → List ℕ → ℕ → Type 0
+AllAnswers moment k [] before after octets refused = (after ≡ before) × (octets ≡ []) × (refused ≡ 0)
+AllAnswers moment k (object ∷ objects) before after octets refused =
+    (mid : List Hosted) × (first : List ℕ) × (rest : List ℕ) × (one : ℕ) × (others : ℕ) × (octets ≡ first ++ rest) × (refused ≡ one + others)
+    × Answers moment k object before mid first one × AllAnswers moment (k + 1) objects mid after rest others
 
 -- no room has taken anything
-abbrev pub empty_books : List (List ℕ) → List Book
-empty_books rooms = map (λ room. empty_book) rooms
+abbrev pub new_box : List (List ℕ) → List Hosted
+new_box rooms = map (λ room. record { address = room; book = empty_book }) rooms
 
 -- the whole of what is written for a stream that is served to its end, from rooms that have taken nothing
 pub record AnswersStream (stream octets : List ℕ) : Type 0 where
   pub moment : ℤ
   pub rooms : List (List ℕ)
   pub objects : List (List ℕ)
-  pub afters : List Book
+  pub after : List Hosted
   pub refused : ℕ
   pub is : IsStream stream moment rooms objects
-  pub answers : AllAnswers moment rooms 1 objects (empty_books rooms) afters octets refused
-
--- of these rooms, with these books, one has this address and this book
-abbrev pub HasBook : List (List ℕ) → List Book → List ℕ → Book → Type 0
-HasBook (address ∷ addresses) (kept ∷ books) room book = ((address ≡ room) × (kept ≡ book)) ⊎ HasBook addresses books room book
-HasBook _ _ room book = ⊥
+  pub answers : AllAnswers moment 1 objects (new_box rooms) after octets refused

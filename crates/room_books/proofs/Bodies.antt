@@ -1,7 +1,7 @@
--- The canonical octets of a body are its two lines, each ended by CRLF, and spell those two lines alone.
-use Rattle.std.proofs.Common.{◌≡◌, ◌∙◌, ℕ, zero, suc, ◌-◌, ◌^◌, ◌<◌, Bool, true, false, not, List, [], ◌∷◌, ◌++◌, codes, refl, sym, ap, subst, length, get_or, arith, append_assoc, append-nil}
+-- The octets of an event's content are its two lines, each ended by CRLF, and read as those two lines alone.
+use Rattle.std.proofs.Common.{◌≡◌, ◌∙◌, ℕ, zero, suc, ◌-◌, ◌^◌, ◌<◌, Bool, true, false, not, List, [], ◌∷◌, ◌++◌, codes, refl, sym, ap, subst, length, get_or, arith, append_assoc}
 use Rattle.std.specs.Prelude.{◌==◌}
-use Rattle.std.specs.List.{flat_map, list_all, slice_split}
+use Rattle.std.specs.List.{list_all, slice_split}
 use Rattle.std.specs.Str.{IsUtf8}
 use Rattle.std.specs.Str.Lines.{lines, lines_of_parts, strip_carriage_return}
 use Rattle.std.proofs.lemmas.Bool.{and_parts, and_from, not-true}
@@ -13,18 +13,18 @@ use Rattle.std.proofs.lemmas.Str.{IsUtf8-append, IsUtf8-from_ascii}
 use Rattle.std.proofs.lemmas.Str.Ascii.{IsAscii-cons, IsAscii-nil}
 use Rattle.profile.specs.Events.{Event}
 use Rattle.profile.specs.Properties.{length_seconds}
-use Rattle.profile.specs.Kept.{is_unbroken}
-use Rattle.profile.specs.Messages.{IsCanonical}
+use Rattle.profile.specs.Messages.{IsContent, canonical}
 use Rattle.profile.specs.Revisions.{Body, Set, Absent, Cancelled}
 use Rattle.profile.specs.Values.{duration_text}
 use Rattle.ical_lines.proofs.CleanLines.{is_shown, clean_shown}
 use Rattle.ical_values.proofs.ShownValues.{shown_stamp}
 use Rattle.itip_messages.proofs.CleanText.{shown_duration}
+use Rattle.itip_messages.proofs.ContentLines.{two_lines, two_octets}
 use Rattle.itip_messages.proofs.ObjectTree.{Lines}
 
--- lines with a CRLF behind each
-abbrev pub with_ends : Lines → List ℕ
-with_ends lines = flat_map (λ line. line ++ codes "\r\n") lines
+-- no LF stands in the line
+abbrev pub is_unbroken : List ℕ → Bool
+is_unbroken line = list_all (λ c. not (c == 10)) line
 
 -- ---- lines that are ended by CRLF
 
@@ -55,17 +55,13 @@ first_line x [] h = absurd (omega (arith, h))
 first_line x (y ∷ more) h = refl
 
 -- lines that are ended by CRLF read as those lines
-pub lines_ended : (body : List (List ℕ)) → list_all is_unbroken body ≡ true → lines (with_ends body) ≡ body
+pub lines_ended : (body : List (List ℕ)) → list_all is_unbroken body ≡ true → lines (canonical body) ≡ body
 lines_ended [] h = refl
 lines_ended (line ∷ more) h =
     let both = and_parts (is_unbroken line) (list_all is_unbroken more) h in
-    ap lines_of_parts (one_part line (with_ends more) both.0)
-    ∙ first_line (line ++ 13 ∷ []) (slice_split is_lf (with_ends more)) (omega (arith, length-slice_split is_lf (with_ends more)))
+    ap lines_of_parts (one_part line (canonical more) both.0)
+    ∙ first_line (line ++ 13 ∷ []) (slice_split is_lf (canonical more)) (omega (arith, length-slice_split is_lf (canonical more)))
     ∙ (λ i. strip_return line i ∷ lines_ended more both.1 i)
-
--- and so no others are written so
-same_lines : (a b : Lines) → list_all is_unbroken a ≡ true → list_all is_unbroken b ≡ true → with_ends a ≡ with_ends b → a ≡ b
-same_lines a b p q e = sym (lines_ended a p) ∙ ap lines e ∙ lines_ended b q
 
 -- ---- the two lines of a body
 
@@ -76,17 +72,8 @@ shown_unbroken : (text : List ℕ) → list_all is_shown text ≡ true → is_un
 shown_unbroken [] h = refl
 shown_unbroken (c ∷ cs) h = let both = and_parts (is_shown c) (list_all is_shown cs) h in and_from _ _ (not_lf c both.0) (shown_unbroken cs both.1)
 
-abbrev pub two_lines : List ℕ → List ℕ → Lines
-two_lines start duration = (codes "DTSTART:" ++ start) ∷ (codes "DURATION:" ++ duration) ∷ []
-
 two_unbroken : (start duration : List ℕ) → list_all is_shown start ≡ true → list_all is_shown duration ≡ true → list_all is_unbroken (two_lines start duration) ≡ true
 two_unbroken start duration s d = and_from _ _ (shown_unbroken start s) (and_from _ _ (shown_unbroken duration d) refl)
-
-two_octets : (start duration : List ℕ) → codes "DTSTART:" ++ start ++ codes "\r\nDURATION:" ++ duration ++ codes "\r\n" ≡ with_ends (two_lines start duration)
-two_octets start duration = regroup (codes "DTSTART:") start (codes "\r\n") (codes "DURATION:") duration
-  where
-    regroup : (a s e m d : List ℕ) → (((a ++ s) ++ (e ++ m)) ++ d) ++ e ≡ ((a ++ s) ++ e) ++ (((m ++ d) ++ e) ++ [])
-    regroup a s e m d = simp (append_assoc, append-nil)
 
 two_utf8 : (start duration : List ℕ) → list_all is_shown start ≡ true → list_all is_shown duration ≡ true → IsUtf8 (codes "DTSTART:" ++ start ++ codes "\r\nDURATION:" ++ duration ++ codes "\r\n")
 two_utf8 start duration s d =
@@ -97,24 +84,21 @@ two_utf8 start duration s d =
     let first = IsUtf8-append (codes "DTSTART:" ++ start) (codes "\r\nDURATION:") named between in
     IsUtf8-append (codes "DTSTART:" ++ start ++ codes "\r\nDURATION:" ++ duration) (codes "\r\n") (IsUtf8-append (codes "DTSTART:" ++ start ++ codes "\r\nDURATION:") duration first (shown duration d)) crlf
 
--- the octets are the lines of a body
-pub record BodyLines (octets : List ℕ) : Type 0 where
-  pub body : Lines
-  pub is : octets ≡ with_ends body
-  pub unbroken : list_all is_unbroken body ≡ true
+-- the octets of an event's content are text, and their lines are that content
+pub record IsBodyOf (content : Lines) (octets : List ℕ) : Type 0 where
+  pub read : lines octets ≡ content
   pub utf8 : IsUtf8 octets
 
-pub body_lines : (octets : List ℕ) (event : Event) → IsCanonical octets event → length_seconds event.times.length < 2 ^ 64 → BodyLines octets
-body_lines octets event c few =
+pub body_of : (event : Event) (content : Lines) → IsContent content event → length_seconds event.times.length < 2 ^ 64 → IsBodyOf content (canonical content)
+body_of event content c few =
     let days = event.times.length.days in
     let seconds = event.times.length.seconds in
     let start = shown_stamp c.start event.times.start c.written in
     let long = shown_duration days seconds (omega (arith, few)) (omega (arith, few)) in
-    record {
-      body = two_lines c.start (duration_text days seconds);
-      is = c.is ∙ two_octets c.start (duration_text days seconds);
-      unbroken = two_unbroken c.start (duration_text days seconds) start long;
-      utf8 = subst IsUtf8 (sym c.is) (two_utf8 c.start (duration_text days seconds) start long);
+    let two = two_lines c.start (duration_text days seconds) in
+    subst (λ (l : Lines). IsBodyOf l (canonical l)) (sym c.is) record {
+      read = lines_ended two (two_unbroken c.start (duration_text days seconds) start long);
+      utf8 = subst IsUtf8 (two_octets c.start (duration_text days seconds)) (two_utf8 c.start (duration_text days seconds) start long);
     }
 
 -- ---- what is set
@@ -127,9 +111,3 @@ set_octets Cancelled = []
 pub same_octets : (a b : List ℕ) → Set a ≡ Set b → a ≡ b
 unfolding set_octets
 same_octets a b e = ap set_octets e
-
--- the body of a part has the two lines that its octets spell
-pub body_is : (body : Lines) (octets start duration : List ℕ) → list_all is_shown start ≡ true → list_all is_shown duration ≡ true → list_all is_unbroken body ≡ true
-    → octets ≡ codes "DTSTART:" ++ start ++ codes "\r\nDURATION:" ++ duration ++ codes "\r\n" → Set (with_ends body) ≡ Set octets → body ≡ two_lines start duration
-body_is body octets start duration s d whole is e =
-    same_lines body (two_lines start duration) whole (two_unbroken start duration s d) (same_octets (with_ends body) octets e ∙ is ∙ two_octets start duration)

@@ -1,11 +1,13 @@
 -- The claims of a message: at most one, of the part and the instance of its event.
-use Rattle.std.proofs.Common.{◌≡◌, ℕ, ℤ, ◌+◌, true, List, [], ◌∷◌, ◌++◌, Option, None, Some, MatchOption, refl, sym, ap, ◌∙◌, subst, length, arith}
+use Rattle.std.proofs.Common.{◌≡◌, ℕ, ℤ, ◌+◌, ◌^◌, ◌<◌, true, List, [], ◌∷◌, ◌++◌, Option, None, Some, MatchOption, refl, sym, ap, ◌∙◌, subst, length, arith}
 use Rattle.std.specs.Prelude.{slice_get, unwrap_or}
 use Rattle.std.specs.Option.{option_to_list}
 use Rattle.std.specs.Prelude.{Vec, vec_len}
 use Rattle.std.proofs.lemmas.Grind.{common_steps}
 use Rattle.profile.specs.Events.{Event, booked_by}
-use Rattle.profile.specs.Messages.{AreParts}
+use Rattle.profile.specs.Messages.{AreParts, IsPart}
+use Rattle.profile.specs.Properties.{length_seconds}
+use Rattle.profile.specs.Streams.{AreClaims}
 use Rattle.profile.specs.Revisions.{Part, Whole}
 use Rattle.profile.specs.Rooms.{Claim, Book, is_set, is_set_body}
 use Rattle.itip_order.specs.Parts.{parts_of}
@@ -21,7 +23,8 @@ use Rattle.room_books.specs.declared.answer.Kind.{Kind}
 use Rattle.room_books.specs.declared.answer.Kind.TheVariants.{NotAddressed}
 use Rattle.room_books.specs.Takings.{kind_view, reply_octets}
 use Rattle.profile.specs.Kept.{Replies}
-use Rattle.room_books.specs.Standing.{Stands, StepsTo, StepsWith, claim_of, part_list, span_said, AreClaims}
+use Rattle.room_books.specs.Standing.{Stands, StepsTo, StepsWith, body_lines, claim_of, part_list, span_said}
+use Rattle.room_books.proofs.Bodies.{body_of}
 use Rattle.room_books.proofs.Steps.{none_steps}
 
 -- where a list with at most one part loses its last, that is the one
@@ -56,25 +59,28 @@ no_span message event at s = absurd (none_some (at ∙ ap (λ l. slice_get l 0) 
 
 -- a part of an event's message asks for the whole of its meeting
 pub asks_whole : (room : List ℕ) (event : Event) (p : Part) → AreParts room event (p ∷ []) → p.slot ≡ Whole
-asks_whole room event p h = h.1.slot
+asks_whole room event p h = h.1.1.slot
 
 pub asks_set : (room : List ℕ) (event : Event) (p : Part) → AreParts room event (p ∷ []) → is_set p ≡ true
-asks_set room event p h = ap is_set_body h.1.body
+asks_set room event p h = ap is_set_body h.1.1.body
 
-pub claims_are : (room : List ℕ) (event : Event) (p : Part) (span : Span) → AreParts room event (p ∷ []) → span ≡ span_said event → AreClaims room event (claim_of p span ∷ [])
-claims_are room event p span h is =
-    let organiser : p.organiser ≡ unwrap_or event.organiser [] = ap (λ o. unwrap_or o []) (sym h.1.organiser) in
+pub claims_are : (room : List ℕ) (event : Event) (p : Part) (span : Span) → AreParts room event (p ∷ []) → length_seconds event.times.length < 2 ^ 64 → span ≡ span_said event → AreClaims room event (claim_of p span ∷ [])
+claims_are room event p span h short is =
+    let part = h.1.1 in
+    let content : h.1.0 ≡ body_lines p.body = sym (ap body_lines part.body ∙ (body_of event h.1.0 part.when short).read) in
+    let organiser : p.organiser ≡ unwrap_or event.organiser [] = ap (λ o. unwrap_or o []) (sym part.organiser) in
     let start : span.start ≡ event.times.start = ap (λ (s : Span). s.start) is in
-    let end : span.end ≡ (booked_by event).end = ap (λ (s : Span). s.end) is in
-    record {
-      parts = p ∷ [];
-      are = h;
-      books = λ i. record { part = p; books = record { key = record { organiser = organiser i; uid = h.1.uid i; slot = start i }; start = start i; end = end i } ∷ [] } ∷ [];
-    }
+    let end : span.end ≡ (booked_by event).end = ap (λ (s : Span). s.end) is in (
+      h.0,
+      record {
+        part = subst (λ (c : List (List ℕ)). IsPart event c p) content part;
+        singles = λ i. record { key = record { organiser = organiser i; uid = part.uid i; slot = start i }; start = start i; end = end i } ∷ [];
+      },
+    )
 
 -- a message with no part for the room
 pub none_claimed : (room : List ℕ) (event : Event) (entries : List (MeetingKey × Meeting)) (moment : ℤ) (answer : Answer) (book : Book) → AreParts room event [] → answer.kind ≡ NotAddressed → reply_octets answer ≡ None → Stands entries book
     → (claims : List Claim) × AreClaims room event claims × StepsWith room entries book claims moment (kind_view answer.kind) (reply_octets answer)
 none_claimed room event entries moment answer book h e n st =
     let s = subst (λ (x : Kind). StepsTo entries book [] moment (kind_view x)) (sym e) (none_steps entries moment book st) in
-    ([], record { parts = []; are = h; books = refl }, record { steps = s; replies = subst (Replies room s.after []) (sym n) refl })
+    ([], h, record { steps = s; replies = subst (Replies room s.after []) (sym n) refl })

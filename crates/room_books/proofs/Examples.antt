@@ -4,7 +4,7 @@ use Rattle.profile.specs.Instances.{Key, Booked}
 use Rattle.profile.specs.Revisions.{Part, Whole, Set}
 use Rattle.profile.specs.Messages.{Accept, Busy, SinglesLimit}
 use Rattle.profile.specs.Rooms.{Claim, Book, confirmed, asked, kind_of, shown, answered, Accepted, Declined, Repeated, Stale, NotAddressed}
-use Rattle.profile.specs.Kept.{kept}
+use Rattle.room_books.specs.Keeping.{kept}
 
 -- a meeting of the organiser `a`, booked from nine to ten
 abbrev part_at : ℕ → ℕ → Part
@@ -23,7 +23,7 @@ abbrev booked_at : ℕ → ℕ → ℕ → Booked
 booked_at uid start end = record { key = key_of uid start; start = pos start; end = pos end }
 
 abbrev claim_at : ℕ → ℕ → ℕ → ℕ → Claim
-claim_at uid sequence start end = record { part = part_at uid sequence; books = booked_at uid start end ∷ [] }
+claim_at uid sequence start end = record { part = part_at uid sequence; content = []; singles = booked_at uid start end ∷ [] }
 
 -- the first request, from nine to ten, was accepted at eight
 abbrev first : Claim

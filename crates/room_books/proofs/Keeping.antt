@@ -1,5 +1,5 @@
 -- What a room keeps: the VEVENT of each meeting that holds it, and their count.
-use Rattle.std.proofs.Common.{◌≡◌, ℕ, zero, suc, ◌+◌, ◌≤◌, Bool, true, false, ◌&&◌, cond, List, [], ◌∷◌, ◌++◌, None, Some, codes, decimal, refl, sym, ap, ◌∙◌, subst, length, take, arith, length-append, append-nil}
+use Rattle.std.proofs.Common.{◌≡◌, ℕ, zero, suc, ◌+◌, ◌≤◌, Bool, true, false, ◌&&◌, cond, List, [], ◌∷◌, ◌++◌, None, Some, codes, decimal, refl, sym, ap, ◌∙◌, subst, length, take, arith, length-append, append-nil, Option}
 use Rattle.std.specs.Prelude.{slice_get}
 use Rattle.std.proofs.lemmas.Grind.{flat_map-append}
 use Rattle.std.proofs.lemmas.List.{take_all, length-map}
@@ -16,19 +16,21 @@ use Rattle.itip_messages.specs.Replies.{IsStampLine}
 use Rattle.itip_order.specs.Registers.{IsView}
 use Rattle.itip_order.proofs.Lists.{in_head, in_tail, filter_at}
 use Rattle.itip_order.proofs.Registers.{greatest_at, greatest_unique}
-use Rattle.profile.specs.Kept.{first_parts, kept_of, IsKeptEvent}
+use Rattle.profile.specs.Kept.{first_parts, IsKeptEvent, AreKept}
 use Rattle.profile.specs.Lines.{written, folded}
 use Rattle.profile.specs.Revisions.{Part, Set, Whole, in_view}
-use Rattle.profile.specs.Rooms.{Answer, Book, is_confirmed, confirmed}
+use Rattle.profile.specs.Messages.{canonical}
+use Rattle.profile.specs.Rooms.{Claim, Answer, Book, is_confirmed, confirmed}
 use Rattle.profile.specs.Values.{WritesStamp, escaped}
 use Rattle.room_books.specs.declared.meeting.MeetingKey.{MeetingKey}
 use Rattle.room_books.specs.declared.meeting.Meeting.{Meeting}
 use Rattle.room_books.specs.declared.meeting.Span.{Span}
 use Rattle.room_books.specs.Views.{same_key, booked_list, confirmed_span, all_confirmed}
-use Rattle.room_books.specs.Standing.{is_of, of_meeting, answers_of, Meets, MeetsAt, Stands, IsOfEvent}
-use Rattle.room_books.specs.Keeping.{WritesAnswers, WritesEvent, kept_parts}
+use Rattle.room_books.specs.Standing.{is_of, of_meeting, answers_of, Meets, MeetsAt, Stands, IsOfEvent, body_lines}
+use Rattle.room_books.specs.Keeping.{WritesAnswers, WritesEvent, kept_of, kept_parts, kept, claims_of}
+use Rattle.room_books.proofs.KeptClaims.{claims_kept, first_taken}
 use Rattle.room_books.proofs.Arrivals.{key_meeting}
-use Rattle.room_books.proofs.Bodies.{BodyLines, body_lines, lines_ended, same_octets}
+use Rattle.room_books.proofs.Bodies.{body_of, same_octets}
 use Rattle.room_books.proofs.Meetings.{is_of_same, place_whole, view_of, view_whole}
 use Rattle.room_books.proofs.Partition.{partition}
 use Rattle.room_books.proofs.Stepping.{key_laws, found_entry}
@@ -49,12 +51,12 @@ kept_is book key part e =
     (λ i. filter (λ a. sym (key_meeting key part a.claim.part e) i && is_confirmed book.taken a) book.answers)
     ∙ sym (filter_twice (is_confirmed book.taken) (λ a. is_of key a.claim.part) book.answers)
 
-length_flat : (xs : List Answer) → ((a : Answer) → Contains xs a → length a.claim.books ≡ 1) → length (flat_map (λ a. a.claim.books) xs) ≡ length xs
+length_flat : (xs : List Answer) → ((a : Answer) → Contains xs a → length a.claim.singles ≡ 1) → length (flat_map (λ a. a.claim.singles) xs) ≡ length xs
 length_flat [] h = refl
 length_flat (a ∷ xs) h =
     let first = h a (in_head a xs) in
     let rest = length_flat xs (λ x c. h x (in_tail a xs x c)) in
-    omega (arith, length-append a.claim.books (flat_map (λ x. x.claim.books) xs), first, rest)
+    omega (arith, length-append a.claim.singles (flat_map (λ x. x.claim.singles) xs), first, rest)
 
 -- a kept answer of the meeting
 pub record IsKept (book : Book) (key : MeetingKey) (answer : Answer) : Type 0 where
@@ -77,7 +79,7 @@ module _ (entries : List (MeetingKey × Meeting)) (book : Book) (key : MeetingKe
   kept_length : length (kept_of book part) ≡ length (booked_list key (confirmed_span meeting.decided))
   kept_length =
       ap length (kept_is book key part of_key)
-      ∙ sym (length_flat (filter (is_confirmed book.taken) (answers_of key book.answers)) (λ a c. st.single a (kept_at book key a c).given))
+      ∙ sym (length_flat (filter (is_confirmed book.taken) (answers_of key book.answers)) (λ a c. (st.single a (kept_at book key a c).given).one))
       ∙ ap length meets.confirmed
 
   pub none_kept : confirmed_span meeting.decided ≡ None → kept_of book part ≡ []
@@ -110,40 +112,34 @@ module _ (entries : List (MeetingKey × Meeting)) (book : Book) (key : MeetingKe
 -- ---- the VEVENT of a part
 
 module _ (room : List ℕ) (part : Part) (octets : List ℕ) (of_event : IsOfEvent part) (set : part.body ≡ Set octets) where
-  own : BodyLines octets
-  own =
-      let is : of_event.1.octets ≡ octets = same_octets of_event.1.octets octets (sym of_event.1.body ∙ set) in
-      subst BodyLines is (body_lines of_event.1.octets of_event.0 of_event.1.canonical of_event.2)
-
   pub own_utf8 : IsUtf8 octets
-  unfolding own
-  own_utf8 = own.utf8
+  own_utf8 =
+      let is : canonical of_event.1 ≡ octets = same_octets (canonical of_event.1) octets (sym of_event.2.body ∙ set) in
+      subst IsUtf8 is (body_of of_event.0 of_event.1 of_event.2.when of_event.3).utf8
 
   event_lines : List ℕ → List (List ℕ)
-  unfolding own
   event_lines stamp =
       (codes "BEGIN:VEVENT" ∷ (codes "UID:" ++ escaped part.uid) ∷ (codes "SEQUENCE:" ++ decimal part.revision.sequence) ∷ (codes "DTSTAMP:" ++ stamp) ∷ [])
-      ++ own.body
+      ++ lines octets
       ++ ((codes "ORGANIZER:" ++ part.organiser) ∷ (codes "ATTENDEE;PARTSTAT=ACCEPTED:" ++ room) ∷ codes "END:VEVENT" ∷ [])
 
-  shows_event : (stamp : List ℕ) → WritesStamp stamp part.revision.stamp → (answer : Answer) → answer.claim.part ≡ part → IsKeptEvent room answer (event_lines stamp)
-  unfolding own event_lines
-  shows_event stamp w answer e = record {
-    stamp = stamp;
-    body = own.body;
-    written_stamp = subst (λ (p : Part). WritesStamp stamp p.revision.stamp) (sym e) w;
-    body_is = ap (λ (p : Part). p.body) e ∙ set ∙ ap Set own.is;
-    whole_lines = own.unbroken;
-    is = λ i. (codes "BEGIN:VEVENT" ∷ (codes "UID:" ++ escaped (sym e i).uid) ∷ (codes "SEQUENCE:" ++ decimal (sym e i).revision.sequence) ∷ (codes "DTSTAMP:" ++ stamp) ∷ [])
-        ++ own.body
-        ++ ((codes "ORGANIZER:" ++ (sym e i).organiser) ∷ (codes "ATTENDEE;PARTSTAT=ACCEPTED:" ++ room) ∷ codes "END:VEVENT" ∷ []);
-  }
+  shows_event : (stamp : List ℕ) → WritesStamp stamp part.revision.stamp → (claim : Claim) → claim.part ≡ part → claim.content ≡ body_lines part.body → IsKeptEvent room claim (event_lines stamp)
+  unfolding event_lines
+  shows_event stamp w claim e f =
+      let content : claim.content ≡ lines octets = f ∙ ap body_lines set in
+      record {
+        stamp = stamp;
+        written_stamp = subst (λ (p : Part). WritesStamp stamp p.revision.stamp) (sym e) w;
+        is = λ i. (codes "BEGIN:VEVENT" ∷ (codes "UID:" ++ escaped (sym e i).uid) ∷ (codes "SEQUENCE:" ++ decimal (sym e i).revision.sequence) ∷ (codes "DTSTAMP:" ++ stamp) ∷ [])
+            ++ sym content i
+            ++ ((codes "ORGANIZER:" ++ (sym e i).organiser) ∷ (codes "ATTENDEE;PARTSTAT=ACCEPTED:" ++ room) ∷ codes "END:VEVENT" ∷ []);
+      }
 
   -- the lines are written one after another
   pub event_written : (o0 o1 o2 o3 o4 o5 o6 o7 o8 : List ℕ) → o1 ≡ o0 ++ folded (codes "BEGIN:VEVENT") → o2 ≡ o1 ++ folded (codes "UID:" ++ escaped part.uid) → o3 ≡ o2 ++ folded (codes "SEQUENCE:" ++ decimal part.revision.sequence)
       → Appends o3 o4 (IsStampLine (codes "DTSTAMP:") part.revision.stamp) → o5 ≡ o4 ++ written (lines octets) → o6 ≡ o5 ++ folded (codes "ORGANIZER:" ++ part.organiser) → o7 ≡ o6 ++ folded (codes "ATTENDEE;PARTSTAT=ACCEPTED:" ++ room) → o8 ≡ o7 ++ folded (codes "END:VEVENT")
       → WritesEvent room part o0 o8
-  unfolding own event_lines shows_event
+  unfolding event_lines shows_event
   event_written o0 o1 o2 o3 o4 o5 o6 o7 o8 h1 h2 h3 h4 h5 h6 h7 h8 =
       let stamp = h4.1.0 in
       let head : List (List ℕ) = codes "BEGIN:VEVENT" ∷ (codes "UID:" ++ escaped part.uid) ∷ (codes "SEQUENCE:" ++ decimal part.revision.sequence) ∷ (codes "DTSTAMP:" ++ stamp) ∷ [] in
@@ -151,15 +147,14 @@ module _ (room : List ℕ) (part : Part) (octets : List ℕ) (of_event : IsOfEve
       let s2 = push_line o0 o1 o2 (codes "UID:" ++ escaped part.uid) (codes "BEGIN:VEVENT" ∷ []) s1 h2 in
       let s3 = push_line o0 o2 o3 (codes "SEQUENCE:" ++ decimal part.revision.sequence) (codes "BEGIN:VEVENT" ∷ (codes "UID:" ++ escaped part.uid) ∷ []) s2 h3 in
       let s4 : o4 ≡ o0 ++ written head = push_line o0 o3 o4 (codes "DTSTAMP:" ++ stamp) (codes "BEGIN:VEVENT" ∷ (codes "UID:" ++ escaped part.uid) ∷ (codes "SEQUENCE:" ++ decimal part.revision.sequence) ∷ []) s3 (h4.2 ∙ ap (λ l. o3 ++ l) h4.1.2) in
-      let read : lines octets ≡ own.body = ap lines own.is ∙ lines_ended own.body own.unbroken in
-      let s5 : o5 ≡ o0 ++ written (head ++ own.body) = push_lines o0 o4 o5 head own.body s4 (h5 ∙ ap (λ l. o4 ++ written l) read) in
+      let s5 : o5 ≡ o0 ++ written (head ++ lines octets) = push_lines o0 o4 o5 head (lines octets) s4 h5 in
       let t1 = push_line o5 o5 o6 (codes "ORGANIZER:" ++ part.organiser) [] (no_lines o5) h6 in
       let t2 = push_line o5 o6 o7 (codes "ATTENDEE;PARTSTAT=ACCEPTED:" ++ room) ((codes "ORGANIZER:" ++ part.organiser) ∷ []) t1 h7 in
       let t3 : o8 ≡ o5 ++ written ((codes "ORGANIZER:" ++ part.organiser) ∷ (codes "ATTENDEE;PARTSTAT=ACCEPTED:" ++ room) ∷ codes "END:VEVENT" ∷ []) = push_line o5 o7 o8 (codes "END:VEVENT") ((codes "ORGANIZER:" ++ part.organiser) ∷ (codes "ATTENDEE;PARTSTAT=ACCEPTED:" ++ room) ∷ []) t2 h8 in
       record {
         lines = event_lines stamp;
         each = shows_event stamp h4.1.1;
-        is = push_lines o0 o5 o8 (head ++ own.body) ((codes "ORGANIZER:" ++ part.organiser) ∷ (codes "ATTENDEE;PARTSTAT=ACCEPTED:" ++ room) ∷ codes "END:VEVENT" ∷ []) s5 t3;
+        is = push_lines o0 o5 o8 (head ++ lines octets) ((codes "ORGANIZER:" ++ part.organiser) ∷ (codes "ATTENDEE;PARTSTAT=ACCEPTED:" ++ room) ∷ codes "END:VEVENT" ∷ []) s5 t3;
       }
 
 -- ---- the count of what is confirmed
@@ -202,3 +197,19 @@ pub all_written : (entries : List (MeetingKey × Meeting)) (book : Book) → Sta
 all_written entries book st i h =
     let long = zip_length (λ key part. is_of key part ≡ true) (keys_of entries) (first_parts book.taken) st.order in
     take_all i (first_parts book.taken) (omega (arith, h, sym long, length-map entries (λ (e : MeetingKey × Meeting). e.0)))
+
+-- ---- what is kept
+
+-- each meeting that was heard of has at most one kept answer
+kept_few : (entries : List (MeetingKey × Meeting)) (book : Book) → Stands entries book → (p : Part) → Contains book.taken p → length (kept_of book p) ≤ 1
+kept_few entries book st p c =
+    let cover = st.covered p c in
+    let meets : Meets book cover.key cover.meeting = subst (MeetsAt book cover.key) cover.found (st.meets cover.key) in
+    omega (arith, kept_length entries book cover.key cover.meeting p st meets cover.is, at_most_one cover.key (confirmed_span cover.meeting.decided))
+  where
+    at_most_one : (key : MeetingKey) (o : Option Span) → length (booked_list key o) ≤ 1
+    at_most_one key None = omega arith
+    at_most_one key (Some span) = omega arith
+
+pub are_kept : (entries : List (MeetingKey × Meeting)) (book : Book) → Stands entries book → AreKept book (claims_of (kept book))
+are_kept entries book st = claims_kept book (λ p c. kept_few entries book st p (first_taken book.taken p c))

@@ -27,7 +27,6 @@ use Rattle.itip_messages.proofs.ObjectTree.{Lines, vevent_lines}
 use Rattle.room_books.proofs.KeptEvents.{kept_own, kept_event, Spell, kept_says, kept_read, kept_confirmed, kept_booked}
 use Rattle.room_books.proofs.KeptLines.{kept_content, kept_properties}
 use Rattle.room_books.proofs.KeptRequests.{clean_value, vevent_among}
-use Rattle.room_books.proofs.Bodies.{two_lines, body_is}
 
 -- octets ask the room for the claim: the part is that of their event, and books its one instance
 pub record IsAsked (room : List ℕ) (claim : Claim) : Type 0 where
@@ -35,8 +34,8 @@ pub record IsAsked (room : List ℕ) (claim : Claim) : Type 0 where
   pub event : Event
   pub spells : SpellsRequest octets event
   pub asks : names_room room event ≡ true
-  pub part : IsPart event claim.part
-  pub books : claim.books ≡ booked_by event ∷ []
+  pub part : IsPart event claim.content claim.part
+  pub books : claim.singles ≡ booked_by event ∷ []
 
 -- the lines are a VEVENT that says a confirmed event: the instance and the meeting of the answer
 pub record ReadsBack (room : List ℕ) (answer : Answer) (lines : Lines) : Type 0 where
@@ -48,7 +47,7 @@ pub record ReadsBack (room : List ℕ) (answer : Answer) (lines : Lines) : Type 
   pub says : (object : Tree) → SaysEvent object false own said
   pub read : has_unread own ≡ false
   pub confirmed : is_confirmed room said ≡ true
-  pub books : answer.claim.books ≡ booked_by said ∷ []
+  pub books : answer.claim.singles ≡ booked_by said ∷ []
   pub meeting : meeting_said said ≡ (answer.claim.part.organiser, answer.claim.part.uid)
 
 -- ---- what the lines of the message say
@@ -142,19 +141,18 @@ asked_room room claim a =
 -- ---- the kept VEVENT
 
 -- a kept VEVENT reads back
-pub reads_back : (room : List ℕ) (answer : Answer) (lines : Lines) → IsAsked room answer.claim → IsKeptEvent room answer lines → ReadsBack room answer lines
+pub reads_back : (room : List ℕ) (answer : Answer) (lines : Lines) → IsAsked room answer.claim → IsKeptEvent room answer.claim lines → ReadsBack room answer lines
 reads_back room answer lines a k =
     let part = answer.claim.part in
     let event = a.event in
     let m = message room answer.claim a in
     let n = named room answer.claim a in
     let r = asked_room room answer.claim a in
-    let c = a.part.canonical in
+    let c = a.part.when in
     let most = m.says.times.most in
     let duration = duration_text event.times.length.days event.times.length.seconds in
     let shown_start = shown_stamp c.start event.times.start c.written in
     let long = shown_duration event.times.length.days event.times.length.seconds (omega (arith, most)) (omega (arith, most)) in
-    let two : k.body ≡ two_lines c.start duration = body_is k.body a.part.octets c.start duration shown_start long k.whole_lines c.is (sym k.body_is ∙ a.part.body) in
     let small : part.revision.sequence < 2 ^ 31 = omega (arith, small_sequence m.lines event.sequence m.says.sequence, a.part.sequence) in
     let uid = escaped part.uid in
     let sequence = decimal part.revision.sequence in
@@ -176,7 +174,7 @@ reads_back room answer lines a k =
     record {
       own = kept_own uid sequence k.stamp c.start duration part.organiser room;
       said = kept_event event part.organiser part.revision.stamp room;
-      are = k.is ∙ ap (λ (b : Lines). (codes "BEGIN:VEVENT" ∷ (codes "UID:" ++ uid) ∷ (codes "SEQUENCE:" ++ sequence) ∷ (codes "DTSTAMP:" ++ k.stamp) ∷ []) ++ b ++ ((codes "ORGANIZER:" ++ part.organiser) ∷ (codes "ATTENDEE;PARTSTAT=ACCEPTED:" ++ room) ∷ codes "END:VEVENT" ∷ [])) two;
+      are = k.is ∙ ap (λ (b : Lines). (codes "BEGIN:VEVENT" ∷ (codes "UID:" ++ uid) ∷ (codes "SEQUENCE:" ++ sequence) ∷ (codes "DTSTAMP:" ++ k.stamp) ∷ []) ++ b ++ ((codes "ORGANIZER:" ++ part.organiser) ∷ (codes "ATTENDEE;PARTSTAT=ACCEPTED:" ++ room) ∷ codes "END:VEVENT" ∷ [])) c.is;
       properties = kept_properties uid sequence k.stamp c.start duration part.organiser room;
       content = kept_content uid sequence k.stamp c.start duration part.organiser room (clean_text part.uid n.uid) (clean_shown sequence (shown_decimal part.revision.sequence (omega arith)))
           (clean_shown k.stamp (shown_stamp k.stamp part.revision.stamp k.written_stamp)) (clean_shown c.start shown_start) (clean_shown duration long) (clean_address part.organiser n.organiser) (clean_address room r.text);

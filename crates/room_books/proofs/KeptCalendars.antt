@@ -10,8 +10,11 @@ use Rattle.profile.specs.Events.{Event, SaysEvent, SaysCalendar, has_unread, boo
 use Rattle.profile.specs.Calendars.{SpellsCalendar, CertificateHolds}
 use Rattle.profile.specs.Instances.{Booked}
 use Rattle.profile.specs.Messages.{object_lines}
-use Rattle.profile.specs.Rooms.{Answer, Book, Delivery, Runs, empty_book, confirmed, is_confirmed}
-use Rattle.profile.specs.Kept.{kept, IsKeptEvent, IsKeptCalendar, kept_certificate, first_parts}
+use Rattle.profile.specs.Rooms.{Claim, Answer, Book, Delivery, Runs, empty_book, confirmed, is_confirmed}
+use Rattle.profile.specs.Kept.{AreKept, IsKept, IsKeptEvent, IsKeptCalendar, kept_certificate, first_parts}
+use Rattle.profile.specs.Revisions.{Part, Whole}
+use Rattle.room_books.specs.Keeping.{kept, claims_of}
+use Rattle.room_books.proofs.KeptClaims.{apart_few, kept_claims}
 use Rattle.profile.specs.Streams.{IsDelivered}
 use Rattle.std.specs.Prelude.{◌↔◌}
 use Rattle.itip_order.proofs.Lists.{in_head, in_tail, filter_at, filter_from}
@@ -24,7 +27,7 @@ use Rattle.room_books.proofs.KeptMeetings.{meeting_of, AnswersApart, meetings_di
 use Rattle.room_books.proofs.KeptRuns.{KeepsAll, runs_keep}
 
 abbrev books : Answer → List Booked
-books a = a.claim.books
+books a = a.claim.singles
 
 -- ---- the VEVENTs
 
@@ -43,7 +46,7 @@ record AllBack (room : List ℕ) (answers : List Answer) (each : List Lines) : T
 one_confirmed : (room : List ℕ) (said : Event) (saids : List Event) → events.is_confirmed room said ≡ true → events.confirmed room (said ∷ saids) ≡ booked_by said ∷ events.confirmed room saids
 one_confirmed room said saids h = ap (λ b. map booked_by (cond b (said ∷ filter (events.is_confirmed room) saids) (filter (events.is_confirmed room) saids))) h
 
-all_back : (room : List ℕ) (answers : List Answer) (each : List Lines) → ((a : Answer) → Contains answers a → IsAsked room a.claim) → AllZip (IsKeptEvent room) answers each → AllBack room answers each
+all_back : (room : List ℕ) (answers : List Answer) (each : List Lines) → ((a : Answer) → Contains answers a → IsAsked room a.claim) → AllZip (λ a. IsKeptEvent room a.claim) answers each → AllBack room answers each
 all_back room [] [] f z = record { owns = []; saids = []; are = refl; properties = refl; content = refl; says = λ _. tt; read = refl; confirmed = refl; meetings = refl }
 all_back room [] (lines ∷ each) f z = absurd z
 all_back room (a ∷ answers) [] f z = absurd z
@@ -126,6 +129,20 @@ kept_well room book k =
       within = within;
     }
 
+-- what is kept are the claims of those answers
+kept_events : (room : List ℕ) (book : Book) → KeepsAll room book → (claims : List Claim) (events : List Lines) → AreKept book claims → AllZip (IsKeptEvent room) claims events
+    → AllZip (λ a. IsKeptEvent room a.claim) (kept book) events
+kept_events room book k claims events are each =
+    let whole : (first : Part) (c : Claim) → IsKept book first c → c.part.slot ≡ Whole = λ first c is. subst (λ (x : Claim). x.part.slot ≡ Whole) is.to (k.each is.answer is.given).part.slot in
+    let same = kept_claims book claims are (λ p c. apart_few book p k.apart) whole in
+    of_claims (kept book) events (subst (λ (cs : List Claim). AllZip (IsKeptEvent room) cs events) same each)
+  where
+    of_claims : (xs : List Answer) (ys : List Lines) → AllZip (IsKeptEvent room) (claims_of xs) ys → AllZip (λ a. IsKeptEvent room a.claim) xs ys
+    of_claims [] [] z = tt
+    of_claims [] (y ∷ ys) z = absurd z
+    of_claims (x ∷ xs) [] z = absurd z
+    of_claims (x ∷ xs) (y ∷ ys) z = (z.0, of_claims xs ys z.1)
+
 -- what is kept passes
 pub keeps_pass : LinesBack → ReadsLines → (room : List ℕ) (book : Book) → KeepsAll room book → (calendar : List ℕ) → IsKeptCalendar room book calendar → CertificateHolds room calendar (kept_certificate book)
 keeps_pass back reads room book keeps calendar k =
@@ -133,7 +150,7 @@ keeps_pass back reads room book keeps calendar k =
     let few = keeps.sound.good.few in
     record {
       all = flat_map books (kept book);
-      spells = calendar_spelled back reads room calendar (kept book) k.events (all_back room (kept book) k.events well.each k.each) well.apart k.is;
+      spells = calendar_spelled back reads room calendar (kept book) k.events (all_back room (kept book) k.events well.each (kept_events room book keeps k.claims k.events k.kept k.each)) well.apart k.is;
       stands = record {
         c = record { singles = length (confirmed book) };
         spells = record { claims = omega (arith, few); is = refl };
@@ -161,7 +178,7 @@ keeps_same : LinesBack → ReadsLines → (room : List ℕ) (book : Book) → Ke
 keeps_same back reads room book keeps calendar k =
     let well = kept_well room book keeps in (
       flat_map books (kept book),
-      calendar_spelled back reads room calendar (kept book) k.events (all_back room (kept book) k.events well.each k.each) well.apart k.is,
+      calendar_spelled back reads room calendar (kept book) k.events (all_back room (kept book) k.events well.each (kept_events room book keeps k.claims k.events k.kept k.each)) well.apart k.is,
       sym well.long,
       λ b. ((λ c. well.within.among b c), kept_back room book keeps b),
     )

@@ -1,5 +1,5 @@
 -- A worked run: the octets of one REQUEST are delivered, the room accepts it, and keeps it.
-use Rattle.std.proofs.Common.{◌≡◌, ℕ, pos, true, List, [], ◌∷◌, ◌++◌, codes, Some, None, inl, inr, refl, sym, ap, subst, arith, ◌∙◌}
+use Rattle.std.proofs.Common.{◌≡◌, ℕ, pos, true, List, [], ◌∷◌, ◌++◌, codes, Some, None, inl, inr, refl, sym, ap, subst, arith, ◌∙◌, ◌≤◌, length}
 use Rattle.std.specs.List.{Contains}
 use Rattle.std.specs.Str.{is_utf8, chars}
 use Rattle.profile.specs.Lines.{logical_lines, reads_as_lines, written}
@@ -12,15 +12,16 @@ use Rattle.profile.specs.Trees.{Tree, tree, none, more, tree_name, tree_own, tre
 use Rattle.profile.specs.Objects.{IsObject}
 use Rattle.profile.specs.Instances.{Booked, IsClear}
 use Rattle.profile.specs.Events.{Event, NeedsAction, SaysEvent, booked_by}
-use Rattle.profile.specs.Messages.{SpellsRequest, IsPart, Accept, object_lines}
+use Rattle.profile.specs.Messages.{SpellsRequest, IsPart, Accept, canonical, object_lines}
 use Rattle.profile.specs.Revisions.{Part, Whole, Set}
-use Rattle.profile.specs.Rooms.{Book, Delivery, Runs, empty_book, confirmed, answered}
-use Rattle.profile.specs.Streams.{IsDelivered, claim}
+use Rattle.profile.specs.Rooms.{Book, Claim, Delivery, Runs, empty_book, confirmed, answered}
+use Rattle.profile.specs.Streams.{IsDelivered}
 use Rattle.profile.specs.Kept.{IsKeptCalendar}
+use Rattle.room_books.specs.Keeping.{kept_of}
+use Rattle.room_books.proofs.KeptClaims.{claims_kept}
 use Rattle.cal_events.proofs.Meanings.{utc_means}
 use Rattle.itip_order.proofs.Lists.{in_cons, none_in_nil}
 use Rattle.ical_values.proofs.Readings.{stamp_written}
-use Rattle.room_books.proofs.Bodies.{with_ends}
 use Rattle.itip_messages.proofs.ReplyExamples.{stamp, start}
 use Rattle.profile.specs.Objects.SpellsBody.{nothing, property}
 use Rattle.itip_messages.proofs.ObjectTree.{Lines, vevent_lines, parts_more}
@@ -41,7 +42,7 @@ abbrev lines : Lines
 lines = codes "BEGIN:VCALENDAR" ∷ (head_lines ++ (vevent_lines own_lines ++ codes "END:VCALENDAR" ∷ []))
 
 abbrev octets : List ℕ
-octets = with_ends lines
+octets = canonical lines
 
 abbrev event : Event
 event = record {
@@ -146,8 +147,8 @@ spells = record {
 
 -- ---- the run: the message comes, and comes again
 
-abbrev canonical : List ℕ
-canonical = codes "DTSTART:20250310T090000Z\r\nDURATION:PT3600S\r\n"
+abbrev content : Lines
+content = codes "DTSTART:20250310T090000Z" ∷ codes "DURATION:PT3600S" ∷ []
 
 abbrev part : Part
 part = record {
@@ -155,24 +156,27 @@ part = record {
   uid = codes "a";
   slot = Whole;
   revision = record { sequence = 0; stamp = pos 1_740_830_400 };
-  body = Set canonical;
+  body = Set (codes "DTSTART:20250310T090000Z\r\nDURATION:PT3600S\r\n");
 }
 
-is_part : IsPart event part
+is_part : IsPart event content part
 unfolding digits
-is_part = record { octets = canonical; organiser = refl; uid = refl; slot = refl; sequence = refl; stamp = refl; canonical = record { start = codes "20250310T090000Z"; written = start; is = refl }; body = refl }
+is_part = record { organiser = refl; uid = refl; slot = refl; sequence = refl; stamp = refl; when = record { start = codes "20250310T090000Z"; written = start; is = refl }; body = refl }
+
+abbrev claim : Claim
+claim = record { part = part; content = content; singles = booked_by event ∷ [] }
 
 abbrev delivery : Delivery
-delivery = record { claims = claim event part ∷ []; moment = pos 1_740_830_500 }
+delivery = record { claims = claim ∷ []; moment = pos 1_740_830_500 }
 
 delivered : IsDelivered room delivery
-delivered = record { octets = octets; event = event; spells = spells; parts = part ∷ []; are = (refl, is_part); claims = refl }
+delivered = record { octets = octets; event = event; spells = spells; are = (refl, record { part = is_part; singles = refl }) }
 
 abbrev once_taken : Book
-once_taken = record { taken = part ∷ []; answers = answered (pos 1_740_830_500) Accept (claim event part ∷ []) }
+once_taken = record { taken = part ∷ []; answers = answered (pos 1_740_830_500) Accept (claim ∷ []) }
 
 abbrev taken_again : Book
-taken_again = record { taken = part ∷ part ∷ []; answers = answered (pos 1_740_830_500) Accept (claim event part ∷ []) }
+taken_again = record { taken = part ∷ part ∷ []; answers = answered (pos 1_740_830_500) Accept (claim ∷ []) }
 
 alone : (b : Booked) → IsClear (b ∷ [])
 alone b x y t c = c.differ (ap (λ (z : Booked). z.key) (only x c.first) ∙ sym (ap (λ (z : Booked). z.key) (only y c.second)))
@@ -199,14 +203,13 @@ kept_lines = vevent_lines (codes "UID:a" ∷ codes "SEQUENCE:0" ∷ codes "DTSTA
 a_kept_calendar : IsKeptCalendar room taken_again (written (object_lines None kept_lines))
 unfolding digits
 a_kept_calendar = record {
+  claims = claim ∷ [];
+  kept = claims_kept taken_again (λ p c. elim (in_cons part [] p c) [ inl e ↦ subst (λ (q : Part). length (kept_of taken_again q) ≤ 1) e (omega arith) | inr nowhere ↦ absurd (none_in_nil p nowhere) ]);
   events = kept_lines ∷ [];
   each = (
     record {
       stamp = codes "20250301T120000Z";
-      body = codes "DTSTART:20250310T090000Z" ∷ codes "DURATION:PT3600S" ∷ [];
       written_stamp = stamp;
-      body_is = refl;
-      whole_lines = refl;
       is = refl;
     },
     tt,

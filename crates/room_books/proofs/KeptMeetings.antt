@@ -7,7 +7,8 @@ use Rattle.std.proofs.lemmas.Cmp.{tied_itself, tied_back}
 use Rattle.std.proofs.lemmas.List.Filters.{length-filter_both}
 use Rattle.profile.specs.Revisions.{Part, same_meeting, octets_cmp}
 use Rattle.profile.specs.Rooms.{Answer, Book, is_confirmed}
-use Rattle.profile.specs.Kept.{first_parts, kept}
+use Rattle.profile.specs.Kept.{first_parts}
+use Rattle.room_books.specs.Keeping.{kept}
 use Rattle.itip_order.proofs.Lists.{in_cons, in_head, in_tail, none_in_nil, filter_at, filter_from}
 use Rattle.itip_order.proofs.Order.{meeting_total, is_eq_true}
 use Rattle.room_books.proofs.Arrivals.{meeting_congr}

@@ -1,15 +1,15 @@
 -- Over every run each answer was asked for by some octets, and no two confirmed answers are of one meeting.
-use Rattle.std.proofs.Common.{◌≡◌, ◌∙◌, ℕ, ℤ, ◌≤◌, Bool, true, false, ◌&&◌, List, [], ◌∷◌, length, map, refl, sym, ap, ap₂, subst, arith, inl, inr}
+use Rattle.std.proofs.Common.{◌≡◌, ◌∙◌, ℕ, ℤ, ◌≤◌, Bool, true, false, ◌&&◌, List, [], ◌∷◌, length, sym, ap, ap₂, subst, arith, inl, inr}
 use Rattle.std.specs.Ordering.{is_eq, ordering_then}
 use Rattle.std.specs.List.{filter, Contains}
 use Rattle.std.proofs.lemmas.Bool.{and_parts, and_from, not-true, both_ways, false_from_ne_true}
 use Rattle.std.proofs.lemmas.List.{length-map}
 use Rattle.std.proofs.lemmas.List.Elements.{Contains-append_cases, filter-append}
 use Rattle.profile.specs.Events.{Event}
-use Rattle.profile.specs.Messages.{Outcome, SpellsRequest, AreParts}
+use Rattle.profile.specs.Messages.{Outcome, SpellsRequest}
 use Rattle.profile.specs.Revisions.{Part, Whole, slot_cmp, same_meeting, same_place, in_view}
 use Rattle.profile.specs.Rooms.{Claim, Answer, Book, empty_book, is_accept, is_confirmed, is_fresh, is_set, parts_of, asked, answered, IsStep, Delivery, Runs}
-use Rattle.profile.specs.Streams.{IsDelivered, claim}
+use Rattle.profile.specs.Streams.{IsDelivered, AreClaims}
 use Rattle.itip_order.proofs.Lists.{in_cons, in_head, in_tail, none_in_nil, filter_at, filter_no_longer}
 use Rattle.itip_order.proofs.Order.{is_eq_true}
 use Rattle.itip_order.proofs.Registers.{greatest_at, greatest_unique}
@@ -26,20 +26,20 @@ pub record OneAsked (room : List ℕ) (claims : List Claim) : Type 0 where
   pub few : length claims ≤ 1
   each : (c : Claim) → Contains claims c → IsAsked room c
 
-pub one_asked : (room octets : List ℕ) (event : Event) (parts : List Part) → SpellsRequest octets event → AreParts room event parts → OneAsked room (map (claim event) parts)
+pub one_asked : (room octets : List ℕ) (event : Event) (claims : List Claim) → SpellsRequest octets event → AreClaims room event claims → OneAsked room claims
 one_asked room octets event [] s h = record { few = omega arith; each = λ c k. absurd (none_in_nil c k) }
-one_asked room octets event (part ∷ []) s h = record {
+one_asked room octets event (claim ∷ []) s h = record {
   few = omega arith;
   each = λ c k.
-      elim (in_cons (claim event part) [] c k) [
-        | inl here ↦ subst (IsAsked room) here (record { octets = octets; event = event; spells = s; asks = h.0; part = h.1; books = refl })
+      elim (in_cons claim [] c k) [
+        | inl here ↦ subst (IsAsked room) here (record { octets = octets; event = event; spells = s; asks = h.0; part = h.1.part; books = h.1.singles })
         | inr there ↦ absurd (none_in_nil c there)
       ];
 }
-one_asked room octets event (part ∷ other ∷ parts) s h = absurd h
+one_asked room octets event (claim ∷ other ∷ claims) s h = absurd h
 
 pub delivered_asked : (room : List ℕ) (d : Delivery) → IsDelivered room d → OneAsked room d.claims
-delivered_asked room d h = subst (OneAsked room) (sym h.claims) (one_asked room h.octets h.event h.parts h.spells h.are)
+delivered_asked room d h = one_asked room h.octets h.event d.claims h.spells h.are
 
 -- ---- the view
 

@@ -23,6 +23,7 @@ pub mod KeptLines
 pub mod KeptAnswers
 pub mod Pairs
 pub mod KeptMeetings
+pub mod KeptClaims
 pub mod KeptRuns
 pub mod KeptCalendars
 pub mod KeptStreams

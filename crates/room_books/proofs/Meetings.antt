@@ -157,7 +157,7 @@ filter_none f [] h = refl
 filter_none f (x ∷ xs) h = ap (λ b. cond b (x ∷ filter f xs) (filter f xs)) (h x (in_head x xs)) ∙ filter_none f xs (λ a c. h a (in_tail x xs a c))
 
 abbrev books : Answer → List Booked
-books a = a.claim.books
+books a = a.claim.singles
 
 pub confirmed_same : (t u : List Part) (answers : List Answer) → ((a : Answer) → Contains answers a → in_view t a.claim.part ≡ in_view u a.claim.part) → confirmed_in t answers ≡ confirmed_in u answers
 confirmed_same t u answers h = ap (flat_map books) (filter_same (is_confirmed t) (is_confirmed u) answers (λ a c. ap (λ b. is_accept a.outcome && b) (h a c)))

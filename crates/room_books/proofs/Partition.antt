@@ -52,7 +52,7 @@ same_swap a b c = record {
     ]
 
 abbrev books : Answer → List Booked
-books a = a.claim.books
+books a = a.claim.singles
 
 -- one answer more, which is confirmed or not, and is of the first kind or of the second
 split_step : (c p : Bool) (a : Answer) (all yes no : List Booked) → AreSame all (yes ++ no)

@@ -1,9 +1,9 @@
 -- What the meetings confirm, by their places: what the others have confirmed, and what one more entry changes.
-use Rattle.std.proofs.Common.{◌≡◌, ◌≢◌, ℕ, ◌+◌, ◌<◌, ◌≤◌, ℤ, ◌≤ℤ◌, ◌<ℤ◌, Bool, true, false, not, cond, List, [], ◌∷◌, ◌++◌, ◌⊎◌, inl, inr, Option, None, Some, refl, sym, ap, ◌∙◌, subst, length, get_or, arith, zero, suc, length-append}
+use Rattle.std.proofs.Common.{◌≡◌, ◌≢◌, ℕ, ◌+◌, ◌<◌, ◌≤◌, ℤ, ◌<ℤ◌, Bool, true, false, not, cond, List, [], ◌∷◌, ◌++◌, inl, inr, Option, None, Some, refl, sym, ap, ◌∙◌, subst, length, get_or, arith, zero, suc, length-append}
 use Rattle.std.specs.Prelude.{slice_get, ◌==◌, is_some, IfSome}
 use Rattle.std.specs.List.{AllByRecursion, Contains, IsDistinct, position, position_or_len, filter, flat_map}
 use Rattle.std.specs.Map.{lookup, keys_of}
-use Rattle.std.proofs.lemmas.Bool.{true≢false, cases_Bool, both_ways, eq-eqb, eqb-true}
+use Rattle.std.proofs.lemmas.Bool.{cases_Bool, both_ways, eq-eqb, eqb-true}
 use Rattle.std.proofs.lemmas.Int.{ints}
 use Rattle.std.proofs.lemmas.List.{get_or-map, length-map}
 use Rattle.std.proofs.lemmas.List.Elements.{Contains-append_left, Contains-append_right, Contains-append_cases}
@@ -13,10 +13,9 @@ use Rattle.itip_order.proofs.Lists.{none_in_nil, in_head, in_tail, in_cons, filt
 use Rattle.indexmap.specs.IndexMap.{insert_entry}
 use Rattle.itip_order.specs.declared.held.Freshness.{Freshness}
 use Rattle.itip_order.specs.declared.held.Freshness.TheVariants.{Fresh, Same, Stale}
-use Rattle.profile.specs.Instances.{Booked, horizon}
+use Rattle.profile.specs.Instances.{Booked}
 use Rattle.room_books.specs.declared.meeting.MeetingKey.{MeetingKey}
 use Rattle.room_books.specs.declared.meeting.Meeting.{Meeting}
-use Rattle.room_books.specs.declared.meeting.Decided.{Decided}
 use Rattle.room_books.specs.declared.meeting.Span.{Span}
 use Rattle.room_books.specs.declared.timeline.Busy.{Busy}
 use Rattle.room_books.specs.Views.{same_key, is_place, is_other, booked_of, booked_list, confirmed_span, confirmed_of, others, all_confirmed, span_of, HaveInstant, IsFree}

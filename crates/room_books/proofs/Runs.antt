@@ -58,7 +58,7 @@ within_more f xs ys w = record {
 }
 
 abbrev books : Answer → List Booked
-books a = a.claim.books
+books a = a.claim.singles
 
 within_step : (q p : Bool) (a : Answer) (xs ys : List Answer) → (q ≡ true → p ≡ true) → IsWithin (flat_map books xs) (flat_map books ys) → IsWithin (flat_map books (cond q (a ∷ xs) xs)) (flat_map books (cond p (a ∷ ys) ys))
 within_step true true a xs ys f w = within_both (books a) (flat_map books xs) (flat_map books ys) w
@@ -81,14 +81,6 @@ confirmed_back taken more answers known =
 pub confirmed_split : (taken : List Part) (xs ys : List Answer) → confirmed_in taken (xs ++ ys) ≡ confirmed_in taken xs ++ confirmed_in taken ys
 confirmed_split taken xs ys = ap (flat_map books) (filter-append (is_confirmed taken) xs ys) ∙ flat_map-append books (filter (is_confirmed taken) xs) (filter (is_confirmed taken) ys)
 
--- parts that are accepted and in the view are confirmed
-accepted_are : (taken : List Part) (moment : ℤ) (claims : List Claim) → ((c : Claim) → Contains claims c → in_view taken c.part ≡ true) → confirmed_in taken (answered moment Accept claims) ≡ flat_map (λ c. c.books) claims
-accepted_are taken moment [] f = refl
-accepted_are taken moment (c ∷ cs) f =
-    let rest = accepted_are taken moment cs (λ x h. f x (in_tail c cs x h)) in
-    ap (λ b. flat_map books (cond b (record { claim = c; moment = moment; outcome = Accept } ∷ filter (is_confirmed taken) (answered moment Accept cs)) (filter (is_confirmed taken) (answered moment Accept cs)))) (f c (in_head c cs))
-    ∙ ap (λ l. c.books ++ l) rest
-
 declined_are : (taken : List Part) (moment : ℤ) (outcome : Outcome) (claims : List Claim) → is_accept outcome ≡ false → confirmed_in taken (answered moment outcome claims) ≡ []
 declined_are taken moment outcome [] e = refl
 declined_are taken moment outcome (c ∷ cs) e =
@@ -99,14 +91,14 @@ good_none : (old : List Booked) (new : List Booked) → Good old → new ≡ [] 
 good_none old new g e = subst Good (sym (ap (λ l. old ++ l) e ∙ append-nil old)) g
 
 -- where those that stayed are good, what was decided leaves good ones
-decided_good : (old : List Booked) (taken : List Part) (moment : ℤ) (outcome : Outcome) (claims : List Claim) → ((c : Claim) → Contains claims c → in_view taken c.part ≡ true) → Good old → (IsTrue (nat_lt 0 (length claims)) → Decides (old ++ flat_map (λ c. c.books) claims) outcome) → Good (old ++ confirmed_in taken (answered moment outcome claims))
-decided_good old taken moment Accept [] seen g d = good_none old [] g refl
-decided_good old taken moment Accept (c ∷ cs) seen g d =
+decided_good : (old : List Booked) (taken : List Part) (moment : ℤ) (outcome : Outcome) (claims : List Claim) → Good old → (IsTrue (nat_lt 0 (length claims)) → Decides (old ++ confirmed_in taken (answered moment Accept claims)) outcome) → Good (old ++ confirmed_in taken (answered moment outcome claims))
+decided_good old taken moment Accept [] g d = good_none old [] g refl
+decided_good old taken moment Accept (c ∷ cs) g d =
     let both = d (lt-ltb 0 (length (c ∷ cs)) (omega arith)) in
-    subst Good (ap (λ l. old ++ l) (sym (accepted_are taken moment (c ∷ cs) seen))) (record { clear = both.1; few = both.0 })
-decided_good old taken moment (Busy a b t) claims seen g d = good_none old _ g (declined_are taken moment (Busy a b t) claims refl)
-decided_good old taken moment SeriesLimit claims seen g d = good_none old _ g (declined_are taken moment SeriesLimit claims refl)
-decided_good old taken moment SinglesLimit claims seen g d = good_none old _ g (declined_are taken moment SinglesLimit claims refl)
+    record { clear = both.1; few = both.0 }
+decided_good old taken moment (Busy a b t) claims g d = good_none old _ g (declined_are taken moment (Busy a b t) claims refl)
+decided_good old taken moment SeriesLimit claims g d = good_none old _ g (declined_are taken moment SeriesLimit claims refl)
+decided_good old taken moment SinglesLimit claims g d = good_none old _ g (declined_are taken moment SinglesLimit claims refl)
 
 -- what holds of each book that a room reaches
 pub record IsSound (book : Book) : Type 0 where
@@ -134,10 +126,10 @@ pub step_sound : (before : Book) (claims : List Claim) (moment : ℤ) (outcome :
 step_sound before claims moment outcome after s sound =
     let asked_now = asked before.taken after.taken claims in
     let is_asked = λ (c : Claim) (h : Contains asked_now c). filter_at (λ c. is_set c.part && is_fresh before.taken after.taken c.part) claims c h in
-    let seen = λ (c : Claim) (h : Contains asked_now c). (and_parts _ _ (and_parts _ _ (is_asked c h).1).1).0 in
     let stayed = subst (λ (t : List Part). IsWithin (confirmed_in t before.answers) (confirmed before)) (sym s.taken) (confirmed_back before.taken (parts_of claims) before.answers sound.known) in
     let kept = within_good _ _ stayed sound.good in
-    let now = decided_good (confirmed_in after.taken before.answers) after.taken moment outcome asked_now seen kept s.decided in
+    let now = decided_good (confirmed_in after.taken before.answers) after.taken moment outcome asked_now kept
+    (λ some. subst (λ (l : List Booked). Decides l outcome) (confirmed_split after.taken before.answers (answered moment Accept asked_now)) (s.decided some)) in
     record {
       known = λ a c.
           let P : List Part → Type 0 = λ t. Contains t a.claim.part in

@@ -16,7 +16,7 @@ use Rattle.itip_order.proofs.Lists.{none_in_nil, in_cons, in_head, filter_at, fi
 use Rattle.profile.specs.Instances.{Booked}
 use Rattle.profile.specs.Revisions.{Part, Whole, in_view, same_part, part_cmp}
 use Rattle.profile.specs.Messages as messages
-use Rattle.profile.specs.Rooms.{Claim, Answer, Book, empty_book, Decides, confirmed, confirmed_in, is_accept, is_set, asked, answered, IsStep, kind_of, kind_of_outcome, Kind, Withdrawn, Repeated}
+use Rattle.profile.specs.Rooms.{Claim, Answer, Book, empty_book, Decides, confirmed, confirmed_in, if_accepted, is_accept, is_set, asked, answered, IsStep, kind_of, kind_of_outcome, Kind, Withdrawn, Repeated}
 use Rattle.profile.specs.Rooms as rooms
 use Rattle.profile.specs.Rooms.{shown}
 use Rattle.profile.specs.Kept.{IsReply, Replies, ShowsAnswer, first_parts}
@@ -37,7 +37,7 @@ use Rattle.room_books.specs.declared.taking.Asked.{Asked}
 use Rattle.room_books.specs.declared.taking.Taken.{Taken}
 use Rattle.room_books.specs.Views.{IsKeyOf, same_key, booked_of, booked_list, confirmed_span, span_where, outcome_of, others, IsDecision}
 use Rattle.room_books.specs.Takings.{StandsAt, Told, told, told_in, told_by, DecidedAfter, IsMeetingAfter, AreDated, kind_after}
-use Rattle.room_books.specs.Standing.{is_of, of_meeting, answers_of, Meets, MeetsAt, Covers, Stands, HasTold, IsOfEvent, AreKeysOf, claim_of, StepsTo, StepsWith}
+use Rattle.room_books.specs.Standing.{is_of, of_meeting, answers_of, Meets, MeetsAt, Covers, Stands, HasTold, IsOfEvent, IsSingle, AreKeysOf, claim_of, StepsTo, StepsWith}
 use Rattle.room_books.proofs.Runs.{within_good, confirmed_back, confirmed_split, step_sound}
 use Rattle.room_books.proofs.Meetings.{key_from, is_of_parts, is_of_from, is_of_same, booked_same, view_of, of_more_own, of_more_other, confirmed_none, view_other, view_stays, place_whole, view_whole}
 use Rattle.room_books.proofs.Stepping.{decides, others_differ, other_of, others_stay, own_stays, own_goes, others_same}
@@ -75,7 +75,7 @@ module _ (entries entries' : List (MeetingKey × Meeting)) (book : Book) (k : Me
       (own : confirmed_in (book.taken ++ p ∷ []) (answers_of k (book.answers ++ new)) ≡ booked_list k (confirmed_span m.decided))
       (own_told : (t : Told) → told_in m.decided ≡ Some t → HasTold (after new) k t)
       (own_some : is_some (told_in m.decided) ≡ true) (own_dated : AreDated (told_in m.decided))
-      (new_single : (a : Answer) → Contains new a → length a.claim.books ≡ 1) where
+      (new_single : (a : Answer) → Contains new a → IsSingle a.claim) where
     here : (q : MeetingKey) → same_key k q ≡ true → Meets (after new) q m
     here q e = record {
       held = subst (StandsFor m.held) (sym (of_same k q (book.taken ++ p ∷ []) e ∙ of_more_own k book.taken p of_k)) held;
@@ -184,15 +184,24 @@ module _ (entries entries' : List (MeetingKey × Meeting)) (book : Book) (k : Me
         (decides (confirmed_in (book.taken ++ p ∷ []) book.answers) (others k entries) (booked_of k span)
         (others_same entries book k p st distinct of_k w fresh before) good.clear (others_differ k span entries) d.outcome decision)
 
+    accepted_confirms : confirmed_in (book.taken ++ p ∷ []) (answered moment messages.Accept (own_claim ∷ [])) ≡ own_booked ∷ []
+    accepted_confirms = ap (λ b. flat_map (λ (a : Answer). a.claim.singles) (cond b (record { claim = own_claim; moment = moment; outcome = messages.Accept } ∷ []) [])) fresh
+
+    fresh_would : confirmed (if_accepted book (own_claim ∷ []) moment (book.taken ++ p ∷ [])) ≡ confirmed_in (book.taken ++ p ∷ []) book.answers ++ own_booked ∷ []
+    fresh_would =
+        ap (λ l. confirmed_in (book.taken ++ p ∷ []) (book.answers ++ answered moment messages.Accept l)) fresh_asked
+        ∙ confirmed_split (book.taken ++ p ∷ []) book.answers (answered moment messages.Accept (own_claim ∷ []))
+        ∙ ap (λ l. confirmed_in (book.taken ++ p ∷ []) book.answers ++ l) accepted_confirms
+
     fresh_step : IsStep book (own_claim ∷ []) moment (outcome_of d.outcome) (after (new_answer ∷ []))
     fresh_step = record {
       taken = refl;
       answers = ap (λ l. book.answers ++ answered moment (outcome_of d.outcome) l) (sym fresh_asked);
-      decided = λ _. subst (λ (l : List Claim). Decides (confirmed_in (book.taken ++ p ∷ []) book.answers ++ flat_map (λ c. c.books) l) (outcome_of d.outcome)) (sym fresh_asked) fresh_decides;
+      decided = λ _. subst (λ (l : List Booked). Decides l (outcome_of d.outcome)) (sym fresh_would) fresh_decides;
     }
 
     new_confirms : (o : Outcome) → confirmed_in (book.taken ++ p ∷ []) (record { claim = own_claim; moment = moment; outcome = outcome_of o } ∷ []) ≡ booked_list k (span_where span o)
-    new_confirms Accepted = ap (λ b. flat_map (λ (a : Answer). a.claim.books) (cond b (record { claim = own_claim; moment = moment; outcome = messages.Accept } ∷ []) [])) fresh ∙ ap (λ b. b ∷ []) booked_is
+    new_confirms Accepted = accepted_confirms ∙ ap (λ b. b ∷ []) booked_is
     new_confirms (Declined clash) = refl
     new_confirms (Limit Series) = refl
     new_confirms (Limit Singles) = refl
@@ -225,8 +234,8 @@ module _ (entries entries' : List (MeetingKey × Meeting)) (book : Book) (k : Me
     fresh_dated = subst (λ (o : Option Decided). AreDated (told_in o)) (sym is_decided)
         (subst (λ (s : Span). IsClockSeconds s.start) (sym same_span) start, decision_dated (others k entries) k span (others_dated k entries book st distinct) start d.outcome decision)
 
-    fresh_single : (a : Answer) → Contains (new_answer ∷ []) a → length a.claim.books ≡ 1
-    fresh_single a c = elim (in_cons new_answer [] a c) [ inl here ↦ subst (λ (x : Answer). length x.claim.books ≡ 1) here refl | inr none ↦ absurd (none_in_nil a none) ]
+    fresh_single : (a : Answer) → Contains (new_answer ∷ []) a → IsSingle a.claim
+    fresh_single a c = elim (in_cons new_answer [] a c) [ inl here ↦ subst (λ (x : Answer). IsSingle x.claim) here record { content = refl; one = refl } | inr none ↦ absurd (none_in_nil a none) ]
 
     pub fresh_steps : StepsTo entries' book (own_claim ∷ []) moment (kind_after Fresh (Some d))
     unfolding asked_at kind_at kind_is_at

@@ -1,9 +1,9 @@
 -- What is confirmed, in order of time: the place after an instant, the first after it, one less and one more.
-use Rattle.std.proofs.Common.{◌≡◌, ◌≢◌, ℕ, ◌+◌, ◌-◌, ◌<◌, ◌≤◌, ℤ, ◌≤ℤ◌, ◌<ℤ◌, Bool, true, false, not, cond, List, [], ◌∷◌, ◌++◌, ◌⊎◌, inl, inr, Option, None, Some, refl, sym, ap, ◌∙◌, subst, length, get_or, take, drop, arith, zero, suc, length-append}
+use Rattle.std.proofs.Common.{◌≡◌, ◌≢◌, ℕ, ◌+◌, ◌<◌, ◌≤◌, ℤ, ◌≤ℤ◌, ◌<ℤ◌, Bool, true, false, not, cond, List, [], ◌∷◌, ◌++◌, ◌⊎◌, inl, inr, Option, None, Some, refl, sym, ap, ◌∙◌, subst, length, get_or, take, drop, arith, zero, suc, length-append}
 use Rattle.std.specs.Prelude.{◌==◌, int_lt}
-use Rattle.std.specs.List.{Contains, AllPairs, find, filter, insert, remove}
+use Rattle.std.specs.List.{Contains, AllPairs, find, insert, remove}
 use Rattle.std.specs.List.Sorted.{IsPartitionedBy, IsPartitionPoint}
-use Rattle.std.proofs.lemmas.Bool.{true≢false, cases_Bool, and_from, eq-eqb, ne_eqb, both_ways}
+use Rattle.std.proofs.lemmas.Bool.{true≢false, cases_Bool, and_from, eq-eqb, ne_eqb}
 use Rattle.std.proofs.lemmas.Int.{ints}
 use Rattle.std.proofs.lemmas.List.{take-append-drop, get_or-take, get_or-drop, length-take-le, length-drop}
 use Rattle.std.proofs.lemmas.List.Elements.{Contains-append_left, Contains-append_right, Contains-append_cases, Contains-get_or, filter-append}

@@ -1,12 +1,15 @@
 -- Lines that are written one behind another.
-use Rattle.std.proofs.Common.{◌≡◌, ℕ, zero, suc, ◌+◌, List, [], ◌∷◌, ◌++◌, Some, refl, sym, ap, ◌∙◌, subst, length, take, arith, append_assoc, append-nil}
+use Rattle.std.proofs.Common.{◌≡◌, ℕ, zero, suc, ◌+◌, List, [], ◌∷◌, ◌++◌, None, Some, codes, refl, sym, ap, ◌∙◌, subst, length, take, arith, append_assoc, append-nil}
 use Rattle.std.specs.Prelude.{slice_get}
 use Rattle.std.specs.List.{flat_map, AllZip}
 use Rattle.std.proofs.lemmas.Grind.{flat_map-append}
 use Rattle.profile.specs.Kept.{IsKeptEvent}
 use Rattle.profile.specs.Lines.{written, folded}
+use Rattle.profile.specs.Messages.{object_lines, opening_lines}
 use Rattle.profile.specs.Rooms.{Answer}
-use Rattle.room_books.specs.Keeping.{WritesAnswers}
+use Rattle.std.proofs.lemmas.List.{map-append}
+use Rattle.profile.specs.Rooms.{Claim}
+use Rattle.room_books.specs.Keeping.{WritesAnswers, claims_of}
 
 -- ---- written lines
 
@@ -23,6 +26,12 @@ push_line old now new line xs h k = push_lines old now new xs (line ∷ []) h (k
 pub no_lines : (old : List ℕ) → old ≡ old ++ written []
 no_lines old = sym (append-nil old)
 
+-- the lines of an object
+pub object_written : (start opened inside closed : List ℕ) (lines : List (List ℕ)) → start ≡ [] → opened ≡ start ++ written (opening_lines None) → inside ≡ opened ++ written lines → closed ≡ inside ++ folded (codes "END:VCALENDAR")
+    → closed ≡ written (object_lines None lines)
+object_written start opened inside closed lines none first then last =
+    push_line [] inside closed (codes "END:VCALENDAR") (opening_lines None ++ lines) (push_lines [] opened inside (opening_lines None) lines (first ∙ ap (λ o. o ++ written (opening_lines None)) none) then) last
+
 -- ---- the events of some answers
 
 zip_both : {X Y : Type 0} (R : X → Y → Type 0) (xs : List X) (ys : List Y) (us : List X) (vs : List Y) → AllZip R xs ys → AllZip R us vs → AllZip R (xs ++ us) (ys ++ vs)
@@ -34,7 +43,7 @@ zip_both R (x ∷ xs) (y ∷ ys) us vs h k = (h.0, zip_both R xs ys us vs h.1 k)
 pub none_written : (room : List ℕ) (answers : List Answer) (old : List ℕ) → answers ≡ [] → WritesAnswers room answers old old
 none_written room answers old e = subst (λ (l : List Answer). WritesAnswers room l old old) (sym e) record { events = []; each = tt; is = no_lines old }
 
-pub one_event : (room : List ℕ) (answers : List Answer) (answer : Answer) (lines : List (List ℕ)) (old new : List ℕ) → answers ≡ answer ∷ [] → IsKeptEvent room answer lines → new ≡ old ++ written lines → WritesAnswers room answers old new
+pub one_event : (room : List ℕ) (answers : List Answer) (answer : Answer) (lines : List (List ℕ)) (old new : List ℕ) → answers ≡ answer ∷ [] → IsKeptEvent room answer.claim lines → new ≡ old ++ written lines → WritesAnswers room answers old new
 one_event room answers answer lines old new e k is = subst (λ (l : List Answer). WritesAnswers room l old new) (sym e) record {
   events = lines ∷ [];
   each = (k, tt);
@@ -44,7 +53,9 @@ one_event room answers answer lines old new e k is = subst (λ (l : List Answer)
 pub both_written : (room : List ℕ) (first second : List Answer) (old now new : List ℕ) → WritesAnswers room first old now → WritesAnswers room second now new → WritesAnswers room (first ++ second) old new
 both_written room first second old now new a b = record {
   events = a.events ++ b.events;
-  each = zip_both (IsKeptEvent room) first a.events second b.events a.each b.each;
+  each =
+      subst (λ (cs : List Claim). AllZip (IsKeptEvent room) cs (a.events ++ b.events)) (sym (map-append (λ (x : Answer). x.claim) first second))
+      (zip_both (IsKeptEvent room) (claims_of first) a.events (claims_of second) b.events a.each b.each);
   is = push_lines old now new (flat_map (λ l. l) a.events) (flat_map (λ l. l) b.events) a.is b.is ∙ ap (λ l. old ++ written l) (sym (flat_map-append (λ l. l) a.events b.events));
 }
 

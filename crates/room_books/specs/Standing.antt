@@ -1,13 +1,14 @@
 -- What the meetings of a room stand for: the parts that were taken, and the answers to them.
-use Rattle.std.specs.Prelude.{◌≡◌, ℕ, ℤ, ◌^◌, ◌<◌, ◌≤◌, Bool, true, ◌&&◌, List, [], ◌∷◌, length, map, filter, Contains, Option, Some, None, is_some}
+use Rattle.std.specs.Prelude.{◌≡◌, ℕ, ℤ, ◌^◌, ◌<◌, ◌≤◌, Bool, true, ◌&&◌, List, [], ◌∷◌, length, filter, Contains, Option, Some, None, is_some}
 use Rattle.std.specs.Str.{bytes_eq}
+use Rattle.std.specs.Str.Lines.{lines}
 use Rattle.std.specs.List.{AllZip}
 use Rattle.std.specs.Map.{lookup, keys_of}
 use Rattle.ical_values.specs.Octets.{address_octets, text_octets}
 use Rattle.itip_order.specs.Registers.{StandsFor}
 use Rattle.profile.specs.Instances.{IsClear}
-use Rattle.profile.specs.Revisions.{Part, Whole, in_view}
-use Rattle.profile.specs.Messages.{Outcome, AreParts, IsPart}
+use Rattle.profile.specs.Revisions.{Part, Body, Set, Absent, Cancelled, Whole, in_view}
+use Rattle.profile.specs.Messages.{Outcome, IsPart}
 use Rattle.profile.specs.Events.{Event, booked_by}
 use Rattle.profile.specs.Properties.{length_seconds}
 use Rattle.itip_order.specs.Parts.{part_of}
@@ -61,7 +62,19 @@ pub record Covers (entries : List (MeetingKey × Meeting)) (part : Part) : Type 
 
 -- the part is that of some event, of no more seconds than 64 bits count
 abbrev pub IsOfEvent : Part → Type 0
-IsOfEvent part = (event : Event) × IsPart event part × (length_seconds event.times.length < 2 ^ 64)
+IsOfEvent part =
+    (event : Event) × (content : List (List ℕ)) × IsPart event content part × (length_seconds event.times.length < 2 ^ 64)
+
+-- the lines of a body
+abbrev pub body_lines : Body → List (List ℕ)
+body_lines (Set octets) = lines octets
+body_lines Absent = []
+body_lines Cancelled = []
+
+-- the claim is of one instance, and its content is what its part's body has
+pub record IsSingle (claim : Claim) : Type 0 where
+  pub content : claim.content ≡ body_lines claim.part.body
+  pub one : length claim.singles ≡ 1
 
 -- the keys are those of these parts' meetings, in order
 abbrev pub AreKeysOf : List MeetingKey → List Part → Type 0
@@ -74,16 +87,17 @@ pub record Stands (entries : List (MeetingKey × Meeting)) (book : Book) : Type 
   pub order : AreKeysOf (keys_of entries) (first_parts book.taken)
   pub covered : (part : Part) → Contains book.taken part → Covers entries part
   pub known : (answer : Answer) → Contains book.answers answer → Contains book.taken answer.claim.part
-  pub single : (answer : Answer) → Contains book.answers answer → length answer.claim.books ≡ 1
+  pub single : (answer : Answer) → Contains book.answers answer → IsSingle answer.claim
   pub clear : IsClear (confirmed book)
   pub few : length (confirmed book) ≤ most_singles
   pub meets : (key : MeetingKey) → MeetsAt book key (lookup (same_key key) entries)
 
--- what a part asks for: the instance of its meeting in that span
+-- what a part asks for: the lines of its body, and the instance of its meeting in that span
 abbrev pub claim_of : Part → Span → Claim
 claim_of part span = record {
   part = part;
-  books = record {
+  content = body_lines part.body;
+  singles = record {
     key = record { organiser = part.organiser; uid = part.uid; slot = span.start };
     start = span.start;
     end = span.end;
@@ -106,12 +120,6 @@ part_list (Some part) = part_of part ∷ []
 -- the span that an event books
 abbrev pub span_said : Event → Span
 span_said event = record { start = (booked_by event).start; end = (booked_by event).end }
-
--- the claims that the event of a REQUEST makes on a room: its parts for it, each with the instance that the event books
-pub record AreClaims (room : List ℕ) (event : Event) (claims : List Claim) : Type 0 where
-  pub parts : List Part
-  pub are : AreParts room event parts
-  pub books : claims ≡ map (λ part. record { part = part; books = booked_by event ∷ [] }) parts
 
 -- and a reply comes exactly where a part is shown: it shows the answers that the book after it has
 pub record StepsWith (room : List ℕ) (entries : List (MeetingKey × Meeting)) (book : Book) (claims : List Claim) (moment : ℤ) (kind : Kind) (reply : Option (List ℕ)) : Type 0 where

@@ -3,7 +3,7 @@
 ghost use Rattle.std.specs.Prelude.{◌≡◌, ◌≤◌, ◌↔◌, ℕ, ℤ, List, length, Contains};
 ghost use Rattle.profile.specs.Instances.{Booked, IsClear};
 ghost use Rattle.profile.specs.Rooms.{Answer, Book, Delivery, Runs, empty_book, confirmed, most_singles};
-ghost use Rattle.profile.specs.Streams.{IsDelivered, AllAnswers, HasBook, empty_books};
+ghost use Rattle.profile.specs.Streams.{IsDelivered, AllAnswers, Hosted, new_box};
 ghost use Rattle.profile.specs.Kept.{IsKeptCalendar, kept_certificate};
 ghost use Rattle.profile.specs.Calendars.{CertificateHolds, SpellsCalendar};
 ghost use Rattle.profile.specs.Headline.{AcceptedWhereClear, KeptTextsPass};
@@ -52,10 +52,10 @@ pub fn kept_texts_spell()
 /// Whatever objects a stream has, taken or refused, one after another from the first: what each of the rooms keeps after
 /// them passes likewise.
 pub fn served_texts_pass()
-    ensures { (moment : ℤ) (rooms : List (List ℕ)) (first : ℕ) (objects : List (List ℕ)) (books : List Book) (replies : List ℕ) (refused : ℕ)
-        → AllAnswers moment rooms first objects (empty_books rooms) books replies refused
-        → (room : List ℕ) (book : Book) → HasBook rooms books room book
-        → (kept : List ℕ) → IsKeptCalendar room book kept → CertificateHolds room kept (kept_certificate book) }
+    ensures { (moment : ℤ) (rooms : List (List ℕ)) (first : ℕ) (objects : List (List ℕ)) (after : List Hosted) (replies : List ℕ) (refused : ℕ)
+        → AllAnswers moment first objects (new_box rooms) after replies refused
+        → (room : Hosted) → Contains after room
+        → (kept : List ℕ) → IsKeptCalendar room.address room.book kept → CertificateHolds room.address kept (kept_certificate room.book) }
 {
     ical_lines::lines_read_back();
 }

@@ -13,10 +13,11 @@ ghost use Rattle.profile.specs.Messages.{AreParts};
 ghost use Rattle.profile.specs.Revisions as revisions;
 ghost use Rattle.profile.specs.Values.{IsClockSeconds};
 ghost use Rattle.profile.specs.Rooms.{Claim, Book, empty_book, is_set};
+ghost use Rattle.profile.specs.Streams.{AreClaims};
 ghost use Rattle.room_books.specs.Views.{same_key, confirmed_span};
 ghost use Rattle.room_books.specs.Timelines.{IsTimelineOf, ConfirmsAfter, span_by};
 ghost use Rattle.room_books.specs.Takings.{kind_view, reply_octets};
-ghost use Rattle.room_books.specs.Standing.{Stands, StepsWith, IsOfEvent, claim_of, part_list, span_said, AreClaims};
+ghost use Rattle.room_books.specs.Standing.{Stands, StepsWith, IsOfEvent, claim_of, part_list, span_said};
 
 use crate::answer::{Answer, Kind};
 use crate::decide::Meetings;

@@ -10,11 +10,11 @@ use Rattle.profile.specs.Events.{Event}
 use Rattle.profile.specs.Rooms as machine
 use Rattle.profile.specs.Rooms.{Book, Claim, IsStep}
 use Rattle.profile.specs.Kept.{Replies}
-use Rattle.profile.specs.Streams.{AllTake, ObjectFault, refused_line}
-use Rattle.room_books.specs.Standing.{Stands, StepsWith, AreClaims}
+use Rattle.profile.specs.Streams.{AllTake, AreClaims, Hosted, ObjectFault, refused_line}
+use Rattle.room_books.specs.Standing.{Stands, StepsWith}
 use Rattle.room_books.specs.declared.room.Room.{Room}
 use Rattle.sched_box.specs.Objects.{kept_of}
-use Rattle.sched_box.specs.Answering.{room_addresses, HaveBooks, RoomTakes, RoomsTake, AnswersKept, sent_octets}
+use Rattle.sched_box.specs.Answering.{room_addresses, AreHosted, RoomTakes, RoomsTake, AnswersKept, sent_octets}
 
 -- ---- one room
 
@@ -25,20 +25,22 @@ sent_is (Some x) = sym (append-nil x)
 pub room_takes : (moment : ℤ) (message : Message) (old new : Room) (kind : machine.Kind) (reply : Option (List ℕ))
     → ((event : Event) → StandsFor message event → (book : Book) → Stands old.meetings.entries book
     → (claims : List Claim) × AreClaims (address_octets old.address) event claims × StepsWith (address_octets old.address) new.meetings.entries book claims moment kind reply)
-    → RoomTakes moment message old new (sent_octets reply)
-room_takes moment message old new kind reply steps event stands book has =
-    let (claims, are, with') = steps event stands book has in
-    let P : List Claim → Type 0 = λ cs. IsStep book cs moment with'.steps.outcome with'.steps.after in
-    let Q : List Claim → Type 0 = λ cs. Replies (address_octets old.address) with'.steps.after cs reply in (
-      with'.steps.after,
-      with'.steps.stands,
+    → new.address ≡ old.address → RoomTakes moment message old new (sent_octets reply)
+room_takes moment message old new kind reply steps same event stands before has =
+    let room = address_octets old.address in
+    let (claims, are, with') = steps event stands before.book has.stands in
+    let P : List ℕ → Type 0 = λ a. AreClaims a event claims in
+    let Q : List ℕ → Type 0 = λ a. Replies a with'.steps.after claims reply in (
+      record { address = before.address; book = with'.steps.after },
+      record { at = has.at ∙ ap address_octets (sym same); stands = with'.steps.stands },
       record {
-        parts = are.parts;
-        are = are.are;
+        same = refl;
+        claims = claims;
+        are = subst P (sym has.at) are;
         outcome = with'.steps.outcome;
-        step = subst P are.books with'.steps.step;
+        step = with'.steps.step;
         reply = reply;
-        replies = subst Q are.books with'.replies;
+        replies = subst Q (sym has.at) with'.replies;
         is = sent_is reply;
       },
     )
@@ -61,11 +63,11 @@ same_addresses moment message (o ∷ os) (n ∷ ns) octets (one, rest, is, here,
     ap (λ a. address_octets a ∷ room_addresses ns) here ∙ ap (λ z. address_octets o.address ∷ z) (same_addresses moment message os ns rest others)
 
 all_take : (moment : ℤ) (message : Message) (event : Event) → StandsFor message event → (olds news : List Room) (octets : List ℕ) → RoomsTake moment message olds news octets
-    → (befores : List Book) → HaveBooks olds befores → (afters : List Book) × HaveBooks news afters × AllTake moment event (room_addresses olds) befores afters octets
+    → (before : List Hosted) → AreHosted olds before → (after : List Hosted) × AreHosted news after × AllTake moment event before after octets
 all_take moment message event stands [] [] octets r [] h = ([], tt, r)
 all_take moment message event stands [] [] octets r (b ∷ bs) h = absurd h
-all_take moment message event stands [] (n ∷ ns) octets r befores h = absurd r
-all_take moment message event stands (o ∷ os) [] octets r befores h = absurd r
+all_take moment message event stands [] (n ∷ ns) octets r before h = absurd r
+all_take moment message event stands (o ∷ os) [] octets r before h = absurd r
 all_take moment message event stands (o ∷ os) (n ∷ ns) octets r [] h = absurd h
 all_take moment message event stands (o ∷ os) (n ∷ ns) octets (one, rest, is, here, takes, others) (b ∷ bs) h =
     let (after, has, first) = takes event stands b h.0 in
@@ -74,14 +76,14 @@ all_take moment message event stands (o ∷ os) (n ∷ ns) octets (one, rest, is
 
 pub answers_taken : (moment : ℤ) (k : ℕ) (kept : List ℕ) (message : Message) (olds news : List Room) (octets : List ℕ)
     → ((object : List ℕ) → kept ≡ kept_of object → IsSpelled object message) → RoomsTake moment message olds news octets → AnswersKept moment k kept olds news octets 0
-answers_taken moment k kept message olds news octets spelled takes object is befores h =
+answers_taken moment k kept message olds news octets spelled takes object is before h =
     let (event, spells, stands) = spelled object is in
-    let (afters, have, all) = all_take moment message event stands olds news octets takes befores h in
-    (afters, have, inl (event, spells, all, refl))
+    let (after, have, all) = all_take moment message event stands olds news octets takes before h in
+    (after, have, inl (event, spells, all, refl))
 
 pub answers_refused : (moment : ℤ) (k : ℕ) (kept : List ℕ) (n : ℕ) (rooms : List Room) (octets : List ℕ)
     → ((object : List ℕ) → kept ≡ kept_of object → ObjectFault n object) → octets ≡ refused_line k n → AnswersKept moment k kept rooms rooms octets 1
-answers_refused moment k kept n rooms octets faulty line object is befores h = (befores, h, inr (n, faulty object is, refl, line, refl))
+answers_refused moment k kept n rooms octets faulty line object is before h = (before, h, inr (n, faulty object is, refl, line, refl))
 
 -- ---- the loop over the rooms
 

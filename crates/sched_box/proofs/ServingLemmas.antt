@@ -5,31 +5,29 @@ use Rattle.std.specs.Io.KnownBytes.{Appends, Consumes, Keeps, IsAtEnd}
 use Rattle.std.proofs.KnownBytes.{Appends-nil, Appends-trans}
 use Rattle.profile.specs.Objects.{is_begun, after_object}
 use Rattle.profile.specs.Rooms.{Book}
-use Rattle.profile.specs.Streams.{BeginsWith, AreObjects, Answers, AllAnswers}
+use Rattle.profile.specs.Streams.{BeginsWith, AreObjects, Answers, AllAnswers, Hosted, new_box}
 use Rattle.room_books.specs.declared.room.Room.{Room}
 use Rattle.sched_box.specs.declared.fault.ServeFault.{ServeFault}
 use Rattle.sched_box.specs.declared.fault.ServeFault.TheVariants.{Read, Write, TooLong, Memory}
 use Rattle.sched_box.specs.declared.objects.Objects.{Objects}
 use Rattle.sched_box.specs.declared.serving.ServeReport.{ServeReport}
-use Rattle.sched_box.specs.Answering.{HaveBooks, AnswersKept, room_addresses}
+use Rattle.sched_box.specs.Answering.{AreHosted, IsHosted, AnswersKept, room_addresses}
 use Rattle.sched_box.specs.Objects.{kept_of, TakesObject, ReadsObject, StopsReading}
 use Rattle.sched_box.specs.Serving.{AnswersWhole, Ends, Gives, GivesPart, IsWithinBound, ServesAll, ServesSome, HasRead, ServesUntil, Serves, RoomsServe, ServesStream, KeepsTexts}
 use Rattle.std.proofs.Common.{◌≢◌, Contains, true≢false}
 use Rattle.std.specs.Str.{bytes_eq}
 use Rattle.std.proofs.lemmas.Slice.Eq.{bytes_eq-Decides}
 use Rattle.std.proofs.lemmas.Bool.{cases_lt}
-use Rattle.profile.specs.Streams as streams
 use Rattle.profile.specs.Kept.{IsKeptCalendar, kept_certificate}
 use Rattle.std.proofs.lemmas.List.{map-append, take_more}
 use Rattle.ical_values.specs.Octets.{address_octets}
 use Rattle.ical_values.specs.declared.address.Address.{Address}
 use Rattle.profile.specs.Rooms.{empty_book}
-use Rattle.profile.specs.Streams.{empty_books}
+use Rattle.room_books.specs.Standing.{Stands}
 use Rattle.sched_box.specs.declared.fault.StreamFault.{StreamFault}
 use Rattle.sched_box.specs.declared.fault.StreamFault.TheVariants as stream
 use Rattle.sched_box.specs.Faults.{IfRefusedStream, IsReadFault}
 use Rattle.sched_box.specs.Preamble.{Opens, OpensNot, StopsInPreamble}
-use Rattle.sched_box.specs.Answering.{HasBook}
 use Rattle.sched_box.proofs.ObjectLemmas.{after_short}
 use Rattle.std.proofs.Common.{get_or, take_all}
 
@@ -71,31 +69,31 @@ gives_all None b c objects kept taken g t = (tt, tt)
 gives_all (Some xs) None c objects kept taken g t = absurd g
 gives_all (Some xs) (Some ys) c objects kept taken g t = ((ys, g, t.begun), t.end refl)
 
-pub answers_more : (moment : ℤ) (rooms : List (List ℕ)) (k : ℕ) (objects : List (List ℕ)) (object : List ℕ) (befores mids afters : List Book) (octets more : List ℕ) (refused one : ℕ)
-    → AllAnswers moment rooms k objects befores mids octets refused → Answers moment rooms (k + length objects) object mids afters more one
-    → AllAnswers moment rooms k (objects ++ object ∷ []) befores afters (octets ++ more) (refused + one)
-answers_more moment rooms k [] object befores mids afters octets more refused one (same, none, zero') a =
-    let P : List Book → Type 0 = λ bs. Answers moment rooms k object bs afters more one in
-    let Q : ℕ → Type 0 = λ n. Answers moment rooms n object mids afters more one in
+pub answers_more : (moment : ℤ) (k : ℕ) (objects : List (List ℕ)) (object : List ℕ) (before mid after : List Hosted) (octets more : List ℕ) (refused one : ℕ)
+    → AllAnswers moment k objects before mid octets refused → Answers moment (k + length objects) object mid after more one
+    → AllAnswers moment k (objects ++ object ∷ []) before after (octets ++ more) (refused + one)
+answers_more moment k [] object before mid after octets more refused one (same, none, zero') a =
+    let P : List Hosted → Type 0 = λ box. Answers moment k object box after more one in
+    let Q : ℕ → Type 0 = λ n. Answers moment n object mid after more one in
     let here : k + 0 ≡ k = omega arith in
     let sum : refused + one ≡ one + 0 = omega arith in
-    (afters, more, [], one, 0, ap (λ z. z ++ more) none ∙ sym (append-nil more), sum, subst P same (subst Q here a), (refl, refl, refl))
-answers_more moment rooms k (o ∷ os) object befores mids afters octets more refused one (bs, first, rest, r, s, is, sum, a, others) answer =
-    let Q : ℕ → Type 0 = λ n. Answers moment rooms n object mids afters more one in
+    (after, more, [], one, 0, ap (λ z. z ++ more) none ∙ sym (append-nil more), sum, subst P same (subst Q here a), (refl, refl, refl))
+answers_more moment k (o ∷ os) object before mid after octets more refused one (box, first, rest, r, s, is, sum, a, others) answer =
+    let Q : ℕ → Type 0 = λ n. Answers moment n object mid after more one in
     let place : k + length (o ∷ os) ≡ k + 1 + length os = omega arith in
     let total : refused + one ≡ r + (s + one) = omega arith in
-    (bs, first, rest ++ more, r, s + one, ap (λ z. z ++ more) is ∙ append_assoc first rest more, total, a, answers_more moment rooms (k + 1) os object bs mids afters rest more s one others (subst Q place answer))
+    (box, first, rest ++ more, r, s + one, ap (λ z. z ++ more) is ∙ append_assoc first rest more, total, a, answers_more moment (k + 1) os object box mid after rest more s one others (subst Q place answer))
 
 -- ---- the loop
 
 -- the objects so far were taken, and their answers written
-pub record ServedSofar (moment : ℤ) (olds news : List Room) (input left output written : Option (List ℕ)) (befores : List Book) (report : ServeReport) : Type 0 where
+pub record ServedSofar (moment : ℤ) (news : List Room) (input left output written : Option (List ℕ)) (before : List Hosted) (report : ServeReport) : Type 0 where
   pub objects : List (List ℕ)
-  pub afters : List Book
+  pub after : List Hosted
   pub octets : List ℕ
-  pub books : HaveBooks news afters
+  pub hosted : AreHosted news after
   pub gives : Gives input left objects
-  pub answers : AllAnswers moment (room_addresses olds) 1 objects befores afters octets report.refused
+  pub answers : AllAnswers moment 1 objects before after octets report.refused
   pub counted : report.objects ≡ length objects
   pub writes : Appends output written octets
 
@@ -105,9 +103,9 @@ HasLeft None left may_read = Unit {0}
 HasLeft (Some octets) None may_read = ⊥
 HasLeft (Some octets) (Some rest) may_read = length octets + may_read ≡ length rest + 1_073_741_824
 
--- from all books; the rooms keep their addresses, and so many octets were read
+-- from whatever the rooms stood for; they keep their addresses, and so many octets were read
 pub record Sofar (moment : ℤ) (olds news : List Room) (input left output written : Option (List ℕ)) (may_read : ℕ) (report : ServeReport) : Type 0 where
-  pub served : (befores : List Book) → HaveBooks olds befores → ServedSofar moment olds news input left output written befores report
+  pub served : (before : List Hosted) → AreHosted olds before → ServedSofar moment news input left output written before report
   pub addresses : room_addresses news ≡ room_addresses olds
   pub read : HasLeft input left may_read
   pub few : report.objects + may_read ≤ 1_073_741_824
@@ -116,11 +114,11 @@ pub record Sofar (moment : ℤ) (olds news : List Room) (input left output writt
 pub none_served : (moment : ℤ) (rooms : List Room) (input output : Option (List ℕ)) (report : ServeReport) (may_read : ℕ) → report.objects ≡ 0 → report.refused ≡ 0 → may_read ≡ 1_073_741_824
     → Sofar moment rooms rooms input input output output may_read report
 none_served moment rooms input output report may_read no_objects no_refused all = record {
-  served = λ befores have. record {
+  served = λ before have. record {
     objects = [];
-    afters = befores;
+    after = before;
     octets = [];
-    books = have;
+    hosted = have;
     gives = nothing input;
     answers = (refl, refl, no_refused);
     counted = no_objects;
@@ -160,16 +158,16 @@ within_bound (Some xs) (Some zs) n h = omega arith
 
 -- the stream ended before the next object did
 pub stopped : (moment : ℤ) (olds news : List Room) (a b c output written : Option (List ℕ)) (before after : Objects) (report : ServeReport) (fault : ServeFault)
-    → Sofar moment olds news a b output written before.left report → StopsReading b c before after fault → (befores : List Book) → HaveBooks olds befores
-    → ServesUntil moment (room_addresses olds) befores (record { input = a; left = c; output = output; written = written }) fault
-stopped moment olds news a b c output written before after report fault so s befores have = at fault s
+    → Sofar moment olds news a b output written before.left report → StopsReading b c before after fault → (start : List Hosted) → AreHosted olds start
+    → ServesUntil moment start (record { input = a; left = c; output = output; written = written }) fault
+stopped moment olds news a b c output written before after report fault so s start have = at fault s
   where
-    some : (f : ServeFault) → StopsReading b c before after f → ServesSome moment (room_addresses olds) befores (record { input = a; left = c; output = output; written = written })
+    some : (f : ServeFault) → StopsReading b c before after f → ServesSome moment start (record { input = a; left = c; output = output; written = written })
     some f s =
-        let served = so.served befores have in
+        let served = so.served start have in
         record {
           objects = served.objects;
-          afters = served.afters;
+          after = served.after;
           octets = served.octets;
           refused = report.refused;
           gives = gives_stopped a b c served.objects before after f served.gives s;
@@ -178,7 +176,7 @@ stopped moment olds news a b c output written before after report fault so s bef
           written = served.writes;
         }
 
-    at : (f : ServeFault) → StopsReading b c before after f → ServesUntil moment (room_addresses olds) befores (record { input = a; left = c; output = output; written = written }) f
+    at : (f : ServeFault) → StopsReading b c before after f → ServesUntil moment start (record { input = a; left = c; output = output; written = written }) f
     at Read s = some Read s
     at Memory s = some Memory s
     at TooLong s = (some TooLong s, all_read a c after.left (read_on a b c s.taken before.left after.left so.read s.consumed s.left) (s.spent refl))
@@ -186,15 +184,15 @@ stopped moment olds news a b c output written before after report fault so s bef
 
 -- an object was taken, and memory was refused for the answers to it
 pub forgotten : (moment : ℤ) (olds news : List Room) (a b c output written : Option (List ℕ)) (before after : Objects) (report : ServeReport) (fault : ServeFault)
-    → Sofar moment olds news a b output written before.left report → ReadsObject b c before after true → fault ≡ Memory → (befores : List Book) → HaveBooks olds befores
-    → ServesUntil moment (room_addresses olds) befores (record { input = a; left = c; output = output; written = written }) fault
-forgotten moment olds news a b c output written before after report fault so (taken, t, left) is befores have =
-    let served = so.served befores have in
-    let P : ServeFault → Type 0 = ServesUntil moment (room_addresses olds) befores (record { input = a; left = c; output = output; written = written }) in
+    → Sofar moment olds news a b output written before.left report → ReadsObject b c before after true → fault ≡ Memory → (start : List Hosted) → AreHosted olds start
+    → ServesUntil moment start (record { input = a; left = c; output = output; written = written }) fault
+forgotten moment olds news a b c output written before after report fault so (taken, t, left) is start have =
+    let served = so.served start have in
+    let P : ServeFault → Type 0 = ServesUntil moment start (record { input = a; left = c; output = output; written = written }) in
     subst P (sym is)
     (record {
       objects = served.objects;
-      afters = served.afters;
+      after = served.after;
       octets = served.octets;
       refused = report.refused;
       gives = gives_whole a b c served.objects after.octets.items taken served.gives t;
@@ -203,33 +201,32 @@ forgotten moment olds news a b c output written before after report fault so (ta
       written = served.writes;
     })
 
--- the answers to an object from the books so far
-next_answers : (moment : ℤ) (olds news newer : List Room) (number : ℕ) (kept more taken : List ℕ) (one : ℕ) (n : ℕ) → room_addresses news ≡ room_addresses olds → number ≡ n + 1
-    → AnswersKept moment number kept news newer more one → kept ≡ kept_of taken → (mids : List Book) → HaveBooks news mids
-    → (afters : List Book) × HaveBooks newer afters × Answers moment (room_addresses olds) (n + 1) taken mids afters more one
-next_answers moment olds news newer number kept more taken one n same number_is answers kept_is mids have =
-    let (afters, books, answer) = answers taken kept_is mids have in
-    let P : List (List ℕ) → Type 0 = λ rs. Answers moment rs number taken mids afters more one in
-    let Q : ℕ → Type 0 = λ k. Answers moment (room_addresses olds) k taken mids afters more one in
-    (afters, books, subst Q number_is (subst P same answer))
+-- the answers to an object from the box so far
+next_answers : (moment : ℤ) (news newer : List Room) (number : ℕ) (kept more taken : List ℕ) (one : ℕ) (n : ℕ) → number ≡ n + 1
+    → AnswersKept moment number kept news newer more one → kept ≡ kept_of taken → (mid : List Hosted) → AreHosted news mid
+    → (after : List Hosted) × AreHosted newer after × Answers moment (n + 1) taken mid after more one
+next_answers moment news newer number kept more taken one n number_is answers kept_is mid have =
+    let (after, hosted, answer) = answers taken kept_is mid have in
+    let Q : ℕ → Type 0 = λ k. Answers moment k taken mid after more one in
+    (after, hosted, subst Q number_is answer)
 
 -- the answers to an object were made, and the writer failed
 pub cut : (moment : ℤ) (olds news newer : List Room) (a b c output written cut_at : Option (List ℕ)) (before after : Objects) (report : ServeReport) (number one : ℕ) (more : List ℕ) (fault : ServeFault)
     → Sofar moment olds news a b output written before.left report → ReadsObject b c before after true → number ≡ report.objects + 1
     → AnswersKept moment number after.octets.items news newer more one → 0 < length more → (n : ℕ) × Appends written cut_at (take n more) → fault ≡ Write
-    → (befores : List Book) → HaveBooks olds befores
-    → ServesUntil moment (room_addresses olds) befores (record { input = a; left = c; output = output; written = cut_at }) fault
-cut moment olds news newer a b c output written cut_at before after report number one more fault so (taken, t, left) number_is answers some (n, appended) is befores have =
-    let served = so.served befores have in
+    → (start : List Hosted) → AreHosted olds start
+    → ServesUntil moment start (record { input = a; left = c; output = output; written = cut_at }) fault
+cut moment olds news newer a b c output written cut_at before after report number one more fault so (taken, t, left) number_is answers some (n, appended) is start have =
+    let served = so.served start have in
     let same : number ≡ length served.objects + 1 = number_is ∙ ap (λ k. k + 1) served.counted in
-    let (afters, books, answer) = next_answers moment olds news newer number after.octets.items more taken one (length served.objects) so.addresses same answers t.kept_is served.afters served.books in
-    let P : ServeFault → Type 0 = ServesUntil moment (room_addresses olds) befores (record { input = a; left = c; output = output; written = cut_at }) in
+    let (now, hosted, answer) = next_answers moment news newer number after.octets.items more taken one (length served.objects) same answers t.kept_is served.after served.hosted in
+    let P : ServeFault → Type 0 = ServesUntil moment start (record { input = a; left = c; output = output; written = cut_at }) in
     subst P (sym is)
     (record {
       objects = served.objects;
       last = taken;
-      mids = served.afters;
-      afters = afters;
+      mid = served.after;
+      after = now;
       octets = served.octets;
       answer = more;
       refused = report.refused;
@@ -253,20 +250,20 @@ served_more moment olds news newer a b c output written new before after report 
     let refusals = so.refusals in
     let some = t.some refl in
     record {
-      served = λ befores have.
-          let served = so.served befores have in
+      served = λ start have.
+          let served = so.served start have in
           let numbered : number ≡ length served.objects + 1 = number_is ∙ ap (λ k. k + 1) served.counted in
-          let (afters, books, answer) = next_answers moment olds news newer number after.octets.items more taken one (length served.objects) so.addresses numbered answers t.kept_is served.afters served.books in
+          let (now, hosted, answer) = next_answers moment news newer number after.octets.items more taken one (length served.objects) numbered answers t.kept_is served.after served.hosted in
           let first : length served.objects + 1 ≡ 1 + length served.objects = omega arith in
-          let P : ℕ → Type 0 = λ k. Answers moment (room_addresses olds) k taken served.afters afters more one in
-          let Q : ℕ → Type 0 = λ k. AllAnswers moment (room_addresses olds) 1 (served.objects ++ taken ∷ []) befores afters (served.octets ++ more) k in
+          let P : ℕ → Type 0 = λ k. Answers moment k taken served.after now more one in
+          let Q : ℕ → Type 0 = λ k. AllAnswers moment 1 (served.objects ++ taken ∷ []) start now (served.octets ++ more) k in
           record {
             objects = served.objects ++ taken ∷ [];
-            afters = afters;
+            after = now;
             octets = served.octets ++ more;
-            books = books;
+            hosted = hosted;
             gives = gives_more a b c served.objects after.octets.items taken served.gives t;
-            answers = subst Q (sym refused_are) (answers_more moment (room_addresses olds) 1 served.objects taken befores served.afters afters served.octets more report.refused one served.answers (subst P first answer));
+            answers = subst Q (sym refused_are) (answers_more moment 1 served.objects taken start served.after now served.octets more report.refused one served.answers (subst P first answer));
             counted = objects_are ∙ numbered ∙ sym (length-append served.objects (taken ∷ []));
             writes = Appends-trans output written new served.octets more served.writes appended;
           };
@@ -278,13 +275,13 @@ served_more moment olds news newer a b c output written new before after report 
 
 -- no object is left
 pub served_all : (moment : ℤ) (olds news : List Room) (a b c output written : Option (List ℕ)) (before after : Objects) (report : ServeReport)
-    → Sofar moment olds news a b output written before.left report → ReadsObject b c before after false → (befores : List Book) → HaveBooks olds befores
-    → (afters : List Book) × HaveBooks news afters × ServesAll moment (room_addresses olds) befores afters (record { input = a; left = c; output = output; written = written }) report
-served_all moment olds news a b c output written before after report so (taken, t, left) befores have =
-    let served = so.served befores have in
+    → Sofar moment olds news a b output written before.left report → ReadsObject b c before after false → (start : List Hosted) → AreHosted olds start
+    → (final : List Hosted) × AreHosted news final × ServesAll moment start final (record { input = a; left = c; output = output; written = written }) report
+served_all moment olds news a b c output written before after report so (taken, t, left) start have =
+    let served = so.served start have in
     let ended = gives_all a b c served.objects after.octets.items taken served.gives t in (
-      served.afters,
-      served.books,
+      served.after,
+      served.hosted,
       record { objects = served.objects; octets = served.octets; are = ended.0; end = ended.1; answers = served.answers; counted = served.counted; bound = within_bound a c after.left (read_on a b c taken before.left after.left so.read t.consumed left); written = served.writes },
     )
 
@@ -299,21 +296,16 @@ answered_from moment number kept kept' olds news old new sent one none sent_is k
     let Q : List ℕ → Type 0 = λ z. AnswersKept moment number z olds news sent one in
     subst Q kept_is (subst P same answers)
 
-pub serves_from : (moment : ℤ) (rooms addresses : List (List ℕ)) (befores : List Book) (news : List Room) (ends : Ends) (r : Result ServeReport ServeFault) → rooms ≡ addresses
-    → RoomsServe moment rooms befores news ends r → Serves moment addresses befores ends r
-serves_from moment rooms addresses befores news ends (Ok report) same (afters, books, all) =
-    let P : List (List ℕ) → Type 0 = λ rs. ServesAll moment rs befores afters ends report in
-    (afters, subst P same all)
-serves_from moment rooms addresses befores news ends (Err fault) same h =
-    let P : List (List ℕ) → Type 0 = λ rs. ServesUntil moment rs befores ends fault in
-    subst P same h
+pub serves_from : (moment : ℤ) (before : List Hosted) (news : List Room) (ends : Ends) (r : Result ServeReport ServeFault) → RoomsServe moment before news ends r → Serves moment before ends r
+serves_from moment before news ends (Ok report) (after, hosted, all) = (after, all)
+serves_from moment before news ends (Err fault) h = h
 
-pub serves_none : (moment : ℤ) (addresses : List (List ℕ)) (befores : List Book) (input output : Option (List ℕ)) (fault : ServeFault) → fault ≡ Memory
-    → ServesUntil moment addresses befores (record { input = input; left = input; output = output; written = output }) fault
-serves_none moment addresses befores input output fault is =
-    let P : ServeFault → Type 0 = ServesUntil moment addresses befores (record { input = input; left = input; output = output; written = output }) in
+pub serves_none : (moment : ℤ) (before : List Hosted) (input output : Option (List ℕ)) (fault : ServeFault) → fault ≡ Memory
+    → ServesUntil moment before (record { input = input; left = input; output = output; written = output }) fault
+serves_none moment before input output fault is =
+    let P : ServeFault → Type 0 = ServesUntil moment before (record { input = input; left = input; output = output; written = output }) in
     subst P (sym is)
-    (record { objects = []; afters = befores; octets = []; refused = 0; gives = none input; answers = (refl, refl, refl); bound = unread input; written = Appends-nil output })
+    (record { objects = []; after = before; octets = []; refused = 0; gives = none input; answers = (refl, refl, refl); bound = unread input; written = Appends-nil output })
   where
     unread : (a : Option (List ℕ)) → IsWithinBound a a
     unread None = tt
@@ -328,38 +320,40 @@ serves_none moment addresses befores input output fault is =
 -- rooms were made for the first addresses
 pub record MadeSofar (addresses : List Address) (i : ℕ) (rooms : List Room) : Type 0 where
   pub addresses_are : room_addresses rooms ≡ map address_octets (take i addresses)
-  pub books : HaveBooks rooms (empty_books (map address_octets (take i addresses)))
+  pub hosted : AreHosted rooms (new_box (map address_octets (take i addresses)))
 
-have_push : (rooms : List Room) (books : List Book) (room : Room) (book : Book) → HaveBooks rooms books → HasBook room book → HaveBooks (rooms ++ room ∷ []) (books ++ book ∷ [])
-have_push [] [] room book h has = (has, tt)
-have_push [] (b ∷ bs) room book h has = absurd h
-have_push (r ∷ rs) [] room book h has = absurd h
-have_push (r ∷ rs) (b ∷ bs) room book h has = (h.0, have_push rs bs room book h.1 has)
+have_push : (rooms : List Room) (box : List Hosted) (room : Room) (h : Hosted) → AreHosted rooms box → IsHosted room h → AreHosted (rooms ++ room ∷ []) (box ++ h ∷ [])
+have_push [] [] room h all has = (has, tt)
+have_push [] (b ∷ bs) room h all has = absurd all
+have_push (r ∷ rs) [] room h all has = absurd all
+have_push (r ∷ rs) (b ∷ bs) room h all has = (all.0, have_push rs bs room h all.1 has)
 
 pub none_made : (addresses : List Address) (rooms : List Room) → rooms ≡ [] → MadeSofar addresses 0 rooms
 none_made addresses rooms none =
     let P : List Room → Type 0 = MadeSofar addresses 0 in
-    subst P (sym none) (record { addresses_are = refl; books = tt })
+    subst P (sym none) (record { addresses_are = refl; hosted = tt })
 
 pub made_more : (addresses : List Address) (i : ℕ) (rooms newer : List Room) (room : Room) (d : Address) → MadeSofar addresses i rooms → i < length addresses → newer ≡ rooms ++ room ∷ []
-    → address_octets room.address ≡ address_octets (get_or addresses i d) → HasBook room empty_book → MadeSofar addresses (i + 1) newer
-made_more addresses i rooms newer room d so l is same has =
-    let next : map address_octets (take (i + 1) addresses) ≡ map address_octets (take i addresses) ++ address_octets (get_or addresses i d) ∷ [] = ap (map address_octets) (take_more addresses i d l) ∙ map-append address_octets (take i addresses) (get_or addresses i d ∷ []) in
+    → address_octets room.address ≡ address_octets (get_or addresses i d) → Stands room.meetings.entries empty_book → MadeSofar addresses (i + 1) newer
+made_more addresses i rooms newer room d so l is same stands =
+    let last = address_octets (get_or addresses i d) in
+    let next : map address_octets (take (i + 1) addresses) ≡ map address_octets (take i addresses) ++ last ∷ [] = ap (map address_octets) (take_more addresses i d l) ∙ map-append address_octets (take i addresses) (get_or addresses i d ∷ []) in
     let P : List Room → Type 0 = MadeSofar addresses (i + 1) in
-    let Q : List (List ℕ) → Type 0 = λ list. HaveBooks (rooms ++ room ∷ []) (empty_books list) in
-    let R : List Book → Type 0 = HaveBooks (rooms ++ room ∷ []) in
+    let Q : List (List ℕ) → Type 0 = λ list. AreHosted (rooms ++ room ∷ []) (new_box list) in
+    let R : List Hosted → Type 0 = AreHosted (rooms ++ room ∷ []) in
+    let h : Hosted = record { address = last; book = empty_book } in
     subst P (sym is)
     (record {
       addresses_are = map-append (λ (r : Room). address_octets r.address) rooms (room ∷ []) ∙ ap (λ z. z ++ address_octets room.address ∷ []) so.addresses_are ∙ ap (λ a. map address_octets (take i addresses) ++ a ∷ []) same ∙ sym next;
-      books = subst Q (sym next) (subst R (sym (map-append (λ (a : List ℕ). empty_book) (map address_octets (take i addresses)) (address_octets (get_or addresses i d) ∷ []))) (have_push rooms (empty_books (map address_octets (take i addresses))) room empty_book so.books has));
+      hosted = subst Q (sym next) (subst R (sym (map-append (λ (a : List ℕ). record { address = a; book = empty_book }) (map address_octets (take i addresses)) (last ∷ []))) (have_push rooms (new_box (map address_octets (take i addresses))) room h so.hosted (record { at = sym same; stands = stands })));
     })
 
 pub all_made : (addresses : List Address) (i : ℕ) (rooms : List Room) → MadeSofar addresses i rooms → length addresses ≤ i
-    → (room_addresses rooms ≡ map address_octets addresses) × HaveBooks rooms (empty_books (map address_octets addresses))
+    → (room_addresses rooms ≡ map address_octets addresses) × AreHosted rooms (new_box (map address_octets addresses))
 all_made addresses i rooms so end =
     let all : take i addresses ≡ addresses = take_all i addresses end in
-    let P : List Address → Type 0 = λ list. HaveBooks rooms (empty_books (map address_octets list)) in
-    (so.addresses_are ∙ ap (map address_octets) all, subst P all so.books)
+    let P : List Address → Type 0 = λ list. AreHosted rooms (new_box (map address_octets list)) in
+    (so.addresses_are ∙ ap (map address_octets) all, subst P all so.hosted)
 
 -- ---- a stream with its preamble
 
@@ -376,30 +370,30 @@ stream_refused a left output (stream.Serve f) h stops reads = inl (reads, stops,
     kept (Some xs) = refl
 
 pub stream_stopped : (a mid left output written : Option (List ℕ)) (moment : ℤ) (rooms : List (List ℕ)) (fault : ServeFault) (f : StreamFault) → Opens a mid moment rooms → f ≡ stream.Serve fault
-    → Serves moment rooms (empty_books rooms) (record { input = mid; left = left; output = output; written = written }) (Err fault)
+    → Serves moment (new_box rooms) (record { input = mid; left = left; output = output; written = written }) (Err fault)
     → ServesStream (record { input = a; left = left; output = output; written = written }) (Err f)
 stream_stopped a mid left output written moment rooms fault f opens is h =
     let P : StreamFault → Type 0 = λ x. ServesStream (record { input = a; left = left; output = output; written = written }) (Err x) in
     subst P (sym is) (inr (moment, rooms, mid, opens, h))
 
 pub stream_served : (a mid left output written : Option (List ℕ)) (moment : ℤ) (rooms : List (List ℕ)) (report : ServeReport) → Opens a mid moment rooms
-    → Serves moment rooms (empty_books rooms) (record { input = mid; left = left; output = output; written = written }) (Ok report)
+    → Serves moment (new_box rooms) (record { input = mid; left = left; output = output; written = written }) (Ok report)
     → ServesStream (record { input = a; left = left; output = output; written = written }) (Ok report)
-stream_served a mid left output written moment rooms report opens (afters, all) = (moment, rooms, mid, afters, opens, all)
+stream_served a mid left output written moment rooms report opens (after, all) = (moment, rooms, mid, after, opens, all)
 
 -- the stream is its preamble and its objects
 pub stream_whole : (a mid left output written : Option (List ℕ)) (moment : ℤ) (rooms : List (List ℕ)) (report : ServeReport) → Opens a mid moment rooms
-    → Serves moment rooms (empty_books rooms) (record { input = mid; left = left; output = output; written = written }) (Ok report)
+    → Serves moment (new_box rooms) (record { input = mid; left = left; output = output; written = written }) (Ok report)
     → AnswersWhole (record { input = a; left = left; output = output; written = written })
 stream_whole None mid left output written moment rooms report opens h = tt
 stream_whole (Some xs) None left output written moment rooms report opens h = absurd opens.consumed
-stream_whole (Some xs) (Some ys) left output written moment rooms report opens (afters, all) = (
+stream_whole (Some xs) (Some ys) left output written moment rooms report opens (after, all) = (
   all.octets,
   record {
     moment = moment;
     rooms = rooms;
     objects = all.objects;
-    afters = afters;
+    after = after;
     refused = report.refused;
     is = record { preamble = opens.preamble; rest = ys; closed = opens.closed; is = opens.consumed; says = opens.says; all = opens.all; objects_are = all.are };
     answers = all.answers;
@@ -407,18 +401,17 @@ stream_whole (Some xs) (Some ys) left output written moment rooms report opens (
   all.written,
 )
 
--- ---- the book of one room
+-- ---- one room
 
-pub book_of : (rooms : List Room) (books : List Book) → HaveBooks rooms books → (room : Room) → Contains rooms room
-    → (book : Book) × HasBook room book × streams.HasBook (room_addresses rooms) books (address_octets room.address) book
-book_of [] books h room (k, l, is) = absurd (omega arith)
-book_of (r ∷ rs) [] h room among = absurd h
-book_of (r ∷ rs) (b ∷ bs) h room (zero, l, is) =
-    let P : Room → Type 0 = λ x. HasBook x b in
-    (b, subst P is h.0, inl (ap (λ (x : Room). address_octets x.address) is, refl))
-book_of (r ∷ rs) (b ∷ bs) h room (suc k, l, is) =
-    let (book, stands, has) = book_of rs bs h.1 room (k, omega arith, is) in
-    (book, stands, inr has)
+pub hosted_of : (rooms : List Room) (box : List Hosted) → AreHosted rooms box → (room : Room) → Contains rooms room → (h : Hosted) × IsHosted room h × Contains box h
+hosted_of [] box all room (k, l, is) = absurd (omega arith)
+hosted_of (r ∷ rs) [] all room among = absurd all
+hosted_of (r ∷ rs) (h ∷ box) all room (zero, l, is) =
+    let P : Room → Type 0 = λ x. IsHosted x h in
+    (h, subst P is all.0, (zero, omega arith, refl))
+hosted_of (r ∷ rs) (h ∷ box) all room (suc k, l, is) =
+    let (found, stands, (j, m, same)) = hosted_of rs box all.1 room (k, omega arith, is) in
+    (found, stands, (suc j, omega arith, same))
 
 -- no room so far has this address
 pub none_more : (rooms : List Room) (i : ℕ) (a : List ℕ) (d : Room) → ((k : ℕ) (e : Room) → k < i → k < length rooms → address_octets (get_or rooms k e).address ≢ a) → bytes_eq (address_octets (get_or rooms i d).address) a ≡ false
@@ -450,27 +443,25 @@ none_at rooms i a end h (k, l, is) = look rooms (λ n e lt. h n e (omega arith) 
     look (r ∷ rs) g (suc k) l is = look rs (λ n e lt. g (suc n) e (omega arith)) k (omega arith) is
 
 -- what is kept of a room is the texts of its book
-pub keeps_texts : (moment : ℤ) (rooms addresses : List (List ℕ)) (news : List Room) (ends : Ends) (report : ServeReport) (room : Room) (address calendar certificate : List ℕ)
-    → rooms ≡ addresses → room_addresses news ≡ rooms → RoomsServe moment rooms (empty_books addresses) news ends (Ok report) → Contains news room → address_octets room.address ≡ address
-    → ((book : Book) → HasBook room book → IsKeptCalendar (address_octets room.address) book calendar) → ((book : Book) → HasBook room book → certificate ≡ kept_certificate book)
+pub keeps_texts : (moment : ℤ) (addresses : List (List ℕ)) (news : List Room) (ends : Ends) (report : ServeReport) (room : Room) (address calendar certificate : List ℕ)
+    → RoomsServe moment (new_box addresses) news ends (Ok report) → Contains news room → address_octets room.address ≡ address
+    → ((book : Book) → Stands room.meetings.entries book → IsKeptCalendar (address_octets room.address) book calendar) → ((book : Book) → Stands room.meetings.entries book → certificate ≡ kept_certificate book)
     → KeepsTexts moment addresses ends.input ends.left address calendar certificate
-keeps_texts moment rooms addresses news ends report room address calendar certificate same newer (afters, books, all) among is text proof' =
-    let (book, stands, has) = book_of news afters books room among in
-    let P : List (List ℕ) → Type 0 = λ rs. streams.HasBook rs afters (address_octets room.address) book in
-    let Q : List ℕ → Type 0 = λ a. streams.HasBook addresses afters a book in
-    let R : List (List ℕ) → Type 0 = λ rs. AllAnswers moment rs 1 all.objects (empty_books addresses) afters all.octets report.refused in
-    let S : List ℕ → Type 0 = λ a. IsKeptCalendar a book calendar in
+keeps_texts moment addresses news ends report room address calendar certificate (after, hosted, all) among is text proof' =
+    let (kept, stands, has) = hosted_of news after hosted room among in
+    let S : List ℕ → Type 0 = λ a. IsKeptCalendar a kept.book calendar in
     record {
       objects = all.objects;
-      afters = afters;
+      after = after;
       octets = all.octets;
       refused = report.refused;
-      book = book;
+      kept = kept;
       are = all.are;
       end = all.end;
       bound = all.bound;
-      answers = subst R same all.answers;
-      has = subst Q is (subst P (newer ∙ same) has);
-      calendar_is = subst S is (text book stands);
-      certificate_is = proof' book stands;
+      answers = all.answers;
+      has = has;
+      at = stands.at ∙ is;
+      calendar_is = subst S is (text kept.book stands.stands);
+      certificate_is = proof' kept.book stands.stands;
     }

@@ -5,8 +5,7 @@ use Rattle.ical_values.specs.Octets.{address_octets}
 use Rattle.itip_messages.specs.Messages.{StandsFor}
 use Rattle.itip_messages.specs.declared.message.Message.{Message}
 use Rattle.profile.specs.Events.{Event}
-use Rattle.profile.specs.Rooms.{Book}
-use Rattle.profile.specs.Streams.{Takes, Answers}
+use Rattle.profile.specs.Streams.{Hosted, Takes, Answers}
 use Rattle.room_books.specs.Standing.{Stands}
 use Rattle.room_books.specs.declared.room.Room.{Room}
 use Rattle.sched_box.specs.Objects.{kept_of}
@@ -15,18 +14,20 @@ use Rattle.sched_box.specs.Objects.{kept_of}
 abbrev pub room_addresses : List Room → List (List ℕ)
 room_addresses rooms = map (λ room. address_octets room.address) rooms
 
--- the room stands for the book
-abbrev pub HasBook : Room → Book → Type 0
-HasBook room book = Stands room.meetings.entries book
+-- the room has the address, and stands for the book
+pub record IsHosted (room : Room) (hosted : Hosted) : Type 0 where
+  pub at : hosted.address ≡ address_octets room.address
+  pub stands : Stands room.meetings.entries hosted.book
 
-abbrev pub HaveBooks : List Room → List Book → Type 0
-HaveBooks rooms books = AllZip HasBook rooms books
+-- the rooms are what the box keeps
+abbrev pub AreHosted : List Room → List Hosted → Type 0
+AreHosted rooms box = AllZip IsHosted rooms box
 
--- a room takes the message and answers these octets, from each book that it stands for
+-- a room takes the message and answers these octets, from whatever it stands for
 abbrev pub RoomTakes : ℤ → Message → Room → Room → List ℕ → Type 0
 RoomTakes moment message old new octets =
-    (event : Event) → StandsFor message event → (book : Book) → HasBook old book
-    → (after : Book) × HasBook new after × Takes moment event (address_octets old.address) book after octets
+    (event : Event) → StandsFor message event → (before : Hosted) → IsHosted old before
+    → (after : Hosted) × IsHosted new after × Takes moment event before after octets
 
 -- each room takes it in turn; their answers stand one behind another
 abbrev pub RoomsTake : ℤ → Message → List Room → List Room → List ℕ → Type 0
@@ -36,11 +37,11 @@ RoomsTake moment message (old ∷ olds) (new ∷ news) octets =
     × RoomTakes moment message old new first × RoomsTake moment message olds news rest
 RoomsTake moment message _ _ octets = ⊥
 
--- these octets answer object k, of which so much was kept, from all books that the rooms stand for
+-- these octets answer object k, of which so much was kept, from whatever the rooms stand for
 abbrev pub AnswersKept : ℤ → ℕ → List ℕ → List Room → List Room → List ℕ → ℕ → Type 0
 AnswersKept moment k kept olds news octets refused =
-    (object : List ℕ) → kept ≡ kept_of object → (befores : List Book) → HaveBooks olds befores
-    → (afters : List Book) × HaveBooks news afters × Answers moment (room_addresses olds) k object befores afters octets refused
+    (object : List ℕ) → kept ≡ kept_of object → (before : List Hosted) → AreHosted olds before
+    → (after : List Hosted) × AreHosted news after × Answers moment k object before after octets refused
 
 -- what is sent of an object, if there is one
 abbrev pub sent_octets : Option (List ℕ) → List ℕ

@@ -1,17 +1,16 @@
 -- What a reader gave and a writer took, once serving has ended.
-use Rattle.std.specs.Prelude.{◌≡◌, ◌⊎◌, ℕ, ℤ, ◌+◌, ◌≤◌, ◌<◌, List, [], ◌∷◌, ◌++◌, length, take, Option, Some, None, IfSome, OnSome, Result, Ok, Err}
+use Rattle.std.specs.Prelude.{◌≡◌, ◌⊎◌, ℕ, ℤ, ◌+◌, ◌≤◌, ◌<◌, List, [], ◌∷◌, ◌++◌, length, take, Contains, Option, Some, None, IfSome, OnSome, Result, Ok, Err}
 use Rattle.std.specs.Io.KnownBytes.{Appends, Keeps, IsAtEnd}
 use Rattle.profile.specs.Objects.{after_object}
-use Rattle.profile.specs.Rooms.{Book}
 use Rattle.profile.specs.Kept.{IsKeptCalendar, kept_certificate}
-use Rattle.profile.specs.Streams.{BeginsWith, AreObjects, Answers, AllAnswers, AnswersStream, empty_books, HasBook}
+use Rattle.profile.specs.Streams.{BeginsWith, AreObjects, Answers, AllAnswers, AnswersStream, Hosted, new_box}
 use Rattle.room_books.specs.declared.room.Room.{Room}
 use Rattle.sched_box.specs.declared.fault.ServeFault.{ServeFault}
 use Rattle.sched_box.specs.declared.fault.ServeFault.TheVariants.{Read, Write, TooLong, Memory}
 use Rattle.sched_box.specs.declared.serving.ServeReport.{ServeReport}
 use Rattle.sched_box.specs.declared.fault.StreamFault.{StreamFault}
 use Rattle.sched_box.specs.declared.fault.StreamFault.TheVariants.{Refused, Serve}
-use Rattle.sched_box.specs.Answering.{HaveBooks}
+use Rattle.sched_box.specs.Answering.{AreHosted}
 use Rattle.sched_box.specs.Objects.{IsPieceFault}
 use Rattle.sched_box.specs.Preamble.{Opens, OpensNot, StopsInPreamble}
 
@@ -40,41 +39,41 @@ abbrev pub IsWithinBound : Option (List ℕ) → Option (List ℕ) → Type 0
 IsWithinBound input left = IfSome input (λ octets. IfSome left (λ rest. length octets ≤ length rest + 1_073_741_824))
 
 -- all objects were taken, and the answers to them written
-pub record ServesAll (moment : ℤ) (rooms : List (List ℕ)) (befores afters : List Book) (ends : Ends) (report : ServeReport) : Type 0 where
+pub record ServesAll (moment : ℤ) (before after : List Hosted) (ends : Ends) (report : ServeReport) : Type 0 where
   pub objects : List (List ℕ)
   pub octets : List ℕ
   pub are : IfSome ends.input (λ stream. AreObjects stream objects)
   pub end : OnSome ends.input (IsAtEnd ends.left)
-  pub answers : AllAnswers moment rooms 1 objects befores afters octets report.refused
+  pub answers : AllAnswers moment 1 objects before after octets report.refused
   pub counted : report.objects ≡ length objects
   pub bound : IsWithinBound ends.input ends.left
   pub written : Appends ends.output ends.written octets
 
 -- these objects were taken, and the answers to them written; of the next object a part was read
-pub record ServesSome (moment : ℤ) (rooms : List (List ℕ)) (befores : List Book) (ends : Ends) : Type 0 where
+pub record ServesSome (moment : ℤ) (before : List Hosted) (ends : Ends) : Type 0 where
   pub objects : List (List ℕ)
-  pub afters : List Book
+  pub after : List Hosted
   pub octets : List ℕ
   pub refused : ℕ
   pub gives : GivesPart ends.input ends.left objects
-  pub answers : AllAnswers moment rooms 1 objects befores afters octets refused
+  pub answers : AllAnswers moment 1 objects before after octets refused
   pub bound : IsWithinBound ends.input ends.left
   pub written : Appends ends.output ends.written octets
 
 -- the answers to all objects but the last were written, and of the answers to that, of which there are some, a beginning
-pub record ServesCut (moment : ℤ) (rooms : List (List ℕ)) (befores : List Book) (ends : Ends) : Type 0 where
+pub record ServesCut (moment : ℤ) (before : List Hosted) (ends : Ends) : Type 0 where
   pub objects : List (List ℕ)
   pub last : List ℕ
-  pub mids : List Book
-  pub afters : List Book
+  pub mid : List Hosted
+  pub after : List Hosted
   pub octets : List ℕ
   pub answer : List ℕ
   pub refused : ℕ
   pub one : ℕ
   pub cut : ℕ
   pub gives : Gives ends.input ends.left (objects ++ last ∷ [])
-  pub answers : AllAnswers moment rooms 1 objects befores mids octets refused
-  pub answered : Answers moment rooms (length objects + 1) last mids afters answer one
+  pub answers : AllAnswers moment 1 objects before mid octets refused
+  pub answered : Answers moment (length objects + 1) last mid after answer one
   pub some : 0 < length answer
   pub bound : IsWithinBound ends.input ends.left
   pub written : Appends ends.output ends.written (octets ++ take cut answer)
@@ -84,34 +83,34 @@ abbrev pub HasRead : ℕ → Option (List ℕ) → Option (List ℕ) → Type 0
 HasRead n input left = IfSome input (λ octets. IfSome left (λ rest. length octets ≡ length rest + n))
 
 -- how serving ends before the input does
-abbrev pub ServesUntil : ℤ → List (List ℕ) → List Book → Ends → ServeFault → Type 0
-ServesUntil moment rooms befores ends Read = ServesSome moment rooms befores ends
-ServesUntil moment rooms befores ends Memory = ServesSome moment rooms befores ends
-ServesUntil moment rooms befores ends TooLong = ServesSome moment rooms befores ends × HasRead 1_073_741_824 ends.input ends.left
-ServesUntil moment rooms befores ends Write = ServesCut moment rooms befores ends
+abbrev pub ServesUntil : ℤ → List Hosted → Ends → ServeFault → Type 0
+ServesUntil moment before ends Read = ServesSome moment before ends
+ServesUntil moment before ends Memory = ServesSome moment before ends
+ServesUntil moment before ends TooLong = ServesSome moment before ends × HasRead 1_073_741_824 ends.input ends.left
+ServesUntil moment before ends Write = ServesCut moment before ends
 
--- what comes of serving, from these books on
-abbrev pub Serves : ℤ → List (List ℕ) → List Book → Ends → Result ServeReport ServeFault → Type 0
-Serves moment rooms befores ends (Ok report) = (afters : List Book) × ServesAll moment rooms befores afters ends report
-Serves moment rooms befores ends (Err fault) = ServesUntil moment rooms befores ends fault
+-- what comes of serving, from this box on
+abbrev pub Serves : ℤ → List Hosted → Ends → Result ServeReport ServeFault → Type 0
+Serves moment before ends (Ok report) = (after : List Hosted) × ServesAll moment before after ends report
+Serves moment before ends (Err fault) = ServesUntil moment before ends fault
 
--- and the rooms stand for the books after it
-abbrev pub RoomsServe : ℤ → List (List ℕ) → List Book → List Room → Ends → Result ServeReport ServeFault → Type 0
-RoomsServe moment rooms befores news ends (Ok report) = (afters : List Book) × HaveBooks news afters × ServesAll moment rooms befores afters ends report
-RoomsServe moment rooms befores news ends (Err fault) = ServesUntil moment rooms befores ends fault
+-- and the rooms are the box after it
+abbrev pub RoomsServe : ℤ → List Hosted → List Room → Ends → Result ServeReport ServeFault → Type 0
+RoomsServe moment before news ends (Ok report) = (after : List Hosted) × AreHosted news after × ServesAll moment before after ends report
+RoomsServe moment before news ends (Err fault) = ServesUntil moment before ends fault
 
 -- what comes of a stream with its preamble; where it is refused, or the reader fails or memory is refused before it is read, nothing is
 -- written, and no octet past its empty line was taken
 abbrev pub ServesStream : Ends → Result ServeReport StreamFault → Type 0
 ServesStream ends (Ok report) =
-    (moment : ℤ) × (rooms : List (List ℕ)) × (rest : Option (List ℕ)) × (afters : List Book) × Opens ends.input rest moment rooms
-    × ServesAll moment rooms (empty_books rooms) afters (record ends { input = rest }) report
+    (moment : ℤ) × (rooms : List (List ℕ)) × (rest : Option (List ℕ)) × (after : List Hosted) × Opens ends.input rest moment rooms
+    × ServesAll moment (new_box rooms) after (record ends { input = rest }) report
 ServesStream ends (Err (Refused refusal)) =
     IfSome ends.input OpensNot × StopsInPreamble ends.input ends.left × Keeps ends.output ends.written
 ServesStream ends (Err (Serve fault)) =
     (IsPieceFault fault × StopsInPreamble ends.input ends.left × Keeps ends.output ends.written)
     ⊎ ((moment : ℤ) × (rooms : List (List ℕ)) × (rest : Option (List ℕ)) × Opens ends.input rest moment rooms
-    × ServesUntil moment rooms (empty_books rooms) (record ends { input = rest }) fault)
+    × ServesUntil moment (new_box rooms) (record ends { input = rest }) fault)
 
 -- where the reader tells its octets, all that was written answers the stream that they are
 abbrev pub AnswersWhole : Ends → Type 0
@@ -120,14 +119,15 @@ AnswersWhole ends = IfSome ends.input (λ stream. (octets : List ℕ) × Answers
 -- what a room keeps after all objects of a stream: the calendar and the certificate of its book
 pub record KeepsTexts (moment : ℤ) (rooms : List (List ℕ)) (input left : Option (List ℕ)) (room calendar certificate : List ℕ) : Type 0 where
   pub objects : List (List ℕ)
-  pub afters : List Book
+  pub after : List Hosted
   pub octets : List ℕ
   pub refused : ℕ
-  pub book : Book
+  pub kept : Hosted
   pub are : IfSome input (λ stream. AreObjects stream objects)
   pub end : OnSome input (IsAtEnd left)
   pub bound : IsWithinBound input left
-  pub answers : AllAnswers moment rooms 1 objects (empty_books rooms) afters octets refused
-  pub has : HasBook rooms afters room book
-  pub calendar_is : IsKeptCalendar room book calendar
-  pub certificate_is : certificate ≡ kept_certificate book
+  pub answers : AllAnswers moment 1 objects (new_box rooms) after octets refused
+  pub has : Contains after kept
+  pub at : kept.address ≡ room
+  pub calendar_is : IsKeptCalendar room kept.book calendar
+  pub certificate_is : certificate ≡ kept_certificate kept.book

@@ -5,8 +5,9 @@ ghost use Rattle.std.specs.Str.{bytes_eq};
 ghost use Rattle.ical_values.specs.Octets.{address_octets};
 ghost use Rattle.profile.specs.Calendars.{CertificateHolds};
 ghost use Rattle.profile.specs.Rooms.{Book, empty_book};
-ghost use Rattle.profile.specs.Streams.{empty_books};
-ghost use Rattle.sched_box.specs.Answering.{HasBook, HaveBooks, room_addresses};
+ghost use Rattle.profile.specs.Streams.{Hosted, new_box};
+ghost use Rattle.room_books.specs.Standing.{Stands};
+ghost use Rattle.sched_box.specs.Answering.{AreHosted, room_addresses};
 ghost use Rattle.sched_box.specs.Config.{config_rooms};
 ghost use Rattle.sched_box.specs.Faults.{IfRefusedStream, RefusesPreamble};
 ghost use Rattle.sched_box.specs.Serving.{AnswersWhole, KeepsTexts, RoomsServe, Serves, ServesStream};
@@ -57,7 +58,7 @@ pub fn serve<R: BufRead, W: Write>(
     now: Stamp,
 ) -> Result<ServeReport, ServeFault>
     ensures counts { IfOk result (λ report. report.refused ≤ report.objects) }
-    ensures serves { Serves now (config_rooms config.now) (empty_books (config_rooms config.now))
+    ensures serves { Serves now (new_box (config_rooms config.now))
         (record { input = R.remaining reader.old; left = R.remaining reader.new; output = W.contents writer.old; written = W.contents writer.new }) result }
 {
     let mut rooms = rooms_of(alloc, config)?;
@@ -124,7 +125,7 @@ fn not_hosted() -> StreamFault
 /// An empty room for each address, in the order of the configuration.
 fn rooms_of(alloc: Global, config: &Config) -> Result<Vec<Room>, AllocError>
     ensures addresses { IfOk result (λ rooms. room_addresses rooms.items ≡ config_rooms config.now) }
-    ensures books { IfOk result (λ rooms. HaveBooks rooms.items (empty_books (config_rooms config.now))) }
+    ensures hosted { IfOk result (λ rooms. AreHosted rooms.items (new_box (config_rooms config.now))) }
 {
     let mut rooms = Vec::new(alloc);
     let addresses = config.rooms();
@@ -138,12 +139,12 @@ fn rooms_of(alloc: Global, config: &Config) -> Result<Vec<Room>, AllocError>
 /// An empty room of this address.
 fn room_of(alloc: Global, address: &Address) -> Result<Room, AllocError>
     ensures address { IfOk result (λ room. address_octets room.address ≡ address_octets address.now) }
-    ensures book { IfOk result (λ room. HasBook room empty_book) }
+    ensures book { IfOk result (λ room. Stands room.meetings.entries empty_book) }
 {
     Ok(Room::new(alloc, address.clone()?))
 }
 
-/// Serves the objects from the books that the rooms stand for.
+/// Serves the objects from whatever the rooms stand for.
 fn serve_rooms<R: BufRead, W: Write>(
     alloc: Global,
     rooms: &mut Vec<Room>,
@@ -153,7 +154,7 @@ fn serve_rooms<R: BufRead, W: Write>(
 ) -> Result<ServeReport, ServeFault>
     ensures counts { IfOk result (λ report. report.refused ≤ report.objects) }
     ensures addresses { OnOk result (room_addresses rooms.new.items ≡ room_addresses rooms.old.items) }
-    ensures serves { (befores : List Book) → HaveBooks rooms.old.items befores → RoomsServe now (room_addresses rooms.old.items) befores rooms.new.items
+    ensures serves { (before : List Hosted) → AreHosted rooms.old.items before → RoomsServe now before rooms.new.items
         (record { input = R.remaining reader.old; left = R.remaining reader.new; output = W.contents writer.old; written = W.contents writer.new }) result }
 {
     let mut report = ServeReport {

@@ -14,7 +14,7 @@ accepted all SeriesLimit h few clear = absurd h
 
 pub returns : goal.returns
 returns c before claims moment outcome after step some =
-    let all = would_be before claims after in
+    let all = would_be before claims moment after in
     let decided : Decides all outcome = step.decided some in (
       (λ is. subst (Decides all) is decided, λ within. accepted all outcome decided within.0 within.1),
       λ first second t is. (subst (Decides all) is decided).1,

@@ -1,26 +1,27 @@
 use Rattle.std.proofs.Common.{Contains, subst, sym}
 use Rattle.ical_values.specs.Octets.{address_octets}
 use Rattle.profile.specs.Calendars.{CertificateHolds}
-use Rattle.profile.specs.Streams.{empty_books}
+use Rattle.profile.specs.Streams.{new_box}
 use Rattle.sched_box.specs.Config.{config_rooms}
-use Rattle.sched_box.specs.Answering.{room_addresses}
+use Rattle.profile.specs.Kept.{IsKeptCalendar, kept_certificate}
 use Rattle.sched_box.proofs.ServingLemmas.{keeps_texts}
 use Rattle.sched_box.proofs.serving.keep.Goals as goal
 
 pub returns-clause-keeps : goal.returns-clause-keeps
 returns-clause-keeps g c =
-    let rooms = c.in_ok-rooms.rooms.items in
     let addresses = config_rooms c.args.config.now in
     let news = c.serve_rooms.new.rooms.items in
     let kept = c.in-Some.kept.now in
-    let serves = c.in_ok-serve_rooms.ensures.serves (empty_books addresses) c.in_ok-rooms.ensures.books in
+    let serves = c.in_ok-serve_rooms.ensures.serves (new_box addresses) c.in_ok-rooms.ensures.hosted in
     let among = subst (λ rs. Contains rs kept) c.as_slice.ensures.value c.in-Some.ensures.found in
-    keeps_texts c.args.now (room_addresses rooms) addresses news _ c.in_ok-serve_rooms.field-0 kept (address_octets c.args.room.now) _ _ c.in_ok-rooms.ensures.addresses c.in_ok-serve_rooms.ensures.addresses serves among
+    keeps_texts c.args.now addresses news _ c.in_ok-serve_rooms.field-0 kept (address_octets c.args.room.now) _ _ serves among
     c.in-Some.ensures.address c.in_ok-calendar.ensures c.in_ok-certificate.ensures
 
 pub returns-clause-passes : goal.returns-clause-passes
 returns-clause-passes g c =
     let k = returns-clause-keeps g c in
     let room = address_octets c.args.room.now in
-    subst (λ text. CertificateHolds room c.in_ok-calendar.calendar.items text) (sym k.certificate_is)
-    (c.served_texts_pass.ensures c.args.now (config_rooms c.args.config.now) 1 k.objects k.afters k.octets k.refused k.answers room k.book k.has c.in_ok-calendar.calendar.items k.calendar_is)
+    let calendar = c.in_ok-calendar.calendar.items in
+    subst (λ text. CertificateHolds room calendar text) (sym k.certificate_is)
+    (subst (λ a. CertificateHolds a calendar (kept_certificate k.kept.book)) k.at
+    (c.served_texts_pass.ensures c.args.now (config_rooms c.args.config.now) 1 k.objects k.after k.octets k.refused k.answers k.kept k.has calendar (subst (λ a. IsKeptCalendar a k.kept.book calendar) (sym k.at) k.calendar_is)))

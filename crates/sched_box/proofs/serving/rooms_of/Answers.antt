@@ -1,7 +1,7 @@
 use Rattle.std.proofs.Common.{◌∙◌, ap, map, subst, arith}
 use Rattle.ical_values.specs.Octets.{address_octets}
-use Rattle.profile.specs.Streams.{empty_books}
-use Rattle.sched_box.specs.Answering.{HaveBooks}
+use Rattle.profile.specs.Streams.{new_box}
+use Rattle.sched_box.specs.Answering.{AreHosted}
 use Rattle.sched_box.proofs.ServingLemmas.{none_made, made_more, all_made}
 use Rattle.sched_box.proofs.serving.rooms_of.Goals as goal
 
@@ -15,6 +15,6 @@ loop-address-preserved c =
 pub returns-clause-addresses : goal.returns-clause-addresses
 returns-clause-addresses c = (all_made _ _ _ c.loop-address.invariant (omega arith)).0 ∙ ap (map address_octets) c.rooms-addresses.ensures
 
-pub returns-clause-books : goal.returns-clause-books
-returns-clause-books c =
-    subst (λ list. HaveBooks c.loop-address.rooms.items (empty_books (map address_octets list))) c.rooms-addresses.ensures (all_made _ _ _ c.loop-address.invariant (omega arith)).1
+pub returns-clause-hosted : goal.returns-clause-hosted
+returns-clause-hosted c =
+    subst (λ list. AreHosted c.loop-address.rooms.items (new_box (map address_octets list))) c.rooms-addresses.ensures (all_made _ _ _ c.loop-address.invariant (omega arith)).1

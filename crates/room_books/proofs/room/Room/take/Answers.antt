@@ -22,4 +22,5 @@ returns-clause-steps c = λ event says book st.
     let span = c.in-Some-span_of.span in
     let parts : AreParts room event (part ∷ []) = subst (λ (o : Option Part). AreParts room event (part_list o)) c.in-Some.is (c.in_ok-found.ensures event says) in
     let is : span ≡ span_said event = ap (λ o. unwrap_or o span) (sym c.in-Some-span_of.is ∙ c.span_of.ensures.said event says) in
-    (claim_of part span ∷ [], claims_are room event part span parts is, c.in_ok-answer.ensures.steps (event, parts.1, c.span_of.ensures.short event says) book st)
+    let short = c.span_of.ensures.short event says in
+    (claim_of part span ∷ [], claims_are room event part span parts short is, c.in_ok-answer.ensures.steps (event, parts.1.0, parts.1.1, short) book st)
