@@ -1,12 +1,12 @@
 //! A box of rooms: streams of objects, and the answers to them.
 #![tactic(auto)]
 
-mod answering;
 pub mod config;
 mod fault;
 pub mod objects;
 mod output;
 pub mod preamble;
+mod rooms;
 pub mod serving;
 mod settings;
 

@@ -10,10 +10,10 @@ use Rattle.sched_box.proofs.serving.keep.Goals as goal
 pub returns-clause-keeps : goal.returns-clause-keeps
 returns-clause-keeps g c =
     let addresses = config_rooms c.args.config.now in
-    let news = c.serve_rooms.new.rooms.items in
+    let news = c.serve_rooms.new.rooms.rooms.items in
     let kept = c.in-Some.kept.now in
     let serves = c.in_ok-serve_rooms.ensures.serves (new_box addresses) c.in_ok-rooms.ensures.hosted in
-    let among = subst (λ rs. Contains rs kept) c.as_slice.ensures.value c.in-Some.ensures.found in
+    let among = c.in-Some.ensures.found in
     keeps_texts c.args.now addresses news _ c.in_ok-serve_rooms.field-0 kept (address_octets c.args.room.now) _ _ serves among
     c.in-Some.ensures.address c.in_ok-calendar.ensures c.in_ok-certificate.ensures
 

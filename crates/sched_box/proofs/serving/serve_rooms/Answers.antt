@@ -6,8 +6,8 @@ use Rattle.sched_box.proofs.serving.serve_rooms.Goals as goal
 
 pub returns-in_err-refused-clause-serves : goal.returns-in_err-refused-clause-serves
 returns-in_err-refused-clause-serves g c =
-    let olds = c.args.rooms.now.items in
-    let news = c.loop-answers.rooms.items in
+    let olds = c.args.rooms.now.rooms.items in
+    let news = c.loop-answers.rooms.rooms.items in
     let b = g.R.Read.remaining c.loop-answers.reader in
     let d = g.R.Read.remaining c.next_object.new.reader in
     let before = c.loop-answers.objects in
@@ -19,9 +19,9 @@ returns-in_err-refused-clause-serves g c =
 
 pub returns-in_err-put-clause-serves : goal.returns-in_err-put-clause-serves
 returns-in_err-put-clause-serves g c =
-    let olds = c.args.rooms.now.items in
-    let news = c.loop-answers.rooms.items in
-    let newer = c.answer.new.rooms.items in
+    let olds = c.args.rooms.now.rooms.items in
+    let news = c.loop-answers.rooms.rooms.items in
+    let newer = c.take.new.self.rooms.items in
     let b = g.R.Read.remaining c.loop-answers.reader in
     let d = g.R.Read.remaining c.next_object.new.reader in
     let before = c.loop-answers.objects in
@@ -30,7 +30,7 @@ returns-in_err-put-clause-serves g c =
     let sent = c.as_slice.result.now in
     let one = c.in_ok-refused.refused in
     let reads = subst (ReadsObject b d before after) c.if-branch.true c.in_ok-next_object.ensures.reads in
-    let answers = answered_from c.args.now number after.octets.items c.octets.result.now news newer c.clear.new.self.items c.answer.new.answers.items sent one c.clear.ensures.items c.as_slice.ensures.value c.octets.ensures c.in_ok-refused.ensures.answers in
+    let answers = answered_from c.args.now number after.octets.items c.octets.result.now news newer c.clear.new.self.items c.take.new.answers.items sent one c.clear.ensures.items c.as_slice.ensures.value c.octets.ensures c.in_ok-refused.ensures.answers in
     let p = err_from_is_err_and c.from_residual-in_err-put.result c.from_residual-in_err-put.ensures.1 in
     rw (p.1, p.2)
     (cut c.args.now olds news newer (g.R.Read.remaining c.args.reader.now) b d (g.W.Write.contents c.args.writer.now) (g.W.Write.contents c.loop-answers.writer) (g.W.Write.contents c.put.new.writer) before after c.loop-answers.report number one sent _
@@ -38,9 +38,9 @@ returns-in_err-put-clause-serves g c =
 
 pub loop-answers-preserved : goal.loop-answers-preserved
 loop-answers-preserved g c =
-    let olds = c.args.rooms.now.items in
-    let news = c.loop-answers.rooms.items in
-    let newer = c.answer.new.rooms.items in
+    let olds = c.args.rooms.now.rooms.items in
+    let news = c.loop-answers.rooms.rooms.items in
+    let newer = c.take.new.self.rooms.items in
     let b = g.R.Read.remaining c.loop-answers.reader in
     let d = g.R.Read.remaining c.next_object.new.reader in
     let before = c.loop-answers.objects in
@@ -49,7 +49,7 @@ loop-answers-preserved g c =
     let sent = c.as_slice.result.now in
     let one = c.in_ok-refused.refused in
     let reads = subst (ReadsObject b d before after) c.if-branch.true c.in_ok-next_object.ensures.reads in
-    let answers = answered_from c.args.now number after.octets.items c.octets.result.now news newer c.clear.new.self.items c.answer.new.answers.items sent one c.clear.ensures.items c.as_slice.ensures.value c.octets.ensures c.in_ok-refused.ensures.answers in
+    let answers = answered_from c.args.now number after.octets.items c.octets.result.now news newer c.clear.new.self.items c.take.new.answers.items sent one c.clear.ensures.items c.as_slice.ensures.value c.octets.ensures c.in_ok-refused.ensures.answers in
     served_more c.args.now olds news newer (g.R.Read.remaining c.args.reader.now) b d (g.W.Write.contents c.args.writer.now) (g.W.Write.contents c.loop-answers.writer) (g.W.Write.contents c.put.new.writer) before after c.loop-answers.report _ number one sent
     c.loop-answers.invariant reads refl answers c.in_ok-refused.ensures.count c.in_ok-refused.ensures.addresses c.in_ok-put.ensures.written refl refl
 
@@ -60,5 +60,5 @@ returns-clause-serves g c =
     let before = c.loop-answers.objects in
     let after = c.next_object.new.self in
     let none = subst (ReadsObject b d before after) c.if-branch.false c.in_ok-next_object.ensures.reads in
-    served_all c.args.now c.args.rooms.now.items c.loop-answers.rooms.items (g.R.Read.remaining c.args.reader.now) b d (g.W.Write.contents c.args.writer.now) (g.W.Write.contents c.loop-answers.writer) before after c.loop-answers.report
+    served_all c.args.now c.args.rooms.now.rooms.items c.loop-answers.rooms.rooms.items (g.R.Read.remaining c.args.reader.now) b d (g.W.Write.contents c.args.writer.now) (g.W.Write.contents c.loop-answers.writer) before after c.loop-answers.report
     c.loop-answers.invariant none

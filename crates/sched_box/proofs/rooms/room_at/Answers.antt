@@ -3,7 +3,7 @@ use Rattle.std.specs.Str.{bytes_eq}
 use Rattle.ical_values.specs.Octets.{address_octets}
 use Rattle.room_books.specs.declared.room.Room.{Room}
 use Rattle.sched_box.proofs.ServingLemmas.{none_more, none_at}
-use Rattle.sched_box.proofs.serving.room_at.Goals as goal
+use Rattle.sched_box.proofs.rooms.room_at.Goals as goal
 
 pub loop-room-preserved : goal.loop-room-preserved
 loop-room-preserved c =

@@ -1,7 +1,7 @@
 use Rattle.std.proofs.Common.{◌≡◌, ◌<◌, ◌∙◌, length, sym, ap, subst, arith, rules}
 use Rattle.sched_box.specs.Answering.{RoomsTake}
 use Rattle.sched_box.proofs.AnswerLemmas.{TakenSofar, taken_none, taken_more, taken_all, put_back}
-use Rattle.sched_box.proofs.answering.take_all.Goals as goal
+use Rattle.sched_box.proofs.rooms.take_all.Goals as goal
 
 pub loop-room-init : goal.loop-room-init
 loop-room-init c =

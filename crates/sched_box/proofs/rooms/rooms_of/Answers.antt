@@ -3,7 +3,7 @@ use Rattle.ical_values.specs.Octets.{address_octets}
 use Rattle.profile.specs.Streams.{new_box}
 use Rattle.sched_box.specs.Answering.{AreHosted}
 use Rattle.sched_box.proofs.ServingLemmas.{none_made, made_more, all_made}
-use Rattle.sched_box.proofs.serving.rooms_of.Goals as goal
+use Rattle.sched_box.proofs.rooms.rooms_of.Goals as goal
 
 pub loop-address-init : goal.loop-address-init
 loop-address-init c = none_made _ _ c.new-rooms.ensures.items

@@ -2,7 +2,7 @@ use Rattle.std.proofs.Common.{subst, refl}
 use Rattle.ical_lines.specs.Fault.{RefusesBy}
 use Rattle.profile.specs.Streams.{ObjectFault, refused_line}
 use Rattle.sched_box.proofs.AnswerLemmas.{answers_taken, answers_refused, same_addresses}
-use Rattle.sched_box.proofs.answering.answer.Goals as goal
+use Rattle.sched_box.proofs.rooms.Rooms.take.Goals as goal
 
 pub returns-in_ok-take_all-in-Ok-clause-answers : goal.returns-in_ok-take_all-in-Ok-clause-answers
 returns-in_ok-take_all-in-Ok-clause-answers c =

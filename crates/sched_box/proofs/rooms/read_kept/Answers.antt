@@ -4,7 +4,7 @@ use Rattle.std.proofs.lemmas.Result.{IfOk-weaker, IfErr-weaker}
 use Rattle.itip_messages.specs.Messages.{IsSpelled}
 use Rattle.profile.specs.Streams.{ObjectFault}
 use Rattle.sched_box.proofs.FaultLemmas.{kept_whole, long_fault, object_fault}
-use Rattle.sched_box.proofs.answering.read_kept.Goals as goal
+use Rattle.sched_box.proofs.rooms.read_kept.Goals as goal
 
 pub returns-then-octets-ge-KEPT-clause-stands : goal.returns-then-octets-ge-KEPT-clause-stands
 returns-then-octets-ge-KEPT-clause-stands c = λ object is. long_fault c.args.octets.now object is (omega arith)

@@ -1,7 +1,7 @@
 use Rattle.std.proofs.Common.{refl}
 use Rattle.sched_box.specs.Answering.{RoomTakes}
 use Rattle.sched_box.proofs.AnswerLemmas.{room_takes, sent_all}
-use Rattle.sched_box.proofs.answering.take_one.Goals as goal
+use Rattle.sched_box.proofs.rooms.take_one.Goals as goal
 
 pub returns-clause-takes : goal.returns-clause-takes
 returns-clause-takes c =

@@ -1,5 +1,5 @@
 use Rattle.sched_box.proofs.ServingLemmas.{MadeSofar}
-use Rattle.sched_box.proofs.serving.rooms_of.Given as goal
+use Rattle.sched_box.proofs.rooms.rooms_of.Given as goal
 
 abbrev pub invariant-loop-address : goal.invariant-loop-address
 invariant-loop-address l = MadeSofar l.addresses l.address-index l.rooms.items

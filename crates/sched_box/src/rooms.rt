@@ -1,0 +1,187 @@
+//! The rooms of a box, in one value: it takes one object after another, and answers each.
+
+ghost use Rattle.std.specs.Prelude.{◌≡◌, ◌≤◌, ◌++◌, ◌<◌, ℕ, List, Contains, option_map, IfOk, IfErr, IfSome, IsNone, OnOk};
+ghost use Rattle.ical_lines.specs.Fault.{RefusesBy};
+ghost use Rattle.ical_values.specs.Octets.{address_octets};
+ghost use Rattle.itip_messages.specs.Messages.{IsSpelled};
+ghost use Rattle.profile.specs.Streams.{ObjectFault, new_box, refused_line};
+ghost use Rattle.room_books.specs.Standing.{Stands};
+ghost use Rattle.profile.specs.Rooms.{empty_book};
+ghost use Rattle.std.specs.Str.{bytes_eq};
+ghost use Rattle.sched_box.specs.Answering.{AnswersKept, AreHosted, RoomTakes, RoomsTake, room_addresses, sent_octets};
+ghost use Rattle.sched_box.specs.Config.{config_rooms};
+ghost use Rattle.sched_box.specs.Objects.{kept_of};
+
+use crate::config::Config;
+use crate::fault::ServeFault;
+use crate::objects::KEPT;
+use ical_lines::{Fault, Refusal};
+use ical_values::{Address, Stamp};
+use itip_messages::Message;
+use itoa::Buffer;
+use room_books::Room;
+use std::alloc::{AllocError, Global};
+
+/// The rooms that a box hosts, each with all that it took.
+#[derive(Drop)]
+pub(crate) struct Rooms {
+    alloc: Global,
+    rooms: Vec<Room>,
+}
+
+impl Rooms {
+    /// An empty room for each address, in the order of the configuration.
+    pub(crate) fn new(alloc: Global, config: &Config) -> Result<Rooms, AllocError>
+        ensures addresses { IfOk result (λ rooms. room_addresses rooms.rooms.items ≡ config_rooms config.now) }
+        ensures hosted { IfOk result (λ rooms. AreHosted rooms.rooms.items (new_box (config_rooms config.now))) }
+    {
+        let rooms = rooms_of(alloc, config)?;
+        Ok(Rooms { alloc, rooms })
+    }
+
+    /// The room of an address, if the box hosts it.
+    pub(crate) fn at(&self, address: &Address) -> Option<&Room>
+        ensures found { IfSome result (λ room. Contains self.now.rooms.items room.now) }
+        ensures address { IfSome result (λ room. address_octets room.now.address ≡ address_octets address.now) }
+        ensures none { IsNone result → Contains (room_addresses self.now.rooms.items) (address_octets address.now) → ⊥ }
+    {
+        room_at(self.rooms.as_slice(), address)
+    }
+
+    /// Takes one object, its number in the stream from 1, and appends the answers to it; how many refusals it is: 0 or 1.
+    pub(crate) fn take(
+        &mut self,
+        octets: &[u8],
+        number: u64,
+        now: Stamp,
+        answers: &mut Vec<u8>,
+    ) -> Result<u64, ServeFault>
+        ensures answers { IfOk result (λ refused. (more : List ℕ) × (answers.new.items ≡ answers.old.items ++ more)
+            × AnswersKept now number octets.now self.old.rooms.items self.new.rooms.items more refused) }
+        ensures count { IfOk result (λ refused. refused ≤ 1) }
+        ensures addresses { IfOk result (λ _. room_addresses self.new.rooms.items ≡ room_addresses self.old.rooms.items) }
+        ensures memory { IfErr result (λ fault. fault ≡ ServeFault.Memory) }
+    {
+        match read_kept(self.alloc, octets) {
+            Ok(message) => {
+                take_all(&mut self.rooms, &message, now, answers)?;
+                Ok(0)
+            }
+            Err(Fault::Refused(refusal)) => {
+                write_refusal(number, refusal, answers)?;
+                Ok(1)
+            }
+            Err(Fault::Memory) => Err(ServeFault::Memory),
+        }
+    }
+}
+
+/// An empty room for each address, in the order of the configuration.
+fn rooms_of(alloc: Global, config: &Config) -> Result<Vec<Room>, AllocError>
+    ensures addresses { IfOk result (λ rooms. room_addresses rooms.items ≡ config_rooms config.now) }
+    ensures hosted { IfOk result (λ rooms. AreHosted rooms.items (new_box (config_rooms config.now))) }
+{
+    let mut rooms = Vec::new(alloc);
+    let addresses = config.rooms();
+    for address in addresses {
+        let room = room_of(alloc, address)?;
+        rooms.push(room)?;
+    }
+    Ok(rooms)
+}
+
+/// An empty room of this address.
+fn room_of(alloc: Global, address: &Address) -> Result<Room, AllocError>
+    ensures address { IfOk result (λ room. address_octets room.address ≡ address_octets address.now) }
+    ensures book { IfOk result (λ room. Stands room.meetings.entries empty_book) }
+{
+    Ok(Room::new(alloc, address.clone()?))
+}
+
+/// The room of an address, if there is one.
+fn room_at<'a>(rooms: &'a [Room], address: &Address) -> Option<&'a Room>
+    ensures found { IfSome result (λ room. Contains rooms.now room.now) }
+    ensures address { IfSome result (λ room. address_octets room.now.address ≡ address_octets address.now) }
+    ensures none { IsNone result → Contains (room_addresses rooms.now) (address_octets address.now) → ⊥ }
+{
+    for room in rooms {
+        if is_at(room, address) {
+            return Some(room);
+        }
+    }
+    None
+}
+
+/// Whether a room has this address.
+fn is_at(room: &Room, address: &Address) -> bool
+    ensures { result ≡ bytes_eq (address_octets room.now.address) (address_octets address.now) }
+{
+    *room.address() == *address
+}
+
+/// The message that an object is, of which at most 1,048,577 octets were kept.
+/// Refused: 6 where so many were, and as by `Message::read`.
+fn read_kept(alloc: Global, octets: &[u8]) -> Result<Message, Fault>
+    ensures spells { IfOk result (λ message. (object : List ℕ) → octets.now ≡ kept_of object → IsSpelled object message) }
+    ensures stands { IfErr result (λ fault. (object : List ℕ) → octets.now ≡ kept_of object → RefusesBy (λ n. ObjectFault n object) fault) }
+{
+    if octets.len() >= KEPT {
+        return Err(Fault::Refused(Refusal::TOO_LONG));
+    }
+    Message::read(alloc, octets)
+}
+
+/// Hands a message to each room in turn, and appends what it answers.
+fn take_all(
+    rooms: &mut Vec<Room>,
+    message: &Message,
+    now: Stamp,
+    answers: &mut Vec<u8>,
+) -> Result<(), AllocError>
+    ensures { OnOk result ((more : List ℕ) × (answers.new.items ≡ answers.old.items ++ more)
+        × RoomsTake now message.now rooms.old.items rooms.new.items more) }
+{
+    for room in rooms.iter_mut() {
+        take_one(room, message, now, answers)?;
+    }
+    Ok(())
+}
+
+/// Hands a message to a room, and appends its reply and then its refresh.
+fn take_one(
+    room: &mut Room,
+    message: &Message,
+    now: Stamp,
+    answers: &mut Vec<u8>,
+) -> Result<(), AllocError>
+    ensures address { room.new.address ≡ room.old.address }
+    ensures takes { OnOk result ((more : List ℕ) × (answers.new.items ≡ answers.old.items ++ more)
+        × RoomTakes now message.now room.old room.new more) }
+{
+    let answer = room.take(message, now)?;
+    append(&answer.reply, answers)?;
+    append(&answer.refresh, answers)
+}
+
+/// Appends an object, if there is one.
+fn append(object: &Option<Vec<u8>>, answers: &mut Vec<u8>) -> Result<(), AllocError>
+    ensures { OnOk result (answers.new.items ≡ answers.old.items ++ sent_octets (option_map (λ octets. octets.items) object.now)) }
+{
+    match object {
+        Some(octets) => answers.extend_from_slice(octets.as_slice()),
+        None => Ok(()),
+    }
+}
+
+/// The line that stands for a refused object: `REFUSED;OBJECT=k:n`.
+fn write_refusal(number: u64, refusal: Refusal, answers: &mut Vec<u8>) -> Result<(), AllocError>
+    ensures { OnOk result (answers.new.items ≡ answers.old.items ++ refused_line number refusal.number) }
+{
+    let mut digits = Buffer::new();
+    answers.extend_from_slice(b"REFUSED;OBJECT=")?;
+    answers.extend_from_slice(digits.format(number).as_bytes())?;
+    answers.extend_from_slice(b":")?;
+    answers.extend_from_slice(digits.format(refusal.number).as_bytes())?;
+    answers.extend_from_slice(b"\r\n")?;
+    Ok(())
+}
