@@ -36,7 +36,7 @@ impl<'a> Line<'a> {
     ghost use Rattle.ical_lines.specs.Text.{line_text, params_left, param_of};
 
     /// The line of a text that holds no line break.
-    pub(crate) fn of(text: &'a str) -> Line<'a>
+    pub fn of(text: &'a str) -> Line<'a>
         requires { is_one_line text.now ≡ true }
         ensures { line_text result ≡ text.now }
     {

@@ -121,7 +121,8 @@ pub struct Lines<'a> {
 }
 
 impl<'a> Lines<'a> {
-    ghost use Rattle.std.specs.Prelude.{◌≡◌, []};
+    ghost use Rattle.std.specs.Prelude.{◌≡◌, ◌∷◌, [], true, MatchOption, IfSome};
+    ghost use Rattle.ical_lines.specs.Breaks.{is_one_line};
     ghost use Rattle.ical_lines.specs.Text.{lines_left};
 
     /// No lines.
@@ -129,6 +130,23 @@ impl<'a> Lines<'a> {
         ensures { lines_left result ≡ [] }
     {
         Lines { rest: "" }
+    }
+
+    /// The text of the next line, no part of which is looked for. None after the last.
+    #[inline]
+    pub fn next_text(&mut self) -> Option<&'a str>
+        ensures next { MatchOption result ((lines_left self.old ≡ []) × (lines_left self.new ≡ []))
+            (λ text. lines_left self.old ≡ text.now ∷ lines_left self.new) }
+        ensures one_line { IfSome result (λ text. is_one_line text.now ≡ true) }
+    {
+        while !self.rest.is_empty() {
+            let (line, rest) = split_line(self.rest);
+            self.rest = rest;
+            if !line.is_empty() {
+                return Some(line);
+            }
+        }
+        None
     }
 }
 
@@ -144,14 +162,8 @@ impl<'a> Iterator for Lines<'a> {
 
     #[inline]
     fn next(&mut self) -> Option<Line<'a>> {
-        while !self.rest.is_empty() {
-            let (line, rest) = split_line(self.rest);
-            self.rest = rest;
-            if !line.is_empty() {
-                return Some(Line::of(line));
-            }
-        }
-        None
+        let text = self.next_text()?;
+        Some(Line::of(text))
     }
 }
 

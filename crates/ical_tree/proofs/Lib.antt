@@ -9,3 +9,4 @@ pub mod TreeOfLemmas
 pub mod OneLine
 pub mod PropertyLemmas
 mod RunLemmas
+mod FirstOctet

@@ -100,7 +100,7 @@ now_end stack line name c =
     ap (λ b. cond b (line_value line ∷ stack) (cond (is_end line) (drop 1 stack) stack)) (not_both (line_name line) c.ends)
     ∙ ap (λ e. cond e (drop 1 stack) stack) c.ends
 
-now_property : (stack : Lines) (line : List ℕ) → is_property line ≡ true → now_open stack line ≡ stack
+pub now_property : (stack : Lines) (line : List ℕ) → is_property line ≡ true → now_open stack line ≡ stack
 now_property stack line h =
     ap (λ b. cond b (line_value line ∷ stack) (cond (is_end line) (drop 1 stack) stack)) (no_begin (is_begin line) (is_end line) h)
     ∙ ap (λ e. cond e (drop 1 stack) stack) (no_end (is_begin line) (is_end line) h)
@@ -115,7 +115,7 @@ at_end n stack started line name c =
     ap (λ b. cond b (misplaced_begin n stack started (line_value line)) (cond (is_end line) (misplaced_end n stack (line_value line)) (misplaced_property n stack))) (not_both (line_name line) c.ends)
     ∙ ap (λ e. cond e (misplaced_end n stack (line_value line)) (misplaced_property n stack)) c.ends
 
-at_property : (n : ℕ) (stack : Lines) (started : Bool) (line : List ℕ) → is_property line ≡ true → misplaced n stack started line ≡ misplaced_property n stack
+pub at_property : (n : ℕ) (stack : Lines) (started : Bool) (line : List ℕ) → is_property line ≡ true → misplaced n stack started line ≡ misplaced_property n stack
 at_property n stack started line h =
     ap (λ b. cond b (misplaced_begin n stack started (line_value line)) (cond (is_end line) (misplaced_end n stack (line_value line)) (misplaced_property n stack))) (no_begin (is_begin line) (is_end line) h)
     ∙ ap (λ e. cond e (misplaced_end n stack (line_value line)) (misplaced_property n stack)) (no_end (is_begin line) (is_end line) h)

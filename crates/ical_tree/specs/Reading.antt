@@ -1,5 +1,5 @@
 -- What the lines so far have spelled.
-use Rattle.std.specs.Prelude.{◌≡◌, ◌⊎◌, ◌&&◌, ◌||◌, ◌==◌, ℕ, ◌-◌, ◌≤◌, Bool, true, not, nat_lt, map, reverse, IsTrue, List, [], ◌∷◌, ◌++◌, Option, None, Some, is_some, length, codes}
+use Rattle.std.specs.Prelude.{◌≡◌, ◌⊎◌, ◌&&◌, ◌||◌, ◌==◌, ℕ, ◌-◌, ◌≤◌, Bool, true, not, nat_lt, map, reverse, IsTrue, List, [], ◌∷◌, ◌++◌, Option, None, Some, is_some, length, slice_index, codes}
 use Rattle.profile.specs.Lines.{logical_lines, text_has}
 use Rattle.profile.specs.Objects.{SpellsBody, SpellsTree, Opens, is_calendar_name, may_begin, has_version, count_inside, lines_have}
 use Rattle.ical_lines.specs.Fault.{RefusesBy}
@@ -17,6 +17,11 @@ SpellsOf depth c lines = SpellsTree component_name component_lines component_chi
 
 abbrev pub IsCalendar : Component → Type 0
 IsCalendar c = is_calendar_name (component_name c) ≡ true
+
+-- the first octet is a letter that BEGIN or END begins with
+abbrev pub may_pair : List ℕ → Bool
+may_pair line =
+    let first = slice_index line 0 in first == 66 || first == 98 || first == 69 || first == 101
 
 -- a component that isn't closed yet: its name, and its own lines and the components inside it so far
 pub record Open : Type 0 where

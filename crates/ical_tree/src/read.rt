@@ -27,12 +27,13 @@ ghost use Rattle.std.specs.Prelude.{
 ghost use Rattle.profile.specs.Faults.{is_object_fault};
 ghost use Rattle.profile.specs.Lines.{line_value};
 ghost use Rattle.profile.specs.Objects.{is_end, is_property, is_calendar_name, has_version, count_inside, may_begin, Opens, is_none, now_open, misplaced, misplaced_begin, misplaced_end, misplaced_property};
+ghost use Rattle.ical_lines.specs.Breaks.{is_one_line};
 ghost use Rattle.ical_lines.specs.Fault.{RefusesOnly, RefusesBy};
 ghost use Rattle.ical_lines.specs.Limits.{is_bounded};
-ghost use Rattle.ical_lines.specs.Text.{line_text, lines_left};
+ghost use Rattle.ical_lines.specs.Text.{lines_left};
 ghost use Rattle.ical_tree.specs.Runs.{lines_after, run_lines};
 ghost use Rattle.ical_tree.specs.Tree.{IsObjectOf, component_name, component_lines, component_children};
-ghost use Rattle.ical_tree.specs.Reading.{Built, SpellsOf, IsCalendar, TreeHas, calendar_has, names_of, open_view};
+ghost use Rattle.ical_tree.specs.Reading.{Built, SpellsOf, IsCalendar, TreeHas, calendar_has, may_pair, names_of, open_view};
 
 use crate::component::Component;
 use crate::own_lines::Run;
@@ -64,7 +65,7 @@ pub fn read_object<'a>(
 {
     let mut lines = text.lines();
     let mut reader = Reader::new(alloc, lines);
-    while let Some(line) = lines.next() {
+    while let Some(line) = lines.next_text() {
         reader.take(alloc, line, lines)?;
     }
     let calendar = reader.finish()?;
@@ -98,16 +99,22 @@ impl<'a> Reader<'a> {
     }
 
     /// Takes the next line; `rest` are the lines after it. After an error the reader is spent.
-    fn take(&mut self, alloc: Global, line: Line<'a>, rest: Lines<'a>) -> Result<(), Fault>
-        requires { lines_after self.old.run ≡ line_text line ∷ lines_left rest }
+    fn take(&mut self, alloc: Global, text: &'a str, rest: Lines<'a>) -> Result<(), Fault>
+        requires one_line { is_one_line text.now ≡ true }
+        requires next { lines_after self.old.run ≡ text.now ∷ lines_left rest }
         ensures follows { OnOk result (lines_after self.new.run ≡ lines_left rest.entry) }
         ensures built { OnOk result ((done : List (List ℕ))
             → Built (open_view self.old) self.old.closed done
-            → Built (open_view self.new) self.new.closed (done ++ line_text line.entry ∷ [])) }
-        ensures names { OnOk result (names_of (open_view self.new) ≡ now_open (names_of (open_view self.old)) (line_text line.entry)) }
-        ensures stands { IfErr result (RefusesOnly (λ n. misplaced n (names_of (open_view self.old)) (is_some self.old.closed) (line_text line.entry))) }
+            → Built (open_view self.new) self.new.closed (done ++ text.now ∷ [])) }
+        ensures names { OnOk result (names_of (open_view self.new) ≡ now_open (names_of (open_view self.old)) text.now) }
+        ensures stands { IfErr result (RefusesOnly (λ n. misplaced n (names_of (open_view self.old)) (is_some self.old.closed) text.now)) }
         ensures refuses { IfErr result (RefusesOnly is_object_fault) }
     {
+        if !may_pair(text) {
+            // Most lines end here: no part of them is looked for.
+            return Ok(self.add()?);
+        }
+        let line = Line::of(text);
         if line.is_named("BEGIN") {
             self.begin(alloc, line.value(), rest)
         } else if line.is_named("END") {
@@ -237,6 +244,13 @@ impl<'a> Reader<'a> {
         }
         self.closed.ok_or(Refusal::NOT_ONE_CALENDAR)
     }
+}
+
+/// Whether a line may be a BEGIN or an END, by its first octet.
+fn may_pair(line: &str) -> bool
+    ensures { result ≡ may_pair line.now }
+{
+    matches!(line.as_bytes(), [b'B' | b'b' | b'E' | b'e', ..])
 }
 
 /// Whether this is the name of the outermost component, whatever its case.

@@ -7,36 +7,32 @@ use Rattle.ical_tree.proofs.read.read_object.Goals as goal
 
 pub loop-line-init : goal.loop-line-init
 loop-line-init c = record {
-  can = tt;
-  finite = tt;
   follows = c.new-reader.ensures.follows;
   state = state_first c.new-reader.result.«open».items (run_lines c.new-reader.result.run) c.new-reader.result.closed _ _ c.new-reader.ensures.«open» c.new-reader.ensures.closed c.lines-lines.ensures;
 }
 
-pub take-requires : goal.take-requires
-take-requires c = c.loop-line.invariant.follows ∙ c.in-Some.ensures.steps
+pub take-requires-clause-next : goal.take-requires-clause-next
+take-requires-clause-next c = c.loop-line.invariant.follows ∙ c.in-Some.ensures.next
 
 pub loop-line-preserved : goal.loop-line-preserved
 loop-line-preserved c = record {
-  can = tt;
-  finite = tt;
   follows = c.in_ok-take.ensures.follows;
-  state = state_next _ _ _ _ _ _ _ _ c.loop-line.invariant.state c.in-Some.ensures.steps c.in_ok-take.ensures.built c.in_ok-take.ensures.names;
+  state = state_next _ _ _ _ _ _ _ _ c.loop-line.invariant.state c.in-Some.ensures.next c.in_ok-take.ensures.built c.in_ok-take.ensures.names;
 }
 
 pub returns-in_err-take-clause-stands : goal.returns-in_err-take-clause-stands
 returns-in_err-take-clause-stands c =
     let p = err_from_is_err_and c.from_residual.result c.from_residual.ensures.1 in
-    rw (p.1, p.2) (take_stands (is_bounded c.args.limits) c.args.text.now _ _ _ _ _ _ c.loop-line.invariant.state c.in-Some.ensures.steps c.in_err-take.ensures.stands)
+    rw (p.1, p.2) (take_stands (is_bounded c.args.limits) c.args.text.now _ _ _ _ _ _ c.loop-line.invariant.state c.in-Some.ensures.next c.in_err-take.ensures.stands)
 
 pub returns-in_err-calendar-clause-stands : goal.returns-in_err-calendar-clause-stands
 returns-in_err-calendar-clause-stands c =
     let p = err_from_is_err_and c.from_residual-in_err-calendar.result c.from_residual-in_err-calendar.ensures.1 in
-    rw (p.1, p.2) (inl (finish_stands (is_bounded c.args.limits) c.args.text.now _ _ _ c.in_err-calendar.field-0.0.number c.loop-line.invariant.state c.in_default.ensures.steps.0 c.in_err-calendar.ensures.stands))
+    rw (p.1, p.2) (inl (finish_stands (is_bounded c.args.limits) c.args.text.now _ _ _ c.in_err-calendar.field-0.0.number c.loop-line.invariant.state c.in_default.ensures.next.0 c.in_err-calendar.ensures.stands))
 
 pub returns-clause-spelled : goal.returns-clause-spelled
 returns-clause-spelled c =
-    let whole = state_spelled _ _ _ _ c.in_ok-calendar.calendar c.loop-line.invariant.state c.in_default.ensures.steps.0 c.in_ok-calendar.ensures.spelled in record {
+    let whole = state_spelled _ _ _ _ c.in_ok-calendar.calendar c.loop-line.invariant.state c.in_default.ensures.next.0 c.in_ok-calendar.ensures.spelled in record {
       spelled = whole.0;
       calendar = whole.1;
       version = c.in_ok-check_calendar.ensures.version;
@@ -45,4 +41,4 @@ returns-clause-spelled c =
 
 pub check_calendar-requires : goal.check_calendar-requires
 check_calendar-requires c =
-    (state_spelled _ _ _ _ c.in_ok-calendar.calendar c.loop-line.invariant.state c.in_default.ensures.steps.0 c.in_ok-calendar.ensures.spelled).1
+    (state_spelled _ _ _ _ c.in_ok-calendar.calendar c.loop-line.invariant.state c.in_default.ensures.next.0 c.in_ok-calendar.ensures.spelled).1

@@ -1,4 +1,4 @@
-use Rattle.std.proofs.Common.{◌≡◌}
+use Rattle.std.proofs.Common.{◌≡◌, length}
 use Rattle.ical_lines.specs.Text.{lines_left}
 use Rattle.ical_tree.specs.Reading.{open_view}
 use Rattle.ical_tree.specs.Runs.{lines_after}
@@ -7,8 +7,9 @@ use Rattle.ical_tree.proofs.read.read_object.Given as goal
 
 abbrev pub invariant-loop-line : goal.invariant-loop-line
 invariant-loop-line l = record {
-  can : (goal.iterator-loop-line).can_next l.lines;
-  finite : (goal.iterator-loop-line).is_finite l.lines;
   follows : lines_after l.reader.run ≡ lines_left l.lines;
   state : State (open_view l.reader) l.reader.closed (lines_left l.lines) l.text;
 }
+
+abbrev pub decreases-loop-line : goal.decreases-loop-line
+decreases-loop-line l = length (lines_left l.lines)

@@ -1,9 +1,28 @@
 use Rattle.std.proofs.Common.{sym, ◌∙◌}
-use Rattle.ical_lines.specs.Text.{line_text, lines_left}
+use Rattle.std.proofs.lemmas.Result.{err_from_is_err_and}
+use Rattle.ical_lines.specs.Text.{lines_left}
 use Rattle.ical_tree.proofs.BuiltLemmas.{plain}
+use Rattle.ical_tree.proofs.FirstOctet.{other_first}
+use Rattle.ical_tree.proofs.PairLemmas.{at_property, now_property}
 use Rattle.ical_tree.proofs.read.Reader.take.Goals as goal
 
-pub returns-in_ok-add-clause-built : goal.returns-in_ok-add-clause-built
-returns-in_ok-add-clause-built c = λ done b.
-    let line = line_text c.args.line in
-    c.in_ok-add.ensures.built done line (lines_left c.args.rest) (plain line (sym c.is_named.ensures ∙ c.if-is_named.false) (sym c.is_named-else-is_named.ensures ∙ c.if-is_named-2.false)) c.requires b
+pub returns-in_err-add-clause-stands : goal.returns-in_err-add-clause-stands
+returns-in_err-add-clause-stands c =
+    let line = c.args.text.now in
+    let p = err_from_is_err_and c.from_residual.result c.from_residual.ensures.1 in
+    rw (p.1, p.2) (at_property c.in_err-add.field-0.0.number _ _ line (other_first line (sym c.may_pair.ensures ∙ c.if-not-may_pair.true)) ∙ c.in_err-add.ensures.stands)
+
+pub returns-then-not-may_pair-clause-built : goal.returns-then-not-may_pair-clause-built
+returns-then-not-may_pair-clause-built c = λ done b.
+    let line = c.args.text.now in
+    c.in_ok-add.ensures.built done line (lines_left c.args.rest) (other_first line (sym c.may_pair.ensures ∙ c.if-not-may_pair.true)) c.requires.next b
+
+pub returns-then-not-may_pair-clause-names : goal.returns-then-not-may_pair-clause-names
+returns-then-not-may_pair-clause-names c =
+    let line = c.args.text.now in
+    c.in_ok-add.ensures.names ∙ sym (now_property _ line (other_first line (sym c.may_pair.ensures ∙ c.if-not-may_pair.true)))
+
+pub returns-in_ok-add-2-clause-built : goal.returns-in_ok-add-2-clause-built
+returns-in_ok-add-2-clause-built c = λ done b.
+    let line = c.args.text.now in
+    c.in_ok-add-2.ensures.built done line (lines_left c.args.rest) (plain line (rw c.of-line.ensures at (sym c.is_named.ensures ∙ c.if-is_named.false)) (rw c.of-line.ensures at (sym c.is_named-else-is_named.ensures ∙ c.if-is_named-2.false))) c.requires.next b
