@@ -5,3 +5,4 @@ pub mod Counted
 pub mod Standing
 pub mod Left
 pub mod Taken
+pub mod Lists

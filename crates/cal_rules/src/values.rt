@@ -1,10 +1,12 @@
 //! The values of a rule's parts: words, numbers, weekdays, dates, and lists of them with commas between, at most 366 entries
 //! each (RFC 5545 3.3.10).
 
-ghost use Rattle.std.specs.Prelude.{◌≡◌, ◌<◌, ◌≤◌, ◌^◌, ℕ, pos, neg_ℤ, IfSome, IfNone, map, IfOk};
+ghost use Rattle.std.specs.Prelude.{◌≡◌, ◌<◌, ◌≤◌, ◌^◌, ℕ, pos, neg_ℤ, Some, None, IfSome, IfNone, map, IfOk};
+ghost use Rattle.std.specs.Fn.{FnReturnsAt};
 ghost use Rattle.profile.specs.Values.{IsNumber};
 ghost use Rattle.profile.specs.RuleTexts.{SpellsFrequency, SpellsWeekday, SpellsBetween, SpellsInterval, SpellsCount, SpellsPlace, SpellsEntry, SpellsUntil, SpellsNone, SpellsList, SpellsMonths, SpellsEntries};
 ghost use Rattle.cal_days.specs.Views.{frequency_of};
+ghost use Rattle.cal_rules.specs.Lists.{IsNoList};
 ghost use Rattle.cal_rules.specs.Views.{entry_of, until_of};
 
 use crate::written::{Until, WeekdayNumber};
@@ -167,22 +169,36 @@ pub(crate) fn read_until(value: &str) -> Option<Until>
     Some(Until::Date(day))
 }
 
+/// The values of a list, each as `read` takes it. None where it takes one of them for none, or where they are too many.
+fn read_list<T: Drop, F: Fn(&str) -> Option<T> + Drop>(
+    alloc: Global,
+    list: &str,
+    read: F,
+) -> Result<Option<Vec<T>>, AllocError>
+    requires { F.IsAlwaysCallable read }
+    ensures reads { IfOk result (λ taken. IfSome taken
+        (λ values. SpellsList (λ text value. FnReturnsAt F.Fn read text (Some value)) list.now values.items)) }
+    ensures none { IfOk result (λ taken. IfNone taken (IsNoList (λ text. FnReturnsAt F.Fn read text None) list.now)) }
+{
+    let mut values = Vec::new(alloc);
+    for text in list.split(',') {
+        let Some(value) = read(text) else {
+            return Ok(None);
+        };
+        if values.len() == MOST {
+            return Ok(None);
+        }
+        values.push(value)?;
+    }
+    Ok(Some(values))
+}
+
 /// The entries of BYMONTH. None where one isn't a month, or where they are too many.
 pub(crate) fn read_months(alloc: Global, value: &str) -> Result<Option<Vec<u8>>, AllocError>
     ensures reads { IfOk result (λ read. IfSome read (λ months. SpellsMonths value.now months.items)) }
     ensures none { IfOk result (λ read. IfNone read (SpellsNone SpellsMonths value.now)) }
 {
-    let mut months = Vec::new(alloc);
-    for entry in value.split(',') {
-        let Some(month) = read_month(entry) else {
-            return Ok(None);
-        };
-        if months.len() == MOST {
-            return Ok(None);
-        }
-        months.push(month)?;
-    }
-    Ok(Some(months))
+    read_list(alloc, value, read_month)
 }
 
 /// The entries of BYMONTHDAY or BYSETPOS, from 1 to the most or from -1 to minus the most. None where one isn't such a
@@ -196,17 +212,7 @@ pub(crate) fn read_places(
     ensures reads { IfOk result (λ read. IfSome read (λ places. SpellsList (SpellsPlace most) value.now places.items)) }
     ensures none { IfOk result (λ read. IfNone read (SpellsNone (SpellsList (SpellsPlace most)) value.now)) }
 {
-    let mut places = Vec::new(alloc);
-    for entry in value.split(',') {
-        let Some(place) = read_place(most, entry) else {
-            return Ok(None);
-        };
-        if places.len() == MOST {
-            return Ok(None);
-        }
-        places.push(place)?;
-    }
-    Ok(Some(places))
+    read_list(alloc, value, |entry| read_place(most, entry))
 }
 
 /// The entries of BYDAY. None where one isn't an entry, or where they are too many.
@@ -218,15 +224,5 @@ pub(crate) fn read_entries(
         (λ read. IfSome read (λ entries. SpellsEntries value.now (map entry_of entries.items))) }
     ensures none { IfOk result (λ read. IfNone read (SpellsNone SpellsEntries value.now)) }
 {
-    let mut entries = Vec::new(alloc);
-    for entry in value.split(',') {
-        let Some(read) = read_entry(entry) else {
-            return Ok(None);
-        };
-        if entries.len() == MOST {
-            return Ok(None);
-        }
-        entries.push(read)?;
-    }
-    Ok(Some(entries))
+    read_list(alloc, value, read_entry)
 }

@@ -1,39 +1,10 @@
-use Rattle.std.proofs.Common.{◌==◌, refl, arith}
-use Rattle.std.specs.List.{slice_split}
+use Rattle.std.proofs.Common.{rules}
 use Rattle.profile.specs.RuleTexts.{SpellsBetween}
-use Rattle.cal_rules.proofs.Cuts.{all_left, cut_more, cut_done}
-use Rattle.cal_rules.proofs.Entered.{none_yet, one_more, entry_bad, list_read, list_long}
+use Rattle.cal_rules.proofs.Entered.{ok_some, ok_none, list_spelled, list_none}
 use Rattle.cal_rules.proofs.values.read_months.Goals as goal
 
-pub loop-entry-init : goal.loop-entry-init
-loop-entry-init c =
-    let all = slice_split (λ x. x == 44) c.args.value.now in
-    let s = c.split-entry-items.ensures in
-    (all, all_left 44 c.args.value.now _ _ (omega arith) s.text s.has_more s.pattern c.into_iter-entry-iterator.ensures.into_iter_gives, rw c.new-months.ensures.items (none_yet (SpellsBetween 1 12) all all refl))
-
-pub returns-in_default-clause-none : goal.returns-in_default-clause-none
-returns-in_default-clause-none c =
-    let i = c.loop-entry.invariant in
-    let more = cut_more c.loop-entry.entry-iterator c.next.new.self c.in-Some.entry i.0 i.1 c.in-Some.ensures.steps in
-    entry_bad (SpellsBetween 1 12) (slice_split (λ x. x == 44) c.args.value.now) i.0 more.0 c.in-Some.entry.now c.loop-entry.months.items i.2 more.1 c.in_default.ensures.none
-
-pub loop-entry-preserved : goal.loop-entry-preserved
-loop-entry-preserved c =
-    let i = c.loop-entry.invariant in
-    let more = cut_more c.loop-entry.entry-iterator c.next.new.self c.in-Some.entry i.0 i.1 c.in-Some.ensures.steps in (
-      more.0,
-      more.2,
-      one_more (SpellsBetween 1 12) (slice_split (λ x. x == 44) c.args.value.now) i.0 more.0 c.in-Some.entry.now c.loop-entry.months.items c.push.new.self.items c.in-Some-read_month.month i.2 more.1 (omega (arith, c.len.ensures, c.if-len-eq-MOST.false))
-          c.in_ok-push.ensures.items c.in-Some-read_month.ensures.reads,
-    )
-
-pub returns-then-len-eq-MOST-clause-none : goal.returns-then-len-eq-MOST-clause-none
-returns-then-len-eq-MOST-clause-none c =
-    let i = c.loop-entry.invariant in
-    let more = cut_more c.loop-entry.entry-iterator c.next.new.self c.in-Some.entry i.0 i.1 c.in-Some.ensures.steps in
-    list_long (SpellsBetween 1 12) (slice_split (λ x. x == 44) c.args.value.now) i.0 more.0 c.in-Some.entry.now c.loop-entry.months.items i.2 more.1 (omega (arith, c.len.ensures, c.if-len-eq-MOST.true))
-
 pub returns-clause-reads : goal.returns-clause-reads
-returns-clause-reads c =
-    let i = c.loop-entry.invariant in
-    list_read (SpellsBetween 1 12) (slice_split (λ x. x == 44) c.args.value.now) i.0 c.loop-entry.months.items i.2 (cut_done c.loop-entry.entry-iterator c.next.new.self i.0 i.1 c.in-None.ensures.steps)
+returns-clause-reads c = ok_some c.read_list.result (λ months h. list_spelled _ _ (SpellsBetween 1 12) c.args.value.now months.items h (λ v x r. search rules)) c.read_list.ensures.reads
+
+pub returns-clause-none : goal.returns-clause-none
+returns-clause-none c = ok_none c.read_list.result (λ h. list_none _ _ (SpellsBetween 1 12) (λ x. x) c.args.value.now h (λ v r. search rules)) c.read_list.ensures.none
