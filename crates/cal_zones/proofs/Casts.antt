@@ -7,7 +7,7 @@ use Rattle.ical_values.proofs.Facts.{wide_clock}
 pub narrow : (z : ℤ) → IsOffset z → to_z w32 (of_z w32 z) ≡ z
 narrow z h = omega (arith, signed_arith, h)
 
-wide_offset : (z : ℤ) → IsOffset z → to_z w64 (of_z w64 z) ≡ z
+pub wide_offset : (z : ℤ) → IsOffset z → to_z w64 (of_z w64 z) ≡ z
 wide_offset z h = omega (arith, signed_arith, h)
 
 difference : (s o : ℤ) → IsClockSeconds s → IsOffset o → to_z w64 (of_z w64 (s -ℤ o)) ≡ s -ℤ o

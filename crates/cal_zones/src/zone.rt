@@ -9,16 +9,11 @@ use crate::observance::Observance;
 use crate::pair::Pair;
 use crate::read::read_zone;
 use crate::write::write_zone;
-use cal_days::{Day, EPOCH_INDEX, FIRST_INDEX, LAST_INDEX};
+use cal_days::{Day, FIRST_INDEX, LAST_INDEX};
 use ical_lines::{Fault, Refusal};
 use ical_tree::Component;
 use ical_values::{DAY_SECONDS, LocalTime, UtcOffset};
 use std::alloc::{AllocError, Global};
-
-/// An instant before all local times, and one after them.
-const EARLY: i64 = -62_166_900_000;
-
-const LATE: i64 = 260_000_000_000;
 
 /// One offset for all time.
 #[derive(Clone, Copy, Debug)]
@@ -266,19 +261,24 @@ impl Zone {
     }
 }
 
-/// The last day, by its index, on which that second of the day isn't past an instant with that offset.
+/// The last day, by its index, on which that second of the day isn't past an instant with that offset: the day before the first one
+/// where it is past it on each, and the last one where it is past it on none.
 fn latest_day(second: u32, offset: i32, until: i64) -> u32
     requires second { second < 86_400 }
     requires offset { IsOffset offset }
     ensures range { result ≤ 3_652_424 }
     ensures past { (other : ℕ) → result < other → other ≤ 3_652_424 → (until +ℤ offset) <ℤ local_time other second }
 {
-    if until < EARLY {
-        return FIRST_INDEX - 1;
-    }
-    if until > LATE {
+    let Some(local) = LocalTime::of_seconds(until.saturating_add(offset as i64)) else {
+        // Before the year 1, or after the year 9999.
+        if until < 0 {
+            return FIRST_INDEX - 1;
+        }
         return LAST_INDEX;
+    };
+    let (day, time) = local.day_and_second();
+    if time < second {
+        return day.index() - 1;
     }
-    let since = until + offset as i64 - second as i64 + EPOCH_INDEX as i64 * DAY_SECONDS;
-    ((since as u64 / DAY_SECONDS as u64) as u32).min(LAST_INDEX)
+    day.index()
 }
