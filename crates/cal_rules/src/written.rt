@@ -72,15 +72,8 @@ impl Written {
             result ≡ (is_missing text.positions
             || not (is_missing text.months && is_missing text.month_days && is_missing text.weekdays)) }
     {
-        self.positions.is_empty() || !self.has_no_list()
-    }
-
-    /// None of BYMONTH, BYMONTHDAY and BYDAY is written?
-    fn has_no_list(&self) -> bool
-        ensures { let text = text_of self.now in
-            result ≡ (is_missing text.months && is_missing text.month_days && is_missing text.weekdays) }
-    {
-        self.months.is_empty() && self.month_days.is_empty() && self.weekdays.is_empty()
+        self.positions.is_empty()
+            || !(self.months.is_empty() && self.month_days.is_empty() && self.weekdays.is_empty())
     }
 
     /// Is there at most one of COUNT and UNTIL?

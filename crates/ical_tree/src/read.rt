@@ -293,18 +293,10 @@ fn exceeds_events(calendar: &Component, limits: Limits) -> bool
     ensures { result ≡ (is_bounded limits && nat_lt 200 (count_inside component_name component_lines component_children (codes "VEVENT") calendar.now)) }
 {
     match limits {
-        Limits::Message => count_events(calendar) > MAX_EVENTS,
+        Limits::Message => {
+            let children = calendar.children().iter();
+            children.filter(|child| child.is_named("VEVENT")).count() > MAX_EVENTS
+        }
         Limits::Open => false,
     }
-}
-
-/// How many VEVENTs stand directly inside.
-fn count_events(calendar: &Component) -> usize
-    ensures { result ≡ count_inside component_name component_lines component_children (codes "VEVENT") calendar.now }
-{
-    calendar
-        .children()
-        .iter()
-        .filter(|child| child.is_named("VEVENT"))
-        .count()
 }
