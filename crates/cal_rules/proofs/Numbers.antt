@@ -1,7 +1,6 @@
 -- Numbers, weekdays and dates as they are spelled.
-use Rattle.std.proofs.Common.{to_z, of_z, w16, ◌≡◌, ◌∙◌, ◌≢◌, ap, sym, refl, ℕ, zero, suc, ◌+◌, ◌-◌, ◌*◌, ◌^◌, ◌<◌, ◌≤◌, lit<, lit≤, true, false, cond, nat_eq, inl, inr, ◌⊎◌, List, [], ◌∷◌, ◌++◌, length, get_or, take, drop, codes, Option, None, Some, is_some, IfSome, IfNone, MatchOption, ℤ, pos, neg_ℤ, arith, Result, Ok, Err}
+use Rattle.std.proofs.Common.{◌≡◌, ◌∙◌, ◌≢◌, ap, sym, refl, ℕ, zero, suc, ◌+◌, ◌-◌, ◌*◌, ◌^◌, ◌<◌, ◌≤◌, lit<, lit≤, true, false, cond, nat_eq, inl, inr, ◌⊎◌, List, [], ◌∷◌, ◌++◌, length, get_or, take, drop, codes, Option, None, Some, is_some, unwrap_or, subst, IfSome, MatchOption, ℤ, pos, neg_ℤ, arith, Result, Ok, Err}
 use Rattle.std.proofs.lemmas.Bool.Decides.{nat_tests}
-use Rattle.std.proofs.lemmas.Int.{ints}
 use Rattle.std.proofs.lemmas.List.{take-append-drop, take_at, drop_at, get_or_at, length-append}
 use Rattle.std.proofs.lemmas.Str.{IsCharBoundary-before_ascii}
 use Rattle.std.proofs.lemmas.Str.Parse.{without_leading_plus_none, digit_from_value}
@@ -131,18 +130,6 @@ between_same low high value m n s t = sym s.0.2 ∙ t.0.2
 
 -- ---- places
 
--- the bounds of a place's size
-size_bounds : (most n : ℕ) (digits : List ℕ) → SpellsBetween 1 most digits n → (1 ≤ n) × (n ≤ most)
-size_bounds most n digits s = (grind (arith, nat_tests), grind (arith, nat_tests))
-
-pub cast_up : (most n : ℕ) (digits : List ℕ) → most ≤ 366 → SpellsBetween 1 most digits n → to_z w16 n ≡ pos n
-cast_up most n digits bound s =
-    let h = size_bounds most n digits s in omega (arith, ints, h.1)
-
-pub cast_down : (most n : ℕ) (digits : List ℕ) → most ≤ 366 → SpellsBetween 1 most digits n → to_z w16 (of_z w16 (neg_ℤ (to_z w16 n))) ≡ neg_ℤ (pos n)
-cast_down most n digits bound s =
-    let h = size_bounds most n digits s in omega (arith, ints, h.1)
-
 -- a digit is no sign
 digit_first : (digits : List ℕ) → 0 < length digits → AllDigits 10 digits → IsInRange 48 57 (get_or digits 0 0)
 digit_first [] h a = absurd (omega arith)
@@ -154,23 +141,6 @@ sign_none c rest digits low h a e =
     let f : get_or digits 0 0 ≡ c = ap (λ x. get_or x 0 0) e in
     omega (arith, r.0)
 
-pub minus_reads : (most : ℕ) (value digits : List ℕ) (r : Option ℤ) → value ≡ 45 ∷ digits → IfSome r (λ place. (size : ℕ) × SpellsBetween 1 most digits size × (place ≡ neg_ℤ (pos size))) → IfSome r (SpellsPlace most value)
-minus_reads most value digits None e h = tt
-minus_reads most value digits (Some place) e (size, s, f) = (digits, size, s, inr (e, f))
-
-pub plus_reads : (most : ℕ) (value digits : List ℕ) (r : Option ℤ) → value ≡ 43 ∷ digits → IfSome r (λ place. (size : ℕ) × SpellsBetween 1 most digits size × (place ≡ pos size)) → IfSome r (SpellsPlace most value)
-plus_reads most value digits None e h = tt
-plus_reads most value digits (Some place) e (size, s, f) = (digits, size, s, inl (inr e, f))
-
-pub bare_reads : (most : ℕ) (value : List ℕ) (r : Option ℤ) → IfSome r (λ place. (size : ℕ) × SpellsBetween 1 most value size × (place ≡ pos size)) → IfSome r (SpellsPlace most value)
-bare_reads most value None h = tt
-bare_reads most value (Some place) (size, s, f) = (value, size, s, inl (inl refl, f))
-
-no_minus : (most : ℕ) (value digits : List ℕ) → value ≡ 45 ∷ digits → SpellsNone (SpellsBetween 1 most) digits → SpellsNone (SpellsPlace most) value
-no_minus most value digits e none place (d, n, s, inl (inl f, p)) = sign_none 45 digits d (omega arith) s.0.0 s.0.1 (sym f ∙ e)
-no_minus most value digits e none place (d, n, s, inl (inr f, p)) = absurd (omega (arith, head 43 45 d digits (sym f ∙ e)))
-no_minus most value digits e none place (d, n, s, inr (f, p)) = none n (rw (tail 45 45 d digits (sym f ∙ e)) at s)
-
 no_plus : (most : ℕ) (value digits : List ℕ) → value ≡ 43 ∷ digits → SpellsNone (SpellsBetween 1 most) digits → SpellsNone (SpellsPlace most) value
 no_plus most value digits e none place (d, n, s, inl (inl f, p)) = sign_none 43 digits d (omega arith) s.0.0 s.0.1 (sym f ∙ e)
 no_plus most value digits e none place (d, n, s, inl (inr f, p)) = none n (rw (tail 43 43 d digits (sym f ∙ e)) at s)
@@ -181,17 +151,10 @@ no_bare most value minus plus none place (d, n, s, inl (inl f, p)) = none n (rw 
 no_bare most value minus plus none place (d, n, s, inl (inr f, p)) = plus d f
 no_bare most value minus plus none place (d, n, s, inr (f, p)) = minus d f
 
-pub minus_none : (most : ℕ) (value digits : List ℕ) (r : Option ℤ) → value ≡ 45 ∷ digits → IfNone r (SpellsNone (SpellsBetween 1 most) digits) → IfNone r (SpellsNone (SpellsPlace most) value)
-minus_none most value digits None e h = no_minus most value digits e h
-minus_none most value digits (Some place) e h = tt
-
-pub plus_none : (most : ℕ) (value digits : List ℕ) (r : Option ℤ) → value ≡ 43 ∷ digits → IfNone r (SpellsNone (SpellsBetween 1 most) digits) → IfNone r (SpellsNone (SpellsPlace most) value)
-plus_none most value digits None e h = no_plus most value digits e h
-plus_none most value digits (Some place) e h = tt
-
-pub bare_none : (most : ℕ) (value : List ℕ) (r : Option ℤ) → ((rest : List ℕ) → value ≡ 45 ∷ rest → ⊥) → ((rest : List ℕ) → value ≡ 43 ∷ rest → ⊥) → IfNone r (SpellsNone (SpellsBetween 1 most) value) → IfNone r (SpellsNone (SpellsPlace most) value)
-bare_none most value None minus plus h = no_bare most value minus plus h
-bare_none most value (Some place) minus plus h = tt
+-- after a `+`, where there is one
+pub no_unsigned : (most : ℕ) (value digits : Bor (List ℕ)) (r : Option (Bor (List ℕ))) → MatchOption r ((rest : List ℕ) → value.now ≡ 43 ∷ rest → ⊥) (λ b. value.now ≡ 43 ∷ b.now) → ((rest : List ℕ) → value.now ≡ 45 ∷ rest → ⊥) → digits ≡ unwrap_or r value → SpellsNone (SpellsBetween 1 most) digits.now → SpellsNone (SpellsPlace most) value.now
+no_unsigned most value digits (Some b) plus minus e none = no_plus most value.now b.now plus (subst (λ (d : Bor (List ℕ)). SpellsNone (SpellsBetween 1 most) d.now) e none)
+no_unsigned most value digits None plus minus e none = no_bare most value.now minus plus (subst (λ (d : Bor (List ℕ)). SpellsNone (SpellsBetween 1 most) d.now) e none)
 
 pub place_nonempty : (most : ℕ) (value : List ℕ) (place : ℤ) → SpellsPlace most value place → 0 < length value
 place_nonempty most value place (d, n, s, inl (inl f, p)) = rw f s.0.0

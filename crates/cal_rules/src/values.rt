@@ -98,27 +98,6 @@ pub(crate) fn read_month(value: &str) -> Option<u8>
     Some(number as u8)
 }
 
-/// A number from 1 to the most, that counts from the start.
-fn read_from_start(most: u16, digits: &str) -> Option<i16>
-    requires { most ≤ 366 }
-    ensures reads { IfSome result (λ place. (size : ℕ) × SpellsBetween 1 most digits.now size × (place ≡ pos size)) }
-    ensures none { IfNone result (SpellsNone (SpellsBetween 1 most) digits.now) }
-{
-    let size = read_between(1, most as u32, digits)?;
-    Some(size as i16)
-}
-
-/// A number from 1 to the most, that counts from the end.
-fn read_from_end(most: u16, digits: &str) -> Option<i16>
-    requires { most ≤ 366 }
-    ensures reads { IfSome result
-        (λ place. (size : ℕ) × SpellsBetween 1 most digits.now size × (place ≡ neg_ℤ (pos size))) }
-    ensures none { IfNone result (SpellsNone (SpellsBetween 1 most) digits.now) }
-{
-    let size = read_between(1, most as u32, digits)?;
-    Some(-(size as i16))
-}
-
 /// A number from 1 to the most with an optional sign; with `-` it counts from the end.
 pub(crate) fn read_place(most: u16, value: &str) -> Option<i16>
     requires { most ≤ 366 }
@@ -126,12 +105,12 @@ pub(crate) fn read_place(most: u16, value: &str) -> Option<i16>
     ensures none { IfNone result (SpellsNone (SpellsPlace most) value.now) }
 {
     if let Some(digits) = value.strip_prefix('-') {
-        return read_from_end(most, digits);
+        let size = read_between(1, most as u32, digits)?;
+        return Some(-(size as i16));
     }
-    if let Some(digits) = value.strip_prefix('+') {
-        return read_from_start(most, digits);
-    }
-    read_from_start(most, value)
+    let digits = value.strip_prefix('+').unwrap_or(value);
+    let size = read_between(1, most as u32, digits)?;
+    Some(size as i16)
 }
 
 /// An entry of BYDAY: a weekday, with a number before it or none.

@@ -1,10 +1,11 @@
 use Rattle.std.proofs.Common.{None, arith}
 use Rattle.std.proofs.lemmas.Str.Pattern.{strip_prefix_char}
-use Rattle.cal_rules.proofs.Numbers.{bare_none}
+use Rattle.ical_values.proofs.Exits.{if_none}
+use Rattle.cal_rules.proofs.Numbers.{no_unsigned}
 use Rattle.cal_rules.proofs.values.read_place.Goals as goal
 
-pub returns-clause-none : goal.returns-clause-none
-returns-clause-none c =
+pub returns-in_err-size-2-clause-none : goal.returns-in_err-size-2-clause-none
+returns-in_err-size-2-clause-none c =
     let minus = strip_prefix_char 45 c.args.value.now None c.in_default.ensures.cases (omega arith) in
-    let plus = strip_prefix_char 43 c.args.value.now None c.in_default-strip_prefix.ensures.cases (omega arith) in
-    bare_none c.args.most c.args.value.now c.read_from_start-2.result minus plus c.read_from_start-2.ensures.none
+    let plus = strip_prefix_char 43 c.args.value.now c.strip_prefix-2.result c.strip_prefix-2.ensures.cases (omega arith) in
+    if_none c.from_residual-in_err-size-2.result (no_unsigned c.args.most c.args.value c.unwrap_or-digits.result c.strip_prefix-2.result plus minus c.unwrap_or-digits.ensures c.in_err-size-2.ensures.none)
