@@ -128,15 +128,6 @@ fn read_local(line: Line<'_>) -> Result<LocalTime, Refusal>
     LocalTime::read(line.value())
 }
 
-/// The local time of DTSTART. Refused with 40 where it is missing or stands twice too.
-fn read_start(properties: &Properties<'_>) -> Result<LocalTime, Refusal>
-    ensures says { IfOk result (λ t. Says (codes "DTSTART") true IsLocalLine properties.now (Some t)) }
-    ensures stands { IfErr result (λ e. TimesFault properties.now e.number) }
-{
-    let line = properties.required("DTSTART", Refusal::ZONE_SHAPE)?;
-    read_local(line)
-}
-
 /// The offset of that name. Refused with 40 where it is missing or stands twice, with 13 where it is none.
 fn read_offset(properties: &Properties<'_>, name: &str) -> Result<UtcOffset, Refusal>
     ensures says { IfOk result (λ t. Says name.now true IsOffsetLine properties.now (Some t)) }
@@ -157,7 +148,8 @@ pub(crate) fn read_times(properties: &Properties<'_>) -> Result<Observance, Refu
     if has_line(properties, "RDATE") {
         return Err(Refusal::ZONE_SHAPE);
     }
-    let start = read_start(properties)?;
+    let line = properties.required("DTSTART", Refusal::ZONE_SHAPE)?;
+    let start = read_local(line)?;
     let from = read_offset(properties, "TZOFFSETFROM")?;
     let to = read_offset(properties, "TZOFFSETTO")?;
     Ok(Observance::new(start, None, from, to))

@@ -130,21 +130,13 @@ fn read_pair(alloc: Global, zone: &Component) -> Result<Zone, Fault>
     let Some(daylight) = only_named(zone, "DAYLIGHT") else {
         return Err(Fault::Refused(Refusal::ZONE_SHAPE));
     };
-    read_both(alloc, standard, daylight)
-}
-
-/// The zone of STANDARD and DAYLIGHT.
-fn read_both(alloc: Global, standard: &Component, daylight: &Component) -> Result<Zone, Fault>
-    ensures says { IfOk result
-        (λ z. SaysBoth (component_lines standard.now) (component_lines daylight.now) (zone_of z)) }
-    ensures stands { IfErr result (RefusesBy (BothFault (component_lines standard.now) (component_lines daylight.now))) }
-{
     let first = read_yearly(alloc, standard)?;
     let second = read_yearly(alloc, daylight)?;
     Ok(Zone::pair(first, second)?)
 }
 
-/// A part that begins on one day every year.
+/// A part that begins on one day every year. Refused where its times are wrong, and with 40 where RRULE is missing, stands twice
+/// or names no one day of the year.
 fn read_yearly(alloc: Global, part: &Component) -> Result<Observance, Fault>
     ensures says { IfOk result (λ o. SaysYearly (component_lines part.now) (observance_of o)) }
     ensures has_rule { IfOk result (λ o. o.rule ≡ None → ⊥) }
@@ -152,18 +144,9 @@ fn read_yearly(alloc: Global, part: &Component) -> Result<Observance, Fault>
 {
     let properties = Properties::of(alloc, part)?;
     let times = read_times(&properties)?;
-    let rule = read_rule(alloc, &properties)?;
-    Ok(times.with_rule(rule))
-}
-
-/// The rule of a part. Refused with 40 where RRULE is missing, stands twice or names no one day of the year.
-fn read_rule(alloc: Global, properties: &Properties<'_>) -> Result<Yearly, Fault>
-    ensures says { IfOk result (λ r.
-        lines.Says (codes "RRULE") true IsYearLine properties.now (Some (rule_named r.month r.days))) }
-    ensures stands { IfErr result (RefusesBy (λ n. (n ≡ 40) × HasNoYearRule properties.now)) }
-{
     let line = properties.required("RRULE", Refusal::ZONE_SHAPE)?;
-    read_year(alloc, line.value())
+    let rule = read_year(alloc, line.value())?;
+    Ok(times.with_rule(rule))
 }
 
 /// The one day of the year that the text of a rule names. Refused with 40 where it names none.

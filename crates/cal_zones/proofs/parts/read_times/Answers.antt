@@ -1,17 +1,29 @@
-use Rattle.std.proofs.Common.{codes, sym, subst, ℤ}
+use Rattle.std.proofs.Common.{codes, sym, subst, refl, arith, ℤ}
 use Rattle.std.specs.Prelude.{Some, true}
+use Rattle.ical_lines.specs.Text.{line_text}
+use Rattle.ical_lines.specs.declared.fault.Refusal.{Refusal}
+use Rattle.ical_tree.proofs.OneLine.{the_line}
 use Rattle.profile.specs.Properties.{Says}
 use Rattle.profile.specs.ZoneTexts.{IsLocalLine, IsOffsetLine, TimesFault, dates}
-use Rattle.cal_zones.proofs.Reading.{from_fault, to_fault}
+use Rattle.cal_zones.proofs.Reading.{said, not_one, start_fault, from_fault, to_fault}
 use Rattle.ical_values.proofs.Exits.{refusal_exit}
 use Rattle.cal_zones.proofs.parts.read_times.Goals as goal
 
 pub returns-then-has_line-clause-stands : goal.returns-then-has_line-clause-stands
 returns-then-has_line-clause-stands c = dates (c.has_line.ensures.stands c.if-has_line.true)
 
+pub returns-in_err-line-clause-stands : goal.returns-in_err-line-clause-stands
+returns-in_err-line-clause-stands c =
+    let lines = c.args.properties.now in
+    refusal_exit _ (TimesFault lines) _ c.from_residual.ensures.1
+    (subst (λ (e : Refusal). TimesFault lines e.number) (sym c.in_err-line.ensures.refuses) (not_one (codes "DTSTART") lines (0, omega arith, refl) c.in_err-line.ensures.faulty))
+
 pub returns-in_err-start-clause-stands : goal.returns-in_err-start-clause-stands
 returns-in_err-start-clause-stands c =
-    refusal_exit _ (TimesFault c.args.properties.now) _ c.from_residual.ensures.1 c.in_err-start.ensures.stands
+    let lines = c.args.properties.now in
+    let line = line_text c.in_ok-line.line in
+    refusal_exit _ (TimesFault lines) _ c.from_residual-in_err-start.ensures.1
+    (start_fault lines line _ (the_line (codes "DTSTART") lines line c.in_ok-line.ensures.found) c.in_err-start.ensures.stands)
 
 pub returns-in_err-from-clause-stands : goal.returns-in_err-from-clause-stands
 returns-in_err-from-clause-stands c =
@@ -27,7 +39,7 @@ pub returns-clause-says : goal.returns-clause-says
 returns-clause-says c =
     let lines = c.args.properties.now in
     record {
-      start = subst (λ (t : ℤ). Says (codes "DTSTART") true IsLocalLine lines (Some t)) (sym c.new.ensures.start) c.in_ok-start.ensures.says;
+      start = subst (λ (t : ℤ). Says (codes "DTSTART") true IsLocalLine lines (Some t)) (sym c.new.ensures.start) (said IsLocalLine (codes "DTSTART") lines (line_text c.in_ok-line.line) c.in_ok-start.start c.in_ok-line.ensures.found c.in_ok-start.ensures.says);
       second = c.new.result.starts.2;
       from = subst (λ (t : ℤ). Says (codes "TZOFFSETFROM") true IsOffsetLine lines (Some t)) (sym c.new.ensures.from) c.in_ok-from.ensures.says;
       to = subst (λ (t : ℤ). Says (codes "TZOFFSETTO") true IsOffsetLine lines (Some t)) (sym c.new.ensures.to) c.in_ok-to.ensures.says;

@@ -1,10 +1,12 @@
 use Rattle.ical_tree.specs.Tree.{component_lines, component_children}
 use Rattle.profile.specs.ZoneTexts.{other_parts}
 use Rattle.cal_zones.specs.Kinds.{zone_of}
-use Rattle.cal_zones.specs.Read.{Says, HasFault, SaysBoth, BothFault, parts_of, standards_of, daylights_of}
+use Rattle.cal_zones.specs.Read.{HasFault, YearlyFault, in_standard, in_daylight, parts_of, standards_of, daylights_of}
 use Rattle.cal_zones.proofs.PartLemmas.{standard_is_part, daylight_is_part}
-use Rattle.cal_zones.proofs.Reading.{weaker_fault, both_say, both_fault}
-use Rattle.std.proofs.lemmas.Result.{IfOk-weaker}
+use Rattle.cal_zones.proofs.Reading.{fault_exit, both_refused, both_say, both_fault}
+use Rattle.cal_zones.specs.Onsets.{observance_of}
+use Rattle.ical_lines.specs.Fault.{RefusesBy}
+use Rattle.ical_values.proofs.Exits.{err_exit}
 use Rattle.cal_zones.proofs.read.read_pair.Goals as goal
 
 pub returns-in_default-clause-stands : goal.returns-in_default-clause-stands
@@ -13,19 +15,40 @@ returns-in_default-clause-stands c = other_parts c.requires.differ c.requires.se
 pub returns-in_default-only_named-clause-stands : goal.returns-in_default-only_named-clause-stands
 returns-in_default-only_named-clause-stands c = other_parts c.requires.differ c.requires.several (λ h. c.in_default-only_named.ensures.none h.1)
 
+pub returns-in_err-first-clause-stands : goal.returns-in_err-first-clause-stands
+returns-in_err-first-clause-stands c =
+    let zone = c.args.zone.now in
+    let p = component_lines c.in-Some.standard.now in
+    let q = component_lines c.in-Some-only_named.daylight.now in
+    fault_exit _ (HasFault zone) (YearlyFault p) _ (λ n h. both_fault (parts_of zone) (standards_of zone) (daylights_of zone) p q n c.requires.differ c.in-Some.ensures.found c.in-Some-only_named.ensures.found
+    (standard_is_part (component_children zone) p c.in-Some.ensures.found) (daylight_is_part (component_children zone) q c.in-Some-only_named.ensures.found) (in_standard h)) c.from_residual.ensures.1 c.in_err-first.ensures.stands
+
+pub returns-in_err-second-clause-stands : goal.returns-in_err-second-clause-stands
+returns-in_err-second-clause-stands c =
+    let zone = c.args.zone.now in
+    let p = component_lines c.in-Some.standard.now in
+    let q = component_lines c.in-Some-only_named.daylight.now in
+    fault_exit _ (HasFault zone) (YearlyFault q) _ (λ n h. both_fault (parts_of zone) (standards_of zone) (daylights_of zone) p q n c.requires.differ c.in-Some.ensures.found c.in-Some-only_named.ensures.found
+    (standard_is_part (component_children zone) p c.in-Some.ensures.found) (daylight_is_part (component_children zone) q c.in-Some-only_named.ensures.found) (in_daylight h)) c.from_residual-in_err-second.ensures.1 c.in_err-second.ensures.stands
+
+pub returns-in_err-pair-clause-stands : goal.returns-in_err-pair-clause-stands
+returns-in_err-pair-clause-stands c =
+    let zone = c.args.zone.now in
+    let p = component_lines c.in-Some.standard.now in
+    let q = component_lines c.in-Some-only_named.daylight.now in
+    let n = c.in_err-pair.field-0.0.number in
+    err_exit _ (RefusesBy (HasFault zone)) _ c.from_residual-in_err-pair.ensures.1
+    (both_fault (parts_of zone) (standards_of zone) (daylights_of zone) p q n c.requires.differ c.in-Some.ensures.found c.in-Some-only_named.ensures.found
+    (standard_is_part (component_children zone) p c.in-Some.ensures.found) (daylight_is_part (component_children zone) q c.in-Some-only_named.ensures.found)
+    (both_refused p q c.in_ok-first.first c.in_ok-second.second n c.in_ok-first.ensures.says c.in_ok-second.ensures.says c.in_ok-first.ensures.has_rule c.in_ok-second.ensures.has_rule c.in_err-pair.ensures.refuses))
+
 pub returns-clause-says : goal.returns-clause-says
 returns-clause-says c =
     let zone = c.args.zone.now in
     let p = component_lines c.in-Some.standard.now in
     let q = component_lines c.in-Some-only_named.daylight.now in
-    IfOk-weaker _ (λ z. SaysBoth p q (zone_of z)) (λ z. Says zone (zone_of z))
-    (λ z h. both_say (parts_of zone) (standards_of zone) (daylights_of zone) p q (zone_of z) c.requires.differ c.in-Some.ensures.found c.in-Some-only_named.ensures.found h) c.read_both.ensures.says
-
-pub returns-clause-stands : goal.returns-clause-stands
-returns-clause-stands c =
-    let zone = c.args.zone.now in
-    let p = component_lines c.in-Some.standard.now in
-    let q = component_lines c.in-Some-only_named.daylight.now in
-    weaker_fault _ (BothFault p q) (HasFault zone)
-    (λ n h. both_fault (parts_of zone) (standards_of zone) (daylights_of zone) p q n c.requires.differ c.in-Some.ensures.found c.in-Some-only_named.ensures.found
-    (standard_is_part (component_children zone) p c.in-Some.ensures.found) (daylight_is_part (component_children zone) q c.in-Some-only_named.ensures.found) h) c.read_both.ensures.stands
+    let a = observance_of c.in_ok-first.first in
+    let b = observance_of c.in_ok-second.second in
+    let ok = c.in_ok-pair.ensures in
+    both_say (parts_of zone) (standards_of zone) (daylights_of zone) p q (zone_of c.in_ok-pair.field-0) c.requires.differ c.in-Some.ensures.found c.in-Some-only_named.ensures.found
+    (a, b, ok.ok, c.in_ok-first.ensures.says, c.in_ok-second.ensures.says, ok.accepted.0, ok.accepted.1)

@@ -1,13 +1,16 @@
 use Rattle.std.proofs.Common.{◌≡◌, ap, codes, subst, sym, inl, inr, List, ℕ}
 use Rattle.ical_lines.specs.Fault.{RefusesBy}
+use Rattle.ical_lines.specs.Text.{line_text}
+use Rattle.ical_lines.specs.declared.fault.Refusal.{Refusal}
+use Rattle.ical_tree.proofs.OneLine.{the_line}
 use Rattle.ical_tree.specs.Tree.{component_lines}
 use Rattle.std.specs.Prelude.{Some, true}
 use Rattle.profile.specs.Properties.{Says}
-use Rattle.profile.specs.ZoneTexts.{HasNoYearRule, IsYearLine}
+use Rattle.profile.specs.ZoneTexts.{HasNoYearRule, IsYearLine, SpellsYear, SpellsNoYear}
 use Rattle.cal_zones.specs.Shapes.{rule_named}
 use Rattle.cal_zones.specs.Onsets.{observance_of, rule_of}
 use Rattle.cal_zones.specs.Read.{YearlyFault}
-use Rattle.cal_zones.proofs.Reading.{fault_exit, same_times}
+use Rattle.cal_zones.proofs.Reading.{fault_exit, said, no_rule_there, same_times}
 use Rattle.ical_values.proofs.Exits.{err_exit}
 use Rattle.cal_zones.proofs.read.read_yearly.Goals as goal
 
@@ -16,11 +19,17 @@ returns-in_err-times-clause-stands c =
     err_exit _ (RefusesBy (YearlyFault (component_lines c.args.part.now))) _ c.from_residual-in_err-times.ensures.1
     (inl (rw c.in_ok-properties.ensures at c.in_err-times.ensures.stands))
 
+pub returns-in_err-line-clause-stands : goal.returns-in_err-line-clause-stands
+returns-in_err-line-clause-stands c =
+    err_exit _ (RefusesBy (YearlyFault (component_lines c.args.part.now))) _ c.from_residual-in_err-line.ensures.1
+    (inr (ap (λ (e : Refusal). e.number) c.in_err-line.ensures.refuses, subst HasNoYearRule c.in_ok-properties.ensures (no_rule_there c.in_ok-properties.properties c.in_err-line.ensures.faulty)))
+
 pub returns-in_err-rule-clause-stands : goal.returns-in_err-rule-clause-stands
 returns-in_err-rule-clause-stands c =
     let own = c.in_ok-properties.properties in
-    fault_exit _ (YearlyFault (component_lines c.args.part.now)) (λ n. (n ≡ 40) × HasNoYearRule own) _
-    (λ n h. inr (h.0, subst HasNoYearRule c.in_ok-properties.ensures h.1)) c.from_residual-in_err-rule.ensures.1 c.in_err-rule.ensures.stands
+    let line = line_text c.in_ok-line.line in
+    fault_exit _ (YearlyFault (component_lines c.args.part.now)) (λ n. (n ≡ 40) × SpellsNoYear c.value.result.now) _
+    (λ n h. inr (h.0, subst HasNoYearRule c.in_ok-properties.ensures (inr (inr (line, the_line (codes "RRULE") own line c.in_ok-line.ensures.found, subst SpellsNoYear c.value.ensures h.1))))) c.from_residual-in_err-rule.ensures.1 c.in_err-rule.ensures.stands
 
 pub returns-clause-says : goal.returns-clause-says
 returns-clause-says c =
@@ -31,6 +40,6 @@ returns-clause-says c =
     record {
       times = same_times lines (observance_of c.in_ok-times.times) (observance_of new) (sym e.day) (sym e.second) (sym e.from) (sym e.to) (rw c.in_ok-properties.ensures at c.in_ok-times.ensures.says);
       each = rule_named rule.month rule.days;
-      rule = subst (λ (ls : List (List ℕ)). Says (codes "RRULE") true IsYearLine ls (Some (rule_named rule.month rule.days))) c.in_ok-properties.ensures c.in_ok-rule.ensures.says;
+      rule = subst (λ (ls : List (List ℕ)). Says (codes "RRULE") true IsYearLine ls (Some (rule_named rule.month rule.days))) c.in_ok-properties.ensures (said IsYearLine (codes "RRULE") c.in_ok-properties.properties (line_text c.in_ok-line.line) (rule_named rule.month rule.days) c.in_ok-line.ensures.found (subst (λ (s : List ℕ). SpellsYear s (rule_named rule.month rule.days)) c.value.ensures c.in_ok-rule.ensures.says));
       is = ap (rule_of new.day) e.rule;
     }
