@@ -87,6 +87,7 @@ event_with first second = record {
   stamp = None;
   sequence = 0;
   times = record { zone = None; local = pos 100; start = pos 100; length = record { days = 1; seconds = 1 } };
+  rule = None;
   attendees = record { address = codes "r:1"; participation = first } ∷ record { address = codes "r:1"; participation = second } ∷ [];
 }
 

@@ -4,3 +4,4 @@ mod ZoneExamples
 mod RuleTextExamples
 mod ZoneTextExamples
 mod WrittenZoneExamples
+mod EventRuleExamples

@@ -8,7 +8,9 @@ use Rattle.profile.specs.Trees.{Tree, vevents}
 use Rattle.profile.specs.Values.{IsUid, unescaped}
 use Rattle.profile.specs.Instances.{Booked}
 use Rattle.profile.specs.Properties.{is_of, lines_named, StandsAtMostOnce, IsStampLine, IsSequenceLine, IsAddressLine, Says, IsUidLine, length_seconds, StandsTwice, IsMissing, SomeLine, IsNoStamp, IsNoAddress, IsNoSequence}
+use Rattle.profile.specs.Rules.{Parts}
 use Rattle.profile.specs.ZonedTimes.{is_in_zone, EventTimes, SaysEventTimes, EventTimesFault}
+use Rattle.profile.specs.EventRules.{SaysEventRule, EventRuleFault}
 
 -- ---- attendees
 
@@ -41,13 +43,14 @@ IsAttendee line attendee = IsAddressLine line attendee.address × (attendee.part
 
 -- ---- one event
 
--- what a VEVENT says; organiser and stamp may be missing in a calendar
+-- what a VEVENT says; organiser and stamp may be missing in a calendar. Without a rule it happens once
 pub record Event : Type 0 where
   pub uid : List ℕ
   pub organiser : Option (List ℕ)
   pub stamp : Option ℤ
   pub sequence : ℕ
   pub times : EventTimes
+  pub rule : Option Parts
   pub attendees : List Attendee
 
 -- SEQUENCE, 0 where it is missing (RFC 5545 3.8.7.4)
@@ -63,13 +66,20 @@ pub record SaysEvent (object : Tree) (in_message : Bool) (lines : List (List ℕ
   pub sequence : SaysSequence lines event.sequence
   pub status : (line : Option (List ℕ)) × StandsAtMostOnce (codes "STATUS") lines line
   pub times : SaysEventTimes object lines event.times
+  pub rule : SaysEventRule lines event.times event.rule
   pub attendees : AllZip IsAttendee (lines_named (codes "ATTENDEE") lines) event.attendees
 
 -- ---- what isn't read yet
 
+-- the line names single instances of an event that recurs: RDATE, EXDATE, RECURRENCE-ID
+abbrev pub is_of_instances : List ℕ → Bool
+is_of_instances line = is_of (codes "RDATE") line || is_of (codes "EXDATE") line || is_of (codes "RECURRENCE-ID") line
+
+abbrev pub names_instances : List (List ℕ) → Bool
+names_instances lines = list_any is_of_instances lines
+
 abbrev pub is_recurrence : List ℕ → Bool
-is_recurrence line =
-    is_of (codes "RRULE") line || is_of (codes "RDATE") line || is_of (codes "EXDATE") line || is_of (codes "RECURRENCE-ID") line
+is_recurrence line = is_of (codes "RRULE") line || is_of_instances line
 
 abbrev pub is_end_of_event : List ℕ → Bool
 is_end_of_event line = is_of (codes "DTSTART") line || is_of (codes "DTEND") line
@@ -80,7 +90,7 @@ is_unread_line line =
     is_recurrence line || (is_of (codes "STATUS") line && is_same_name (line_value line) (codes "CANCELLED"))
     || (is_end_of_event line && is_in_zone line)
 
--- something in the lines isn't read yet
+-- something in the lines isn't read yet, in a message or a calendar
 abbrev pub has_unread : List (List ℕ) → Bool
 has_unread lines = list_any is_unread_line lines
 
@@ -130,13 +140,14 @@ pub record SaysCalendar (room : List ℕ) (object : Tree) (all : List Booked) : 
 
 -- ---- what can be wrong with a VEVENT, by the number of its refusal
 
--- the properties that stand at most once, beside those of the times
+-- the properties that stand at most once, beside those of the times and the rule
 abbrev pub single_names : List (List ℕ)
 single_names = codes "UID" ∷ codes "ORGANIZER" ∷ codes "DTSTAMP" ∷ codes "SEQUENCE" ∷ codes "STATUS" ∷ []
 
 -- the fault of this number stands in the lines of a VEVENT of an object
 pub data EventFault (object : Tree) (in_message : Bool) (lines : List (List ℕ)) : ℕ → Type 0 where
   in_times : {n : ℕ} → EventTimesFault object lines n → EventFault object in_message lines n
+  in_rule : {n : ℕ} → EventRuleFault object lines n → EventFault object in_message lines n
   bad_stamp : SomeLine (codes "DTSTAMP") (λ line. IsNoStamp (line_value line)) lines → EventFault object in_message lines 10
   bad_uid : SomeLine (codes "UID") (λ line. IsUid (unescaped (line_value line)) → ⊥) lines → EventFault object in_message lines 14
   bad_organiser : SomeLine (codes "ORGANIZER") IsNoAddress lines → EventFault object in_message lines 15

@@ -42,6 +42,18 @@ is_unread n = n == 99
 abbrev pub is_zoned_event_fault : ℕ → Bool
 is_zoned_event_fault n = is_event_fault n || is_zone_fault n || is_unread n
 
+-- a fault of the text of an RRULE, or of a start that isn't one of its days (RFC 5545 3.3.10, 3.8.5.3)
+abbrev pub is_rule_fault : ℕ → Bool
+is_rule_fault = is_between 30 34
+
+-- a fault of one VEVENT that may name a VTIMEZONE and may recur
+abbrev pub is_series_event_fault : ℕ → Bool
+is_series_event_fault n = is_zoned_event_fault n || is_rule_fault n
+
+-- a fault of a series: an object, its VEVENT, the want of one, or what isn't read yet
+abbrev pub is_series_fault : ℕ → Bool
+is_series_fault n = is_object_fault n || is_series_event_fault n || n == 66
+
 -- a fault of a calendar: an object, its VEVENTs, two masters or two overrides of one start, or what isn't read yet
 abbrev pub is_calendar_fault : ℕ → Bool
 is_calendar_fault n = is_object_fault n || is_event_fault n || is_between 53 54 n || is_unread n

@@ -27,3 +27,5 @@ pub mod Zones
 pub mod ZoneTexts
 pub mod WrittenZones
 pub mod ZonedTimes
+pub mod EventRules
+pub mod Series
