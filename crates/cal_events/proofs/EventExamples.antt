@@ -65,6 +65,7 @@ said = record {
   stamp = None;
   sequence = 0;
   times = record { zone = None; local = pos 1_741_597_200; start = pos 1_741_597_200; length = record { days = 0; seconds = 5_400 } };
+  rule = None;
   attendees = record { address = codes "mailto:room@example.com"; participation = Accepted } ∷ record { address = codes "mailto:room@example.com"; participation = Declined } ∷ [];
 }
 
@@ -93,6 +94,7 @@ say object = record {
     most = omega arith;
     in_dates = (omega (arith, ints), omega (arith, ints), omega (arith, ints));
   };
+  rule = record { line = None; once = refl; stands = no_need; is = tt };
   attendees = (
     (((codes "MAILTO", codes "Room@example.com", refl, refl, refl, omega arith), refl), refl),
     ((((codes "mailto", codes "room@example.com", refl, refl, refl, omega arith), refl), refl), tt),

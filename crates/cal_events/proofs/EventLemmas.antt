@@ -1,12 +1,11 @@
 -- What the readers of a VEVENT's properties say, put together.
-use Rattle.std.proofs.Common.{◌≡◌, ℕ, zero, suc, ◌+◌, ◌<◌, ◌≤◌, Bool, true, false, eqb, List, [], ◌∷◌, ◌++◌, length, get_or, drop, drop-cons, add-one, append_assoc, cond, map, codes, subst, sym, refl, ap, ◌∙◌, inl, inr, arith, ℤ, pos, ◌+ℤ◌, ◌<ℤ◌}
-use Rattle.std.specs.Prelude.{Option, Some, None, Result, Ok, Err, is_ok, is_some, IfOk, OnOk, OnErr, IfSome, IfNone, Contains, IsTrue, ◌⊎◌, ◌↔◌}
+use Rattle.std.proofs.Common.{◌≡◌, ℕ, zero, suc, ◌+◌, ◌<◌, Bool, true, false, eqb, List, [], ◌∷◌, ◌++◌, length, get_or, drop, drop-cons, add-one, append_assoc, cond, map, codes, subst, sym, refl, ap, ◌∙◌, inl, inr, arith, ℤ}
+use Rattle.std.specs.Prelude.{Option, Some, None, Result, Ok, Err, is_ok, is_some, IfOk, OnOk, OnErr, IfSome, IfNone, Contains, IsTrue, ◌↔◌}
 use Rattle.std.specs.List.{AllZip, find}
 use Rattle.std.proofs.lemmas.List.{map-append}
 use Rattle.std.proofs.lemmas.List.Elements.{Contains-append_right}
 use Rattle.std.proofs.lemmas.Bool.{true≢false}
 use Rattle.std.proofs.lemmas.Bool.Decides.{nat_tests}
-use Rattle.std.proofs.lemmas.Int.{ints}
 use Rattle.ical_lines.specs.Fault.{RefusesOnly, RefusesBy}
 use Rattle.ical_lines.specs.declared.fault.Fault.{Fault}
 use Rattle.ical_lines.specs.declared.fault.Fault.TheVariants.{Refused, Memory}
@@ -16,10 +15,10 @@ use Rattle.ical_values.specs.Octets.{text_octets}
 use Rattle.ical_values.specs.declared.text.Text.{Text}
 use Rattle.cal_events.specs.declared.component.Attendee.{Attendee}
 use Rattle.profile.specs.Lines.{line_value}
-use Rattle.profile.specs.Values.{SpellsDate, SpellsLocal, SpellsStamp, SpellsSequence, SpellsDuration, SpellsNegative, SpellsLong, IsUid, unescaped}
+use Rattle.profile.specs.Values.{SpellsDate, SpellsLocal, SpellsStamp, SpellsSequence, SpellsDuration, SpellsLong, IsUid, unescaped}
 use Rattle.profile.specs.Trees.{Tree}
 use Rattle.profile.specs.Events.{SaysSequence, EventFault, IsAttendee, bad_attendee}
-use Rattle.profile.specs.Properties.{is_of, lines_named, StandsAtMostOnce, SomeLine, Says, IsUidLine, TimeKind, DateTime, time_kind, IsDateText, IsLocalText, KindFault, TimeFault, IsNoDuration, IsNegativeOrLong, IsNoAddress, BothOrNeither, length_seconds}
+use Rattle.profile.specs.Properties.{is_of, lines_named, StandsAtMostOnce, SomeLine, Says, IsUidLine, TimeKind, DateTime, time_kind, IsDateText, IsLocalText, KindFault, TimeFault, IsNegativeOrLong, IsNoAddress}
 use Rattle.cal_events.specs.Events.{attendee_of, IsTime}
 use Rattle.ical_tree.proofs.OneLine.{the_line}
 

@@ -1,10 +1,14 @@
 mod EventExamples
 pub mod EventLemmas
 pub mod ReadingLemmas
+pub mod RuleLemmas
+pub mod SeriesLemmas
 pub mod TreeLemmas
 pub mod Meanings
 pub mod NumberLemmas
 pub mod OneTimes
+pub mod Said
+pub mod OneEventRule
 pub mod OneEvent
 pub mod OneCalendar
 pub mod OneText

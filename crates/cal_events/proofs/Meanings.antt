@@ -1,6 +1,5 @@
 -- A local time means one instant, on the clocks of UTC and of each zone that a VTIMEZONE says.
-use Rattle.std.proofs.Common.{◌≡◌, ◌∙◌, sym, refl, inl, inr, ℤ, pos, ◌+ℤ◌, ◌<ℤ◌, arith}
-use Rattle.std.specs.Prelude.{Option, Some, None, ◌⊎◌}
+use Rattle.std.proofs.Common.{◌≡◌, ◌∙◌, sym, refl, inl, inr, ℤ, pos, ◌<ℤ◌, arith}
 use Rattle.std.proofs.lemmas.Int.{ints}
 use Rattle.profile.specs.Zones.{Zone, Constant, Single, Pair, IsZoneOnset, IsSkipped, IsOneMeaning, Means}
 use Rattle.profile.specs.ZoneTexts.{AreMatched}

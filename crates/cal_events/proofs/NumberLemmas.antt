@@ -1,20 +1,24 @@
 -- The numbers of the faults of a VEVENT, and which of them are left where no time names a zone.
-use Rattle.std.proofs.Common.{◌≡◌, ◌∙◌, ap, sym, refl, subst, inl, inr, ℕ, zero, suc, ◌<◌, Bool, true, false, cond, ◌&&◌, ◌||◌, List, [], ◌∷◌, codes, arith}
-use Rattle.std.specs.Prelude.{Option, Some, None, IsTrue, Result, IfErr, Contains, filter, is_some, ◌⊎◌}
-use Rattle.std.specs.List.{list_any}
+use Rattle.std.proofs.Common.{◌≡◌, ◌∙◌, ap, sym, refl, inl, inr, ℕ, Bool, true, false, cond, ◌&&◌, ◌||◌, List, codes}
+use Rattle.std.specs.Prelude.{Option, Some, None, Contains, is_some, ◌⊎◌}
 use Rattle.std.proofs.lemmas.Bool.{true≢false, or_parts}
 use Rattle.std.proofs.lemmas.List.Folds.{list_any_at}
 use Rattle.std.proofs.lemmas.List.Elements.{All-contains, All-filter, All-contains_itself, filter_passes}
 use Rattle.ical_lines.specs.Fault.{RefusesOnly, RefusesBy}
 use Rattle.ical_lines.specs.declared.fault.Fault.{Fault}
 use Rattle.ical_lines.specs.declared.fault.Fault.TheVariants.{Refused, Memory}
-use Rattle.profile.specs.Faults.{is_between, is_object_fault, is_event_fault, is_zoned_event_fault, is_zone_fault, is_unread, is_calendar_fault}
+use Rattle.profile.specs.Faults.{is_event_fault, is_zoned_event_fault, is_zone_fault, is_unread, is_rule_fault, is_series_event_fault}
 use Rattle.profile.specs.Lines.{line_param, line_value, is_same_name}
 use Rattle.profile.specs.Trees.{Tree}
-use Rattle.profile.specs.ZoneTexts.{ZoneFault, PartsFault, no_part, in_part, ruled, other_parts, unruled, unmatched, close, TimesFault, dates, missing, twice as part_twice, fixed, bad_start as bad_part, bad_from, bad_to}
-use Rattle.profile.specs.Properties.{TimeKind, DateTime, Date, Period, Other, time_kind, UnfixedOrMalformed, IsDateText, IsLocalText, KindFault, TimeFault, malformed_number, ends_in_z, is_of, lines_named, SomeLine}
-use Rattle.profile.specs.ZonedTimes.{is_in_zone, zone_named, DateOrMalformed, LocalFault, NamedFault, InZoneFault, FaultIn, ZonedTimeFault, EventTimesFault, bad_start, bad_end, bad_duration, ends_early, ends_late, lasts_long, starts_out, ends_out, no_start, twice as times_twice, end_and_duration, nominal}
-use Rattle.profile.specs.Events.{is_recurrence, is_end_of_event, is_unread_line, has_unread, EventFault, in_times, bad_stamp, bad_uid, bad_organiser, bad_attendee, bad_sequence, no_uid, no_stamp_given, twice, no_organiser}
+use Rattle.profile.specs.ZoneTexts.{PartsFault, no_part, in_part, ruled, other_parts, unruled, unmatched, close, TimesFault, dates, missing, twice as part_twice, fixed, bad_start as bad_part, bad_from, bad_to}
+use Rattle.profile.specs.Properties.{TimeKind, DateTime, Date, Period, Other, time_kind, UnfixedOrMalformed, IsDateText, IsLocalText, KindFault, ends_in_z, is_of, lines_named}
+use Rattle.profile.specs.ZonedTimes.{is_in_zone, zone_named, DateOrMalformed, LocalFault, NamedFault, FaultIn, EventTimesFault, bad_start, bad_end, bad_duration, ends_early, ends_late, lasts_long, starts_out, ends_out, no_start, twice as times_twice, end_and_duration, nominal}
+use Rattle.profile.specs.RuleTexts.{RuleFault, unknown, bad_value, no_frequency, two_frequencies, twice as rule_twice, apart, two_ends}
+use Rattle.profile.specs.EventRules.{EventRuleFault, bad_rule, starts_outside, two_rules}
+use Rattle.cal_events.specs.declared.component.Purpose.{Purpose}
+use Rattle.cal_events.specs.declared.component.Purpose.TheVariants.{Request, Calendar, Series}
+use Rattle.cal_events.specs.Events.{is_message, has_unread_for, is_fault_for}
+use Rattle.profile.specs.Events.{is_recurrence, is_of_instances, is_end_of_event, is_unread_line, has_unread, EventFault, in_times, in_rule, bad_stamp, bad_uid, bad_organiser, bad_attendee, bad_sequence, no_uid, no_stamp_given, twice, no_organiser}
 
 abbrev Lines : Type 0
 Lines = List (List ℕ)
@@ -147,8 +151,21 @@ read_times object lines n h (times_twice name c x) = refl
 read_times object lines n h (end_and_duration e d) = refl
 read_times object lines n h (nominal s d) = absurd (true≢false (sym s.2 ∙ read_start lines s.0 s.1 h))
 
+-- a rule that is read stands on no line
+read_rule : (lines : Lines) (line : List ℕ) → Contains (lines_named (codes "RRULE") lines) line → has_unread lines ≡ false → ⊥
+read_rule lines line c h =
+    let s = stands (codes "RRULE") lines line c in
+    let part = or_parts (is_recurrence line) (is_of (codes "STATUS") line && is_same_name (line_value line) (codes "CANCELLED")) (or_parts _ (is_end_of_event line && is_in_zone line) (read_line lines line s.0 h)).0 in
+    true≢false (sym s.1 ∙ (or_parts (is_of (codes "RRULE") line) (is_of_instances line) part.0).0)
+
+read_event_rule : (object : Tree) (lines : Lines) (n : ℕ) → has_unread lines ≡ false → EventRuleFault object lines n → is_event_fault n ≡ true
+read_event_rule object lines n h (bad_rule l) = absurd (read_rule lines l.0 l.1 h)
+read_event_rule object lines n h (starts_outside (start, c, l)) = absurd (read_rule lines l.0 l.1 h)
+read_event_rule object lines n h (two_rules x) = refl
+
 read_event : (object : Tree) (m : Bool) (lines : Lines) (n : ℕ) → has_unread lines ≡ false → EventFault object m lines n → is_event_fault n ≡ true
 read_event object m lines n h (in_times f) = read_times object lines n h f
+read_event object m lines n h (in_rule f) = read_event_rule object lines n h f
 read_event object m lines n h (bad_stamp l) = refl
 read_event object m lines n h (bad_uid l) = refl
 read_event object m lines n h (bad_organiser l) = refl
@@ -159,9 +176,51 @@ read_event object m lines n h (no_stamp_given t x) = refl
 read_event object m lines n h (twice name c x) = refl
 read_event object m lines n h (no_organiser t x) = refl
 
--- what a VEVENT in which nothing is left unread is refused for
-pub read_refused : (object : Tree) (m : Bool) (lines : Lines) → has_unread lines ≡ false → (f : Fault) → RefusesBy (EventFault object m lines) f → RefusesOnly is_calendar_fault f
-read_refused object m lines h Memory s = tt
-read_refused object m lines h (Refused r) s =
-    let n = r.number in
-    ap (λ b. b || is_between 53 54 n || is_unread n) (or_last (is_object_fault n) (is_event_fault n) (read_event object m lines n h s))
+-- ---- a series
+
+series_wider : (n : ℕ) → is_zoned_event_fault n ≡ true → is_series_event_fault n ≡ true
+series_wider n h = ap (λ b. b || is_rule_fault n) h
+
+text_number : (text : List ℕ) (n : ℕ) → RuleFault text n → is_series_event_fault n ≡ true
+text_number text n (unknown part c h) = refl
+text_number text n (bad_value key value c h) = refl
+text_number text n (no_frequency h) = refl
+text_number text n (two_frequencies h) = refl
+text_number text n (rule_twice key h) = refl
+text_number text n (apart rule s h) = refl
+text_number text n (two_ends rule s h) = refl
+
+rule_number : (object : Tree) (lines : Lines) (n : ℕ) → EventRuleFault object lines n → is_series_event_fault n ≡ true
+rule_number object lines n (bad_rule l) = text_number (line_value l.0) n l.2.stands
+rule_number object lines n (starts_outside l) = refl
+rule_number object lines n (two_rules x) = refl
+
+event_number : (object : Tree) (m : Bool) (lines : Lines) (n : ℕ) → EventFault object m lines n → is_series_event_fault n ≡ true
+event_number object m lines n (in_times f) = series_wider n (times_number object lines n f)
+event_number object m lines n (in_rule f) = rule_number object lines n f
+event_number object m lines n (bad_stamp l) = refl
+event_number object m lines n (bad_uid l) = refl
+event_number object m lines n (bad_organiser l) = refl
+event_number object m lines n (bad_attendee l) = refl
+event_number object m lines n (bad_sequence l) = refl
+event_number object m lines n (no_uid x) = refl
+event_number object m lines n (no_stamp_given t x) = refl
+event_number object m lines n (twice name c x) = refl
+event_number object m lines n (no_organiser t x) = refl
+
+-- ---- what a VEVENT in which nothing is left unread is refused for
+
+pub number_for : (object : Tree) (purpose : Purpose) (lines : Lines) (n : ℕ) → has_unread_for purpose lines ≡ false → EventFault object (is_message purpose) lines n → is_fault_for purpose n ≡ true
+number_for object Request lines n h f = ap (λ b. b || is_unread n) (read_event object true lines n h f)
+number_for object Calendar lines n h f = ap (λ b. b || is_unread n) (read_event object false lines n h f)
+number_for object Series lines n h f = event_number object false lines n f
+
+pub refused_for : (object : Tree) (purpose : Purpose) (lines : Lines) → has_unread_for purpose lines ≡ false → (f : Fault) → RefusesBy (EventFault object (is_message purpose) lines) f
+    → RefusesOnly (is_fault_for purpose) f
+refused_for object purpose lines h Memory s = tt
+refused_for object purpose lines h (Refused r) s = number_for object purpose lines r.number h s
+
+pub unread_for : (purpose : Purpose) (n : ℕ) → n ≡ 99 → is_fault_for purpose n ≡ true
+unread_for Request n e = ap (is_fault_for Request) e
+unread_for Calendar n e = ap (is_fault_for Calendar) e
+unread_for Series n e = ap (is_fault_for Series) e

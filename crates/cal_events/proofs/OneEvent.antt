@@ -1,49 +1,26 @@
 -- The lines of a VEVENT of an object say at most one event, and none where a fault stands in them.
-use Rattle.std.proofs.Common.{◌≡◌, ℕ, zero, suc, ◌+◌, ◌*◌, ◌≤◌, Bool, true, false, List, [], ◌∷◌, length, codes, subst, sym, refl, ap, ◌∙◌, inl, inr, arith, ℤ, pos, ◌+ℤ◌, ◌<ℤ◌}
+use Rattle.std.proofs.Common.{◌≡◌, ℕ, zero, suc, Bool, true, false, List, [], ◌∷◌, codes, subst, sym, refl, ap, ◌∙◌, inl, inr, arith, ℤ}
 use Rattle.std.specs.Prelude.{Option, Some, None, is_some, unwrap_or, Contains, All, ◌⊎◌}
 use Rattle.std.specs.Option.{option_to_list}
 use Rattle.std.specs.List.{AllZip}
 use Rattle.std.proofs.lemmas.Bool.{true≢false}
-use Rattle.std.proofs.lemmas.Int.{ints}
 use Rattle.std.proofs.lemmas.List.Elements.{All-from_recursion, All-contains}
 use Rattle.std.proofs.lemmas.Option.{same_Some}
 use Rattle.profile.specs.Lines.{line_value}
 use Rattle.profile.specs.Values.{SpellsStamp, SpellsSequence, IsUid, unescaped}
 use Rattle.profile.specs.Trees.{Tree}
-use Rattle.profile.specs.Events.{SaysEvent, Event, Attendee, IsAttendee, EventFault, single_names, in_times, bad_stamp, bad_uid, bad_organiser, bad_attendee, bad_sequence, no_uid, no_stamp_given, twice, no_organiser}
-use Rattle.profile.specs.Properties.{lines_named, StandsAtMostOnce, IsMissing, SomeLine, BothOrNeither, Says, IsUidLine, IsAddressLine, IsStampLine, IsSequenceLine, IsNoStamp, IsNoAddress, IsNoSequence, TimeKind, DateTime, Date, Period, Other, time_kind, IsDateText, IsLocalText, UnfixedOrMalformed, KindFault, TimeFault}
-use Rattle.ical_tree.proofs.OneLine.{IsFunctional, only_line}
-use Rattle.cal_events.proofs.OneTimes.{Lines, OneZonedTime, NoTimeFault, OneDuration, NotBoth, IsLone, same_line, at_most_one, one_times, no_times_fault}
+use Rattle.profile.specs.Events.{SaysEvent, Event, Attendee, IsAttendee, EventFault, single_names, in_times, in_rule, bad_stamp, bad_uid, bad_organiser, bad_attendee, bad_sequence, no_uid, no_stamp_given, twice, no_organiser}
+use Rattle.profile.specs.Properties.{lines_named, IsMissing, Says, IsUidLine, IsAddressLine, IsStampLine, IsSequenceLine, IsNoStamp, IsNoAddress, IsNoSequence, TimeKind, DateTime, Date, Period, Other, time_kind, IsDateText, IsLocalText, UnfixedOrMalformed, KindFault, TimeFault}
+use Rattle.ical_tree.proofs.OneLine.{IsFunctional}
+use Rattle.cal_events.proofs.Said.{same_said, said_by}
+use Rattle.cal_events.proofs.OneEventRule.{OneRule, NoRuleFault, one_event_rule, no_rule_fault}
+use Rattle.cal_events.proofs.OneTimes.{Lines, OneZonedTime, NoTimeFault, OneDuration, NotBoth, IsLone, at_most_one, one_times, no_times_fault}
 
 abbrev OneStamp : Type 0
 OneStamp = (text : List ℕ) (a b : ℤ) → SpellsStamp text a → SpellsStamp text b → a ≡ b
 
 abbrev OneSequence : Type 0
 OneSequence = (text : List ℕ) (a b : ℕ) → SpellsSequence text a → SpellsSequence text b → a ≡ b
-
--- ---- one line
-
-same_both : {V : Type 0} (R : List ℕ → V → Type 0) → IsFunctional R → (line : Option (List ℕ)) (v w : Option V) → BothOrNeither R line v → BothOrNeither R line w → v ≡ w
-same_both R f None None None h k = refl
-same_both R f None None (Some w) h k = absurd k
-same_both R f None (Some v) w h k = absurd h
-same_both R f (Some l) None w h k = absurd h
-same_both R f (Some l) (Some v) None h k = absurd k
-same_both R f (Some l) (Some v) (Some w) h k = ap Some (f l v w h k)
-
-same_said : {V : Type 0} (R : List ℕ → V → Type 0) (name : List ℕ) (m : Bool) (lines : Lines) (v w : Option V) → IsFunctional R → Says name m R lines v → Says name m R lines w → v ≡ w
-same_said R name m lines v w f s t =
-    same_both R f t.line v w (subst (λ (l : Option (List ℕ)). BothOrNeither R l v) (same_line name lines s.line t.line s.once t.once) s.is) t.is
-
--- what the one line of a property says
-has_said : {V : Type 0} (R : List ℕ → V → Type 0) (line : List ℕ) (v : Option V) → BothOrNeither R (Some line) v → (x : V) × R line x × (v ≡ Some x)
-has_said R line None h = absurd h
-has_said R line (Some x) h = (x, h, refl)
-
-said_by : {V : Type 0} (R : List ℕ → V → Type 0) (P : List ℕ → Type 0) (name : List ℕ) (m : Bool) (lines : Lines) (v : Option V) → Says name m R lines v → (l : SomeLine name P lines)
-    → (x : V) × R l.0 x × (v ≡ Some x)
-said_by R P name m lines v s l =
-    has_said R l.0 v (subst (λ (o : Option (List ℕ)). BothOrNeither R o v) (only_line name lines s.line l.0 s.once l.1) s.is)
 
 -- ---- functional values
 
@@ -73,11 +50,11 @@ same_zip R f (l ∷ ls) [] b h k = absurd h
 same_zip R f (l ∷ ls) (x ∷ a) [] h k = absurd k
 same_zip R f (l ∷ ls) (x ∷ a) (y ∷ b) h k = let e = f l x y h.0 k.0 in let t = same_zip R f ls a b h.1 k.1 in λ i. e i ∷ t i
 
-event_same : (a b : Event) → a.uid ≡ b.uid → a.organiser ≡ b.organiser → a.stamp ≡ b.stamp → a.sequence ≡ b.sequence → a.times ≡ b.times → a.attendees ≡ b.attendees → a ≡ b
-event_same a b p q r s t u = λ i. record { uid = p i; organiser = q i; stamp = r i; sequence = s i; times = t i; attendees = u i }
+event_same : (a b : Event) → a.uid ≡ b.uid → a.organiser ≡ b.organiser → a.stamp ≡ b.stamp → a.sequence ≡ b.sequence → a.times ≡ b.times → a.rule ≡ b.rule → a.attendees ≡ b.attendees → a ≡ b
+event_same a b p q r s t w u = λ i. record { uid = p i; organiser = q i; stamp = r i; sequence = s i; times = t i; rule = w i; attendees = u i }
 
-pub one_event : OneStamp → OneDuration → OneSequence → OneZonedTime → (object : Tree) (m : Bool) (lines : Lines) (a b : Event) → SaysEvent object m lines a → SaysEvent object m lines b → a ≡ b
-one_event one two three zoned object m lines a b s t =
+pub one_event : OneStamp → OneDuration → OneSequence → OneZonedTime → OneRule → (object : Tree) (m : Bool) (lines : Lines) (a b : Event) → SaysEvent object m lines a → SaysEvent object m lines b → a ≡ b
+one_event one two three zoned rules object m lines a b s t =
     let given = same_said IsSequenceLine (codes "SEQUENCE") false lines s.sequence.0 t.sequence.0 (sequence_one three) s.sequence.1 t.sequence.1 in
     event_same a b
     (same_Some a.uid b.uid (same_said IsUidLine (codes "UID") true lines (Some a.uid) (Some b.uid) uid_one s.uid t.uid))
@@ -85,6 +62,7 @@ one_event one two three zoned object m lines a b s t =
     (same_said IsStampLine (codes "DTSTAMP") m lines a.stamp b.stamp (stamp_one one) s.stamp t.stamp)
     (s.sequence.2 ∙ ap (λ (o : Option ℕ). unwrap_or o 0) given ∙ sym t.sequence.2)
     (one_times zoned two object lines a.times b.times s.times t.times)
+    (one_event_rule zoned two rules object lines a.times b.times a.rule b.rule s.times t.times s.rule t.rule)
     (same_zip IsAttendee attendee_one (lines_named (codes "ATTENDEE") lines) a.attendees b.attendees s.attendees t.attendees)
 
 -- ---- a start or an end has at most one fault
@@ -135,9 +113,10 @@ zip_at R (x ∷ ls) [] line h c = absurd h
 zip_at {V} R (x ∷ ls) (v ∷ vs) line h (zero, w, e) = (v, subst (λ (y : List ℕ). R y v) e h.0)
 zip_at R (x ∷ ls) (v ∷ vs) line h (suc k, w, e) = zip_at R ls vs line h.1 (k, omega arith, e)
 
-module _ (two : OneDuration) (apart : NotBoth) (zoned : OneZonedTime) (sound : NoTimeFault) (object : Tree) (m : Bool) (lines : Lines) (event : Event) (s : SaysEvent object m lines event) where
+module _ (two : OneDuration) (apart : NotBoth) (zoned : OneZonedTime) (sound : NoTimeFault) (rules : OneRule) (faultless : NoRuleFault) (object : Tree) (m : Bool) (lines : Lines) (event : Event) (s : SaysEvent object m lines event) where
   pub no_fault : (n : ℕ) → EventFault object m lines n → ⊥
   no_fault n (in_times f) = no_times_fault zoned sound two apart object lines event.times s.times n f
+  no_fault n (in_rule f) = no_rule_fault zoned rules faultless object lines event.times event.rule s.times s.rule n f
   no_fault n (bad_stamp l) = let f = said_by IsStampLine (λ line. IsNoStamp (line_value line)) (codes "DTSTAMP") m lines event.stamp s.stamp l in l.2 f.0 f.1
   no_fault n (bad_uid l) =
       let f = said_by IsUidLine (λ line. IsUid (unescaped (line_value line)) → ⊥) (codes "UID") true lines (Some event.uid) s.uid l in l.2 (subst IsUid f.1.0 f.1.1)

@@ -1,7 +1,6 @@
 -- The lines of a VEVENT say its times in at most one way, and not at all where a fault stands in them.
-use Rattle.std.proofs.Common.{◌≡◌, ℕ, ◌+◌, ◌*◌, ◌<◌, ◌≤◌, Bool, true, false, List, [], ◌∷◌, length, codes, subst, sym, refl, ap, ◌∙◌, inl, inr, arith, ℤ, pos, ◌+ℤ◌, ◌<ℤ◌, ◌≤ℤ◌}
-use Rattle.std.specs.Prelude.{Option, Some, None, All, ◌⊎◌}
-use Rattle.std.proofs.lemmas.Bool.{true≢false}
+use Rattle.std.proofs.Common.{◌≡◌, ℕ, ◌+◌, ◌*◌, ◌≤◌, Bool, true, List, length, codes, subst, sym, ap, ◌∙◌, inl, inr, arith, ℤ, pos, ◌+ℤ◌, ◌<ℤ◌}
+use Rattle.std.specs.Prelude.{Option, Some, None, All}
 use Rattle.std.proofs.lemmas.Int.{ints}
 use Rattle.std.proofs.lemmas.List.Elements.{All-from_recursion, All-contains}
 use Rattle.std.proofs.lemmas.Option.{same_Some}
@@ -42,7 +41,7 @@ IsLone lines name = length (lines_named name lines) ≤ 1
 -- ---- one instant
 
 -- the clocks of what a line says show a local time at one instant
-clock_one : (object : Tree) (line : List ℕ) (zone : Option Zone) (local : ℤ) → SaysZonedTime object line zone local → IsOneMeaning (clock_of zone)
+pub clock_one : (object : Tree) (line : List ℕ) (zone : Option Zone) (local : ℤ) → SaysZonedTime object line zone local → IsOneMeaning (clock_of zone)
 clock_one object line None local h = one_meaning (Constant (pos 0)) tt
 clock_one object line (Some zone) local h = spelled (line_param (codes "TZID") line) h.1
   where

@@ -16,6 +16,7 @@ use Rattle.profile.specs.Instances.{Booked}
 use Rattle.profile.specs.Events.{Event, SaysEvent, SaysCalendar, CalendarFault, in_event, one_meeting, not_yet, has_unread, booked_by, is_confirmed, confirmed, meeting_said}
 use Rattle.cal_events.specs.declared.calendar.Entry.{Entry}
 use Rattle.cal_events.specs.Calendars.{booked_of, confirmed_in, meeting_of, MeetingsDiffer, IsTwinsFault}
+use Rattle.cal_events.specs.declared.component.Purpose.TheVariants.{Calendar}
 use Rattle.cal_events.specs.Events.{is_vevent, entry_view, entry_said, AreEntries, IsUnreadOrFault}
 use Rattle.cal_events.proofs.EventLemmas.{push_zip}
 
@@ -150,7 +151,7 @@ twins_stand (Err (Refused x)) room object vs es same (events, zip, are) (n, (i, 
     let said = subst (λ (xs : List Lines). AllZip (SaysEvent object false) xs events) (sym same) zip in
     subst (CalendarFault object) (sym n) (one_meeting events said (λ apart. apart i j d lt (omega (arith, lens)) e'))
 
-pub event_stands : (object : Tree) (vs : List Lines) (lines : Lines) (f : Fault) → vevents object ≡ vs → Contains vs lines → RefusesBy (IsUnreadOrFault object false lines) f
+pub event_stands : (object : Tree) (vs : List Lines) (lines : Lines) (f : Fault) → vevents object ≡ vs → Contains vs lines → RefusesBy (IsUnreadOrFault object Calendar lines) f
     → RefusesBy (CalendarFault object) f
 event_stands object vs lines Memory e h s = tt
 event_stands object vs lines (Refused r) e h (inl u) = subst (CalendarFault object) (sym u.0) (not_yet (ap (list_any has_unread) e ∙ unread_among vs lines h u.1))

@@ -1,5 +1,5 @@
 -- The VTIMEZONE that a name means, among the components of an object, and what is read of it.
-use Rattle.std.proofs.Common.{◌≡◌, ◌∙◌, ap, sym, refl, subst, ℕ, Bool, true, false, cond, ◌&&◌, List, [], ◌∷◌, map, filter, codes, ℤ, pos}
+use Rattle.std.proofs.Common.{◌≡◌, ◌∙◌, ap, sym, refl, subst, ℕ, Bool, true, false, cond, ◌&&◌, List, [], ◌∷◌, map, filter, codes, ℤ}
 use Rattle.std.specs.Prelude.{Option, Some, None, option_map, find}
 use Rattle.ical_lines.specs.Fault.{RefusesBy}
 use Rattle.ical_lines.specs.declared.fault.Fault.{Fault}

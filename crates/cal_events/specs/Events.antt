@@ -1,10 +1,11 @@
 -- What the types of a VEVENT that was read stand for.
-use Rattle.std.specs.Prelude.{ℕ, Bool, true, false, List, map, filter, option_map, Option, codes, ◌≡◌, ◌⊎◌, ◌<◌, ℤ, pos, ◌<ℤ◌}
+use Rattle.std.specs.Prelude.{ℕ, Bool, ◌||◌, true, false, List, [], length, map, filter, option_map, Option, codes, ◌≡◌, ◌⊎◌, ◌<◌, ℤ, pos, ◌<ℤ◌}
 use Rattle.ical_values.specs.Octets.{address_octets, text_octets}
 use Rattle.ical_values.specs.declared.duration.Duration.{Duration}
-use Rattle.std.specs.List.{AllZip}
+use Rattle.std.specs.List.{AllZip, list_any}
 use Rattle.cal_events.specs.Calendars.{booked_of}
 use Rattle.cal_events.specs.declared.calendar.Entry.{Entry}
+use Rattle.profile.specs.Faults.{is_event_fault, is_series_event_fault, is_unread}
 use Rattle.profile.specs.Instances.{Booked}
 use Rattle.profile.specs.Events as profile
 use Rattle.profile.specs.Properties as properties
@@ -28,12 +29,28 @@ use Rattle.cal_events.specs.declared.component.EventComponent.{EventComponent}
 use Rattle.cal_events.specs.declared.component.ParticipationStatus.{ParticipationStatus}
 use Rattle.cal_events.specs.declared.component.ParticipationStatus.TheVariants.{NeedsAction, Tentative, Accepted, Delegated, Declined}
 use Rattle.cal_events.specs.declared.component.Purpose.{Purpose}
-use Rattle.cal_events.specs.declared.component.Purpose.TheVariants.{Request, Calendar}
+use Rattle.cal_events.specs.declared.component.Purpose.TheVariants.{Request, Calendar, Series}
 
 -- a message needs ORGANIZER and DTSTAMP, a calendar doesn't
 abbrev pub is_message : Purpose → Bool
 is_message Request = true
 is_message Calendar = false
+is_message Series = false
+
+-- what isn't read yet for a purpose
+abbrev pub is_unread_for : Purpose → List ℕ → Bool
+is_unread_for Request = profile.is_unread_line
+is_unread_for Calendar = profile.is_unread_line
+is_unread_for Series = profile.is_of_instances
+
+abbrev pub has_unread_for : Purpose → List (List ℕ) → Bool
+has_unread_for purpose lines = list_any (is_unread_for purpose) lines
+
+-- the numbers of its refusals
+abbrev pub is_fault_for : Purpose → ℕ → Bool
+is_fault_for Request n = is_event_fault n || is_unread n
+is_fault_for Calendar n = is_event_fault n || is_unread n
+is_fault_for Series n = is_series_event_fault n
 
 abbrev pub participation_of : ParticipationStatus → profile.Participation
 participation_of NeedsAction = profile.NeedsAction
@@ -64,6 +81,7 @@ event_of e = record {
   stamp = e.stamp;
   sequence = e.sequence;
   times = times_of e.times;
+  rule = e.rule;
   attendees = map attendee_of e.attendees.items;
 }
 
@@ -95,10 +113,14 @@ is_vevent c = is_same_name (component_name c) (codes "VEVENT")
 abbrev pub vevents_of : Component → List (List (List ℕ))
 vevents_of object = map component_lines (filter is_vevent (component_children object))
 
--- a VEVENT has a fault, or a line that isn't read yet
-abbrev pub IsUnreadOrFault : Tree → Bool → List (List ℕ) → ℕ → Type 0
-IsUnreadOrFault object in_message lines n =
-    ((n ≡ 99) × (profile.has_unread lines ≡ true)) ⊎ profile.EventFault object in_message lines n
+-- a VEVENT that is read for a purpose has a fault, or a line that isn't read yet
+abbrev pub IsUnreadOrFault : Tree → Purpose → List (List ℕ) → ℕ → Type 0
+IsUnreadOrFault object purpose lines n =
+    ((n ≡ 99) × (has_unread_for purpose lines ≡ true)) ⊎ profile.EventFault object (is_message purpose) lines n
+
+-- an object hasn't one VEVENT: it has none, or several, which aren't read yet
+abbrev pub IsNotOneEvent : List (List (List ℕ)) → ℕ → Type 0
+IsNotOneEvent vevents n = ((n ≡ 66) × (vevents ≡ [])) ⊎ ((n ≡ 99) × (1 < length vevents))
 
 -- what an entry of a calendar shows: its instance, and whether it is confirmed
 abbrev pub entry_view : Entry → Booked × Bool

@@ -1,15 +1,16 @@
 -- What the readers of times in zones see of components.
-use Rattle.std.specs.Prelude.{◌≡◌, ◌↔◌, ℕ, ◌<◌, Bool, true, IsTrue, ◌&&◌, List, codes, Option, Some, None, ℤ, ◌+ℤ◌}
+use Rattle.std.specs.Prelude.{◌≡◌, ◌↔◌, ℕ, ◌<◌, Bool, true, false, IsTrue, ◌&&◌, List, codes, Option, Some, None, ℤ, ◌+ℤ◌}
 use Rattle.ical_tree.specs.Tree.{component_name, component_lines}
 use Rattle.ical_tree.specs.declared.component.Component.{Component}
-use Rattle.profile.specs.Lines.{is_same_name}
 use Rattle.profile.specs.Trees.{Tree}
 use Rattle.profile.specs.Zones.{Zone, Means}
-use Rattle.std.specs.List.{AllZip}
-use Rattle.profile.specs.Events.{SaysSequence, Attendee, IsAttendee}
-use Rattle.profile.specs.Properties.{Length, LastsFor, StandsAtMostOnce, Says, IsUidLine, IsAddressLine, IsStampLine, lines_named}
+use Rattle.profile.specs.Lines.{line_value, is_same_name}
+use Rattle.profile.specs.Rules.{RuleText}
+use Rattle.profile.specs.RuleTexts.{SpellsRule}
+use Rattle.profile.specs.Properties.{Length, LastsFor, StandsAtMostOnce, Says}
 use Rattle.profile.specs.ZonedTimes.{has_zone_name, is_in_zone, IsInDates, SaysZonedTime, clock_of}
 use Rattle.cal_events.specs.Events.{length_of, zone_said}
+use Rattle.cal_events.specs.declared.event_rule.SaidRule.{SaidRule}
 use Rattle.cal_events.specs.declared.event_times.Extent.{Extent}
 use Rattle.cal_events.specs.declared.event_times.Extent.TheVariants.{ToEnd, For}
 use Rattle.cal_events.specs.declared.event_times.SaidTimes.{SaidTimes}
@@ -57,18 +58,10 @@ pub record AreSaid (object : Tree) (lines : List (List ℕ)) (said : SaidTimes) 
   pub extent : IsExtentIn object lines said.instant said.ends_in said.extent
   pub exact : IsExact (is_in_zone line) said.extent
 
--- the properties before the times are there as they have to be, and say something
-pub record SaysHeading (in_message : Bool) (lines : List (List ℕ)) : Type 0 where
-  pub uid : List ℕ
-  pub organiser : Option (List ℕ)
-  pub stamp : Option ℤ
-  pub sequence : ℕ
-  pub says_uid : Says (codes "UID") true IsUidLine lines (Some uid)
-  pub says_organiser : Says (codes "ORGANIZER") in_message IsAddressLine lines organiser
-  pub says_stamp : Says (codes "DTSTAMP") in_message IsStampLine lines stamp
-  pub says_sequence : SaysSequence lines sequence
-  pub status : (line : Option (List ℕ)) × StandsAtMostOnce (codes "STATUS") lines line
+-- a line of RRULE spells this rule
+abbrev pub IsRuleText : List ℕ → RuleText → Type 0
+IsRuleText line text = SpellsRule (line_value line) text
 
--- so are the ATTENDEE lines
-abbrev pub SayAttendees : List (List ℕ) → Type 0
-SayAttendees lines = (attendees : List Attendee) × AllZip IsAttendee (lines_named (codes "ATTENDEE") lines) attendees
+-- what RRULE says by itself
+abbrev pub IsRuleSaid : List (List ℕ) → SaidRule → Type 0
+IsRuleSaid lines said = Says (codes "RRULE") false IsRuleText lines said.text

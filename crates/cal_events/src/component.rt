@@ -1,22 +1,23 @@
 //! One VEVENT, read: its values, judged one property after another in a fixed order, and then
-//! together (RFC 5545 3.6.1). So far only single events are read.
-ghost use Rattle.std.specs.Prelude.{ℕ, List, ◌≡◌, ◌⊎◌, ◌↔◌, Bool, Some, map, codes, pos, ◌+ℤ◌, option_map, true, IfOk, IfErr, OnOk, IsTrue};
+//! together (RFC 5545 3.6.1). Events that recur are read for a series alone.
+ghost use Rattle.std.specs.Prelude.{ℕ, List, ◌≡◌, ◌⊎◌, ◌↔◌, Bool, Some, map, codes, pos, ◌+ℤ◌, option_map, true, false, IfOk, IfErr, OnOk, IsTrue};
 ghost use Rattle.std.specs.List.{AllZip};
 ghost use Rattle.ical_lines.specs.Fault.{RefusesOnly, RefusesBy};
 ghost use Rattle.ical_lines.specs.Text.{line_text};
 ghost use Rattle.ical_tree.specs.Tree.{tree_of};
 ghost use Rattle.ical_values.specs.Octets.{address_octets, text_octets};
 ghost use Rattle.profile.specs.Trees.{Tree};
-ghost use Rattle.profile.specs.Faults.{is_event_fault, is_zoned_event_fault};
+ghost use Rattle.profile.specs.Faults.{is_event_fault};
 ghost use Rattle.profile.specs.Values.{SpellsStamp};
 ghost use Rattle.profile.specs.Events.{Event, answer_named, answer_of, SaysSequence, SaysEvent, IsAttendee, EventFault};
 ghost use Rattle.profile.specs.Properties.{length_seconds, lines_named, malformed_number, Says, IsUidLine, IsAddressLine, IsStampLine, IsDateText, IsLocalText, IsNoAddress, UnfixedOrMalformed, time_kind, DateTime, KindFault, TimeFault};
-ghost use Rattle.cal_events.specs.Events.{is_message, participation_of, attendee_of, length_of, event_of, said_kind, IsTime};
-ghost use Rattle.cal_events.specs.Zoned.{SaysHeading, SayAttendees};
+ghost use Rattle.cal_events.specs.Events.{is_message, has_unread_for, is_fault_for, IsUnreadOrFault, participation_of, attendee_of, length_of, event_of, said_kind, IsTime};
 
-use crate::event_times::{EventTimes, SaidTimes, seconds_of};
-use crate::properties::{optional, required};
+use crate::event_rule::SaidRule;
+use crate::event_times::{EventTimes, SaidTimes, refuse_nominal_length, seconds_of};
+use crate::properties::{optional, refuse_unread, required};
 use crate::zoned::one_zoned_time;
+use cal_rules::{Rule, one_rule};
 use ical_lines::{Fault, Line, Refusal};
 use ical_tree::{Component, Properties};
 use ical_values::date::read_date;
@@ -26,13 +27,17 @@ use ical_values::stamp::{ends_in_z, one_stamp};
 use ical_values::{Address, LocalTime, Sequence, Stamp, Text};
 use std::alloc::Global;
 
-/// What a VEVENT is read for: this says which properties have to stand.
+/// What a VEVENT is read for: this says which properties have to stand, and which aren't read yet.
 #[derive(Clone, Copy, Debug, PartialEq, Eq)]
 pub enum Purpose {
-    /// A message: UID, DTSTAMP, DTSTART and ORGANIZER.
+    /// A message: UID, DTSTAMP, DTSTART and ORGANIZER have to stand. RRULE, RDATE, EXDATE, RECURRENCE-ID,
+    /// STATUS:CANCELLED, and TZID on DTSTART or DTEND aren't read yet.
     Request,
-    /// A kept calendar or a single object: UID and DTSTART.
+    /// A kept calendar: UID and DTSTART have to stand. The same isn't read yet.
     Calendar,
+    /// A series: UID and DTSTART have to stand. RDATE, EXDATE, RECURRENCE-ID, and days in a DURATION beside a DTSTART
+    /// with TZID aren't read yet.
+    Series,
 }
 
 /// What an attendee answered (RFC 5545 3.2.12, for VEVENT).
@@ -79,14 +84,18 @@ pub struct EventComponent {
     pub sequence: Sequence,
     /// When it starts and how long it lasts.
     pub times: EventTimes,
+    /// The rule by which it recurs, on the days of DTSTART's own clock. None where it happens once.
+    pub rule: Option<Rule>,
     /// The ATTENDEE lines in the order of the text. Of several with one address the first counts.
     pub attendees: Vec<Attendee>,
 }
 
 impl EventComponent {
     /// Reads the properties of a VEVENT of an object.
-    /// Refused: 10 and 14 to 16 for a value, 61 and 63 for a property that is missing, stands twice or excludes
-    /// another; as by `SaidTimes::read` and `SaidTimes::judge` for its times.
+    /// Refused, in this order: 99 for what isn't read yet for this purpose; of UID, ORGANIZER, DTSTAMP, SEQUENCE and STATUS 10
+    /// and 14 to 16 for a value, 61 and 63 for one that is missing or stands twice; as by `SaidTimes::read` for DTSTART, DTEND
+    /// and DURATION; 61 and 30 to 33 for RRULE; 15 for an ATTENDEE; as by `SaidTimes::judge` for the times together; 34 for a
+    /// DTSTART that isn't one of the rule's days.
     pub fn read(
         alloc: Global,
         object: &Component,
@@ -94,7 +103,25 @@ impl EventComponent {
         purpose: Purpose,
     ) -> Result<EventComponent, Fault>
         ensures says { IfOk result (λ event. SaysEvent (tree_of object.now) (is_message purpose) properties.now (event_of event)) }
-        ensures refuses { IfErr result (RefusesOnly is_zoned_event_fault) }
+        ensures read { OnOk result (has_unread_for purpose properties.now ≡ false) }
+        ensures refuses { IfErr result (RefusesOnly (is_fault_for purpose)) }
+        ensures stands { IfErr result (RefusesBy (IsUnreadOrFault (tree_of object.now) purpose properties.now)) }
+    {
+        refuse_unread(properties, purpose)?;
+        if purpose == Purpose::Series {
+            refuse_nominal_length(properties)?;
+        }
+        EventComponent::read_values(alloc, object, properties, purpose)
+    }
+
+    /// The same where nothing is left unread.
+    fn read_values(
+        alloc: Global,
+        object: &Component,
+        properties: &Properties<'_>,
+        purpose: Purpose,
+    ) -> Result<EventComponent, Fault>
+        ensures says { IfOk result (λ event. SaysEvent (tree_of object.now) (is_message purpose) properties.now (event_of event)) }
         ensures stands { IfErr result (RefusesBy (EventFault (tree_of object.now) (is_message purpose) properties.now)) }
     {
         let uid = read_uid(alloc, properties)?;
@@ -103,46 +130,19 @@ impl EventComponent {
         let sequence = read_sequence(properties)?;
         let _status = optional(properties, "STATUS")?;
         let said = SaidTimes::read(alloc, object, properties)?;
+        let said_rule = SaidRule::read(alloc, properties)?;
         let attendees = read_attendees(alloc, properties)?;
         let times = said.judge()?;
+        let rule = said_rule.judge(&times)?;
         Ok(EventComponent {
             uid,
             organiser,
             stamp,
             sequence,
             times,
+            rule,
             attendees,
         })
-    }
-
-    /// Judges the properties of a VEVENT that come before its times: UID, ORGANIZER, DTSTAMP, SEQUENCE and STATUS.
-    /// Refused: 10 and 14 to 16 for a value, 61 and 63 for a property that is missing or stands twice.
-    pub fn judge_heading(
-        alloc: Global,
-        properties: &Properties<'_>,
-        purpose: Purpose,
-    ) -> Result<(), Fault>
-        ensures judged { OnOk result (SaysHeading (is_message purpose) properties.now) }
-        ensures refuses { IfErr result (RefusesOnly is_event_fault) }
-        ensures stands { (object : Tree) → IfErr result (RefusesBy (EventFault object (is_message purpose) properties.now)) }
-    {
-        read_uid(alloc, properties)?;
-        read_organiser(alloc, properties, purpose)?;
-        read_stamp(properties, purpose)?;
-        read_sequence(properties)?;
-        optional(properties, "STATUS")?;
-        Ok(())
-    }
-
-    /// Judges the ATTENDEE lines of a VEVENT.
-    /// Refused: 15 for an address that is none.
-    pub fn judge_attendees(alloc: Global, properties: &Properties<'_>) -> Result<(), Fault>
-        ensures judged { OnOk result (SayAttendees properties.now) }
-        ensures refuses { IfErr result (RefusesOnly is_event_fault) }
-        ensures stands { (object : Tree) (in_message : Bool) → IfErr result (RefusesBy (EventFault object in_message properties.now)) }
-    {
-        read_attendees(alloc, properties)?;
-        Ok(())
     }
 
     /// The first second after the event, in seconds from 1970-01-01T00:00:00Z.
@@ -183,6 +183,7 @@ pub fn one_event()
     one_duration();
     one_sequence();
     one_zoned_time();
+    one_rule();
 }
 
 fn read_uid(alloc: Global, properties: &Properties<'_>) -> Result<Text, Fault>
@@ -206,7 +207,7 @@ fn read_organiser(
     match (optional(properties, "ORGANIZER")?, purpose) {
         (Some(line), _) => Ok(Some(Address::read(alloc, line.value())?)),
         (None, Purpose::Request) => Err(Fault::Refused(Refusal::NO_ORGANIZER)),
-        (None, Purpose::Calendar) => Ok(None),
+        (None, Purpose::Calendar | Purpose::Series) => Ok(None),
     }
 }
 
@@ -218,7 +219,7 @@ fn read_stamp(properties: &Properties<'_>, purpose: Purpose) -> Result<Option<St
     match (optional(properties, "DTSTAMP")?, purpose) {
         (Some(line), _) => Ok(Some(Stamp::read(line.value())?)),
         (None, Purpose::Request) => Err(Refusal::BAD_PROPERTY),
-        (None, Purpose::Calendar) => Ok(None),
+        (None, Purpose::Calendar | Purpose::Series) => Ok(None),
     }
 }
 

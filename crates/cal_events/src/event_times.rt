@@ -59,7 +59,7 @@ enum Extent {
 
 /// What DTSTART, DTEND and DURATION say, each judged alone.
 #[derive(Clone, Copy)]
-pub struct SaidTimes {
+pub(crate) struct SaidTimes {
     start: ZonedTime,
     instant: i64,
     extent: Extent,
@@ -73,7 +73,7 @@ impl SaidTimes {
     /// Reads the start of a VEVENT of an object, and its end or its length.
     /// Refused: 61 where DTSTART is missing, one of the three stands twice, or DTEND beside DURATION; as by
     /// `ZonedTime::read` for the two times; 12 and 51 for DURATION; 99 for days in it beside a DTSTART with TZID.
-    pub fn read(
+    pub(crate) fn read(
         alloc: Global,
         object: &Component,
         properties: &Properties<'_>,
@@ -100,7 +100,7 @@ impl SaidTimes {
     /// Judges the times together.
     /// Refused: 50 where the event ends before it starts, 51 past 366 days, 52 where DTSTART or DTEND lies outside of the
     /// local years 1970 to 9999 (in UTC from 1969-12-31 on), or not before 10000-01-01T00:00:00Z.
-    pub fn judge(self) -> Result<EventTimes, Refusal>
+    pub(crate) fn judge(self) -> Result<EventTimes, Refusal>
         ensures says { (object : Tree) (lines : List (List ℕ)) → AreSaid object lines self
             → IfOk result (λ times. SaysEventTimes object lines (times_of times)) }
         ensures stands { (object : Tree) (lines : List (List ℕ)) → AreSaid object lines self

@@ -1,19 +1,22 @@
-//! Events, instances and calendars, and starts and ends with their zones.
+//! Events, instances and calendars, starts and ends with their zones, and the rules of events.
 #![tactic(auto)]
 
 pub mod calendar;
 pub mod component;
+mod event_rule;
 mod event_times;
 pub mod instance;
 mod properties;
 mod reading;
+mod series;
 pub mod sweep;
 mod zoned;
 
 pub use calendar::{Calendar, Entry, Singles};
 pub use component::{Attendee, EventComponent, ParticipationStatus, Purpose, one_event};
-pub use event_times::{EventTimes, SaidTimes, refuse_nominal_length};
+pub use event_times::{EventTimes, refuse_nominal_length};
 pub use instance::{Booking, HORIZON, Instance, InstanceKey};
 pub use reading::{one_calendar, one_calendar_text, read_event, refuse_unread_events};
+pub use series::{read_series, series_of};
 pub use sweep::{Overlap, Span, first_overlap};
 pub use zoned::{ZonedTime, one_zoned_time};

@@ -1,9 +1,11 @@
 //! The properties of one VEVENT by their names (RFC 5545 3.6.1, 3.8), and what isn't read yet.
-ghost use Rattle.std.specs.Prelude.{◌≡◌, ◌⊎◌, Some, option_map, IfOk, IfErr};
+ghost use Rattle.std.specs.Prelude.{◌≡◌, ◌⊎◌, Some, true, false, option_map, IfOk, IfErr, OnOk, OnErr};
 ghost use Rattle.ical_lines.specs.Text.{line_text};
-ghost use Rattle.profile.specs.Events.{has_unread, is_unread_line, is_recurrence, is_end_of_event};
+ghost use Rattle.profile.specs.Events.{is_unread_line, is_recurrence, is_of_instances, is_end_of_event};
 ghost use Rattle.profile.specs.Properties.{IsMissing, StandsAtMostOnce, StandsTwice};
+ghost use Rattle.cal_events.specs.Events.{is_unread_for, has_unread_for};
 
+use crate::component::Purpose;
 use ical_lines::{Line, Refusal};
 use ical_tree::Properties;
 
@@ -30,20 +32,43 @@ pub(crate) fn required<'a>(properties: &Properties<'a>, name: &str) -> Result<Li
     properties.required(name, Refusal::BAD_PROPERTY)
 }
 
-/// Whether a VEVENT has a line that roombox doesn't read yet.
-pub(crate) fn has_unread_line(event: &Properties<'_>) -> bool
-    ensures { result ≡ has_unread event.now }
+/// Refuses a VEVENT with a line that isn't read yet for a purpose.
+/// Refused: 99.
+pub(crate) fn refuse_unread(event: &Properties<'_>, purpose: Purpose) -> Result<(), Refusal>
+    ensures read { OnOk result (has_unread_for purpose event.now ≡ false) }
+    ensures refuses { IfErr result (λ e. e.number ≡ 99) }
+    ensures unread { OnErr result (has_unread_for purpose event.now ≡ true) }
+{
+    if has_unread_line(event, purpose) {
+        return Err(Refusal::NOT_YET);
+    }
+    Ok(())
+}
+
+/// Whether a VEVENT has a line that isn't read yet for a purpose.
+fn has_unread_line(event: &Properties<'_>, purpose: Purpose) -> bool
+    ensures { result ≡ has_unread_for purpose event.now }
 {
     for line in event.lines() {
-        if is_unread(*line) {
+        if is_unread(*line, purpose) {
             return true;
         }
     }
     false
 }
 
-/// Whether a line isn't read yet: one of a recurrence, a cancelled status, or a start or an end in a zone.
-fn is_unread(line: Line<'_>) -> bool
+fn is_unread(line: Line<'_>, purpose: Purpose) -> bool
+    ensures { result ≡ is_unread_for purpose (line_text line.entry) }
+{
+    match purpose {
+        Purpose::Request | Purpose::Calendar => is_unread_line(line),
+        Purpose::Series => is_instance_line(line),
+    }
+}
+
+/// Whether a line of a message or a calendar isn't read yet: one of a recurrence, a cancelled status, or a start or an end
+/// in a zone.
+fn is_unread_line(line: Line<'_>) -> bool
     ensures { result ≡ is_unread_line (line_text line.entry) }
 {
     is_recurrence_line(line)
@@ -54,10 +79,14 @@ fn is_unread(line: Line<'_>) -> bool
 fn is_recurrence_line(line: Line<'_>) -> bool
     ensures { result ≡ is_recurrence (line_text line.entry) }
 {
-    line.is_named("RRULE")
-        || line.is_named("RDATE")
-        || line.is_named("EXDATE")
-        || line.is_named("RECURRENCE-ID")
+    line.is_named("RRULE") || is_instance_line(line)
+}
+
+/// Whether a line names single instances of an event that recurs.
+fn is_instance_line(line: Line<'_>) -> bool
+    ensures { result ≡ is_of_instances (line_text line.entry) }
+{
+    line.is_named("RDATE") || line.is_named("EXDATE") || line.is_named("RECURRENCE-ID")
 }
 
 /// Whether a line says when an event starts or ends.

@@ -1,5 +1,5 @@
 //! A calendar read from its octets (RFC 5545 3.4), for one room: open limits, METHOD not looked at.
-ghost use Rattle.std.specs.Prelude.{ℕ, List, ◌≡◌, [], true, false, unwrap_or, IfOk, IfErr, OnOk, OnErr, IsTrue};
+ghost use Rattle.std.specs.Prelude.{ℕ, List, ◌≡◌, [], true, false, unwrap_or, IfOk, IfErr, OnOk, IsTrue};
 ghost use Rattle.std.specs.List.{list_any};
 ghost use Rattle.ical_lines.specs.Fault.{RefusesOnly, RefusesBy};
 ghost use Rattle.ical_values.specs.Octets.{address_octets};
@@ -9,13 +9,13 @@ ghost use Rattle.profile.specs.Calendars.{SpellsCalendar, CalendarTextFault};
 ghost use Rattle.profile.specs.Events.{is_confirmed, SaysCalendar, SaysEvent, CalendarFault, has_unread};
 ghost use Rattle.profile.specs.Trees.{Tree};
 ghost use Rattle.ical_tree.specs.Tree.{component_lines, tree_of};
-ghost use Rattle.cal_events.specs.Events.{IsUnreadOrFault, is_message, event_of, vevents_of, entry_view, entry_said, AreEntries};
+ghost use Rattle.cal_events.specs.Events.{IsUnreadOrFault, is_message, has_unread_for, is_fault_for, event_of, vevents_of, entry_view, entry_said, AreEntries};
 
 use crate::calendar::{Calendar, Entry};
 use crate::component::{EventComponent, ParticipationStatus, Purpose, one_event};
 use crate::instance::Booking;
-use crate::properties::has_unread_line;
-use ical_lines::{Fault, Limits, Refusal, Unfolded};
+use crate::properties::refuse_unread;
+use ical_lines::{Fault, Limits, Unfolded};
 use ical_tree::{Component, Properties, one_tree, read_object};
 use ical_values::Address;
 use std::alloc::{AllocError, Global};
@@ -85,27 +85,14 @@ pub fn refuse_unread_events(alloc: Global, object: &Component) -> Result<(), Fau
     for component in object.children() {
         if component.is_named("VEVENT") {
             let properties = Properties::of(alloc, component)?;
-            refuse_unread(&properties)?;
+            refuse_unread(&properties, Purpose::Calendar)?;
         }
     }
     Ok(())
 }
 
-/// Refuses a VEVENT that has something that roombox doesn't read yet.
-/// Refused: 99.
-fn refuse_unread(event: &Properties<'_>) -> Result<(), Refusal>
-    ensures read { OnOk result (has_unread event.now ≡ false) }
-    ensures refuses { IfErr result (λ e. e.number ≡ 99) }
-    ensures unread { OnErr result (has_unread event.now ≡ true) }
-{
-    if has_unread_line(event) {
-        return Err(Refusal::NOT_YET);
-    }
-    Ok(())
-}
-
 /// What a VEVENT of an object says. Its lines are parsed once, for all that is asked of them.
-/// Refused: 99 where it has something that roombox doesn't read yet, and else as by `EventComponent::read`.
+/// Refused: as by `EventComponent::read`.
 pub fn read_event(
     alloc: Global,
     object: &Component,
@@ -113,12 +100,11 @@ pub fn read_event(
     purpose: Purpose,
 ) -> Result<EventComponent, Fault>
     ensures says { IfOk result (λ event. SaysEvent (tree_of object.now) (is_message purpose) (component_lines component.now) (event_of event)) }
-    ensures read { OnOk result (has_unread (component_lines component.now) ≡ false) }
-    ensures refuses { IfErr result (RefusesOnly is_calendar_fault) }
-    ensures stands { IfErr result (RefusesBy (IsUnreadOrFault (tree_of object.now) (is_message purpose) (component_lines component.now))) }
+    ensures read { OnOk result (has_unread_for purpose (component_lines component.now) ≡ false) }
+    ensures refuses { IfErr result (RefusesOnly (is_fault_for purpose)) }
+    ensures stands { IfErr result (RefusesBy (IsUnreadOrFault (tree_of object.now) purpose (component_lines component.now))) }
 {
     let properties = Properties::of(alloc, component)?;
-    refuse_unread(&properties)?;
     EventComponent::read(alloc, object, &properties, purpose)
 }
 

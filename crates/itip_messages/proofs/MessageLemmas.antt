@@ -16,6 +16,7 @@ use Rattle.profile.specs.Events.{Event, SaysEvent, has_unread}
 use Rattle.profile.specs.Messages.{SaysRequest, MethodFault, bad_method, unread_method, MessageFault, in_event, not_yet, no_event, two_meetings, two_wholes, is_same_meeting, are_one_meeting, is_unread_method, is_method}
 use Rattle.profile.specs.Properties.{lines_named, BothOrNeither, StandsAtMostOnce}
 use Rattle.cal_events.specs.declared.component.EventComponent.{EventComponent}
+use Rattle.cal_events.specs.declared.component.Purpose.TheVariants.{Request}
 use Rattle.cal_events.specs.Events.{event_of, IsUnreadOrFault}
 use Rattle.cal_events.proofs.EventLemmas.{some_line, push_zip}
 use Rattle.cal_events.proofs.ReadingLemmas.{unread_among}
@@ -67,7 +68,7 @@ meeting_stands object vs events n e zip w =
 
 -- ---- VEVENTs
 
-pub event_stands : (object : Tree) (vs : List Lines) (lines : Lines) (f : Fault) → vevents object ≡ vs → Contains vs lines → RefusesBy (IsUnreadOrFault object true lines) f
+pub event_stands : (object : Tree) (vs : List Lines) (lines : Lines) (f : Fault) → vevents object ≡ vs → Contains vs lines → RefusesBy (IsUnreadOrFault object Request lines) f
     → RefusesBy (MessageFault object) f
 event_stands object vs lines Memory e h s = tt
 event_stands object vs lines (Refused r) e h (inl u) = subst (MessageFault object) (sym u.0) (not_yet (ap (list_any has_unread) e ∙ unread_among vs lines h u.1))

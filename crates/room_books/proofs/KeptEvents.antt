@@ -23,6 +23,7 @@ kept_event event organiser stamp room = record event {
   organiser = Some organiser;
   stamp = Some stamp;
   times = record { zone = None; local = event.times.start; start = event.times.start; length = event.times.length };
+  rule = None;
   attendees = record { address = room; participation = Accepted } ∷ [];
 }
 
@@ -63,6 +64,7 @@ kept_says event uid sequence stamp start duration organiser room stamped s objec
     most = s.most;
     in_dates = (s.from_1970, s.from_1970, s.to_9999);
   };
+  rule = record { line = None; once = refl; stands = λ h. absurd (false≢true h); is = tt };
   attendees = (((s.addressed, sym s.room_lower), refl), tt);
 }
 

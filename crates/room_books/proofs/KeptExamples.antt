@@ -51,6 +51,7 @@ event = record {
   stamp = Some (pos 1_740_830_400);
   sequence = 0;
   times = record { zone = None; local = pos 1_741_597_200; start = pos 1_741_597_200; length = record { days = 0; seconds = 3600 } };
+  rule = None;
   attendees = record { address = codes "mailto:r1@example.com"; participation = NeedsAction } ∷ [];
 }
 
@@ -108,6 +109,7 @@ says object = record {
     most = omega arith;
     in_dates = (omega (arith, ints), omega (arith, ints), omega (arith, ints));
   };
+  rule = record { line = None; once = refl; stands = λ h. absurd (false≢true h); is = tt };
   attendees = (((the_room, refl), refl), tt);
 }
 

@@ -2,7 +2,7 @@
 
 use crate::certificates::verdict_text;
 use cal_events::{
-    Calendar, EventComponent, ParticipationStatus, Purpose, SaidTimes, ZonedTime,
+    Calendar, EventComponent, ParticipationStatus, Purpose, ZonedTime, read_event,
     refuse_nominal_length,
 };
 use clash_check::check;
@@ -72,12 +72,9 @@ pub fn times(alloc: Global, octets: &[u8]) -> Result<String, NoAnswer> {
 }
 
 fn times_of(alloc: Global, component: &Component, object: &Component) -> Result<String, NoAnswer> {
-    let properties = Properties::of(alloc, component)?;
-    EventComponent::judge_heading(alloc, &properties, Purpose::Calendar)?;
-    let said = SaidTimes::read(alloc, object, &properties)?;
-    EventComponent::judge_attendees(alloc, &properties)?;
-    let times = said.judge()?;
-    Ok(format!(in alloc; "from {} for {}", times.instant.instant(), times.seconds())?)
+    let event = read_event(alloc, object, component, Purpose::Series)?;
+    let start = event.times.instant.instant();
+    Ok(format!(in alloc; "from {start} for {}", event.times.seconds())?)
 }
 
 pub fn ends(alloc: Global, octets: &[u8]) -> Result<String, NoAnswer> {

@@ -1,77 +1,45 @@
-use Rattle.std.proofs.Common.{codes, sym, subst, refl, arith}
+use Rattle.std.proofs.Common.{inl, inr}
+use Rattle.std.proofs.lemmas.Result.{IfErr-weaker}
 use Rattle.ical_lines.specs.Fault.{RefusesOnly, RefusesBy}
-use Rattle.std.specs.Prelude.{option_map}
-use Rattle.std.proofs.lemmas.Result.{IfOk-weaker}
-use Rattle.ical_lines.specs.Text.{line_text}
 use Rattle.ical_tree.specs.Tree.{tree_of}
-use Rattle.profile.specs.Faults.{is_zoned_event_fault}
-use Rattle.profile.specs.Events.{EventFault, in_times, twice}
-use Rattle.profile.specs.ZonedTimes.{EventTimesFault}
-use Rattle.cal_events.specs.Events.{is_message}
-use Rattle.cal_events.proofs.NumberLemmas.{times_refused, times_number}
+use Rattle.profile.specs.Events.{EventFault, in_times}
+use Rattle.cal_events.specs.Events.{is_message, is_fault_for, IsUnreadOrFault}
+use Rattle.cal_events.proofs.NumberLemmas.{unread_for, refused_for}
 use Rattle.cal_events.proofs.ZonedLemmas.{weaker_fault}
 use Rattle.ical_values.proofs.Exits.{err_exit}
 use Rattle.cal_events.proofs.component.EventComponent.read.Goals as goal
 
-pub returns-in_err-uid-clause-stands : goal.returns-in_err-uid-clause-stands
-returns-in_err-uid-clause-stands c =
-    let m = is_message c.args.purpose in
+pub returns-in_err-refuse_unread-clause-refuses : goal.returns-in_err-refuse_unread-clause-refuses
+returns-in_err-refuse_unread-clause-refuses c =
+    err_exit _ (RefusesOnly (is_fault_for c.args.purpose)) _ c.from_residual.ensures.1 (unread_for c.args.purpose _ c.in_err-refuse_unread.ensures.refuses)
+
+pub returns-in_err-refuse_unread-clause-stands : goal.returns-in_err-refuse_unread-clause-stands
+returns-in_err-refuse_unread-clause-stands c =
+    err_exit _ (RefusesBy (IsUnreadOrFault (tree_of c.args.object.now) c.args.purpose c.args.properties.now)) _ c.from_residual.ensures.1
+    (inl (c.in_err-refuse_unread.ensures.refuses, c.in_err-refuse_unread.ensures.unread))
+
+pub returns-in_err-refuse_nominal_length-clause-refuses : goal.returns-in_err-refuse_nominal_length-clause-refuses
+returns-in_err-refuse_nominal_length-clause-refuses c =
+    err_exit _ (RefusesOnly (is_fault_for c.args.purpose)) _ c.from_residual-in_err-refuse_nominal_length.ensures.1
+    (unread_for c.args.purpose _ c.in_err-refuse_nominal_length.ensures.number)
+
+pub returns-in_err-refuse_nominal_length-clause-stands : goal.returns-in_err-refuse_nominal_length-clause-stands
+returns-in_err-refuse_nominal_length-clause-stands c =
+    err_exit _ (RefusesBy (IsUnreadOrFault (tree_of c.args.object.now) c.args.purpose c.args.properties.now)) _
+    c.from_residual-in_err-refuse_nominal_length.ensures.1 (inr (in_times (c.in_err-refuse_nominal_length.ensures.stands (tree_of c.args.object.now))))
+
+pub returns-clause-refuses : goal.returns-clause-refuses
+returns-clause-refuses c =
     let object = tree_of c.args.object.now in
-    err_exit _ (RefusesBy (EventFault object m c.args.properties.now)) _ c.from_residual.ensures.1 (c.in_err-uid.ensures.stands object m)
-
-pub returns-in_err-organiser-clause-stands : goal.returns-in_err-organiser-clause-stands
-returns-in_err-organiser-clause-stands c =
-    let object = tree_of c.args.object.now in
-    err_exit _ (RefusesBy (EventFault object (is_message c.args.purpose) c.args.properties.now)) _ c.from_residual-in_err-organiser.ensures.1
-    (c.in_err-organiser.ensures.stands object)
-
-pub returns-in_err-_status-clause-stands : goal.returns-in_err-_status-clause-stands
-returns-in_err-_status-clause-stands c =
-    let P = EventFault (tree_of c.args.object.now) (is_message c.args.purpose) c.args.properties.now in
-    err_exit _ (RefusesBy P) _ c.from_residual-in_err-_status.ensures.1
-    (subst P (sym c.in_err-_status.ensures.refuses) (twice (codes "STATUS") (4, omega arith, refl) c.in_err-_status.ensures.twice))
-
-pub returns-in_err-said-clause-refuses : goal.returns-in_err-said-clause-refuses
-returns-in_err-said-clause-refuses c =
-    err_exit _ (RefusesOnly is_zoned_event_fault) _ c.from_residual-in_err-said.ensures.1
-    (times_refused (tree_of c.args.object.now) c.args.properties.now _ c.in_err-said.ensures.stands)
-
-pub returns-in_err-said-clause-stands : goal.returns-in_err-said-clause-stands
-returns-in_err-said-clause-stands c =
-    let object = tree_of c.args.object.now in
-    let m = is_message c.args.purpose in
+    let purpose = c.args.purpose in
     let lines = c.args.properties.now in
-    err_exit _ (RefusesBy (EventFault object m lines)) _ c.from_residual-in_err-said.ensures.1
-    (weaker_fault _ (EventTimesFault object lines) (EventFault object m lines) (λ n h. in_times h) c.in_err-said.ensures.stands)
+    IfErr-weaker _ (RefusesBy (EventFault object (is_message purpose) lines)) (RefusesOnly (is_fault_for purpose))
+    (refused_for object purpose lines c.in_ok-refuse_unread.ensures.read) c.read_values.ensures.stands
 
-pub returns-in_err-attendees-clause-stands : goal.returns-in_err-attendees-clause-stands
-returns-in_err-attendees-clause-stands c =
+pub returns-clause-stands : goal.returns-clause-stands
+returns-clause-stands c =
     let object = tree_of c.args.object.now in
-    let m = is_message c.args.purpose in
-    err_exit _ (RefusesBy (EventFault object m c.args.properties.now)) _ c.from_residual-in_err-attendees.ensures.1 (c.in_err-attendees.ensures.stands object m)
-
-pub returns-in_err-times-clause-refuses : goal.returns-in_err-times-clause-refuses
-returns-in_err-times-clause-refuses c =
-    let object = tree_of c.args.object.now in
+    let purpose = c.args.purpose in
     let lines = c.args.properties.now in
-    err_exit _ (RefusesOnly is_zoned_event_fault) _ c.from_residual-in_err-times.ensures.1
-    (times_number object lines _ (c.in_err-times.ensures.stands object lines c.in_ok-said.ensures.said))
-
-pub returns-in_err-times-clause-stands : goal.returns-in_err-times-clause-stands
-returns-in_err-times-clause-stands c =
-    let object = tree_of c.args.object.now in
-    let m = is_message c.args.purpose in
-    let lines = c.args.properties.now in
-    err_exit _ (RefusesBy (EventFault object m lines)) _ c.from_residual-in_err-times.ensures.1
-    (in_times (c.in_err-times.ensures.stands object lines c.in_ok-said.ensures.said))
-
-pub returns-clause-says : goal.returns-clause-says
-returns-clause-says c = record {
-  uid = c.in_ok-uid.ensures.reads;
-  organiser = c.in_ok-organiser.ensures.reads;
-  stamp = c.in_ok-stamp.ensures.reads;
-  sequence = c.in_ok-sequence.ensures.reads;
-  status = (option_map line_text c.in_ok-_status._status, c.in_ok-_status.ensures.found);
-  times = c.in_ok-times.ensures.says (tree_of c.args.object.now) c.args.properties.now c.in_ok-said.ensures.said;
-  attendees = c.in_ok-attendees.ensures.reads;
-}
+    IfErr-weaker _ (RefusesBy (EventFault object (is_message purpose) lines)) (RefusesBy (IsUnreadOrFault object purpose lines))
+    (λ f h. weaker_fault f (EventFault object (is_message purpose) lines) (IsUnreadOrFault object purpose lines) (λ n x. inr x) h) c.read_values.ensures.stands

@@ -1,0 +1,82 @@
+-- The rule that a text gives from the start of an event on.
+use Rattle.std.proofs.Common.{◌≡◌, ℕ, true, false, List, codes, sym, ap, refl, subst, inr, ℤ, pos, arith, ◌∙◌}
+use Rattle.std.specs.Prelude.{Option, Some, None, Result, Ok, Err, IfOk, IfErr, IfSome, IsSome, MatchOption, ◌↔◌}
+use Rattle.std.proofs.lemmas.Bool.{false≢true}
+use Rattle.ical_lines.specs.Fault.{RefusesBy}
+use Rattle.ical_lines.specs.declared.fault.Fault.{Fault}
+use Rattle.ical_lines.specs.declared.fault.Fault.TheVariants.{Refused}
+use Rattle.profile.specs.Days.{day_index, number_of_day, IsDayDate, days_before_year, days_of_months}
+use Rattle.profile.specs.Lines.{line_value}
+use Rattle.profile.specs.Trees.{Tree}
+use Rattle.profile.specs.Rules.{Parts, RuleText, Until, UntilLocal, UntilInstant, rule_of, is_rule_day}
+use Rattle.profile.specs.RuleTexts.{SpellsRule}
+use Rattle.profile.specs.Zones.{Zone, Means, NoneFrom, IsLastDay}
+use Rattle.profile.specs.Properties.{StandsAtMostOnce, Says, BothOrNeither}
+use Rattle.profile.specs.ZonedTimes.{clock_of, EventTimes, SaysEventTimes}
+use Rattle.profile.specs.EventRules.{IsLastAllowed, AllowsNone, IsOnDay, GivesRule, IsOutside, StartsOutside, EventRuleFault, starts_outside}
+use Rattle.cal_events.specs.Zoned.{IsRuleText}
+use Rattle.cal_events.proofs.EventLemmas.{some_line}
+
+-- ---- the last day
+
+abbrev IsFound : Zone → ℕ → Option Until → Option ℤ → Type 0
+IsFound zone second until r = MatchOption r (AllowsNone zone second until) (λ day. IsLastAllowed zone second until (day_index day))
+
+last_of_9999 : day_index (number_of_day (pos 9999) 12 31) ≡ 3_652_424
+unfolding days_before_year days_of_months
+last_of_9999 = refl
+
+pub without_until : (zone : Zone) (second : ℕ) (until : Option Until) (r : Option ℤ) → until ≡ None → (IsSome r ↔ IsDayDate (pos 9999) 12 31)
+    → IfSome r (λ d. d ≡ number_of_day (pos 9999) 12 31) → IsFound zone second until r
+without_until zone second until r e found value = subst (λ (u : Option Until). IsFound zone second u r) (sym e) (go r found value)
+  where
+    go : (r : Option ℤ) → (IsSome r ↔ IsDayDate (pos 9999) 12 31) → IfSome r (λ d. d ≡ number_of_day (pos 9999) 12 31) → IsFound zone second None r
+    go None found value = absurd (false≢true (found.1 (omega arith, omega arith, (omega arith, omega arith, omega arith, omega arith))))
+    go (Some d) found value = ap day_index value ∙ last_of_9999
+
+pub local_until : (zone : Zone) (second : ℕ) (until : Option Until) (r : Option ℤ) (local t : ℤ) → until ≡ Some (UntilLocal local) → Means zone local t
+    → MatchOption r (NoneFrom zone second t 366) (λ day. IsLastDay zone second t (day_index day)) → IsFound zone second until r
+local_until zone second until r local t e means h = subst (λ (u : Option Until). IsFound zone second u r) (sym e) (go r h)
+  where
+    go : (r : Option ℤ) → MatchOption r (NoneFrom zone second t 366) (λ day. IsLastDay zone second t (day_index day)) → IsFound zone second (Some (UntilLocal local)) r
+    go None h = (t, means, h)
+    go (Some day) h = (t, means, h)
+
+pub instant_until : (zone : Zone) (second : ℕ) (until : Option Until) (r : Option ℤ) (t : ℤ) → until ≡ Some (UntilInstant t)
+    → MatchOption r (NoneFrom zone second t 366) (λ day. IsLastDay zone second t (day_index day)) → IsFound zone second until r
+instant_until zone second until r t e h = subst (λ (u : Option Until). IsFound zone second u r) (sym e) (go r h)
+  where
+    go : (r : Option ℤ) → MatchOption r (NoneFrom zone second t 366) (λ day. IsLastDay zone second t (day_index day)) → IsFound zone second (Some (UntilInstant t)) r
+    go None h = h
+    go (Some day) h = h
+
+-- ---- the rule
+
+module _ (zone : Zone) (local : ℤ) (text : RuleText) (day second last : ℕ) (on : IsOnDay local day second) (allowed : IsLastAllowed zone second text.until last) where
+  pub rule_given : (r : Result Parts Fault) → IfOk r (λ rule. rule ≡ rule_of text day last) → IfOk r (λ _. is_rule_day (rule_of text day last) day ≡ true) → IfOk r (GivesRule zone local text)
+  rule_given (Ok rule) made starts =
+      record { day = day; second = second; on = on; last = last; allowed = allowed; is = made; starts = subst (λ (x : Parts). is_rule_day x day ≡ true) (sym made) starts }
+  rule_given (Err e) made starts = tt
+
+  pub rule_refused : (r : Result Parts Fault) → IfErr r (λ e. (e ≡ Refused (record { number = 34 })) × (is_rule_day (rule_of text day last) day ≡ false))
+      → IfErr r (RefusesBy (λ n. (n ≡ 34) × IsOutside zone local text))
+  rule_refused (Ok rule) h = tt
+  rule_refused (Err e) (is, never) =
+      subst (RefusesBy (λ n. (n ≡ 34) × IsOutside zone local text)) (sym is)
+      (refl, record { day = day; second = second; on = on; none = inr (last, allowed, never) })
+
+-- ---- the fault of a start
+
+spelled_by : (line : Option (List ℕ)) (text : RuleText) → BothOrNeither IsRuleText line (Some text) → (x : List ℕ) × (line ≡ Some x) × SpellsRule (line_value x) text
+spelled_by None text h = absurd h
+spelled_by (Some x) text h = (x, refl, h)
+
+pub outside_stands : (object : Tree) (lines : List (List ℕ)) (times : EventTimes) (said : Option RuleText) (text : RuleText) (n : ℕ) → said ≡ Some text
+    → Says (codes "RRULE") false IsRuleText lines said → SaysEventTimes object lines times → (n ≡ 34) × IsOutside (clock_of times.zone) times.local text
+    → EventRuleFault object lines n
+outside_stands object lines times said text n e s t (is, out) =
+    let l = spelled_by s.line text (subst (λ (o : Option RuleText). BothOrNeither IsRuleText s.line o) e s.is) in
+    let once = subst (λ (o : Option (List ℕ)). StandsAtMostOnce (codes "RRULE") lines o) l.1 s.once in
+    subst (EventRuleFault object lines) (sym is)
+    (starts_outside (some_line (codes "DTSTART") _ lines t.line t.once (some_line (codes "RRULE") (StartsOutside object t.line) lines l.0 once
+    (record { zone = times.zone; local = times.local; says = t.says; text = text; spelled = l.2; outside = out }))))

@@ -1,0 +1,27 @@
+use Rattle.std.proofs.Common.{◌∙◌, codes, sym, ap, subst, option_map}
+use Rattle.std.specs.Option.{option_to_list}
+use Rattle.ical_lines.specs.Fault.{RefusesBy}
+use Rattle.ical_lines.specs.Text.{line_text}
+use Rattle.profile.specs.Lines.{line_value}
+use Rattle.profile.specs.RuleTexts.{IsLeastRuleFault}
+use Rattle.profile.specs.EventRules.{EventRuleFault, bad_rule, two_rules}
+use Rattle.ical_values.proofs.Exits.{err_exit}
+use Rattle.cal_events.proofs.EventLemmas.{some_line}
+use Rattle.cal_events.proofs.ZonedLemmas.{weaker_fault}
+use Rattle.cal_events.proofs.event_rule.SaidRule.read.Goals as goal
+
+pub returns-in_err-line-clause-stands : goal.returns-in_err-line-clause-stands
+returns-in_err-line-clause-stands c object =
+    let P = EventRuleFault object c.args.properties.now in
+    err_exit _ (RefusesBy P) _ c.from_residual.ensures.1 (subst P (sym c.in_err-line.ensures.refuses) (two_rules c.in_err-line.ensures.twice))
+
+pub returns-in_err-read-in-Some-clause-stands : goal.returns-in_err-read-in-Some-clause-stands
+returns-in_err-read-in-Some-clause-stands c object =
+    let lines = c.args.properties.now in
+    let P = EventRuleFault object lines in
+    let line = line_text c.in-Some.line in
+    let once = c.in_ok-line.ensures.found ∙ ap (λ l. option_to_list (option_map line_text l)) c.in-Some.is in
+    err_exit _ (RefusesBy P) _ c.from_residual-in_err-read-in-Some.ensures.1
+    (weaker_fault _ (IsLeastRuleFault c.value.result.now) P
+    (λ n h. bad_rule (some_line (codes "RRULE") (λ l. IsLeastRuleFault (line_value l) n) lines line once (subst (λ t. IsLeastRuleFault t n) c.value.ensures h)))
+    c.in_err-read-in-Some.ensures.refuses)

@@ -1,0 +1,96 @@
+//! The rule of a VEVENT (RFC 5545 3.3.10, 3.8.5.3): first the text of its RRULE, then the rule that it gives from the event's start on.
+
+ghost use Rattle.std.specs.Prelude.{◌≡◌, ◌<◌, ℕ, List, IfOk, IfErr, MatchOption, Some, option_map};
+ghost use Rattle.ical_lines.specs.Fault.{RefusesBy};
+ghost use Rattle.cal_rules.specs.Views.{until_of};
+ghost use Rattle.cal_zones.specs.Kinds.{zone_of};
+ghost use Rattle.profile.specs.Days.{day_index};
+ghost use Rattle.profile.specs.Trees.{Tree};
+ghost use Rattle.profile.specs.ZonedTimes.{SaysEventTimes, clock_of};
+ghost use Rattle.profile.specs.EventRules.{IsLastAllowed, AllowsNone, GivesRule, SaysEventRule, IsOutside, EventRuleFault};
+ghost use Rattle.cal_events.specs.Events.{times_of, zone_said};
+ghost use Rattle.cal_events.specs.Zoned.{IsRuleSaid};
+
+use crate::event_times::EventTimes;
+use crate::properties::optional;
+use crate::zoned::ZonedTime;
+use cal_days::Day;
+use cal_rules::{Rule, RuleText, Until};
+use cal_zones::Zone;
+use ical_lines::{Fault, Refusal};
+use ical_tree::Properties;
+use std::alloc::Global;
+
+/// What RRULE says by itself.
+#[derive(Drop)]
+pub(crate) struct SaidRule {
+    /// None where there is no RRULE.
+    text: Option<RuleText>,
+}
+
+impl SaidRule {
+    /// Reads the RRULE of a VEVENT.
+    /// Refused: 61 where it stands twice, and 30 to 33 as by `RuleText::read`.
+    pub(crate) fn read(alloc: Global, properties: &Properties<'_>) -> Result<SaidRule, Fault>
+        ensures said { IfOk result (IsRuleSaid properties.now) }
+        ensures stands { (object : Tree) → IfErr result (RefusesBy (EventRuleFault object properties.now)) }
+    {
+        let text = match optional(properties, "RRULE")? {
+            Some(line) => Some(RuleText::read(alloc, line.value())?),
+            None => None,
+        };
+        Ok(SaidRule { text })
+    }
+
+    /// The rule of an event with these times, None where there is no RRULE.
+    /// Refused: 34 where DTSTART isn't one of the rule's days, or UNTIL leaves no day.
+    pub(crate) fn judge(self, times: &EventTimes) -> Result<Option<Rule>, Fault>
+        ensures says { (lines : List (List ℕ)) → IsRuleSaid lines self → IfOk result (SaysEventRule lines (times_of times.now)) }
+        ensures stands { (object : Tree) (lines : List (List ℕ)) → IsRuleSaid lines self → SaysEventTimes object lines (times_of times.now)
+            → IfErr result (RefusesBy (EventRuleFault object lines)) }
+    {
+        match self.text {
+            Some(text) => Ok(Some(rule_from(text, times.start)?)),
+            None => Ok(None),
+        }
+    }
+}
+
+/// The rule that a text gives to an event that starts then.
+/// Refused: 34 where the start isn't one of the rule's days, or UNTIL leaves no day.
+fn rule_from(text: RuleText, start: ZonedTime) -> Result<Rule, Fault>
+    ensures gives { IfOk result (GivesRule (clock_of (zone_said start)) start.local text) }
+    ensures outside { IfErr result (RefusesBy (λ n. (n ≡ 34) × IsOutside (clock_of (zone_said start)) start.local text)) }
+{
+    let (day, second) = start.local.day_and_second();
+    match last_day(text.until(), start.clock(), second) {
+        Some(last) => Rule::new(text, day, last),
+        None => Err(Fault::Refused(Refusal::START_OUTSIDE_RULE)),
+    }
+}
+
+/// The last day that UNTIL allows, where starts lie at that second of their days on those clocks; None where it allows none from
+/// 0001-01-01 on.
+fn last_day(until: Option<Until>, clock: Zone, second: u32) -> Option<Day>
+    requires { second < 86_400 }
+    ensures { MatchOption result (AllowsNone (zone_of clock) second (option_map until_of until))
+        (λ day. IsLastAllowed (zone_of clock) second (option_map until_of until) (day_index day)) }
+{
+    match until {
+        Some(until) => day_until(&until, clock, second),
+        None => Day::of(9999, 12, 31),
+    }
+}
+
+/// The same where UNTIL stands. A date is that day itself, a local time is read on those clocks.
+fn day_until(until: &Until, clock: Zone, second: u32) -> Option<Day>
+    requires { second < 86_400 }
+    ensures { MatchOption result (AllowsNone (zone_of clock) second (Some (until_of until.now)))
+        (λ day. IsLastAllowed (zone_of clock) second (Some (until_of until.now)) (day_index day)) }
+{
+    match until {
+        Until::Date(day) => Some(*day),
+        Until::Local(local) => clock.last_day(second, clock.resolve(*local)),
+        Until::Utc(stamp) => clock.last_day(second, stamp.instant()),
+    }
+}
