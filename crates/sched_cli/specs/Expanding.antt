@@ -1,9 +1,13 @@
--- What `expand` prints of an event whose times and rule were read.
-use Rattle.std.specs.Prelude.{◌≡◌, ◌⊎◌, ℕ, ◌<◌, ℤ, pos, ◌+ℤ◌, ◌*ℤ◌, List, [], ◌∷◌, ◌++◌, length, take, decimal, Option}
+-- What `expand` prints of the event that an object says.
+use Rattle.std.specs.Prelude.{◌≡◌, ◌⊎◌, ℕ, ◌<◌, ℤ, pos, ◌+ℤ◌, ◌*ℤ◌, List, [], ◌∷◌, ◌++◌, length, take, decimal, Option, Some, None}
 use Rattle.std.specs.List.{AllZip, concat}
 use Rattle.std.specs.Io.KnownBytes.{Appends}
 use Rattle.profile.specs.Values.{WritesStamp, IsClockSeconds}
 use Rattle.profile.specs.Rules.{Parts, rule_days_from}
+use Rattle.profile.specs.Properties.{length_seconds}
+use Rattle.profile.specs.ZonedTimes.{clock_of}
+use Rattle.profile.specs.Events.{Event}
+use Rattle.profile.specs.Series.{SpellsSeries}
 use Rattle.profile.specs.Zones.{Zone, Means, local_time}
 
 -- the line of an instance that starts at an instant: its original start, its start, and how many seconds it lasts
@@ -53,3 +57,15 @@ PrintsRule zone local seconds limit rule old new =
 abbrev pub PrintsOne : Zone → ℤ → ℕ → Option (List ℕ) → Option (List ℕ) → Type 0
 PrintsOne zone local seconds old new =
     (instant : ℤ) × Means zone local instant × ((line : List ℕ) × IsPrinted seconds instant line × Appends old new line)
+
+-- the lines of the first instances of an event were: of those that its rule gives, or of the one where it has no rule
+abbrev pub PrintsStarts : Option Parts → Zone → ℤ → ℕ → ℕ → Option (List ℕ) → Option (List ℕ) → Type 0
+PrintsStarts None zone local seconds limit old new = PrintsOne zone local seconds old new
+PrintsStarts (Some rule) zone local seconds limit old new = PrintsRule zone local seconds limit rule old new
+
+abbrev pub PrintsSeries : Event → ℕ → Option (List ℕ) → Option (List ℕ) → Type 0
+PrintsSeries event limit old new = PrintsStarts event.rule (clock_of event.times.zone) event.times.local (length_seconds event.times.length) limit old new
+
+-- the octets spell one event, and the lines of its first instances were written
+abbrev pub ExpandsTo : List ℕ → ℕ → Option (List ℕ) → Option (List ℕ) → Type 0
+ExpandsTo octets limit old new = (event : Event) × SpellsSeries octets event × PrintsSeries event limit old new

@@ -1,6 +1,6 @@
 use Rattle.std.proofs.Common.{[]}
 use Rattle.std.proofs.KnownBytes.{Appends-nil}
-use Rattle.sched_cli.proofs.expand.Series.print_day.Goals as goal
+use Rattle.sched_cli.proofs.expand.print_day.Goals as goal
 
 pub returns-else-len-ge-FULL-clause-line : goal.returns-else-len-ge-FULL-clause-line
 returns-else-len-ge-FULL-clause-line g c =

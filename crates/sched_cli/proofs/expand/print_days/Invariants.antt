@@ -5,10 +5,10 @@ use Rattle.profile.specs.Properties.{length_seconds}
 use Rattle.profile.specs.ZonedTimes.{clock_of}
 use Rattle.cal_events.specs.Events.{length_of, zone_said}
 use Rattle.sched_cli.specs.Expanding.{PrintsUpTo}
-use Rattle.sched_cli.proofs.expand.Series.print_days.Given as goal
+use Rattle.sched_cli.proofs.expand.print_days.Given as goal
 
 abbrev pub invariant-loop-count : goal.invariant-loop-count
 invariant-loop-count g l = record {
-  length : l.lines.length.items ≡ decimal (length_seconds (length_of l.self.times.length)) ++ 10 ∷ [];
-  printed : PrintsUpTo (clock_of (zone_said l.self.times.start)) l.second (length_seconds (length_of l.self.times.length)) l.count (rule_days_from l.rule l.rule.pattern.start) (days_left l.days) (g.W.Write.contents l.fn.writer) (g.W.Write.contents l.writer) l.lines.text.items;
+  length : l.lines.length.items ≡ decimal (length_seconds (length_of l.times.length)) ++ 10 ∷ [];
+  printed : PrintsUpTo (clock_of (zone_said l.times.start)) l.second (length_seconds (length_of l.times.length)) l.count (rule_days_from l.rule l.rule.pattern.start) (days_left l.days) (g.W.Write.contents l.fn.writer) (g.W.Write.contents l.writer) l.lines.text.items;
 }
