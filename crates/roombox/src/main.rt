@@ -1,8 +1,11 @@
 //! The program `roombox`.
 #![tactic(auto)]
 
+mod command_line;
+mod host;
+
 use std::process::ExitCode;
 
 fn main(rt: HostRuntime) -> ExitCode {
-    ExitCode::from(sched_cli::run(&rt))
+    ExitCode::from(host::run(&rt))
 }

@@ -1,12 +1,9 @@
 //! The commands of `roombox`, over readers, octets and writers that are handed in.
 #![tactic(auto)]
 
-pub mod command_line;
 pub mod commands;
 pub mod expand;
-pub mod host;
 pub mod status;
 
 pub use commands::{run_check, run_keep, run_serve};
 pub use expand::run_expand;
-pub use host::run;

@@ -1,11 +1,11 @@
 //! The words of the command line (clap reads them).
 
-use crate::commands::Kept;
 use clap::{Arg, ArgAction, ArgMatches, Command, Error};
+use sched_cli::commands::Kept;
 use std::alloc::{AllocError, Global};
 
 /// What a command line asks for. ROOM is still a word here; the others are paths.
-#[derive(Clone, Copy, Debug)]
+#[derive(Clone, Copy)]
 pub enum Invocation<'a> {
     Serve,
     Keep {

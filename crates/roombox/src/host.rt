@@ -1,11 +1,11 @@
 //! The real reader, writer and files: `run` hands them to the commands.
 
 use crate::command_line::{Invocation, read_words};
-use crate::commands::{Kept, run_check, run_keep, run_serve};
-use crate::expand::run_expand;
-use crate::status::{DEVICE, USAGE, report_device, report_memory, report_too_long};
 use ical_lines::Fault;
 use ical_values::Address;
+use sched_cli::commands::{Kept, run_check, run_keep, run_serve};
+use sched_cli::run_expand;
+use sched_cli::status::{DEVICE, USAGE, report_device, report_memory, report_too_long};
 use std::alloc::Global;
 use std::fs::File;
 use std::io::{self, BufReader, BufWriter, ErrorKind, Read, Write};
