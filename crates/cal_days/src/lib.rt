@@ -36,7 +36,7 @@ pub const LAST_NUMBER: i64 = LAST_INDEX as i64 - EPOCH_INDEX as i64;
 const LATEST: i64 = 2_933_627;
 
 /// A day, by its number from 1970-01-01.
-#[derive(Clone, Copy, Debug, PartialEq, Eq)]
+#[derive(Clone, Copy, PartialEq, Eq)]
 pub struct Day {
     number: i64,
 }
@@ -55,7 +55,7 @@ impl Model for Day {
 }
 
 /// The date of a day.
-#[derive(Clone, Copy, Debug, PartialEq, Eq)]
+#[derive(Clone, Copy, PartialEq, Eq)]
 pub struct Civil {
     /// From 1 to 10001.
     pub year: i32,

@@ -8,7 +8,7 @@ use crate::Day;
 use std::marker::Model;
 
 /// How a rule recurs. The frequencies of less than a day aren't taken here.
-#[derive(Clone, Copy, Debug, PartialEq, Eq)]
+#[derive(Clone, Copy, PartialEq, Eq)]
 pub enum Frequency {
     Daily,
     Weekly,
@@ -18,7 +18,7 @@ pub enum Frequency {
 
 /// The period that a day is in, as a number. Later periods have greater numbers, with no number left
 /// out; where they begin to count has no meaning.
-#[derive(Clone, Copy, Debug, PartialEq, Eq)]
+#[derive(Clone, Copy, PartialEq, Eq)]
 pub struct PeriodIndex {
     number: u32,
 }
