@@ -9,7 +9,7 @@ use crate::name::is_name;
 use crate::pieces::{Pieces, front, split_outside};
 
 /// One parameter of a line, as it is written.
-#[derive(Clone, Copy, Debug)]
+#[derive(Clone, Copy)]
 pub struct Param<'a> {
     /// The name, in the case that it is written in.
     pub name: &'a str,

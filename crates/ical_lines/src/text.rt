@@ -36,7 +36,7 @@ use std::marker::Model;
 
 /// The logical lines of some octets, without the empty ones.
 /// It borrows the octets; where something in them is folded it keeps its own copy, unfolded.
-#[derive(Debug, Drop)]
+#[derive(Drop)]
 pub struct Unfolded<'a> {
     text: Text<'a>,
 }
@@ -113,7 +113,7 @@ fn check_lines(text: &str, limits: Limits) -> Result<(), Refusal>
 }
 
 /// The lines of a text that are left, in order. It takes no memory.
-#[derive(Clone, Copy, Debug)]
+#[derive(Clone, Copy)]
 pub struct Lines<'a> {
     rest: &'a str,
     // a text in memory: a number of its lines fits `usize`

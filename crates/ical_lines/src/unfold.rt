@@ -24,7 +24,7 @@ use memchr::memchr;
 use std::alloc::{AllocError, Global};
 
 /// A text whose lines are the logical lines of some octets.
-#[derive(Debug, Drop)]
+#[derive(Drop)]
 pub enum Text<'a> {
     /// The octets themselves, where nothing is folded.
     Lent(&'a str),
