@@ -5,7 +5,7 @@ use ical_lines::Lines;
 use std::alloc::{AllocError, Global};
 
 /// A component of an object, as VCALENDAR or VEVENT. It borrows the text that it was read from, and copies no line.
-#[derive(Debug, Drop)]
+#[derive(Drop)]
 pub struct Component<'a> {
     name: &'a str,
     runs: Vec<Run<'a>>,

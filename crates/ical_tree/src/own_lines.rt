@@ -3,7 +3,7 @@
 use ical_lines::{Line, Lines};
 
 /// Lines that follow each other in a text.
-#[derive(Clone, Copy, Debug)]
+#[derive(Clone, Copy)]
 pub(crate) struct Run<'a> {
     /// The lines of the text from the first one of the run on.
     from: Lines<'a>,
@@ -56,7 +56,7 @@ impl<'a> Run<'a> {
 }
 
 /// The own lines of a component that are left, in order. It takes no memory.
-#[derive(Clone, Copy, Debug)]
+#[derive(Clone, Copy)]
 pub struct OwnLines<'a> {
     run: Run<'a>,
     /// The runs after it.
