@@ -18,7 +18,7 @@ use std::alloc::{AllocError, Global};
 const LIMIT: usize = 1024;
 
 /// An address in ASCII lower case.
-#[derive(Clone, Debug, PartialEq, Eq, PartialOrd, Ord, Hash, Drop)]
+#[derive(Clone, PartialEq, Eq, PartialOrd, Ord, Hash, Drop)]
 pub struct Address {
     octets: String,
 }

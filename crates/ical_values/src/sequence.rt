@@ -13,7 +13,7 @@ use std::marker::Model;
 const MAX: u32 = 2_147_483_647;
 
 /// How often a meeting was revised.
-#[derive(Clone, Copy, Debug, PartialEq, Eq, PartialOrd, Ord)]
+#[derive(Clone, Copy, PartialEq, Eq, PartialOrd, Ord)]
 pub struct Sequence {
     number: u32,
 }

@@ -17,7 +17,7 @@ use std::alloc::{AllocError, Global};
 const UID_LIMIT: usize = 1024;
 
 /// A text without escapes.
-#[derive(Clone, Debug, PartialEq, Eq, Hash, Drop)]
+#[derive(Clone, PartialEq, Eq, Hash, Drop)]
 pub struct Text {
     octets: String,
 }
