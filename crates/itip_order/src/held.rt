@@ -16,7 +16,7 @@ use std::cmp::Ordering;
 use std::marker::Model;
 
 /// What taking a part did to the view.
-#[derive(Clone, Copy, Debug, PartialEq, Eq, Drop)]
+#[derive(Clone, Copy, PartialEq, Eq, Drop)]
 pub enum Freshness {
     /// The part is in the view, and wasn't before.
     Fresh,
@@ -28,7 +28,7 @@ pub enum Freshness {
 
 /// All parts ever taken, as far as later calls can tell. Seen as its registers: it stands for each
 /// history whose greatest parts they are.
-#[derive(Debug, Drop)]
+#[derive(Drop)]
 pub struct Held {
     registers: Vec<Part>,
 }

@@ -10,7 +10,7 @@ use std::alloc::AllocError;
 use std::cmp::Ordering;
 
 /// A slot of a meeting (RFC 5545 3.8.4.4). The Whole is below each At.
-#[derive(Clone, Copy, Debug, PartialEq, Eq, PartialOrd, Ord)]
+#[derive(Clone, Copy, PartialEq, Eq, PartialOrd, Ord)]
 pub enum Slot {
     /// The whole meeting.
     Whole,
@@ -19,14 +19,14 @@ pub enum Slot {
 }
 
 /// SEQUENCE, then DTSTAMP (RFC 5546 2.1.4, 2.1.5).
-#[derive(Clone, Copy, Debug, PartialEq, Eq, PartialOrd, Ord)]
+#[derive(Clone, Copy, PartialEq, Eq, PartialOrd, Ord)]
 pub struct Revision {
     pub sequence: Sequence,
     pub stamp: Stamp,
 }
 
 /// What a part makes of its slot. In the order of the variants, and a Set by its octets.
-#[derive(Debug, Drop, PartialEq, Eq, PartialOrd, Ord)]
+#[derive(Drop, PartialEq, Eq, PartialOrd, Ord)]
 pub enum Body {
     /// The event, as its canonical octets.
     Set(Vec<u8>),
@@ -51,7 +51,7 @@ impl Clone for Body {
 }
 
 /// What a message says of one slot of one meeting.
-#[derive(Debug, Drop, PartialEq, Eq)]
+#[derive(Drop, PartialEq, Eq)]
 pub struct Part {
     pub organiser: Address,
     pub uid: Text,
