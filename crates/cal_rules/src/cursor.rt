@@ -11,7 +11,7 @@ use crate::facts::DayFacts;
 use cal_days::{FIRST_INDEX, Frequency};
 
 /// The next day to look at, in a period that is in step; or the day after that period.
-#[derive(Clone, Copy, Debug)]
+#[derive(Clone, Copy)]
 pub(crate) struct Cursor {
     pub day: DayFacts,
     /// The days of its period.
@@ -65,7 +65,7 @@ impl Cursor {
 }
 
 /// The days from `first` on and before `end`, by their indices.
-#[derive(Clone, Copy, Debug)]
+#[derive(Clone, Copy)]
 pub(crate) struct Span {
     pub first: u32,
     pub end: u32,

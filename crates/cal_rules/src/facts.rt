@@ -7,7 +7,7 @@ ghost use Rattle.cal_rules.specs.Known.{AreFacts};
 use cal_days::Day;
 
 /// A day, and its place in its week, its month and its year.
-#[derive(Clone, Copy, Debug)]
+#[derive(Clone, Copy)]
 pub(crate) struct DayFacts {
     /// The days from 0000-01-01 to it.
     pub index: u32,

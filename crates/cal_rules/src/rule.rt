@@ -13,7 +13,7 @@ use ical_lines::{Fault, Refusal};
 use std::marker::Model;
 
 /// A rule from the day of DTSTART on (RFC 5545 3.8.5.3). Its days go to 9999-12-31.
-#[derive(Debug, Drop)]
+#[derive(Drop)]
 pub struct Rule {
     written: Written,
     start: DayFacts,

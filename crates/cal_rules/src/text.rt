@@ -17,7 +17,7 @@ use std::alloc::{AllocError, Global};
 use std::marker::Model;
 
 /// The text of a rule, as it was read.
-#[derive(Debug, Drop)]
+#[derive(Drop)]
 pub struct RuleText {
     pub(crate) written: Written,
 }

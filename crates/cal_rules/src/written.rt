@@ -13,14 +13,14 @@ use cal_days::{Day, Frequency, PeriodIndex};
 use ical_values::{LocalTime, Stamp};
 
 /// An entry of BYDAY: a weekday, 0 for Monday, and the number before it, 0 where none is written.
-#[derive(Clone, Copy, Debug, PartialEq, Eq)]
+#[derive(Clone, Copy, PartialEq, Eq)]
 pub struct WeekdayNumber {
     pub number: i16,
     pub weekday: u8,
 }
 
 /// The end that UNTIL says: a date, a local time, or an instant in UTC (RFC 5545 3.3.10).
-#[derive(Clone, Copy, Debug, PartialEq, Eq)]
+#[derive(Clone, Copy, PartialEq, Eq)]
 pub enum Until {
     Date(Day),
     Local(LocalTime),
@@ -28,7 +28,7 @@ pub enum Until {
 }
 
 /// The parts of a rule. An empty list is a part that isn't written.
-#[derive(Debug, Drop)]
+#[derive(Drop)]
 pub(crate) struct Written {
     pub frequency: Frequency,
     pub interval: u16,
