@@ -11,7 +11,7 @@ use ical_values::{DAY_SECONDS, LocalTime, UtcOffset};
 const HALF_DAY: u32 = 43_200;
 
 /// STANDARD or DAYLIGHT of a VTIMEZONE.
-#[derive(Clone, Copy, Debug)]
+#[derive(Clone, Copy)]
 pub struct Observance {
     /// The day of DTSTART, by its index.
     pub(crate) day: u32,

@@ -12,7 +12,7 @@ use ical_lines::Refusal;
 const SPACING: u64 = 172_800;
 
 /// Two observances that follow each other.
-#[derive(Clone, Copy, Debug)]
+#[derive(Clone, Copy)]
 pub struct Pair {
     pub(crate) standard: Observance,
     pub(crate) daylight: Observance,

@@ -9,7 +9,7 @@ use ical_values::DAY_SECONDS;
 
 /// The day of its month that a rule names, as it is written. Weekdays go from 0 for Monday to 6 for
 /// Sunday.
-#[derive(Clone, Copy, Debug, PartialEq, Eq)]
+#[derive(Clone, Copy, PartialEq, Eq)]
 pub enum MonthDays {
     /// One BYMONTHDAY, from 1 to 28.
     Day(u8),
@@ -22,7 +22,7 @@ pub enum MonthDays {
 }
 
 /// A rule of one day a year: BYMONTH, and the day of that month.
-#[derive(Clone, Copy, Debug)]
+#[derive(Clone, Copy)]
 pub struct Yearly {
     pub(crate) month: u8,
     pub(crate) days: MonthDays,

@@ -16,7 +16,7 @@ use ical_values::{DAY_SECONDS, LocalTime, UtcOffset};
 use std::alloc::{AllocError, Global};
 
 /// One offset for all time.
-#[derive(Clone, Copy, Debug)]
+#[derive(Clone, Copy)]
 pub struct Fixed {
     /// In seconds.
     pub(crate) offset: i32,
@@ -24,7 +24,7 @@ pub struct Fixed {
 }
 
 /// What a zone is made of.
-#[derive(Clone, Copy, Debug)]
+#[derive(Clone, Copy)]
 pub enum Kind {
     /// One offset for all time.
     Constant(Fixed),
@@ -35,7 +35,7 @@ pub enum Kind {
 }
 
 /// A zone: which offset its clocks keep at each instant.
-#[derive(Clone, Copy, Debug)]
+#[derive(Clone, Copy)]
 pub struct Zone {
     pub(crate) kind: Kind,
 }
