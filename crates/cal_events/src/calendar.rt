@@ -17,14 +17,14 @@ use std::marker::Model;
 
 /// An event of a calendar, and whether it holds the room: the room has accepted it and it isn't
 /// cancelled (RFC 5545 3.2.12, 3.8.1.11).
-#[derive(Debug, Drop)]
+#[derive(Drop)]
 pub struct Entry {
     pub booking: Booking,
     pub confirmed: bool,
 }
 
 /// The confirmed instances of a room.
-#[derive(Debug, Drop)]
+#[derive(Drop)]
 pub struct Calendar {
     bookings: Vec<Booking>,
 }

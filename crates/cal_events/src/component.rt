@@ -28,7 +28,7 @@ use ical_values::{Address, LocalTime, Sequence, Stamp, Text};
 use std::alloc::Global;
 
 /// What a VEVENT is read for: this says which properties have to stand, and which aren't read yet.
-#[derive(Clone, Copy, Debug, PartialEq, Eq)]
+#[derive(Clone, Copy, PartialEq, Eq)]
 pub enum Purpose {
     /// A message: UID, DTSTAMP, DTSTART and ORGANIZER have to stand. RRULE, RDATE, EXDATE, RECURRENCE-ID,
     /// STATUS:CANCELLED, and TZID on DTSTART or DTEND aren't read yet.
@@ -41,7 +41,7 @@ pub enum Purpose {
 }
 
 /// What an attendee answered (RFC 5545 3.2.12, for VEVENT).
-#[derive(Clone, Copy, Debug, PartialEq, Eq)]
+#[derive(Clone, Copy, PartialEq, Eq)]
 pub enum ParticipationStatus {
     NeedsAction,
     Tentative,
@@ -66,14 +66,14 @@ impl ParticipationStatus {
 }
 
 /// An ATTENDEE line (RFC 5545 3.8.4.1).
-#[derive(Debug, Drop)]
+#[derive(Drop)]
 pub struct Attendee {
     pub address: Address,
     pub status: ParticipationStatus,
 }
 
 /// What a VEVENT says.
-#[derive(Debug, Drop)]
+#[derive(Drop)]
 pub struct EventComponent {
     pub uid: Text,
     /// None where ORGANIZER is missing, which only a calendar may have.

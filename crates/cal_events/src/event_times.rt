@@ -29,7 +29,7 @@ const LONGEST: i64 = 366 * DAY_SECONDS;
 const FIRST_SECOND: i64 = -DAY_SECONDS;
 
 /// The times of an event, judged together.
-#[derive(Clone, Copy, Debug)]
+#[derive(Clone, Copy)]
 pub struct EventTimes {
     /// DTSTART.
     pub start: ZonedTime,

@@ -10,7 +10,7 @@ pub const HORIZON: i64 = 253_402_300_800;
 
 /// Which instance of which meeting: the organiser, the UID (RFC 5545 3.8.4.3, 3.8.4.7) and the
 /// original start in seconds. Keys are in order by organiser and UID as octets, and then by slot.
-#[derive(Clone, Copy, Debug, PartialEq, Eq, PartialOrd, Ord)]
+#[derive(Clone, Copy, PartialEq, Eq, PartialOrd, Ord)]
 pub struct InstanceKey<'a> {
     pub organiser: &'a str,
     pub uid: &'a str,
@@ -18,7 +18,7 @@ pub struct InstanceKey<'a> {
 }
 
 /// A meeting holds the room from `start` on and before `end`, in seconds (RFC 5545 3.6.1).
-#[derive(Clone, Copy, Debug, PartialEq, Eq)]
+#[derive(Clone, Copy, PartialEq, Eq)]
 pub struct Instance<'a> {
     pub key: InstanceKey<'a>,
     pub start: i64,
@@ -26,7 +26,7 @@ pub struct Instance<'a> {
 }
 
 /// An instance that owns its texts.
-#[derive(Debug, Drop)]
+#[derive(Drop)]
 pub struct Booking {
     pub organiser: Address,
     pub uid: Text,

@@ -8,7 +8,7 @@ use crate::instance::HORIZON;
 use std::alloc::{AllocError, Global};
 
 /// The seconds from `start` on and before `end`.
-#[derive(Clone, Copy, Debug, PartialEq, Eq)]
+#[derive(Clone, Copy, PartialEq, Eq)]
 pub struct Span {
     pub start: i64,
     pub end: i64,
@@ -16,7 +16,7 @@ pub struct Span {
 
 /// Two places of a list whose spans share an instant, the earlier start first, and that instant:
 /// the later start.
-#[derive(Clone, Copy, Debug, PartialEq, Eq)]
+#[derive(Clone, Copy, PartialEq, Eq)]
 pub struct Overlap {
     pub first: usize,
     pub second: usize,

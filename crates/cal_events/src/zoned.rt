@@ -25,7 +25,7 @@ use ical_values::{LocalTime, Stamp, Text};
 use std::alloc::{AllocError, Global};
 
 /// A start or an end: a local time, and the zone whose clocks show it. A UTC time has none: UTC is no zone of offset 0.
-#[derive(Clone, Copy, Debug)]
+#[derive(Clone, Copy)]
 pub struct ZonedTime {
     pub local: LocalTime,
     /// None is UTC.
