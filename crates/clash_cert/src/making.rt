@@ -11,7 +11,7 @@ use ical_values::{Address, Text};
 use std::alloc::{AllocError, Global};
 
 /// A key that owns its texts.
-#[derive(Clone, Debug, Drop)]
+#[derive(Clone, Drop)]
 pub struct OwnedKey {
     pub organiser: Address,
     pub uid: Text,
@@ -20,7 +20,7 @@ pub struct OwnedKey {
 
 /// Two instances of different keys and an instant in both, before the horizon: the later start.
 /// `first` is less by start, organiser, UID, slot.
-#[derive(Clone, Debug, Drop)]
+#[derive(Clone, Drop)]
 pub struct Clash {
     pub first: OwnedKey,
     pub second: OwnedKey,
@@ -28,7 +28,7 @@ pub struct Clash {
 }
 
 /// What making gives.
-#[derive(Debug, Drop)]
+#[derive(Drop)]
 pub enum Made {
     /// No two confirmed instances share an instant; the certificate stands.
     Clear(Certificate),
