@@ -18,7 +18,7 @@ use std::marker::Model;
 const FEW: usize = 8;
 
 /// The ATTENDEE lines of a VEVENT, in the order of the text.
-#[derive(Debug, Drop)]
+#[derive(Drop)]
 pub struct Attendees {
     lines: Vec<Attendee>,
     /// Their addresses in order: a message goes to many rooms, and each looks for itself among many attendees.

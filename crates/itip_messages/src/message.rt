@@ -24,13 +24,13 @@ use itip_order::{Revision, Slot};
 use std::alloc::{AllocError, Global};
 
 /// What a message asks for (RFC 5546 1.4). Those that aren't read yet aren't named yet.
-#[derive(Clone, Copy, Debug, PartialEq, Eq)]
+#[derive(Clone, Copy, PartialEq, Eq)]
 pub enum Method {
     Request,
 }
 
 /// What one VEVENT of a message says.
-#[derive(Debug, Drop)]
+#[derive(Drop)]
 pub struct MessageComponent {
     /// The whole meeting; a single start where RECURRENCE-ID is read.
     pub slot: Slot,
@@ -57,7 +57,7 @@ impl MessageComponent {
 }
 
 /// A message for VEVENT: all its components are of one meeting, the UID of one ORGANIZER.
-#[derive(Debug, Drop)]
+#[derive(Drop)]
 pub struct Message {
     method: Method,
     organiser: Address,

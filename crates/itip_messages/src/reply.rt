@@ -14,7 +14,7 @@ use ical_values::{Address, Sequence, Stamp, Text};
 use std::alloc::{AllocError, Global};
 
 /// Which instance of which meeting, as a reply names it: its original start can be written.
-#[derive(Clone, Copy, Debug)]
+#[derive(Clone, Copy)]
 pub struct ConflictKey<'a> {
     pub organiser: &'a str,
     pub uid: &'a str,
@@ -22,7 +22,7 @@ pub struct ConflictKey<'a> {
 }
 
 /// Two instances that share an instant, the later of their starts.
-#[derive(Clone, Copy, Debug)]
+#[derive(Clone, Copy)]
 pub struct Conflict<'a> {
     pub instant: Stamp,
     pub first: ConflictKey<'a>,
@@ -58,7 +58,7 @@ impl<'a> Conflict<'a> {
 }
 
 /// What a room decided.
-#[derive(Clone, Copy, Debug)]
+#[derive(Clone, Copy)]
 pub enum Decision<'a> {
     Accepted,
     /// Declined: the room isn't free.
@@ -70,7 +70,7 @@ pub enum Decision<'a> {
 }
 
 /// What one VEVENT of a reply says.
-#[derive(Clone, Copy, Debug)]
+#[derive(Clone, Copy)]
 pub struct ReplyEvent<'a> {
     pub uid: &'a Text,
     /// The instance that is answered by itself, written as RECURRENCE-ID; None for the whole meeting.
