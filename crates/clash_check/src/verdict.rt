@@ -3,7 +3,7 @@ ghost use Rattle.std.specs.Prelude.{◌≡◌};
 ghost use Rattle.clash_check.specs.Verdicts.{IsNo};
 
 /// The answer, and what it took.
-#[derive(Clone, Copy, Debug, PartialEq, Eq)]
+#[derive(Clone, Copy, PartialEq, Eq)]
 pub struct Checked {
     pub verdict: Verdict,
     /// How many instances were made: one for each single, and none for a refused calendar or a wrong text or count.
@@ -11,7 +11,7 @@ pub struct Checked {
 }
 
 /// Does the certificate stand for the calendar?
-#[derive(Clone, Copy, Debug, PartialEq, Eq)]
+#[derive(Clone, Copy, PartialEq, Eq)]
 pub enum Verdict {
     Yes,
     /// The first reason that applies.
@@ -22,7 +22,7 @@ pub enum Verdict {
 /// (81, `first` is its first wrong or missing line), a count isn't the calendar's (82), an entry
 /// doesn't stand (83, `first` and `second` are its pair), a single clashes (84). Elsewhere `first`
 /// and `second` are 0.
-#[derive(Clone, Copy, Debug, PartialEq, Eq)]
+#[derive(Clone, Copy, PartialEq, Eq)]
 pub struct Why {
     pub number: u8,
     pub first: u64,
