@@ -5,7 +5,7 @@ ghost use Rattle.std.specs.Prelude.{◌≡◌, None};
 use clash_cert::Clash;
 
 /// Which limit of a room a request would pass.
-#[derive(Clone, Copy, Debug, PartialEq, Eq)]
+#[derive(Clone, Copy, PartialEq, Eq)]
 pub enum LimitKind {
     /// More than 64 confirmed series.
     Series,
@@ -14,7 +14,7 @@ pub enum LimitKind {
 }
 
 /// What became of a message.
-#[derive(Debug, Drop)]
+#[derive(Drop)]
 pub enum Kind {
     /// Its fresh parts are confirmed.
     Accepted,
@@ -33,7 +33,7 @@ pub enum Kind {
 }
 
 /// A room's answer: what became of the message, and the objects that it sends, as octets.
-#[derive(Debug, Drop)]
+#[derive(Drop)]
 pub struct Answer {
     pub kind: Kind,
     /// The REPLY, None where there is nothing to reply.

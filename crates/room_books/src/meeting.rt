@@ -15,7 +15,7 @@ use itip_order::Held;
 use std::alloc::AllocError;
 
 /// A meeting's name: the UID of an ORGANIZER.
-#[derive(Debug, PartialEq, Eq, Hash, Drop)]
+#[derive(PartialEq, Eq, Hash, Drop)]
 pub struct MeetingKey {
     pub organiser: Address,
     pub uid: Text,
@@ -63,7 +63,7 @@ impl MeetingKey {
 }
 
 /// What was decided about a part.
-#[derive(Clone, Debug, Drop)]
+#[derive(Clone, Drop)]
 pub enum Outcome {
     Accepted,
     Declined(Clash),
@@ -72,7 +72,7 @@ pub enum Outcome {
 
 /// The answer to a part: when and how it was decided, and the span that it books. It is kept as long as the part is
 /// in the view, so that a repeat gets the same answer.
-#[derive(Clone, Debug, Drop)]
+#[derive(Clone, Drop)]
 pub struct Decided {
     /// The moment of the decision.
     pub moment: Stamp,
@@ -81,7 +81,7 @@ pub struct Decided {
 }
 
 /// The half-open time from `start` to before `end`, in seconds from 1970-01-01T00:00:00Z.
-#[derive(Clone, Copy, Debug, PartialEq, Eq)]
+#[derive(Clone, Copy, PartialEq, Eq)]
 pub struct Span {
     pub start: i64,
     pub end: i64,
