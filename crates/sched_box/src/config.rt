@@ -23,7 +23,7 @@ pub const LONGEST: usize = 65_536;
 const MOST_ROOMS: usize = 64;
 
 /// The rooms and organisers that a box hosts.
-#[derive(Debug, Drop)]
+#[derive(Drop)]
 pub struct Config {
     rooms: Vec<Address>,
 }

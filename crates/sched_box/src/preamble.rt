@@ -79,7 +79,7 @@ fn take_piece<R: BufRead>(
 }
 
 /// Where the octets of a preamble have come to.
-#[derive(Clone, Copy, Debug, PartialEq, Eq)]
+#[derive(Clone, Copy, PartialEq, Eq)]
 enum Place {
     /// At the start of a line.
     Start,
