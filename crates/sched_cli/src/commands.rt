@@ -14,7 +14,7 @@ use std::alloc::Global;
 use std::io::{self, BufRead, Write};
 
 /// Which of a room's two texts is wanted.
-#[derive(Clone, Copy, Debug, PartialEq, Eq)]
+#[derive(Clone, Copy, PartialEq, Eq)]
 pub enum Kept {
     Calendar,
     Certificate,
