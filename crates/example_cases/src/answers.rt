@@ -18,7 +18,7 @@ pub fn print_answer<R: Print>(
 }
 
 /// What is printed of a case: its answers, with ` | ` between them.
-#[derive(Debug, Drop)]
+#[derive(Drop)]
 pub struct Answers {
     text: String,
 }

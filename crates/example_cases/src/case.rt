@@ -3,7 +3,7 @@
 use std::alloc::{AllocError, Global};
 
 /// A case.
-#[derive(Clone, Copy, Debug)]
+#[derive(Clone, Copy)]
 pub struct Case<'a> {
     line: &'a str,
 }

@@ -14,7 +14,7 @@ use std::alloc::{AllocError, Global};
 const SHOWN: usize = 200;
 
 /// How far an escape is read.
-#[derive(Clone, Copy, Debug)]
+#[derive(Clone, Copy)]
 enum Escape {
     /// None has begun.
     No,
