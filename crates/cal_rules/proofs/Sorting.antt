@@ -179,6 +179,11 @@ all_listed show nth b lead xs ys zs e f =
 
 -- ---- lists of a rule
 
+pub all_at : {A : Type 0} (test : A → Bool) (xs : List A) (i : ℕ) (d : A) → list_all test xs ≡ true → i < length xs → test (get_or xs i d) ≡ true
+all_at test [] i d h l = let wrong : ⊥ = omega arith in absurd wrong
+all_at test (x ∷ xs) zero d h l = (and_parts (test x) (list_all test xs) h).0
+all_at test (x ∷ xs) (suc i) d h l = all_at test xs i d (and_parts (test x) (list_all test xs) h).1 (omega arith)
+
 pub all_mapped : {A B : Type 0} (test : B → Bool) (f : A → B) (xs : List A) (i : ℕ) (d : A) → list_all test (map f xs) ≡ true → i < length xs → test (f (get_or xs i d)) ≡ true
 all_mapped test f [] i d h l = let wrong : ⊥ = omega arith in absurd wrong
 all_mapped test f (x ∷ xs) zero d h l = (and_parts (test (f x)) (list_all test (map f xs)) h).0
