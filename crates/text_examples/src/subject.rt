@@ -5,7 +5,7 @@ use example_cases::Case;
 use example_cases::answers::print_answer;
 use std::io;
 
-#[derive(Clone, Copy, Debug)]
+#[derive(Clone, Copy)]
 pub enum Subject {
     Lines,
     Values,

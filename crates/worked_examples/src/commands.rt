@@ -11,7 +11,7 @@ use std::io::{self, ErrorKind};
 use std::rt::Files;
 
 /// What a command wrote, and its status.
-#[derive(Debug, PartialEq, Eq, Drop)]
+#[derive(PartialEq, Eq, Drop)]
 struct Outcome {
     status: u8,
     output: Vec<u8>,
