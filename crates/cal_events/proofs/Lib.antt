@@ -12,6 +12,7 @@ pub mod OneEventRule
 pub mod OneEvent
 pub mod OneCalendar
 pub mod OneText
+pub mod OneSeries
 pub mod OneZoned
 pub mod TimesLemmas
 pub mod ZonedLemmas

@@ -12,10 +12,10 @@ use Rattle.profile.specs.Calendars.{SpellsCalendar, CalendarTextFault, in_lines,
 abbrev Lines : Type 0
 Lines = List (List ℕ)
 
-abbrev OneTree : Type 0
+abbrev pub OneTree : Type 0
 OneTree = (d e : ℕ) (lines : Lines) (a b : Tree) → SpellsTree tree_name tree_own tree_inside d a lines → SpellsTree tree_name tree_own tree_inside e b lines → a ≡ b
 
-abbrev PairsUp : Type 0
+abbrev pub PairsUp : Type 0
 PairsUp = (bounded : Bool) (t : Tree) (lines : Lines) (n : ℕ) → IsObject tree_name tree_own tree_inside bounded t lines → lines_have n lines ≡ true → ⊥
 
 abbrev OneCalendar : Type 0

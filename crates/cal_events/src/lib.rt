@@ -17,6 +17,6 @@ pub use component::{Attendee, EventComponent, ParticipationStatus, Purpose, one_
 pub use event_times::{EventTimes, refuse_nominal_length};
 pub use instance::{Booking, HORIZON, Instance, InstanceKey};
 pub use reading::{one_calendar, one_calendar_text, read_event, refuse_unread_events};
-pub use series::{read_series, series_of};
+pub use series::{one_series, read_series, series_of};
 pub use sweep::{Overlap, Span, first_overlap};
 pub use zoned::{ZonedTime, one_zoned_time};

@@ -1,17 +1,18 @@
 //! A series: the one VEVENT of an object, with the rule by which it recurs (RFC 5545 3.6.1, 3.8.5.3). Single instances of it, by RDATE,
 //! EXDATE or RECURRENCE-ID, aren't read yet.
 
-ghost use Rattle.std.specs.Prelude.{◌≡◌, ◌∷◌, [], ◌⊎◌, ◌<◌, length, IfOk, IfErr};
+ghost use Rattle.std.specs.Prelude.{◌≡◌, ◌∷◌, [], ℕ, List, IfOk, IfErr};
 ghost use Rattle.ical_lines.specs.Fault.{RefusesOnly, RefusesBy};
 ghost use Rattle.ical_tree.specs.Tree.{component_lines, tree_of};
-ghost use Rattle.profile.specs.Faults.{is_series_event_fault, is_series_fault};
+ghost use Rattle.profile.specs.Faults.{is_series_fault};
+ghost use Rattle.profile.specs.Events.{Event};
 ghost use Rattle.profile.specs.Series.{SaysSeries, SpellsSeries, SeriesFault, SeriesTextFault};
 ghost use Rattle.cal_events.specs.Events.{event_of, vevents_of, IsNotOneEvent};
 
-use crate::component::{EventComponent, Purpose};
+use crate::component::{EventComponent, Purpose, one_event};
 use crate::reading::read_event;
 use ical_lines::{Fault, Limits, Refusal, Unfolded};
-use ical_tree::{Component, read_object};
+use ical_tree::{Component, one_tree, read_object};
 use std::alloc::Global;
 
 /// The series that octets spell.
@@ -24,6 +25,15 @@ pub fn read_series(alloc: Global, bytes: &[u8]) -> Result<EventComponent, Fault>
     let text = Unfolded::read(alloc, bytes, Limits::Message)?;
     let object = read_object(alloc, &text, Limits::Message)?;
     series_of(alloc, &object)
+}
+
+/// Octets spell at most one series, and none where a fault stands in them.
+pub fn one_series()
+    ensures one { (octets : List ℕ) (a b : Event) → SpellsSeries octets a → SpellsSeries octets b → a ≡ b }
+    ensures or_a_fault { (octets : List ℕ) (a : Event) (n : ℕ) → SpellsSeries octets a → SeriesTextFault octets n → ⊥ }
+{
+    one_tree();
+    one_event();
 }
 
 /// The series of an object that was read.
