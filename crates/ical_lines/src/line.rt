@@ -35,8 +35,18 @@ impl<'a> Line<'a> {
     ghost use Rattle.ical_lines.specs.Pieces.{pieces_left};
     ghost use Rattle.ical_lines.specs.Text.{line_text, params_left, param_of};
 
+    /// The line of a text, None where the text holds a line break.
+    pub fn read(text: &'a str) -> Option<Line<'a>>
+        ensures { MatchOption result (is_one_line text.now ≡ false) (λ line. line_text line ≡ text.now) }
+    {
+        if text.as_bytes().contains(&b'\n') {
+            return None;
+        }
+        Some(Line::of(text))
+    }
+
     /// The line of a text that holds no line break.
-    pub fn of(text: &'a str) -> Line<'a>
+    pub(crate) fn of(text: &'a str) -> Line<'a>
         requires { is_one_line text.now ≡ true }
         ensures { line_text result ≡ text.now }
     {

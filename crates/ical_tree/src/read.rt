@@ -1,5 +1,6 @@
 //! Reading an object: BEGIN and END pair up, and everything stands in one VCALENDAR (RFC 5545 3.4, 3.6).
 ghost use Rattle.std.specs.Prelude.{
+  MatchOption,
   ◌≡◌,
   ◌++◌,
   ◌∷◌,
@@ -30,7 +31,7 @@ ghost use Rattle.profile.specs.Objects.{is_end, is_property, is_calendar_name, h
 ghost use Rattle.ical_lines.specs.Breaks.{is_one_line};
 ghost use Rattle.ical_lines.specs.Fault.{RefusesOnly, RefusesBy};
 ghost use Rattle.ical_lines.specs.Limits.{is_bounded};
-ghost use Rattle.ical_lines.specs.Text.{lines_left};
+ghost use Rattle.ical_lines.specs.Text.{line_text, lines_left};
 ghost use Rattle.ical_tree.specs.Runs.{lines_after, run_lines};
 ghost use Rattle.ical_tree.specs.Tree.{IsObjectOf, component_name, component_lines, component_children};
 ghost use Rattle.ical_tree.specs.Reading.{Built, SpellsOf, IsCalendar, TreeHas, calendar_has, may_pair, names_of, open_view};
@@ -110,11 +111,9 @@ impl<'a> Reader<'a> {
         ensures stands { IfErr result (RefusesOnly (λ n. misplaced n (names_of (open_view self.old)) (is_some self.old.closed) text.now)) }
         ensures refuses { IfErr result (RefusesOnly is_object_fault) }
     {
-        if !may_pair(text) {
-            // Most lines end here: no part of them is looked for.
+        let Some(line) = paired_line(text) else {
             return Ok(self.add()?);
-        }
-        let line = Line::of(text);
+        };
         if line.is_named("BEGIN") {
             self.begin(alloc, line.value(), rest)
         } else if line.is_named("END") {
@@ -244,6 +243,17 @@ impl<'a> Reader<'a> {
         }
         self.closed.ok_or(Refusal::NOT_ONE_CALENDAR)
     }
+}
+
+/// The line of a text that may be a BEGIN or an END. Of most lines no part is looked for.
+fn paired_line(text: &str) -> Option<Line<'_>>
+    requires { is_one_line text.now ≡ true }
+    ensures { MatchOption result (may_pair text.now ≡ false) (λ line. line_text line ≡ text.now) }
+{
+    if !may_pair(text) {
+        return None;
+    }
+    Line::read(text)
 }
 
 /// Whether a line may be a BEGIN or an END, by its first octet.
