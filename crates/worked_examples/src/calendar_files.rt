@@ -72,9 +72,8 @@ pub fn times(alloc: Global, octets: &[u8]) -> Result<String, NoAnswer> {
 }
 
 fn times_of(alloc: Global, component: &Component, object: &Component) -> Result<String, NoAnswer> {
-    let event = read_event(alloc, object, component, Purpose::Series)?;
-    let start = event.times.instant.instant();
-    Ok(format!(in alloc; "from {start} for {}", event.times.seconds())?)
+    let times = read_event(alloc, object, component, Purpose::Series)?.times;
+    Ok(format!(in alloc; "from {} for {}", times.instant.instant(), times.seconds())?)
 }
 
 pub fn ends(alloc: Global, octets: &[u8]) -> Result<String, NoAnswer> {
