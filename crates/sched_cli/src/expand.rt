@@ -1,10 +1,11 @@
 //! `expand`: the instances of one event, one line each: its original start, its start, and how many seconds it lasts.
 
-ghost use Rattle.std.specs.Prelude.{◌≡◌, ◌++◌, ◌∷◌, ◌<◌, ℕ, List, [], decimal, Some, None, OnOk, IfOk, IfSome, IfNone};
+ghost use Rattle.std.specs.Prelude.{◌≡◌, ◌⊎◌, ◌++◌, ◌∷◌, ◌<◌, ℕ, List, [], decimal, Some, None, OnOk, IfOk, IfSome, IfNone};
 ghost use Rattle.std.specs.Io.KnownBytes.{Appends, Keeps};
 ghost use Rattle.profile.specs.Days.{day_index};
 ghost use Rattle.profile.specs.Values.{IsClockSeconds};
 ghost use Rattle.profile.specs.Rules.{rule_days_from};
+ghost use Rattle.profile.specs.Series.{SeriesTextFault};
 ghost use Rattle.profile.specs.Zones.{Means, IsNearEpoch, local_time};
 ghost use Rattle.profile.specs.Properties.{length_seconds};
 ghost use Rattle.profile.specs.ZonedTimes.{clock_of};
@@ -39,7 +40,9 @@ pub fn run_expand<W: Write, E: Write>(
     writer: &mut W,
     errors: &mut E,
 ) -> u8
-    ensures { result ≡ 0 → ExpandsTo octets.now limit (W.contents writer.old) (W.contents writer.new) }
+    ensures expands { result ≡ 0 → ExpandsTo octets.now limit (W.contents writer.old) (W.contents writer.new) }
+    ensures refused { result ≡ 3 → (n : ℕ) × SeriesTextFault octets.now n }
+    ensures status { (result ≡ 0) ⊎ (result ≡ 3) ⊎ (result ≡ 4) ⊎ (result ≡ 5) }
 {
     let event = match read_series(alloc, octets) {
         Ok(event) => event,
