@@ -10,17 +10,10 @@ use Rattle.profile.specs.Revisions.{Part, Whole, slot_cmp, same_meeting}
 use Rattle.profile.specs.Rooms.{Claim, Answer, Book, is_confirmed}
 use Rattle.profile.specs.Kept.{first_parts, IsKept, AreKeptOf, AreKept}
 use Rattle.room_books.specs.Keeping.{kept_of, kept_parts, kept, claims_of}
-use Rattle.room_books.proofs.Pairs.{Pairwise, pairs_from, pairs_short, map_at, pairs_filter, filter_and}
+use Rattle.room_books.proofs.Pairs.{Pairwise, pairs_from, pairs_short, map_at, map_from, pairs_filter, filter_and}
 use Rattle.room_books.proofs.KeptMeetings.{AnswersApart, of_part, meeting_sym, meeting_trans}
 
 -- ---- a meeting of which at most one answer is kept
-
-claim_from : (xs : List Answer) (a : Answer) → Contains xs a → Contains (claims_of xs) a.claim
-claim_from [] a c = absurd (none_in_nil a c)
-claim_from (x ∷ xs) a c = elim (in_cons x xs a c) [
-  | inl here ↦ subst (λ (y : Answer). Contains (claims_of (x ∷ xs)) y.claim) here (in_head x.claim (claims_of xs))
-  | inr there ↦ in_tail x.claim (claims_of xs) a.claim (claim_from xs a there)
-]
 
 short_kept : (book : Book) (first : Part) → length (kept_of book first) ≤ 1 → AreKeptOf book first (claims_of (kept_of book first))
 short_kept book first few = record {
@@ -33,7 +26,7 @@ short_kept book first few = record {
     λ k.
         let own : same_meeting first k.answer.claim.part ≡ true = subst (λ (x : Claim). same_meeting first x.part ≡ true) (sym k.to) k.of_meeting in
         let here = filter_from (λ a. same_meeting first a.claim.part && is_confirmed book.taken a) book.answers k.answer k.given (and_from _ _ own k.confirms) in
-        subst (λ (x : Claim). Contains (claims_of (kept_of book first)) x) k.to (claim_from (kept_of book first) k.answer here),
+        subst (λ (x : Claim). Contains (claims_of (kept_of book first)) x) k.to (map_from (λ (a : Answer). a.claim) (kept_of book first) k.answer here),
   );
   order =
       let R : Claim → Claim → Type 0 = λ a b. slot_cmp a.part.slot b.part.slot ≡ Less in

@@ -114,3 +114,11 @@ module _ {X Y : Type 0} where
     λ y c. let found = map_at f xs y c in subst (λ (z : Y). R (f x) z) found.2 (p.0 found.0 found.1),
     pairs_map R f xs p.1,
   )
+
+  pub map_from : (f : X → Y) (xs : List X) (x : X) → Contains xs x → Contains (map f xs) (f x)
+  map_from f [] x c = absurd (none_in_nil x c)
+  map_from f (y ∷ xs) x c =
+      elim (in_cons y xs x c) [
+        | inl here ↦ subst (λ (z : X). Contains (map f (y ∷ xs)) (f z)) here (in_head (f y) (map f xs))
+        | inr there ↦ in_tail (f y) (map f xs) (f x) (map_from f xs x there)
+      ]

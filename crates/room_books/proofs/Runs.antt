@@ -10,6 +10,7 @@ use Rattle.profile.specs.Revisions.{Part, in_view}
 use Rattle.profile.specs.Messages.{Outcome, Accept, Busy, SeriesLimit, SinglesLimit}
 use Rattle.profile.specs.Rooms.{Claim, Answer, Book, empty_book, is_accept, is_confirmed, confirmed_in, confirmed, is_fresh, is_set, parts_of, asked, most_singles, Decides, answered, IsStep, Delivery, Runs}
 use Rattle.itip_order.proofs.Lists.{in_cons, in_head, in_tail, none_in_nil, filter_at}
+use Rattle.room_books.proofs.Pairs.{map_from}
 use Rattle.room_books.proofs.Views.{view_back}
 
 -- clear, and no more than the limit
@@ -113,14 +114,6 @@ answered_part moment outcome (x ∷ xs) a c =
       | inr there ↦ let rest = answered_part moment outcome xs a there in (rest.0, in_tail x xs rest.0 rest.1, rest.2)
     ]
 
-part_among : (claims : List Claim) (c : Claim) → Contains claims c → Contains (parts_of claims) c.part
-part_among [] c h = absurd (none_in_nil c h)
-part_among (x ∷ xs) c h =
-    elim (in_cons x xs c h) [
-      | inl here ↦ subst (λ (y : Claim). Contains (parts_of (x ∷ xs)) y.part) here (in_head x.part (parts_of xs))
-      | inr there ↦ in_tail x.part (parts_of xs) c.part (part_among xs c there)
-    ]
-
 -- a step from a sound book leads to a sound book
 pub step_sound : (before : Book) (claims : List Claim) (moment : ℤ) (outcome : Outcome) (after : Book) → IsStep before claims moment outcome after → IsSound before → IsSound after
 step_sound before claims moment outcome after s sound =
@@ -138,7 +131,7 @@ step_sound before claims moment outcome after s sound =
             | inr new ↦
                 let found = answered_part moment outcome asked_now a new in
                 Contains-append_right before.taken (parts_of claims) a.claim.part
-                (subst (λ (c : Claim). Contains (parts_of claims) c.part) (sym found.2) (part_among claims found.0 (is_asked found.0 found.1).0))
+                (subst (λ (c : Claim). Contains (parts_of claims) c.part) (sym found.2) (map_from (λ (c : Claim). c.part) claims found.0 (is_asked found.0 found.1).0))
           ]);
       good = subst Good (sym (ap (confirmed_in after.taken) s.answers ∙ confirmed_split after.taken before.answers (answered moment outcome asked_now))) now;
     }
