@@ -20,7 +20,7 @@ IsLastAllowed zone second (Some (UntilDay number)) last = last ≡ day_index num
 IsLastAllowed zone second (Some (UntilLocal local)) last = (instant : ℤ) × Means zone local instant × IsLastDay zone second instant last
 IsLastAllowed zone second (Some (UntilInstant instant)) last = IsLastDay zone second instant last
 
--- UNTIL allows no day from 0001-01-01 on
+-- UNTIL allows no day from 0001-01-01 on, whose index is 366
 abbrev pub AllowsNone : Zone → ℕ → Option Until → Type 0
 AllowsNone zone second None = ⊥
 AllowsNone zone second (Some (UntilDay number)) = ⊥
