@@ -94,7 +94,7 @@ greatest_of h q c =
     )
 
 -- the order of parts is that of revisions first
-revision_le : (r b : Ordering) → is_le (ordering_then r b) ≡ true → is_gt r ≡ false
+pub revision_le : (r b : Ordering) → is_le (ordering_then r b) ≡ true → is_gt r ≡ false
 revision_le Less b e = refl
 revision_le Equal b e = refl
 revision_le Greater b e = absurd (true≢false (sym e))

@@ -3,7 +3,7 @@ use Rattle.std.specs.Prelude.{◌≡◌, ℕ, ◌<◌, ◌≤◌, Bool, true, fa
 use Rattle.std.specs.List.{flat_map, list_any}
 use Rattle.std.specs.declared.cmp.Ordering.TheVariants.{Less}
 use Rattle.profile.specs.Instances.{Key, Booked, IsClash, IsClear, booked_cmp}
-use Rattle.profile.specs.Revisions.{Part, Body, Set, Absent, Cancelled, in_view, same_part}
+use Rattle.profile.specs.Revisions.{Part, Body, At, Set, Absent, Cancelled, in_view, is_whole, same_part, same_place}
 use Rattle.profile.specs.Messages.{Outcome, Accept, Busy, SeriesLimit, SinglesLimit}
 
 -- ---- what a room keeps
@@ -40,9 +40,19 @@ is_accept SinglesLimit = false
 abbrev pub is_confirmed : List Part → Answer → Bool
 is_confirmed taken answer = is_accept answer.outcome && in_view taken answer.claim.part
 
+-- the instance is one of a Whole, and a part of that meeting in the view is of its slot: the instance is as that part says, moved, cancelled
+-- or of no concern to this room (RFC 5545 3.8.4.4)
+abbrev pub is_hidden : List Part → Part → Booked → Bool
+is_hidden taken part booked =
+    is_whole part && list_any (λ other. in_view taken other && same_place other (record part { slot = At booked.key.slot })) taken
+
+-- the instances of an answer that no other part hides
+abbrev pub left_of : List Part → Answer → List Booked
+left_of taken answer = filter (λ booked. not (is_hidden taken answer.claim.part booked)) answer.claim.singles
+
 -- the confirmed instances, where these parts were taken and so answered
 abbrev pub confirmed_in : List Part → List Answer → List Booked
-confirmed_in taken answers = flat_map (λ a. a.claim.singles) (filter (is_confirmed taken) answers)
+confirmed_in taken answers = flat_map (left_of taken) (filter (is_confirmed taken) answers)
 
 abbrev pub confirmed : Book → List Booked
 confirmed book = confirmed_in book.taken book.answers

@@ -1,7 +1,7 @@
 -- Worked examples of the definitions of a room: a request that is accepted, one that is declined, and a repeat.
 use Rattle.std.proofs.Common.{◌≡◌, ℕ, pos, [], ◌∷◌, refl}
 use Rattle.profile.specs.Instances.{Key, Booked}
-use Rattle.profile.specs.Revisions.{Part, Whole, Set}
+use Rattle.profile.specs.Revisions.{Part, Whole, At, Body, Set, Absent, Cancelled}
 use Rattle.profile.specs.Messages.{Accept, Busy, SinglesLimit}
 use Rattle.profile.specs.Rooms.{Claim, Book, confirmed, asked, kind_of, shown, answered, Accepted, Declined, Repeated, Stale, NotAddressed}
 use Rattle.room_books.specs.Keeping.{kept}
@@ -89,3 +89,37 @@ none_is_not_addressed = refl
 
 kept_is_first : kept one_declined ≡ record { claim = first; moment = pos 28800; outcome = Accept } ∷ []
 kept_is_first = refl
+
+-- ---- an instance that a part hides
+
+-- what is said of one slot of the first meeting, in its next revision
+abbrev slot_part : ℕ → ℕ → Body → Part
+slot_part uid slot body = record {
+  organiser = 97 ∷ [];
+  uid = uid ∷ [];
+  slot = At (pos slot);
+  revision = record { sequence = 1; stamp = pos 100 };
+  body = body;
+}
+
+abbrev with_part : Part → Book
+with_part part = record { taken = first.part ∷ part ∷ []; answers = answered (pos 28800) Accept (first ∷ []) }
+
+the_cancelled_is_gone : confirmed (with_part (slot_part 49 32400 Cancelled)) ≡ []
+the_cancelled_is_gone = refl
+
+one_without_the_room_is_gone : confirmed (with_part (slot_part 49 32400 Absent)) ≡ []
+one_without_the_room_is_gone = refl
+
+another_slot_hides_nothing : confirmed (with_part (slot_part 49 36000 Cancelled)) ≡ booked_at 49 32400 36000 ∷ []
+another_slot_hides_nothing = refl
+
+another_meeting_hides_nothing : confirmed (with_part (slot_part 50 32400 Cancelled)) ≡ booked_at 49 32400 36000 ∷ []
+another_meeting_hides_nothing = refl
+
+-- the instance of nine o'clock, moved to noon and accepted there, holds the room at noon alone
+abbrev noon : Claim
+noon = record { part = slot_part 49 32400 (Set (83 ∷ [])); content = []; singles = record { key = key_of 49 32400; start = pos 43200; end = pos 46800 } ∷ [] }
+
+the_moved_is_where_it_went : confirmed (record { taken = first.part ∷ noon.part ∷ []; answers = answered (pos 28800) Accept (first ∷ noon ∷ []) }) ≡ noon.singles
+the_moved_is_where_it_went = refl

@@ -33,6 +33,7 @@ use Rattle.room_books.proofs.Arrivals.{key_meeting}
 use Rattle.room_books.proofs.Bodies.{body_of, same_octets}
 use Rattle.room_books.proofs.Meetings.{is_of_same, place_whole, view_of, view_whole}
 use Rattle.room_books.proofs.Partition.{partition}
+use Rattle.room_books.proofs.Views.{confirmed_all}
 use Rattle.room_books.proofs.Stepping.{key_laws, found_entry}
 use Rattle.room_books.proofs.Writing.{push_line, push_lines, no_lines, both_written, zip_at, zip_length}
 
@@ -80,7 +81,7 @@ module _ (entries : List (MeetingKey × Meeting)) (book : Book) (key : MeetingKe
   kept_length =
       ap length (kept_is book key part of_key)
       ∙ sym (length_flat (filter (is_confirmed book.taken) (answers_of key book.answers)) (λ a c. (st.single a (kept_at book key a c).given).one))
-      ∙ ap length meets.confirmed
+      ∙ ap length (sym (confirmed_all book.taken st.whole (answers_of key book.answers)) ∙ meets.confirmed)
 
   pub none_kept : confirmed_span meeting.decided ≡ None → kept_of book part ≡ []
   none_kept e = nil_from_length (kept_of book part) (kept_length ∙ ap (λ s. length (booked_list key s)) e)

@@ -25,6 +25,7 @@ use Rattle.room_books.proofs.KeptAnswers.{IsAsked, ReadsBack, reads_back}
 use Rattle.room_books.proofs.Pairs.{Pairwise, flat_at, flat_from}
 use Rattle.room_books.proofs.KeptMeetings.{meeting_of, AnswersApart, meetings_differ, kept_is, firsts_apart, firsts_cover, of_part, grouped, grouped_long, grouped_among, grouped_apart}
 use Rattle.room_books.proofs.KeptRuns.{KeepsAll, runs_keep}
+use Rattle.room_books.proofs.Views.{confirmed_all}
 
 abbrev books : Answer → List Booked
 books a = a.claim.singles
@@ -116,9 +117,12 @@ kept_well room book k =
     let covered = λ (a : Answer) (c : Contains xs a). firsts_cover book.taken a.claim.part (k.sound.known a (filter_at (is_confirmed book.taken) book.answers a c).0) in
     let long : length (kept book) ≡ length xs = ap length (kept_is book) ∙ grouped_long parts xs (firsts_apart book.taken) covered in
     let each = λ (a : Answer) (c : Contains (kept book) a). asked a (among a c) in
-    let same : length (confirmed book) ≡ length (flat_map books (kept book)) = one_each room xs asked ∙ sym long ∙ sym (one_each room (kept book) each) in
+    let all : confirmed book ≡ flat_map books xs = confirmed_all book.taken k.whole book.answers in
+    let same : length (confirmed book) ≡ length (flat_map books (kept book)) = ap length all ∙ one_each room xs asked ∙ sym long ∙ sym (one_each room (kept book) each) in
     let within : IsWithin (flat_map books (kept book)) (confirmed book) = record {
-      among = λ b c. let found = flat_at books (kept book) b c in flat_from books xs found.0 b (among found.0 found.1) found.2;
+      among = λ b c.
+          let found = flat_at books (kept book) b c in
+          subst (λ (l : List Booked). Contains l b) (sym all) (flat_from books xs found.0 b (among found.0 found.1) found.2);
       shorter = omega (arith, same);
     } in
     record {
@@ -163,7 +167,7 @@ keeps_pass back reads room book keeps calendar k =
 kept_back : (room : List ℕ) (book : Book) → KeepsAll room book → (b : Booked) → Contains (confirmed book) b → Contains (flat_map books (kept book)) b
 kept_back room book k b c =
     let xs = filter (is_confirmed book.taken) book.answers in
-    let found = flat_at books xs b c in
+    let found = flat_at books xs b (subst (λ (l : List Booked). Contains l b) (confirmed_all book.taken k.whole book.answers) c) in
     let a = found.0 in
     let answered = (filter_at (is_confirmed book.taken) book.answers a found.1).0 in
     let first = firsts_cover book.taken a.claim.part (k.sound.known a answered) in

@@ -13,7 +13,7 @@ use Rattle.profile.specs.Streams.{IsDelivered, AreClaims}
 use Rattle.itip_order.proofs.Lists.{in_cons, in_head, in_tail, none_in_nil, filter_at, filter_no_longer}
 use Rattle.itip_order.proofs.Order.{is_eq_true}
 use Rattle.itip_order.proofs.Registers.{greatest_at, greatest_unique}
-use Rattle.room_books.proofs.Views.{view_back}
+use Rattle.room_books.proofs.Views.{AllWhole, view_back}
 use Rattle.room_books.proofs.Runs.{IsSound, step_sound}
 use Rattle.room_books.proofs.KeptAnswers.{IsAsked}
 use Rattle.room_books.proofs.Pairs.{Pairwise, pairs_append, pairs_short, pairs_stronger, map_at}
@@ -55,6 +55,7 @@ one_whole taken p q whole other e v w =
 -- what holds of each book that is reached
 pub record KeepsAll (room : List ℕ) (book : Book) : Type 0 where
   pub sound : IsSound book
+  pub whole : AllWhole book.taken
   pub each : (a : Answer) → Contains book.answers a → IsAsked room a.claim
   pub apart : Pairwise AnswersApart (filter (is_confirmed book.taken) book.answers)
 
@@ -103,6 +104,10 @@ keeps_step room before claims moment outcome after one s k =
     both_ways _ n.gone (subst (λ (p : Part). in_view before.taken p ≡ true) same (known x old.0 v))) in
     record {
       sound = sound;
+      whole = subst AllWhole (sym s.taken) (λ p c. elim (Contains-append_cases before.taken (parts_of claims) p c) [
+        | inl old ↦ k.whole p old
+        | inr fresh ↦ let found = map_at (λ (x : Claim). x.part) claims p fresh in subst (λ (x : Part). x.slot ≡ Whole) found.2 (one.each found.0 found.1).part.slot
+      ]);
       each = λ a c.
           elim (Contains-append_cases before.answers new a (subst (λ (l : List Answer). Contains l a) s.answers c)) [
             | inl old ↦ k.each a old
@@ -117,6 +122,7 @@ keeps_none room = record {
     known = λ a c. absurd (none_in_nil a c);
     good = record { clear = λ a b t c. none_in_nil a c.first; few = omega arith };
   };
+  whole = λ p c. absurd (none_in_nil p c);
   each = λ a c. absurd (none_in_nil a c);
   apart = tt;
 }

@@ -13,7 +13,7 @@ use Rattle.std.proofs.lemmas.Slice.Eq.{bytes_eq-Decides}
 use Rattle.ical_values.specs.Octets.{address_octets, text_octets}
 use Rattle.profile.specs.Instances.{Booked}
 use Rattle.profile.specs.Revisions.{Part, Whole, Slot, octets_cmp, slot_cmp, meeting_cmp, part_cmp, same_place, is_whole, is_greatest, implies, allows, in_view, same_meeting, stands_beside}
-use Rattle.profile.specs.Rooms.{Answer, is_accept, is_confirmed, confirmed_in}
+use Rattle.profile.specs.Rooms.{Answer, is_accept, is_confirmed, left_of, confirmed_in}
 use Rattle.itip_order.proofs.Lists.{all_from, in_head, in_tail, filter_at, filter_from}
 use Rattle.itip_order.proofs.Order.{is_eq_true, then_equal}
 use Rattle.itip_order.proofs.Registers.{greatest_at, greatest_from, greatest_unique, eq_refl, place_sym, place_trans, part_le_trans, implies_from, part_le_refl}
@@ -21,7 +21,7 @@ use Rattle.room_books.specs.declared.meeting.MeetingKey.{MeetingKey}
 use Rattle.room_books.specs.declared.meeting.Span.{Span}
 use Rattle.room_books.specs.Views.{same_key, booked_of}
 use Rattle.room_books.specs.Standing.{is_of, of_meeting}
-use Rattle.room_books.proofs.Views.{le_unless, view_back}
+use Rattle.room_books.proofs.Views.{AllWhole, le_unless, view_back, confirmed_all}
 
 pub is_of_parts : (k : MeetingKey) (p : Part) → is_of k p ≡ true → (address_octets k.organiser ≡ p.organiser) × (text_octets k.uid ≡ p.uid)
 is_of_parts k p e =
@@ -115,7 +115,7 @@ view_stays k h q p taken w v e f stale = same_tests _ _ (view_back h (q ∷ []) 
     let top : is_le (part_cmp q p) ≡ true = elim (cases_Bool (is_le (part_cmp q p))) [
       | inl le ↦ le
       | inr not_le ↦
-          let below : is_le (part_cmp p q) ≡ true = le_unless q p (place_sym q p same) (and_right _ _ not_le) in
+          let below : is_le (part_cmp p q) ≡ true = le_unless q p not_le in
           let q_new : in_view (h ++ q ∷ []) q ≡ true = view_whole (h ++ q ∷ []) q v ∙ greatest_from (h ++ q ∷ []) q record {
             taken = Contains-push h q;
             top = λ y inside s. elim (Contains-push_cases h q y inside) [
@@ -159,8 +159,9 @@ filter_none f (x ∷ xs) h = ap (λ b. cond b (x ∷ filter f xs) (filter f xs))
 abbrev books : Answer → List Booked
 books a = a.claim.singles
 
-pub confirmed_same : (t u : List Part) (answers : List Answer) → ((a : Answer) → Contains answers a → in_view t a.claim.part ≡ in_view u a.claim.part) → confirmed_in t answers ≡ confirmed_in u answers
-confirmed_same t u answers h = ap (flat_map books) (filter_same (is_confirmed t) (is_confirmed u) answers (λ a c. ap (λ b. is_accept a.outcome && b) (h a c)))
+pub confirmed_same : (t u : List Part) (answers : List Answer) → AllWhole t → AllWhole u → ((a : Answer) → Contains answers a → in_view t a.claim.part ≡ in_view u a.claim.part) → confirmed_in t answers ≡ confirmed_in u answers
+confirmed_same t u answers v w h =
+    confirmed_all t v answers ∙ ap (flat_map books) (filter_same (is_confirmed t) (is_confirmed u) answers (λ a c. ap (λ b. is_accept a.outcome && b) (h a c))) ∙ sym (confirmed_all u w answers)
 
 pub confirmed_none : (t : List Part) (answers : List Answer) → ((a : Answer) → Contains answers a → in_view t a.claim.part ≡ false) → confirmed_in t answers ≡ []
-confirmed_none t answers h = ap (flat_map books) (filter_none (is_confirmed t) answers (λ a c. and_right (is_accept a.outcome) _ (h a c)))
+confirmed_none t answers h = ap (flat_map (left_of t)) (filter_none (is_confirmed t) answers (λ a c. and_right (is_accept a.outcome) _ (h a c)))

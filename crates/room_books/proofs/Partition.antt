@@ -7,7 +7,7 @@ use Rattle.std.proofs.lemmas.List.Elements.{Contains-append_left, Contains-appen
 use Rattle.std.proofs.lemmas.Map.Keys.{IsDistinct-head, IsDistinct-tail}
 use Rattle.profile.specs.Instances.{Booked}
 use Rattle.profile.specs.Revisions.{Part}
-use Rattle.profile.specs.Rooms.{Answer, is_confirmed, confirmed_in}
+use Rattle.profile.specs.Rooms.{Answer, is_confirmed, left_of, confirmed_in}
 use Rattle.itip_order.proofs.Lists.{in_cons, in_head, in_tail, none_in_nil, filter_at}
 use Rattle.room_books.specs.declared.meeting.MeetingKey.{MeetingKey}
 use Rattle.room_books.specs.declared.meeting.Meeting.{Meeting}
@@ -51,25 +51,22 @@ same_swap a b c = record {
       ]
     ]
 
-abbrev books : Answer → List Booked
-books a = a.claim.singles
-
 -- one answer more, which is confirmed or not, and is of the first kind or of the second
-split_step : (c p : Bool) (a : Answer) (all yes no : List Booked) → AreSame all (yes ++ no)
-    → AreSame (cond c (books a ++ all) all) ((cond p (cond c (books a ++ yes) yes) yes) ++ (cond (not p) (cond c (books a ++ no) no) no))
-split_step true true a all ys ns s = subst (AreSame (books a ++ all)) (sym (append_assoc (books a) ys ns)) (same_append (books a) (books a) all (ys ++ ns) (same_itself (books a)) s)
-split_step true false a all ys ns s = same_then _ _ _ (same_append (books a) (books a) all (ys ++ ns) (same_itself (books a)) s) (same_swap (books a) ys ns)
-split_step false true a all ys ns s = s
-split_step false false a all ys ns s = s
+split_step : (c p : Bool) (own all yes no : List Booked) → AreSame all (yes ++ no)
+    → AreSame (cond c (own ++ all) all) ((cond p (cond c (own ++ yes) yes) yes) ++ (cond (not p) (cond c (own ++ no) no) no))
+split_step true true own all ys ns s = subst (AreSame (own ++ all)) (sym (append_assoc own ys ns)) (same_append own own all (ys ++ ns) (same_itself own) s)
+split_step true false own all ys ns s = same_then _ _ _ (same_append own own all (ys ++ ns) (same_itself own) s) (same_swap own ys ns)
+split_step false true own all ys ns s = s
+split_step false false own all ys ns s = s
 
-flat_cond : (b : Bool) (a : Answer) (xs : List Answer) → flat_map books (cond b (a ∷ xs) xs) ≡ cond b (books a ++ flat_map books xs) (flat_map books xs)
-flat_cond true a xs = refl
-flat_cond false a xs = refl
+flat_cond : (f : Answer → List Booked) (b : Bool) (a : Answer) (xs : List Answer) → flat_map f (cond b (a ∷ xs) xs) ≡ cond b (f a ++ flat_map f xs) (flat_map f xs)
+flat_cond f true a xs = refl
+flat_cond f false a xs = refl
 
-confirmed_cons : (t : List Part) (a : Answer) (xs : List Answer) → confirmed_in t (a ∷ xs) ≡ cond (is_confirmed t a) (books a ++ confirmed_in t xs) (confirmed_in t xs)
-confirmed_cons t a xs = flat_cond (is_confirmed t a) a (filter (is_confirmed t) xs)
+confirmed_cons : (t : List Part) (a : Answer) (xs : List Answer) → confirmed_in t (a ∷ xs) ≡ cond (is_confirmed t a) (left_of t a ++ confirmed_in t xs) (confirmed_in t xs)
+confirmed_cons t a xs = flat_cond (left_of t) (is_confirmed t a) a (filter (is_confirmed t) xs)
 
-confirmed_cond : (t : List Part) (b : Bool) (a : Answer) (xs : List Answer) → confirmed_in t (cond b (a ∷ xs) xs) ≡ cond b (cond (is_confirmed t a) (books a ++ confirmed_in t xs) (confirmed_in t xs)) (confirmed_in t xs)
+confirmed_cond : (t : List Part) (b : Bool) (a : Answer) (xs : List Answer) → confirmed_in t (cond b (a ∷ xs) xs) ≡ cond b (cond (is_confirmed t a) (left_of t a ++ confirmed_in t xs) (confirmed_in t xs)) (confirmed_in t xs)
 confirmed_cond t true a xs = confirmed_cons t a xs
 confirmed_cond t false a xs = refl
 
@@ -81,8 +78,8 @@ confirmed_split t f (a ∷ xs) =
     let y = confirmed_cond t (f a) a (filter f xs) in
     let n = confirmed_cond t (not (f a)) a (filter (λ x. not (f x)) xs) in
     let P : List Booked → Type 0 = λ z. AreSame z (confirmed_in t (filter f (a ∷ xs)) ++ confirmed_in t (filter (λ x. not (f x)) (a ∷ xs))) in
-    subst P (sym l) (subst (AreSame (cond (is_confirmed t a) (books a ++ confirmed_in t xs) (confirmed_in t xs))) (sym (λ i. y i ++ n i))
-    (split_step (is_confirmed t a) (f a) a (confirmed_in t xs) (confirmed_in t (filter f xs)) (confirmed_in t (filter (λ x. not (f x)) xs)) rest))
+    subst P (sym l) (subst (AreSame (cond (is_confirmed t a) (left_of t a ++ confirmed_in t xs) (confirmed_in t xs))) (sym (λ i. y i ++ n i))
+    (split_step (is_confirmed t a) (f a) (left_of t a) (confirmed_in t xs) (confirmed_in t (filter f xs)) (confirmed_in t (filter (λ x. not (f x)) xs)) rest))
 
 -- answers of one meeting are not among those of another
 apart_step : (q : MeetingKey) (b : Bool) (a : Answer) (rest xs : List Answer) → answers_of q rest ≡ answers_of q xs → (b ≡ true → is_of q a.claim.part ≡ false) → answers_of q (cond (not b) (a ∷ rest) rest) ≡ answers_of q (a ∷ xs)
@@ -108,7 +105,7 @@ pub partition : (t : List Part) (es : List (MeetingKey × Meeting)) (xs : List A
     → ((e : MeetingKey × Meeting) → Contains es e → confirmed_in t (answers_of e.0 xs) ≡ confirmed_of e)
     → AreSame (confirmed_in t xs) (all_confirmed es)
 partition t [] xs d covered each =
-    let none : confirmed_in t xs ≡ [] = ap (flat_map books) (filter_none (is_confirmed t) xs (λ a c. false_from_ne_true _ (λ h. none_in_nil _ (covered a c h).1))) in
+    let none : confirmed_in t xs ≡ [] = ap (flat_map (left_of t)) (filter_none (is_confirmed t) xs (λ a c. false_from_ne_true _ (λ h. none_in_nil _ (covered a c h).1))) in
     subst (λ (l : List Booked). AreSame l []) (sym none) (same_itself [])
 partition t (e ∷ es) xs d covered each =
     let own = λ (a : Answer). is_of e.0 a.claim.part in

@@ -1,17 +1,17 @@
 -- Over every run the confirmed instances are clear, and no more than the limit.
-use Rattle.std.proofs.Common.{◌≡◌, ℤ, ◌≤◌, Bool, true, false, ◌&&◌, cond, List, [], ◌∷◌, ◌++◌, inl, inr, refl, sym, ap, ◌∙◌, subst, length, arith, length-append, append-nil}
+use Rattle.std.proofs.Common.{◌≡◌, ℤ, ◌≤◌, Bool, true, false, not, ◌&&◌, cond, List, [], ◌∷◌, ◌++◌, inl, inr, refl, sym, ap, ◌∙◌, subst, length, arith, length-append, append-nil}
 use Rattle.std.specs.Prelude.{IsTrue, nat_lt}
 use Rattle.std.specs.List.{Contains, filter, flat_map}
-use Rattle.std.proofs.lemmas.Bool.{and_parts, and_from, true≢false, lt-ltb}
+use Rattle.std.proofs.lemmas.Bool.{and_parts, and_from, true≢false, both_ways, not-true, not_from_false, false_from_ne_true, lt-ltb}
 use Rattle.std.proofs.lemmas.List.Elements.{Contains-append_left, Contains-append_right, Contains-append_cases, filter-append}
 use Rattle.std.proofs.lemmas.Grind.{flat_map-append}
 use Rattle.profile.specs.Instances.{Booked, IsClear}
 use Rattle.profile.specs.Revisions.{Part, in_view}
 use Rattle.profile.specs.Messages.{Outcome, Accept, Busy, SeriesLimit, SinglesLimit}
-use Rattle.profile.specs.Rooms.{Claim, Answer, Book, empty_book, is_accept, is_confirmed, confirmed_in, confirmed, is_fresh, is_set, parts_of, asked, most_singles, Decides, answered, IsStep, Delivery, Runs}
+use Rattle.profile.specs.Rooms.{Claim, Answer, Book, empty_book, is_accept, is_confirmed, is_hidden, left_of, confirmed_in, confirmed, is_fresh, is_set, parts_of, asked, most_singles, Decides, answered, IsStep, Delivery, Runs}
 use Rattle.itip_order.proofs.Lists.{in_cons, in_head, in_tail, none_in_nil, filter_at}
 use Rattle.room_books.proofs.Pairs.{map_from}
-use Rattle.room_books.proofs.Views.{view_back}
+use Rattle.room_books.proofs.Views.{view_back, hidden_stays}
 
 -- clear, and no more than the limit
 pub record Good (xs : List Booked) : Type 0 where
@@ -43,13 +43,13 @@ within_good xs ys w g = record {
 within_itself : (xs : List Booked) → IsWithin xs xs
 within_itself xs = record { among = λ x c. c; shorter = omega arith }
 
-within_both : (f xs ys : List Booked) → IsWithin xs ys → IsWithin (f ++ xs) (f ++ ys)
-within_both f xs ys w = record {
+within_both : (f g xs ys : List Booked) → IsWithin f g → IsWithin xs ys → IsWithin (f ++ xs) (g ++ ys)
+within_both f g xs ys v w = record {
   among = λ x c. elim (Contains-append_cases f xs x c) [
-    | inl here ↦ Contains-append_left f ys x here
-    | inr there ↦ Contains-append_right f ys x (w.among x there)
+    | inl here ↦ Contains-append_left g ys x (v.among x here)
+    | inr there ↦ Contains-append_right g ys x (w.among x there)
   ];
-  shorter = let s = w.shorter in omega (arith, length-append f xs, length-append f ys);
+  shorter = let s = w.shorter in let t = v.shorter in omega (arith, length-append f xs, length-append g ys);
 }
 
 within_more : (f xs ys : List Booked) → IsWithin xs ys → IsWithin xs (f ++ ys)
@@ -58,34 +58,48 @@ within_more f xs ys w = record {
   shorter = let s = w.shorter in omega (arith, length-append f ys);
 }
 
-abbrev books : Answer → List Booked
-books a = a.claim.singles
+-- a stronger test keeps fewer instances
+within_test : (q p : Booked → Bool) (xs : List Booked) → ((b : Booked) → q b ≡ true → p b ≡ true) → IsWithin (filter q xs) (filter p xs)
+within_test q p [] f = within_itself []
+within_test q p (b ∷ xs) f = step (q b) (p b) (f b) (within_test q p xs f)
+  where
+    step : (c d : Bool) → (c ≡ true → d ≡ true) → IsWithin (filter q xs) (filter p xs) → IsWithin (cond c (b ∷ filter q xs) (filter q xs)) (cond d (b ∷ filter p xs) (filter p xs))
+    step true true f w = within_both (b ∷ []) (b ∷ []) (filter q xs) (filter p xs) (within_itself (b ∷ [])) w
+    step true false f w = absurd (true≢false (sym (f refl)))
+    step false true f w = within_more (b ∷ []) (filter q xs) (filter p xs) w
+    step false false f w = w
 
-within_step : (q p : Bool) (a : Answer) (xs ys : List Answer) → (q ≡ true → p ≡ true) → IsWithin (flat_map books xs) (flat_map books ys) → IsWithin (flat_map books (cond q (a ∷ xs) xs)) (flat_map books (cond p (a ∷ ys) ys))
-within_step true true a xs ys f w = within_both (books a) (flat_map books xs) (flat_map books ys) w
-within_step true false a xs ys f w = absurd (true≢false (sym (f refl)))
-within_step false true a xs ys f w = within_more (books a) (flat_map books xs) (flat_map books ys) w
-within_step false false a xs ys f w = w
-
--- a stronger test keeps fewer
-within_filter : (q p : Answer → Bool) (xs : List Answer) → ((a : Answer) → Contains xs a → q a ≡ true → p a ≡ true) → IsWithin (flat_map books (filter q xs)) (flat_map books (filter p xs))
-within_filter q p [] f = within_itself []
-within_filter q p (a ∷ xs) f = within_step (q a) (p a) a (filter q xs) (filter p xs) (f a (in_head a xs)) (within_filter q p xs (λ x c. f x (in_tail a xs x c)))
+-- and of fewer answers, each with fewer instances, there are fewer
+within_filter : (q p : Answer → Bool) (f g : Answer → List Booked) (xs : List Answer) → ((a : Answer) → Contains xs a → q a ≡ true → (p a ≡ true) × IsWithin (f a) (g a))
+    → IsWithin (flat_map f (filter q xs)) (flat_map g (filter p xs))
+within_filter q p f g [] h = within_itself []
+within_filter q p f g (a ∷ xs) h = step (q a) (p a) (h a (in_head a xs)) (within_filter q p f g xs (λ x c. h x (in_tail a xs x c)))
+  where
+    step : (c d : Bool) → (c ≡ true → (d ≡ true) × IsWithin (f a) (g a)) → IsWithin (flat_map f (filter q xs)) (flat_map g (filter p xs))
+        → IsWithin (flat_map f (cond c (a ∷ filter q xs) (filter q xs))) (flat_map g (cond d (a ∷ filter p xs) (filter p xs)))
+    step true true h w = within_both (f a) (g a) (flat_map f (filter q xs)) (flat_map g (filter p xs)) (h refl).1 w
+    step true false h w = absurd (true≢false (sym (h refl).0))
+    step false true h w = within_more (g a) (flat_map f (filter q xs)) (flat_map g (filter p xs)) w
+    step false false h w = w
 
 -- after more parts the old answers confirm no more than before
 pub confirmed_back : (taken more : List Part) (answers : List Answer) → ((a : Answer) → Contains answers a → Contains taken a.claim.part) → IsWithin (confirmed_in (taken ++ more) answers) (confirmed_in taken answers)
 confirmed_back taken more answers known =
-    within_filter (is_confirmed (taken ++ more)) (is_confirmed taken) answers (λ a c e.
+    within_filter (is_confirmed (taken ++ more)) (is_confirmed taken) (left_of (taken ++ more)) (left_of taken) answers (λ a c e.
     let both = and_parts _ _ e in
-    and_from _ _ both.0 (view_back taken more a.claim.part (known a c) both.1))
+    let part = a.claim.part in (
+      and_from _ _ both.0 (view_back taken more part (known a c) both.1),
+      within_test (λ b. not (is_hidden (taken ++ more) part b)) (λ b. not (is_hidden taken part b)) a.claim.singles (λ b left.
+          not_from_false _ (false_from_ne_true _ (λ hidden. both_ways _ (not-true _ left) (hidden_stays taken more part b (known a c) both.1 hidden)))),
+    ))
 
 pub confirmed_split : (taken : List Part) (xs ys : List Answer) → confirmed_in taken (xs ++ ys) ≡ confirmed_in taken xs ++ confirmed_in taken ys
-confirmed_split taken xs ys = ap (flat_map books) (filter-append (is_confirmed taken) xs ys) ∙ flat_map-append books (filter (is_confirmed taken) xs) (filter (is_confirmed taken) ys)
+confirmed_split taken xs ys = ap (flat_map (left_of taken)) (filter-append (is_confirmed taken) xs ys) ∙ flat_map-append (left_of taken) (filter (is_confirmed taken) xs) (filter (is_confirmed taken) ys)
 
 declined_are : (taken : List Part) (moment : ℤ) (outcome : Outcome) (claims : List Claim) → is_accept outcome ≡ false → confirmed_in taken (answered moment outcome claims) ≡ []
 declined_are taken moment outcome [] e = refl
 declined_are taken moment outcome (c ∷ cs) e =
-    ap (λ b. flat_map books (cond (b && in_view taken c.part) (record { claim = c; moment = moment; outcome = outcome } ∷ filter (is_confirmed taken) (answered moment outcome cs)) (filter (is_confirmed taken) (answered moment outcome cs)))) e
+    ap (λ b. flat_map (left_of taken) (cond (b && in_view taken c.part) (record { claim = c; moment = moment; outcome = outcome } ∷ filter (is_confirmed taken) (answered moment outcome cs)) (filter (is_confirmed taken) (answered moment outcome cs)))) e
     ∙ declined_are taken moment outcome cs e
 
 good_none : (old : List Booked) (new : List Booked) → Good old → new ≡ [] → Good (old ++ new)

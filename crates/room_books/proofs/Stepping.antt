@@ -31,6 +31,7 @@ use Rattle.room_books.specs.Standing.{is_of, answers_of, MeetsAt, Stands}
 use Rattle.room_books.proofs.Keys.{key_congr}
 use Rattle.room_books.proofs.Meetings.{key_parts, key_from, is_of_same, one_meeting, view_other, view_stays, view_goes, confirmed_same, confirmed_none}
 use Rattle.room_books.proofs.Partition.{AreSame, partition}
+use Rattle.room_books.proofs.Views.{whole_more}
 
 pub key_laws : IsEquivalence same_key
 key_laws = record {
@@ -168,12 +169,12 @@ module _ (entries : List (MeetingKey × Meeting)) (book : Book) (k : MeetingKey)
 
   -- the answers of the other meetings confirm what they did
   pub others_stay : (q : MeetingKey) → same_key k q ≡ false → confirmed_in (book.taken ++ p ∷ []) (answers_of q book.answers) ≡ confirmed_in book.taken (answers_of q book.answers)
-  others_stay q d = confirmed_same (book.taken ++ p ∷ []) book.taken (answers_of q book.answers) (λ a c.
+  others_stay q d = confirmed_same (book.taken ++ p ∷ []) book.taken (answers_of q book.answers) (whole_more book.taken p st.whole w) st.whole (λ a c.
       let o = old_part q a c in view_other q book.taken p a.claim.part o.1 o.2 (other_of q d))
 
   -- where the part isn't fresh, so do those of its own
   pub own_stays : (in_view (book.taken ++ p ∷ []) p ≡ true → in_view book.taken p ≡ true) → confirmed_in (book.taken ++ p ∷ []) (answers_of k book.answers) ≡ confirmed_in book.taken (answers_of k book.answers)
-  own_stays stale = confirmed_same (book.taken ++ p ∷ []) book.taken (answers_of k book.answers) (λ a c.
+  own_stays stale = confirmed_same (book.taken ++ p ∷ []) book.taken (answers_of k book.answers) (whole_more book.taken p st.whole w) st.whole (λ a c.
       let o = old_part k a c in view_stays k book.taken p a.claim.part o.0 o.1 w o.2 of_k stale)
 
   module _ (fresh : in_view (book.taken ++ p ∷ []) p ≡ true) (before : in_view book.taken p ≡ false) where

@@ -42,6 +42,7 @@ use Rattle.room_books.proofs.Runs.{within_good, confirmed_back, confirmed_split,
 use Rattle.room_books.proofs.Meetings.{key_from, is_of_parts, is_of_from, is_of_same, booked_same, view_of, of_more_own, of_more_other, confirmed_none, view_other, view_stays, place_whole, view_whole}
 use Rattle.room_books.proofs.Stepping.{decides, others_differ, other_of, others_stay, own_stays, own_goes, others_same}
 use Rattle.room_books.proofs.Arrivals.{arrives}
+use Rattle.room_books.proofs.Views.{confirmed_all, whole_more}
 use Rattle.room_books.proofs.Dates.{told_span, span_told, others_dated, decision_dated}
 
 list_same : (k q : MeetingKey) (o : Option Span) → same_key k q ≡ true → booked_list k o ≡ booked_list q o
@@ -185,7 +186,9 @@ module _ (entries entries' : List (MeetingKey × Meeting)) (book : Book) (k : Me
         (others_same entries book k p st distinct of_k w fresh before) good.clear (others_differ k span entries) d.outcome decision)
 
     accepted_confirms : confirmed_in (book.taken ++ p ∷ []) (answered moment messages.Accept (own_claim ∷ [])) ≡ own_booked ∷ []
-    accepted_confirms = ap (λ b. flat_map (λ (a : Answer). a.claim.singles) (cond b (record { claim = own_claim; moment = moment; outcome = messages.Accept } ∷ []) [])) fresh
+    accepted_confirms =
+        confirmed_all (book.taken ++ p ∷ []) (whole_more book.taken p st.whole w) (answered moment messages.Accept (own_claim ∷ []))
+        ∙ ap (λ b. flat_map (λ (a : Answer). a.claim.singles) (cond b (record { claim = own_claim; moment = moment; outcome = messages.Accept } ∷ []) [])) fresh
 
     fresh_would : confirmed (if_accepted book (own_claim ∷ []) moment (book.taken ++ p ∷ [])) ≡ confirmed_in (book.taken ++ p ∷ []) book.answers ++ own_booked ∷ []
     fresh_would =
