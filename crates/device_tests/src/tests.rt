@@ -1,8 +1,9 @@
-//! Reads of one octet, and readers and writers that fail. What comes out of a whole stream is shown by the crate `worked_examples`.
+//! Readers and writers of few octets a call, that are interrupted or fail, and a writer that holds octets back until it is flushed. What comes
+//! out of a whole stream is shown by the crate `worked_examples`.
 
-use sched_box::{ServeFault, ServeReport, StreamFault, serve_stream};
+use sched_box::{DeviceReader, DeviceWriter, ServeFault, ServeReport, StreamFault, serve_stream};
 use std::alloc::Global;
-use std::io::{self, BufReader, ErrorKind, Read, Write};
+use std::io::{self, ErrorKind, Read, Write};
 use std::test::Fail;
 
 const STREAM: &str =
@@ -17,119 +18,277 @@ const ANSWERS: &str =
     ATTENDEE;PARTSTAT=ACCEPTED:mailto:r1@example.com\r\nREQUEST-STATUS:2.0;Success\r\nEND:VEVENT\r\nEND:VCALENDAR\r\n\
     REFUSED;OBJECT=2:99\r\n";
 
-/// A reader that gives an octet a call, and fails at one call, counted from 1.
-#[derive(Drop)]
-struct SlowReader<'a> {
-    left: &'a [u8],
-    calls_to_failure: u32,
+/// Calls that fail: so many, one after another, from one call on, counted from 1.
+#[derive(Clone, Copy)]
+struct Failures {
+    from: u32,
+    count: u32,
+    kind: ErrorKind,
+    calls: u32,
 }
 
-impl Read for SlowReader<'_> {
-    fn read(&mut self, buf: &mut [u8]) -> io::Result<usize> {
-        if self.calls_to_failure == 1 {
-            return Err(io::Error::from(ErrorKind::ConnectionReset));
+impl Failures {
+    fn new(from: u32, count: u32, kind: ErrorKind) -> Failures {
+        Failures {
+            from,
+            count,
+            kind,
+            calls: 0,
         }
-        self.calls_to_failure = self.calls_to_failure.saturating_sub(1);
-        let Some((first, rest)) = self.left.split_first() else {
-            return Ok(0);
-        };
-        if buf.is_empty() {
-            return Ok(0);
-        }
-        buf[0] = *first;
-        self.left = rest;
-        Ok(1)
-    }
-}
-
-/// A writer that takes an octet a call, and fails at one call, counted from 1.
-#[derive(Drop)]
-struct SlowWriter {
-    taken: Vec<u8>,
-    calls_to_failure: u32,
-}
-
-impl Write for SlowWriter {
-    fn write(&mut self, buf: &[u8]) -> io::Result<usize> {
-        if self.calls_to_failure == 1 {
-            return Err(io::Error::from(ErrorKind::BrokenPipe));
-        }
-        self.calls_to_failure = self.calls_to_failure.saturating_sub(1);
-        let Some(first) = buf.first() else {
-            return Ok(0);
-        };
-        self.taken.push(*first)?;
-        Ok(1)
     }
 
-    fn flush(&mut self) -> io::Result<()> {
+    fn none() -> Failures {
+        Failures::new(u32::MAX, 0, ErrorKind::Other)
+    }
+
+    /// One call more.
+    fn call(&mut self) -> io::Result<()> {
+        self.calls = self.calls.saturating_add(1);
+        if self.calls >= self.from && self.calls - self.from < self.count {
+            return Err(io::Error::from(self.kind));
+        }
         Ok(())
     }
 }
 
-fn served(
-    alloc: Global,
-    read_failure: u32,
-    write_failure: u32,
-) -> Result<(Result<ServeReport, StreamFault>, Vec<u8>), Fail> {
-    let slow = SlowReader {
-        left: STREAM.as_bytes(),
-        calls_to_failure: read_failure,
-    };
-    let mut reader = BufReader::new(alloc, slow)?;
-    let mut writer = SlowWriter {
-        taken: Vec::new(alloc),
-        calls_to_failure: write_failure,
-    };
-    let report = serve_stream(alloc, &mut reader, &mut writer);
-    Ok((report, writer.taken))
+/// A reader that gives at most so many octets a call.
+#[derive(Drop)]
+struct SlowReader<'a> {
+    left: &'a [u8],
+    most: usize,
+    failures: Failures,
 }
 
-#[test]
-fn reads_of_one_octet_give_the_same_answers(rt: HostRuntime) -> Result<(), Fail> {
-    let (report, written) = served(rt.alloc(), 0, 0)?;
-    let expected = ServeReport {
-        objects: 2,
-        refused: 1,
-    };
-    assert_eq!(rt; report, Ok(expected));
-    assert_eq!(rt; written.as_slice(), ANSWERS.as_bytes());
-    Ok(())
+impl Read for SlowReader<'_> {
+    fn read(&mut self, buf: &mut [u8]) -> io::Result<usize> {
+        self.failures.call()?;
+        let count = self.most.min(buf.len()).min(self.left.len());
+        let (front, rest) = self.left.split_at(count);
+        buf[..count].copy_from_slice(front);
+        self.left = rest;
+        Ok(count)
+    }
 }
 
-#[test]
-fn a_reader_that_fails_ends_the_call(rt: HostRuntime) -> Result<(), Fail> {
-    for call in 1..400u32 {
-        let (report, written) = served(rt.alloc(), call, 0)?;
-        if call as usize <= STREAM.len() {
-            assert_eq!(rt;
-                report,
-                Err(StreamFault::Serve(ServeFault::Read)),
-                "at call {call}"
-            );
+/// A writer that takes at most so many octets a call, and sends them on when it is flushed.
+#[derive(Drop)]
+struct SlowWriter {
+    held: Vec<u8>,
+    sent: Vec<u8>,
+    most: usize,
+    failures: Failures,
+    flushes: Failures,
+}
+
+impl Write for SlowWriter {
+    fn write(&mut self, buf: &[u8]) -> io::Result<usize> {
+        self.failures.call()?;
+        let count = self.most.min(buf.len());
+        self.held.extend_from_slice(&buf[..count])?;
+        Ok(count)
+    }
+
+    fn flush(&mut self) -> io::Result<()> {
+        self.flushes.call()?;
+        self.sent.extend_from_slice(self.held.as_slice())?;
+        self.held.clear();
+        Ok(())
+    }
+}
+
+/// A stream that is served: the octets of it that a read and a write take at most, the reader's buffer, and which calls fail.
+#[derive(Clone, Copy)]
+struct Devices {
+    read: usize,
+    buffer: usize,
+    write: usize,
+    reads: Failures,
+    writes: Failures,
+    flushes: Failures,
+}
+
+impl Devices {
+    fn of_octets(read: usize, buffer: usize, write: usize) -> Devices {
+        Devices {
+            read,
+            buffer,
+            write,
+            reads: Failures::none(),
+            writes: Failures::none(),
+            flushes: Failures::none(),
         }
-        assert!(rt;
-            ANSWERS.as_bytes().starts_with(written.as_slice()),
-            "at call {call}"
-        );
+    }
+
+    /// What came of the stream, and what was sent on.
+    fn serve(
+        self,
+        alloc: Global,
+    ) -> Result<(Result<ServeReport, StreamFault>, DeviceWriter<SlowWriter>), Fail> {
+        let slow = SlowReader {
+            left: STREAM.as_bytes(),
+            most: self.read,
+            failures: self.reads,
+        };
+        let mut reader = DeviceReader::with_capacity(alloc, self.buffer, slow)?;
+        let mut writer = DeviceWriter::new(SlowWriter {
+            held: Vec::new(alloc),
+            sent: Vec::new(alloc),
+            most: self.write,
+            failures: self.writes,
+            flushes: self.flushes,
+        });
+        let report = serve_stream(alloc, &mut reader, &mut writer);
+        Ok((report, writer))
+    }
+}
+
+const SERVED: ServeReport = ServeReport {
+    objects: 2,
+    refused: 1,
+};
+
+/// The answer to the first object: all but the line of the refusal.
+fn first_answer() -> &'static [u8] {
+    match ANSWERS.strip_suffix("REFUSED;OBJECT=2:99\r\n") {
+        Some(first) => first.as_bytes(),
+        None => ANSWERS.as_bytes(),
+    }
+}
+
+/// How many octets the preamble and the first object have.
+const FIRST_END: usize = STREAM.len()
+    - "BEGIN:VCALENDAR\r\nVERSION:2.0\r\nMETHOD:CANCEL\r\nEND:VCALENDAR\r\n".len();
+
+#[test]
+fn few_octets_and_interrupted_calls_change_nothing(rt: HostRuntime) -> Result<(), Fail> {
+    let alloc = rt.alloc();
+    let whole = Devices::of_octets(8_192, 8_192, 8_192);
+    let mut rows = Vec::new(alloc);
+    for octets in [1, 2, 3, 7, 64] {
+        rows.push(Devices::of_octets(octets, 8_192, octets))?;
+        rows.push(Devices::of_octets(8_192, octets, 8_192))?;
+    }
+    for call in [1, 2] {
+        let interrupted = Failures::new(call, 999, ErrorKind::Interrupted);
+        rows.push(Devices {
+            reads: interrupted,
+            ..whole
+        })?;
+        rows.push(Devices {
+            writes: interrupted,
+            ..whole
+        })?;
+    }
+    for row in rows.iter() {
+        let (report, writer) = row.serve(alloc)?;
+        let sent = writer.get_ref().sent.as_slice();
+        assert_eq!(rt; report, Ok(SERVED));
+        assert_eq!(rt; sent, ANSWERS.as_bytes());
     }
     Ok(())
 }
 
 #[test]
-fn a_writer_that_fails_ends_the_call(rt: HostRuntime) -> Result<(), Fail> {
-    for call in 1..400u32 {
-        let (report, written) = served(rt.alloc(), 0, call)?;
-        if call as usize <= ANSWERS.len() {
-            assert_eq!(rt;
-                report,
-                Err(StreamFault::Serve(ServeFault::Write)),
-                "at call {call}"
-            );
-            assert_eq!(rt; written.len() + 1, call as usize);
-        }
+fn a_device_that_fails_is_named(rt: HostRuntime) -> Result<(), Fail> {
+    let alloc = rt.alloc();
+    let none: &[u8] = b"";
+    let whole = Devices::of_octets(8_192, 8_192, 8_192);
+    let endless = Failures::new(1, u32::MAX, ErrorKind::Interrupted);
+    let broken = Failures::new(1, 1, ErrorKind::BrokenPipe);
+    let second = Failures::new(2, 1, ErrorKind::BrokenPipe);
+    let rows = [
+        (
+            Devices {
+                reads: endless,
+                ..whole
+            },
+            ServeFault::Read,
+            none,
+        ),
+        (
+            Devices {
+                writes: endless,
+                ..whole
+            },
+            ServeFault::Write,
+            none,
+        ),
+        (Devices { write: 0, ..whole }, ServeFault::Write, none),
+        (
+            Devices {
+                flushes: broken,
+                ..whole
+            },
+            ServeFault::Write,
+            none,
+        ),
+        (
+            Devices {
+                writes: second,
+                ..whole
+            },
+            ServeFault::Write,
+            first_answer(),
+        ),
+        (
+            Devices {
+                flushes: second,
+                ..whole
+            },
+            ServeFault::Write,
+            first_answer(),
+        ),
+    ];
+    for (devices, fault, sent) in rows.iter() {
+        let (report, writer) = devices.serve(alloc)?;
+        assert_eq!(rt; report, Err(StreamFault::Serve(*fault)));
+        assert_eq!(rt; writer.get_ref().sent.as_slice(), *sent);
+    }
+    Ok(())
+}
+
+#[test]
+fn a_reader_that_fails_leaves_the_answers_sent(rt: HostRuntime) -> Result<(), Fail> {
+    let alloc = rt.alloc();
+    let none: &[u8] = b"";
+    let one = Devices::of_octets(1, 8_192, 8_192);
+    for call in 1..=STREAM.len() as u32 + 1 {
+        let reads = Failures::new(call, 1, ErrorKind::ConnectionReset);
+        let (report, writer) = Devices { reads, ..one }.serve(alloc)?;
+        // the octet after an object's last line break shows that it has ended
+        let sent = if call as usize > FIRST_END + 1 {
+            first_answer()
+        } else {
+            none
+        };
+        assert_eq!(rt;
+            report,
+            Err(StreamFault::Serve(ServeFault::Read)),
+            "at call {call}"
+        );
+        assert_eq!(rt; writer.get_ref().sent.as_slice(), sent, "at call {call}");
+    }
+    Ok(())
+}
+
+#[test]
+fn a_writer_that_fails_has_taken_a_beginning(rt: HostRuntime) -> Result<(), Fail> {
+    let alloc = rt.alloc();
+    let one = Devices::of_octets(8_192, 8_192, 1);
+    for call in 1..=ANSWERS.len() as u32 {
+        let writes = Failures::new(call, 1, ErrorKind::BrokenPipe);
+        let (report, writer) = Devices { writes, ..one }.serve(alloc)?;
+        assert_eq!(rt;
+            report,
+            Err(StreamFault::Serve(ServeFault::Write)),
+            "at call {call}"
+        );
+        let taken = writer.get_ref().sent.len() + writer.get_ref().held.len();
+        assert_eq!(rt; taken + 1, call as usize);
         assert!(rt;
-            ANSWERS.as_bytes().starts_with(written.as_slice()),
+            ANSWERS
+                .as_bytes()
+                .starts_with(writer.get_ref().sent.as_slice()),
             "at call {call}"
         );
     }

@@ -3,12 +3,13 @@
 use crate::command_line::{Invocation, read_words};
 use ical_lines::Fault;
 use ical_values::Address;
+use sched_box::{DeviceReader, DeviceWriter};
 use sched_cli::commands::{Kept, run_check, run_keep, run_serve};
 use sched_cli::run_expand;
 use sched_cli::status::{DEVICE, USAGE, report_device, report_memory, report_too_long};
 use std::alloc::Global;
 use std::fs::File;
-use std::io::{self, BufReader, BufWriter, ErrorKind, Read, Write};
+use std::io::{self, ErrorKind, Read, Write};
 use std::rt::Runtime;
 use std::{env, str};
 
@@ -121,21 +122,19 @@ fn read_room<R: Runtime + AllocGlobal>(rt: &R, alloc: Global, word: &str) -> Res
 
 fn invoke_serve<R: Runtime + AllocGlobal>(rt: &R, alloc: Global) -> u8 {
     let mut errors = ErrorPrinter { to: rt };
-    let Ok(mut reader) = BufReader::new(alloc, rt.reader()) else {
+    let Ok(mut reader) = DeviceReader::new(alloc, rt.reader()) else {
         return no_memory(rt);
     };
-    let Ok(mut writer) = BufWriter::new(alloc, io::writer(rt)) else {
-        return no_memory(rt);
-    };
+    let mut writer = DeviceWriter::new(io::writer(rt));
     run_serve(alloc, &mut reader, &mut writer, &mut errors)
 }
 
 fn invoke_keep<R: Runtime + AllocGlobal>(rt: &R, alloc: Global, room: &Address, kept: Kept) -> u8 {
     let mut errors = ErrorPrinter { to: rt };
-    let Ok(mut reader) = BufReader::new(alloc, rt.reader()) else {
+    let Ok(mut reader) = DeviceReader::new(alloc, rt.reader()) else {
         return no_memory(rt);
     };
-    let mut writer = io::writer(rt);
+    let mut writer = DeviceWriter::new(io::writer(rt));
     run_keep(alloc, room, kept, &mut reader, &mut writer, &mut errors)
 }
 
@@ -155,7 +154,7 @@ fn invoke_check<R: Runtime + AllocGlobal>(
         Ok(octets) => octets,
         Err(fault) => return report_file(&mut errors, fault),
     };
-    let mut writer = io::writer(rt);
+    let mut writer = DeviceWriter::new(io::writer(rt));
     run_check(
         alloc,
         calendar.as_slice(),
@@ -186,9 +185,7 @@ fn invoke_expand<R: Runtime + AllocGlobal>(rt: &R, alloc: Global, limit: usize) 
             _ => report_device(&mut errors),
         };
     }
-    let Ok(mut writer) = BufWriter::new(alloc, io::writer(rt)) else {
-        return no_memory(rt);
-    };
+    let mut writer = DeviceWriter::new(io::writer(rt));
     run_expand(alloc, octets.as_slice(), limit, &mut writer, &mut errors)
 }
 

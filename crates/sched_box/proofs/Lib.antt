@@ -1,3 +1,4 @@
+pub mod InputLemmas
 pub mod AnswerLemmas
 pub mod FaultLemmas
 pub mod Lines

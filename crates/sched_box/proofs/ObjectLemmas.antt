@@ -14,7 +14,7 @@ use Rattle.sched_box.specs.declared.fault.ServeFault.{ServeFault}
 use Rattle.sched_box.specs.declared.fault.ServeFault.TheVariants.{Read, Write, TooLong, Memory}
 use Rattle.sched_box.specs.declared.objects.Objects.{Objects}
 use Rattle.sched_box.specs.declared.objects.Piece.TheVariants.{Ended, Goes, End}
-use Rattle.sched_box.specs.Objects.{kept_of, Cuts, IsPieceEnd, IsPieceFault, piece_of, TakesObject, StopsReading}
+use Rattle.sched_box.specs.Objects.{kept_of, Cuts, IsPieceEnd, IsPieceFault, LeavesMore, piece_of, TakesObject, IsStop, StopsReading}
 
 -- ---- leading on
 
@@ -152,17 +152,23 @@ end_from None b c taken h e = tt
 end_from (Some xs) None c taken h e = absurd h
 end_from (Some xs) (Some ys) c taken h e = e
 
-pub not_long : (f : ServeFault) → IsPieceFault f → f ≡ TooLong → ⊥
-not_long Read h e = cc
-not_long Write h e = h
-not_long TooLong h e = h
-not_long Memory h e = cc
+pub piece_stops : (f : ServeFault) (left : ℕ) → IsPieceFault f → 0 < left → IsStop f left
+piece_stops Read left h some = some
+piece_stops Write left h some = h
+piece_stops TooLong left h some = absurd h
+piece_stops Memory left h some = some
 
-pub not_written : (f : ServeFault) → IsPieceFault f → f ≡ Write → ⊥
-not_written Read h e = cc
-not_written Write h e = h
-not_written TooLong h e = h
-not_written Memory h e = cc
+pub leaves_more : (lent : List ℕ) (most count left : ℕ) (ended : Bool) → most ≡ min (length lent) left → 0 < left → count ≤ length (take most lent)
+    → (ended ≡ true → count < length (take most lent)) → LeavesMore (piece_of count ended) (left - count)
+leaves_more lent most count left true most_is some within before =
+    let l = before refl in
+    let long : length (take most lent) ≡ most = length-take-le most lent (omega arith) in
+    omega arith
+leaves_more lent most count left false most_is some within before = at (nat_lt 0 count) refl
+  where
+    at : (b : Bool) → nat_lt 0 count ≡ b → LeavesMore (cond b Goes End) (left - count)
+    at true e = tt
+    at false e = let none : count ≡ 0 = grind (arith, nat_tests) in omega arith
 
 -- ---- an object
 
@@ -233,5 +239,5 @@ module _ (a b : Option (List ℕ)) (taken : List ℕ) (cutter : Cutter) (consume
       let k = rest_short cutter ys in
       omega arith
 
-  pub stops_in : (before after : Objects) (fault : ServeFault) → after.left + length taken ≡ before.left → (fault ≡ TooLong → after.left ≡ 0) → (fault ≡ Write → ⊥) → StopsReading a b before after fault
-  stops_in before after fault left spent reading = record { taken = taken; consumed = consumed; within = within_object a b consumed; left = left; spent = spent; reading = reading }
+  pub stops_in : (before after : Objects) (fault : ServeFault) → after.left + length taken ≡ before.left → IsStop fault after.left → StopsReading a b before after fault
+  stops_in before after fault left stop = record { taken = taken; consumed = consumed; within = within_object a b consumed; left = left; stop = stop }

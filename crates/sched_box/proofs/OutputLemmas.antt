@@ -5,16 +5,6 @@ use lib.Seq.{take-append_seam}
 use Rattle.std.specs.Io.KnownBytes.{Appends, Keeps}
 use Rattle.std.proofs.KnownBytes.{Appends-kept}
 
-pub keeps_none : (a b : Option (List ℕ)) (octets : List ℕ) → Appends a b (take 0 octets) → Keeps a b
-keeps_none None b octets h = tt
-keeps_none (Some xs) None octets h = h
-keeps_none (Some xs) (Some ys) octets h = h ∙ append-nil xs
-
-pub appends_none : (a b : Option (List ℕ)) (octets : List ℕ) → Keeps a b → Appends a b (take 0 octets)
-appends_none None b octets h = tt
-appends_none (Some xs) None octets h = h
-appends_none (Some xs) (Some ys) octets h = h ∙ sym (append-nil xs)
-
 pub moves_front : (all done rest : List ℕ) (n : ℕ) → all ≡ done ++ rest → all ≡ (done ++ take n rest) ++ take (length rest - n) (drop n rest)
 moves_front all done rest n e =
     e ∙ ap (λ l. done ++ l) (sym (take-append-drop n rest)) ∙ sym (append_assoc done (take n rest) (drop n rest)) ∙ ap (λ l. (done ++ take n rest) ++ l) (sym (take_rest rest n))
@@ -35,7 +25,3 @@ all_written a b c all done rest split appended none kept =
 pub some_written : (a b c : Option (List ℕ)) (all done rest : List ℕ) → all ≡ done ++ rest → Appends a b done → Keeps b c → (n : ℕ) × Appends a c (take n all)
 some_written a b c all done rest split appended kept =
     (length done, subst (Appends a c) (sym (ap (take (length done)) split ∙ take-append_seam done rest)) (Appends-kept a b c done appended kept))
-
-pub keeps_same : (a : Option (List ℕ)) → Keeps a a
-keeps_same None = tt
-keeps_same (Some xs) = refl

@@ -1,8 +1,8 @@
 -- The objects and answers so far, against those of the whole stream.
-use Rattle.std.proofs.Common.{◌≡◌, inl, inr, ℕ, ℤ, zero, suc, ◌+◌, ◌<◌, ◌≤◌, true, false, List, [], ◌∷◌, ◌++◌, length, take, map, Option, Some, None, IfSome, OnSome, Result, Ok, Err, refl, sym, ap, subst, ◌∙◌, arith, length-append}
+use Rattle.std.proofs.Common.{◌≡◌, inl, inr, ℕ, ℤ, Bool, zero, suc, ◌+◌, ◌<◌, ◌≤◌, true, false, List, [], ◌∷◌, ◌++◌, length, take, map, Option, Some, None, IfSome, OnSome, Result, Ok, Err, refl, sym, ap, subst, ◌∙◌, arith, length-append}
 use Rattle.std.proofs.lemmas.List.{append_assoc, append-nil}
 use Rattle.std.specs.Io.KnownBytes.{Appends, Consumes, Keeps, IsAtEnd}
-use Rattle.std.proofs.KnownBytes.{Appends-nil, Appends-trans}
+use Rattle.std.proofs.KnownBytes.{Appends-kept, Appends-nil, Appends-trans, Keeps-refl}
 use Rattle.profile.specs.Objects.{is_begun, after_object}
 use Rattle.profile.specs.Rooms.{Book}
 use Rattle.profile.specs.Streams.{BeginsWith, AreObjects, Answers, AllAnswers, Hosted, new_box}
@@ -12,8 +12,8 @@ use Rattle.sched_box.specs.declared.fault.ServeFault.TheVariants.{Read, Write, T
 use Rattle.sched_box.specs.declared.objects.Objects.{Objects}
 use Rattle.sched_box.specs.declared.serving.ServeReport.{ServeReport}
 use Rattle.sched_box.specs.Answering.{AreHosted, IsHosted, AnswersKept, room_addresses}
-use Rattle.sched_box.specs.Objects.{kept_of, TakesObject, ReadsObject, StopsReading}
-use Rattle.sched_box.specs.Serving.{AnswersWhole, Ends, Gives, GivesPart, IsWithinBound, ServesAll, ServesSome, HasRead, ServesUntil, Serves, RoomsServe, ServesStream, KeepsTexts}
+use Rattle.sched_box.specs.Objects.{kept_of, TakesObject, ReadsObject, IsStop, StopsReading}
+use Rattle.sched_box.specs.Serving.{AnswersWhole, Ends, Gives, GivesPart, IsWithinBound, ServesAll, ServesSome, ServesCut, HasRead, HasReadLess, ServesUntil, Serves, RoomsServe, ServesStream, KeepsTexts}
 use Rattle.std.proofs.Common.{◌≢◌, Contains, true≢false}
 use Rattle.std.specs.Str.{bytes_eq}
 use Rattle.std.proofs.lemmas.Slice.Eq.{bytes_eq-Decides}
@@ -27,6 +27,7 @@ use Rattle.room_books.specs.Standing.{Stands}
 use Rattle.sched_box.specs.declared.fault.StreamFault.{StreamFault}
 use Rattle.sched_box.specs.declared.fault.StreamFault.TheVariants as stream
 use Rattle.sched_box.specs.Faults.{IfRefusedStream, IsReadFault}
+use Rattle.sched_box.specs.Output.{StopsSending}
 use Rattle.sched_box.specs.Preamble.{Opens, OpensNot, StopsInPreamble}
 use Rattle.sched_box.proofs.ObjectLemmas.{after_short}
 use Rattle.std.proofs.Common.{get_or, take_all}
@@ -151,6 +152,11 @@ all_read None c n h e = tt
 all_read (Some xs) None n h e = absurd h
 all_read (Some xs) (Some zs) n h e = omega arith
 
+read_less : (a c : Option (List ℕ)) (n : ℕ) → HasLeft a c n → 0 < n → HasReadLess 1_073_741_824 a c
+read_less None c n h some = tt
+read_less (Some xs) None n h some = absurd h
+read_less (Some xs) (Some zs) n h some = omega arith
+
 within_bound : (a c : Option (List ℕ)) (n : ℕ) → HasLeft a c n → IsWithinBound a c
 within_bound None c n h = tt
 within_bound (Some xs) None n h = absurd h
@@ -172,34 +178,43 @@ stopped moment olds news a b c output written before after report fault so s sta
           refused = report.refused;
           gives = gives_stopped a b c served.objects before after f served.gives s;
           answers = served.answers;
-          bound = within_bound a c after.left (read_on a b c s.taken before.left after.left so.read s.consumed s.left);
           written = served.writes;
         }
 
-    at : (f : ServeFault) → StopsReading b c before after f → ServesUntil moment start (record { input = a; left = c; output = output; written = written }) f
-    at Read s = some Read s
-    at Memory s = some Memory s
-    at TooLong s = (some TooLong s, all_read a c after.left (read_on a b c s.taken before.left after.left so.read s.consumed s.left) (s.spent refl))
-    at Write s = absurd (s.reading refl)
+    left_over : (f : ServeFault) (s : StopsReading b c before after f) → HasLeft a c after.left
+    left_over f s = read_on a b c s.taken before.left after.left so.read s.consumed s.left
 
--- an object was taken, and memory was refused for the answers to it
-pub forgotten : (moment : ℤ) (olds news : List Room) (a b c output written : Option (List ℕ)) (before after : Objects) (report : ServeReport) (fault : ServeFault)
+    at : (f : ServeFault) → StopsReading b c before after f → ServesUntil moment start (record { input = a; left = c; output = output; written = written }) f
+    at Read s = (some Read s, read_less a c after.left (left_over Read s) s.stop)
+    at Memory s = (some Memory s, read_less a c after.left (left_over Memory s) s.stop)
+    at TooLong s = (some TooLong s, all_read a c after.left (left_over TooLong s) s.stop)
+    at Write s = absurd s.stop
+
+-- an object was taken, and memory was refused for the answers to it, or for writing them
+pub forgotten : (moment : ℤ) (olds news : List Room) (a b c output written now : Option (List ℕ)) (before after : Objects) (report : ServeReport)
+    → Sofar moment olds news a b output written before.left report → ReadsObject b c before after true → Keeps written now → (start : List Hosted) → AreHosted olds start
+    → ServesUntil moment start (record { input = a; left = c; output = output; written = now }) Memory
+forgotten moment olds news a b c output written now before after report so (taken, t, left, more) keeps start have =
+    let served = so.served start have in (
+      record {
+        objects = served.objects;
+        after = served.after;
+        octets = served.octets;
+        refused = report.refused;
+        gives = gives_whole a b c served.objects after.octets.items taken served.gives t;
+        answers = served.answers;
+        written = Appends-kept output written now served.octets served.writes keeps;
+      },
+      read_less a c after.left (read_on a b c taken before.left after.left so.read t.consumed left) more,
+    )
+
+-- the same where the fault is said to be that
+pub forgotten_at : (moment : ℤ) (olds news : List Room) (a b c output written : Option (List ℕ)) (before after : Objects) (report : ServeReport) (fault : ServeFault)
     → Sofar moment olds news a b output written before.left report → ReadsObject b c before after true → fault ≡ Memory → (start : List Hosted) → AreHosted olds start
     → ServesUntil moment start (record { input = a; left = c; output = output; written = written }) fault
-forgotten moment olds news a b c output written before after report fault so (taken, t, left) is start have =
-    let served = so.served start have in
+forgotten_at moment olds news a b c output written before after report fault so reads is start have =
     let P : ServeFault → Type 0 = ServesUntil moment start (record { input = a; left = c; output = output; written = written }) in
-    subst P (sym is)
-    (record {
-      objects = served.objects;
-      after = served.after;
-      octets = served.octets;
-      refused = report.refused;
-      gives = gives_whole a b c served.objects after.octets.items taken served.gives t;
-      answers = served.answers;
-      bound = within_bound a c after.left (read_on a b c taken before.left after.left so.read t.consumed left);
-      written = served.writes;
-    })
+    subst P (sym is) (forgotten moment olds news a b c output written written before after report so reads (Keeps-refl written) start have)
 
 -- the answers to an object from the box so far
 next_answers : (moment : ℤ) (news newer : List Room) (number : ℕ) (kept more taken : List ℕ) (one : ℕ) (n : ℕ) → number ≡ n + 1
@@ -210,42 +225,45 @@ next_answers moment news newer number kept more taken one n number_is answers ke
     let Q : ℕ → Type 0 = λ k. Answers moment k taken mid after more one in
     (after, hosted, subst Q number_is answer)
 
--- the answers to an object were made, and the writer failed
-pub cut : (moment : ℤ) (olds news newer : List Room) (a b c output written cut_at : Option (List ℕ)) (before after : Objects) (report : ServeReport) (number one : ℕ) (more : List ℕ) (fault : ServeFault)
+-- the answers to an object were made, and weren't written whole
+pub unsent : (moment : ℤ) (olds news newer : List Room) (a b c output written now : Option (List ℕ)) (failed : Bool) (before after : Objects) (report : ServeReport) (number one : ℕ) (more : List ℕ) (fault : ServeFault)
     → Sofar moment olds news a b output written before.left report → ReadsObject b c before after true → number ≡ report.objects + 1
-    → AnswersKept moment number after.octets.items news newer more one → 0 < length more → (n : ℕ) × Appends written cut_at (take n more) → fault ≡ Write
+    → AnswersKept moment number after.octets.items news newer more one → StopsSending written now failed more fault
     → (start : List Hosted) → AreHosted olds start
-    → ServesUntil moment start (record { input = a; left = c; output = output; written = cut_at }) fault
-cut moment olds news newer a b c output written cut_at before after report number one more fault so (taken, t, left) number_is answers some (n, appended) is start have =
+    → ServesUntil moment start (record { input = a; left = c; output = output; written = now }) fault
+unsent moment olds news newer a b c output written now failed before after report number one more Read so reads number_is answers sends start have = absurd sends
+unsent moment olds news newer a b c output written now failed before after report number one more TooLong so reads number_is answers sends start have = absurd sends
+unsent moment olds news newer a b c output written now failed before after report number one more Memory so reads number_is answers sends start have =
+    forgotten moment olds news a b c output written now before after report so reads sends start have
+unsent moment olds news newer a b c output written now failed before after report number one more Write so (taken, t, left, rest) number_is answers (f, some, partly) start have =
     let served = so.served start have in
     let same : number ≡ length served.objects + 1 = number_is ∙ ap (λ k. k + 1) served.counted in
-    let (now, hosted, answer) = next_answers moment news newer number after.octets.items more taken one (length served.objects) same answers t.kept_is served.after served.hosted in
-    let P : ServeFault → Type 0 = ServesUntil moment start (record { input = a; left = c; output = output; written = cut_at }) in
-    subst P (sym is)
-    (record {
-      objects = served.objects;
-      last = taken;
-      mid = served.after;
-      after = now;
-      octets = served.octets;
-      answer = more;
-      refused = report.refused;
-      one = one;
-      cut = n;
-      gives = gives_more a b c served.objects after.octets.items taken served.gives t;
-      answers = served.answers;
-      answered = answer;
-      some = some;
-      bound = within_bound a c after.left (read_on a b c taken before.left after.left so.read t.consumed left);
-      written = Appends-trans output written cut_at served.octets (take n more) served.writes appended;
-    })
+    let (box, hosted, answer) = next_answers moment news newer number after.octets.items more taken one (length served.objects) same answers t.kept_is served.after served.hosted in (
+      record {
+        objects = served.objects;
+        last = taken;
+        mid = served.after;
+        after = box;
+        octets = served.octets;
+        answer = more;
+        refused = report.refused;
+        one = one;
+        cut = partly.0;
+        gives = gives_more a b c served.objects after.octets.items taken served.gives t;
+        answers = served.answers;
+        answered = answer;
+        some = some;
+        written = Appends-trans output written now served.octets (take partly.0 more) served.writes partly.1;
+      },
+      read_less a c after.left (read_on a b c taken before.left after.left so.read t.consumed left) rest,
+    )
 
 -- an object more
 pub served_more : (moment : ℤ) (olds news newer : List Room) (a b c output written new : Option (List ℕ)) (before after : Objects) (report next : ServeReport) (number one : ℕ) (more : List ℕ)
     → Sofar moment olds news a b output written before.left report → ReadsObject b c before after true → number ≡ report.objects + 1
     → AnswersKept moment number after.octets.items news newer more one → one ≤ 1 → room_addresses newer ≡ room_addresses news → Appends written new more
     → next.objects ≡ number → next.refused ≡ report.refused + one → Sofar moment olds newer a c output new after.left next
-served_more moment olds news newer a b c output written new before after report next number one more so (taken, t, left) number_is answers small same appended objects_are refused_are =
+served_more moment olds news newer a b c output written new before after report next number one more so (taken, t, left, rest) number_is answers small same appended objects_are refused_are =
     let few = so.few in
     let refusals = so.refusals in
     let some = t.some refl in
@@ -277,7 +295,7 @@ served_more moment olds news newer a b c output written new before after report 
 pub served_all : (moment : ℤ) (olds news : List Room) (a b c output written : Option (List ℕ)) (before after : Objects) (report : ServeReport)
     → Sofar moment olds news a b output written before.left report → ReadsObject b c before after false → (start : List Hosted) → AreHosted olds start
     → (final : List Hosted) × AreHosted news final × ServesAll moment start final (record { input = a; left = c; output = output; written = written }) report
-served_all moment olds news a b c output written before after report so (taken, t, left) start have =
+served_all moment olds news a b c output written before after report so (taken, t, left, rest) start have =
     let served = so.served start have in
     let ended = gives_all a b c served.objects after.octets.items taken served.gives t in (
       served.after,
@@ -305,9 +323,9 @@ pub serves_none : (moment : ℤ) (before : List Hosted) (input output : Option (
 serves_none moment before input output fault is =
     let P : ServeFault → Type 0 = ServesUntil moment before (record { input = input; left = input; output = output; written = output }) in
     subst P (sym is)
-    (record { objects = []; after = before; octets = []; refused = 0; gives = none input; answers = (refl, refl, refl); bound = unread input; written = Appends-nil output })
+    (record { objects = []; after = before; octets = []; refused = 0; gives = none input; answers = (refl, refl, refl); written = Appends-nil output }, unread input)
   where
-    unread : (a : Option (List ℕ)) → IsWithinBound a a
+    unread : (a : Option (List ℕ)) → HasReadLess 1_073_741_824 a a
     unread None = tt
     unread (Some xs) = omega arith
 

@@ -1,6 +1,8 @@
 -- What a clause says of the end of a stream.
-use Rattle.std.specs.Prelude.{◌≡◌}
+use Rattle.std.specs.Prelude.{◌≡◌, Bool, true}
 use Rattle.sched_box.specs.Objects.{IsPieceFault}
+use Rattle.sched_box.specs.declared.fault.ServeFault.{ServeFault}
+use Rattle.sched_box.specs.declared.fault.ServeFault.TheVariants.{Read, Write, TooLong, Memory}
 use Rattle.sched_box.specs.declared.fault.StreamFault.{StreamFault}
 use Rattle.sched_box.specs.declared.fault.StreamFault.TheVariants.{Refused, Serve}
 
@@ -18,3 +20,14 @@ IfRefusedStream P (Serve fault) = Unit {0}
 abbrev pub IsReadFault : StreamFault → Type 0
 IsReadFault (Refused r) = Unit {0}
 IsReadFault (Serve fault) = IsPieceFault fault
+
+-- a fault of a device comes only where that device has failed: the reader, the writer
+abbrev pub StopsFor : Bool → Bool → ServeFault → Type 0
+StopsFor reader writer Read = reader ≡ true
+StopsFor reader writer Write = writer ≡ true
+StopsFor reader writer TooLong = Unit {0}
+StopsFor reader writer Memory = Unit {0}
+
+abbrev pub StreamStopsFor : Bool → Bool → StreamFault → Type 0
+StreamStopsFor reader writer (Refused r) = Unit {0}
+StreamStopsFor reader writer (Serve fault) = StopsFor reader writer fault

@@ -39,12 +39,19 @@ IsPieceFault Memory = Unit {0}
 IsPieceFault TooLong = ⊥
 IsPieceFault Write = ⊥
 
+-- where the object or the input has ended, something may still be read
+abbrev pub LeavesMore : Piece → ℕ → Type 0
+LeavesMore Ended left = 0 < left
+LeavesMore End left = 0 < left
+LeavesMore Goes left = Unit {0}
+
 -- the octets were taken and, as far as they are kept, added
 pub record TakesPiece (old new : Option (List ℕ)) (before after : Objects) (from to : Cutter) (piece : Piece) : Type 0 where
   pub taken : List ℕ
   pub consumed : Consumes old new taken
   pub kept : after.octets.items ≡ before.octets.items ++ take (1_048_577 - length before.octets.items) taken
   pub left : after.left + length taken ≡ before.left
+  pub more : LeavesMore piece after.left
   pub cuts : Cuts from taken to
   pub ends : IsPieceEnd old new to taken piece
 
@@ -59,16 +66,22 @@ pub record TakesObject (old new : Option (List ℕ)) (kept : List ℕ) (found : 
   pub end : found ≡ false → OnSome old (IsAtEnd new)
   pub some : found ≡ true → 0 < length taken
 
--- and so many octets may still be read
+-- and so many octets may still be read, at least one
 abbrev pub ReadsObject : Option (List ℕ) → Option (List ℕ) → Objects → Objects → Bool → Type 0
 ReadsObject old new before after found =
-    (taken : List ℕ) × TakesObject old new after.octets.items found taken × (after.left + length taken ≡ before.left)
+    (taken : List ℕ) × TakesObject old new after.octets.items found taken × (after.left + length taken ≡ before.left) × (0 < after.left)
 
--- octets were taken, and none past the next object; the stream is too long where no more may be read
+-- the stream is too long exactly where nothing more may be read
+abbrev pub IsStop : ServeFault → ℕ → Type 0
+IsStop Read left = 0 < left
+IsStop Memory left = 0 < left
+IsStop TooLong left = left ≡ 0
+IsStop Write left = ⊥
+
+-- octets were taken, and none past the next object
 pub record StopsReading (old new : Option (List ℕ)) (before after : Objects) (fault : ServeFault) : Type 0 where
   pub taken : List ℕ
   pub consumed : Consumes old new taken
   pub within : IfSome old (λ octets. IfSome new (λ rest. length (after_object octets) ≤ length rest))
   pub left : after.left + length taken ≡ before.left
-  pub spent : fault ≡ TooLong → after.left ≡ 0
-  pub reading : fault ≡ Write → ⊥
+  pub stop : IsStop fault after.left

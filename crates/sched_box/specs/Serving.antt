@@ -57,7 +57,6 @@ pub record ServesSome (moment : ℤ) (before : List Hosted) (ends : Ends) : Type
   pub refused : ℕ
   pub gives : GivesPart ends.input ends.left objects
   pub answers : AllAnswers moment 1 objects before after octets refused
-  pub bound : IsWithinBound ends.input ends.left
   pub written : Appends ends.output ends.written octets
 
 -- the answers to all objects but the last were written, and of the answers to that, of which there are some, a beginning
@@ -75,19 +74,22 @@ pub record ServesCut (moment : ℤ) (before : List Hosted) (ends : Ends) : Type 
   pub answers : AllAnswers moment 1 objects before mid octets refused
   pub answered : Answers moment (length objects + 1) last mid after answer one
   pub some : 0 < length answer
-  pub bound : IsWithinBound ends.input ends.left
   pub written : Appends ends.output ends.written (octets ++ take cut answer)
 
 -- so many octets were read
 abbrev pub HasRead : ℕ → Option (List ℕ) → Option (List ℕ) → Type 0
 HasRead n input left = IfSome input (λ octets. IfSome left (λ rest. length octets ≡ length rest + n))
 
--- how serving ends before the input does
+-- or fewer
+abbrev pub HasReadLess : ℕ → Option (List ℕ) → Option (List ℕ) → Type 0
+HasReadLess n input left = IfSome input (λ octets. IfSome left (λ rest. length octets < length rest + n))
+
+-- how serving ends before the input does: the stream is too long exactly where 1,073,741,824 octets were read
 abbrev pub ServesUntil : ℤ → List Hosted → Ends → ServeFault → Type 0
-ServesUntil moment before ends Read = ServesSome moment before ends
-ServesUntil moment before ends Memory = ServesSome moment before ends
+ServesUntil moment before ends Read = ServesSome moment before ends × HasReadLess 1_073_741_824 ends.input ends.left
+ServesUntil moment before ends Memory = ServesSome moment before ends × HasReadLess 1_073_741_824 ends.input ends.left
 ServesUntil moment before ends TooLong = ServesSome moment before ends × HasRead 1_073_741_824 ends.input ends.left
-ServesUntil moment before ends Write = ServesCut moment before ends
+ServesUntil moment before ends Write = ServesCut moment before ends × HasReadLess 1_073_741_824 ends.input ends.left
 
 -- what comes of serving, from this box on
 abbrev pub Serves : ℤ → List Hosted → Ends → Result ServeReport ServeFault → Type 0

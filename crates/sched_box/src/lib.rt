@@ -3,8 +3,9 @@
 
 pub mod config;
 mod fault;
+pub mod input;
 pub mod objects;
-mod output;
+pub mod output;
 pub mod preamble;
 mod rooms;
 pub mod serving;
@@ -12,5 +13,7 @@ mod settings;
 
 pub use config::Config;
 pub use fault::{ServeFault, StreamFault};
+pub use input::{DeviceReader, Input};
+pub use output::{DeviceWriter, Output, WriteFault};
 pub use preamble::read_preamble;
 pub use serving::{ServeReport, keep, serve, serve_stream};

@@ -3,12 +3,13 @@
 ghost use Rattle.std.specs.Prelude.{◌≡◌, ◌≤◌, ◌<◌, ◌+◌, ◌-◌, ◌++◌, [], true, false, length, take, nat_lt, slice_index, if◌then◌else◌, IfOk, IfErr, OnOk, OnErr};
 ghost use Rattle.std.specs.Io.KnownBytes.{Keeps};
 ghost use Rattle.ical_lines.specs.Cut.{ends_before};
+ghost use Rattle.sched_box.specs.Faults.{StopsFor};
 ghost use Rattle.sched_box.specs.Objects.{Cuts, IsPieceFault, ReadsObject, StopsReading, TakesPiece, piece_of};
 
 use crate::fault::ServeFault;
+use crate::input::Input;
 use ical_lines::Cutter;
 use std::alloc::{AllocError, Global};
-use std::io::BufRead;
 
 /// The most octets that are read of a stream; this profile's choice.
 pub const MOST_OCTETS: u64 = 1_073_741_824;
@@ -55,9 +56,10 @@ impl Objects {
 
     /// Reads the next object; false where only empty lines are left.
     /// A reader that fails gives `Read`, and the 1,073,741,824th octet `TooLong`.
-    pub fn next_object<R: BufRead>(&mut self, reader: &mut R) -> Result<bool, ServeFault>
+    pub fn next_object<R: Input>(&mut self, reader: &mut R) -> Result<bool, ServeFault>
         ensures reads { IfOk result (ReadsObject (R.remaining reader.old) (R.remaining reader.new) self.old self.new) }
         ensures stops { IfErr result (StopsReading (R.remaining reader.old) (R.remaining reader.new) self.old self.new) }
+        ensures cause { IfErr result (StopsFor (R.has_failed reader.new) false) }
     {
         self.octets.clear();
         let mut cutter = Cutter::new();
@@ -72,7 +74,7 @@ impl Objects {
     }
 
     /// Takes octets up to the object's end, or all that the reader lends at once and that may still be read.
-    fn take_piece<R: BufRead>(
+    fn take_piece<R: Input>(
         &mut self,
         reader: &mut R,
         cutter: &mut Cutter,
@@ -82,10 +84,12 @@ impl Objects {
         ensures left { OnErr result (self.new.left ≡ self.old.left) }
         ensures keeps { OnErr result (Keeps (R.remaining reader.old) (R.remaining reader.new)) }
         ensures faults { IfErr result IsPieceFault }
+        ensures cause { IfErr result (StopsFor (R.has_failed reader.new) false) }
     {
-        let Ok(lent) = reader.fill_buf() else {
+        let Ok(()) = reader.fill() else {
             return Err(ServeFault::Read);
         };
+        let lent = reader.buffer();
         let lent = &lent[..lent.len().min(self.left as usize)];
         let scanned = scan(cutter, lent);
         keep_front(&mut self.octets, &lent[..scanned.count])?;

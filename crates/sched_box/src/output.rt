@@ -1,67 +1,151 @@
-//! What is written, and how much of it where a writer fails.
+//! Where octets are written to: memory, nowhere, or a device that may fail.
 
-ghost use Rattle.std.specs.Prelude.{◌≡◌, ◌≤◌, ◌<◌, ℕ, length, take, IfOk, IfErr, OnOk, OnErr};
+ghost use Rattle.std.specs.Prelude.{◌≡◌, ◌≤◌, ◌<◌, ℕ, List, Option, Some, None, Bool, true, false, length, take, IfOk, IfErr, OnOk, OnErr};
 ghost use Rattle.std.specs.Io.KnownBytes.{Appends, Keeps};
+ghost use Rattle.sched_box.specs.Output.{StopsWriting};
+ghost use Rattle.sched_box.specs.declared.output.WriteFault.TheVariants as fault;
 
-use crate::fault::ServeFault;
+use crate::input::TRIES;
+use std::alloc::AllocError;
 use std::io::{ErrorKind, Write};
 
-/// Writes octets, and flushes them: who waits for an answer gets it now. Where the writer fails a beginning of them
-/// was written.
-pub(crate) fn put<W: Write>(writer: &mut W, octets: &[u8]) -> Result<(), ServeFault>
-    ensures written { OnOk result (Appends (W.contents writer.old) (W.contents writer.new) octets.now) }
-    ensures fault { IfErr result (λ fault. fault ≡ ServeFault.Write) }
-    ensures some { OnErr result (0 < length octets.now) }
-    ensures cut { OnErr result ((n : ℕ) × Appends (W.contents writer.old) (W.contents writer.new) (take n octets.now)) }
-{
-    if octets.is_empty() {
-        return Ok(());
-    }
-    put_some(writer, octets)
+/// Why octets weren't written whole.
+#[derive(Clone, Copy, Debug, PartialEq, Eq)]
+pub enum WriteFault {
+    /// The writer failed: a beginning of them may have been written.
+    Failed,
+    /// The memory for them was refused, and none was written.
+    Memory,
 }
 
-fn put_some<W: Write>(writer: &mut W, octets: &[u8]) -> Result<(), ServeFault>
+impl From<AllocError> for WriteFault {
+    ghost from_gives = { λ _ e. e ≡ fault.Memory };
+
+    fn from(_error: AllocError) -> WriteFault {
+        WriteFault::Memory
+    }
+}
+
+/// A writer that holds nothing back, and tells whether it has failed.
+pub trait Output {
+    // The octets that were written, where it tells them.
+    ghost contents: { Self → Option (List ℕ) } = { λ _. None };
+
+    // A call of it has failed.
+    ghost has_failed: { Self → Bool };
+
+    /// Writes octets whole, and holds none of them back: who waits for an answer gets it now.
+    fn put(&mut self, octets: &[u8]) -> Result<(), WriteFault>
+        ensures written { OnOk result (Appends (Self.contents self.old) (Self.contents self.new) octets.now) }
+        ensures stops { IfErr result (StopsWriting (Self.contents self.old) (Self.contents self.new) (Self.has_failed self.new) octets.now) };
+}
+
+/// A list of octets never fails; memory may be refused.
+impl Output for Vec<u8> {
+    ghost contents = { λ list. Some list.items };
+
+    ghost has_failed = { λ _. false };
+
+    fn put(&mut self, octets: &[u8]) -> Result<(), WriteFault> {
+        match self.extend_from_slice(octets) {
+            Ok(()) => Ok(()),
+            Err(_) => Err(WriteFault::Memory),
+        }
+    }
+}
+
+/// Takes all, and keeps nothing.
+#[derive(Drop)]
+pub(crate) struct Nowhere;
+
+impl Output for Nowhere {
+    ghost has_failed = { λ _. false };
+
+    fn put(&mut self, _octets: &[u8]) -> Result<(), WriteFault> {
+        Ok(())
+    }
+}
+
+/// A writer to a device, without a buffer. An interrupted write is tried again, up to 1,000 times; any other error, and a write that takes
+/// nothing, is a failure.
+#[derive(Drop)]
+pub struct DeviceWriter<W: Write + Drop> {
+    device: W,
+    failed: bool,
+}
+
+impl<W: Write + Drop> DeviceWriter<W> {
+    /// A writer that hasn't failed.
+    pub fn new(device: W) -> DeviceWriter<W>
+        ensures { result.failed ≡ false }
+    {
+        DeviceWriter {
+            device,
+            failed: false,
+        }
+    }
+
+    /// The device.
+    pub fn get_ref(&self) -> &W
+        ensures { result.now ≡ self.now.device }
+    {
+        &self.device
+    }
+}
+
+impl<W: Write + Drop> Output for DeviceWriter<W> {
+    ghost contents = { λ w. W.contents w.device };
+
+    ghost has_failed = { λ w. w.failed };
+
+    fn put(&mut self, octets: &[u8]) -> Result<(), WriteFault> {
+        let written = write_whole(&mut self.device, octets);
+        if written.is_err() {
+            self.failed = true;
+        }
+        written
+    }
+}
+
+/// Writes octets whole, and flushes them.
+fn write_whole<W: Write>(writer: &mut W, octets: &[u8]) -> Result<(), WriteFault>
     ensures written { OnOk result (Appends (W.contents writer.old) (W.contents writer.new) octets.now) }
-    ensures fault { IfErr result (λ fault. fault ≡ ServeFault.Write) }
+    ensures fault { IfErr result (λ fault. fault ≡ WriteFault.Failed) }
     ensures cut { OnErr result ((n : ℕ) × Appends (W.contents writer.old) (W.contents writer.new) (take n octets.now)) }
 {
     let mut rest = octets;
-    for _ in 0..u64::MAX {
-        if rest.is_empty() {
-            return flush(writer);
-        }
+    while !rest.is_empty() {
         let count = write_front(writer, rest)?;
         rest = &rest[count..];
     }
-    Err(ServeFault::Write)
+    flush(writer)
 }
 
-/// One write: how many of the octets were taken; 0 where a signal came.
-fn write_front<W: Write>(writer: &mut W, octets: &[u8]) -> Result<usize, ServeFault>
+/// One write, tried again where it is interrupted: how many of the octets were taken, at least one.
+fn write_front<W: Write>(writer: &mut W, octets: &[u8]) -> Result<usize, WriteFault>
+    ensures some { IfOk result (λ count. 0 < count) }
     ensures within { IfOk result (λ count. count ≤ length octets.now) }
     ensures written { IfOk result (λ count. Appends (W.contents writer.old) (W.contents writer.new) (take count octets.now)) }
-    ensures fault { IfErr result (λ fault. fault ≡ ServeFault.Write) }
+    ensures fault { IfErr result (λ fault. fault ≡ WriteFault.Failed) }
     ensures keeps { OnErr result (Keeps (W.contents writer.old) (W.contents writer.new)) }
 {
-    match writer.write(octets) {
-        Ok(0) => Err(ServeFault::Write),
-        Ok(count) => Ok(count),
-        Err(error) => {
-            if error.kind() == ErrorKind::Interrupted {
-                Ok(0)
-            } else {
-                Err(ServeFault::Write)
-            }
+    for _ in 0..TRIES {
+        match writer.write(octets) {
+            Ok(0) => return Err(WriteFault::Failed),
+            Ok(count) => return Ok(count),
+            Err(error) if error.kind() == ErrorKind::Interrupted => {}
+            Err(_) => return Err(WriteFault::Failed),
         }
     }
+    Err(WriteFault::Failed)
 }
 
-fn flush<W: Write>(writer: &mut W) -> Result<(), ServeFault>
+fn flush<W: Write>(writer: &mut W) -> Result<(), WriteFault>
     ensures keeps { Keeps (W.contents writer.old) (W.contents writer.new) }
-    ensures fault { IfErr result (λ fault. fault ≡ ServeFault.Write) }
+    ensures fault { IfErr result (λ fault. fault ≡ WriteFault.Failed) }
 {
     match writer.flush() {
         Ok(()) => Ok(()),
-        Err(_) => Err(ServeFault::Write),
+        Err(_) => Err(WriteFault::Failed),
     }
 }

@@ -3,28 +3,29 @@
 ghost use Rattle.std.specs.Prelude.{◌≡◌, ◌≤◌, ◌<◌, ◌++◌, ℕ, List, length, nat_lt, ◌&&◌, not, take, true, false, IfOk, IfErr, IfSome, OnErr};
 ghost use Rattle.std.specs.Io.KnownBytes.{Keeps};
 ghost use Rattle.sched_box.specs.Config.{config_rooms};
-ghost use Rattle.sched_box.specs.Faults.{IfRefusedStream, IsReadFault, RefusesPreamble};
+ghost use Rattle.sched_box.specs.Faults.{IfRefusedStream, IsReadFault, RefusesPreamble, StopsFor, StreamStopsFor};
 ghost use Rattle.sched_box.specs.Objects.{IsPieceFault};
 ghost use Rattle.sched_box.specs.Preamble.{IsLong, Leads, Opens, OpensNot, StopsInPreamble, TakesPiece, TakesPreamble, is_closed, next_place};
 ghost use Rattle.sched_box.specs.declared.preamble.Place.TheVariants.{Inside};
 
 use crate::config::{Config, LONGEST};
 use crate::fault::{ServeFault, StreamFault};
+use crate::input::Input;
 use ical_lines::{Fault, Refusal};
 use ical_values::Stamp;
 use memchr::memchr;
 use std::alloc::Global;
-use std::io::BufRead;
 
 /// Reads a preamble, and leaves the reader behind its empty line. No octet past that is taken, whatever comes of it.
 /// Refused: 90. A reader that fails gives `Read`.
-pub fn read_preamble<R: BufRead>(
+pub fn read_preamble<R: Input>(
     alloc: Global,
     reader: &mut R,
 ) -> Result<(Config, Stamp), StreamFault>
     ensures opens { IfOk result (λ read. Opens (R.remaining reader.old) (R.remaining reader.new) read.1 (config_rooms read.0)) }
     ensures refuses { IfErr result RefusesPreamble }
     ensures faults { IfErr result IsReadFault }
+    ensures cause { IfErr result (StreamStopsFor (R.has_failed reader.new) false) }
     ensures none { IfErr result (IfRefusedStream (IfSome (R.remaining reader.old) OpensNot)) }
     ensures stops { OnErr result (StopsInPreamble (R.remaining reader.old) (R.remaining reader.new)) }
 {
@@ -38,10 +39,11 @@ pub fn read_preamble<R: BufRead>(
 
 /// The octets of a preamble, its empty line included.
 /// Refused: 90 where they are more than 65,536.
-fn take_preamble<R: BufRead>(alloc: Global, reader: &mut R) -> Result<Vec<u8>, StreamFault>
+fn take_preamble<R: Input>(alloc: Global, reader: &mut R) -> Result<Vec<u8>, StreamFault>
     ensures takes { IfOk result (λ octets. TakesPreamble (R.remaining reader.old) (R.remaining reader.new) octets.items) }
     ensures refuses { IfErr result RefusesPreamble }
     ensures faults { IfErr result IsReadFault }
+    ensures cause { IfErr result (StreamStopsFor (R.has_failed reader.new) false) }
     ensures none { IfErr result (IfRefusedStream (IfSome (R.remaining reader.old) IsLong)) }
     ensures stops { OnErr result (StopsInPreamble (R.remaining reader.old) (R.remaining reader.new)) }
 {
@@ -57,7 +59,7 @@ fn take_preamble<R: BufRead>(alloc: Global, reader: &mut R) -> Result<Vec<u8>, S
 
 /// Takes the rest of a line that has begun, or one octet where none has, of what the reader lends at once, at most one more
 /// than a preamble may have; false after the empty line, and at the end of the input.
-fn take_piece<R: BufRead>(
+fn take_piece<R: Input>(
     reader: &mut R,
     place: &mut Place,
     octets: &mut Vec<u8>,
@@ -65,11 +67,13 @@ fn take_piece<R: BufRead>(
     ensures takes { IfOk result (λ goes. (taken : List ℕ) × (octets.new.items ≡ octets.old.items ++ taken)
         × TakesPiece (R.remaining reader.old) (R.remaining reader.new) place.old place.new taken goes) }
     ensures faults { IfErr result IsPieceFault }
+    ensures cause { IfErr result (StopsFor (R.has_failed reader.new) false) }
     ensures keeps { OnErr result (Keeps (R.remaining reader.old) (R.remaining reader.new)) }
 {
-    let Ok(lent) = reader.fill_buf() else {
+    let Ok(()) = reader.fill() else {
         return Err(ServeFault::Read);
     };
+    let lent = reader.buffer();
     let lent = &lent[..lent.len().min(LONGEST + 1)];
     let scanned = scan(*place, lent);
     octets.extend_from_slice(&lent[..scanned.count])?;

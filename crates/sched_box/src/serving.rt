@@ -1,25 +1,27 @@
 //! Serving: each object goes to the rooms that it is addressed to, and what they answer is written.
 
-ghost use Rattle.std.specs.Prelude.{◌≡◌, ◌≤◌, List, Contains, IfErr, IfOk, OnOk};
+ghost use Rattle.std.specs.Prelude.{◌≡◌, ◌≤◌, List, Bool, Contains, false, IfErr, IfOk, OnOk};
+ghost use Rattle.std.specs.Io.KnownBytes.{Appends};
 ghost use Rattle.ical_values.specs.Octets.{address_octets};
 ghost use Rattle.profile.specs.Calendars.{CertificateHolds};
 ghost use Rattle.profile.specs.Streams.{Hosted, new_box};
 ghost use Rattle.sched_box.specs.Answering.{AreHosted, room_addresses};
 ghost use Rattle.sched_box.specs.Config.{config_rooms};
-ghost use Rattle.sched_box.specs.Faults.{IfRefusedStream, RefusesPreamble};
+ghost use Rattle.sched_box.specs.Faults.{IfRefusedStream, RefusesPreamble, StopsFor, StreamStopsFor};
+ghost use Rattle.sched_box.specs.Output.{StopsSending};
 ghost use Rattle.sched_box.specs.Serving.{AnswersWhole, KeepsTexts, RoomsServe, Serves, ServesStream};
 
 use crate::config::Config;
 use crate::fault::{ServeFault, StreamFault};
+use crate::input::Input;
 use crate::objects::Objects;
-use crate::output::put;
+use crate::output::{Nowhere, Output, WriteFault};
 use crate::preamble::read_preamble;
 use crate::rooms::Rooms;
 use ical_lines::Refusal;
 use ical_values::{Address, Stamp};
 use room_books::served_texts_pass;
 use std::alloc::{AllocError, Global};
-use std::io::{self, BufRead, Write};
 
 /// How many objects a stream had, and how many of them were refused.
 #[derive(Clone, Copy, Debug, PartialEq, Eq)]
@@ -29,13 +31,14 @@ pub struct ServeReport {
 }
 
 /// Reads a preamble, and serves what follows it.
-pub fn serve_stream<R: BufRead, W: Write>(
+pub fn serve_stream<R: Input, W: Output>(
     alloc: Global,
     reader: &mut R,
     writer: &mut W,
 ) -> Result<ServeReport, StreamFault>
     ensures counts { IfOk result (λ report. report.refused ≤ report.objects) }
     ensures refuses { IfErr result RefusesPreamble }
+    ensures cause { IfErr result (StreamStopsFor (R.has_failed reader.new) (W.has_failed writer.new)) }
     ensures serves { ServesStream (record { input = R.remaining reader.old; left = R.remaining reader.new; output = W.contents writer.old; written = W.contents writer.new }) result }
     ensures whole { OnOk result (AnswersWhole (record { input = R.remaining reader.old; left = R.remaining reader.new; output = W.contents writer.old; written = W.contents writer.new })) }
 {
@@ -45,9 +48,9 @@ pub fn serve_stream<R: BufRead, W: Write>(
 }
 
 /// Serves the objects of a stream from empty books, and writes the answers to each object after all rooms
-/// have taken it. Where the writer fails a beginning of the answers was written; where memory is refused, the
-/// answers to the earlier objects.
-pub fn serve<R: BufRead, W: Write>(
+/// have taken it. Read comes only where the reader has failed, Write only where the writer has: then a beginning of the
+/// answers was written; where memory is refused, the answers to the earlier objects.
+pub fn serve<R: Input, W: Output>(
     alloc: Global,
     config: &Config,
     reader: &mut R,
@@ -55,6 +58,7 @@ pub fn serve<R: BufRead, W: Write>(
     now: Stamp,
 ) -> Result<ServeReport, ServeFault>
     ensures counts { IfOk result (λ report. report.refused ≤ report.objects) }
+    ensures cause { IfErr result (StopsFor (R.has_failed reader.new) (W.has_failed writer.new)) }
     ensures serves { Serves now (new_box (config_rooms config.now))
         (record { input = R.remaining reader.old; left = R.remaining reader.new; output = W.contents writer.old; written = W.contents writer.new }) result }
 {
@@ -64,7 +68,7 @@ pub fn serve<R: BufRead, W: Write>(
 
 /// What a room keeps after the same objects: its calendar and its certificate, for which the checker says yes.
 /// Refused: 90 where the box doesn't host the room.
-pub fn keep<R: BufRead>(
+pub fn keep<R: Input>(
     alloc: Global,
     config: &Config,
     reader: &mut R,
@@ -74,13 +78,14 @@ pub fn keep<R: BufRead>(
     ensures keeps { IfOk result (λ kept. KeepsTexts now (config_rooms config.now) (R.remaining reader.old) (R.remaining reader.new) (address_octets room.now) kept.0.items kept.1.items) }
     ensures passes { IfOk result (λ kept. CertificateHolds (address_octets room.now) kept.0.items kept.1.items) }
     ensures refuses { IfErr result RefusesPreamble }
+    ensures cause { IfErr result (StreamStopsFor (R.has_failed reader.new) false) }
     ensures none { IfErr result (IfRefusedStream (Contains (config_rooms config.now) (address_octets room.now) → ⊥)) }
 {
     if !config.has_room(room) {
         return Err(not_hosted());
     }
     let mut rooms = Rooms::new(alloc, config)?;
-    let mut nowhere = io::sink();
+    let mut nowhere = Nowhere;
     serve_rooms(alloc, &mut rooms, reader, &mut nowhere, now)?;
     let Some(kept) = rooms.at(room) else {
         return Err(not_hosted());
@@ -94,12 +99,13 @@ pub fn keep<R: BufRead>(
 /// What a room gets that the box doesn't host: 90.
 fn not_hosted() -> StreamFault
     ensures refuses { RefusesPreamble result }
+    ensures cause { (reader writer : Bool) → StreamStopsFor reader writer result }
 {
     StreamFault::Refused(Refusal::BAD_PREAMBLE)
 }
 
 /// Serves the objects from whatever the rooms stand for.
-fn serve_rooms<R: BufRead, W: Write>(
+fn serve_rooms<R: Input, W: Output>(
     alloc: Global,
     rooms: &mut Rooms,
     reader: &mut R,
@@ -108,6 +114,7 @@ fn serve_rooms<R: BufRead, W: Write>(
 ) -> Result<ServeReport, ServeFault>
     ensures counts { IfOk result (λ report. report.refused ≤ report.objects) }
     ensures addresses { OnOk result (room_addresses rooms.new.rooms.items ≡ room_addresses rooms.old.rooms.items) }
+    ensures cause { IfErr result (StopsFor (R.has_failed reader.new) (W.has_failed writer.new)) }
     ensures serves { (before : List Hosted) → AreHosted rooms.old.rooms.items before → RoomsServe now before rooms.new.rooms.items
         (record { input = R.remaining reader.old; left = R.remaining reader.new; output = W.contents writer.old; written = W.contents writer.new }) result }
 {
@@ -121,11 +128,26 @@ fn serve_rooms<R: BufRead, W: Write>(
         let number = report.objects + 1;
         answers.clear();
         let refused = rooms.take(objects.octets(), number, now, &mut answers)?;
-        put(writer, answers.as_slice())?;
+        send(writer, answers.as_slice())?;
         report = ServeReport {
             objects: number,
             refused: report.refused + refused,
         };
     }
     Ok(report)
+}
+
+/// Writes the answers to an object, if there are any.
+fn send<W: Output>(writer: &mut W, answers: &[u8]) -> Result<(), ServeFault>
+    ensures written { OnOk result (Appends (W.contents writer.old) (W.contents writer.new) answers.now) }
+    ensures stops { IfErr result (StopsSending (W.contents writer.old) (W.contents writer.new) (W.has_failed writer.new) answers.now) }
+{
+    if answers.is_empty() {
+        return Ok(());
+    }
+    match writer.put(answers) {
+        Ok(()) => Ok(()),
+        Err(WriteFault::Failed) => Err(ServeFault::Write),
+        Err(WriteFault::Memory) => Err(ServeFault::Memory),
+    }
 }

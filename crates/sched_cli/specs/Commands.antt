@@ -1,5 +1,5 @@
 -- What the commands write, and the statuses that they end with.
-use Rattle.std.specs.Prelude.{◌≡◌, ◌⊎◌, ℕ, ℤ, if◌then◌else◌, ◌==◌, List, ◌++◌, codes, decimal, Option, Result, Ok, Err}
+use Rattle.std.specs.Prelude.{◌≡◌, ◌⊎◌, ℕ, ℤ, Bool, true, if◌then◌else◌, ◌==◌, List, ◌++◌, codes, decimal, Option, Result, Ok, Err}
 use Rattle.std.specs.Io.KnownBytes.{Appends}
 use Rattle.profile.specs.Calendars.{CertificateHolds}
 use Rattle.clash_check.specs.Verdicts.{IsRefusedCalendar, IsJudgement}
@@ -12,6 +12,9 @@ use Rattle.sched_box.specs.Serving.{Ends, ServesStream, KeepsTexts}
 use Rattle.sched_box.specs.declared.fault.ServeFault.TheVariants.{Read, Write, TooLong, Memory}
 use Rattle.sched_box.specs.declared.fault.StreamFault.{StreamFault}
 use Rattle.sched_box.specs.declared.fault.StreamFault.TheVariants.{Refused, Serve}
+use Rattle.sched_box.specs.declared.output.WriteFault.{WriteFault}
+use Rattle.sched_box.specs.declared.output.WriteFault.TheVariants.{Failed}
+use Rattle.sched_box.specs.declared.output.WriteFault.TheVariants as write
 use Rattle.sched_box.specs.declared.serving.ServeReport.{ServeReport}
 use Rattle.sched_cli.specs.declared.commands.Kept.{Kept}
 use Rattle.sched_cli.specs.declared.commands.Kept.TheVariants.{Calendar, Certificate}
@@ -25,6 +28,15 @@ fault_status (Serve Read) = 4
 fault_status (Serve Write) = 4
 fault_status (Serve TooLong) = 3
 fault_status (Serve Memory) = 5
+
+-- and for what isn't written whole
+abbrev pub write_status : WriteFault → ℕ
+write_status Failed = 4
+write_status write.Memory = 5
+
+-- a device is blamed only where one has failed: the reader, the writer
+abbrev pub BlamesDevice : Bool → Bool → ℕ → Type 0
+BlamesDevice reader writer status = status ≡ 4 → (reader ≡ true) ⊎ (writer ≡ true)
 
 -- 0 where all objects were served
 abbrev pub stream_status : Result ServeReport StreamFault → ℕ

@@ -1,17 +1,19 @@
 //! What each command does, and the status that it ends with.
 
-ghost use Rattle.std.specs.Prelude.{◌≡◌, ◌≤◌, ◌⊎◌, IfOk, IfErr, OnOk};
+ghost use Rattle.std.specs.Prelude.{◌≡◌, ◌≤◌, ◌++◌, ◌⊎◌, true, false, IfOk, IfErr, OnOk};
 ghost use Rattle.std.specs.Io.KnownBytes.{Appends};
 ghost use Rattle.profile.specs.Calendars.{CertificateHolds};
 ghost use Rattle.ical_values.specs.Octets.{address_octets};
-ghost use Rattle.sched_cli.specs.Commands.{ServesWith, WritesKept, KeepsBoth, WritesVerdict, verdict_line, verdict_status, no_line};
+ghost use Rattle.sched_box.specs.Faults.{StreamStopsFor};
+ghost use Rattle.sched_box.specs.Output.{WriteStopsFor};
+ghost use Rattle.sched_cli.specs.Commands.{BlamesDevice, ServesWith, WritesKept, KeepsBoth, WritesVerdict, verdict_line, verdict_status, no_line};
 
-use crate::status::{DONE, NO, report_device, report_memory, report_stream};
+use crate::status::{DONE, NO, report_memory, report_stream, report_write};
 use clash_check::{Checked, Verdict, Why, check};
 use ical_values::Address;
-use sched_box::{StreamFault, keep, read_preamble, serve_stream};
+use sched_box::{Input, Output, StreamFault, WriteFault, keep, read_preamble, serve_stream};
 use std::alloc::Global;
-use std::io::{self, BufRead, Write};
+use std::io::{self, Write};
 
 /// Which of a room's two texts is wanted.
 #[derive(Clone, Copy, PartialEq, Eq)]
@@ -21,13 +23,14 @@ pub enum Kept {
 }
 
 /// `serve`: reads a preamble and objects, and writes the answers.
-pub fn run_serve<R: BufRead, W: Write, E: Write>(
+pub fn run_serve<R: Input, W: Output, E: Write>(
     alloc: Global,
     reader: &mut R,
     writer: &mut W,
     errors: &mut E,
 ) -> u8
-    ensures { ServesWith result (record { input = R.remaining reader.old; left = R.remaining reader.new; output = W.contents writer.old; written = W.contents writer.new }) }
+    ensures device { BlamesDevice (R.has_failed reader.new) (W.has_failed writer.new) result }
+    ensures serves { ServesWith result (record { input = R.remaining reader.old; left = R.remaining reader.new; output = W.contents writer.old; written = W.contents writer.new }) }
 {
     match serve_stream(alloc, reader, writer) {
         Ok(_) => DONE,
@@ -36,7 +39,7 @@ pub fn run_serve<R: BufRead, W: Write, E: Write>(
 }
 
 /// `keep`: reads the same input, and writes what the room keeps after it.
-pub fn run_keep<R: BufRead, W: Write, E: Write>(
+pub fn run_keep<R: Input, W: Output, E: Write>(
     alloc: Global,
     room: &Address,
     kept: Kept,
@@ -44,6 +47,8 @@ pub fn run_keep<R: BufRead, W: Write, E: Write>(
     writer: &mut W,
     errors: &mut E,
 ) -> u8
+    ensures device { BlamesDevice (R.has_failed reader.new) (W.has_failed writer.new) result }
+    ensures status { (result ≡ 0) ⊎ (result ≡ 3) ⊎ (result ≡ 4) ⊎ (result ≡ 5) }
     ensures kept { result ≡ 0 → WritesKept kept (address_octets room.now)
         (record { input = R.remaining reader.old; left = R.remaining reader.new; output = W.contents writer.old; written = W.contents writer.new }) }
 {
@@ -60,11 +65,12 @@ pub fn run_keep<R: BufRead, W: Write, E: Write>(
 }
 
 /// What the room keeps after a stream: its calendar and its certificate.
-fn keep_stream<R: BufRead>(
+fn keep_stream<R: Input>(
     alloc: Global,
     room: &Address,
     reader: &mut R,
 ) -> Result<(Vec<u8>, Vec<u8>), StreamFault>
+    ensures cause { IfErr result (StreamStopsFor (R.has_failed reader.new) false) }
     ensures keeps { IfOk result (λ kept. KeepsBoth (R.remaining reader.old) (R.remaining reader.new) (address_octets room.now) kept.0.items kept.1.items) }
 {
     let (config, now) = read_preamble(alloc, reader)?;
@@ -72,19 +78,20 @@ fn keep_stream<R: BufRead>(
 }
 
 /// Writes octets, whole.
-fn write_out<W: Write, E: Write>(writer: &mut W, errors: &mut E, octets: &[u8]) -> u8
+fn write_out<W: Output, E: Write>(writer: &mut W, errors: &mut E, octets: &[u8]) -> u8
     ensures written { result ≡ 0 → Appends (W.contents writer.old) (W.contents writer.new) octets.now }
-    ensures status { (result ≡ 0) ⊎ (result ≡ 4) }
+    ensures device { BlamesDevice false (W.has_failed writer.new) result }
+    ensures status { (result ≡ 0) ⊎ (result ≡ 4) ⊎ (result ≡ 5) }
 {
-    if writer.write_all(octets).is_err() || writer.flush().is_err() {
-        return report_device(errors);
+    match writer.put(octets) {
+        Ok(()) => DONE,
+        Err(fault) => report_write(errors, fault),
     }
-    DONE
 }
 
 /// `check`: does the certificate stand for the calendar of this room? Writes `yes`, or `no` with its number, and
 /// for 81 the line, for 83 the pair.
-pub fn run_check<W: Write, E: Write>(
+pub fn run_check<W: Output, E: Write>(
     alloc: Global,
     calendar: &[u8],
     certificate: &[u8],
@@ -95,14 +102,15 @@ pub fn run_check<W: Write, E: Write>(
     ensures yes { result ≡ 0 → CertificateHolds (address_octets room.now) calendar.now certificate.now }
     ensures no { result ≡ 1 → CertificateHolds (address_octets room.now) calendar.now certificate.now → ⊥ }
     ensures answers { result ≤ 1 → WritesVerdict result (address_octets room.now) calendar.now certificate.now (W.contents writer.old) (W.contents writer.new) }
+    ensures device { BlamesDevice false (W.has_failed writer.new) result }
     ensures status { (result ≤ 1) ⊎ (result ≡ 4) ⊎ (result ≡ 5) }
 {
     let Ok(checked) = check(alloc, calendar, certificate, room) else {
         return report_memory(errors);
     };
-    match print_verdict(writer, checked) {
+    match print_verdict(alloc, writer, checked) {
         Ok(()) => status_of(checked),
-        Err(_) => report_device(errors),
+        Err(fault) => report_write(errors, fault),
     }
 }
 
@@ -118,22 +126,38 @@ fn status_of(checked: Checked) -> u8
     }
 }
 
-fn print_verdict<W: Write>(writer: &mut W, checked: Checked) -> io::Result<()>
-    ensures { OnOk result (Appends (W.contents writer.old) (W.contents writer.new) (verdict_line checked.verdict)) }
+/// Writes the line of the checker's answer, whole.
+fn print_verdict<W: Output>(
+    alloc: Global,
+    writer: &mut W,
+    checked: Checked,
+) -> Result<(), WriteFault>
+    ensures line { OnOk result (Appends (W.contents writer.old) (W.contents writer.new) (verdict_line checked.verdict)) }
+    ensures cause { IfErr result (WriteStopsFor (W.has_failed writer.new)) }
 {
-    match checked.verdict {
-        Verdict::Yes => writeln!(writer, "yes")?,
-        Verdict::No(why) => print_no(writer, why)?,
-    }
-    writer.flush()
+    let mut line = Vec::new(alloc);
+    let Ok(()) = append_verdict(&mut line, checked.verdict) else {
+        return Err(WriteFault::Memory);
+    };
+    writer.put(line.as_slice())
 }
 
-fn print_no<W: Write>(writer: &mut W, why: Why) -> io::Result<()>
-    ensures { OnOk result (Appends (W.contents writer.old) (W.contents writer.new) (no_line why)) }
+/// The line of a verdict.
+fn append_verdict(line: &mut Vec<u8>, verdict: Verdict) -> io::Result<()>
+    ensures { OnOk result (line.new.items ≡ line.old.items ++ verdict_line verdict) }
+{
+    match verdict {
+        Verdict::Yes => writeln!(line, "yes"),
+        Verdict::No(why) => append_no(line, why),
+    }
+}
+
+fn append_no(line: &mut Vec<u8>, why: Why) -> io::Result<()>
+    ensures { OnOk result (line.new.items ≡ line.old.items ++ no_line why) }
 {
     match why.number {
-        Why::TEXT => writeln!(writer, "no {} {}", why.number, why.first),
-        Why::ENTRY => writeln!(writer, "no {} {} {}", why.number, why.first, why.second),
-        _ => writeln!(writer, "no {}", why.number),
+        Why::TEXT => writeln!(line, "no {} {}", why.number, why.first),
+        Why::ENTRY => writeln!(line, "no {} {} {}", why.number, why.first, why.second),
+        _ => writeln!(line, "no {}", why.number),
     }
 }

@@ -1,7 +1,7 @@
 //! `expand`: the instances of one event, one line each: its original start, its start, and how many seconds it lasts.
 
-ghost use Rattle.std.specs.Prelude.{◌≡◌, ◌⊎◌, ◌++◌, ◌∷◌, ◌<◌, ℕ, List, [], decimal, Some, None, OnOk, IfOk, IfSome, IfNone};
-ghost use Rattle.std.specs.Io.KnownBytes.{Appends, Keeps};
+ghost use Rattle.std.specs.Prelude.{◌≡◌, ◌⊎◌, ◌++◌, ◌∷◌, ◌<◌, ℕ, List, [], decimal, Some, None, false, OnOk, IfOk, IfErr, IfSome, IfNone};
+ghost use Rattle.std.specs.Io.KnownBytes.{Appends};
 ghost use Rattle.profile.specs.Days.{day_index};
 ghost use Rattle.profile.specs.Values.{IsClockSeconds};
 ghost use Rattle.profile.specs.Rules.{rule_days_from};
@@ -10,30 +10,27 @@ ghost use Rattle.profile.specs.Zones.{Means, IsNearEpoch, local_time};
 ghost use Rattle.profile.specs.Properties.{length_seconds};
 ghost use Rattle.profile.specs.ZonedTimes.{clock_of};
 ghost use Rattle.cal_events.specs.Events.{event_of, length_of, zone_said};
+ghost use Rattle.sched_box.specs.Output.{WriteStopsFor};
+ghost use Rattle.sched_cli.specs.Commands.{BlamesDevice};
 ghost use Rattle.sched_cli.specs.Expanding.{IsInstanceLine, IsPrinted, IsPrintedOn, IsHandedOver, IsSecondOf, PrintsFirst, PrintsSeries, ExpandsTo};
 
-use crate::status::{DONE, report_device, report_memory, report_refused};
+use crate::status::{DONE, report_memory, report_refused, report_write};
 use cal_days::Day;
 use cal_events::{EventComponent, EventTimes, ZonedTime, read_series};
 use cal_rules::Rule;
 use ical_lines::Fault;
 use ical_values::{DAY_SECONDS, LocalTime, Stamp};
 use itoa::Buffer;
+use sched_box::{Output, WriteFault};
 use std::alloc::{AllocError, Global};
 use std::io::Write;
 
 /// Lines are handed to the writer once they have so many octets.
 const FULL: usize = 65_536;
 
-/// Why not all that was asked for was printed.
-enum PrintFault {
-    Device,
-    Memory,
-}
-
 /// `expand`: prints the first instances of the event that an object says, at most `limit` of them, as lines `slot start seconds`
 /// by start.
-pub fn run_expand<W: Write, E: Write>(
+pub fn run_expand<W: Output, E: Write>(
     alloc: Global,
     octets: &[u8],
     limit: usize,
@@ -42,6 +39,7 @@ pub fn run_expand<W: Write, E: Write>(
 ) -> u8
     ensures expands { result ≡ 0 → ExpandsTo octets.now limit (W.contents writer.old) (W.contents writer.new) }
     ensures refused { result ≡ 3 → (n : ℕ) × SeriesTextFault octets.now n }
+    ensures device { BlamesDevice false (W.has_failed writer.new) result }
     ensures status { (result ≡ 0) ⊎ (result ≡ 3) ⊎ (result ≡ 4) ⊎ (result ≡ 5) }
 {
     let event = match read_series(alloc, octets) {
@@ -51,43 +49,44 @@ pub fn run_expand<W: Write, E: Write>(
     };
     match print_series(alloc, &event, limit, writer) {
         Ok(()) => DONE,
-        Err(PrintFault::Device) => report_device(errors),
-        Err(PrintFault::Memory) => report_memory(errors),
+        Err(fault) => report_write(errors, fault),
     }
 }
 
 /// The lines of the first instances of an event.
-fn print_series<W: Write>(
+fn print_series<W: Output>(
     alloc: Global,
     event: &EventComponent,
     limit: usize,
     writer: &mut W,
-) -> Result<(), PrintFault>
-    ensures { OnOk result (PrintsSeries (event_of event.now) limit (W.contents writer.old) (W.contents writer.new)) }
+) -> Result<(), WriteFault>
+    ensures cause { IfErr result (WriteStopsFor (W.has_failed writer.new)) }
+    ensures prints { OnOk result (PrintsSeries (event_of event.now) limit (W.contents writer.old) (W.contents writer.new)) }
 {
     let mut lines = Lines::new(alloc, event.times.seconds())?;
     let Some(rule) = &event.rule else {
         lines.append_instant(event.times.start.instant())?;
-        lines.finish(writer)?;
+        lines.hand_over(writer)?;
         return Ok(());
     };
     print_days(&event.times, rule, limit, &mut lines, writer)?;
-    lines.finish(writer)?;
+    lines.hand_over(writer)?;
     Ok(())
 }
 
 /// The lines of the first days of a rule. The starts ascend, as two offsets of a zone lie at most 12 hours apart, so no
 /// line follows the first start that no stamp writes: that of the year 10000.
-fn print_days<W: Write>(
+fn print_days<W: Output>(
     times: &EventTimes,
     rule: &Rule,
     limit: usize,
     lines: &mut Lines,
     writer: &mut W,
-) -> Result<(), PrintFault>
+) -> Result<(), WriteFault>
     requires text { lines.old.text.items ≡ [] }
     requires length { lines.old.length.items ≡ decimal (length_seconds (length_of times.now.length)) ++ 10 ∷ [] }
-    ensures { OnOk result ((second : ℕ) × IsSecondOf times.now.start.local second × PrintsFirst (clock_of (zone_said times.now.start)) second (length_seconds (length_of times.now.length)) limit
+    ensures cause { IfErr result (WriteStopsFor (W.has_failed writer.new)) }
+    ensures prints { OnOk result ((second : ℕ) × IsSecondOf times.now.start.local second × PrintsFirst (clock_of (zone_said times.now.start)) second (length_seconds (length_of times.now.length)) limit
         (rule_days_from rule.now rule.now.pattern.start) (W.contents writer.old) (W.contents writer.new) lines.new.text.items) }
 {
     let (_, second) = times.start.local.day_and_second();
@@ -102,14 +101,15 @@ fn print_days<W: Write>(
 }
 
 /// The line of the instance of a day.
-fn print_day<W: Write>(
+fn print_day<W: Output>(
     times: &EventTimes,
     day: Day,
     second: u32,
     lines: &mut Lines,
     writer: &mut W,
-) -> Result<(), PrintFault>
+) -> Result<(), WriteFault>
     requires { lines.old.length.items ≡ decimal (length_seconds (length_of times.now.length)) ++ 10 ∷ [] }
+    ensures cause { IfErr result (WriteStopsFor (W.has_failed writer.new)) }
     ensures length { lines.new.length.items ≡ lines.old.length.items }
     ensures line { OnOk result ((line : List ℕ) × IsPrintedOn (clock_of (zone_said times.now.start)) second (length_seconds (length_of times.now.length)) (day_index day) line
         × IsHandedOver (W.contents writer.old) (W.contents writer.new) lines.new.text.items (lines.old.text.items ++ line)) }
@@ -138,12 +138,6 @@ fn append_day(
     };
     lines.append_instant(instant)?;
     Ok(())
-}
-
-impl From<AllocError> for PrintFault {
-    fn from(_error: AllocError) -> PrintFault {
-        PrintFault::Memory
-    }
 }
 
 /// The lines of instances that all last as long, on their way to a writer.
@@ -200,34 +194,15 @@ impl Lines {
     }
 
     /// Writes the lines, and forgets them.
-    fn hand_over<W: Write>(&mut self, writer: &mut W) -> Result<(), PrintFault>
+    fn hand_over<W: Output>(&mut self, writer: &mut W) -> Result<(), WriteFault>
         ensures written { OnOk result (Appends (W.contents writer.old) (W.contents writer.new) self.old.text.items) }
+        ensures cause { IfErr result (WriteStopsFor (W.has_failed writer.new)) }
         ensures text { OnOk result (self.new.text.items ≡ []) }
         ensures length { self.new.length.items ≡ self.old.length.items }
     {
-        if writer.write_all(self.text.as_slice()).is_err() {
-            return Err(PrintFault::Device);
-        }
+        writer.put(self.text.as_slice())?;
         self.text.clear();
         Ok(())
-    }
-
-    /// Writes the lines that are left, and flushes.
-    fn finish<W: Write>(&mut self, writer: &mut W) -> Result<(), PrintFault>
-        ensures { OnOk result (Appends (W.contents writer.old) (W.contents writer.new) self.old.text.items) }
-    {
-        self.hand_over(writer)?;
-        flush(writer)?;
-        Ok(())
-    }
-}
-
-fn flush<W: Write>(writer: &mut W) -> Result<(), PrintFault>
-    ensures { Keeps (W.contents writer.old) (W.contents writer.new) }
-{
-    match writer.flush() {
-        Ok(()) => Ok(()),
-        Err(_) => Err(PrintFault::Device),
     }
 }
 

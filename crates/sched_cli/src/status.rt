@@ -1,10 +1,10 @@
 //! The exit statuses of `roombox`, and what it says on standard error.
 
 ghost use Rattle.std.specs.Prelude.{◌≡◌};
-ghost use Rattle.sched_cli.specs.Commands.{fault_status};
+ghost use Rattle.sched_cli.specs.Commands.{fault_status, write_status};
 
 use ical_lines::Refusal;
-use sched_box::{ServeFault, StreamFault};
+use sched_box::{ServeFault, StreamFault, WriteFault};
 use std::io::Write;
 
 /// Done. Objects that were refused in a stream leave it.
@@ -30,6 +30,16 @@ pub fn report_stream<E: Write>(errors: &mut E, fault: StreamFault) -> u8
         StreamFault::Serve(ServeFault::Write) => report_device(errors),
         StreamFault::Serve(ServeFault::TooLong) => report_too_long(errors),
         StreamFault::Serve(ServeFault::Memory) => report_memory(errors),
+    }
+}
+
+/// Says why something wasn't written whole, and gives the status for it.
+pub fn report_write<E: Write>(errors: &mut E, fault: WriteFault) -> u8
+    ensures { result ≡ write_status fault }
+{
+    match fault {
+        WriteFault::Failed => report_device(errors),
+        WriteFault::Memory => report_memory(errors),
     }
 }
 

@@ -6,7 +6,7 @@ use Rattle.sched_box.proofs.preamble.take_preamble.Given as goal
 
 abbrev pub invariant-loop-place : goal.invariant-loop-place
 invariant-loop-place g l =
-    Consumes (g.R.Read.remaining l.fn.reader) (g.R.Read.remaining l.reader) l.octets.items × Leads Start l.octets.items l.place
+    Consumes (g.R.Input.remaining l.fn.reader) (g.R.Input.remaining l.reader) l.octets.items × Leads Start l.octets.items l.place
 
 abbrev pub decreases-loop-place : goal.decreases-loop-place
 decreases-loop-place g l = 65_537 - length l.octets.items

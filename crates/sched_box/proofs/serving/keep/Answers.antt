@@ -25,3 +25,6 @@ returns-clause-passes g c =
     subst (λ text. CertificateHolds room calendar text) (sym k.certificate_is)
     (subst (λ a. CertificateHolds a calendar (kept_certificate k.kept.book)) k.at
     (c.served_texts_pass.ensures c.args.now (config_rooms c.args.config.now) 1 k.objects k.after k.octets k.refused k.answers k.kept k.has calendar (subst (λ a. IsKeptCalendar a k.kept.book calendar) (sym k.at) k.calendar_is)))
+
+pub returns-then-not-has_room-clause-cause : goal.returns-then-not-has_room-clause-cause
+returns-then-not-has_room-clause-cause g c = c.not_hosted.ensures.cause _ _

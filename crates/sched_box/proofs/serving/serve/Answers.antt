@@ -7,7 +7,7 @@ use Rattle.sched_box.proofs.serving.serve.Goals as goal
 pub returns-in_err-rooms-clause-serves : goal.returns-in_err-rooms-clause-serves
 returns-in_err-rooms-clause-serves g c =
     let p = err_from_is_err_and c.from_residual.result c.from_residual.ensures.1 in
-    rw p.1 (serves_none c.args.now (new_box (config_rooms c.args.config.now)) (g.R.Read.remaining c.args.reader.now) (g.W.Write.contents c.args.writer.now) p.0 p.2)
+    rw p.1 (serves_none c.args.now (new_box (config_rooms c.args.config.now)) (g.R.Input.remaining c.args.reader.now) (g.W.Output.contents c.args.writer.now) p.0 p.2)
 
 pub returns-clause-serves : goal.returns-clause-serves
 returns-clause-serves g c =

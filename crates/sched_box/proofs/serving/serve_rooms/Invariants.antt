@@ -3,7 +3,7 @@ use Rattle.sched_box.proofs.serving.serve_rooms.Given as goal
 
 abbrev pub invariant-loop-answers : goal.invariant-loop-answers
 invariant-loop-answers g l =
-    Sofar l.now l.fn.rooms.rooms.items l.rooms.rooms.items (g.R.Read.remaining l.fn.reader) (g.R.Read.remaining l.reader) (g.W.Write.contents l.fn.writer) (g.W.Write.contents l.writer) l.objects.left l.report
+    Sofar l.now l.fn.rooms.rooms.items l.rooms.rooms.items (g.R.Input.remaining l.fn.reader) (g.R.Input.remaining l.reader) (g.W.Output.contents l.fn.writer) (g.W.Output.contents l.writer) l.objects.left l.report
 
 abbrev pub decreases-loop-answers : goal.decreases-loop-answers
 decreases-loop-answers g l = l.objects.left

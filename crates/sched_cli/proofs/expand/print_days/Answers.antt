@@ -16,6 +16,6 @@ loop-count-preserved g c =
       length = ◌∙◌ {A = List ℕ} c.print_day.ensures.length i.length;
       printed = one_more (clock_of (zone_said c.args.times.now.start)) c.day_and_second-second.result.1 (length_seconds (length_of c.args.times.now.length)) c.loop-count.count (day_index c.in-Some.day)
           (rule_days_from c.args.rule.now c.args.rule.now.pattern.start) (days_left c.loop-count.days) (days_left c.next.new.self)
-          (g.W.Write.contents c.args.writer.now) (g.W.Write.contents c.loop-count.writer) (g.W.Write.contents c.print_day.new.writer)
+          (g.W.Output.contents c.args.writer.now) (g.W.Output.contents c.loop-count.writer) (g.W.Output.contents c.print_day.new.writer)
           c.loop-count.lines.text.items c.print_day.new.lines.text.items moved.0 c.in-Some.ensures.steps moved.1 moved.2 i.printed;
     }

@@ -10,5 +10,5 @@ use Rattle.sched_cli.proofs.expand.print_days.Given as goal
 abbrev pub invariant-loop-count : goal.invariant-loop-count
 invariant-loop-count g l = record {
   length : l.lines.length.items ≡ decimal (length_seconds (length_of l.times.length)) ++ 10 ∷ [];
-  printed : PrintsUpTo (clock_of (zone_said l.times.start)) l.second (length_seconds (length_of l.times.length)) l.count (rule_days_from l.rule l.rule.pattern.start) (days_left l.days) (g.W.Write.contents l.fn.writer) (g.W.Write.contents l.writer) l.lines.text.items;
+  printed : PrintsUpTo (clock_of (zone_said l.times.start)) l.second (length_seconds (length_of l.times.length)) l.count (rule_days_from l.rule l.rule.pattern.start) (days_left l.days) (g.W.Output.contents l.fn.writer) (g.W.Output.contents l.writer) l.lines.text.items;
 }

@@ -2,18 +2,17 @@ use Rattle.std.proofs.Common.{◌++◌, subst, arith, length-append}
 use Rattle.std.proofs.lemmas.Result.{err_from_is_err_and}
 use Rattle.std.proofs.KnownBytes.{Consumes-trans, Consumes-kept}
 use Rattle.ical_lines.specs.Cut.{fresh}
-use Rattle.sched_box.specs.Objects.{IsPieceEnd}
-use Rattle.sched_box.proofs.ObjectLemmas.{cuts_trans, kept_more, ends_from, end_from, whole_object, last_object, stops_in, not_long, not_written}
+use Rattle.sched_box.specs.Objects.{IsPieceEnd, LeavesMore}
+use Rattle.sched_box.proofs.ObjectLemmas.{cuts_trans, kept_more, ends_from, end_from, whole_object, last_object, stops_in, piece_stops}
 use Rattle.sched_box.proofs.objects.Objects.next_object.Goals as goal
 
 pub returns-in_err-take_piece-clause-stops : goal.returns-in_err-take_piece-clause-stops
 returns-in_err-take_piece-clause-stops g c =
     let (taken, consumed, kept, cuts, left) = c.loop-self.invariant in
     let p = err_from_is_err_and c.from_residual.result c.from_residual.ensures.1 in
-    let fault = c.in_err-take_piece.ensures.faults in
     let same = c.in_err-take_piece.ensures.left in
     rw (p.1, p.2)
-    (stops_in _ _ taken _ (Consumes-kept _ _ _ _ consumed c.in_err-take_piece.ensures.keeps) cuts _ _ _ (omega arith) (λ e. absurd (not_long _ fault e)) (not_written _ fault))
+    (stops_in _ _ taken _ (Consumes-kept _ _ _ _ consumed c.in_err-take_piece.ensures.keeps) cuts _ _ _ (omega arith) (piece_stops _ _ c.in_err-take_piece.ensures.faults (omega arith)))
 
 pub loop-self-preserved : goal.loop-self-preserved
 loop-self-preserved g c =
@@ -34,6 +33,7 @@ returns-in-Ended-clause-reads g c =
       taken ++ t.taken,
       whole_object _ _ _ _ (Consumes-trans _ _ _ _ _ consumed t.consumed) (cuts_trans fresh _ _ taken t.taken cuts t.cuts) _ (kept_more 1_048_577 _ _ taken t.taken kept t.kept) (ends_from _ _ _ taken t.taken _ consumed ended),
       (let l = t.left in omega (arith, length-append taken t.taken)),
+      subst (λ p. LeavesMore p c.take_piece.new.self.left) c.in-Ended.is t.more,
     )
 
 pub returns-in-End-clause-reads : goal.returns-in-End-clause-reads
@@ -44,9 +44,10 @@ returns-in-End-clause-reads g c =
       taken ++ t.taken,
       last_object _ _ _ _ (Consumes-trans _ _ _ _ _ consumed t.consumed) (cuts_trans fresh _ _ taken t.taken cuts t.cuts) _ _ (kept_more 1_048_577 _ _ taken t.taken kept t.kept) (end_from _ _ _ _ consumed ended) c.has_begun.ensures,
       (let l = t.left in omega (arith, length-append taken t.taken)),
+      subst (λ p. LeavesMore p c.take_piece.new.self.left) c.in-End.is t.more,
     )
 
 pub returns-clause-stops : goal.returns-clause-stops
 returns-clause-stops g c =
     let (taken, consumed, kept, cuts, left) = c.loop-self.invariant in
-    stops_in _ _ taken _ consumed cuts _ _ _ left (λ e. omega arith) (λ e. cc)
+    stops_in _ _ taken _ consumed cuts _ _ _ left (omega arith)

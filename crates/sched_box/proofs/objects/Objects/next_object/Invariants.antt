@@ -6,7 +6,7 @@ use Rattle.sched_box.proofs.objects.Objects.next_object.Given as goal
 
 abbrev pub invariant-loop-self : goal.invariant-loop-self
 invariant-loop-self g l =
-    (taken : List ℕ) × Consumes (g.R.Read.remaining l.fn.reader) (g.R.Read.remaining l.reader) taken
+    (taken : List ℕ) × Consumes (g.R.Input.remaining l.fn.reader) (g.R.Input.remaining l.reader) taken
     × (l.self.octets.items ≡ kept_of taken) × Cuts fresh taken l.cutter × (l.self.left + length taken ≡ l.fn.self.left)
 
 abbrev pub decreases-loop-self : goal.decreases-loop-self

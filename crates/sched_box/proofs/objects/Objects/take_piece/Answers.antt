@@ -1,28 +1,26 @@
-use Rattle.std.proofs.Common.{◌≤◌, take, length, sym, subst, rules}
-use Rattle.std.specs.Io.BufRead.{FillKeeps}
+use Rattle.std.proofs.Common.{◌≤◌, ◌-◌, take, length, sym, subst, rules}
 use Rattle.std.specs.Io.KnownBytes.{Consumes}
-use Rattle.std.proofs.BufReadLemmas.{Consumes_shown}
-use Rattle.sched_box.specs.Objects.{IsPieceEnd}
-use Rattle.sched_box.proofs.ObjectLemmas.{piece_end, same_piece, left_over}
+use Rattle.sched_box.specs.Objects.{IsPieceEnd, LeavesMore}
+use Rattle.sched_box.proofs.InputLemmas.{taken_of}
+use Rattle.sched_box.proofs.ObjectLemmas.{piece_end, same_piece, left_over, leaves_more}
 use Rattle.sched_box.proofs.objects.Objects.take_piece.Goals as goal
 
 pub returns-clause-takes : goal.returns-clause-takes
 returns-clause-takes g c =
-    let lent = c.in-Ok.lent.now in
+    let lent = c.buffer-lent.result.now in
     let most = c.min.result in
     let scanned = c.scan-scanned in
     let count = scanned.result.count in
-    let rested = c.fill_buf.follows.lender-at-none in
-    let filled = subst (FillKeeps _ (g.R.Read.remaining rested) (g.R.BufRead.consumable_len rested)) c.in-Ok.is c.fill_buf.follows.holds-at-none in
     let within : count ≤ length (take most lent) = scanned.ensures.within in
     let shown : count ≤ length lent = search rules in
-    let moved = Consumes_shown _ _ _ _ lent count shown c.in-Ok.ensures.front c.in-Ok.ensures.end filled.0 filled.1 c.consume.ensures.bytes in
+    let takes = taken_of _ _ _ _ lent count c.buffer-lent.ensures c.fill.ensures.keeps c.fill.ensures.front c.in-Ok.ensures.end c.consume.ensures shown in
     record {
       taken = take count (take most lent);
-      consumed = subst (Consumes _ _) (sym (same_piece lent most count within)) moved.0;
+      consumed = subst (Consumes _ _) (sym (same_piece lent most count within)) takes.moved.0;
       kept = c.in_ok-keep_front.ensures;
       left = left_over lent most count c.args.self.now.left c.min.ensures within;
+      more = subst (λ p. LeavesMore p (c.args.self.now.left - count)) (sym c.piece.ensures) (leaves_more lent most count c.args.self.now.left scanned.result.ended c.min.ensures c.requires within scanned.ensures.before);
       cuts = scanned.ensures.cuts;
       ends = subst (IsPieceEnd _ _ _ _) (sym c.piece.ensures)
-          (piece_end _ _ lent most count c.args.self.now.left scanned.result.ended _ c.min.ensures c.requires within scanned.ensures.before scanned.ensures.ended scanned.ensures.all c.in-Ok.ensures.front moved);
+          (piece_end _ _ lent most count c.args.self.now.left scanned.result.ended _ c.min.ensures c.requires within scanned.ensures.before scanned.ensures.ended scanned.ensures.all takes.front takes.moved);
     }

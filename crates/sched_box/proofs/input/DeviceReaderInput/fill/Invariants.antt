@@ -1,0 +1,6 @@
+use Rattle.std.specs.Io.KnownBytes.{Keeps}
+use Rattle.std.specs.Io.Buffered.{reader_remaining}
+use Rattle.sched_box.proofs.input.DeviceReaderInput.fill.Given as goal
+
+abbrev pub invariant-loop : goal.invariant-loop
+invariant-loop g l = Keeps (reader_remaining g.R.Read.remaining l.fn.self.reader) (reader_remaining g.R.Read.remaining l.self.reader)

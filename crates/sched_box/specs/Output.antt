@@ -1,0 +1,24 @@
+-- What a writer that fails has taken, and what serving answers for it.
+use Rattle.std.specs.Prelude.{◌≡◌, ◌<◌, ℕ, Bool, true, List, length, take, Option}
+use Rattle.std.specs.Io.KnownBytes.{Appends, Keeps}
+use Rattle.sched_box.specs.declared.fault.ServeFault.{ServeFault}
+use Rattle.sched_box.specs.declared.fault.ServeFault.TheVariants.{Read, Write, TooLong, Memory as NoMemory}
+use Rattle.sched_box.specs.declared.output.WriteFault.{WriteFault}
+use Rattle.sched_box.specs.declared.output.WriteFault.TheVariants.{Failed, Memory}
+
+-- of the octets a beginning was written where the writer has failed, none where memory was refused
+abbrev pub StopsWriting : Option (List ℕ) → Option (List ℕ) → Bool → List ℕ → WriteFault → Type 0
+StopsWriting old new failed octets Failed = (failed ≡ true) × ((n : ℕ) × Appends old new (take n octets))
+StopsWriting old new failed octets Memory = Keeps old new
+
+-- a fault of the writer comes only where it has failed
+abbrev pub WriteStopsFor : Bool → WriteFault → Type 0
+WriteStopsFor failed Failed = failed ≡ true
+WriteStopsFor failed Memory = Unit {0}
+
+-- the same of answers, of which there are some
+abbrev pub StopsSending : Option (List ℕ) → Option (List ℕ) → Bool → List ℕ → ServeFault → Type 0
+StopsSending old new failed octets Write = (failed ≡ true) × (0 < length octets) × ((n : ℕ) × Appends old new (take n octets))
+StopsSending old new failed octets NoMemory = Keeps old new
+StopsSending old new failed octets Read = ⊥
+StopsSending old new failed octets TooLong = ⊥

@@ -1,0 +1,134 @@
+//! Where octets are read from: octets in memory, or a device that may fail.
+
+ghost use Rattle.std.specs.Prelude.{◌≡◌, ◌≤◌, ℕ, List, Option, Some, None, Bool, true, false, length, take, IfSome, OnSome, IfOk, IfErr, OnOk, OnErr};
+ghost use Rattle.std.specs.Io.KnownBytes.{Consumes, IsAtEnd, Keeps};
+ghost use Rattle.std.specs.Io.{StartsWith};
+ghost use Rattle.std.specs.Io.Buffered.{reader_buffer, reader_remaining};
+
+use std::alloc::Global;
+use std::io::{self, BufRead, BufReader, ErrorKind, Read};
+
+/// How often an interrupted call is tried again before the device counts as failed.
+pub(crate) const TRIES: u32 = 1_000;
+
+/// A reader that lends its octets, and tells whether it has failed.
+pub trait Input {
+    // The octets that are still to come, where it tells them.
+    ghost remaining: { Self → Option (List ℕ) } = { λ _. None };
+
+    // The octets that it lends.
+    ghost lent: { Self → List ℕ };
+
+    // A call of it has failed.
+    ghost has_failed: { Self → Bool };
+
+    /// Has octets to lend, unless the input has ended. An error only where it has failed.
+    fn fill(&mut self) -> io::Result<()>
+        ensures keeps { Keeps (Self.remaining self.old) (Self.remaining self.new) }
+        ensures front { IfSome (Self.remaining self.new) (λ octets. StartsWith octets (Self.lent self.new)) }
+        ensures end { OnOk result (length (Self.lent self.new) ≡ 0 → OnSome (Self.remaining self.old) (IsAtEnd (Self.remaining self.new))) }
+        ensures failed { OnErr result (Self.has_failed self.new ≡ true) };
+
+    /// The octets that it lends.
+    fn buffer(&self) -> &[u8]
+        ensures { result.now ≡ Self.lent self.now };
+
+    /// Takes so many of them.
+    fn consume(&mut self, count: usize)
+        ensures { count ≤ length (Self.lent self.old) → IfSome (Self.remaining self.old) (λ octets. StartsWith octets (Self.lent self.old))
+            → Consumes (Self.remaining self.old) (Self.remaining self.new) (take count (Self.lent self.old)) };
+}
+
+/// Octets in memory never fail.
+impl Input for &[u8] {
+    ghost remaining = { λ octets. Some octets.now };
+
+    ghost lent = { λ octets. octets.now };
+
+    ghost has_failed = { λ _. false };
+
+    fn fill(&mut self) -> io::Result<()> {
+        Ok(())
+    }
+
+    fn buffer(&self) -> &[u8] {
+        *self
+    }
+
+    fn consume(&mut self, count: usize) {
+        let octets: &[u8] = *self;
+        *self = &octets[count.min(octets.len())..];
+    }
+}
+
+/// A reader of a device, with a buffer. An interrupted read is tried again, up to 1,000 times; any other error is a failure.
+#[derive(Drop)]
+pub struct DeviceReader<R: Read + Drop> {
+    reader: BufReader<R>,
+    failed: bool,
+}
+
+impl<R: Read + Drop> DeviceReader<R> {
+    /// A reader that hasn't failed. An error where memory for the buffer is refused.
+    pub fn new(alloc: Global, device: R) -> io::Result<DeviceReader<R>>
+        ensures { IfOk result (λ reader. reader.failed ≡ false) }
+    {
+        let reader = BufReader::new(alloc, device)?;
+        Ok(DeviceReader {
+            reader,
+            failed: false,
+        })
+    }
+
+    /// The same, with a buffer of so many octets.
+    pub fn with_capacity(alloc: Global, capacity: usize, device: R) -> io::Result<DeviceReader<R>>
+        ensures { IfOk result (λ reader. reader.failed ≡ false) }
+    {
+        let reader = BufReader::with_capacity(alloc, capacity, device)?;
+        Ok(DeviceReader {
+            reader,
+            failed: false,
+        })
+    }
+
+    /// One try.
+    fn fill_once(&mut self) -> io::Result<()>
+        ensures keeps { Keeps (reader_remaining R.remaining self.old.reader) (reader_remaining R.remaining self.new.reader) }
+        ensures end { OnOk result (length (reader_buffer self.new.reader) ≡ 0
+            → OnSome (reader_remaining R.remaining self.old.reader) (IsAtEnd (reader_remaining R.remaining self.new.reader))) }
+    {
+        self.reader.fill_buf()?;
+        Ok(())
+    }
+}
+
+impl<R: Read + Drop> Input for DeviceReader<R> {
+    ghost remaining = { λ r. reader_remaining R.remaining r.reader };
+
+    ghost lent = { λ r. reader_buffer r.reader };
+
+    ghost has_failed = { λ r. r.failed };
+
+    fn fill(&mut self) -> io::Result<()> {
+        for _ in 0..TRIES {
+            match self.fill_once() {
+                Ok(()) => return Ok(()),
+                Err(error) if error.kind() == ErrorKind::Interrupted => {}
+                Err(error) => {
+                    self.failed = true;
+                    return Err(error);
+                }
+            }
+        }
+        self.failed = true;
+        Err(io::Error::from(ErrorKind::Interrupted))
+    }
+
+    fn buffer(&self) -> &[u8] {
+        self.reader.buffer()
+    }
+
+    fn consume(&mut self, count: usize) {
+        self.reader.consume(count);
+    }
+}
