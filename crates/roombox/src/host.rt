@@ -3,7 +3,7 @@
 use crate::command_line::{Invocation, read_words};
 use ical_lines::Fault;
 use ical_values::Address;
-use sched_box::{DeviceReader, DeviceWriter};
+use sched_box::{DeviceReader, DeviceWriter, Output};
 use sched_cli::commands::{Kept, run_check, run_keep, run_serve};
 use sched_cli::run_expand;
 use sched_cli::status::{DEVICE, USAGE, report_device, report_memory, report_too_long};
@@ -63,7 +63,7 @@ pub fn run<R: Runtime + AllocGlobal>(rt: &R) -> u8 {
 
 /// Says that memory ran out.
 fn no_memory<R: Runtime + AllocGlobal>(rt: &R) -> u8 {
-    report_memory(&mut ErrorPrinter { to: rt })
+    report_memory(&mut DeviceWriter::new(ErrorPrinter { to: rt }))
 }
 
 /// Prints what clap says: help and version on standard output, a usage fault on standard error.
@@ -121,7 +121,7 @@ fn read_room<R: Runtime + AllocGlobal>(rt: &R, alloc: Global, word: &str) -> Res
 }
 
 fn invoke_serve<R: Runtime + AllocGlobal>(rt: &R, alloc: Global) -> u8 {
-    let mut errors = ErrorPrinter { to: rt };
+    let mut errors = DeviceWriter::new(ErrorPrinter { to: rt });
     let Ok(mut reader) = DeviceReader::new(alloc, rt.reader()) else {
         return no_memory(rt);
     };
@@ -130,7 +130,7 @@ fn invoke_serve<R: Runtime + AllocGlobal>(rt: &R, alloc: Global) -> u8 {
 }
 
 fn invoke_keep<R: Runtime + AllocGlobal>(rt: &R, alloc: Global, room: &Address, kept: Kept) -> u8 {
-    let mut errors = ErrorPrinter { to: rt };
+    let mut errors = DeviceWriter::new(ErrorPrinter { to: rt });
     let Ok(mut reader) = DeviceReader::new(alloc, rt.reader()) else {
         return no_memory(rt);
     };
@@ -145,7 +145,7 @@ fn invoke_check<R: Runtime + AllocGlobal>(
     certificate: &str,
     room: &Address,
 ) -> u8 {
-    let mut errors = ErrorPrinter { to: rt };
+    let mut errors = DeviceWriter::new(ErrorPrinter { to: rt });
     let calendar = match read_file(rt, alloc, calendar) {
         Ok(octets) => octets,
         Err(fault) => return report_file(&mut errors, fault),
@@ -177,7 +177,7 @@ fn limit_of(word: &str) -> Option<usize> {
 }
 
 fn invoke_expand<R: Runtime + AllocGlobal>(rt: &R, alloc: Global, limit: usize) -> u8 {
-    let mut errors = ErrorPrinter { to: rt };
+    let mut errors = DeviceWriter::new(ErrorPrinter { to: rt });
     let mut octets = Vec::new(alloc);
     if let Err(error) = rt.reader().take(OBJECT_OCTETS).read_to_end(&mut octets) {
         return match error.kind() {
@@ -189,7 +189,7 @@ fn invoke_expand<R: Runtime + AllocGlobal>(rt: &R, alloc: Global, limit: usize) 
     run_expand(alloc, octets.as_slice(), limit, &mut writer, &mut errors)
 }
 
-fn report_file<E: Write>(errors: &mut E, fault: FileFault) -> u8 {
+fn report_file<E: Output>(errors: &mut E, fault: FileFault) -> u8 {
     match fault {
         FileFault::Device => report_device(errors),
         FileFault::TooLong => report_too_long(errors),

@@ -1,6 +1,6 @@
 -- What the commands write, and the statuses that they end with.
-use Rattle.std.specs.Prelude.{◌≡◌, ◌⊎◌, ℕ, ℤ, Bool, true, if◌then◌else◌, ◌==◌, List, ◌++◌, codes, decimal, Option, Result, Ok, Err}
-use Rattle.std.specs.Io.KnownBytes.{Appends}
+use Rattle.std.specs.Prelude.{◌≡◌, ◌⊎◌, ℕ, ℤ, Bool, true, if◌then◌else◌, ◌==◌, ◌≤◌, List, ◌++◌, take, codes, decimal, Option, Result, Ok, Err}
+use Rattle.std.specs.Io.KnownBytes.{Appends, Keeps}
 use Rattle.profile.specs.Calendars.{CertificateHolds}
 use Rattle.clash_check.specs.Verdicts.{IsRefusedCalendar, IsJudgement}
 use Rattle.clash_check.specs.declared.verdict.Checked.{Checked}
@@ -19,6 +19,38 @@ use Rattle.sched_box.specs.declared.serving.ServeReport.{ServeReport}
 use Rattle.sched_cli.specs.declared.commands.Kept.{Kept}
 use Rattle.sched_cli.specs.declared.commands.Kept.TheVariants.{Calendar, Certificate}
 
+-- ---- standard error
+
+-- the line was written, or, where that fails, a beginning of it
+abbrev pub Says : List ℕ → Option (List ℕ) → Option (List ℕ) → Type 0
+Says line old new = (n : ℕ) × Appends old new (take n line)
+
+abbrev pub refused_text : ℕ → List ℕ
+refused_text n = codes "roombox: refused " ++ decimal n ++ codes "\n"
+
+abbrev pub too_long_text : List ℕ
+too_long_text = codes "roombox: too long\n"
+
+abbrev pub device_text : List ℕ
+device_text = codes "roombox: device\n"
+
+abbrev pub memory_text : List ℕ
+memory_text = codes "roombox: memory\n"
+
+-- what is said where a stream ends early
+abbrev pub fault_text : StreamFault → List ℕ
+fault_text (Refused refusal) = refused_text refusal.number
+fault_text (Serve Read) = device_text
+fault_text (Serve Write) = device_text
+fault_text (Serve TooLong) = too_long_text
+fault_text (Serve Memory) = memory_text
+
+-- what is said with the statuses 0, 1, 4 and 5: with 0 and 1 nothing
+pub record IsSaid (status : ℕ) (old new : Option (List ℕ)) : Type 0 where
+  pub quiet : status ≤ 1 → Keeps old new
+  pub device : status ≡ 4 → Says device_text old new
+  pub memory : status ≡ 5 → Says memory_text old new
+
 -- ---- a stream
 
 -- 3 for input that is refused or too long, 4 where a device failed, 5 where memory was refused
@@ -34,6 +66,10 @@ abbrev pub write_status : WriteFault → ℕ
 write_status Failed = 4
 write_status write.Memory = 5
 
+abbrev pub write_text : WriteFault → List ℕ
+write_text Failed = device_text
+write_text write.Memory = memory_text
+
 -- a device is blamed only where one has failed: the reader, the writer
 abbrev pub BlamesDevice : Bool → Bool → ℕ → Type 0
 BlamesDevice reader writer status = status ≡ 4 → (reader ≡ true) ⊎ (writer ≡ true)
@@ -43,9 +79,17 @@ abbrev pub stream_status : Result ServeReport StreamFault → ℕ
 stream_status (Ok report) = 0
 stream_status (Err fault) = fault_status fault
 
--- the stream was served so, and this is the status for it
-abbrev pub ServesWith : ℕ → Ends → Type 0
-ServesWith status ends = (ended : Result ServeReport StreamFault) × ServesStream ends ended × (status ≡ stream_status ended)
+-- what is said at its end
+abbrev pub SaysStream : Result ServeReport StreamFault → Option (List ℕ) → Option (List ℕ) → Type 0
+SaysStream (Ok report) old new = Keeps old new
+SaysStream (Err fault) old new = Says (fault_text fault) old new
+
+-- the stream was served so, this is the status for it, and this was said
+pub record ServesWith (status : ℕ) (ends : Ends) (old new : Option (List ℕ)) : Type 0 where
+  pub ended : Result ServeReport StreamFault
+  pub serves : ServesStream ends ended
+  pub status_is : status ≡ stream_status ended
+  pub said : SaysStream ended old new
 
 -- ---- what a room keeps
 

@@ -4,9 +4,9 @@ ghost use Rattle.std.specs.Prelude.{◌≡◌, ◌≤◌, ◌++◌, ◌⊎◌, t
 ghost use Rattle.std.specs.Io.KnownBytes.{Appends};
 ghost use Rattle.profile.specs.Calendars.{CertificateHolds};
 ghost use Rattle.ical_values.specs.Octets.{address_octets};
-ghost use Rattle.sched_box.specs.Faults.{StreamStopsFor};
+ghost use Rattle.sched_box.specs.Faults.{RefusesPreamble, StreamStopsFor};
 ghost use Rattle.sched_box.specs.Output.{WriteStopsFor};
-ghost use Rattle.sched_cli.specs.Commands.{BlamesDevice, ServesWith, WritesKept, KeepsBoth, WritesVerdict, verdict_line, verdict_status, no_line};
+ghost use Rattle.sched_cli.specs.Commands.{BlamesDevice, IsSaid, Says, ServesWith, WritesKept, KeepsBoth, WritesVerdict, refused_text, too_long_text, verdict_line, verdict_status, no_line};
 
 use crate::status::{DONE, NO, report_memory, report_stream, report_write};
 use clash_check::{Checked, Verdict, Why, check};
@@ -23,14 +23,15 @@ pub enum Kept {
 }
 
 /// `serve`: reads a preamble and objects, and writes the answers.
-pub fn run_serve<R: Input, W: Output, E: Write>(
+pub fn run_serve<R: Input, W: Output, E: Output>(
     alloc: Global,
     reader: &mut R,
     writer: &mut W,
     errors: &mut E,
 ) -> u8
     ensures device { BlamesDevice (R.has_failed reader.new) (W.has_failed writer.new) result }
-    ensures serves { ServesWith result (record { input = R.remaining reader.old; left = R.remaining reader.new; output = W.contents writer.old; written = W.contents writer.new }) }
+    ensures serves { ServesWith result (record { input = R.remaining reader.old; left = R.remaining reader.new; output = W.contents writer.old; written = W.contents writer.new })
+        (E.contents errors.old) (E.contents errors.new) }
 {
     match serve_stream(alloc, reader, writer) {
         Ok(_) => DONE,
@@ -39,7 +40,7 @@ pub fn run_serve<R: Input, W: Output, E: Write>(
 }
 
 /// `keep`: reads the same input, and writes what the room keeps after it.
-pub fn run_keep<R: Input, W: Output, E: Write>(
+pub fn run_keep<R: Input, W: Output, E: Output>(
     alloc: Global,
     room: &Address,
     kept: Kept,
@@ -49,6 +50,8 @@ pub fn run_keep<R: Input, W: Output, E: Write>(
 ) -> u8
     ensures device { BlamesDevice (R.has_failed reader.new) (W.has_failed writer.new) result }
     ensures status { (result ≡ 0) ⊎ (result ≡ 3) ⊎ (result ≡ 4) ⊎ (result ≡ 5) }
+    ensures said { IsSaid result (E.contents errors.old) (E.contents errors.new) }
+    ensures refused { result ≡ 3 → Says (refused_text 90) (E.contents errors.old) (E.contents errors.new) ⊎ Says too_long_text (E.contents errors.old) (E.contents errors.new) }
     ensures kept { result ≡ 0 → WritesKept kept (address_octets room.now)
         (record { input = R.remaining reader.old; left = R.remaining reader.new; output = W.contents writer.old; written = W.contents writer.new }) }
 {
@@ -71,6 +74,7 @@ fn keep_stream<R: Input>(
     reader: &mut R,
 ) -> Result<(Vec<u8>, Vec<u8>), StreamFault>
     ensures cause { IfErr result (StreamStopsFor (R.has_failed reader.new) false) }
+    ensures refuses { IfErr result RefusesPreamble }
     ensures keeps { IfOk result (λ kept. KeepsBoth (R.remaining reader.old) (R.remaining reader.new) (address_octets room.now) kept.0.items kept.1.items) }
 {
     let (config, now) = read_preamble(alloc, reader)?;
@@ -78,10 +82,11 @@ fn keep_stream<R: Input>(
 }
 
 /// Writes octets, whole.
-fn write_out<W: Output, E: Write>(writer: &mut W, errors: &mut E, octets: &[u8]) -> u8
+fn write_out<W: Output, E: Output>(writer: &mut W, errors: &mut E, octets: &[u8]) -> u8
     ensures written { result ≡ 0 → Appends (W.contents writer.old) (W.contents writer.new) octets.now }
     ensures device { BlamesDevice false (W.has_failed writer.new) result }
     ensures status { (result ≡ 0) ⊎ (result ≡ 4) ⊎ (result ≡ 5) }
+    ensures said { IsSaid result (E.contents errors.old) (E.contents errors.new) }
 {
     match writer.put(octets) {
         Ok(()) => DONE,
@@ -91,7 +96,7 @@ fn write_out<W: Output, E: Write>(writer: &mut W, errors: &mut E, octets: &[u8])
 
 /// `check`: does the certificate stand for the calendar of this room? Writes `yes`, or `no` with its number, and
 /// for 81 the line, for 83 the pair.
-pub fn run_check<W: Output, E: Write>(
+pub fn run_check<W: Output, E: Output>(
     alloc: Global,
     calendar: &[u8],
     certificate: &[u8],
@@ -104,6 +109,7 @@ pub fn run_check<W: Output, E: Write>(
     ensures answers { result ≤ 1 → WritesVerdict result (address_octets room.now) calendar.now certificate.now (W.contents writer.old) (W.contents writer.new) }
     ensures device { BlamesDevice false (W.has_failed writer.new) result }
     ensures status { (result ≤ 1) ⊎ (result ≡ 4) ⊎ (result ≡ 5) }
+    ensures said { IsSaid result (E.contents errors.old) (E.contents errors.new) }
 {
     let Ok(checked) = check(alloc, calendar, certificate, room) else {
         return report_memory(errors);

@@ -11,7 +11,7 @@ ghost use Rattle.profile.specs.Properties.{length_seconds};
 ghost use Rattle.profile.specs.ZonedTimes.{clock_of};
 ghost use Rattle.cal_events.specs.Events.{event_of, length_of, zone_said};
 ghost use Rattle.sched_box.specs.Output.{WriteStopsFor};
-ghost use Rattle.sched_cli.specs.Commands.{BlamesDevice};
+ghost use Rattle.sched_cli.specs.Commands.{BlamesDevice, IsSaid, Says, refused_text};
 ghost use Rattle.sched_cli.specs.Expanding.{IsInstanceLine, IsPrinted, IsPrintedOn, IsHandedOver, IsSecondOf, PrintsFirst, PrintsSeries, ExpandsTo};
 
 use crate::status::{DONE, report_memory, report_refused, report_write};
@@ -23,14 +23,13 @@ use ical_values::{DAY_SECONDS, LocalTime, Stamp};
 use itoa::Buffer;
 use sched_box::{Output, WriteFault};
 use std::alloc::{AllocError, Global};
-use std::io::Write;
 
 /// Lines are handed to the writer once they have so many octets.
 const FULL: usize = 65_536;
 
 /// `expand`: prints the first instances of the event that an object says, at most `limit` of them, as lines `slot start seconds`
 /// by start.
-pub fn run_expand<W: Output, E: Write>(
+pub fn run_expand<W: Output, E: Output>(
     alloc: Global,
     octets: &[u8],
     limit: usize,
@@ -38,7 +37,8 @@ pub fn run_expand<W: Output, E: Write>(
     errors: &mut E,
 ) -> u8
     ensures expands { result ≡ 0 → ExpandsTo octets.now limit (W.contents writer.old) (W.contents writer.new) }
-    ensures refused { result ≡ 3 → (n : ℕ) × SeriesTextFault octets.now n }
+    ensures refused { result ≡ 3 → (n : ℕ) × SeriesTextFault octets.now n × Says (refused_text n) (E.contents errors.old) (E.contents errors.new) }
+    ensures said { IsSaid result (E.contents errors.old) (E.contents errors.new) }
     ensures device { BlamesDevice false (W.has_failed writer.new) result }
     ensures status { (result ≡ 0) ⊎ (result ≡ 3) ⊎ (result ≡ 4) ⊎ (result ≡ 5) }
 {

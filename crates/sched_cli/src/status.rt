@@ -1,11 +1,12 @@
 //! The exit statuses of `roombox`, and what it says on standard error.
 
-ghost use Rattle.std.specs.Prelude.{◌≡◌};
-ghost use Rattle.sched_cli.specs.Commands.{fault_status, write_status};
+ghost use Rattle.std.specs.Prelude.{◌≡◌, OnErr, OnOk};
+ghost use Rattle.std.specs.Io.KnownBytes.{Appends};
+ghost use Rattle.sched_cli.specs.Commands.{Says, device_text, fault_status, fault_text, memory_text, refused_text, too_long_text, write_status, write_text};
 
 use ical_lines::Refusal;
-use sched_box::{ServeFault, StreamFault, WriteFault};
-use std::io::Write;
+use itoa::Buffer;
+use sched_box::{Output, ServeFault, StreamFault, WriteFault};
 
 /// Done. Objects that were refused in a stream leave it.
 pub const DONE: u8 = 0;
@@ -21,8 +22,9 @@ pub const DEVICE: u8 = 4;
 pub const MEMORY: u8 = 5;
 
 /// Says why a stream ended early, and gives the status for it.
-pub fn report_stream<E: Write>(errors: &mut E, fault: StreamFault) -> u8
-    ensures { result ≡ fault_status fault }
+pub fn report_stream<E: Output>(errors: &mut E, fault: StreamFault) -> u8
+    ensures status { result ≡ fault_status fault }
+    ensures says { Says (fault_text fault) (E.contents errors.old) (E.contents errors.new) }
 {
     match fault {
         StreamFault::Refused(refusal) => report_refused(errors, refusal),
@@ -34,8 +36,9 @@ pub fn report_stream<E: Write>(errors: &mut E, fault: StreamFault) -> u8
 }
 
 /// Says why something wasn't written whole, and gives the status for it.
-pub fn report_write<E: Write>(errors: &mut E, fault: WriteFault) -> u8
-    ensures { result ≡ write_status fault }
+pub fn report_write<E: Output>(errors: &mut E, fault: WriteFault) -> u8
+    ensures status { result ≡ write_status fault }
+    ensures says { Says (write_text fault) (E.contents errors.old) (E.contents errors.new) }
 {
     match fault {
         WriteFault::Failed => report_device(errors),
@@ -43,34 +46,54 @@ pub fn report_write<E: Write>(errors: &mut E, fault: WriteFault) -> u8
     }
 }
 
-/// Says that the input is refused.
-pub fn report_refused<E: Write>(errors: &mut E, refusal: Refusal) -> u8
-    ensures { result ≡ 3 }
+/// Says that the input is refused, and with which number.
+pub fn report_refused<E: Output>(errors: &mut E, refusal: Refusal) -> u8
+    ensures status { result ≡ 3 }
+    ensures says { Says (refused_text refusal.number) (E.contents errors.old) (E.contents errors.new) }
 {
-    let _ = writeln!(errors, "roombox: refused {}", refusal.number);
+    let _ = say_refused(errors, refusal.number);
     REFUSED
 }
 
-/// Says that the input is too long.
-pub fn report_too_long<E: Write>(errors: &mut E) -> u8
-    ensures { result ≡ 3 }
+fn say_refused<E: Output>(errors: &mut E, number: u8) -> Result<(), WriteFault>
+    ensures { Says (refused_text number) (E.contents errors.old) (E.contents errors.new) }
 {
-    let _ = writeln!(errors, "roombox: too long");
+    let mut digits = Buffer::new();
+    errors.put(b"roombox: refused ")?;
+    errors.put(digits.format(number).as_bytes())?;
+    errors.put(b"\n")
+}
+
+/// Says that the input is too long.
+pub fn report_too_long<E: Output>(errors: &mut E) -> u8
+    ensures status { result ≡ 3 }
+    ensures says { Says too_long_text (E.contents errors.old) (E.contents errors.new) }
+{
+    say(errors, b"roombox: too long\n");
     REFUSED
 }
 
 /// Says that a device failed.
-pub fn report_device<E: Write>(errors: &mut E) -> u8
-    ensures { result ≡ 4 }
+pub fn report_device<E: Output>(errors: &mut E) -> u8
+    ensures status { result ≡ 4 }
+    ensures says { Says device_text (E.contents errors.old) (E.contents errors.new) }
 {
-    let _ = writeln!(errors, "roombox: device");
+    say(errors, b"roombox: device\n");
     DEVICE
 }
 
 /// Says that memory ran out.
-pub fn report_memory<E: Write>(errors: &mut E) -> u8
-    ensures { result ≡ 5 }
+pub fn report_memory<E: Output>(errors: &mut E) -> u8
+    ensures status { result ≡ 5 }
+    ensures says { Says memory_text (E.contents errors.old) (E.contents errors.new) }
 {
-    let _ = writeln!(errors, "roombox: memory");
+    say(errors, b"roombox: memory\n");
     MEMORY
+}
+
+/// Writes a line. Where standard error fails too, nobody is left to be told.
+fn say<E: Output>(errors: &mut E, line: &[u8])
+    ensures { Says line.now (E.contents errors.old) (E.contents errors.new) }
+{
+    let _ = errors.put(line);
 }
