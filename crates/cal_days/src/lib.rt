@@ -4,7 +4,7 @@
 //! ends at 9999-12-31: a later day is computed 400 years, which are 146,097 days, earlier.
 #![tactic(auto)]
 
-ghost use Rattle.std.specs.Prelude.{ℕ, suc, ◌≡◌, ◌↔◌, ◌+◌, ◌<◌, ◌≤◌, ◌≤ℤ◌, ◌+ℤ◌, pos, negsuc, unsigned_abs, IsSome, IfSome};
+ghost use Rattle.std.specs.Prelude.{ℕ, suc, ◌≡◌, ◌↔◌, ◌+◌, ◌<◌, ◌≤◌, ◌≤ℤ◌, ◌+ℤ◌, ◌-ℤ◌, pos, negsuc, unsigned_abs, IsSome, IfSome};
 ghost use Rattle.profile.specs.Days.{IsDayNumber, IsDayDate, IsDate, days_before, number_of_date, number_of_day, is_leap_year, days_in_year, days_in_month, year_start, day_index, year_of, month_of, month_days_before, month_days_after, year_days_before, year_days_after, weekday_of};
 ghost use Rattle.cal_days.specs.Views.{PeriodsRepeat, PeriodsAscend, PeriodsLast};
 
@@ -117,8 +117,7 @@ impl Day {
         ensures found { IsSome result ↔ ((366 ≤ index) × (index ≤ 3_653_155)) }
         ensures value { IfSome result (λ d. day_index d ≡ index) }
     {
-        let number = index as i64 - EPOCH_INDEX as i64;
-        Day::of_number(number)
+        Day::of_number(number_at(index))
     }
 
     /// The date of the day.
@@ -192,6 +191,13 @@ impl Day {
     {
         days_in_year(self.year()) - self.year_days_before() - 1
     }
+}
+
+/// The number of the day of that index, in any year.
+pub fn number_at(index: u32) -> i64
+    ensures { result ≡ pos index -ℤ pos 719_528 }
+{
+    index as i64 - EPOCH_INDEX as i64
 }
 
 /// Is this a leap year?
