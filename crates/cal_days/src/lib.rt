@@ -305,10 +305,8 @@ fn late_number_of(year: i32, month: u8, day: u8) -> Option<i64>
     ensures high { IfSome result (λ n. n ≤ℤ pos 2_933_627) }
 {
     let early = year - 400;
-    match number_of(early, month, day) {
-        Some(number) => Some(number + CYCLE as i64),
-        None => None,
-    }
+    let number = number_of(early, month, day)?;
+    Some(number + CYCLE as i64)
 }
 
 /// The date of a number from that of 0001-01-01 to that of 9999-12-31.
