@@ -1,10 +1,12 @@
 -- Lists of a few octets, digits, dates and clocks as they are spelled.
-use Rattle.std.proofs.Common.{to_z, of_z, w32, w64, ◌≡◌, ◌∙◌, ℕ, ◌-◌, ◌<◌, List, [], ◌∷◌, ◌++◌, length, get_or, take, drop, codes, refl, sym, ap, arith, ℤ, pos, negsuc, ◌+ℤ◌, ◌*ℤ◌, ◌≤ℤ◌, ◌↔◌, Option, Some, None}
+use Rattle.std.proofs.Common.{to_z, of_z, w32, w64, ◌≡◌, ◌∙◌, ℕ, ◌-◌, ◌<◌, List, [], ◌∷◌, ◌++◌, length, get_or, take, drop, codes, refl, sym, ap, arith, ℤ, pos, ◌+ℤ◌, ◌*ℤ◌, ◌≤ℤ◌, ◌↔◌, Option, Some, None}
 use Rattle.std.specs.Option.{IsSome, IfSome}
 use Rattle.std.proofs.lemmas.Int.{ints}
 use Rattle.std.proofs.lemmas.List.{append-nil}
 use Rattle.std.proofs.Common.{append_assoc}
-use Rattle.profile.specs.Days.{IsDayDate, number_of_day}
+use Rattle.cal_days.proofs.Bridge.{number_low}
+use Rattle.profile.specs.Days.{IsDayDate, day_index, number_of_day}
+use Rattle.profile.specs.Zones.{local_time}
 use Rattle.profile.specs.Values.{two_digits, four_digits, SpellsDate, SpellsTime, SpellsClock}
 
 -- a list of 4 by its elements
@@ -160,15 +162,9 @@ clock_found limit text number seconds second long letter on at_second e = record
 pub small_32 : (n : ℕ) → n < 10_000 → to_z w32 n ≡ pos n
 small_32 n h = omega (arith, ints)
 
-pub small_64 : (n : ℕ) → n < 86_400 → to_z w64 n ≡ pos n
-small_64 n h = omega (arith, ints)
-
-pub same_64 : (z : ℤ) → negsuc 719_161 ≤ℤ z → z ≤ℤ pos 2_933_627 → to_z w64 (of_z w64 z) ≡ z
-same_64 z low high = omega (arith, ints)
-
-pub clock_sum : (day : ℤ) (second : ℕ) → negsuc 719_161 ≤ℤ day → day ≤ℤ pos 2_932_896 → second < 86_400 → to_z w64 (of_z w64 (to_z w64 (of_z w64 (to_z w64 (of_z w64 day) *ℤ pos 86_400)) +ℤ to_z w64 second)) ≡ (day *ℤ pos 86_400) +ℤ pos second
-clock_sum day second low high h =
-    rw (small_64 second h) (omega (arith, ints))
+-- a second of a day that a text spells, in 64 bits and by the day's number
+pub clock_sum : (text : List ℕ) (day : ℤ) (second : ℕ) → SpellsDate text day → day ≤ℤ pos 2_932_896 → second < 86_400 → to_z w64 (of_z w64 (local_time (day_index day) second)) ≡ (day *ℤ pos 86_400) +ℤ pos second
+clock_sum text day second s high h = omega (arith, ints, s.counted, number_low (pos s.year) s.month s.day (omega (arith, ints, s.first)))
 
 -- a clock as it is appended in pieces
 pub clock_pieces : (limit : ℕ) (date time zone : List ℕ) (number seconds : ℤ) (second : ℕ) → SpellsDate date number → SpellsTime limit time second → seconds ≡ (number *ℤ pos 86_400) +ℤ pos second → (clock : List ℕ) × SpellsClock limit clock seconds × (date ++ 84 ∷ (time ++ (zone ++ [])) ≡ clock ++ zone)

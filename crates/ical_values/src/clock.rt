@@ -2,13 +2,14 @@
 //! 1970-01-01T00:00:00. Years are 0001 to 9999. Second 60 is read as 59.
 
 ghost use Rattle.std.specs.Prelude.{◌≡◌, ◌++◌, ◌<◌, ◌≤◌, ◌≤ℤ◌, ◌+ℤ◌, ◌*ℤ◌, ℕ, ℤ, List, pos, negsuc, IfSome, IfNone, OnOk, OnErr};
+ghost use Rattle.profile.specs.Zones.{local_time};
 ghost use Rattle.profile.specs.Values.{SpellsDate, SpellsTime, SpellsClock, IsClockSeconds};
 ghost use Rattle.ical_values.specs.Written.{Appends};
 
 use crate::append::append_all;
 use crate::date::{date_text, read_date};
 use crate::digits;
-use cal_days::{Day, FIRST_NUMBER, LAST_NUMBER};
+use cal_days::{Day, FIRST_NUMBER, LAST_NUMBER, number_at};
 use std::alloc::AllocError;
 
 /// The seconds of a day.
@@ -31,7 +32,14 @@ pub fn read(text: &[u8]) -> Option<i64>
     }
     let day = read_date(&text[..8])?;
     let second = read_time(&text[9..], 60)?;
-    Some(day.number() * DAY_SECONDS + second as i64)
+    Some(seconds_at(day.index(), second))
+}
+
+/// Seconds from 1970-01-01T00:00:00 to that second of the day of that index, also of a day past 9999-12-31.
+pub fn seconds_at(index: u32, second: u32) -> i64
+    ensures { result ≡ local_time index second }
+{
+    number_at(index) * DAY_SECONDS + second as i64
 }
 
 /// The second of the day of `HHMMSS`, where second 60 stands for 59. `limit` is the greatest second that

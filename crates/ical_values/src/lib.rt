@@ -15,7 +15,7 @@ pub mod stamp;
 pub mod text;
 
 pub use address::Address;
-pub use clock::DAY_SECONDS;
+pub use clock::{DAY_SECONDS, seconds_at};
 pub use duration::Duration;
 pub use local_time::LocalTime;
 pub use offset::UtcOffset;

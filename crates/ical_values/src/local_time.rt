@@ -5,7 +5,7 @@ ghost use Rattle.std.specs.Prelude.{ℕ, List, ◌≡◌, ◌↔◌, ◌++◌, �
 ghost use Rattle.profile.specs.Values.{SpellsLocal, WritesLocal, IsClockSeconds};
 ghost use Rattle.ical_values.specs.Written.{Appends};
 
-use crate::clock::{self, DAY_SECONDS};
+use crate::clock::{self, DAY_SECONDS, seconds_at};
 use cal_days::Day;
 use ical_lines::Refusal;
 use std::alloc::AllocError;
@@ -89,7 +89,7 @@ impl LocalTime {
         if second >= DAY_SECONDS as u32 {
             return None;
         }
-        LocalTime::of_seconds(day.number() * DAY_SECONDS + second as i64)
+        LocalTime::of_seconds(seconds_at(day.index(), second))
     }
 }
 

@@ -1,3 +1,4 @@
+use Rattle.std.proofs.Common.{take}
 use Rattle.ical_values.proofs.Exits.{if_none}
 use Rattle.ical_values.proofs.Spelled.{clock_parts, clock_found, clock_sum}
 use Rattle.ical_values.proofs.clock.read.Goals as goal
@@ -14,5 +15,5 @@ pub returns-clause-found : goal.returns-clause-found
 returns-clause-found c =
     let d = c.in_ok-day.ensures in
     let t = c.in_ok-second.ensures in
-    let n = c.number.ensures in
-    clock_found 60 c.args.text.now c.in_ok-day.day _ c.in_ok-second.second c.if-text-ne15.false c.if-text-ne84.false d.found t.found (rw n.value (clock_sum c.in_ok-day.day c.in_ok-second.second (rw n.value at n.range.0) d.high t.range))
+    let sum = clock_sum (take 8 c.args.text.now) c.in_ok-day.day c.in_ok-second.second d.found d.high t.range in
+    clock_found 60 c.args.text.now c.in_ok-day.day _ c.in_ok-second.second c.if-text-ne15.false c.if-text-ne84.false d.found t.found (rw (c.seconds_at.ensures, c.index.ensures.value) sum)
