@@ -224,18 +224,11 @@ fn any_nth(numbers: &[i16], before: u32, after: u32) -> bool
     numbers.iter().any(|k| is_nth(*k, before, after))
 }
 
-/// Is the month listed?
-fn any_month(months: &[u8], month: u8) -> bool
-    ensures { result ≡ list_any (λ m. m == month) months.now }
-{
-    months.iter().any(|m| *m == month)
-}
-
 /// Is the month listed, or none?
 fn allows_month(months: &[u8], month: u8) -> bool
     ensures { result ≡ allows (λ m. m == month) months.now }
 {
-    months.is_empty() || any_month(months, month)
+    months.is_empty() || months.contains(&month)
 }
 
 /// Does one of the numbers name the day, or is there none?
