@@ -4,8 +4,8 @@ ghost use Rattle.std.specs.Prelude.{◌<◌, ◌≤◌};
 ghost use Rattle.profile.specs.Values.{IsOffset};
 
 use crate::yearly::Yearly;
-use cal_days::{Day, EPOCH_INDEX};
-use ical_values::{DAY_SECONDS, LocalTime, UtcOffset};
+use cal_days::Day;
+use ical_values::{LocalTime, UtcOffset, seconds_at};
 
 /// The seconds by which the offsets of a zone differ at most.
 const HALF_DAY: u32 = 43_200;
@@ -52,19 +52,6 @@ impl Observance {
         }
     }
 
-    /// The same with an RRULE.
-    pub(crate) fn with_rule(self, rule: Yearly) -> Observance
-        ensures day { result.day ≡ self.day }
-        ensures second { result.second ≡ self.second }
-        ensures rule { result.rule ≡ Some rule }
-        ensures from { result.offset_from ≡ self.offset_from }
-        ensures to { result.offset_to ≡ self.offset_to }
-    {
-        let mut observance = self;
-        observance.rule = Some(rule);
-        observance
-    }
-
     /// DTSTART.
     pub(crate) fn start(&self) -> LocalTime
         ensures { result ≡ local_time self.now.day self.now.second }
@@ -91,8 +78,7 @@ impl Observance {
         ensures low { negsuc 100_000_000_000 ≤ℤ result }
         ensures high { result ≤ℤ pos 1_000_000_000_000 }
     {
-        let number = day as i64 - EPOCH_INDEX as i64;
-        DAY_SECONDS * number + self.second as i64 - self.offset_from as i64
+        seconds_at(day, self.second) - self.offset_from as i64
     }
 
     /// The first onset.

@@ -143,10 +143,11 @@ fn read_yearly(alloc: Global, part: &Component) -> Result<Observance, Fault>
     ensures stands { IfErr result (RefusesBy (YearlyFault (component_lines part.now))) }
 {
     let properties = Properties::of(alloc, part)?;
-    let times = read_times(&properties)?;
+    let mut observance = read_times(&properties)?;
     let line = properties.required("RRULE", Refusal::ZONE_SHAPE)?;
     let rule = read_year(alloc, line.value())?;
-    Ok(times.with_rule(rule))
+    observance.rule = Some(rule);
+    Ok(observance)
 }
 
 /// The one day of the year that the text of a rule names. Refused with 40 where it names none.

@@ -206,17 +206,6 @@ impl Zone {
         let _ = self.ends();
     }
 
-    /// The instant that a second of a day means.
-    fn start_on(&self, day: Day, second: u32) -> i64
-        requires range { day_index day ≤ 3_652_424 }
-        requires second { second < 86_400 }
-        ensures meaning { Means (zone_of self.now) (local_time (day_index day) second) result }
-        ensures range { IsNearEpoch result }
-    {
-        let local = LocalTime::of_day(day, second).unwrap();
-        self.resolve(local)
-    }
-
     /// The last day up to 9999-12-31 on which a time of day, in seconds, isn't past an instant. None where
     /// it is past it on each from 0001-01-01 on, and for a second that no day has.
     pub fn last_day(&self, second: u32, until: i64) -> Option<Day>
@@ -240,7 +229,8 @@ impl Zone {
         let mut index = latest_day(second, greatest, until);
         while index >= FIRST_INDEX {
             let day = Day::at_index(index).unwrap();
-            if self.start_on(day, second) <= until {
+            let start = LocalTime::of_day(day, second).unwrap();
+            if self.resolve(start) <= until {
                 return Some(day);
             }
             index -= 1;

@@ -1,4 +1,4 @@
-use Rattle.std.proofs.Common.{◌≡◌, ap, codes, subst, sym, inl, inr, List, ℕ}
+use Rattle.std.proofs.Common.{◌≡◌, ap, codes, refl, subst, inl, inr, List, ℕ}
 use Rattle.ical_lines.specs.Fault.{RefusesBy}
 use Rattle.ical_lines.specs.Text.{line_text}
 use Rattle.ical_lines.specs.declared.fault.Refusal.{Refusal}
@@ -8,16 +8,16 @@ use Rattle.std.specs.Prelude.{Some, true}
 use Rattle.profile.specs.Properties.{Says}
 use Rattle.profile.specs.ZoneTexts.{HasNoYearRule, IsYearLine, SpellsYear, SpellsNoYear}
 use Rattle.cal_zones.specs.Shapes.{rule_named}
-use Rattle.cal_zones.specs.Onsets.{observance_of, rule_of}
+use Rattle.cal_zones.specs.Onsets.{observance_of}
 use Rattle.cal_zones.specs.Read.{YearlyFault}
 use Rattle.cal_zones.proofs.Reading.{fault_exit, said, no_rule_there, same_times}
 use Rattle.ical_values.proofs.Exits.{err_exit}
 use Rattle.cal_zones.proofs.read.read_yearly.Goals as goal
 
-pub returns-in_err-times-clause-stands : goal.returns-in_err-times-clause-stands
-returns-in_err-times-clause-stands c =
-    err_exit _ (RefusesBy (YearlyFault (component_lines c.args.part.now))) _ c.from_residual-in_err-times.ensures.1
-    (inl (rw c.in_ok-properties.ensures at c.in_err-times.ensures.stands))
+pub returns-in_err-observance-clause-stands : goal.returns-in_err-observance-clause-stands
+returns-in_err-observance-clause-stands c =
+    err_exit _ (RefusesBy (YearlyFault (component_lines c.args.part.now))) _ c.from_residual-in_err-observance.ensures.1
+    (inl (rw c.in_ok-properties.ensures at c.in_err-observance.ensures.stands))
 
 pub returns-in_err-line-clause-stands : goal.returns-in_err-line-clause-stands
 returns-in_err-line-clause-stands c =
@@ -34,12 +34,10 @@ returns-in_err-rule-clause-stands c =
 pub returns-clause-says : goal.returns-clause-says
 returns-clause-says c =
     let lines = component_lines c.args.part.now in
-    let new = c.with_rule.result in
-    let e = c.with_rule.ensures in
     let rule = c.in_ok-rule.rule in
     record {
-      times = same_times lines (observance_of c.in_ok-times.times) (observance_of new) (sym e.day) (sym e.second) (sym e.from) (sym e.to) (rw c.in_ok-properties.ensures at c.in_ok-times.ensures.says);
+      times = same_times lines (observance_of c.in_ok-observance.observance) _ refl refl refl refl (rw c.in_ok-properties.ensures at c.in_ok-observance.ensures.says);
       each = rule_named rule.month rule.days;
       rule = subst (λ (ls : List (List ℕ)). Says (codes "RRULE") true IsYearLine ls (Some (rule_named rule.month rule.days))) c.in_ok-properties.ensures (said IsYearLine (codes "RRULE") c.in_ok-properties.properties (line_text c.in_ok-line.line) (rule_named rule.month rule.days) c.in_ok-line.ensures.found (subst (λ (s : List ℕ). SpellsYear s (rule_named rule.month rule.days)) c.value.ensures c.in_ok-rule.ensures.says));
-      is = ap (rule_of new.day) e.rule;
+      is = refl;
     }
