@@ -72,21 +72,14 @@ impl Pair {
         ensures offset { IsOffsetAt (pair_of self.now.standard self.now.daylight) instant result }
         ensures range { IsOffset result }
     {
-        match self.standard.latest_onset(instant) {
-            None => self.offset_before(instant),
-            Some(x) => self.offset_after(x, instant),
-        }
-    }
-
-    /// The offset where the first hasn't begun.
-    fn offset_before(&self, instant: i64) -> i32
-        requires { NoneBegun (observance_of self.now.standard) instant }
-        ensures offset { IsOffsetAt (pair_of self.now.standard self.now.daylight) instant result }
-        ensures range { IsOffset result }
-    {
-        match self.daylight.latest_onset(instant) {
-            None => self.offset_before_both(instant),
-            Some(_) => self.daylight.offset_to,
+        let standard = self.standard.latest_onset(instant);
+        let daylight = self.daylight.latest_onset(instant);
+        match (standard, daylight) {
+            (None, None) => self.offset_before_both(instant),
+            (None, Some(_)) => self.daylight.offset_to,
+            (Some(_), None) => self.standard.offset_to,
+            (Some(x), Some(y)) if x >= y => self.standard.offset_to,
+            (Some(_), Some(_)) => self.daylight.offset_to,
         }
     }
 
@@ -101,19 +94,6 @@ impl Pair {
             self.standard.offset_from
         } else {
             self.daylight.offset_from
-        }
-    }
-
-    /// The offset where the first has begun, last at `x`.
-    fn offset_after(&self, x: i64, instant: i64) -> i32
-        requires { IsLatest (IsOnset (observance_of self.now.standard)) instant (onset_at (observance_of self.now.standard) x) }
-        ensures offset { IsOffsetAt (pair_of self.now.standard self.now.daylight) instant result }
-        ensures range { IsOffset result }
-    {
-        match self.daylight.latest_onset(instant) {
-            None => self.standard.offset_to,
-            Some(y) if x >= y => self.standard.offset_to,
-            Some(_) => self.daylight.offset_to,
         }
     }
 }
