@@ -1,12 +1,12 @@
 //! A room's calendar: the instances that are confirmed in it, in the calendar's order. So far each
 //! is a single: an instance of no series.
-ghost use Rattle.std.specs.Prelude.{◌≡◌, ◌≢◌, ◌+◌, ◌<◌, ◌<ℤ◌, ◌≤ℤ◌, map, length, slice_index_or, IfOk, IfErr, IfNone, IfSome, MatchBool, IsPermutation, IsSortedByKey};
+ghost use Rattle.std.specs.Prelude.{◌≡◌, ◌<◌, map, length, IfOk, IfErr, IfNone, IfSome, MatchBool};
 ghost use Rattle.std.specs.List.{AllAdjacentBelow};
 ghost use Rattle.std.specs.Iterator.{YieldsFirstBy, item_count};
 ghost use Rattle.profile.specs.Instances.{IsClear};
 ghost use Rattle.ical_lines.specs.Fault.{RefusesOnly};
 ghost use Rattle.profile.specs.Faults.{is_between};
-ghost use Rattle.cal_events.specs.Calendars.{booked_of, instance_of, singles_left, confirmed_in, meeting_of, HaveDifferentKeys, MeetingsDiffer, HaveTwins, IsTwinsFault, texts_of, meeting_cmp, span_of, HaveOtherTexts, HasEqualNeighbours};
+ghost use Rattle.cal_events.specs.Calendars.{booked_of, instance_of, singles_left, confirmed_in, meeting_of, HaveDifferentKeys, MeetingsDiffer, HaveTwins, IsTwinsFault, texts_of, span_of, HaveOtherTexts, HasEqualNeighbours};
 ghost use Rattle.cal_events.specs.Clashes.{Names};
 
 use crate::instance::{Booking, Instance};
@@ -125,7 +125,7 @@ fn has_twins(alloc: Global, entries: &[Entry]) -> Result<bool, AllocError>
     ensures { IfOk result (λ twins. MatchBool twins (HaveTwins entries.now) (MeetingsDiffer entries.now)) }
 {
     let mut meetings = meetings_of(alloc, entries)?;
-    sort_meetings(&mut meetings);
+    meetings.sort_unstable();
     Ok(has_equal_neighbours(&meetings))
 }
 
@@ -138,13 +138,6 @@ fn meetings_of(alloc: Global, entries: &[Entry]) -> Result<Vec<(&str, &str)>, Al
         meetings.push((entry.booking.organiser.as_str(), entry.booking.uid.as_str()))?;
     }
     Ok(meetings)
-}
-
-fn sort_meetings(meetings: &mut Vec<(&str, &str)>)
-    ensures same { IsPermutation meetings.old.items meetings.new.items }
-    ensures rises { IsSortedByKey texts_of meeting_cmp meetings.new.items }
-{
-    meetings.sort_unstable();
 }
 
 fn has_equal_neighbours(sorted: &[(&str, &str)]) -> bool

@@ -286,7 +286,7 @@ fn refusal_of_date_time(text: &str) -> Refusal
     ensures refuses { IsTrue (is_event_fault result.number) }
     ensures stands { UnfixedOrMalformed (IsDateText text.now ⊎ IsLocalText text.now) text.now result.number }
 {
-    if is_local(text) {
+    if LocalTime::read(text).is_ok() {
         Refusal::NOT_FIXED
     } else {
         refusal_of_date(text)
@@ -315,13 +315,6 @@ fn malformed(text: &str) -> Refusal
     } else {
         Refusal::BAD_DATE_TIME
     }
-}
-
-/// Whether a text is a local time (RFC 5545 3.3.5, form 1).
-fn is_local(text: &str) -> bool
-    ensures { IsTrue result ↔ IsLocalText text.now }
-{
-    LocalTime::read(text).is_ok()
 }
 
 /// Whether a text is a date (RFC 5545 3.3.4).

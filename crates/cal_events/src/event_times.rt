@@ -1,14 +1,14 @@
 //! When an event starts and how long it lasts (RFC 5545 3.6.1): first its three properties as they are said, in UTC or
 //! where TZID names a zone, then all of them together. Days in a DURATION aren't read yet beside a DTSTART with TZID.
 
-ghost use Rattle.std.specs.Prelude.{◌≡◌, ◌↔◌, ◌≤◌, ◌^◌, ℕ, List, Some, pos, ◌+ℤ◌, ◌<ℤ◌, IfOk, IfErr, OnOk, OnErr, IfSome, IfNone, IsTrue};
+ghost use Rattle.std.specs.Prelude.{◌≡◌, ◌↔◌, ◌≤◌, ◌^◌, ℕ, List, Some, pos, ◌+ℤ◌, ◌<ℤ◌, IfOk, IfErr, OnOk, OnErr, IsTrue};
 ghost use Rattle.ical_lines.specs.Fault.{RefusesBy};
 ghost use Rattle.ical_lines.specs.Text.{line_text};
 ghost use Rattle.ical_tree.specs.Tree.{tree_of};
 ghost use Rattle.profile.specs.Trees.{Tree};
 ghost use Rattle.profile.specs.Zones.{IsNearEpoch};
 ghost use Rattle.profile.specs.Faults.{is_event_fault};
-ghost use Rattle.profile.specs.Properties.{StandsAtMostOnce, length_seconds};
+ghost use Rattle.profile.specs.Properties.{length_seconds};
 ghost use Rattle.profile.specs.ZonedTimes.{is_in_zone, IsInDates, ZonedTimeFault, HasCountedDays, HasNominalLength, SaysEventTimes, EventTimesFault};
 ghost use Rattle.cal_events.specs.Events.{times_of, length_of, GivesLength, ExtentFault};
 ghost use Rattle.cal_events.specs.Zoned.{EndsSo, IsExtentIn, IsExact, IsNominal, AreSaid};
@@ -131,27 +131,16 @@ pub fn refuse_nominal_length(properties: &Properties<'_>) -> Result<(), Refusal>
     ensures number { IfErr result (λ e. e.number ≡ 99) }
     ensures stands { (object : Tree) → IfErr result (λ e. EventTimesFault object properties.now e.number) }
 {
-    let Some(start) = only_line(properties, "DTSTART") else {
+    let Ok(start) = required(properties, "DTSTART") else {
         return Ok(());
     };
-    let Some(duration) = only_line(properties, "DURATION") else {
+    let Ok(duration) = required(properties, "DURATION") else {
         return Ok(());
     };
     if is_in_zone(start) && has_days(duration) {
         return Err(Refusal::NOT_YET);
     }
     Ok(())
-}
-
-/// The line of a property that stands once, None where it is missing or stands twice.
-fn only_line<'a>(properties: &Properties<'a>, name: &str) -> Option<Line<'a>>
-    ensures found { IfSome result (λ line. StandsAtMostOnce name.now properties.now (Some (line_text line))) }
-    ensures none { IfNone result ((line : List ℕ) → StandsAtMostOnce name.now properties.now (Some line) → ⊥) }
-{
-    match required(properties, name) {
-        Ok(line) => Some(line),
-        Err(_) => None,
-    }
 }
 
 /// Whether TZID stands on a line.

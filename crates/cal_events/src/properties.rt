@@ -1,7 +1,7 @@
 //! The properties of one VEVENT by their names (RFC 5545 3.6.1, 3.8), and what isn't read yet.
 ghost use Rattle.std.specs.Prelude.{◌≡◌, ◌⊎◌, Some, true, false, option_map, IfOk, IfErr, OnOk, OnErr};
 ghost use Rattle.ical_lines.specs.Text.{line_text};
-ghost use Rattle.profile.specs.Events.{is_unread_line, is_recurrence, is_of_instances, is_end_of_event};
+ghost use Rattle.profile.specs.Events.{is_unread_line, is_of_instances, is_end_of_event};
 ghost use Rattle.profile.specs.Properties.{IsMissing, StandsAtMostOnce, StandsTwice};
 ghost use Rattle.cal_events.specs.Events.{is_unread_for, has_unread_for};
 
@@ -71,15 +71,10 @@ fn is_unread(line: Line<'_>, purpose: Purpose) -> bool
 fn is_unread_line(line: Line<'_>) -> bool
     ensures { result ≡ is_unread_line (line_text line.entry) }
 {
-    is_recurrence_line(line)
+    line.is_named("RRULE")
+        || is_instance_line(line)
         || (line.is_named("STATUS") && line.value().eq_ignore_ascii_case("CANCELLED"))
         || (is_end_line(line) && line.param("TZID").is_some())
-}
-
-fn is_recurrence_line(line: Line<'_>) -> bool
-    ensures { result ≡ is_recurrence (line_text line.entry) }
-{
-    line.is_named("RRULE") || is_instance_line(line)
 }
 
 /// Whether a line names single instances of an event that recurs.

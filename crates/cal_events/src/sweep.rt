@@ -1,8 +1,8 @@
 //! The sweep: do two spans of a list share an instant before the horizon? Spans that have no such
 //! instant are dropped, the others sorted by start, and then neighbours alone are compared.
-ghost use Rattle.std.specs.Prelude.{◌≡◌, length, IfOk, IfNone, IfSome, IsPermutation};
+ghost use Rattle.std.specs.Prelude.{◌≡◌, length, IfOk, IfNone, IfSome};
 ghost use Rattle.std.specs.List.{AllAdjacentBelow};
-ghost use Rattle.cal_events.specs.Sweep.{IsOverlap, AreApart, AreNeighbours, placed_from, Rises, EndsBefore};
+ghost use Rattle.cal_events.specs.Sweep.{IsOverlap, AreApart, AreNeighbours, placed_from, EndsBefore};
 
 use crate::instance::HORIZON;
 use std::alloc::{AllocError, Global};
@@ -38,7 +38,7 @@ pub fn first_overlap(alloc: Global, spans: &[Span]) -> Result<Option<Overlap>, A
     ensures none { IfOk result (λ r. IfNone r (AreApart spans.now)) }
 {
     let mut placed = placed_spans(alloc, spans)?;
-    sort_by_start(&mut placed);
+    placed.sort_unstable_by_key(|span| span.start);
     Ok(overlap_of_neighbours(&placed))
 }
 
@@ -57,13 +57,6 @@ fn placed_spans(alloc: Global, spans: &[Span]) -> Result<Vec<Placed>, AllocError
         }
     }
     Ok(placed)
-}
-
-fn sort_by_start(placed: &mut Vec<Placed>)
-    ensures same { IsPermutation placed.old.items placed.new.items }
-    ensures rises { AllAdjacentBelow Rises placed.new.items (length placed.new.items) }
-{
-    placed.sort_unstable_by_key(|span| span.start);
 }
 
 /// The first two neighbours of which the second starts before the first has ended.

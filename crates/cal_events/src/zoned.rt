@@ -1,16 +1,16 @@
 //! A start or an end with its zone: TZID names a VTIMEZONE of the object that the line stands in
 //! (RFC 5545 3.2.19, 3.3.5, 3.6.5, 3.8.3.1). A VTIMEZONE that no line names isn't read.
-ghost use Rattle.std.specs.Prelude.{◌≡◌, ◌&&◌, ℕ, List, Option, None, Some, codes, ℤ, find, option_map, IfOk, IfErr};
+ghost use Rattle.std.specs.Prelude.{◌≡◌, ℕ, List, Option, None, Some, ℤ, find, option_map, IfOk, IfErr};
 ghost use Rattle.ical_lines.specs.Fault.{RefusesBy};
 ghost use Rattle.ical_lines.specs.Text.{line_text};
-ghost use Rattle.ical_tree.specs.Tree.{component_name, component_lines, tree_of};
-ghost use Rattle.profile.specs.Lines.{line_value, is_same_name};
+ghost use Rattle.ical_tree.specs.Tree.{component_lines, tree_of};
+ghost use Rattle.profile.specs.Lines.{line_value};
 ghost use Rattle.profile.specs.Trees.{Tree};
 ghost use Rattle.profile.specs.Values.{SpellsLocal};
 ghost use Rattle.profile.specs.Zones as zones;
 ghost use Rattle.profile.specs.Zones.{Means, IsNearEpoch};
 ghost use Rattle.profile.specs.Properties.{is_of, time_kind, DateTime};
-ghost use Rattle.profile.specs.ZonedTimes.{has_zone_name, zone_named, SaysZoneOf, SpellsZoned, SaysZonedTime, clock_of, DateOrMalformed, LocalFault, NamedFault, InZoneFault, ZonedTimeFault};
+ghost use Rattle.profile.specs.ZonedTimes.{has_zone_name, zone_named, SpellsZoned, SaysZonedTime, clock_of, DateOrMalformed, LocalFault, InZoneFault, ZonedTimeFault};
 ghost use Rattle.cal_zones.specs.Kinds.{zone_of};
 ghost use Rattle.cal_events.specs.Events.{zone_said};
 ghost use Rattle.cal_events.specs.Zoned.{is_zone_called};
@@ -102,7 +102,8 @@ fn read_in_zone(
     ensures stands { IfErr result (RefusesBy (InZoneFault (tree_of object.now) name.now (time_kind (line_text line.entry)) (line_value (line_text line.entry)))) }
 {
     let local = read_local(line)?;
-    let zone = read_zone(alloc, object, name)?;
+    let part = find_zone(alloc, object, name)?;
+    let zone = Zone::read(alloc, part)?;
     Ok(ZonedTime {
         local,
         zone: Some(zone),
@@ -143,16 +144,6 @@ fn refusal_of_no_local(text: &str) -> Refusal
     } else {
         Refusal::BAD_DATE_TIME
     }
-}
-
-/// The zone that a name means in an object.
-/// Refused: 43 where no VTIMEZONE has the name, and what the first that has it is refused for.
-fn read_zone(alloc: Global, object: &Component, name: &str) -> Result<Zone, Fault>
-    ensures says { IfOk result (λ z. SaysZoneOf (zone_named name.now (tree_of object.now)) (zone_of z)) }
-    ensures stands { IfErr result (RefusesBy (NamedFault (zone_named name.now (tree_of object.now)))) }
-{
-    let zone = find_zone(alloc, object, name)?;
-    Zone::read(alloc, zone)
 }
 
 /// The first VTIMEZONE of an object that has this name.

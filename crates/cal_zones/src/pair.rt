@@ -24,7 +24,7 @@ pub struct Pair {
 impl Pair {
     ghost use Rattle.std.specs.Prelude.{◌≡◌, true, IfOk, IfErr};
     ghost use Rattle.profile.specs.Values.{IsOffset};
-    ghost use Rattle.profile.specs.Zones.{IsOffsetAt, IsOnset, IsLatest, onset_at, NoneBegun};
+    ghost use Rattle.profile.specs.Zones.{IsOffsetAt, NoneBegun};
     ghost use Rattle.profile.specs.ZoneTexts.{AreMatched, AreSpaced, IsPairFault};
     ghost use Rattle.cal_zones.specs.Onsets.{observance_of};
     ghost use Rattle.cal_zones.specs.Kinds.{pair_of};

@@ -1,7 +1,7 @@
 //! The parts of a VTIMEZONE, the components named STANDARD or DAYLIGHT directly inside, and their lines DTSTART,
 //! TZOFFSETFROM and TZOFFSETTO (RFC 5545 3.6.5).
 
-ghost use Rattle.std.specs.Prelude.{◌≡◌, ◌↔◌, ◌∷◌, [], length, count_by, find, option_map, IsTrue, IfSome, IfNone, true, false, codes, None, Some, IfOk, IfErr};
+ghost use Rattle.std.specs.Prelude.{◌≡◌, ◌↔◌, ◌∷◌, [], length, count_by, find, option_map, IsTrue, IfSome, IfNone, true, false, None, Some, IfOk, IfErr};
 ghost use Rattle.ical_tree.specs.Tree.{component_name, component_lines, component_children};
 ghost use Rattle.profile.specs.Lines.{is_same_name};
 ghost use Rattle.profile.specs.ZoneTexts.{is_part, IsLocalLine, IsOffsetLine, SaysTimes, TimesFault};

@@ -1,15 +1,15 @@
 //! Reading a VTIMEZONE (RFC 5545 3.6.5). Read are: parts that all say one offset; one part without a rule;
 //! one STANDARD and one DAYLIGHT that each name one day of the year.
 
-ghost use Rattle.std.specs.Prelude.{◌≡◌, ℕ, List, true, false, length, codes, Contains, None, Some, IfOk, IfErr};
+ghost use Rattle.std.specs.Prelude.{◌≡◌, ℕ, List, true, false, length, Contains, None, Some, IfOk, IfErr};
 ghost use Rattle.ical_lines.specs.Fault.{RefusesBy};
 ghost use Rattle.ical_tree.specs.Tree.{component_lines};
 ghost use Rattle.profile.specs.Trees.{Tree};
-ghost use Rattle.profile.specs.ZoneTexts.{SaysZone, ZoneFault, SaysYearly, SpellsYear, SpellsNoYear, IsYearLine, HasNoYearRule, OffsetsDiffer, Keeps, Strays, SaysTimes, TimesFault};
+ghost use Rattle.profile.specs.ZoneTexts.{SaysZone, ZoneFault, SaysYearly, SpellsYear, SpellsNoYear, OffsetsDiffer, Keeps, Strays, SaysTimes, TimesFault};
 ghost use Rattle.cal_zones.specs.Shapes.{rule_named};
 ghost use Rattle.cal_zones.specs.Onsets.{observance_of};
 ghost use Rattle.cal_zones.specs.Kinds.{zone_of};
-ghost use Rattle.cal_zones.specs.Read.{Says, HasFault, parts_of, SomeTimesFault, YearlyFault, IsShapeFault, SaysSingle, SingleFault, SaysBoth, BothFault};
+ghost use Rattle.cal_zones.specs.Read.{Says, HasFault, parts_of, SomeTimesFault, YearlyFault, IsShapeFault, SaysSingle, SingleFault};
 ghost use Rattle.profile.specs.Zones as zones;
 ghost use Rattle.profile.specs.Properties as lines;
 

@@ -41,10 +41,10 @@ pub struct Zone {
 }
 
 impl Zone {
-    ghost use Rattle.std.specs.Prelude.{◌≡◌, ◌<◌, ◌≤◌, None, pos, unsigned_abs, ◌-ℤ◌, IfOk, IfErr, ℕ, ◌+ℤ◌, MatchOption, OnOk, OnErr};
+    ghost use Rattle.std.specs.Prelude.{◌≡◌, ◌<◌, ◌≤◌, None, pos, unsigned_abs, ◌-ℤ◌, IfOk, IfErr, MatchOption, OnOk, OnErr};
     ghost use Rattle.profile.specs.Values.{IsOffset};
     ghost use Rattle.profile.specs.Days.{day_index};
-    ghost use Rattle.profile.specs.Zones.{Constant, Single, local_time, IsOffsetAt, Means, AreFirstOnsets, IsBounds, IsOneOffset, IsOneMeaning, IsNearEpoch, IsLastDay, NoneFrom};
+    ghost use Rattle.profile.specs.Zones.{Constant, Single, IsOffsetAt, Means, AreFirstOnsets, IsBounds, IsOneOffset, IsOneMeaning, IsNearEpoch, IsLastDay, NoneFrom};
     ghost use Rattle.profile.specs.ZoneTexts.{AreMatched, AreSpaced, IsSingleFault, IsPairFault, SaysZone, ZoneFault};
     ghost use Rattle.cal_zones.specs.Onsets.{observance_of};
     ghost use Rattle.cal_zones.specs.Kinds.{zone_of, pair_of, AreEnds};
