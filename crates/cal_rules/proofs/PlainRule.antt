@@ -7,8 +7,8 @@ use Rattle.profile.specs.Faults.{is_between}
 use Rattle.profile.specs.Days.{Frequency}
 use Rattle.profile.specs.Rules.{RuleText, WeekdayNumber, is_place, is_entry, is_short, go_together}
 use Rattle.profile.specs.RuleTexts.{RuleKey, Interval, Count, EndsAt, WeekStart, ByMonth, ByMonthDay, ByDay, BySetPosition, frequency_word, SpellsBetween, SpellsPlace, SpellsEntry, SpellsMonths, SpellsMonthDays, SpellsEntries, SpellsRule, listed, entry_text}
-use Rattle.cal_rules.proofs.ReadBack.{between_back, place_back, entry_back, month_small, comma_decimal, comma_place, comma_entry}
-use Rattle.cal_rules.proofs.WholeRule.{Built, start, more, semi_decimal, semi_place, semi_entry, list_values, list_piece, list_says, built_values, built_frequency, built_known, says_at}
+use Rattle.cal_rules.proofs.ReadBack.{between_back, place_back, entry_back, month_small, comma, semicolon, lacks_decimal, lacks_place, lacks_entry}
+use Rattle.cal_rules.proofs.WholeRule.{Built, start, more, list_values, list_piece, list_says, built_values, built_frequency, built_known, says_at}
 
 abbrev pub plain_text : Frequency → List ℕ → List ℤ → List WeekdayNumber → List ℕ
 plain_text f months days entries =
@@ -35,9 +35,9 @@ plain_built : (f : Frequency) (months : List ℕ) (days : List ℤ) (entries : L
     → Built f (plain_text f months days entries) (plain_values months days entries)
 plain_built f months days entries m d e =
     more _ _ ByDay _ _ (more _ _ ByMonthDay _ _ (more _ _ ByMonth _ _ start
-    (list_piece decimal (is_between 1 12) (λ n b. semi_decimal n (month_small n b)) ByMonth months m))
-    (list_piece signed_decimal (is_place 31) (λ z b. semi_place 31 z (omega arith) b) ByMonthDay days d))
-    (list_piece entry_text is_entry semi_entry ByDay entries e)
+    (list_piece decimal (is_between 1 12) (λ n b. lacks_decimal 59 semicolon n (month_small n b)) ByMonth months m))
+    (list_piece signed_decimal (is_place 31) (λ z b. lacks_place 59 semicolon 31 z (omega arith) b) ByMonthDay days d))
+    (list_piece entry_text is_entry (lacks_entry 59 semicolon) ByDay entries e)
 
 pub plain_back : (f : Frequency) (months : List ℕ) (days : List ℤ) (entries : List WeekdayNumber)
     → (list_all (is_between 1 12) months && is_short months) ≡ true → (list_all (is_place 31) days && is_short days) ≡ true → (list_all is_entry entries && is_short entries) ≡ true
@@ -55,9 +55,9 @@ plain_back f months days entries m d e together =
         count = says_at _ None None _ _ (values Count) refl;
         until = says_at _ None None _ _ (values EndsAt) refl;
         week_start = says_at _ 0 0 _ _ (values WeekStart) refl;
-        months = says_at SpellsMonths [] months _ _ (values ByMonth) (list_says (SpellsBetween 1 12) decimal (is_between 1 12) (λ n t. between_back 1 12 n (month_small n t) t) (λ n t. comma_decimal n (month_small n t)) months m);
-        month_days = says_at SpellsMonthDays [] days _ _ (values ByMonthDay) (list_says (SpellsPlace 31) signed_decimal (is_place 31) (λ z t. place_back 31 z (omega arith) t) (λ z t. comma_place 31 z (omega arith) t) days d);
-        weekdays = says_at SpellsEntries [] entries _ _ (values ByDay) (list_says SpellsEntry entry_text is_entry entry_back comma_entry entries e);
+        months = says_at SpellsMonths [] months _ _ (values ByMonth) (list_says (SpellsBetween 1 12) decimal (is_between 1 12) (λ n t. between_back 1 12 n (month_small n t) t) (λ n t. lacks_decimal 44 comma n (month_small n t)) months m);
+        month_days = says_at SpellsMonthDays [] days _ _ (values ByMonthDay) (list_says (SpellsPlace 31) signed_decimal (is_place 31) (λ z t. place_back 31 z (omega arith) t) (λ z t. lacks_place 44 comma 31 z (omega arith) t) days d);
+        weekdays = says_at SpellsEntries [] entries _ _ (values ByDay) (list_says SpellsEntry entry_text is_entry entry_back (lacks_entry 44 comma) entries e);
         positions = says_at _ [] [] _ _ (values BySetPosition) refl;
       };
       together = together;

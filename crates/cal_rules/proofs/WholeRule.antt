@@ -1,122 +1,69 @@
 -- What is written of a whole rule reads back.
-use Rattle.std.proofs.Common.{◌≡◌, ◌∙◌, ap, sym, subst, refl, ℕ, zero, suc, ◌^◌, ◌<◌, ◌≤◌, Bool, true, false, cond, not, ◌&&◌, ◌||◌, ◌==◌, nat_eq, nat_lt, nat_le, inl, inr, List, [], ◌∷◌, ◌++◌, length, map, filter_map, codes, decimal, All, append_assoc, append-nil, Option, None, Some, ℤ, pos, negsuc, arith, ◌/◌, ◌%◌, ◌+◌}
-use Rattle.std.proofs.lemmas.Bool.{and_parts, and_from, not-true}
+use Rattle.std.proofs.Common.{◌≡◌, ◌∙◌, ap, sym, subst, refl, ℕ, ◌^◌, ◌<◌, ◌≤◌, Bool, true, false, cond, not, ◌&&◌, ◌==◌, nat_eq, nat_lt, nat_le, inl, inr, List, [], ◌∷◌, ◌++◌, length, map, filter_map, codes, decimal, All, append_assoc, append-nil, Option, None, Some, ℤ, arith, ◌/◌, ◌%◌, ◌+◌}
+use Rattle.std.proofs.lemmas.Bool.{and_parts, and_from}
 use Rattle.std.proofs.lemmas.Bool.Decides.{nat_tests}
 use Rattle.std.proofs.lemmas.List.Elements.{All-nil, All-cons, All-append, All-same, All-from_recursion, filter_map-append}
 use Rattle.std.proofs.lemmas.List.Splits.{slice_split_none, length-slice_split}
-use Rattle.std.proofs.lemmas.Str.Parse.{digit_from_value}
-use Rattle.std.specs.Int.{IsInRange}
-use Rattle.std.specs.Str.Parse.{AllDigits}
 use Rattle.std.specs.Fmt.{signed_decimal}
 use Rattle.std.specs.List.{list_all, onto_first, cons_option}
 use Rattle.profile.specs.Faults.{is_between}
 use Rattle.profile.specs.Days.{Frequency, Daily, Weekly, Monthly, Yearly, days_in_month}
 use Rattle.profile.specs.Values.{two_digits, four_digits, SpellsDate, SpellsTime, SpellsLocal}
-use Rattle.profile.specs.Rules.{RuleText, WeekdayNumber, Until, UntilDay, UntilLocal, UntilInstant, is_place, is_plain, is_entry, is_count, is_short, is_in_range, go_together, has_one_end}
+use Rattle.profile.specs.Rules.{RuleText, Until, UntilDay, UntilLocal, UntilInstant, is_place, is_entry, is_count, is_short, is_in_range, go_together, has_one_end}
 use Rattle.profile.specs.RuleTexts.{RuleKey, Interval, Count, EndsAt, WeekStart, ByMonth, ByMonthDay, ByDay, BySetPosition, rule_parts, after_key, key_word, values_of, frequency_word, weekday_word, SpellsBetween, SpellsPlace, SpellsEntry, SpellsList, SpellsWeekday, SpellsCount, SpellsUntil, SpellsInterval, SpellsMonths, SpellsMonthDays, SpellsEntries, SpellsPositions, IsGiven, SaysOr, IsKnownPart, SpellsRule, listed, months_from, numbers_from, entries_from, entry_text, count_text, until_text, rule_text, as_written, HandsIn}
 use Rattle.cal_rules.proofs.Parted.{after_append}
-use Rattle.cal_rules.proofs.ReadBack.{number_back, up_to, below, or_other, no_comma, between_back, place_back, entry_back, written_list, month_small, comma_decimal, comma_place, comma_entry}
+use Rattle.cal_rules.proofs.ReadBack.{up_to, below, between_back, place_back, entry_back, written_list, month_small, comma, semicolon, lacks, lacks_append, lacks_all, lacks_decimal, lacks_place, lacks_weekday, lacks_entry}
 
 -- ---- no semicolon in a value
 
-abbrev pub no_semicolon : List ℕ → Bool
-no_semicolon xs = list_all (λ c. not (c == 59)) xs
-
-semi_append : (xs ys : List ℕ) → no_semicolon xs ≡ true → no_semicolon ys ≡ true → no_semicolon (xs ++ ys) ≡ true
-semi_append [] ys h g = g
-semi_append (x ∷ xs) ys h g =
-    let p = and_parts (not (x == 59)) (no_semicolon xs) h in
-    and_from (not (x == 59)) (no_semicolon (xs ++ ys)) p.0 (semi_append xs ys p.1 g)
-
-semi_all : (xs : List ℕ) → no_semicolon xs ≡ true → All (λ c. (c == 59) ≡ false) xs
-semi_all [] h = All-nil (λ c. (c == 59) ≡ false)
-semi_all (x ∷ xs) h =
-    let p = and_parts (not (x == 59)) (no_semicolon xs) h in
-    All-cons (λ c. (c == 59) ≡ false) x xs (not-true (x == 59) p.0) (semi_all xs p.1)
-
-no_digit : (c : ℕ) → IsInRange 48 57 c → not (c == 59) ≡ true
-no_digit c r = grind (arith, nat_tests)
-
-semi_digits : (ds : List ℕ) → AllDigits 10 ds → no_semicolon ds ≡ true
-semi_digits [] a = refl
-semi_digits (c ∷ ds) a = and_from (not (c == 59)) (no_semicolon ds) (no_digit c (digit_from_value c a.0)) (semi_digits ds a.1)
-
-pub semi_decimal : (n : ℕ) → n < 2 ^ 64 → no_semicolon (decimal n) ≡ true
-semi_decimal n h = semi_digits (decimal n) (number_back n h).1
-
-pub semi_place : (most : ℕ) (place : ℤ) → most ≤ 366 → is_place most place ≡ true → no_semicolon (signed_decimal place) ≡ true
-semi_place most (pos n) h e =
-    let small = up_to most n e in semi_decimal n (omega arith)
-semi_place most (negsuc n) h e =
-    let small = below most n e in semi_decimal (suc n) (omega arith)
-
-semi_weekday : (n : ℕ) → n < 7 → no_semicolon (weekday_word n) ≡ true
-semi_weekday zero h = refl
-semi_weekday (suc zero) h = refl
-semi_weekday (suc (suc zero)) h = refl
-semi_weekday (suc (suc (suc zero))) h = refl
-semi_weekday (suc (suc (suc (suc zero)))) h = refl
-semi_weekday (suc (suc (suc (suc (suc zero))))) h = refl
-semi_weekday (suc (suc (suc (suc (suc (suc zero)))))) h = refl
-semi_weekday (suc (suc (suc (suc (suc (suc (suc n))))))) h = absurd (omega arith)
-
-semi_front : (number : ℤ) (plain : Bool) → is_plain number ≡ plain → (is_plain number || is_place 53 number) ≡ true → no_semicolon (cond plain [] (signed_decimal number)) ≡ true
-semi_front number true e h = refl
-semi_front number false e h = semi_place 53 number (omega arith) (or_other (is_plain number) (is_place 53 number) h e)
-
-pub semi_entry : (entry : WeekdayNumber) → is_entry entry ≡ true → no_semicolon (entry_text entry) ≡ true
-semi_entry entry e =
-    let p = and_parts (nat_lt entry.weekday 7) (is_plain entry.number || is_place 53 entry.number) e in
-    semi_append (cond (is_plain entry.number) [] (signed_decimal entry.number)) (weekday_word entry.weekday) (semi_front entry.number (is_plain entry.number) refl p.1) (semi_weekday entry.weekday (below 7 entry.weekday p.0))
-
-semi_listed : {A : Type 0} (f : A → List ℕ) (test : A → Bool) → ((x : A) → test x ≡ true → no_semicolon (f x) ≡ true) → (xs : List A) → list_all test xs ≡ true → no_semicolon (listed (codes ",") (map f xs)) ≡ true
-semi_listed f test clean [] h = refl
-semi_listed f test clean (x ∷ xs) h =
+lacks_listed : {A : Type 0} (f : A → List ℕ) (test : A → Bool) → ((x : A) → test x ≡ true → lacks 59 (f x) ≡ true) → (xs : List A) → list_all test xs ≡ true → lacks 59 (listed (codes ",") (map f xs)) ≡ true
+lacks_listed f test clean [] h = refl
+lacks_listed f test clean (x ∷ xs) h =
     let p = and_parts (test x) (list_all test xs) h in
-    semi_append (f x) (listed (codes ",") (map f xs)) (clean x p.0) (semi_listed f test clean xs p.1)
+    lacks_append 59 (f x) (listed (codes ",") (map f xs)) (clean x p.0) (lacks_listed f test clean xs p.1)
 
-semi_key : (key : RuleKey) → no_semicolon (key_word key) ≡ true
-semi_key Interval = refl
-semi_key Count = refl
-semi_key EndsAt = refl
-semi_key WeekStart = refl
-semi_key ByMonth = refl
-semi_key ByMonthDay = refl
-semi_key ByDay = refl
-semi_key BySetPosition = refl
+lacks_key : (key : RuleKey) → lacks 59 (key_word key) ≡ true
+lacks_key Interval = refl
+lacks_key Count = refl
+lacks_key EndsAt = refl
+lacks_key WeekStart = refl
+lacks_key ByMonth = refl
+lacks_key ByMonthDay = refl
+lacks_key ByDay = refl
+lacks_key BySetPosition = refl
 
 -- ---- no semicolon in UNTIL
 
 digit_clean : (n : ℕ) → n < 10 → not ((48 + n) == 59) ≡ true
 digit_clean n h = grind (arith, nat_tests)
 
-two_clean : (n : ℕ) → n < 100 → no_semicolon (two_digits n) ≡ true
+two_clean : (n : ℕ) → n < 100 → lacks 59 (two_digits n) ≡ true
 two_clean n h = and_from (not ((48 + n / 10) == 59)) (not ((48 + n % 10) == 59) && true) (digit_clean (n / 10) (omega arith)) (and_from (not ((48 + n % 10) == 59)) true (digit_clean (n % 10) (omega arith)) refl)
 
-four_clean : (n : ℕ) → n < 10_000 → no_semicolon (four_digits n) ≡ true
-four_clean n h = semi_append (two_digits (n / 100)) (two_digits (n % 100)) (two_clean (n / 100) (omega arith)) (two_clean (n % 100) (omega arith))
+four_clean : (n : ℕ) → n < 10_000 → lacks 59 (four_digits n) ≡ true
+four_clean n h = lacks_append 59 (two_digits (n / 100)) (two_digits (n % 100)) (two_clean (n / 100) (omega arith)) (two_clean (n % 100) (omega arith))
 
-date_clean : (text : List ℕ) (number : ℤ) → SpellsDate text number → no_semicolon text ≡ true
+date_clean : (text : List ℕ) (number : ℤ) → SpellsDate text number → lacks 59 text ≡ true
 date_clean text number s =
     let long : days_in_month s.year s.month ≤ 31 = grind arith in
-    rw s.spelled (semi_append (four_digits s.year ++ two_digits s.month) (two_digits s.day)
-    (semi_append (four_digits s.year) (two_digits s.month) (four_clean s.year (omega (arith, s.last))) (two_clean s.month (omega (arith, s.date.1))))
+    rw s.spelled (lacks_append 59 (four_digits s.year ++ two_digits s.month) (two_digits s.day)
+    (lacks_append 59 (four_digits s.year) (two_digits s.month) (four_clean s.year (omega (arith, s.last))) (two_clean s.month (omega (arith, s.date.1))))
     (two_clean s.day (omega (arith, s.date.3))))
 
-time_clean : (text : List ℕ) (total : ℕ) → SpellsTime 60 text total → no_semicolon text ≡ true
+time_clean : (text : List ℕ) (total : ℕ) → SpellsTime 60 text total → lacks 59 text ≡ true
 time_clean text total s =
-    rw s.spelled (semi_append (two_digits s.hour ++ two_digits s.minute) (two_digits s.second)
-    (semi_append (two_digits s.hour) (two_digits s.minute) (two_clean s.hour (omega (arith, s.hours))) (two_clean s.minute (omega (arith, s.minutes))))
+    rw s.spelled (lacks_append 59 (two_digits s.hour ++ two_digits s.minute) (two_digits s.second)
+    (lacks_append 59 (two_digits s.hour) (two_digits s.minute) (two_clean s.hour (omega (arith, s.hours))) (two_clean s.minute (omega (arith, s.minutes))))
     (two_clean s.second (omega (arith, s.seconds))))
 
-local_clean : (text : List ℕ) (seconds : ℤ) → SpellsLocal text seconds → no_semicolon text ≡ true
+local_clean : (text : List ℕ) (seconds : ℤ) → SpellsLocal text seconds → lacks 59 text ≡ true
 local_clean text seconds s =
-    rw s.spelled (semi_append (s.date ++ codes "T") s.time (semi_append s.date (codes "T") (date_clean s.date s.number s.on) refl) (time_clean s.time s.second s.at_second))
+    rw s.spelled (lacks_append 59 (s.date ++ codes "T") s.time (lacks_append 59 s.date (codes "T") (date_clean s.date s.number s.on) refl) (time_clean s.time s.second s.at_second))
 
-until_clean : (text : List ℕ) (end : Until) → SpellsUntil text end → no_semicolon text ≡ true
+until_clean : (text : List ℕ) (end : Until) → SpellsUntil text end → lacks 59 text ≡ true
 until_clean text (UntilDay number) s = date_clean text number s
 until_clean text (UntilLocal seconds) s = local_clean text seconds s
-until_clean text (UntilInstant instant) (local, s, e) = rw e (semi_append local (codes "Z") (local_clean local instant s) refl)
+until_clean text (UntilInstant instant) (local, s, e) = rw e (lacks_append 59 local (codes "Z") (local_clean local instant s) refl)
 
 -- ---- one part more
 
@@ -136,12 +83,12 @@ split_more (x ∷ xs) ys =
 -- nothing, or a semicolon, a key and its value
 pub data Piece : List ℕ → RuleKey → List (List ℕ) → Type 0 where
   absent : (key : RuleKey) → Piece [] key []
-  present : (key : RuleKey) (value : List ℕ) → no_semicolon value ≡ true → Piece (59 ∷ (key_word key ++ value)) key (value ∷ [])
+  present : (key : RuleKey) (value : List ℕ) → lacks 59 value ≡ true → Piece (59 ∷ (key_word key ++ value)) key (value ∷ [])
 
 piece_parts : (text piece : List ℕ) (key : RuleKey) (values : List (List ℕ)) → Piece piece key values → rule_parts (text ++ piece) ≡ rule_parts text ++ map (λ v. key_word key ++ v) values
 piece_parts text piece key values (absent k) = ap rule_parts (append-nil text) ∙ sym (append-nil (rule_parts text))
 piece_parts text piece key values (present k value clean) =
-    split_more text (key_word k ++ value) ∙ ap (λ l. rule_parts text ++ l) (slice_split_none (λ c. c == 59) (key_word k ++ value) (semi_all (key_word k ++ value) (semi_append (key_word k) value (semi_key k) clean)))
+    split_more text (key_word k ++ value) ∙ ap (λ l. rule_parts text ++ l) (slice_split_none (λ c. c == 59) (key_word k ++ value) (lacks_all 59 (key_word k ++ value) (lacks_append 59 (key_word k) value (lacks_key k) clean)))
 
 abbrev key_number : RuleKey → ℕ
 key_number Interval = 0
@@ -344,18 +291,18 @@ abbrev pub list_values : List (List ℕ) → List (List ℕ)
 list_values [] = []
 list_values (entry ∷ entries) = (entry ++ listed (codes ",") entries) ∷ []
 
-pub list_piece : {A : Type 0} (f : A → List ℕ) (test : A → Bool) → ((x : A) → test x ≡ true → no_semicolon (f x) ≡ true) → (key : RuleKey) (xs : List A) → list_all test xs ≡ true → Piece (listed (59 ∷ key_word key) (map f xs)) key (list_values (map f xs))
+pub list_piece : {A : Type 0} (f : A → List ℕ) (test : A → Bool) → ((x : A) → test x ≡ true → lacks 59 (f x) ≡ true) → (key : RuleKey) (xs : List A) → list_all test xs ≡ true → Piece (listed (59 ∷ key_word key) (map f xs)) key (list_values (map f xs))
 list_piece f test clean key [] h = absent key
 list_piece f test clean key (x ∷ xs) h =
     let p = and_parts (test x) (list_all test xs) h in
     let rest = listed (codes ",") (map f xs) in
     subst (λ (t : List ℕ). Piece t key ((f x ++ rest) ∷ [])) (ap (λ t. 59 ∷ t) (sym (append_assoc (key_word key) (f x) rest)))
-    (present key (f x ++ rest) (semi_append (f x) rest (clean x p.0) (semi_listed f test clean xs p.1)))
+    (present key (f x ++ rest) (lacks_append 59 (f x) rest (clean x p.0) (lacks_listed f test clean xs p.1)))
 
 short_enough : (n : ℕ) → nat_le n 366 ≡ true → n ≤ 366
 short_enough n e = grind (arith, nat_tests)
 
-pub list_says : {A : Type 0} (Is : List ℕ → A → Type 0) (f : A → List ℕ) (test : A → Bool) → ((x : A) → test x ≡ true → Is (f x) x) → ((x : A) → test x ≡ true → no_comma (f x) ≡ true)
+pub list_says : {A : Type 0} (Is : List ℕ → A → Type 0) (f : A → List ℕ) (test : A → Bool) → ((x : A) → test x ≡ true → Is (f x) x) → ((x : A) → test x ≡ true → lacks 44 (f x) ≡ true)
     → (xs : List A) → (list_all test xs && is_short xs) ≡ true → SaysOr (SpellsList Is) [] (list_values (map f xs)) xs
 list_says Is f test spells clean [] h = refl
 list_says Is f test spells clean (x ∷ xs) h =
@@ -371,7 +318,7 @@ count_values (Some n) = decimal n ∷ []
 
 count_piece : (c : Option ℕ) → is_count c ≡ true → Piece (count_text c) Count (count_values c)
 count_piece None e = absent Count
-count_piece (Some n) e = present Count (decimal n) (semi_decimal n (small 100_000 n (omega arith) e))
+count_piece (Some n) e = present Count (decimal n) (lacks_decimal 59 semicolon n (small 100_000 n (omega arith) e))
 
 count_says : (c : Option ℕ) → is_count c ≡ true → SaysOr (IsGiven SpellsCount) None (count_values c) c
 count_says None e = refl
@@ -396,7 +343,7 @@ until_says (Some u) (Some text) (Some end) h = h
 
 interval_piece : (n : ℕ) (b : Bool) → is_between 1 9999 n ≡ true → Piece (cond b [] (codes ";INTERVAL=" ++ decimal n)) Interval (cond b [] (decimal n ∷ []))
 interval_piece n true e = absent Interval
-interval_piece n false e = present Interval (decimal n) (semi_decimal n (small 9999 n (omega arith) e))
+interval_piece n false e = present Interval (decimal n) (lacks_decimal 59 semicolon n (small 9999 n (omega arith) e))
 
 interval_says : (n : ℕ) (b : Bool) → (n == 1) ≡ b → is_between 1 9999 n ≡ true → SaysOr SpellsInterval 1 (cond b [] (decimal n ∷ [])) n
 interval_says n true e h = let one : n ≡ 1 = grind (arith, nat_tests) in one
@@ -404,7 +351,7 @@ interval_says n false e h = between_back 1 9999 n (small 9999 n (omega arith) h)
 
 week_piece : (n : ℕ) (b : Bool) → n < 7 → Piece (cond b [] (codes ";WKST=" ++ weekday_word n)) WeekStart (cond b [] (weekday_word n ∷ []))
 week_piece n true h = absent WeekStart
-week_piece n false h = present WeekStart (weekday_word n) (semi_weekday n h)
+week_piece n false h = present WeekStart (weekday_word n) (lacks_weekday 59 semicolon n h)
 
 week_says : (n : ℕ) (b : Bool) → (n == 0) ≡ b → n < 7 → SaysOr SpellsWeekday 0 (cond b [] (weekday_word n ∷ [])) n
 week_says n true e h = let none : n ≡ 0 = grind (arith, nat_tests) in none
@@ -463,10 +410,10 @@ built t until end r h =
     (count_piece t.count r.count))
     (until_piece t.until until end h))
     (interval_piece t.interval (t.interval == 1) r.interval))
-    (list_piece decimal (is_between 1 12) (λ n b. semi_decimal n (month_small n b)) ByMonth (months_from 1 t.months) m.0))
-    (list_piece signed_decimal (is_place 31) (λ z b. semi_place 31 z (omega arith) b) ByMonthDay (numbers_from 0 t.month_days) d.0))
-    (list_piece entry_text is_entry semi_entry ByDay (entries_from 0 t.weekdays) e.0))
-    (list_piece signed_decimal (is_place 366) (λ z b. semi_place 366 z (omega arith) b) BySetPosition (numbers_from 0 t.positions) p.0))
+    (list_piece decimal (is_between 1 12) (λ n b. lacks_decimal 59 semicolon n (month_small n b)) ByMonth (months_from 1 t.months) m.0))
+    (list_piece signed_decimal (is_place 31) (λ z b. lacks_place 59 semicolon 31 z (omega arith) b) ByMonthDay (numbers_from 0 t.month_days) d.0))
+    (list_piece entry_text is_entry (lacks_entry 59 semicolon) ByDay (entries_from 0 t.weekdays) e.0))
+    (list_piece signed_decimal (is_place 366) (λ z b. lacks_place 59 semicolon 366 z (omega arith) b) BySetPosition (numbers_from 0 t.positions) p.0))
     (week_piece t.week_start (t.week_start == 0) r.week)
 
 pub says_at : {A : Type 0} (Is : List ℕ → A → Type 0) (missing : A) (x : A) (values found : List (List ℕ)) → values ≡ found → SaysOr Is missing found x → SaysOr Is missing values x
@@ -486,10 +433,10 @@ rule_back t until end range together ends h =
         count = says_at (IsGiven SpellsCount) None t.count _ _ (values Count) (count_says t.count r.count);
         until = says_at (IsGiven SpellsUntil) None end _ _ (values EndsAt) (until_says t.until until end h);
         week_start = says_at SpellsWeekday 0 t.week_start _ _ (values WeekStart) (week_says t.week_start (t.week_start == 0) refl r.week);
-        months = says_at SpellsMonths [] (months_from 1 t.months) _ _ (values ByMonth) (list_says (SpellsBetween 1 12) decimal (is_between 1 12) (λ n e. between_back 1 12 n (month_small n e) e) (λ n e. comma_decimal n (month_small n e)) (months_from 1 t.months) r.months);
-        month_days = says_at SpellsMonthDays [] (numbers_from 0 t.month_days) _ _ (values ByMonthDay) (list_says (SpellsPlace 31) signed_decimal (is_place 31) (λ z e. place_back 31 z (omega arith) e) (λ z e. comma_place 31 z (omega arith) e) (numbers_from 0 t.month_days) r.month_days);
-        weekdays = says_at SpellsEntries [] (entries_from 0 t.weekdays) _ _ (values ByDay) (list_says SpellsEntry entry_text is_entry entry_back comma_entry (entries_from 0 t.weekdays) r.weekdays);
-        positions = says_at SpellsPositions [] (numbers_from 0 t.positions) _ _ (values BySetPosition) (list_says (SpellsPlace 366) signed_decimal (is_place 366) (λ z e. place_back 366 z (omega arith) e) (λ z e. comma_place 366 z (omega arith) e) (numbers_from 0 t.positions) r.positions);
+        months = says_at SpellsMonths [] (months_from 1 t.months) _ _ (values ByMonth) (list_says (SpellsBetween 1 12) decimal (is_between 1 12) (λ n e. between_back 1 12 n (month_small n e) e) (λ n e. lacks_decimal 44 comma n (month_small n e)) (months_from 1 t.months) r.months);
+        month_days = says_at SpellsMonthDays [] (numbers_from 0 t.month_days) _ _ (values ByMonthDay) (list_says (SpellsPlace 31) signed_decimal (is_place 31) (λ z e. place_back 31 z (omega arith) e) (λ z e. lacks_place 44 comma 31 z (omega arith) e) (numbers_from 0 t.month_days) r.month_days);
+        weekdays = says_at SpellsEntries [] (entries_from 0 t.weekdays) _ _ (values ByDay) (list_says SpellsEntry entry_text is_entry entry_back (lacks_entry 44 comma) (entries_from 0 t.weekdays) r.weekdays);
+        positions = says_at SpellsPositions [] (numbers_from 0 t.positions) _ _ (values BySetPosition) (list_says (SpellsPlace 366) signed_decimal (is_place 366) (λ z e. place_back 366 z (omega arith) e) (λ z e. lacks_place 44 comma 366 z (omega arith) e) (numbers_from 0 t.positions) r.positions);
       };
       together = together;
       one_end = ends;
