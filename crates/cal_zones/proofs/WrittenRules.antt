@@ -3,7 +3,7 @@ use Rattle.std.proofs.Common.{◌≡◌, ◌∙◌, refl, sym, ap, subst, ℕ, z
 use Rattle.std.specs.List.{list_all, list_any, range_with_len}
 use Rattle.std.specs.Ordering.{int_eq}
 use Rattle.std.specs.Fmt.{signed_decimal}
-use Rattle.std.proofs.lemmas.Bool.{and_parts, and_from}
+use Rattle.std.proofs.lemmas.Bool.{and_parts, and_from, or_left, or_right}
 use Rattle.std.proofs.lemmas.Bool.Decides.{nat_tests}
 use Rattle.profile.specs.Faults.{is_between}
 use Rattle.profile.specs.Days.{Yearly, days_in_month}
@@ -16,14 +16,6 @@ use Rattle.cal_rules.proofs.OneRule.{weekday_test}
 use Rattle.cal_rules.proofs.ReadBack.{month_small, up_to, below}
 use Rattle.cal_rules.proofs.InOrder.{int_itself}
 use Rattle.cal_rules.proofs.PlainRule.{plain_text, plain_rule, plain_back}
-
-later : (a b : Bool) → b ≡ true → (a || b) ≡ true
-later true b h = refl
-later false b h = h
-
-first_one : (a b : Bool) → a ≡ true → (a || b) ≡ true
-first_one true b h = refl
-first_one false b h = cc
 
 -- ---- what is named
 
@@ -95,7 +87,7 @@ entries_there : (month : ℕ) (days : MonthDays) → is_each_year month days ≡
 entries_there month (OnDay day) h = refl
 entries_there month (FromStart number weekday) h =
     let n = numbered month number weekday h in
-    and_from _ _ (and_from _ _ (weekday_test weekday n.small) (later (is_plain (pos number)) _ (number_there number n.low n.high))) refl
+    and_from _ _ (and_from _ _ (weekday_test weekday n.small) (or_right (is_plain (pos number)) _ (number_there number n.low n.high))) refl
 entries_there month (FromEnd number weekday) h =
     let n = numbered month number weekday h in
     and_from _ _ (and_from _ _ (weekday_test weekday n.small) (back_there number n.high)) refl
@@ -110,7 +102,7 @@ entries_short (InWeek first weekday) = refl
 together : (month : ℕ) (days : MonthDays) → go_together (plain_rule Yearly (month ∷ []) (month_days_of days) (weekdays_of days)) ≡ true
 unfolding go_together
 together month (OnDay day) = refl
-together month (FromStart number weekday) = and_from _ _ (later (is_plain (pos number) && true) true refl) refl
+together month (FromStart number weekday) = and_from _ _ (or_right (is_plain (pos number) && true) true refl) refl
 together month (FromEnd number weekday) = refl
 together month (InWeek first weekday) = refl
 
@@ -134,11 +126,11 @@ abbrev stands : ℕ → ℕ → Bool
 stands n more = list_any (λ x. int_eq x (pos (n + more))) (month_days_of (InWeek n 0))
 
 one_of : (z : ℤ) (before after : List ℤ) → list_any (λ x. int_eq x z) (before ++ z ∷ after) ≡ true
-one_of z [] after = first_one (int_eq z z) (list_any (λ x. int_eq x z) after) (int_itself z)
-one_of z (x ∷ before) after = later (int_eq x z) (list_any (λ y. int_eq y z) (before ++ z ∷ after)) (one_of z before after)
+one_of z [] after = or_left (int_eq z z) (list_any (λ x. int_eq x z) after) (int_itself z)
+one_of z (x ∷ before) after = or_right (int_eq x z) (list_any (λ y. int_eq y z) (before ++ z ∷ after)) (one_of z before after)
 
 stands_0 : (n : ℕ) → stands n 0 ≡ true
-stands_0 n = first_one _ _ (from_none n)
+stands_0 n = or_left _ _ (from_none n)
 
 abbrev stands_among : ℕ → ℕ → Type 0
 stands_among n k = list_any (λ x. int_eq x (pos (n + k))) (take k (month_days_of (InWeek n 0)) ++ pos (n + k) ∷ drop (suc k) (month_days_of (InWeek n 0))) ≡ true
