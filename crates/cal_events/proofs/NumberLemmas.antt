@@ -1,7 +1,7 @@
 -- The numbers of the faults of a VEVENT, and which of them are left where no time names a zone.
 use Rattle.std.proofs.Common.{◌≡◌, ◌∙◌, ap, sym, refl, inl, inr, ℕ, Bool, true, false, cond, ◌&&◌, ◌||◌, List, codes}
 use Rattle.std.specs.Prelude.{Option, Some, None, Contains, is_some, ◌⊎◌}
-use Rattle.std.proofs.lemmas.Bool.{true≢false, or_parts}
+use Rattle.std.proofs.lemmas.Bool.{true≢false, or_parts, or_right}
 use Rattle.std.proofs.lemmas.List.Folds.{list_any_at}
 use Rattle.std.proofs.lemmas.List.Elements.{All-contains, All-filter, All-contains_itself, filter_passes}
 use Rattle.ical_lines.specs.Fault.{RefusesOnly, RefusesBy}
@@ -127,10 +127,6 @@ read_start lines line c h =
     let s = stands (codes "DTSTART") lines line c in
     read_end lines line s.0 (ap (λ b. b || is_of (codes "DTEND") line) s.1) h
 
-or_last : (a b : Bool) → b ≡ true → (a || b) ≡ true
-or_last true b h = refl
-or_last false b h = h
-
 utc_number : (object : Tree) (o : Option (List ℕ)) (line : List ℕ) (n : ℕ) → is_some o ≡ false → FaultIn object o line n → is_event_fault n ≡ true
 utc_number object None line n none f = kind_number (time_kind line) (line_value line) n f
 utc_number object (Some name) line n none f = absurd (true≢false none)
@@ -139,7 +135,7 @@ read_times : (object : Tree) (lines : Lines) (n : ℕ) → has_unread lines ≡ 
 read_times object lines n h (bad_start l) = utc_number object (line_param (codes "TZID") l.0) l.0 n (read_start lines l.0 l.1 h) l.2
 read_times object lines n h (bad_end l) =
     let s = stands (codes "DTEND") lines l.0 l.1 in
-    utc_number object (line_param (codes "TZID") l.0) l.0 n (read_end lines l.0 s.0 (or_last (is_of (codes "DTSTART") l.0) (is_of (codes "DTEND") l.0) s.1) h) l.2
+    utc_number object (line_param (codes "TZID") l.0) l.0 n (read_end lines l.0 s.0 (or_right (is_of (codes "DTSTART") l.0) (is_of (codes "DTEND") l.0) s.1) h) l.2
 read_times object lines n h (bad_duration l) = refl
 read_times object lines n h (ends_early x) = refl
 read_times object lines n h (ends_late x) = refl

@@ -10,10 +10,10 @@ use Rattle.profile.specs.Events.{Event, SaysEvent, EventFault, SaysCalendar, Cal
 abbrev Lines : Type 0
 Lines = List (List ℕ)
 
-abbrev OneEvent : Type 0
+abbrev pub OneEvent : Type 0
 OneEvent = (object : Tree) (m : Bool) (lines : Lines) (a b : Event) → SaysEvent object m lines a → SaysEvent object m lines b → a ≡ b
 
-abbrev NoFault : Type 0
+abbrev pub NoFault : Type 0
 NoFault = (object : Tree) (m : Bool) (lines : Lines) (a : Event) (n : ℕ) → SaysEvent object m lines a → EventFault object m lines n → ⊥
 
 same_events : OneEvent → (object : Tree) (vs : List Lines) (a b : List Event) → AllZip (SaysEvent object false) vs a → AllZip (SaysEvent object false) vs b → a ≡ b

@@ -1,5 +1,5 @@
 -- Octets spell at most one series, and none where a fault stands in them.
-use Rattle.std.proofs.Common.{◌≡◌, ◌∙◌, ℕ, ◌<◌, Bool, true, false, nat_lt, List, [], ◌∷◌, length, get_or, codes, sym, ap, subst, arith}
+use Rattle.std.proofs.Common.{◌≡◌, ◌∙◌, ℕ, ◌<◌, true, false, nat_lt, List, [], ◌∷◌, length, get_or, codes, sym, ap, subst, arith}
 use Rattle.std.specs.Prelude.{Contains}
 use Rattle.std.proofs.lemmas.Bool.{true≢false}
 use Rattle.std.proofs.lemmas.Bool.Decides.{nat_tests}
@@ -8,18 +8,13 @@ use Rattle.ical_tree.proofs.OneLine.{at_one}
 use Rattle.profile.specs.Lines.{logical_lines}
 use Rattle.profile.specs.Objects.{has_version, count_inside, most_events}
 use Rattle.profile.specs.Trees.{Tree, tree_name, tree_own, tree_inside, vevents}
-use Rattle.profile.specs.Events.{Event, SaysEvent, EventFault, names_instances}
+use Rattle.profile.specs.Events.{Event, SaysEvent, names_instances}
 use Rattle.profile.specs.Series.{SaysSeries, SpellsSeries, SeriesFault, in_event, no_event, several, not_yet, SeriesTextFault, in_lines, in_tree, no_version, many_events, in_vevents}
+use Rattle.cal_events.proofs.OneCalendar.{OneEvent, NoFault}
 use Rattle.cal_events.proofs.OneText.{OneTree, PairsUp}
 
 abbrev Lines : Type 0
 Lines = List (List ℕ)
-
-abbrev OneEvent : Type 0
-OneEvent = (object : Tree) (m : Bool) (lines : Lines) (a b : Event) → SaysEvent object m lines a → SaysEvent object m lines b → a ≡ b
-
-abbrev NoFault : Type 0
-NoFault = (object : Tree) (m : Bool) (lines : Lines) (a : Event) (n : ℕ) → SaysEvent object m lines a → EventFault object m lines n → ⊥
 
 -- ---- an object
 
