@@ -20,7 +20,7 @@ pub struct WeekdayNumber {
 }
 
 /// The end that UNTIL says: a date, a local time, or an instant in UTC (RFC 5545 3.3.10).
-#[derive(Clone, Copy, PartialEq, Eq)]
+#[derive(Clone, Copy)]
 pub enum Until {
     Date(Day),
     Local(LocalTime),

@@ -22,7 +22,7 @@ pub enum CertFault {
 }
 
 /// What a certificate says: how many singles and how many series its calendar has.
-#[derive(Clone, Copy, PartialEq, Eq)]
+#[derive(Clone, Copy)]
 pub struct Certificate {
     singles: u64,
 }

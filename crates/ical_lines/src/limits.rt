@@ -1,7 +1,7 @@
 //! The bounds on one message; this profile's choice.
 
 /// Whether the bounds of a message hold for the octets that are read.
-#[derive(Clone, Copy, PartialEq, Eq)]
+#[derive(Clone, Copy)]
 pub enum Limits {
     /// One message: at most 1,048,576 octets, 65,536 lines and 200 VEVENTs.
     Message,

@@ -29,7 +29,7 @@ const LAST_LINE: [u8; 13] = *b"end:vcalendar";
 const LAST_LENGTH: u8 = 13;
 
 /// How much of the logical line that has begun is the beginning of `END:VCALENDAR`.
-#[derive(Clone, Copy, PartialEq, Eq)]
+#[derive(Clone, Copy)]
 enum Seen {
     /// The line is its first so many octets.
     First(u8),
@@ -38,7 +38,7 @@ enum Seen {
 }
 
 /// Where the octets so far have come to.
-#[derive(Clone, Copy, PartialEq, Eq)]
+#[derive(Clone, Copy)]
 enum Place {
     /// So many octets of a byte order mark were seen, and nothing else.
     Mark(u8),
@@ -57,7 +57,7 @@ enum Place {
 /// Where `feed` answers true, the object ended before that octet: the octet is the first of the next object,
 /// so give it to the `feed` of a new `Cutter` (which answers false). Where the input ends instead, `has_begun`
 /// tells whether the octets so far are an object; if not, they are only empty lines, which are no object.
-#[derive(Clone, Copy, PartialEq, Eq)]
+#[derive(Clone, Copy)]
 pub struct Cutter {
     place: Place,
     seen: Seen,

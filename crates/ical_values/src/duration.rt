@@ -13,7 +13,7 @@ use itoa::Buffer;
 use std::alloc::AllocError;
 
 /// Nominal days, and exact seconds beside them.
-#[derive(Clone, Copy, PartialEq, Eq)]
+#[derive(Clone, Copy)]
 pub struct Duration {
     /// Days, each as long as it is where they are counted; a week is 7.
     pub days: u32,
