@@ -25,6 +25,11 @@ slot_line old new instant a =
     let text = a.1.0 in
     ((codes "RECURRENCE-ID:" ++ text) ∷ [], (text, a.1.1, refl), one_line old new _ (a.2 ∙ ap (λ x. old ++ x) a.1.2))
 
+-- the status of a decline, piece by piece
+pub put_together : (start one two three four five new head a blank b d : List ℕ) → start ≡ [] → one ≡ start ++ head → two ≡ one ++ a → three ≡ two ++ blank → four ≡ three ++ b → five ≡ four ++ blank → new ≡ five ++ d
+    → new ≡ head ++ a ++ blank ++ b ++ blank ++ d
+put_together start one two three four five new head a blank b d e0 e1 e2 e3 e4 e5 e6 = rw (e6, e5, e4, e3, e2, e1, e0) refl
+
 -- the first lines of an object
 pub opened : (old start one two three new a b d m : List ℕ) → start ≡ old → one ≡ start ++ a → two ≡ one ++ b → three ≡ two ++ d → new ≡ three ++ m → new ≡ old ++ (a ++ (b ++ (d ++ m)))
 opened old start one two three new a b d m e0 e1 e2 e3 e4 = rw (e4, e3, e2, e1, e0) (simp append_assoc)

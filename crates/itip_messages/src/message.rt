@@ -1,10 +1,10 @@
 //! A message, read: its method, its meeting, and what each VEVENT says (RFC 5546 1.4, 3.2).
 //! Only REQUEST is read so far.
-ghost use Rattle.std.specs.Prelude.{◌≡◌, ◌++◌, [], true, false, codes, length, map, option_map, unwrap_or, IsTrue, IsSome, IfOk, IfErr, OnOk};
+ghost use Rattle.std.specs.Prelude.{◌≡◌, ◌++◌, ◌∷◌, [], ℕ, List, true, false, codes, length, map, option_map, unwrap_or, IsTrue, IsSome, IfOk, IfErr, OnOk};
 ghost use Rattle.std.specs.List.{list_all, list_any, AllZip};
 ghost use Rattle.ical_lines.specs.Fault.{RefusesOnly, RefusesBy};
 ghost use Rattle.ical_lines.specs.Text.{line_text};
-ghost use Rattle.ical_tree.specs.Tree.{tree_of};
+ghost use Rattle.ical_tree.specs.Tree.{component_lines, tree_of};
 ghost use Rattle.ical_values.specs.Octets.{address_octets};
 ghost use Rattle.profile.specs.Faults.{is_message_fault};
 ghost use Rattle.profile.specs.Lines.{line_value, is_same_name};
@@ -12,7 +12,8 @@ ghost use Rattle.profile.specs.Values.{duration_text};
 ghost use Rattle.profile.specs.Events.{SaysEvent, has_unread};
 ghost use Rattle.profile.specs.Properties.{StandsAtMostOnce, StandsTwice};
 ghost use Rattle.profile.specs.Messages.{MethodFault, MessageFault, is_same_meeting, is_unread_method};
-ghost use Rattle.cal_events.specs.Events.{event_of, vevents_of};
+ghost use Rattle.cal_events.specs.Events.{IsUnreadOrFault, event_of, vevents_of};
+ghost use Rattle.cal_events.specs.declared.component.Purpose.TheVariants.{Request};
 ghost use Rattle.itip_messages.specs.Messages.{IsCanonical, IsMessageOf, IsSpelled, MeetingFault, NamesRequest, ReadFault, StandsFor, WordFault, component_names};
 
 use crate::attendees::Attendees;
@@ -24,7 +25,7 @@ use itip_order::{Revision, Slot};
 use std::alloc::{AllocError, Global};
 
 /// What a message asks for (RFC 5546 1.4). Those that aren't read yet aren't named yet.
-#[derive(Clone, Copy, PartialEq, Eq)]
+#[derive(Clone, Copy)]
 pub enum Method {
     Request,
 }
@@ -220,10 +221,27 @@ fn events_of(alloc: Global, object: &Component) -> Result<Vec<EventComponent>, F
     let mut events = Vec::new(alloc);
     for component in object.children() {
         if component.is_named("VEVENT") {
-            events.push(read_event(alloc, object, component, Purpose::Request)?)?;
+            push_event(alloc, object, component, &mut events)?;
         }
     }
     Ok(events)
+}
+
+/// Appends what a VEVENT of a message says.
+fn push_event(
+    alloc: Global,
+    object: &Component,
+    component: &Component,
+    events: &mut Vec<EventComponent>,
+) -> Result<(), Fault>
+    ensures says { OnOk result ((before : List (List (List ℕ))) → AllZip (SaysEvent (tree_of object.now) true) before (map event_of events.old.items)
+        → AllZip (SaysEvent (tree_of object.now) true) (before ++ component_lines component.now ∷ []) (map event_of events.new.items)) }
+    ensures read { OnOk result (has_unread (component_lines component.now) ≡ false) }
+    ensures refuses { IfErr result (RefusesOnly is_message_fault) }
+    ensures stands { IfErr result (RefusesBy (IsUnreadOrFault (tree_of object.now) Request (component_lines component.now))) }
+{
+    events.push(read_event(alloc, object, component, Purpose::Request)?)?;
+    Ok(())
 }
 
 /// Refuses no VEVENT, VEVENTs that aren't one meeting's, or more than one: without RECURRENCE-ID each is the

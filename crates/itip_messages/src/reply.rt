@@ -1,7 +1,7 @@
 //! Replies of a room (RFC 5546 3.2.3): one VEVENT for each part that was decided.
-ghost use Rattle.std.specs.Prelude.{◌≡◌, ◌↔◌, ◌++◌, ◌<◌, true, string_bytes, IsSome, IfSome, OnOk, OnErr};
+ghost use Rattle.std.specs.Prelude.{◌≡◌, ◌↔◌, ◌++◌, ◌∷◌, [], ◌<◌, true, string_bytes, IsSome, IfSome, OnOk, OnErr};
 ghost use Rattle.profile.specs.Lines.{folded};
-ghost use Rattle.profile.specs.Values.{IsClockSeconds};
+ghost use Rattle.profile.specs.Values.{IsClockSeconds, WritesStamp};
 ghost use Rattle.profile.specs.Messages.{TellsSlot, TellsOutcome, IsKeyText, word, word_octet, is_plain, hexadecimal};
 ghost use Rattle.cal_events.specs.Calendars.{key_of as instance_key};
 ghost use Rattle.ical_values.specs.Written.{Appends};
@@ -159,30 +159,40 @@ fn write_conflict(object: &mut ObjectWriter, conflict: &Conflict<'_>) -> Result<
     ensures { OnOk result (WritesLines object.old object.new (TellsOutcome (busy conflict.now))) }
 {
     let alloc = object.alloc();
-    let mut line = String::from_str(
-        alloc,
-        "REQUEST-STATUS:4.1;Event conflict.  Date-time is busy.;",
-    )?;
-    let instant = stamp_text(alloc, conflict.instant)?;
-    line.push_str(instant.as_str())?;
+    let mut line = String::new(alloc);
+    put_conflict(alloc, &mut line, conflict)?;
+    object.line(line.as_str())
+}
+
+/// Writes the line of that status into an empty string.
+fn put_conflict(alloc: Global, line: &mut String, conflict: &Conflict<'_>) -> Result<(), AllocError>
+    requires { string_bytes line.now ≡ [] }
+    ensures { OnOk result (TellsOutcome (busy conflict.now) (string_bytes line.new ∷ [])) }
+{
+    line.push_str("REQUEST-STATUS:4.1;Event conflict.  Date-time is busy.;")?;
+    put_stamp(alloc, line, conflict.instant)?;
     line.push_str(" ")?;
-    put_key(alloc, &mut line, &conflict.first)?;
+    put_key(alloc, line, &conflict.first)?;
     line.push_str(" ")?;
-    put_key(alloc, &mut line, &conflict.second)?;
-    object.line(line.as_str())?;
-    Ok(())
+    put_key(alloc, line, &conflict.second)
 }
 
 /// A key in three words: slot, organiser, UID.
 fn put_key(alloc: Global, line: &mut String, key: &ConflictKey<'_>) -> Result<(), AllocError>
     ensures { OnOk result (Appends (string_bytes line.old) (string_bytes line.new) (λ text. IsKeyText text (key_of key.now))) }
 {
-    let slot = stamp_text(alloc, key.slot)?;
-    line.push_str(slot.as_str())?;
+    put_stamp(alloc, line, key.slot)?;
     line.push_str(" ")?;
     put_word(line, key.organiser)?;
     line.push_str(" ")?;
     put_word(line, key.uid)
+}
+
+fn put_stamp(alloc: Global, line: &mut String, stamp: Stamp) -> Result<(), AllocError>
+    ensures { OnOk result (Appends (string_bytes line.old) (string_bytes line.new) (λ text. WritesStamp text stamp)) }
+{
+    let text = stamp_text(alloc, stamp)?;
+    line.push_str(text.as_str())
 }
 
 /// A word of the status: each octet other than letters, digits and `-._~@:` becomes `%` and two hexadecimal
