@@ -1,5 +1,5 @@
 #!/usr/bin/env python3
-"""Makes the known zones of crates/zone_examples: the current rules of fifteen zones as VTIMEZONEs, and what Python's
+"""Makes the known zones of crates/text_examples: the current rules of fifteen zones as VTIMEZONEs, and what Python's
 zoneinfo says of them. It is run by hand, in the top folder: `python3 tests/zone_table.py`.
 
 NAME.ics is an object whose one component is the VTIMEZONE, by the POSIX rule at the end of the system's file of
@@ -19,7 +19,7 @@ ZONES = [
     "Asia/Tokyo", "Australia/Sydney", "Australia/Lord_Howe", "Pacific/Auckland", "America/Santiago",
     "Africa/Cairo", "Asia/Kathmandu", "America/St_Johns", "Pacific/Honolulu",
 ]
-CRATE = pathlib.Path("crates/zone_examples")
+CRATE = pathlib.Path("crates/text_examples")
 DATA = CRATE / "data"
 NAMES = DATA / "zone-names.txt"
 HEAD = "# name: the zone of NAME.ics against the rows of NAME.txt (tests/zone_table.py makes all three)\n"

@@ -1,16 +1,18 @@
-//! Worked examples of lines, values, trees, days and rules. Each line of a subject's table names a call and gives its input; the case's
-//! name and what the call answers are printed. `rt ci` compares that with the file `stdout`, whose lines come from the RFCs, by hand or
-//! from another program.
+//! Worked examples of lines, values, trees, days, rules and zones. Each line of a subject's table names a call and gives its input; the
+//! case's name and what the call answers are printed. Then zones are held against the rows that another program made. `rt ci` compares
+//! what is printed with the file `stdout`, whose lines come from the RFCs, by hand or from another program.
 //!
 //! With the argument `seeks` the cases of rules are read from standard input instead, to be timed (`make bench`).
 #![tactic(auto)]
 
 mod days;
+mod known_zones;
 mod lines;
 mod rules;
 mod subject;
 mod trees;
 mod values;
+mod zones;
 
 use example_cases::Case;
 use std::env::{self, Env};
@@ -28,7 +30,7 @@ fn main(rt: HostRuntime) -> io::Result<()> {
         let table = fs::read_to_string(&rt, subject.file())?;
         print_cases(&rt, subject, table.as_str())?;
     }
-    Ok(())
+    known_zones::print_table(&rt)
 }
 
 fn is_asked_for_seeks<R: Env + AllocGlobal>(rt: &R) -> io::Result<bool> {

@@ -1,6 +1,6 @@
 //! What the tables are about.
 
-use crate::{days, lines, rules, trees, values};
+use crate::{days, lines, rules, trees, values, zones};
 use example_cases::Case;
 use example_cases::answers::print_answer;
 use std::io;
@@ -12,15 +12,17 @@ pub enum Subject {
     Trees,
     Days,
     Rules,
+    Zones,
 }
 
 impl Subject {
-    pub const ALL: [Subject; 5] = [
+    pub const ALL: [Subject; 6] = [
         Subject::Lines,
         Subject::Values,
         Subject::Trees,
         Subject::Days,
         Subject::Rules,
+        Subject::Zones,
     ];
 
     /// The file of its table.
@@ -31,6 +33,7 @@ impl Subject {
             Subject::Trees => "trees.txt",
             Subject::Days => "days.txt",
             Subject::Rules => "rules.txt",
+            Subject::Zones => "zones.txt",
         }
     }
 
@@ -43,6 +46,7 @@ impl Subject {
             Subject::Trees => trees::answer(alloc, case),
             Subject::Days => days::answer(alloc, case),
             Subject::Rules => rules::answer(alloc, case),
+            Subject::Zones => zones::answer(alloc, case),
         };
         print_answer(rt, case, answer)
     }

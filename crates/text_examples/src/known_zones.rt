@@ -1,5 +1,5 @@
 //! Zones against another program: what Python's zoneinfo says of the current rules of fifteen zones, as `tests/zone_table.py` writes it
-//! down. The case NAME compares the zone of `NAME.ics` with the rows of `NAME.txt`.
+//! down. A line NAME of `zone-names.txt` compares the zone of `NAME.ics` with the rows of `NAME.txt`.
 
 use crate::zones::zone_of_object;
 use cal_zones::Zone;
@@ -9,8 +9,19 @@ use ical_values::LocalTime;
 use std::rt::Files;
 use std::{fs, io};
 
+/// Compares the zones of the table.
+pub fn print_table<R: Files + Print + AllocGlobal>(rt: &R) -> io::Result<()> {
+    let table = fs::read_to_string(rt, "zone-names.txt")?;
+    for line in table.lines() {
+        if let Some(case) = Case::of(line) {
+            print(rt, case)?;
+        }
+    }
+    Ok(())
+}
+
 /// Prints `ok NAME` and how many rows there are where all agree, else `differs NAME` and the first row that doesn't.
-pub fn print<R: Files + Print + AllocGlobal>(rt: &R, case: Case<'_>) -> io::Result<()> {
+fn print<R: Files + Print + AllocGlobal>(rt: &R, case: Case<'_>) -> io::Result<()> {
     let alloc = rt.alloc();
     let name = case.name();
     let object = format!(in alloc; "{name}.ics")?;
