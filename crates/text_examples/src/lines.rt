@@ -22,10 +22,14 @@ pub fn answer(alloc: Global, case: Case<'_>) -> Result<String, NoAnswer> {
 fn read(alloc: Global, case: Case<'_>, limits: Limits) -> Result<String, NoAnswer> {
     let octets = octets_of(alloc, case.input())?;
     let read = Unfolded::read(alloc, octets.as_slice(), limits)?;
+    answers_of(alloc, &read, case)
+}
+
+fn answers_of(alloc: Global, read: &Unfolded, case: Case<'_>) -> Result<String, NoAnswer> {
     let mut answers = Answers::new(alloc);
     answers.add("read")?;
     for question in case.steps(alloc)? {
-        let answer = answer_of(alloc, &read, question)?;
+        let answer = answer_of(alloc, read, question)?;
         answers.add(answer.as_str())?;
     }
     Ok(answers.finish())

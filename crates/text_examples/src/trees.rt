@@ -21,10 +21,14 @@ fn read(alloc: Global, case: Case<'_>, limits: Limits) -> Result<String, NoAnswe
     let octets = octets_of(alloc, case.input())?;
     let text = Unfolded::read(alloc, octets.as_slice(), limits)?;
     let object = read_object(alloc, &text, limits)?;
+    answers_of(alloc, &object, case)
+}
+
+fn answers_of(alloc: Global, object: &Component, case: Case<'_>) -> Result<String, NoAnswer> {
     let mut answers = Answers::new(alloc);
     answers.add("read")?;
     for question in case.steps(alloc)? {
-        let answer = answer_of(alloc, &object, question)?;
+        let answer = answer_of(alloc, object, question)?;
         answers.add(answer.as_str())?;
     }
     Ok(answers.finish())

@@ -29,9 +29,13 @@ pub fn answer(alloc: Global, case: Case<'_>) -> Result<String, NoAnswer> {
     if steps.is_empty() {
         return Ok(String::from_str(alloc, "a zone")?);
     }
+    answers_of(alloc, &zone, &steps)
+}
+
+fn answers_of(alloc: Global, zone: &Zone, steps: &[&str]) -> Result<String, NoAnswer> {
     let mut answers = Answers::new(alloc);
     for step in steps {
-        let answer = step_answer(alloc, &zone, step)?;
+        let answer = step_answer(alloc, zone, *step)?;
         answers.add(answer.as_str())?;
     }
     Ok(answers.finish())
