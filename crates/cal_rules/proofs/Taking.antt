@@ -1,7 +1,11 @@
 -- Parts that are taken one after the other, and the least fault of them.
-use Rattle.std.proofs.Common.{◌≡◌, ◌∙◌, ap, sym, refl, subst, ℕ, ◌+◌, ◌<◌, ◌≤◌, true, false, is_some, inl, inr, ◌⊎◌, List, [], ◌∷◌, ◌++◌, length, map, All, Contains, Option, None, Some, Result, Err, option_map, option_to_list, IfSome, IfNone, MatchOption, append_assoc, append-nil, length-append, arith}
+use Rattle.std.proofs.Common.{◌≡◌, ◌∙◌, ap, sym, refl, subst, ℕ, ◌+◌, ◌<◌, ◌≤◌, true, false, is_some, inl, inr, List, [], ◌∷◌, ◌++◌, length, map, All, Contains, Option, None, Some, Result, Err, option_map, option_to_list, IfSome, IfNone, IfOk, MatchOption, append_assoc, append-nil, length-append, arith}
 use Rattle.std.proofs.lemmas.List.Elements.{All-nil, All-push, Contains-append_left, Contains-append_right, filter_map-append}
 use Rattle.std.specs.Option.{unwrap_or, ok_or}
+use Rattle.std.proofs.lemmas.Result.{IfOk-weaker, IfOk-at_ok}
+use Rattle.ical_lines.specs.Fault.{RefusesBy}
+use Rattle.ical_lines.specs.declared.fault.Fault.{Fault}
+use Rattle.ical_lines.specs.declared.fault.Fault.TheVariants.{Memory, Refused}
 use Rattle.ical_lines.specs.declared.fault.Refusal.{Refusal}
 use Rattle.profile.specs.Days.{Frequency}
 use Rattle.profile.specs.Rules.{RuleText, Until}
@@ -9,7 +13,7 @@ use Rattle.profile.specs.RuleTexts.{RuleKey, Interval, Count, EndsAt, WeekStart,
 use Rattle.cal_days.specs.Views.{frequency_of}
 use Rattle.cal_rules.specs.declared.parts.Parts as rust
 use Rattle.cal_rules.specs.Views.{entry_of, until_of}
-use Rattle.cal_rules.specs.Taken.{word, Said, Spells, field, HasBadValue, HasNoBadValue, values_in, SayParts, HaveOneTwice, Keeps, AreTaken, Enters, IsFaultOf}
+use Rattle.cal_rules.specs.Taken.{word, Said, Spells, field, HasBadValue, HasNoBadValue, values_in, SayParts, HaveOneTwice, Keeps, AreTaken, Enters, IsFaultOf, Puts, PutsRead}
 use Rattle.cal_rules.proofs.Parted.{one_name, good_part, known_part, known_bad}
 
 -- ---- the values of one name
@@ -89,7 +93,7 @@ module _ (name : Option RuleKey) (part value : List ℕ) (old new : rust.Parts) 
   -- what a field and its part's value come to
   pub took : {T : Type 0} (see : T → Said name) (said before after : Option T) (fault : Option Refusal) → (SpellsNone (Spells name) value → HasBadValue part) → IfSome said (λ x. Spells name value (see x)) → IfNone said (SpellsNone (Spells name) value)
       → field name old ≡ option_map see before → field name new ≡ option_map see after → AgreeBut name old new
-      → MatchOption fault ((is_some said ≡ true) × (before ≡ None) × (after ≡ said)) (λ f. ((f.number ≡ 31) × (said ≡ None)) ⊎ ((f.number ≡ 32) × (is_some said ≡ true) × (is_some before ≡ true)))
+      → Puts said before after fault
       → MatchOption fault (Enters part old new) (λ f. IsFaultOf part old f.number)
   took see None before after None bad is none was now others (some, empty, put) = let wrong : false ≡ true = some in cc
   took see None before after (Some f) bad is none was now others (inl (n, e)) = (known_bad part (bad none), inl (n, bad none))
@@ -103,6 +107,19 @@ module _ (name : Option RuleKey) (part value : List ℕ) (old new : rust.Parts) 
   took see (Some x) None after (Some f) bad is none was now others (inr (n, some, filled)) = let wrong : false ≡ true = filled in cc
   took see (Some x) (Some y) after (Some f) bad is none was now others (inr (n, some, filled)) =
       (known_part name part value (see x) here is, inr (n, good_part name part value (see x) here is, λ parts. twice_now parts (ap is_some was)))
+
+  -- and so of a list
+  pub took_list : {T E : Type 0} (see : T → Said name) (read : Result (Option T) E) (before after : Option T) (result : Result (Option Refusal) Fault) → (SpellsNone (Spells name) value → HasBadValue part)
+      → IfOk read (λ said. IfSome said (λ x. Spells name value (see x))) → IfOk read (λ said. IfNone said (SpellsNone (Spells name) value))
+      → field name old ≡ option_map see before → field name new ≡ option_map see after → AgreeBut name old new → IfOk result (PutsRead read before after)
+      → IfOk result (λ fault. MatchOption fault (Enters part old new) (λ f. IsFaultOf part old f.number))
+  took_list see read before after result bad is none was now others puts = IfOk-weaker result _ _ (λ fault p.
+      took see p.0 before after fault bad (IfOk-at_ok _ p.1 is) (IfOk-at_ok _ p.1 none) was now others p.2) puts
+
+-- memory alone is a fault of any kind
+pub only_memory : (P : ℕ → Type 0) (fault : Fault) → RefusesBy (λ _. ⊥) fault → RefusesBy P fault
+only_memory P Memory _ = tt
+only_memory P (Refused r) wrong = absurd wrong
 
 -- ---- the least fault so far
 

@@ -1,5 +1,5 @@
 -- What is known of the parts of a rule's text that were taken so far (RFC 5545 3.3.10).
-use Rattle.std.specs.Prelude.{◌≡◌, ℕ, ◌<◌, ◌⊎◌, ℤ, List, [], ◌∷◌, ◌++◌, length, map, codes, All, Contains, Option, None, Some, option_map}
+use Rattle.std.specs.Prelude.{◌≡◌, ℕ, ◌<◌, ◌⊎◌, ℤ, List, [], ◌∷◌, ◌++◌, length, map, codes, All, Contains, true, is_some, Option, None, Some, option_map, Result, Ok}
 use Rattle.std.specs.List.{filter_map}
 use Rattle.ical_lines.specs.declared.fault.Refusal.{Refusal}
 use Rattle.profile.specs.Days.{Frequency}
@@ -100,3 +100,15 @@ abbrev pub IsFaultOf : List ℕ → rust.Parts → ℕ → Type 0
 IsFaultOf part before number =
     IsKnownPart part × (((number ≡ 31) × HasBadValue part)
     ⊎ ((number ≡ 32) × HasNoBadValue part × ((parts : List (List ℕ)) → SayParts parts before → HaveOneTwice (parts ++ part ∷ []))))
+
+-- A VALUE IS PUT INTO ITS FIELD
+
+-- the field is filled, or there is a fault: the value says nothing, or else the field was filled before
+abbrev pub Puts : {T : Type 0} → Option T → Option T → Option T → Option Refusal → Type 0
+Puts said before after None = (is_some said ≡ true) × (before ≡ None) × (after ≡ said)
+Puts said before after (Some fault) =
+    ((fault.number ≡ 31) × (said ≡ None)) ⊎ ((fault.number ≡ 32) × (is_some said ≡ true) × (is_some before ≡ true))
+
+-- so is the value that was read, where there was memory for it
+abbrev pub PutsRead : {T E : Type 0} → Result (Option T) E → Option T → Option T → Option Refusal → Type 0
+PutsRead {T} read before after fault = (said : Option T) × (read ≡ Ok said) × Puts said before after fault

@@ -5,7 +5,7 @@ ghost use Rattle.std.specs.Prelude.{◌≡◌, ◌⊎◌, ℕ, List, [], ◌∷�
 ghost use Rattle.ical_lines.specs.Fault.{RefusesBy};
 ghost use Rattle.profile.specs.RuleTexts.{rule_parts, IsKnownPart, SaysParts, SpellsRule, IsLeastRuleFault};
 ghost use Rattle.cal_rules.specs.Views.{text_of};
-ghost use Rattle.cal_rules.specs.Taken.{SayParts, AreTaken, Enters, IsFaultOf};
+ghost use Rattle.cal_rules.specs.Taken.{SayParts, AreTaken, Enters, IsFaultOf, Puts, PutsRead};
 
 use crate::values::{
     read_count, read_entries, read_frequency, read_interval, read_months, read_places, read_until,
@@ -14,7 +14,7 @@ use crate::values::{
 use crate::written::{Until, WeekdayNumber, Written};
 use cal_days::Frequency;
 use ical_lines::{Fault, Refusal};
-use std::alloc::Global;
+use std::alloc::{AllocError, Global};
 
 /// What the parts say that were taken so far: each field the one value of its part.
 #[derive(Drop)]
@@ -89,10 +89,10 @@ impl Parts {
             "COUNT" => Ok(put(&mut self.count, read_count(value))),
             "UNTIL" => Ok(put(&mut self.until, read_until(value))),
             "WKST" => Ok(put(&mut self.week_start, read_weekday(value))),
-            "BYMONTH" => Ok(put(&mut self.months, read_months(alloc, value)?)),
-            "BYMONTHDAY" => Ok(put(&mut self.month_days, read_places(alloc, 31, value)?)),
-            "BYDAY" => Ok(put(&mut self.weekdays, read_entries(alloc, value)?)),
-            "BYSETPOS" => Ok(put(&mut self.positions, read_places(alloc, 366, value)?)),
+            "BYMONTH" => put_list(&mut self.months, read_months(alloc, value)),
+            "BYMONTHDAY" => put_list(&mut self.month_days, read_places(alloc, 31, value)),
+            "BYDAY" => put_list(&mut self.weekdays, read_entries(alloc, value)),
+            "BYSETPOS" => put_list(&mut self.positions, read_places(alloc, 366, value)),
             _ => Err(Fault::Refused(Refusal::UNKNOWN_RULE_PART)),
         }
     }
@@ -141,10 +141,7 @@ impl Parts {
 /// Puts what a value says into the field of its part. Gives the fault: a value that says nothing (31), or else a field
 /// that was filled before (32).
 fn put<T: Drop>(field: &mut Option<T>, said: Option<T>) -> Option<Refusal>
-    ensures { MatchOption result
-        ((is_some said ≡ true) × (field.old ≡ None) × (field.new ≡ said))
-        (λ fault. ((fault.number ≡ 31) × (said ≡ None))
-        ⊎ ((fault.number ≡ 32) × (is_some said ≡ true) × (is_some field.old ≡ true))) }
+    ensures { Puts said field.old field.new result }
 {
     if said.is_none() {
         return Some(Refusal::BAD_RULE_VALUE);
@@ -154,4 +151,15 @@ fn put<T: Drop>(field: &mut Option<T>, said: Option<T>) -> Option<Refusal>
     }
     *field = said;
     None
+}
+
+/// The same, of a list for which there may be no memory.
+fn put_list<T: Drop>(
+    field: &mut Option<T>,
+    said: Result<Option<T>, AllocError>,
+) -> Result<Option<Refusal>, Fault>
+    ensures puts { IfOk result (PutsRead said field.old field.new) }
+    ensures memory { IfErr result (RefusesBy (λ _. ⊥)) }
+{
+    Ok(put(field, said?))
 }

@@ -1,9 +1,10 @@
 use Rattle.std.proofs.Common.{refl, map, None, Some}
+use Rattle.std.proofs.lemmas.Result.{IfErr-weaker}
 use Rattle.profile.specs.RuleTexts.{Interval, Count, EndsAt, WeekStart, ByMonth, ByMonthDay, ByDay, BySetPosition}
 use Rattle.cal_days.specs.Views.{frequency_of}
 use Rattle.cal_rules.specs.Views.{entry_of, until_of}
 use Rattle.cal_rules.proofs.Parted.{named, unmarked, unnamed, no_name, no_frequency_part}
-use Rattle.cal_rules.proofs.Taking.{seen, agree, took}
+use Rattle.cal_rules.proofs.Taking.{seen, agree, took, took_list, only_memory}
 use Rattle.cal_rules.proofs.parts.Parts.enter.Goals as goal
 
 pub returns-in_default-clause-refuses : goal.returns-in_default-clause-refuses
@@ -54,37 +55,49 @@ returns-in-WKST-clause-enters c =
     took (Some WeekStart) c.args.part.now c.in-Some.value.now c.args.self.now (record c.args.self.now { week_start = c.put-in-WKST.new.field }) here (λ x. x) c.read_weekday.result c.args.self.now.week_start c.put-in-WKST.new.field c.put-in-WKST.result
     (λ none. (WeekStart, c.in-Some.value.now, here, none)) c.read_weekday.ensures.reads c.read_weekday.ensures.none (seen c.args.self.now.week_start) (seen c.put-in-WKST.new.field) others c.put-in-WKST.ensures
 
-pub returns-in_ok-read_months-in-BYMONTH-clause-enters :
-    goal.returns-in_ok-read_months-in-BYMONTH-clause-enters
-returns-in_ok-read_months-in-BYMONTH-clause-enters c =
+pub returns-in-BYMONTH-clause-enters :
+    goal.returns-in-BYMONTH-clause-enters
+returns-in-BYMONTH-clause-enters c =
     let here = named (Some ByMonth) c.args.part.now c.in-Some.name c.in-Some.value c.in-Some.ensures.cases c.in-BYMONTH.is in
-    let others = agree (Some ByMonth) c.args.self.now (record c.args.self.now { months = c.put-in-BYMONTH.new.field }) (λ _. refl) (λ _. refl) (λ _. refl) (λ _. refl) (λ _. refl) (λ d. absurd (d refl)) (λ _. refl) (λ _. refl) (λ _. refl) in
-    took (Some ByMonth) c.args.part.now c.in-Some.value.now c.args.self.now (record c.args.self.now { months = c.put-in-BYMONTH.new.field }) here (λ xs. xs.items) c.in_ok-read_months-in-BYMONTH.field-0 c.args.self.now.months c.put-in-BYMONTH.new.field c.put-in-BYMONTH.result
-    (λ none. (ByMonth, c.in-Some.value.now, here, none)) c.in_ok-read_months-in-BYMONTH.ensures.reads c.in_ok-read_months-in-BYMONTH.ensures.none refl refl others c.put-in-BYMONTH.ensures
+    let others = agree (Some ByMonth) c.args.self.now (record c.args.self.now { months = c.put_list.new.field }) (λ _. refl) (λ _. refl) (λ _. refl) (λ _. refl) (λ _. refl) (λ d. absurd (d refl)) (λ _. refl) (λ _. refl) (λ _. refl) in
+    took_list (Some ByMonth) c.args.part.now c.in-Some.value.now c.args.self.now (record c.args.self.now { months = c.put_list.new.field }) here (λ xs. xs.items) c.read_months.result c.args.self.now.months c.put_list.new.field c.put_list.result
+    (λ none. (ByMonth, c.in-Some.value.now, here, none)) c.read_months.ensures.reads c.read_months.ensures.none refl refl others c.put_list.ensures.puts
 
-pub returns-in_ok-read_places-in-BYMONTHDAY-clause-enters :
-    goal.returns-in_ok-read_places-in-BYMONTHDAY-clause-enters
-returns-in_ok-read_places-in-BYMONTHDAY-clause-enters c =
+pub returns-in-BYMONTH-clause-refuses : goal.returns-in-BYMONTH-clause-refuses
+returns-in-BYMONTH-clause-refuses c = IfErr-weaker c.put_list.result _ _ (only_memory _) c.put_list.ensures.memory
+
+pub returns-in-BYMONTHDAY-clause-enters :
+    goal.returns-in-BYMONTHDAY-clause-enters
+returns-in-BYMONTHDAY-clause-enters c =
     let here = named (Some ByMonthDay) c.args.part.now c.in-Some.name c.in-Some.value c.in-Some.ensures.cases c.in-BYMONTHDAY.is in
-    let others = agree (Some ByMonthDay) c.args.self.now (record c.args.self.now { month_days = c.put-in-BYMONTHDAY.new.field }) (λ _. refl) (λ _. refl) (λ _. refl) (λ _. refl) (λ _. refl) (λ _. refl) (λ d. absurd (d refl)) (λ _. refl) (λ _. refl) in
-    took (Some ByMonthDay) c.args.part.now c.in-Some.value.now c.args.self.now (record c.args.self.now { month_days = c.put-in-BYMONTHDAY.new.field }) here (λ xs. xs.items) c.in_ok-read_places-in-BYMONTHDAY.field-0 c.args.self.now.month_days c.put-in-BYMONTHDAY.new.field c.put-in-BYMONTHDAY.result
-    (λ none. (ByMonthDay, c.in-Some.value.now, here, none)) c.in_ok-read_places-in-BYMONTHDAY.ensures.reads c.in_ok-read_places-in-BYMONTHDAY.ensures.none refl refl others c.put-in-BYMONTHDAY.ensures
+    let others = agree (Some ByMonthDay) c.args.self.now (record c.args.self.now { month_days = c.put_list-in-BYMONTHDAY.new.field }) (λ _. refl) (λ _. refl) (λ _. refl) (λ _. refl) (λ _. refl) (λ _. refl) (λ d. absurd (d refl)) (λ _. refl) (λ _. refl) in
+    took_list (Some ByMonthDay) c.args.part.now c.in-Some.value.now c.args.self.now (record c.args.self.now { month_days = c.put_list-in-BYMONTHDAY.new.field }) here (λ xs. xs.items) c.read_places.result c.args.self.now.month_days c.put_list-in-BYMONTHDAY.new.field c.put_list-in-BYMONTHDAY.result
+    (λ none. (ByMonthDay, c.in-Some.value.now, here, none)) c.read_places.ensures.reads c.read_places.ensures.none refl refl others c.put_list-in-BYMONTHDAY.ensures.puts
 
-pub returns-in_ok-read_entries-in-BYDAY-clause-enters :
-    goal.returns-in_ok-read_entries-in-BYDAY-clause-enters
-returns-in_ok-read_entries-in-BYDAY-clause-enters c =
+pub returns-in-BYMONTHDAY-clause-refuses : goal.returns-in-BYMONTHDAY-clause-refuses
+returns-in-BYMONTHDAY-clause-refuses c = IfErr-weaker c.put_list-in-BYMONTHDAY.result _ _ (only_memory _) c.put_list-in-BYMONTHDAY.ensures.memory
+
+pub returns-in-BYDAY-clause-enters :
+    goal.returns-in-BYDAY-clause-enters
+returns-in-BYDAY-clause-enters c =
     let here = named (Some ByDay) c.args.part.now c.in-Some.name c.in-Some.value c.in-Some.ensures.cases c.in-BYDAY.is in
-    let others = agree (Some ByDay) c.args.self.now (record c.args.self.now { weekdays = c.put-in-BYDAY.new.field }) (λ _. refl) (λ _. refl) (λ _. refl) (λ _. refl) (λ _. refl) (λ _. refl) (λ _. refl) (λ d. absurd (d refl)) (λ _. refl) in
-    took (Some ByDay) c.args.part.now c.in-Some.value.now c.args.self.now (record c.args.self.now { weekdays = c.put-in-BYDAY.new.field }) here (λ xs. map entry_of xs.items) c.in_ok-read_entries-in-BYDAY.field-0 c.args.self.now.weekdays c.put-in-BYDAY.new.field c.put-in-BYDAY.result
-    (λ none. (ByDay, c.in-Some.value.now, here, none)) c.in_ok-read_entries-in-BYDAY.ensures.reads c.in_ok-read_entries-in-BYDAY.ensures.none refl refl others c.put-in-BYDAY.ensures
+    let others = agree (Some ByDay) c.args.self.now (record c.args.self.now { weekdays = c.put_list-in-BYDAY.new.field }) (λ _. refl) (λ _. refl) (λ _. refl) (λ _. refl) (λ _. refl) (λ _. refl) (λ _. refl) (λ d. absurd (d refl)) (λ _. refl) in
+    took_list (Some ByDay) c.args.part.now c.in-Some.value.now c.args.self.now (record c.args.self.now { weekdays = c.put_list-in-BYDAY.new.field }) here (λ xs. map entry_of xs.items) c.read_entries.result c.args.self.now.weekdays c.put_list-in-BYDAY.new.field c.put_list-in-BYDAY.result
+    (λ none. (ByDay, c.in-Some.value.now, here, none)) c.read_entries.ensures.reads c.read_entries.ensures.none refl refl others c.put_list-in-BYDAY.ensures.puts
 
-pub returns-in_ok-read_places-in-BYSETPOS-clause-enters :
-    goal.returns-in_ok-read_places-in-BYSETPOS-clause-enters
-returns-in_ok-read_places-in-BYSETPOS-clause-enters c =
+pub returns-in-BYDAY-clause-refuses : goal.returns-in-BYDAY-clause-refuses
+returns-in-BYDAY-clause-refuses c = IfErr-weaker c.put_list-in-BYDAY.result _ _ (only_memory _) c.put_list-in-BYDAY.ensures.memory
+
+pub returns-in-BYSETPOS-clause-enters :
+    goal.returns-in-BYSETPOS-clause-enters
+returns-in-BYSETPOS-clause-enters c =
     let here = named (Some BySetPosition) c.args.part.now c.in-Some.name c.in-Some.value c.in-Some.ensures.cases c.in-BYSETPOS.is in
-    let others = agree (Some BySetPosition) c.args.self.now (record c.args.self.now { positions = c.put-in-BYSETPOS.new.field }) (λ _. refl) (λ _. refl) (λ _. refl) (λ _. refl) (λ _. refl) (λ _. refl) (λ _. refl) (λ _. refl) (λ d. absurd (d refl)) in
-    took (Some BySetPosition) c.args.part.now c.in-Some.value.now c.args.self.now (record c.args.self.now { positions = c.put-in-BYSETPOS.new.field }) here (λ xs. xs.items) c.in_ok-read_places-in-BYSETPOS.field-0 c.args.self.now.positions c.put-in-BYSETPOS.new.field c.put-in-BYSETPOS.result
-    (λ none. (BySetPosition, c.in-Some.value.now, here, none)) c.in_ok-read_places-in-BYSETPOS.ensures.reads c.in_ok-read_places-in-BYSETPOS.ensures.none refl refl others c.put-in-BYSETPOS.ensures
+    let others = agree (Some BySetPosition) c.args.self.now (record c.args.self.now { positions = c.put_list-in-BYSETPOS.new.field }) (λ _. refl) (λ _. refl) (λ _. refl) (λ _. refl) (λ _. refl) (λ _. refl) (λ _. refl) (λ _. refl) (λ d. absurd (d refl)) in
+    took_list (Some BySetPosition) c.args.part.now c.in-Some.value.now c.args.self.now (record c.args.self.now { positions = c.put_list-in-BYSETPOS.new.field }) here (λ xs. xs.items) c.read_places-in-BYSETPOS.result c.args.self.now.positions c.put_list-in-BYSETPOS.new.field c.put_list-in-BYSETPOS.result
+    (λ none. (BySetPosition, c.in-Some.value.now, here, none)) c.read_places-in-BYSETPOS.ensures.reads c.read_places-in-BYSETPOS.ensures.none refl refl others c.put_list-in-BYSETPOS.ensures.puts
+
+pub returns-in-BYSETPOS-clause-refuses : goal.returns-in-BYSETPOS-clause-refuses
+returns-in-BYSETPOS-clause-refuses c = IfErr-weaker c.put_list-in-BYSETPOS.result _ _ (only_memory _) c.put_list-in-BYSETPOS.ensures.memory
 
 pub returns-in_default-name-clause-refuses : goal.returns-in_default-name-clause-refuses
 returns-in_default-name-clause-refuses c = (
