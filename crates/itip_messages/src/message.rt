@@ -234,7 +234,8 @@ fn push_event(
     component: &Component,
     events: &mut Vec<EventComponent>,
 ) -> Result<(), Fault>
-    ensures says { OnOk result ((before : List (List (List ℕ))) → AllZip (SaysEvent (tree_of object.now) true) before (map event_of events.old.items)
+    ensures says { OnOk result ((before : List (List (List ℕ)))
+        → AllZip (SaysEvent (tree_of object.now) true) before (map event_of events.old.items)
         → AllZip (SaysEvent (tree_of object.now) true) (before ++ component_lines component.now ∷ []) (map event_of events.new.items)) }
     ensures read { OnOk result (has_unread (component_lines component.now) ≡ false) }
     ensures refuses { IfErr result (RefusesOnly is_message_fault) }
