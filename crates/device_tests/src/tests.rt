@@ -4,6 +4,7 @@
 use sched_box::{DeviceReader, DeviceWriter, ServeFault, ServeReport, StreamFault, serve_stream};
 use std::alloc::Global;
 use std::io::{self, ErrorKind, Read, Write};
+use std::process::Abort;
 use std::test::Fail;
 
 const STREAM: &str =
@@ -159,114 +160,130 @@ fn first_answer() -> &'static [u8] {
 const FIRST_END: usize = STREAM.len()
     - "BEGIN:VCALENDAR\r\nVERSION:2.0\r\nMETHOD:CANCEL\r\nEND:VCALENDAR\r\n".len();
 
+/// Serves the stream, and compares what came of it and what was sent on.
+fn check<R: AllocGlobal + Abort>(
+    rt: &R,
+    devices: Devices,
+    expected: Result<ServeReport, StreamFault>,
+    sent: &[u8],
+) -> Result<(), Fail> {
+    let (report, writer) = devices.serve(rt.alloc())?;
+    assert_eq!(rt; report, expected);
+    assert_eq!(rt; writer.get_ref().sent.as_slice(), sent);
+    Ok(())
+}
+
 #[test]
 fn few_octets_and_interrupted_calls_change_nothing(rt: HostRuntime) -> Result<(), Fail> {
-    let alloc = rt.alloc();
     let whole = Devices::of_octets(8_192, 8_192, 8_192);
-    let mut rows = Vec::new(alloc);
+    let answers = ANSWERS.as_bytes();
     for octets in [1, 2, 3, 7, 64] {
-        rows.push(Devices::of_octets(octets, 8_192, octets))?;
-        rows.push(Devices::of_octets(8_192, octets, 8_192))?;
+        check(
+            &rt,
+            Devices::of_octets(octets, 8_192, octets),
+            Ok(SERVED),
+            answers,
+        )?;
+        check(
+            &rt,
+            Devices::of_octets(8_192, octets, 8_192),
+            Ok(SERVED),
+            answers,
+        )?;
     }
     for call in [1, 2] {
         let interrupted = Failures::new(call, 999, ErrorKind::Interrupted);
-        rows.push(Devices {
-            reads: interrupted,
-            ..whole
-        })?;
-        rows.push(Devices {
-            writes: interrupted,
-            ..whole
-        })?;
-    }
-    for row in rows.iter() {
-        let (report, writer) = row.serve(alloc)?;
-        let sent = writer.get_ref().sent.as_slice();
-        assert_eq!(rt; report, Ok(SERVED));
-        assert_eq!(rt; sent, ANSWERS.as_bytes());
+        check(
+            &rt,
+            Devices {
+                reads: interrupted,
+                ..whole
+            },
+            Ok(SERVED),
+            answers,
+        )?;
+        check(
+            &rt,
+            Devices {
+                writes: interrupted,
+                ..whole
+            },
+            Ok(SERVED),
+            answers,
+        )?;
     }
     Ok(())
 }
 
 #[test]
 fn a_device_that_fails_is_named(rt: HostRuntime) -> Result<(), Fail> {
-    let alloc = rt.alloc();
-    let none: &[u8] = b"";
     let whole = Devices::of_octets(8_192, 8_192, 8_192);
     let endless = Failures::new(1, u32::MAX, ErrorKind::Interrupted);
-    let broken = Failures::new(1, 1, ErrorKind::BrokenPipe);
+    let first = Failures::new(1, 1, ErrorKind::BrokenPipe);
     let second = Failures::new(2, 1, ErrorKind::BrokenPipe);
-    let rows = [
-        (
-            Devices {
-                reads: endless,
-                ..whole
-            },
-            ServeFault::Read,
-            none,
-        ),
-        (
-            Devices {
-                writes: endless,
-                ..whole
-            },
-            ServeFault::Write,
-            none,
-        ),
-        (Devices { write: 0, ..whole }, ServeFault::Write, none),
-        (
-            Devices {
-                flushes: broken,
-                ..whole
-            },
-            ServeFault::Write,
-            none,
-        ),
-        (
-            Devices {
-                writes: second,
-                ..whole
-            },
-            ServeFault::Write,
-            first_answer(),
-        ),
-        (
-            Devices {
-                flushes: second,
-                ..whole
-            },
-            ServeFault::Write,
-            first_answer(),
-        ),
-    ];
-    for (devices, fault, sent) in rows.iter() {
-        let (report, writer) = devices.serve(alloc)?;
-        assert_eq!(rt; report, Err(StreamFault::Serve(*fault)));
-        assert_eq!(rt; writer.get_ref().sent.as_slice(), *sent);
-    }
-    Ok(())
+    let read = Err(StreamFault::Serve(ServeFault::Read));
+    let write = Err(StreamFault::Serve(ServeFault::Write));
+    check(
+        &rt,
+        Devices {
+            reads: endless,
+            ..whole
+        },
+        read,
+        b"",
+    )?;
+    check(
+        &rt,
+        Devices {
+            writes: endless,
+            ..whole
+        },
+        write,
+        b"",
+    )?;
+    check(&rt, Devices { write: 0, ..whole }, write, b"")?;
+    check(
+        &rt,
+        Devices {
+            flushes: first,
+            ..whole
+        },
+        write,
+        b"",
+    )?;
+    check(
+        &rt,
+        Devices {
+            writes: second,
+            ..whole
+        },
+        write,
+        first_answer(),
+    )?;
+    check(
+        &rt,
+        Devices {
+            flushes: second,
+            ..whole
+        },
+        write,
+        first_answer(),
+    )
 }
 
 #[test]
 fn a_reader_that_fails_leaves_the_answers_sent(rt: HostRuntime) -> Result<(), Fail> {
-    let alloc = rt.alloc();
-    let none: &[u8] = b"";
     let one = Devices::of_octets(1, 8_192, 8_192);
+    let read = Err(StreamFault::Serve(ServeFault::Read));
     for call in 1..=STREAM.len() as u32 + 1 {
         let reads = Failures::new(call, 1, ErrorKind::ConnectionReset);
-        let (report, writer) = Devices { reads, ..one }.serve(alloc)?;
         // the octet after an object's last line break shows that it has ended
         let sent = if call as usize > FIRST_END + 1 {
             first_answer()
         } else {
-            none
+            b""
         };
-        assert_eq!(rt;
-            report,
-            Err(StreamFault::Serve(ServeFault::Read)),
-            "at call {call}"
-        );
-        assert_eq!(rt; writer.get_ref().sent.as_slice(), sent, "at call {call}");
+        check(&rt, Devices { reads, ..one }, read, sent)?;
     }
     Ok(())
 }
@@ -278,18 +295,13 @@ fn a_writer_that_fails_has_taken_a_beginning(rt: HostRuntime) -> Result<(), Fail
     for call in 1..=ANSWERS.len() as u32 {
         let writes = Failures::new(call, 1, ErrorKind::BrokenPipe);
         let (report, writer) = Devices { writes, ..one }.serve(alloc)?;
-        assert_eq!(rt;
-            report,
-            Err(StreamFault::Serve(ServeFault::Write)),
-            "at call {call}"
-        );
+        assert_eq!(rt; report, Err(StreamFault::Serve(ServeFault::Write)));
         let taken = writer.get_ref().sent.len() + writer.get_ref().held.len();
         assert_eq!(rt; taken + 1, call as usize);
         assert!(rt;
             ANSWERS
                 .as_bytes()
-                .starts_with(writer.get_ref().sent.as_slice()),
-            "at call {call}"
+                .starts_with(writer.get_ref().sent.as_slice())
         );
     }
     Ok(())
