@@ -15,6 +15,7 @@ pub mod OneText
 pub mod OneSeries
 pub mod OneZoned
 pub mod TimesLemmas
+pub mod ZoneTables
 pub mod ZonedLemmas
 pub mod CalendarLemmas
 pub mod ClashLemmas

@@ -17,7 +17,8 @@ use Rattle.profile.specs.Events.{Event, SaysEvent, SaysCalendar, CalendarFault, 
 use Rattle.cal_events.specs.declared.calendar.Entry.{Entry}
 use Rattle.cal_events.specs.Calendars.{booked_of, confirmed_in, meeting_of, MeetingsDiffer, IsTwinsFault}
 use Rattle.cal_events.specs.declared.component.Purpose.TheVariants.{Calendar}
-use Rattle.cal_events.specs.Events.{is_vevent, entry_view, entry_said, AreEntries, IsUnreadOrFault}
+use Rattle.cal_events.specs.declared.component.EventComponent.{EventComponent}
+use Rattle.cal_events.specs.Events.{event_of, is_vevent, entry_view, entry_said, AreEntries, IsUnreadOrFault}
 use Rattle.cal_events.proofs.EventLemmas.{push_zip}
 
 -- ---- the VEVENTs among some components
@@ -74,10 +75,10 @@ pub unread_next : (lines : Lines) (rest : List Lines) (all : List Lines) → lis
 unread_next lines rest all e h = e ∙ ap (λ b. b || list_any has_unread rest) h
 
 -- one VEVENT more that is read
-pub read_event : (cs : List Component) (i : ℕ) (c : Component) → i < length cs → c ≡ get_or cs i c → is_vevent c ≡ true → list_any has_unread (events_in (take i cs)) ≡ false
-    → has_unread (component_lines c) ≡ false → list_any has_unread (events_in (take (i + 1) cs)) ≡ false
-read_event cs i c w e h before here =
-    ap (list_any has_unread) (take_event cs i c w e h) ∙ list_any-append has_unread (events_in (take i cs)) (component_lines c ∷ []) ∙ ap (λ b. b || (has_unread (component_lines c) || false)) before
+pub read_event : (U : Lines → Bool) (cs : List Component) (i : ℕ) (c : Component) → i < length cs → c ≡ get_or cs i c → is_vevent c ≡ true
+    → list_any U (events_in (take i cs)) ≡ false → U (component_lines c) ≡ false → list_any U (events_in (take (i + 1) cs)) ≡ false
+read_event U cs i c w e h before here =
+    ap (list_any U) (take_event cs i c w e h) ∙ list_any-append U (events_in (take i cs)) (component_lines c ∷ []) ∙ ap (λ b. b || (U (component_lines c) || false)) before
     ∙ ap (λ b. b || false) here
 
 -- what isn't read yet is a fault
@@ -90,7 +91,14 @@ unread_stands object vs (Refused r) e s = subst (CalendarFault object) (sym s.0)
 pub unread_among : (vs : List Lines) (lines : Lines) → Contains vs lines → has_unread lines ≡ true → list_any has_unread vs ≡ true
 unread_among vs lines (k, w, e) h = list_any_at has_unread vs k lines w (ap has_unread e ∙ h)
 
--- ---- entries
+-- ---- events, and entries
+
+pub event_pushed : (object : Tree) (m : Bool) (vs : List Lines) (lines : Lines) (old new : List EventComponent) (event : EventComponent)
+    → AllZip (SaysEvent object m) vs (map event_of old) → SaysEvent object m lines (event_of event) → new ≡ old ++ event ∷ []
+    → AllZip (SaysEvent object m) (vs ++ lines ∷ []) (map event_of new)
+event_pushed object m vs lines old new event zip says n =
+    subst (λ (es : List Event). AllZip (SaysEvent object m) (vs ++ lines ∷ []) es) (sym (ap (map event_of) n ∙ map-append event_of old (event ∷ [])))
+    (push_zip (SaysEvent object m) vs (map event_of old) lines (event_of event) zip says)
 
 pub entry_pushed : (object : Tree) (room : List ℕ) (vs : List Lines) (lines : Lines) (event : Event) (old new : List Entry) (e : Entry) → AreEntries object room vs old
     → SaysEvent object false lines event → entry_view e ≡ entry_said room event → new ≡ old ++ e ∷ [] → AreEntries object room (vs ++ lines ∷ []) new

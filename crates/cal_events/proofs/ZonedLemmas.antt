@@ -1,21 +1,23 @@
 -- The VTIMEZONE that a name means, among the components of an object, and what is read of it.
 use Rattle.std.proofs.Common.{◌≡◌, ◌∙◌, ap, sym, refl, subst, ℕ, Bool, true, false, cond, ◌&&◌, List, [], ◌∷◌, map, filter, codes, ℤ}
-use Rattle.std.specs.Prelude.{Option, Some, None, option_map, find}
+use Rattle.std.specs.Prelude.{Option, Some, None, option_map, find, Result, Ok, Err, IfOk, IfErr}
+use Rattle.cal_zones.specs.Kinds.{zone_of}
+use Rattle.cal_zones.specs.declared.zone.Zone.{Zone}
 use Rattle.ical_lines.specs.Fault.{RefusesBy}
 use Rattle.ical_lines.specs.declared.fault.Fault.{Fault}
 use Rattle.ical_lines.specs.declared.fault.Fault.TheVariants.{Refused, Memory}
+use Rattle.ical_lines.specs.declared.fault.Refusal.{Refusal}
 use Rattle.ical_tree.specs.Tree.{component_name, component_children, tree_of}
 use Rattle.ical_tree.specs.declared.component.Component.{Component}
 use Rattle.ical_tree.proofs.TreeOfLemmas.{tree_of-name, tree_of-own, tree_of-inside}
 use Rattle.profile.specs.Lines.{line_param, line_value, is_same_name}
 use Rattle.profile.specs.Trees.{Tree, tree_name, tree_own}
-use Rattle.profile.specs.Zones.{Zone}
-use Rattle.profile.specs.ZoneTexts.{SaysZone, ZoneFault}
+use Rattle.profile.specs.Zones as zones
 use Rattle.profile.specs.Values.{SpellsStamp}
-use Rattle.profile.specs.Properties.{TimeKind, DateTime, time_kind, TimeFault}
+use Rattle.profile.specs.Properties.{BothOrNeither, TimeKind, DateTime, time_kind, TimeFault}
 use Rattle.profile.specs.ZonedTimes.{has_zone_name, zone_named, SaysZoneOf, SpellsZoned, SaysZonedTime, LocalFault, NamedFault, InZoneFault, FaultIn, ZonedTimeFault}
 use Rattle.cal_events.specs.Events.{IsTime}
-use Rattle.cal_events.specs.Zoned.{is_zone_called}
+use Rattle.cal_events.specs.Zones.{is_zone_called, IsZoneRead}
 
 -- ---- the first component of a name
 
@@ -46,23 +48,17 @@ zone_among name object =
     ap (λ (ts : List Tree). find (λ part. has_zone_name name (tree_own part)) (filter (λ part. is_same_name (tree_name part) (codes "VTIMEZONE")) ts)) (tree_of-inside object)
     ∙ find_both (λ part. is_same_name (tree_name part) (codes "VTIMEZONE")) (λ part. has_zone_name name (tree_own part)) (is_zone_called name) (called name) (component_children object)
 
--- a search goes on where the first doesn't pass, and ends where it does
-pub find_past : {A : Type 0} (p : A → Bool) (x : A) (xs ys : List A) → ys ≡ x ∷ xs → p x ≡ false → find p ys ≡ find p xs
-find_past p x xs ys e h = ap (find p) e ∙ ap (λ b. cond b (Some x) (find p xs)) h
+-- ---- what the table has of a name
 
-pub find_here : {A : Type 0} (p : A → Bool) (x : A) (xs ys : List A) → ys ≡ x ∷ xs → p x ≡ true → find p ys ≡ Some x
-find_here p x xs ys e h = ap (find p) e ∙ ap (λ b. cond b (Some x) (find p xs)) h
+pub zone_read : (f : Option Component) (r : Result Zone Refusal) → BothOrNeither IsZoneRead f (Some r)
+    → IfOk r (λ z. SaysZoneOf (option_map tree_of f) (zone_of z)) × IfErr r (λ e. NamedFault (option_map tree_of f) e.number)
+zone_read (Some c) (Ok z) h = (h, tt)
+zone_read (Some c) (Err e) h = (tt, h)
+zone_read None r h = absurd h
 
--- ---- the zone that it says
-
-pub says_named : (o : Option Tree) (t : Tree) (z : Zone) → o ≡ Some t → SaysZone t z → SaysZoneOf o z
-says_named o t z e h = subst (λ (x : Option Tree). SaysZoneOf x z) (sym e) h
-
-pub fault_of_named : (o : Option Tree) (t : Tree) (n : ℕ) → o ≡ Some t → ZoneFault t n → NamedFault o n
-fault_of_named o t n e h = subst (λ (x : Option Tree). NamedFault x n) (sym e) h
-
-pub none_named : (o : Option Tree) (n : ℕ) → (n ≡ 43) × (o ≡ None) → NamedFault o n
-none_named o n h = subst (λ (x : Option Tree). NamedFault x n) (sym h.1) h.0
+pub no_zone_read : (f : Option Component) → BothOrNeither IsZoneRead f None → NamedFault (option_map tree_of f) 43
+no_zone_read None h = refl
+no_zone_read (Some c) h = absurd h
 
 -- ---- refusals
 
@@ -77,7 +73,7 @@ pub local_fault : (line text : List ℕ) (kind : TimeKind) (n : ℕ) → kind �
 local_fault line text kind n k e f = subst (λ (x : TimeKind). LocalFault x (line_value line) n) k (subst (λ (t : List ℕ). LocalFault kind t n) e f)
 
 -- a line with TZID
-pub zoned_said : (object : Tree) (line name : List ℕ) (zone : Option Zone) (local : ℤ) → line_param (codes "TZID") line ≡ Some name
+pub zoned_said : (object : Tree) (line name : List ℕ) (zone : Option zones.Zone) (local : ℤ) → line_param (codes "TZID") line ≡ Some name
     → (time_kind line ≡ DateTime) × SpellsZoned object (Some name) (line_value line) zone local → SaysZonedTime object line zone local
 zoned_said object line name zone local e h = (h.0, subst (λ (o : Option (List ℕ)). SpellsZoned object o (line_value line) zone local) (sym e) h.1)
 
@@ -86,12 +82,12 @@ pub zoned_fault : (object : Tree) (line name : List ℕ) (n : ℕ) → line_para
 zoned_fault object line name n e h = subst (λ (o : Option (List ℕ)). FaultIn object o line n) (sym e) h
 
 -- one without
-pub utc_said : (object : Tree) (line : List ℕ) (zone : Option Zone) (local instant : ℤ) → line_param (codes "TZID") line ≡ None → zone ≡ None → local ≡ instant
+pub utc_said : (object : Tree) (line : List ℕ) (zone : Option zones.Zone) (local instant : ℤ) → line_param (codes "TZID") line ≡ None → zone ≡ None → local ≡ instant
     → IsTime line instant → SaysZonedTime object line zone local
 utc_said object line zone local instant e z l h =
     let text = line_value line in
     let spelled : SpellsZoned object None text None local = subst (λ t. SpellsStamp text t) (sym l) h.1 in
-    let none : SpellsZoned object None text zone local = subst (λ (y : Option Zone). SpellsZoned object None text y local) (sym z) spelled in
+    let none : SpellsZoned object None text zone local = subst (λ (y : Option zones.Zone). SpellsZoned object None text y local) (sym z) spelled in
     (h.0, subst (λ (o : Option (List ℕ)). SpellsZoned object o text zone local) (sym e) none)
 
 pub utc_fault : (object : Tree) (line : List ℕ) (n : ℕ) → line_param (codes "TZID") line ≡ None → TimeFault line n → ZonedTimeFault object line n

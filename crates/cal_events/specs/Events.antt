@@ -1,5 +1,5 @@
 -- What the types of a VEVENT that was read stand for.
-use Rattle.std.specs.Prelude.{ℕ, Bool, ◌||◌, true, false, List, [], length, map, filter, option_map, Option, codes, ◌≡◌, ◌⊎◌, ◌<◌, ℤ, pos, ◌<ℤ◌}
+use Rattle.std.specs.Prelude.{ℕ, Bool, ◌||◌, true, false, List, [], length, map, filter, option_map, Option, codes, Contains, ◌≡◌, ◌⊎◌, ◌<◌, ℤ, pos, ◌<ℤ◌}
 use Rattle.ical_values.specs.Octets.{address_octets, text_octets}
 use Rattle.ical_values.specs.declared.duration.Duration.{Duration}
 use Rattle.std.specs.List.{AllZip, list_any}
@@ -117,6 +117,10 @@ vevents_of object = map component_lines (filter is_vevent (component_children ob
 abbrev pub IsUnreadOrFault : Tree → Purpose → List (List ℕ) → ℕ → Type 0
 IsUnreadOrFault object purpose lines n =
     ((n ≡ 99) × (has_unread_for purpose lines ≡ true)) ⊎ profile.EventFault object (is_message purpose) lines n
+
+-- one of some VEVENTs does
+abbrev pub IsUnreadOrFaultAmong : Tree → Purpose → List (List (List ℕ)) → ℕ → Type 0
+IsUnreadOrFaultAmong object purpose vevents n = (lines : List (List ℕ)) × Contains vevents lines × IsUnreadOrFault object purpose lines n
 
 -- an object hasn't one VEVENT: it has none, or several, which aren't read yet
 abbrev pub IsNotOneEvent : List (List (List ℕ)) → ℕ → Type 0

@@ -1,23 +1,17 @@
 -- What the readers of times in zones see of components.
 use Rattle.std.specs.Prelude.{◌≡◌, ◌↔◌, ℕ, ◌<◌, Bool, true, false, IsTrue, ◌&&◌, List, codes, Option, Some, None, ℤ, ◌+ℤ◌}
-use Rattle.ical_tree.specs.Tree.{component_name, component_lines}
-use Rattle.ical_tree.specs.declared.component.Component.{Component}
 use Rattle.profile.specs.Trees.{Tree}
 use Rattle.profile.specs.Zones.{Zone, Means}
-use Rattle.profile.specs.Lines.{line_value, is_same_name}
+use Rattle.profile.specs.Lines.{line_value}
 use Rattle.profile.specs.Rules.{RuleText}
 use Rattle.profile.specs.RuleTexts.{SpellsRule}
 use Rattle.profile.specs.Properties.{Length, LastsFor, StandsAtMostOnce, Says}
-use Rattle.profile.specs.ZonedTimes.{has_zone_name, is_in_zone, IsInDates, SaysZonedTime, clock_of}
+use Rattle.profile.specs.ZonedTimes.{is_in_zone, IsInDates, SaysZonedTime, clock_of}
 use Rattle.cal_events.specs.Events.{length_of, zone_said}
 use Rattle.cal_events.specs.declared.event_rule.SaidRule.{SaidRule}
 use Rattle.cal_events.specs.declared.event_times.Extent.{Extent}
 use Rattle.cal_events.specs.declared.event_times.Extent.TheVariants.{ToEnd, For}
 use Rattle.cal_events.specs.declared.event_times.SaidTimes.{SaidTimes}
-
--- a VTIMEZONE of this name
-abbrev pub is_zone_called : List ℕ → Component → Bool
-is_zone_called name c = is_same_name (component_name c) (codes "VTIMEZONE") && has_zone_name name (component_lines c)
 
 -- the line says this instant, which lies in the dates that an event may name, or doesn't
 abbrev pub EndsSo : Tree → List ℕ → ℤ → Bool → Type 0

@@ -4,22 +4,23 @@ ghost use Rattle.std.specs.Prelude.{ℕ, List, ◌≡◌, ◌⊎◌, ◌↔◌, 
 ghost use Rattle.std.specs.List.{AllZip};
 ghost use Rattle.ical_lines.specs.Fault.{RefusesOnly, RefusesBy};
 ghost use Rattle.ical_lines.specs.Text.{line_text};
-ghost use Rattle.ical_tree.specs.Tree.{tree_of};
 ghost use Rattle.ical_values.specs.Octets.{address_octets, text_octets};
 ghost use Rattle.profile.specs.Trees.{Tree};
 ghost use Rattle.profile.specs.Faults.{is_event_fault};
 ghost use Rattle.profile.specs.Values.{SpellsStamp};
 ghost use Rattle.profile.specs.Events.{Event, answer_named, answer_of, SaysSequence, SaysEvent, IsAttendee, EventFault};
 ghost use Rattle.profile.specs.Properties.{length_seconds, lines_named, malformed_number, Says, IsUidLine, IsAddressLine, IsStampLine, IsDateText, IsLocalText, IsNoAddress, UnfixedOrMalformed, time_kind, DateTime, KindFault, TimeFault};
+ghost use Rattle.cal_events.specs.Zones.{object_of, AreRead};
 ghost use Rattle.cal_events.specs.Events.{is_message, has_unread_for, is_fault_for, IsUnreadOrFault, participation_of, attendee_of, length_of, event_of, said_kind, IsTime};
 
 use crate::event_rule::SaidRule;
 use crate::event_times::{EventTimes, SaidTimes, refuse_nominal_length, seconds_of};
 use crate::properties::{optional, refuse_unread, required};
 use crate::zoned::one_zoned_time;
+use crate::zones::Zones;
 use cal_rules::{Rule, one_rule};
 use ical_lines::{Fault, Line, Refusal};
-use ical_tree::{Component, Properties};
+use ical_tree::Properties;
 use ical_values::date::read_date;
 use ical_values::duration::one_duration;
 use ical_values::sequence::one_sequence;
@@ -91,45 +92,47 @@ pub struct EventComponent {
 }
 
 impl EventComponent {
-    /// Reads the properties of a VEVENT of an object.
+    /// Reads the properties of a VEVENT, whose times may name these zones.
     /// Refused, in this order: 99 for what isn't read yet for this purpose; of UID, ORGANIZER, DTSTAMP, SEQUENCE and STATUS 10
     /// and 14 to 16 for a value, 61 and 63 for one that is missing or stands twice; as by `SaidTimes::read` for DTSTART, DTEND
     /// and DURATION; 61 and 30 to 33 for RRULE; 15 for an ATTENDEE; as by `SaidTimes::judge` for the times together; 34 for a
     /// DTSTART that isn't one of the rule's days.
-    pub fn read(
+    pub(crate) fn read(
         alloc: Global,
-        object: &Component,
+        zones: &Zones<'_, '_>,
         properties: &Properties<'_>,
         purpose: Purpose,
     ) -> Result<EventComponent, Fault>
-        ensures says { IfOk result (λ event. SaysEvent (tree_of object.now) (is_message purpose) properties.now (event_of event)) }
+        requires zones { AreRead zones.now }
+        ensures says { IfOk result (λ event. SaysEvent (object_of zones.now) (is_message purpose) properties.now (event_of event)) }
         ensures read { OnOk result (has_unread_for purpose properties.now ≡ false) }
         ensures refuses { IfErr result (RefusesOnly (is_fault_for purpose)) }
-        ensures stands { IfErr result (RefusesBy (IsUnreadOrFault (tree_of object.now) purpose properties.now)) }
+        ensures stands { IfErr result (RefusesBy (IsUnreadOrFault (object_of zones.now) purpose properties.now)) }
     {
         refuse_unread(properties, purpose)?;
         if purpose == Purpose::Series {
             refuse_nominal_length(properties)?;
         }
-        EventComponent::read_values(alloc, object, properties, purpose)
+        EventComponent::read_values(alloc, zones, properties, purpose)
     }
 
     /// The same where nothing is left unread.
     fn read_values(
         alloc: Global,
-        object: &Component,
+        zones: &Zones<'_, '_>,
         properties: &Properties<'_>,
         purpose: Purpose,
     ) -> Result<EventComponent, Fault>
-        ensures says { IfOk result (λ event. SaysEvent (tree_of object.now) (is_message purpose) properties.now (event_of event)) }
-        ensures stands { IfErr result (RefusesBy (EventFault (tree_of object.now) (is_message purpose) properties.now)) }
+        requires zones { AreRead zones.now }
+        ensures says { IfOk result (λ event. SaysEvent (object_of zones.now) (is_message purpose) properties.now (event_of event)) }
+        ensures stands { IfErr result (RefusesBy (EventFault (object_of zones.now) (is_message purpose) properties.now)) }
     {
         let uid = read_uid(alloc, properties)?;
         let organiser = read_organiser(alloc, properties, purpose)?;
         let stamp = read_stamp(properties, purpose)?;
         let sequence = read_sequence(properties)?;
         let _status = optional(properties, "STATUS")?;
-        let said = SaidTimes::read(alloc, object, properties)?;
+        let said = SaidTimes::read(zones, properties)?;
         let said_rule = SaidRule::read(alloc, properties)?;
         let attendees = read_attendees(alloc, properties)?;
         let times = said.judge()?;

@@ -2,25 +2,24 @@
 //! where TZID names a zone, then all of them together. Days in a DURATION aren't read yet beside a DTSTART with TZID.
 
 ghost use Rattle.std.specs.Prelude.{◌≡◌, ◌↔◌, ◌≤◌, ◌^◌, ℕ, List, Some, pos, ◌+ℤ◌, ◌<ℤ◌, IfOk, IfErr, OnOk, OnErr, IsTrue};
-ghost use Rattle.ical_lines.specs.Fault.{RefusesBy};
 ghost use Rattle.ical_lines.specs.Text.{line_text};
-ghost use Rattle.ical_tree.specs.Tree.{tree_of};
 ghost use Rattle.profile.specs.Trees.{Tree};
 ghost use Rattle.profile.specs.Zones.{IsNearEpoch};
 ghost use Rattle.profile.specs.Faults.{is_event_fault};
 ghost use Rattle.profile.specs.Properties.{length_seconds};
 ghost use Rattle.profile.specs.ZonedTimes.{is_in_zone, IsInDates, ZonedTimeFault, HasCountedDays, HasNominalLength, SaysEventTimes, EventTimesFault};
 ghost use Rattle.cal_events.specs.Events.{times_of, length_of, GivesLength, ExtentFault};
+ghost use Rattle.cal_events.specs.Zones.{object_of, AreRead};
 ghost use Rattle.cal_events.specs.Zoned.{EndsSo, IsExtentIn, IsExact, IsNominal, AreSaid};
 
 use crate::instance::HORIZON;
 use crate::properties::{optional, required};
 use crate::zoned::ZonedTime;
-use ical_lines::{Fault, Line, Refusal};
-use ical_tree::{Component, Properties};
+use crate::zones::Zones;
+use ical_lines::{Line, Refusal};
+use ical_tree::Properties;
 use ical_values::duration::one_duration;
 use ical_values::{DAY_SECONDS, Duration, LocalTime, Stamp};
-use std::alloc::Global;
 
 /// The longest event, 366 days in seconds; this profile's choice.
 const LONGEST: i64 = 366 * DAY_SECONDS;
@@ -70,23 +69,23 @@ pub(crate) struct SaidTimes {
 }
 
 impl SaidTimes {
-    /// Reads the start of a VEVENT of an object, and its end or its length.
+    /// Reads the start of a VEVENT, and its end or its length, where they may name these zones.
     /// Refused: 61 where DTSTART is missing, one of the three stands twice, or DTEND beside DURATION; as by
     /// `ZonedTime::read` for the two times; 12 and 51 for DURATION; 99 for days in it beside a DTSTART with TZID.
     pub(crate) fn read(
-        alloc: Global,
-        object: &Component,
+        zones: &Zones<'_, '_>,
         properties: &Properties<'_>,
-    ) -> Result<SaidTimes, Fault>
-        ensures said { IfOk result (AreSaid (tree_of object.now) properties.now) }
-        ensures stands { IfErr result (RefusesBy (EventTimesFault (tree_of object.now) properties.now)) }
+    ) -> Result<SaidTimes, Refusal>
+        requires zones { AreRead zones.now }
+        ensures said { IfOk result (AreSaid (object_of zones.now) properties.now) }
+        ensures stands { IfErr result (λ e. EventTimesFault (object_of zones.now) properties.now e.number) }
     {
         let line = required(properties, "DTSTART")?;
-        let start = ZonedTime::read(alloc, line, object)?;
+        let start = ZonedTime::read(line, zones)?;
         let instant = start.instant();
         let in_zone = is_in_zone(line);
         let starts_in = is_in_dates(in_zone, start.local, instant);
-        let (extent, ends_in) = read_extent(alloc, object, properties, instant)?;
+        let (extent, ends_in) = read_extent(zones, properties, instant)?;
         refuse_nominal(in_zone, extent)?;
         Ok(SaidTimes {
             start,
@@ -184,21 +183,21 @@ fn is_in_dates(in_zone: bool, local: LocalTime, instant: i64) -> bool
 
 /// What DTEND or DURATION say of an event that starts at an instant, and whether DTEND lies in the dates that an event may name.
 fn read_extent(
-    alloc: Global,
-    object: &Component,
+    zones: &Zones<'_, '_>,
     properties: &Properties<'_>,
     start: i64,
-) -> Result<(Extent, bool), Fault>
-    requires { IsNearEpoch start }
-    ensures reads { IfOk result (λ read. IsExtentIn (tree_of object.now) properties.now start read.1 read.0) }
-    ensures stands { IfErr result (RefusesBy (EventTimesFault (tree_of object.now) properties.now)) }
+) -> Result<(Extent, bool), Refusal>
+    requires zones { AreRead zones.now }
+    requires start { IsNearEpoch start }
+    ensures reads { IfOk result (λ read. IsExtentIn (object_of zones.now) properties.now start read.1 read.0) }
+    ensures stands { IfErr result (λ e. EventTimesFault (object_of zones.now) properties.now e.number) }
 {
     let end = optional(properties, "DTEND")?;
     let duration = optional(properties, "DURATION")?;
     match (end, duration) {
-        (Some(_), Some(_)) => Err(Fault::Refused(Refusal::BAD_PROPERTY)),
+        (Some(_), Some(_)) => Err(Refusal::BAD_PROPERTY),
         (Some(line), None) => {
-            let (seconds, ends_in) = seconds_to(alloc, line, object, start)?;
+            let (seconds, ends_in) = seconds_to(line, zones, start)?;
             Ok((Extent::ToEnd(seconds), ends_in))
         }
         (None, Some(line)) => Ok((Extent::For(Duration::read(line.value())?), true)),
@@ -213,17 +212,13 @@ fn read_extent(
 }
 
 /// The seconds from an instant to the end that a line says, and whether that lies in the dates that an event may name.
-fn seconds_to(
-    alloc: Global,
-    line: Line<'_>,
-    object: &Component,
-    start: i64,
-) -> Result<(i64, bool), Fault>
-    requires { IsNearEpoch start }
-    ensures says { IfOk result (λ end. EndsSo (tree_of object.now) (line_text line.entry) (start +ℤ end.0) end.1) }
-    ensures stands { IfErr result (RefusesBy (ZonedTimeFault (tree_of object.now) (line_text line.entry))) }
+fn seconds_to(line: Line<'_>, zones: &Zones<'_, '_>, start: i64) -> Result<(i64, bool), Refusal>
+    requires zones { AreRead zones.now }
+    requires start { IsNearEpoch start }
+    ensures says { IfOk result (λ end. EndsSo (object_of zones.now) (line_text line.entry) (start +ℤ end.0) end.1) }
+    ensures stands { IfErr result (λ e. ZonedTimeFault (object_of zones.now) (line_text line.entry) e.number) }
 {
-    let end = ZonedTime::read(alloc, line, object)?;
+    let end = ZonedTime::read(line, zones)?;
     let instant = end.instant();
     Ok((
         instant - start,

@@ -11,12 +11,13 @@ mod reading;
 mod series;
 pub mod sweep;
 mod zoned;
+mod zones;
 
 pub use calendar::{Calendar, Entry, Singles};
 pub use component::{Attendee, EventComponent, ParticipationStatus, Purpose, one_event};
 pub use event_times::{EventTimes, refuse_nominal_length};
 pub use instance::{Booking, HORIZON, Instance, InstanceKey};
-pub use reading::{one_calendar, one_calendar_text, read_event, refuse_unread_events};
+pub use reading::{one_calendar, one_calendar_text, read_events, refuse_unread_events};
 pub use series::{one_series, read_series, series_of};
 pub use sweep::{Overlap, Span, first_overlap};
 pub use zoned::{ZonedTime, one_zoned_time};

@@ -1,6 +1,6 @@
 //! A calendar read from its octets (RFC 5545 3.4), for one room: open limits, METHOD not looked at.
-ghost use Rattle.std.specs.Prelude.{ℕ, List, ◌≡◌, [], true, false, unwrap_or, IfOk, IfErr, OnOk};
-ghost use Rattle.std.specs.List.{list_any};
+ghost use Rattle.std.specs.Prelude.{ℕ, List, ◌≡◌, [], true, false, map, unwrap_or, IfOk, IfErr, OnOk};
+ghost use Rattle.std.specs.List.{list_any, AllZip};
 ghost use Rattle.ical_lines.specs.Fault.{RefusesOnly, RefusesBy};
 ghost use Rattle.ical_values.specs.Octets.{address_octets};
 ghost use Rattle.profile.specs.Faults.{is_calendar_fault, is_unread};
@@ -9,12 +9,14 @@ ghost use Rattle.profile.specs.Calendars.{SpellsCalendar, CalendarTextFault};
 ghost use Rattle.profile.specs.Events.{is_confirmed, SaysCalendar, SaysEvent, CalendarFault, has_unread};
 ghost use Rattle.profile.specs.Trees.{Tree};
 ghost use Rattle.ical_tree.specs.Tree.{component_lines, tree_of};
-ghost use Rattle.cal_events.specs.Events.{IsUnreadOrFault, is_message, has_unread_for, is_fault_for, event_of, vevents_of, entry_view, entry_said, AreEntries};
+ghost use Rattle.cal_events.specs.Zones.{object_of, AreRead};
+ghost use Rattle.cal_events.specs.Events.{IsUnreadOrFault, IsUnreadOrFaultAmong, is_message, has_unread_for, is_fault_for, event_of, vevents_of, entry_view, entry_said, AreEntries};
 
 use crate::calendar::{Calendar, Entry};
 use crate::component::{EventComponent, ParticipationStatus, Purpose, one_event};
 use crate::instance::Booking;
 use crate::properties::refuse_unread;
+use crate::zones::Zones;
 use ical_lines::{Fault, Limits, Unfolded};
 use ical_tree::{Component, Properties, one_tree, read_object};
 use ical_values::Address;
@@ -91,21 +93,44 @@ pub fn refuse_unread_events(alloc: Global, object: &Component) -> Result<(), Fau
     Ok(())
 }
 
-/// What a VEVENT of an object says. Its lines are parsed once, for all that is asked of them.
+/// What a VEVENT says, whose times may name these zones. Its lines are parsed once, for all that is asked of them.
 /// Refused: as by `EventComponent::read`.
-pub fn read_event(
+pub(crate) fn read_event(
     alloc: Global,
-    object: &Component,
+    zones: &Zones<'_, '_>,
     component: &Component,
     purpose: Purpose,
 ) -> Result<EventComponent, Fault>
-    ensures says { IfOk result (λ event. SaysEvent (tree_of object.now) (is_message purpose) (component_lines component.now) (event_of event)) }
+    requires zones { AreRead zones.now }
+    ensures says { IfOk result (λ event. SaysEvent (object_of zones.now) (is_message purpose) (component_lines component.now) (event_of event)) }
     ensures read { OnOk result (has_unread_for purpose (component_lines component.now) ≡ false) }
     ensures refuses { IfErr result (RefusesOnly (is_fault_for purpose)) }
-    ensures stands { IfErr result (RefusesBy (IsUnreadOrFault (tree_of object.now) purpose (component_lines component.now))) }
+    ensures stands { IfErr result (RefusesBy (IsUnreadOrFault (object_of zones.now) purpose (component_lines component.now))) }
 {
     let properties = Properties::of(alloc, component)?;
-    EventComponent::read(alloc, object, &properties, purpose)
+    EventComponent::read(alloc, zones, &properties, purpose)
+}
+
+/// What the VEVENTs of an object say, in the order of the text.
+/// Refused: as by `EventComponent::read`.
+pub fn read_events(
+    alloc: Global,
+    object: &Component,
+    purpose: Purpose,
+) -> Result<Vec<EventComponent>, Fault>
+    ensures says { IfOk result (λ events. AllZip (SaysEvent (tree_of object.now) (is_message purpose)) (vevents_of object.now) (map event_of events.items)) }
+    ensures read { OnOk result (list_any (has_unread_for purpose) (vevents_of object.now) ≡ false) }
+    ensures refuses { IfErr result (RefusesOnly (is_fault_for purpose)) }
+    ensures stands { IfErr result (RefusesBy (IsUnreadOrFaultAmong (tree_of object.now) purpose (vevents_of object.now))) }
+{
+    let zones = Zones::of(alloc, object)?;
+    let mut events = Vec::new(alloc);
+    for component in object.children() {
+        if component.is_named("VEVENT") {
+            events.push(read_event(alloc, &zones, component, purpose)?)?;
+        }
+    }
+    Ok(events)
 }
 
 /// What the VEVENTs of an object book, in order.
@@ -115,10 +140,11 @@ fn entries_of(alloc: Global, object: &Component, room: &Address) -> Result<Vec<E
     ensures refuses { IfErr result (RefusesOnly is_calendar_fault) }
     ensures stands { IfErr result (RefusesBy (CalendarFault (tree_of object.now))) }
 {
+    let zones = Zones::of(alloc, object)?;
     let mut entries = Vec::new(alloc);
     for component in object.children() {
         if component.is_named("VEVENT") {
-            let event = read_event(alloc, object, component, Purpose::Calendar)?;
+            let event = read_event(alloc, &zones, component, Purpose::Calendar)?;
             entries.push(entry_of(alloc, &event, room)?)?;
         }
     }

@@ -11,6 +11,7 @@ ghost use Rattle.cal_events.specs.Events.{event_of, vevents_of, IsNotOneEvent};
 
 use crate::component::{EventComponent, Purpose, one_event};
 use crate::reading::read_event;
+use crate::zones::Zones;
 use ical_lines::{Fault, Limits, Refusal, Unfolded};
 use ical_tree::{Component, one_tree, read_object};
 use std::alloc::Global;
@@ -44,7 +45,8 @@ pub fn series_of(alloc: Global, object: &Component) -> Result<EventComponent, Fa
     ensures stands { IfErr result (RefusesBy (SeriesFault (tree_of object.now))) }
 {
     let event = only_event(object)?;
-    read_event(alloc, object, event, Purpose::Series)
+    let zones = Zones::of(alloc, object)?;
+    read_event(alloc, &zones, event, Purpose::Series)
 }
 
 /// The one VEVENT of an object.

@@ -1,28 +1,25 @@
 //! A start or an end with its zone: TZID names a VTIMEZONE of the object that the line stands in
 //! (RFC 5545 3.2.19, 3.3.5, 3.6.5, 3.8.3.1). A VTIMEZONE that no line names isn't read.
-ghost use Rattle.std.specs.Prelude.{◌≡◌, ℕ, List, Option, None, Some, ℤ, find, option_map, IfOk, IfErr};
-ghost use Rattle.ical_lines.specs.Fault.{RefusesBy};
+ghost use Rattle.std.specs.Prelude.{◌≡◌, ℕ, List, Option, None, Some, ℤ, IfOk, IfErr};
 ghost use Rattle.ical_lines.specs.Text.{line_text};
-ghost use Rattle.ical_tree.specs.Tree.{component_lines, tree_of};
 ghost use Rattle.profile.specs.Lines.{line_value};
 ghost use Rattle.profile.specs.Trees.{Tree};
 ghost use Rattle.profile.specs.Values.{SpellsLocal};
 ghost use Rattle.profile.specs.Zones as zones;
 ghost use Rattle.profile.specs.Zones.{Means, IsNearEpoch};
-ghost use Rattle.profile.specs.Properties.{is_of, time_kind, DateTime};
-ghost use Rattle.profile.specs.ZonedTimes.{has_zone_name, zone_named, SpellsZoned, SaysZonedTime, clock_of, DateOrMalformed, LocalFault, InZoneFault, ZonedTimeFault};
+ghost use Rattle.profile.specs.Properties.{time_kind, DateTime};
+ghost use Rattle.profile.specs.ZonedTimes.{SpellsZoned, SaysZonedTime, clock_of, DateOrMalformed, LocalFault, InZoneFault, ZonedTimeFault};
 ghost use Rattle.cal_zones.specs.Kinds.{zone_of};
+ghost use Rattle.cal_events.specs.Zones.{object_of, AreRead};
 ghost use Rattle.cal_events.specs.Events.{zone_said};
-ghost use Rattle.cal_events.specs.Zoned.{is_zone_called};
 
 use crate::component::{TimeKind, is_date, kind_of, read_time};
+use crate::zones::Zones;
 use cal_zones::{Zone, one_zone};
-use ical_lines::{Fault, Line, Refusal};
-use ical_tree::Component;
+use ical_lines::{Line, Refusal};
 use ical_values::local_time::one_local_time;
 use ical_values::stamp::one_stamp;
-use ical_values::{LocalTime, Stamp, Text};
-use std::alloc::{AllocError, Global};
+use ical_values::{LocalTime, Stamp};
 
 /// A start or an end: a local time, and the zone whose clocks show it. A UTC time has none: UTC is no zone of offset 0.
 #[derive(Clone, Copy)]
@@ -33,16 +30,17 @@ pub struct ZonedTime {
 }
 
 impl ZonedTime {
-    /// What a DTSTART or a DTEND of an object says. The text is judged before the zone that TZID names.
+    /// What a DTSTART or a DTEND says, where TZID may name one of these zones. The text is judged before the zone.
     /// Refused without TZID: 10, 11, 55 and 56, as a UTC time is.
     /// Refused with TZID: 11 for a text that is no local time, also where it ends in `Z`, 55 for a date, 56 where VALUE
     /// is PERIOD; 43 where no VTIMEZONE of the object has that name; 11, 13 and 40 to 42 for the first that has it.
-    pub fn read(alloc: Global, line: Line<'_>, object: &Component) -> Result<ZonedTime, Fault>
-        ensures says { IfOk result (λ t. SaysZonedTime (tree_of object.now) (line_text line.entry) (zone_said t) t.local) }
-        ensures stands { IfErr result (RefusesBy (ZonedTimeFault (tree_of object.now) (line_text line.entry))) }
+    pub(crate) fn read(line: Line<'_>, zones: &Zones<'_, '_>) -> Result<ZonedTime, Refusal>
+        requires zones { AreRead zones.now }
+        ensures says { IfOk result (λ t. SaysZonedTime (object_of zones.now) (line_text line.entry) (zone_said t) t.local) }
+        ensures stands { IfErr result (λ e. ZonedTimeFault (object_of zones.now) (line_text line.entry) e.number) }
     {
         match line.param("TZID") {
-            Some(name) => read_in_zone(alloc, line, name, object),
+            Some(name) => read_in_zone(line, name, zones),
             None => Ok(ZonedTime::of_stamp(read_time(line)?)),
         }
     }
@@ -91,19 +89,14 @@ pub fn one_zoned_time()
 }
 
 /// A line with TZID.
-fn read_in_zone(
-    alloc: Global,
-    line: Line<'_>,
-    name: &str,
-    object: &Component,
-) -> Result<ZonedTime, Fault>
+fn read_in_zone(line: Line<'_>, name: &str, zones: &Zones<'_, '_>) -> Result<ZonedTime, Refusal>
+    requires zones { AreRead zones.now }
     ensures says { IfOk result (λ t. (time_kind (line_text line.entry) ≡ DateTime)
-        × SpellsZoned (tree_of object.now) (Some name.now) (line_value (line_text line.entry)) (zone_said t) t.local) }
-    ensures stands { IfErr result (RefusesBy (InZoneFault (tree_of object.now) name.now (time_kind (line_text line.entry)) (line_value (line_text line.entry)))) }
+        × SpellsZoned (object_of zones.now) (Some name.now) (line_value (line_text line.entry)) (zone_said t) t.local) }
+    ensures stands { IfErr result (λ e. InZoneFault (object_of zones.now) name.now (time_kind (line_text line.entry)) (line_value (line_text line.entry)) e.number) }
 {
     let local = read_local(line)?;
-    let part = find_zone(alloc, object, name)?;
-    let zone = Zone::read(alloc, part)?;
+    let zone = zones.named(name)?;
     Ok(ZonedTime {
         local,
         zone: Some(zone),
@@ -144,55 +137,4 @@ fn refusal_of_no_local(text: &str) -> Refusal
     } else {
         Refusal::BAD_DATE_TIME
     }
-}
-
-/// The first VTIMEZONE of an object that has this name.
-/// Refused: 43 where there is none.
-fn find_zone<'c, 'a>(
-    alloc: Global,
-    object: &'c Component<'a>,
-    name: &str,
-) -> Result<&'c Component<'a>, Fault>
-    ensures found { IfOk result (λ part. zone_named name.now (tree_of object.now) ≡ Some (tree_of part.now)) }
-    ensures none { IfErr result (RefusesBy (λ n. (n ≡ 43) × (zone_named name.now (tree_of object.now) ≡ None))) }
-{
-    for child in object.children() {
-        if is_zone_called(alloc, child, name)? {
-            return Ok(child);
-        }
-    }
-    Err(Fault::Refused(Refusal::NO_ZONE))
-}
-
-/// Whether a component is a VTIMEZONE of this name.
-fn is_zone_called(alloc: Global, component: &Component, name: &str) -> Result<bool, AllocError>
-    ensures { IfOk result (λ b. b ≡ is_zone_called name.now component.now) }
-{
-    if !component.is_named("VTIMEZONE") {
-        return Ok(false);
-    }
-    has_zone_name(alloc, component, name)
-}
-
-/// Whether the first TZID of a VTIMEZONE is this name, octet by octet. A TZID is a text with escapes.
-fn has_zone_name(alloc: Global, zone: &Component, name: &str) -> Result<bool, AllocError>
-    ensures { IfOk result (λ b. b ≡ has_zone_name name.now (component_lines zone.now)) }
-{
-    let Some(line) = first_named(zone, "TZID") else {
-        return Ok(false);
-    };
-    let given = Text::read(alloc, line.value())?;
-    Ok(given.as_str() == name)
-}
-
-/// The first line of a property.
-fn first_named<'a>(component: &'a Component, name: &str) -> Option<Line<'a>>
-    ensures { option_map line_text result ≡ find (is_of name.now) (component_lines component.now) }
-{
-    for line in component.lines() {
-        if line.is_named(name) {
-            return Some(line);
-        }
-    }
-    None
 }

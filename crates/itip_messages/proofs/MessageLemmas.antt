@@ -80,13 +80,6 @@ pub unread_stands : (object : Tree) (vs : List Lines) (f : Fault) → vevents ob
 unread_stands object vs Memory e s = tt
 unread_stands object vs (Refused r) e s = subst (MessageFault object) (sym s.0) (not_yet (ap (list_any has_unread) e ∙ s.1))
 
--- one VEVENT more
-pub event_pushed : (object : Tree) (vs : List Lines) (lines : Lines) (old new : List EventComponent) (event : EventComponent) → AllZip (SaysEvent object true) vs (map event_of old) → SaysEvent object true lines (event_of event)
-    → new ≡ old ++ event ∷ [] → AllZip (SaysEvent object true) (vs ++ lines ∷ []) (map event_of new)
-event_pushed object vs lines old new event zip says n =
-    subst (λ (es : List Event). AllZip (SaysEvent object true) (vs ++ lines ∷ []) es) (sym (ap (map event_of) n ∙ map-append event_of old (event ∷ [])))
-    (push_zip (SaysEvent object true) vs (map event_of old) lines (event_of event) zip says)
-
 given : {V : Type 0} (R : List ℕ → V → Type 0) (line : Option (List ℕ)) (value : Option V) → is_some line ≡ true → BothOrNeither R line value → is_some value ≡ true
 given R None None h b = h
 given R (Some l) None h b = absurd b

@@ -17,7 +17,7 @@ ghost use Rattle.cal_events.specs.declared.component.Purpose.TheVariants.{Reques
 ghost use Rattle.itip_messages.specs.Messages.{IsCanonical, IsMessageOf, IsSpelled, MeetingFault, NamesRequest, ReadFault, StandsFor, WordFault, component_names};
 
 use crate::attendees::Attendees;
-use cal_events::{EventComponent, Purpose, read_event, refuse_unread_events};
+use cal_events::{EventComponent, Purpose, read_events, refuse_unread_events};
 use ical_lines::{Fault, Limits, Line, Refusal, Unfolded};
 use ical_tree::{Component, Properties, read_object};
 use ical_values::{Address, Duration, Sequence, Stamp, Text};
@@ -106,7 +106,7 @@ impl Message {
     {
         let properties = Properties::of(alloc, object)?;
         let method = method_of(&properties)?;
-        let mut events = events_of(alloc, object)?;
+        let mut events = read_events(alloc, object, Purpose::Request)?;
         judge_meeting(events.as_slice())?;
         let event = events.remove(0);
         Ok(Message::of(alloc, method, event)?)
@@ -209,40 +209,6 @@ fn is_unread_method(word: &str) -> bool
         || word.eq_ignore_ascii_case("ADD")
         || word.eq_ignore_ascii_case("REPLY")
         || word.eq_ignore_ascii_case("REFRESH")
-}
-
-/// What each VEVENT of a message says, in the order of the text.
-fn events_of(alloc: Global, object: &Component) -> Result<Vec<EventComponent>, Fault>
-    ensures says { IfOk result (λ events. AllZip (SaysEvent (tree_of object.now) true) (vevents_of object.now) (map event_of events.items)) }
-    ensures read { OnOk result (list_any has_unread (vevents_of object.now) ≡ false) }
-    ensures refuses { IfErr result (RefusesOnly is_message_fault) }
-    ensures stands { IfErr result (RefusesBy (MessageFault (tree_of object.now))) }
-{
-    let mut events = Vec::new(alloc);
-    for component in object.children() {
-        if component.is_named("VEVENT") {
-            push_event(alloc, object, component, &mut events)?;
-        }
-    }
-    Ok(events)
-}
-
-/// Appends what a VEVENT of a message says.
-fn push_event(
-    alloc: Global,
-    object: &Component,
-    component: &Component,
-    events: &mut Vec<EventComponent>,
-) -> Result<(), Fault>
-    ensures says { OnOk result ((before : List (List (List ℕ)))
-        → AllZip (SaysEvent (tree_of object.now) true) before (map event_of events.old.items)
-        → AllZip (SaysEvent (tree_of object.now) true) (before ++ component_lines component.now ∷ []) (map event_of events.new.items)) }
-    ensures read { OnOk result (has_unread (component_lines component.now) ≡ false) }
-    ensures refuses { IfErr result (RefusesOnly is_message_fault) }
-    ensures stands { IfErr result (RefusesBy (IsUnreadOrFault (tree_of object.now) Request (component_lines component.now))) }
-{
-    events.push(read_event(alloc, object, component, Purpose::Request)?)?;
-    Ok(())
 }
 
 /// Refuses no VEVENT, VEVENTs that aren't one meeting's, or more than one: without RECURRENCE-ID each is the

@@ -2,15 +2,14 @@
 
 use crate::certificates::verdict_text;
 use cal_events::{
-    Calendar, EventComponent, ParticipationStatus, Purpose, ZonedTime, read_event,
-    refuse_nominal_length,
+    Calendar, ParticipationStatus, Purpose, read_events, refuse_nominal_length,
 };
 use clash_check::check;
 use example_cases::NoAnswer;
 use example_cases::answers::append;
 use example_cases::spelled::octets_of;
 use ical_lines::{Limits, Unfolded};
-use ical_tree::{Component, Properties, read_object};
+use ical_tree::{Properties, read_object};
 use ical_values::Address;
 use std::alloc::Global;
 
@@ -39,9 +38,7 @@ pub fn answered(alloc: Global, octets: &[u8], room: &Address) -> Result<String, 
     let text = Unfolded::read(alloc, octets, Limits::Open)?;
     let object = read_object(alloc, &text, Limits::Open)?;
     let mut list = String::new(alloc);
-    for component in object.children() {
-        let properties = Properties::of(alloc, component)?;
-        let event = EventComponent::read(alloc, &object, &properties, Purpose::Request)?;
+    for event in &read_events(alloc, &object, Purpose::Request)? {
         let word = status_word(event.status_of(room));
         let item = format!(in alloc; "ends {} {word}", event.end())?;
         append(&mut list, ", ", item.as_str())?;
@@ -62,32 +59,24 @@ pub fn times(alloc: Global, octets: &[u8]) -> Result<String, NoAnswer> {
     let text = Unfolded::read(alloc, octets, Limits::Open)?;
     let object = read_object(alloc, &text, Limits::Open)?;
     let mut list = String::new(alloc);
-    for component in object.children() {
-        if component.is_named("VEVENT") {
-            let item = times_of(alloc, component, &object)?;
-            append(&mut list, ", ", item.as_str())?;
-        }
+    for event in &read_events(alloc, &object, Purpose::Series)? {
+        let times = event.times;
+        let item = format!(in alloc;
+            "from {} for {}",
+            times.instant.instant(), times.seconds()
+        )?;
+        append(&mut list, ", ", item.as_str())?;
     }
     Ok(list)
-}
-
-fn times_of(alloc: Global, component: &Component, object: &Component) -> Result<String, NoAnswer> {
-    let times = read_event(alloc, object, component, Purpose::Series)?.times;
-    Ok(format!(in alloc; "from {} for {}", times.instant.instant(), times.seconds())?)
 }
 
 pub fn ends(alloc: Global, octets: &[u8]) -> Result<String, NoAnswer> {
     let text = Unfolded::read(alloc, octets, Limits::Open)?;
     let object = read_object(alloc, &text, Limits::Open)?;
     let mut list = String::new(alloc);
-    for component in object.children() {
-        for line in component.lines() {
-            if line.is_named("DTEND") {
-                let end = ZonedTime::read(alloc, line, &object)?;
-                let item = end.instant().to_string(alloc)?;
-                append(&mut list, ", ", item.as_str())?;
-            }
-        }
+    for event in &read_events(alloc, &object, Purpose::Series)? {
+        let item = event.end().to_string(alloc)?;
+        append(&mut list, ", ", item.as_str())?;
     }
     Ok(list)
 }

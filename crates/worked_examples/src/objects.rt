@@ -4,7 +4,7 @@
 //!     counted ROOM            how many singles, where the object was read before
 //!     answers ROOM            when each event ends, and what the room answered
 //!     times                   the start and the length of each VEVENT, in seconds
-//!     ends                    the instant of each DTEND
+//!     ends                    the instant at which each VEVENT ends
 //!     nominal                 nothing, or that days in a length aren't read yet
 //!     check ROOM TEXT         whether the text is a certificate of the room's calendar
 //!     message                 what the message says

@@ -2,45 +2,43 @@ use Rattle.std.proofs.Common.{◌≡◌, codes, sym, ap, subst, refl, ◌∙◌,
 use Rattle.std.specs.Prelude.{option_map}
 use Rattle.std.specs.Option.{option_to_list}
 use Rattle.std.proofs.lemmas.Int.{ints}
-use Rattle.ical_lines.specs.Fault.{RefusesBy}
 use Rattle.ical_lines.specs.Text.{line_text}
-use Rattle.ical_tree.specs.Tree.{tree_of}
 use Rattle.profile.specs.ZonedTimes.{EventTimesFault, ZonedTimeFault, twice, bad_end, end_and_duration}
-use Rattle.ical_values.proofs.Exits.{err_exit}
+use Rattle.ical_values.proofs.Exits.{refusal_exit}
+use Rattle.cal_events.specs.Zones.{object_of}
 use Rattle.cal_events.specs.Zoned.{EndsSo}
 use Rattle.cal_events.proofs.EventLemmas.{some_line}
 use Rattle.cal_events.proofs.TimesLemmas.{duration_fault}
-use Rattle.cal_events.proofs.ZonedLemmas.{weaker_fault}
 use Rattle.cal_events.proofs.event_times.read_extent.Goals as goal
 
 pub returns-in_err-end-clause-stands : goal.returns-in_err-end-clause-stands
 returns-in_err-end-clause-stands c =
-    let P = EventTimesFault (tree_of c.args.object.now) c.args.properties.now in
-    err_exit _ (RefusesBy P) _ c.from_residual.ensures.1 (subst P (sym c.in_err-end.ensures.refuses) (twice (codes "DTEND") (1, omega arith, refl) c.in_err-end.ensures.twice))
+    let P = EventTimesFault (object_of c.args.zones.now) c.args.properties.now in
+    refusal_exit _ P _ c.from_residual.ensures.1 (subst P (sym c.in_err-end.ensures.refuses) (twice (codes "DTEND") (1, omega arith, refl) c.in_err-end.ensures.twice))
 
 pub returns-in_err-duration-clause-stands : goal.returns-in_err-duration-clause-stands
 returns-in_err-duration-clause-stands c =
-    let P = EventTimesFault (tree_of c.args.object.now) c.args.properties.now in
-    err_exit _ (RefusesBy P) _ c.from_residual-in_err-duration.ensures.1
+    let P = EventTimesFault (object_of c.args.zones.now) c.args.properties.now in
+    refusal_exit _ P _ c.from_residual-in_err-duration.ensures.1
     (subst P (sym c.in_err-duration.ensures.refuses) (twice (codes "DURATION") (2, omega arith, refl) c.in_err-duration.ensures.twice))
 
 pub returns-in_err-seconds-in-Some-None-clause-stands : goal.returns-in_err-seconds-in-Some-None-clause-stands
 returns-in_err-seconds-in-Some-None-clause-stands c =
-    let object = tree_of c.args.object.now in
+    let object = object_of c.args.zones.now in
     let lines = c.args.properties.now in
     let P = EventTimesFault object lines in
     let line = line_text c.in-Some-None.line in
     let once = c.in_ok-end.ensures.found ∙ ap (λ l. option_to_list (option_map line_text l)) c.in-Some-None.is-0 in
-    err_exit _ (RefusesBy P) _ c.from_residual-in_err-seconds-in-Some-None.ensures.1
-    (weaker_fault _ (ZonedTimeFault object line) P (λ n h. bad_end (some_line (codes "DTEND") (λ l. ZonedTimeFault object l n) lines line once h)) c.in_err-seconds-in-Some-None.ensures.stands)
+    refusal_exit _ P _ c.from_residual-in_err-seconds-in-Some-None.ensures.1
+    (bad_end (some_line (codes "DTEND") (λ l. ZonedTimeFault object l _) lines line once c.in_err-seconds-in-Some-None.ensures.stands))
 
 pub returns-in_err-read-in-None-Some-clause-stands : goal.returns-in_err-read-in-None-Some-clause-stands
 returns-in_err-read-in-None-Some-clause-stands c =
-    let object = tree_of c.args.object.now in
+    let object = object_of c.args.zones.now in
     let lines = c.args.properties.now in
     let once = c.in_ok-duration.ensures.found ∙ ap (λ l. option_to_list (option_map line_text l)) c.in-None-Some.is-1 in
     let h = c.in_err-read-in-None-Some.ensures in
-    err_exit _ (RefusesBy (EventTimesFault object lines)) _ c.from_residual-in_err-read-in-None-Some.ensures.1
+    refusal_exit _ (EventTimesFault object lines) _ c.from_residual-in_err-read-in-None-Some.ensures.1
     (duration_fault object lines (line_text c.in-None-Some.line) c.value.result.now _ once c.value.ensures h.refuses h.none h.not_negative h.range)
 
 pub returns-in-Some-Some-clause-stands : goal.returns-in-Some-Some-clause-stands
@@ -61,4 +59,4 @@ returns-in_ok-seconds-in-Some-None-clause-reads c =
     let fits : FitsSigned w64 seconds = search rules in
     let kept : to_z w64 (of_z w64 seconds) ≡ seconds = omega (arith, ints) in
     let line = line_text c.in-Some-None.line in
-    (line, once, none, subst (λ (x : ℤ). EndsSo (tree_of c.args.object.now) line (c.args.start +ℤ x) c.in_ok-seconds-in-Some-None.ends_in) (sym kept) (rw same at (c.in_ok-seconds-in-Some-None.ensures.says)))
+    (line, once, none, subst (λ (x : ℤ). EndsSo (object_of c.args.zones.now) line (c.args.start +ℤ x) c.in_ok-seconds-in-Some-None.ends_in) (sym kept) (rw same at (c.in_ok-seconds-in-Some-None.ensures.says)))

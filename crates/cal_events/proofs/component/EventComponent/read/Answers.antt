@@ -1,10 +1,10 @@
 use Rattle.std.proofs.Common.{inl, inr}
 use Rattle.std.proofs.lemmas.Result.{IfErr-weaker}
 use Rattle.ical_lines.specs.Fault.{RefusesOnly, RefusesBy}
-use Rattle.ical_tree.specs.Tree.{tree_of}
 use Rattle.profile.specs.Events.{EventFault, in_times}
 use Rattle.cal_events.specs.Events.{is_message, is_fault_for, IsUnreadOrFault}
 use Rattle.cal_events.proofs.NumberLemmas.{unread_for, refused_for}
+use Rattle.cal_events.specs.Zones.{object_of}
 use Rattle.cal_events.proofs.ZonedLemmas.{weaker_fault}
 use Rattle.ical_values.proofs.Exits.{err_exit}
 use Rattle.cal_events.proofs.component.EventComponent.read.Goals as goal
@@ -15,7 +15,7 @@ returns-in_err-refuse_unread-clause-refuses c =
 
 pub returns-in_err-refuse_unread-clause-stands : goal.returns-in_err-refuse_unread-clause-stands
 returns-in_err-refuse_unread-clause-stands c =
-    err_exit _ (RefusesBy (IsUnreadOrFault (tree_of c.args.object.now) c.args.purpose c.args.properties.now)) _ c.from_residual.ensures.1
+    err_exit _ (RefusesBy (IsUnreadOrFault (object_of c.args.zones.now) c.args.purpose c.args.properties.now)) _ c.from_residual.ensures.1
     (inl (c.in_err-refuse_unread.ensures.refuses, c.in_err-refuse_unread.ensures.unread))
 
 pub returns-in_err-refuse_nominal_length-clause-refuses : goal.returns-in_err-refuse_nominal_length-clause-refuses
@@ -25,12 +25,12 @@ returns-in_err-refuse_nominal_length-clause-refuses c =
 
 pub returns-in_err-refuse_nominal_length-clause-stands : goal.returns-in_err-refuse_nominal_length-clause-stands
 returns-in_err-refuse_nominal_length-clause-stands c =
-    err_exit _ (RefusesBy (IsUnreadOrFault (tree_of c.args.object.now) c.args.purpose c.args.properties.now)) _
-    c.from_residual-in_err-refuse_nominal_length.ensures.1 (inr (in_times (c.in_err-refuse_nominal_length.ensures.stands (tree_of c.args.object.now))))
+    err_exit _ (RefusesBy (IsUnreadOrFault (object_of c.args.zones.now) c.args.purpose c.args.properties.now)) _
+    c.from_residual-in_err-refuse_nominal_length.ensures.1 (inr (in_times (c.in_err-refuse_nominal_length.ensures.stands (object_of c.args.zones.now))))
 
 pub returns-clause-refuses : goal.returns-clause-refuses
 returns-clause-refuses c =
-    let object = tree_of c.args.object.now in
+    let object = object_of c.args.zones.now in
     let purpose = c.args.purpose in
     let lines = c.args.properties.now in
     IfErr-weaker _ (RefusesBy (EventFault object (is_message purpose) lines)) (RefusesOnly (is_fault_for purpose))
@@ -38,7 +38,7 @@ returns-clause-refuses c =
 
 pub returns-clause-stands : goal.returns-clause-stands
 returns-clause-stands c =
-    let object = tree_of c.args.object.now in
+    let object = object_of c.args.zones.now in
     let purpose = c.args.purpose in
     let lines = c.args.properties.now in
     IfErr-weaker _ (RefusesBy (EventFault object (is_message purpose) lines)) (RefusesBy (IsUnreadOrFault object purpose lines))

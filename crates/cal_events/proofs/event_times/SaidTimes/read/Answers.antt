@@ -1,47 +1,45 @@
 use Rattle.std.proofs.Common.{◌≡◌, codes, sym, subst, refl, inl, inr, arith, to_z, of_z, w64, ℤ}
 use Rattle.std.proofs.lemmas.Int.{ints}
 use Rattle.profile.specs.Zones.{Means}
-use Rattle.ical_lines.specs.Fault.{RefusesBy}
 use Rattle.ical_lines.specs.Text.{line_text}
-use Rattle.ical_tree.specs.Tree.{tree_of}
 use Rattle.profile.specs.ZonedTimes.{EventTimesFault, ZonedTimeFault, no_start, twice, bad_start}
-use Rattle.ical_values.proofs.Exits.{err_exit}
+use Rattle.ical_values.proofs.Exits.{refusal_exit}
 use Rattle.cal_events.proofs.EventLemmas.{some_line}
 use Rattle.cal_events.proofs.TimesLemmas.{nominal_given}
-use Rattle.cal_events.proofs.ZonedLemmas.{weaker_fault}
 use Rattle.std.specs.Prelude.{◌↔◌, IsTrue}
 use Rattle.profile.specs.ZonedTimes.{IsInDates, clock_of}
+use Rattle.cal_events.specs.Zones.{object_of}
 use Rattle.cal_events.specs.Events.{zone_said}
 use Rattle.cal_events.specs.Zoned.{IsNominal, IsExact}
 use Rattle.cal_events.proofs.event_times.SaidTimes.read.Goals as goal
 
 pub returns-in_err-line-clause-stands : goal.returns-in_err-line-clause-stands
 returns-in_err-line-clause-stands c =
-    let P = EventTimesFault (tree_of c.args.object.now) c.args.properties.now in
-    err_exit _ (RefusesBy P) _ c.from_residual.ensures.1
+    let P = EventTimesFault (object_of c.args.zones.now) c.args.properties.now in
+    refusal_exit _ P _ c.from_residual.ensures.1
     (subst P (sym c.in_err-line.ensures.refuses)
     (elim c.in_err-line.ensures.faulty [ inl h ↦ no_start h | inr h ↦ twice (codes "DTSTART") (0, omega arith, refl) h ]))
 
 pub returns-in_err-start-clause-stands : goal.returns-in_err-start-clause-stands
 returns-in_err-start-clause-stands c =
-    let object = tree_of c.args.object.now in
+    let object = object_of c.args.zones.now in
     let lines = c.args.properties.now in
     let line = line_text c.in_ok-line.line in
     let P = EventTimesFault object lines in
-    err_exit _ (RefusesBy P) _ c.from_residual-in_err-start.ensures.1
-    (weaker_fault _ (ZonedTimeFault object line) P (λ n h. bad_start (some_line (codes "DTSTART") (λ l. ZonedTimeFault object l n) lines line c.in_ok-line.ensures.found h)) c.in_err-start.ensures.stands)
+    refusal_exit _ P _ c.from_residual-in_err-start.ensures.1
+    (bad_start (some_line (codes "DTSTART") (λ l. ZonedTimeFault object l _) lines line c.in_ok-line.ensures.found c.in_err-start.ensures.stands))
 
 pub returns-in_err-extent-clause-stands : goal.returns-in_err-extent-clause-stands
 returns-in_err-extent-clause-stands c =
-    err_exit _ (RefusesBy (EventTimesFault (tree_of c.args.object.now) c.args.properties.now)) _ c.from_residual-in_err-extent.ensures.1 c.in_err-extent.ensures.stands
+    refusal_exit _ (EventTimesFault (object_of c.args.zones.now) c.args.properties.now) _ c.from_residual-in_err-extent.ensures.1 c.in_err-extent.ensures.stands
 
 pub returns-in_err-refuse_nominal-clause-stands : goal.returns-in_err-refuse_nominal-clause-stands
 returns-in_err-refuse_nominal-clause-stands c =
-    let object = tree_of c.args.object.now in
+    let object = object_of c.args.zones.now in
     let lines = c.args.properties.now in
     let P = EventTimesFault object lines in
     let zoned = subst (λ b. IsNominal b c.in_ok-extent.extent) c.is_in_zone-in_zone.ensures c.in_err-refuse_nominal.ensures.nominal in
-    err_exit _ (RefusesBy P) _ c.from_residual-in_err-refuse_nominal.ensures.1
+    refusal_exit _ P _ c.from_residual-in_err-refuse_nominal.ensures.1
     (subst P (sym c.in_err-refuse_nominal.ensures.refuses)
     (nominal_given object lines _ _ (line_text c.in_ok-line.line) c.in_ok-extent.extent c.in_ok-line.ensures.found c.in_ok-extent.ensures.reads zoned))
 

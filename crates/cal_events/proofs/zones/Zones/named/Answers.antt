@@ -1,0 +1,36 @@
+use Rattle.std.proofs.Common.{◌≡◌, ◌∙◌, ap, sym, subst}
+use Rattle.std.specs.Prelude.{Option, Some, None, Result, IfOk, IfErr, find, option_copied}
+use Rattle.cal_zones.specs.Kinds.{zone_of}
+use Rattle.cal_zones.specs.declared.zone.Zone.{Zone}
+use Rattle.ical_lines.specs.declared.fault.Refusal.{Refusal}
+use Rattle.ical_tree.specs.Tree.{component_children}
+use Rattle.profile.specs.Trees.{Tree}
+use Rattle.profile.specs.Properties.{BothOrNeither}
+use Rattle.profile.specs.ZonedTimes.{SaysZoneOf, NamedFault}
+use Rattle.cal_events.specs.Zones.{is_zone_called, IsZoneRead}
+use Rattle.cal_events.proofs.ZonedLemmas.{zone_among, zone_read, no_zone_read}
+use Rattle.cal_events.proofs.zones.Zones.named.Goals as goal
+
+pub returns-in-Some-clause-says : goal.returns-in-Some-clause-says
+returns-in-Some-clause-says c =
+    let name = c.args.name.now in
+    let object = c.args.self.now.object.now in
+    let f = find (is_zone_called name) (component_children object) in
+    let h = subst (λ (o : Option (Result Zone Refusal)). BothOrNeither IsZoneRead f o) (sym c.get.ensures.value ∙ ap option_copied c.in-Some.is) (c.requires name) in
+    subst (λ (t : Option Tree). IfOk c.in-Some.zone.now (λ z. SaysZoneOf t (zone_of z))) (sym (zone_among name object)) (zone_read f c.in-Some.zone.now h).0
+
+pub returns-in-Some-clause-stands : goal.returns-in-Some-clause-stands
+returns-in-Some-clause-stands c =
+    let name = c.args.name.now in
+    let object = c.args.self.now.object.now in
+    let f = find (is_zone_called name) (component_children object) in
+    let h = subst (λ (o : Option (Result Zone Refusal)). BothOrNeither IsZoneRead f o) (sym c.get.ensures.value ∙ ap option_copied c.in-Some.is) (c.requires name) in
+    subst (λ (t : Option Tree). IfErr c.in-Some.zone.now (λ e. NamedFault t e.number)) (sym (zone_among name object)) (zone_read f c.in-Some.zone.now h).1
+
+pub returns-in-None-clause-stands : goal.returns-in-None-clause-stands
+returns-in-None-clause-stands c =
+    let name = c.args.name.now in
+    let object = c.args.self.now.object.now in
+    let f = find (is_zone_called name) (component_children object) in
+    let h = subst (λ (o : Option (Result Zone Refusal)). BothOrNeither IsZoneRead f o) (sym c.get.ensures.value ∙ ap option_copied c.in-None.is) (c.requires name) in
+    subst (λ (t : Option Tree). NamedFault t 43) (sym (zone_among name object)) (no_zone_read f h)

@@ -1,0 +1,112 @@
+//! The VTIMEZONEs of an object by their names, each read once for all lines that name it (RFC 5545 3.2.19, 3.6.5, 3.8.3.1).
+//! What is wrong with one is told where a line names it: a VTIMEZONE that no line names refuses nothing.
+
+ghost use Rattle.std.specs.Prelude.{◌≡◌, ◌∷◌, ◌++◌, [], List, find, option_map, string_bytes, IfOk, IfErr, OnOk};
+ghost use Rattle.ical_lines.specs.Text.{line_text};
+ghost use Rattle.ical_tree.specs.Tree.{component_lines};
+ghost use Rattle.ical_tree.specs.declared.component.Component.{Component};
+ghost use Rattle.profile.specs.Properties.{is_of};
+ghost use Rattle.profile.specs.ZonedTimes.{zone_named, SaysZoneOf, NamedFault};
+ghost use Rattle.cal_zones.specs.Kinds.{zone_of};
+ghost use Rattle.cal_events.specs.Zones.{AreZonesAmong, IsZoneRead, name_said, object_of, AreRead};
+
+use cal_zones::Zone;
+use ical_lines::{Fault, Line, Refusal};
+use ical_tree::Component;
+use ical_values::Text;
+use indexmap::IndexMap;
+use std::alloc::{AllocError, Global};
+
+/// What the VTIMEZONEs of some names say, or what is wrong with them.
+type ByName = IndexMap<String, Result<Zone, Refusal>>;
+
+/// The VTIMEZONEs of an object.
+// What they say stands beside it as a premise and not as an invariant: that a zone is said can hold in several ways.
+#[derive(Drop)]
+pub(crate) struct Zones<'c, 'a> {
+    object: &'c Component<'a>,
+    by_name: ByName,
+}
+
+impl<'c, 'a> Zones<'c, 'a> {
+    /// The VTIMEZONEs directly inside an object. It fails only for want of memory.
+    pub(crate) fn of(
+        alloc: Global,
+        object: &'c Component<'a>,
+    ) -> Result<Zones<'c, 'a>, AllocError>
+        ensures object { IfOk result (λ zones. zones.object.now ≡ object.now) }
+        ensures read { IfOk result AreRead }
+    {
+        let mut by_name = IndexMap::new(alloc);
+        for child in object.children() {
+            add_zone(alloc, &mut by_name, child)?;
+        }
+        Ok(Zones { object, by_name })
+    }
+
+    /// The zone that a name means: what the first VTIMEZONE of that name says. Names are compared octet by octet.
+    /// Refused: 43 where no VTIMEZONE has it; 11, 13 and 40 to 42 as by `Zone::read`.
+    pub(crate) fn named(&self, name: &str) -> Result<Zone, Refusal>
+        requires { AreRead self.now }
+        ensures says { IfOk result (λ zone. SaysZoneOf (zone_named name.now (object_of self.now)) (zone_of zone)) }
+        ensures stands { IfErr result (λ e. NamedFault (zone_named name.now (object_of self.now)) e.number) }
+    {
+        match self.by_name.get(name) {
+            Some(zone) => *zone,
+            None => Err(Refusal::NO_ZONE),
+        }
+    }
+}
+
+/// Adds a component, where it is the first VTIMEZONE of its name.
+fn add_zone(alloc: Global, by_name: &mut ByName, component: &Component) -> Result<(), AllocError>
+    ensures { OnOk result ((earlier : List Component) → AreZonesAmong earlier by_name.old.entries
+        → AreZonesAmong (earlier ++ component.now ∷ []) by_name.new.entries) }
+{
+    let Some(name) = zone_name(alloc, component)? else {
+        return Ok(());
+    };
+    if by_name.contains_key(name.as_str()) {
+        return Ok(());
+    }
+    let zone = read_zone(alloc, component)?;
+    by_name.insert(name, zone)?;
+    Ok(())
+}
+
+/// The name of a VTIMEZONE: its first TZID, a text with escapes. None for another component.
+fn zone_name(alloc: Global, component: &Component) -> Result<Option<String>, AllocError>
+    ensures { IfOk result (λ name. option_map string_bytes name ≡ name_said component.now) }
+{
+    if !component.is_named("VTIMEZONE") {
+        return Ok(None);
+    }
+    let Some(line) = first_named(component, "TZID") else {
+        return Ok(None);
+    };
+    let name = Text::read(alloc, line.value())?;
+    Ok(Some(String::from_str(alloc, name.as_str())?))
+}
+
+/// What a VTIMEZONE says, or what is wrong with it.
+fn read_zone(alloc: Global, component: &Component) -> Result<Result<Zone, Refusal>, AllocError>
+    ensures { IfOk result (IsZoneRead component.now) }
+{
+    match Zone::read(alloc, component) {
+        Ok(zone) => Ok(Ok(zone)),
+        Err(Fault::Refused(refusal)) => Ok(Err(refusal)),
+        Err(Fault::Memory) => Err(AllocError),
+    }
+}
+
+/// The first line of a property.
+fn first_named<'a>(component: &'a Component, name: &str) -> Option<Line<'a>>
+    ensures { option_map line_text result ≡ find (is_of name.now) (component_lines component.now) }
+{
+    for line in component.lines() {
+        if line.is_named(name) {
+            return Some(line);
+        }
+    }
+    None
+}
