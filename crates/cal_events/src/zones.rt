@@ -30,10 +30,7 @@ pub(crate) struct Zones<'c, 'a> {
 
 impl<'c, 'a> Zones<'c, 'a> {
     /// The VTIMEZONEs directly inside an object. It fails only for want of memory.
-    pub(crate) fn of(
-        alloc: Global,
-        object: &'c Component<'a>,
-    ) -> Result<Zones<'c, 'a>, AllocError>
+    pub(crate) fn of(alloc: Global, object: &'c Component<'a>) -> Result<Zones<'c, 'a>, AllocError>
         ensures object { IfOk result (λ zones. zones.object.now ≡ object.now) }
         ensures read { IfOk result AreRead }
     {
