@@ -1,5 +1,5 @@
 -- What the readers of times in zones see of components.
-use Rattle.std.specs.Prelude.{◌≡◌, ◌↔◌, ℕ, ◌<◌, Bool, true, false, IsTrue, ◌&&◌, List, codes, Option, Some, None, ℤ, ◌+ℤ◌}
+use Rattle.std.specs.Prelude.{◌≡◌, ◌↔◌, ℕ, ◌<◌, Bool, true, false, IsTrue, List, codes, Option, Some, None, ℤ, ◌+ℤ◌}
 use Rattle.profile.specs.Trees.{Tree}
 use Rattle.profile.specs.Zones.{Zone, Means}
 use Rattle.profile.specs.Lines.{line_value}

@@ -1,5 +1,5 @@
 -- What the table of an object's VTIMEZONEs holds.
-use Rattle.std.specs.Prelude.{◌≡◌, ℕ, Bool, if◌then◌else◌, ◌&&◌, List, codes, find, Option, None, Result, Ok, Err, String, string_bytes}
+use Rattle.std.specs.Prelude.{ℕ, Bool, if◌then◌else◌, ◌&&◌, List, codes, find, Option, None, Result, Ok, Err, String, string_bytes}
 use Rattle.std.specs.Map.{lookup}
 use Rattle.std.specs.Str.{bytes_eq}
 use Rattle.cal_zones.specs.Kinds.{zone_of}

@@ -4,7 +4,6 @@ use Rattle.ical_lines.specs.Fault.{RefusesBy}
 use Rattle.std.specs.Prelude.{Result, Ok, Err, IfErr, Contains, codes}
 use Rattle.std.specs.List.{list_all, list_any, AllZip}
 use Rattle.std.specs.Str.{bytes_eq}
-use Rattle.std.proofs.lemmas.List.{map-append}
 use Rattle.std.proofs.Math.Bool.{or-false}
 use Rattle.std.proofs.lemmas.Bool.{or_parts}
 use Rattle.ical_lines.specs.declared.fault.Fault.{Fault}
@@ -17,8 +16,8 @@ use Rattle.profile.specs.Messages.{SaysRequest, MethodFault, bad_method, unread_
 use Rattle.profile.specs.Properties.{lines_named, BothOrNeither, StandsAtMostOnce}
 use Rattle.cal_events.specs.declared.component.EventComponent.{EventComponent}
 use Rattle.cal_events.specs.declared.component.Purpose.TheVariants.{Request}
-use Rattle.cal_events.specs.Events.{event_of, IsUnreadOrFault}
-use Rattle.cal_events.proofs.EventLemmas.{some_line, push_zip}
+use Rattle.cal_events.specs.Events.{event_of, IsUnreadOrFault, IsUnreadOrFaultAmong}
+use Rattle.cal_events.proofs.EventLemmas.{some_line}
 use Rattle.cal_events.proofs.ReadingLemmas.{unread_among}
 use Rattle.profile.specs.Revisions as revisions
 use Rattle.profile.specs.Messages.{AreParts, IsPart, names_room}
@@ -68,11 +67,16 @@ meeting_stands object vs events n e zip w =
 
 -- ---- VEVENTs
 
-pub event_stands : (object : Tree) (vs : List Lines) (lines : Lines) (f : Fault) → vevents object ≡ vs → Contains vs lines → RefusesBy (IsUnreadOrFault object Request lines) f
+event_stands : (object : Tree) (vs : List Lines) (lines : Lines) (f : Fault) → vevents object ≡ vs → Contains vs lines → RefusesBy (IsUnreadOrFault object Request lines) f
     → RefusesBy (MessageFault object) f
 event_stands object vs lines Memory e h s = tt
 event_stands object vs lines (Refused r) e h (inl u) = subst (MessageFault object) (sym u.0) (not_yet (ap (list_any has_unread) e ∙ unread_among vs lines h u.1))
 event_stands object vs lines (Refused r) e h (inr s) = in_event lines (subst (λ (xs : List Lines). Contains xs lines) (sym e) h) s
+
+pub events_stand : (object : Tree) (vs : List Lines) (f : Fault) → vevents object ≡ vs → RefusesBy (IsUnreadOrFaultAmong object Request vs) f
+    → RefusesBy (MessageFault object) f
+events_stand object vs Memory e s = tt
+events_stand object vs (Refused r) e (lines, h, s) = event_stands object vs lines (Refused r) e h s
 
 -- what isn't read yet is a fault
 pub unread_stands : (object : Tree) (vs : List Lines) (f : Fault) → vevents object ≡ vs → RefusesBy (λ n. (n ≡ 99) × (list_any has_unread vs ≡ true)) f

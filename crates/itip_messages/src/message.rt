@@ -1,19 +1,16 @@
 //! A message, read: its method, its meeting, and what each VEVENT says (RFC 5546 1.4, 3.2).
 //! Only REQUEST is read so far.
-ghost use Rattle.std.specs.Prelude.{◌≡◌, ◌++◌, ◌∷◌, [], ℕ, List, true, false, codes, length, map, option_map, unwrap_or, IsTrue, IsSome, IfOk, IfErr, OnOk};
-ghost use Rattle.std.specs.List.{list_all, list_any, AllZip};
+ghost use Rattle.std.specs.Prelude.{◌≡◌, ◌++◌, [], List, true, codes, length, map, unwrap_or, IsTrue, IsSome, IfOk, IfErr, OnOk};
+ghost use Rattle.std.specs.List.{list_all};
 ghost use Rattle.ical_lines.specs.Fault.{RefusesOnly, RefusesBy};
 ghost use Rattle.ical_lines.specs.Text.{line_text};
-ghost use Rattle.ical_tree.specs.Tree.{component_lines, tree_of};
+ghost use Rattle.ical_tree.specs.Tree.{tree_of};
 ghost use Rattle.ical_values.specs.Octets.{address_octets};
 ghost use Rattle.profile.specs.Faults.{is_message_fault};
 ghost use Rattle.profile.specs.Lines.{line_value, is_same_name};
 ghost use Rattle.profile.specs.Values.{duration_text};
-ghost use Rattle.profile.specs.Events.{SaysEvent, has_unread};
-ghost use Rattle.profile.specs.Properties.{StandsAtMostOnce, StandsTwice};
 ghost use Rattle.profile.specs.Messages.{MethodFault, MessageFault, is_same_meeting, is_unread_method};
-ghost use Rattle.cal_events.specs.Events.{IsUnreadOrFault, event_of, vevents_of};
-ghost use Rattle.cal_events.specs.declared.component.Purpose.TheVariants.{Request};
+ghost use Rattle.cal_events.specs.Events.{event_of};
 ghost use Rattle.itip_messages.specs.Messages.{IsCanonical, IsMessageOf, IsSpelled, MeetingFault, NamesRequest, ReadFault, StandsFor, WordFault, component_names};
 
 use crate::attendees::Attendees;

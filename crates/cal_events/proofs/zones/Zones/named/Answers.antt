@@ -1,5 +1,5 @@
-use Rattle.std.proofs.Common.{◌≡◌, ◌∙◌, ap, sym, subst}
-use Rattle.std.specs.Prelude.{Option, Some, None, Result, IfOk, IfErr, find, option_copied}
+use Rattle.std.proofs.Common.{◌∙◌, ap, sym, subst}
+use Rattle.std.specs.Prelude.{Option, Result, IfOk, IfErr, find, option_copied}
 use Rattle.cal_zones.specs.Kinds.{zone_of}
 use Rattle.cal_zones.specs.declared.zone.Zone.{Zone}
 use Rattle.ical_lines.specs.declared.fault.Refusal.{Refusal}

@@ -5,7 +5,7 @@ use Rattle.ical_tree.proofs.TreeOfLemmas.{tree_of-own}
 use Rattle.profile.specs.Messages.{MethodFault, MessageFault, in_method}
 use Rattle.cal_events.specs.Events.{event_of, vevents_of}
 use Rattle.cal_events.proofs.TreeLemmas.{vevents_tree}
-use Rattle.itip_messages.proofs.MessageLemmas.{meeting_stands, one_said, organiser_given, stamp_given, request_said}
+use Rattle.itip_messages.proofs.MessageLemmas.{events_stand, meeting_stands, one_said, organiser_given, stamp_given, request_said}
 use Rattle.ical_values.proofs.Exits.{err_exit}
 use Rattle.itip_messages.proofs.message.Message.of_readable.Goals as goal
 
@@ -14,6 +14,12 @@ returns-in_err-method-clause-stands c =
     let object = c.args.object.now in
     let own = subst (λ (ls : List (List ℕ)). MethodFault ls c.in_err-method.field-0.0.number) (c.in_ok-properties.ensures ∙ sym (tree_of-own object)) c.in_err-method.ensures.stands in
     err_exit _ (RefusesBy (MessageFault (tree_of object))) _ c.from_residual-in_err-method.ensures.1 (in_method own)
+
+pub returns-in_err-events-clause-stands : goal.returns-in_err-events-clause-stands
+returns-in_err-events-clause-stands c =
+    let object = c.args.object.now in
+    err_exit _ (RefusesBy (MessageFault (tree_of object))) _ c.from_residual-in_err-events.ensures.1
+    (events_stand (tree_of object) (vevents_of object) _ (vevents_tree object) c.in_err-events.ensures.stands)
 
 pub returns-in_err-judge_meeting-clause-stands : goal.returns-in_err-judge_meeting-clause-stands
 returns-in_err-judge_meeting-clause-stands c =
