@@ -22,21 +22,22 @@ pub struct Pair {
 }
 
 impl Pair {
-    ghost use Rattle.std.specs.Prelude.{◌≡◌, true, IfOk, IfErr};
+    ghost use Rattle.std.specs.Prelude.{◌≡◌, ◌≤◌, ℕ, true, IfOk, IfErr};
     ghost use Rattle.profile.specs.Values.{IsOffset};
     ghost use Rattle.profile.specs.Zones.{IsOffsetAt, NoneBegun};
     ghost use Rattle.profile.specs.ZoneTexts.{AreMatched, AreSpaced, IsPairFault};
     ghost use Rattle.cal_zones.specs.Onsets.{observance_of};
     ghost use Rattle.cal_zones.specs.Kinds.{pair_of};
 
-    /// The pair of two observances. Refused with 40 where one has no rule, with 41 where each TZOFFSETFROM isn't the
-    /// other's TZOFFSETTO or they lie more than 12 hours apart, with 42 where two onsets of their rules lie less than
+    /// The pair of two observances. Refused with 40 where one has no rule, else with 41 where each TZOFFSETFROM isn't the
+    /// other's TZOFFSETTO or they lie more than 12 hours apart, else with 42 where two onsets of their rules lie less than
     /// 172,800 seconds apart, in any year.
     pub(crate) fn new(standard: Observance, daylight: Observance) -> Result<Pair, Refusal>
         ensures standard { IfOk result (λ pair. pair.standard ≡ standard) }
         ensures daylight { IfOk result (λ pair. pair.daylight ≡ daylight) }
         ensures accepted { IfOk result (λ _. AreMatched (pair_of standard daylight) × AreSpaced (pair_of standard daylight)) }
         ensures refuses { IfErr result (λ e. IsPairFault e.number (observance_of standard) (observance_of daylight)) }
+        ensures least { IfErr result (λ e. (n : ℕ) → IsPairFault n (observance_of standard) (observance_of daylight) → e.number ≤ n) }
     {
         let Some(first) = standard.rule else {
             return Err(Refusal::ZONE_SHAPE);

@@ -41,7 +41,7 @@ pub struct Zone {
 }
 
 impl Zone {
-    ghost use Rattle.std.specs.Prelude.{◌≡◌, ◌<◌, ◌≤◌, None, pos, unsigned_abs, ◌-ℤ◌, IfOk, IfErr, MatchOption, OnOk, OnErr};
+    ghost use Rattle.std.specs.Prelude.{◌≡◌, ◌<◌, ◌≤◌, ℕ, None, pos, unsigned_abs, ◌-ℤ◌, IfOk, IfErr, MatchOption, OnOk, OnErr};
     ghost use Rattle.profile.specs.Values.{IsOffset};
     ghost use Rattle.profile.specs.Days.{day_index};
     ghost use Rattle.profile.specs.Zones.{Constant, Single, IsOffsetAt, Means, AreFirstOnsets, IsBounds, IsOneOffset, IsOneMeaning, IsNearEpoch, IsLastDay, NoneFrom};
@@ -73,13 +73,14 @@ impl Zone {
         }
     }
 
-    /// The zone of one observance without a rule. Refused with 40 where it has one, with 41 where its
+    /// The zone of one observance without a rule. Refused with 40 where it has one, else with 41 where its
     /// offsets lie more than 12 hours apart.
     pub fn single(observance: Observance) -> Result<Zone, Refusal>
         ensures ok { IfOk result (λ z. zone_of z ≡ Single (observance_of observance)) }
         ensures accepted { IfOk result (λ _. (observance.rule ≡ None)
             × (unsigned_abs (observance.offset_from -ℤ observance.offset_to) ≤ 43_200)) }
         ensures refuses { IfErr result (λ e. IsSingleFault e.number (observance_of observance)) }
+        ensures least { IfErr result (λ e. (n : ℕ) → IsSingleFault n (observance_of observance) → e.number ≤ n) }
     {
         if observance.rule.is_some() {
             return Err(Refusal::ZONE_SHAPE);
@@ -92,13 +93,14 @@ impl Zone {
         })
     }
 
-    /// The zone of two observances. Refused with 40 where one has no rule, with 41 where each
-    /// TZOFFSETFROM isn't the other's TZOFFSETTO or they lie more than 12 hours apart, with 42 where two onsets
+    /// The zone of two observances. Refused with 40 where one has no rule, else with 41 where each
+    /// TZOFFSETFROM isn't the other's TZOFFSETTO or they lie more than 12 hours apart, else with 42 where two onsets
     /// of their rules lie less than 172,800 seconds apart, in any year.
     pub fn pair(standard: Observance, daylight: Observance) -> Result<Zone, Refusal>
         ensures ok { IfOk result (λ z. zone_of z ≡ pair_of standard daylight) }
         ensures accepted { IfOk result (λ _. AreMatched (pair_of standard daylight) × AreSpaced (pair_of standard daylight)) }
         ensures refuses { IfErr result (λ e. IsPairFault e.number (observance_of standard) (observance_of daylight)) }
+        ensures least { IfErr result (λ e. (n : ℕ) → IsPairFault n (observance_of standard) (observance_of daylight) → e.number ≤ n) }
     {
         let pair = Pair::new(standard, daylight)?;
         Ok(Zone {
