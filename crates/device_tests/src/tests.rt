@@ -1,5 +1,5 @@
-//! Readers and writers of few octets a call, that are interrupted or fail, and a writer that holds octets back until it is flushed; and long
-//! texts through them. What comes out of a whole stream is shown by the crate `worked_examples`.
+//! Readers and writers of few octets a call, that are interrupted or fail, and a writer that holds octets back until it is flushed. Long
+//! texts go through them too. What comes out of a whole stream is shown by the crate `worked_examples`.
 
 use sched_box::{DeviceReader, DeviceWriter, ServeFault, ServeReport, StreamFault, serve_stream};
 use std::alloc::{AllocError, Global};
