@@ -1,8 +1,8 @@
-//! Readers and writers of few octets a call, that are interrupted or fail, and a writer that holds octets back until it is flushed. What comes
-//! out of a whole stream is shown by the crate `worked_examples`.
+//! Readers and writers of few octets a call, that are interrupted or fail, and a writer that holds octets back until it is flushed. Long
+//! texts go through them too. What comes out of a whole stream is shown by the crate `worked_examples`.
 
 use sched_box::{DeviceReader, DeviceWriter, ServeFault, ServeReport, StreamFault, serve_stream};
-use std::alloc::Global;
+use std::alloc::{AllocError, Global};
 use std::io::{self, ErrorKind, Read, Write};
 use std::process::Abort;
 use std::test::Fail;
@@ -18,6 +18,9 @@ const ANSWERS: &str =
     UID:a\r\nSEQUENCE:0\r\nDTSTAMP:20250102T000000Z\r\nORGANIZER:mailto:ann@example.com\r\n\
     ATTENDEE;PARTSTAT=ACCEPTED:mailto:r1@example.com\r\nREQUEST-STATUS:2.0;Success\r\nEND:VEVENT\r\nEND:VCALENDAR\r\n\
     REFUSED;OBJECT=2:99\r\n";
+
+/// The answer to the second object.
+const REFUSED: &str = "REFUSED;OBJECT=2:99\r\n";
 
 /// Calls that fail: so many, one after another, from one call on, counted from 1.
 #[derive(Clone, Copy)]
@@ -120,13 +123,14 @@ impl Devices {
         }
     }
 
-    /// What came of the stream, and what was sent on.
+    /// What came of a stream, and what was sent on.
     fn serve(
         self,
         alloc: Global,
+        stream: &str,
     ) -> Result<(Result<ServeReport, StreamFault>, DeviceWriter<SlowWriter>), Fail> {
         let slow = SlowReader {
-            left: STREAM.as_bytes(),
+            left: stream.as_bytes(),
             most: self.read,
             failures: self.reads,
         };
@@ -149,25 +153,33 @@ const SERVED: ServeReport = ServeReport {
 };
 
 /// The answer to the first object: all but the line of the refusal.
-fn first_answer() -> &'static [u8] {
-    match ANSWERS.strip_suffix("REFUSED;OBJECT=2:99\r\n") {
-        Some(first) => first.as_bytes(),
-        None => ANSWERS.as_bytes(),
-    }
+fn first_answer() -> &'static str {
+    ANSWERS.strip_suffix(REFUSED).unwrap_or(ANSWERS)
 }
 
 /// How many octets the preamble and the first object have.
 const FIRST_END: usize = STREAM.len()
     - "BEGIN:VCALENDAR\r\nVERSION:2.0\r\nMETHOD:CANCEL\r\nEND:VCALENDAR\r\n".len();
 
-/// Serves the stream, and compares what came of it and what was sent on.
+/// Serves `STREAM`, and compares what came of it and what was sent on.
 fn check<R: AllocGlobal + Abort>(
     rt: &R,
     devices: Devices,
     expected: Result<ServeReport, StreamFault>,
     sent: &[u8],
 ) -> Result<(), Fail> {
-    let (report, writer) = devices.serve(rt.alloc())?;
+    check_stream(rt, devices, STREAM, expected, sent)
+}
+
+/// The same of another stream.
+fn check_stream<R: AllocGlobal + Abort>(
+    rt: &R,
+    devices: Devices,
+    stream: &str,
+    expected: Result<ServeReport, StreamFault>,
+    sent: &[u8],
+) -> Result<(), Fail> {
+    let (report, writer) = devices.serve(rt.alloc(), stream)?;
     assert_eq!(rt; report, expected);
     assert_eq!(rt; writer.get_ref().sent.as_slice(), sent);
     Ok(())
@@ -258,7 +270,7 @@ fn a_device_that_fails_is_named(rt: HostRuntime) -> Result<(), Fail> {
             ..whole
         },
         write,
-        first_answer(),
+        first_answer().as_bytes(),
     )?;
     check(
         &rt,
@@ -267,7 +279,7 @@ fn a_device_that_fails_is_named(rt: HostRuntime) -> Result<(), Fail> {
             ..whole
         },
         write,
-        first_answer(),
+        first_answer().as_bytes(),
     )
 }
 
@@ -279,7 +291,7 @@ fn a_reader_that_fails_leaves_the_answers_sent(rt: HostRuntime) -> Result<(), Fa
         let reads = Failures::new(call, 1, ErrorKind::ConnectionReset);
         // the octet after an object's last line break shows that it has ended
         let sent = if call as usize > FIRST_END + 1 {
-            first_answer()
+            first_answer().as_bytes()
         } else {
             b""
         };
@@ -294,7 +306,7 @@ fn a_writer_that_fails_has_taken_a_beginning(rt: HostRuntime) -> Result<(), Fail
     let one = Devices::of_octets(8_192, 8_192, 1);
     for call in 1..=ANSWERS.len() as u32 {
         let writes = Failures::new(call, 1, ErrorKind::BrokenPipe);
-        let (report, writer) = Devices { writes, ..one }.serve(alloc)?;
+        let (report, writer) = Devices { writes, ..one }.serve(alloc, STREAM)?;
         assert_eq!(rt; report, Err(StreamFault::Serve(ServeFault::Write)));
         let taken = writer.get_ref().sent.len() + writer.get_ref().held.len();
         assert_eq!(rt; taken + 1, call as usize);
@@ -303,6 +315,98 @@ fn a_writer_that_fails_has_taken_a_beginning(rt: HostRuntime) -> Result<(), Fail
                 .as_bytes()
                 .starts_with(writer.get_ref().sent.as_slice())
         );
+    }
+    Ok(())
+}
+
+/// A text in which one stands in the place of another.
+fn replaced(alloc: Global, text: &str, from: &str, to: &str) -> Result<String, AllocError> {
+    let (before, after) = text.split_once(from).unwrap_or((text, ""));
+    format!(in alloc; "{before}{to}{after}")
+}
+
+/// A text and so many octets more that it has that length.
+fn filled(alloc: Global, text: &str, length: usize) -> Result<String, AllocError> {
+    let mut filled = String::from_str(alloc, text)?;
+    for _ in text.len()..length {
+        filled.push('x')?;
+    }
+    Ok(filled)
+}
+
+/// A text of the room r1 for each of 64 rooms.
+fn for_rooms(alloc: Global, text: &str) -> Result<String, AllocError> {
+    let mut all = String::new(alloc);
+    for room in 1..65u32 {
+        let name = format!(in alloc; ":r{room}@")?;
+        let one = replaced(alloc, text, ":r1@", name.as_str())?;
+        all.push_str(one.as_str())?;
+    }
+    Ok(all)
+}
+
+/// `STREAM` with 64 rooms, all of which its first object asks, and a line in this that is longer than any buffer.
+fn long_stream(alloc: Global) -> Result<String, AllocError> {
+    let room = "room mailto:r1@example.com\n";
+    let rooms = for_rooms(alloc, room)?;
+    let stream = replaced(alloc, STREAM, room, rooms.as_str())?;
+    let attendee = "ATTENDEE:mailto:r1@example.com\r\n";
+    let attendees = for_rooms(alloc, attendee)?;
+    let line = filled(alloc, "SUMMARY:", 70_000)?;
+    let lines = format!(in alloc; "{attendees}{line}\r\n")?;
+    replaced(alloc, stream.as_str(), attendee, lines.as_str())
+}
+
+#[test]
+fn long_objects_and_answers_come_through_few_octets(rt: HostRuntime) -> Result<(), Fail> {
+    let alloc = rt.alloc();
+    let stream = long_stream(alloc)?;
+    let mut answers = for_rooms(alloc, first_answer())?;
+    answers.push_str(REFUSED)?;
+    for octets in [1, 5, 4_096, 65_536] {
+        check_stream(
+            &rt,
+            Devices::of_octets(8_192, octets, octets),
+            stream.as_str(),
+            Ok(SERVED),
+            answers.as_bytes(),
+        )?;
+    }
+    Ok(())
+}
+
+/// `STREAM` with a preamble of so many octets, its empty line included, whose 64 rooms nobody asks.
+fn stream_after(alloc: Global, octets: usize) -> Result<String, AllocError> {
+    let mut preamble = String::from_str(alloc, "now 20250102T000000Z\n")?;
+    for room in 1..64u32 {
+        let named = format!(in alloc; "room x:{room}.")?;
+        let line = filled(alloc, named.as_str(), 1_029)?;
+        write!(preamble, "{line}\n")?;
+    }
+    let last = filled(alloc, "room x:", octets.saturating_sub(preamble.len() + 2))?;
+    write!(preamble, "{last}\n\n")?;
+    let (_, objects) = STREAM.split_once("\n\n").unwrap_or((STREAM, ""));
+    preamble.push_str(objects)?;
+    Ok(preamble)
+}
+
+#[test]
+fn a_preamble_has_at_most_65536_octets(rt: HostRuntime) -> Result<(), Fail> {
+    let alloc = rt.alloc();
+    let longest = stream_after(alloc, 65_536)?;
+    let longer = stream_after(alloc, 65_537)?;
+    for octets in [1, 7, 65_536, 131_072] {
+        let devices = Devices::of_octets(8_192, octets, 8_192);
+        check_stream(
+            &rt,
+            devices,
+            longest.as_str(),
+            Ok(SERVED),
+            REFUSED.as_bytes(),
+        )?;
+        let (report, writer) = devices.serve(alloc, longer.as_str())?;
+        assert!(rt; matches!(report, Err(StreamFault::Refused(refusal)) if refusal.number == 90));
+        assert!(rt; writer.get_ref().sent.is_empty());
     }
     Ok(())
 }

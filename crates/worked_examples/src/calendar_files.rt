@@ -2,7 +2,7 @@
 
 use crate::certificates::verdict_text;
 use cal_events::{
-    Calendar, ParticipationStatus, Purpose, read_events, refuse_nominal_length,
+    Calendar, ParticipationStatus, Purpose, read_events, read_series, refuse_nominal_length,
 };
 use clash_check::check;
 use example_cases::NoAnswer;
@@ -88,6 +88,11 @@ pub fn nominal(alloc: Global, octets: &[u8]) -> Result<String, NoAnswer> {
         refuse_nominal_length(&Properties::of(alloc, component)?)?;
     }
     Ok(String::from_str(alloc, "not refused")?)
+}
+
+pub fn series(alloc: Global, octets: &[u8]) -> Result<String, NoAnswer> {
+    read_series(alloc, octets)?;
+    Ok(String::from_str(alloc, "a series")?)
 }
 
 pub fn checked(

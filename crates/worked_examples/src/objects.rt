@@ -1,4 +1,5 @@
-//! Cases of objects that stand in files: `object | FILE`, and then steps. With `lines | TEXT` the object is a VEVENT of these lines.
+//! Cases of objects that stand in files: `object | FILE`, and then steps. With `text | TEXT` the object is spelled, and with `lines | TEXT`
+//! it is a REQUEST with a VEVENT of these lines.
 //!
 //!     kept ROOM               how many singles the calendar has for a room, and their organisers, slots, starts and ends
 //!     counted ROOM            how many singles, where the object was read before
@@ -6,13 +7,14 @@
 //!     times                   the start and the length of each VEVENT, in seconds
 //!     ends                    the instant at which each VEVENT ends
 //!     nominal                 nothing, or that days in a length aren't read yet
+//!     series                  whether the object is a series
 //!     check ROOM TEXT         whether the text is a certificate of the room's calendar
 //!     message                 what the message says
 //!     components              how many components the message has, where the object was read before
 //!     parts ROOM              the parts for a room
 //!     addressed ROOM          whether the message names the room
 
-use crate::calendar_files::{answered, checked, counted, ends, kept, nominal, times};
+use crate::calendar_files::{answered, checked, counted, ends, kept, nominal, series, times};
 use crate::message_files::{addressed, components, message, parts};
 use example_cases::answers::Answers;
 use example_cases::spelled::octets_of;
@@ -21,11 +23,19 @@ use example_cases::{Case, NoAnswer};
 use ical_values::Address;
 use std::alloc::Global;
 
+/// The answers of a case whose object is spelled.
+pub fn text_answers(alloc: Global, case: Case<'_>) -> Result<String, NoAnswer> {
+    let octets = octets_of(alloc, case.input())?;
+    answers(alloc, octets.as_slice(), case)
+}
+
 /// The answers of a case of one VEVENT.
 pub fn line_answers(alloc: Global, case: Case<'_>) -> Result<String, NoAnswer> {
     let lines = octets_of(alloc, case.input())?;
     let mut octets = Vec::new(alloc);
-    octets.extend_from_slice(b"BEGIN:VCALENDAR\r\nVERSION:2.0\r\nBEGIN:VEVENT\r\n")?;
+    octets.extend_from_slice(
+        b"BEGIN:VCALENDAR\r\nVERSION:2.0\r\nMETHOD:REQUEST\r\nBEGIN:VEVENT\r\n",
+    )?;
     octets.extend_from_slice(lines.as_slice())?;
     octets.extend_from_slice(b"\r\nEND:VEVENT\r\nEND:VCALENDAR\r\n")?;
     answers(alloc, octets.as_slice(), case)
@@ -52,6 +62,7 @@ fn plain_answer(alloc: Global, octets: &[u8], call: &str) -> Result<String, NoAn
         "times" => times(alloc, octets),
         "ends" => ends(alloc, octets),
         "nominal" => nominal(alloc, octets),
+        "series" => series(alloc, octets),
         "message" => message(alloc, octets),
         "components" => components(alloc, octets),
         _ => Err(NoAnswer::Unreadable),
