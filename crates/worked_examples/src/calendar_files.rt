@@ -61,10 +61,7 @@ pub fn times(alloc: Global, octets: &[u8]) -> Result<String, NoAnswer> {
     let mut list = String::new(alloc);
     for event in &read_events(alloc, &object, Purpose::Series)? {
         let times = event.times;
-        let item = format!(in alloc;
-            "from {} for {}",
-            times.instant.instant(), times.seconds()
-        )?;
+        let item = format!(in alloc; "from {} for {}", times.instant.instant(), times.seconds())?;
         append(&mut list, ", ", item.as_str())?;
     }
     Ok(list)
