@@ -4,7 +4,7 @@
 ghost use Rattle.std.specs.Prelude.{◌≡◌, ◌↔◌, ◌∷◌, [], length, count_by, find, option_map, IsTrue, IfSome, IfNone, true, false, None, Some, IfOk, IfErr};
 ghost use Rattle.ical_tree.specs.Tree.{component_name, component_lines, component_children};
 ghost use Rattle.profile.specs.Lines.{is_same_name};
-ghost use Rattle.profile.specs.ZoneTexts.{is_part, IsLocalLine, IsOffsetLine, SaysTimes, TimesFault};
+ghost use Rattle.profile.specs.ZoneTexts.{is_part, IsFixedLine, IsLocalLine, IsOffsetLine, SaysTimes, TimesFault};
 ghost use Rattle.cal_zones.specs.Read.{parts_in, parts_of, StartFault, OffsetFault};
 ghost use Rattle.ical_lines.specs.Text.{line_text};
 ghost use Rattle.profile.specs.Properties.{Says, IsMissing, is_date_time};
@@ -115,6 +115,7 @@ fn is_date_time(line: Line<'_>) -> bool
 fn read_local(line: Line<'_>) -> Result<LocalTime, Refusal>
     ensures says { IfOk result (IsLocalLine (line_text line.entry)) }
     ensures stands { IfErr result (λ e. StartFault (line_text line.entry) e.number) }
+    ensures fixed { IfErr result (λ e. IsFixedLine (line_text line.entry) → e.number ≡ 40) }
 {
     if line.param("TZID").is_some() {
         return Err(Refusal::ZONE_SHAPE);

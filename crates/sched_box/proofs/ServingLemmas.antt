@@ -13,7 +13,7 @@ use Rattle.sched_box.specs.declared.objects.Objects.{Objects}
 use Rattle.sched_box.specs.declared.serving.ServeReport.{ServeReport}
 use Rattle.sched_box.specs.Answering.{AreHosted, IsHosted, AnswersKept, room_addresses}
 use Rattle.sched_box.specs.Objects.{kept_of, TakesObject, ReadsObject, IsStop, StopsReading}
-use Rattle.sched_box.specs.Serving.{AnswersWhole, Ends, Gives, GivesPart, IsWithinBound, ServesAll, ServesSome, ServesCut, HasRead, HasReadLess, ServesUntil, Serves, RoomsServe, ServesStream, KeepsTexts}
+use Rattle.sched_box.specs.Serving.{AnswersWhole, Ends, Gives, GivesPart, IsWithinBound, ServesAll, ServesSome, ServesCut, HasRead, HasReadLess, ServesUntil, Serves, RoomsServe, ServesStream, KeepsTexts, StopsKeeping}
 use Rattle.std.proofs.Common.{◌≢◌, Contains, true≢false}
 use Rattle.std.specs.Str.{bytes_eq}
 use Rattle.std.proofs.lemmas.Slice.Eq.{bytes_eq-Decides}
@@ -26,7 +26,7 @@ use Rattle.profile.specs.Rooms.{empty_book}
 use Rattle.room_books.specs.Standing.{Stands}
 use Rattle.sched_box.specs.declared.fault.StreamFault.{StreamFault}
 use Rattle.sched_box.specs.declared.fault.StreamFault.TheVariants as stream
-use Rattle.sched_box.specs.Faults.{IfRefusedStream, IsReadFault}
+use Rattle.sched_box.specs.Faults.{IfRefusedStream, IsReadFault, StopsFor}
 use Rattle.sched_box.specs.Output.{StopsSending}
 use Rattle.sched_box.specs.Preamble.{Opens, OpensNot, StopsInPreamble}
 use Rattle.sched_box.proofs.ObjectLemmas.{after_short}
@@ -483,3 +483,11 @@ keeps_texts moment addresses news ends report room address calendar certificate 
       calendar_is = subst S is (text kept.book stands.stands);
       certificate_is = proof' kept.book stands.stands;
     }
+
+-- serving to a writer that never fails ends so
+pub keeping_stopped : (moment : ℤ) (before : List Hosted) (news : List Room) (a b c d : Option (List ℕ)) (reader : Bool) (f : ServeFault)
+    → RoomsServe moment before news (record { input = a; left = b; output = c; written = d }) (Err f) → StopsFor reader false f → StopsKeeping a b (stream.Serve f)
+keeping_stopped moment before news a b c d reader Read h cause = h.1
+keeping_stopped moment before news a b c d reader Write h cause = absurd (true≢false (sym cause))
+keeping_stopped moment before news a b c d reader TooLong h cause = h.1
+keeping_stopped moment before news a b c d reader Memory h cause = tt

@@ -133,3 +133,11 @@ pub record KeepsTexts (moment : ℤ) (rooms : List (List ℕ)) (input left : Opt
   pub at : kept.address ≡ room
   pub calendar_is : IsKeptCalendar room kept.book calendar
   pub certificate_is : certificate ≡ kept_certificate kept.book
+
+-- how it ends before its input does: the stream is too long exactly where 1,073,741,824 octets of objects were read
+abbrev pub StopsKeeping : Option (List ℕ) → Option (List ℕ) → StreamFault → Type 0
+StopsKeeping input left (Refused refusal) = Unit {0}
+StopsKeeping input left (Serve Read) = HasReadLess 1_073_741_824 input left
+StopsKeeping input left (Serve Write) = ⊥
+StopsKeeping input left (Serve TooLong) = HasRead 1_073_741_824 input left
+StopsKeeping input left (Serve Memory) = Unit {0}

@@ -1,9 +1,9 @@
 //! Where octets are read from: octets in memory, or a device that may fail.
 
-ghost use Rattle.std.specs.Prelude.{◌≡◌, ◌≤◌, ℕ, List, Option, Some, None, Bool, true, false, length, take, IfSome, OnSome, IfOk, IfErr, OnOk, OnErr};
+ghost use Rattle.std.specs.Prelude.{◌≡◌, ◌≤◌, ℕ, List, [], Option, Some, None, Bool, true, false, length, take, IfSome, OnSome, IfOk, IfErr, OnOk, OnErr};
 ghost use Rattle.std.specs.Io.KnownBytes.{Consumes, IsAtEnd, Keeps};
 ghost use Rattle.std.specs.Io.{StartsWith};
-ghost use Rattle.std.specs.Io.Buffered.{reader_buffer, reader_remaining};
+ghost use Rattle.std.specs.Io.Buffered.{reader_buffer, reader_inner, reader_remaining};
 
 use std::alloc::Global;
 use std::io::{self, BufRead, BufReader, ErrorKind, Read};
@@ -19,7 +19,7 @@ pub trait Input {
     // The octets that it lends.
     ghost lent: { Self → List ℕ };
 
-    // A call of it has failed.
+    // A call of it has failed. Only a call that fails changes it.
     ghost has_failed: { Self → Bool };
 
     /// Has octets to lend, unless the input has ended. An error only where it has failed.
@@ -27,7 +27,8 @@ pub trait Input {
         ensures keeps { Keeps (Self.remaining self.old) (Self.remaining self.new) }
         ensures front { IfSome (Self.remaining self.new) (λ octets. StartsWith octets (Self.lent self.new)) }
         ensures end { OnOk result (length (Self.lent self.new) ≡ 0 → OnSome (Self.remaining self.old) (IsAtEnd (Self.remaining self.new))) }
-        ensures failed { OnErr result (Self.has_failed self.new ≡ true) };
+        ensures failed { OnErr result (Self.has_failed self.new ≡ true) }
+        ensures mark { OnOk result (Self.has_failed self.new ≡ Self.has_failed self.old) };
 
     /// The octets that it lends.
     fn buffer(&self) -> &[u8]
@@ -35,8 +36,9 @@ pub trait Input {
 
     /// Takes so many of them.
     fn consume(&mut self, count: usize)
-        ensures { count ≤ length (Self.lent self.old) → IfSome (Self.remaining self.old) (λ octets. StartsWith octets (Self.lent self.old))
-            → Consumes (Self.remaining self.old) (Self.remaining self.new) (take count (Self.lent self.old)) };
+        ensures takes { count ≤ length (Self.lent self.old) → IfSome (Self.remaining self.old) (λ octets. StartsWith octets (Self.lent self.old))
+            → Consumes (Self.remaining self.old) (Self.remaining self.new) (take count (Self.lent self.old)) }
+        ensures mark { Self.has_failed self.new ≡ Self.has_failed self.old };
 }
 
 /// Octets in memory never fail.
@@ -69,9 +71,11 @@ pub struct DeviceReader<R: Read + Drop> {
 }
 
 impl<R: Read + Drop> DeviceReader<R> {
-    /// A reader that hasn't failed. An error where memory for the buffer is refused.
+    /// A reader that hasn't failed, and has taken nothing of the device yet. An error where memory for the buffer is refused.
     pub fn new(alloc: Global, device: R) -> io::Result<DeviceReader<R>>
-        ensures { IfOk result (λ reader. reader.failed ≡ false) }
+        ensures mark { IfOk result (λ reader. reader.failed ≡ false) }
+        ensures device { IfOk result (λ reader. reader_inner reader.reader ≡ device) }
+        ensures nothing { IfOk result (λ reader. reader_buffer reader.reader ≡ []) }
     {
         let reader = BufReader::new(alloc, device)?;
         Ok(DeviceReader {
@@ -82,7 +86,9 @@ impl<R: Read + Drop> DeviceReader<R> {
 
     /// The same, with a buffer of so many octets.
     pub fn with_capacity(alloc: Global, capacity: usize, device: R) -> io::Result<DeviceReader<R>>
-        ensures { IfOk result (λ reader. reader.failed ≡ false) }
+        ensures mark { IfOk result (λ reader. reader.failed ≡ false) }
+        ensures device { IfOk result (λ reader. reader_inner reader.reader ≡ device) }
+        ensures nothing { IfOk result (λ reader. reader_buffer reader.reader ≡ []) }
     {
         let reader = BufReader::with_capacity(alloc, capacity, device)?;
         Ok(DeviceReader {
@@ -96,6 +102,7 @@ impl<R: Read + Drop> DeviceReader<R> {
         ensures keeps { Keeps (reader_remaining R.remaining self.old.reader) (reader_remaining R.remaining self.new.reader) }
         ensures end { OnOk result (length (reader_buffer self.new.reader) ≡ 0
             → OnSome (reader_remaining R.remaining self.old.reader) (IsAtEnd (reader_remaining R.remaining self.new.reader))) }
+        ensures mark { self.new.failed ≡ self.old.failed }
     {
         self.reader.fill_buf()?;
         Ok(())

@@ -31,13 +31,14 @@ pub trait Output {
     // The octets that were written, where it tells them.
     ghost contents: { Self → Option (List ℕ) } = { λ _. None };
 
-    // A call of it has failed.
+    // A call of it has failed. Only a call that fails changes it.
     ghost has_failed: { Self → Bool };
 
     /// Writes octets whole, and holds none of them back: who waits for an answer gets it now.
     fn put(&mut self, octets: &[u8]) -> Result<(), WriteFault>
         ensures written { OnOk result (Appends (Self.contents self.old) (Self.contents self.new) octets.now) }
-        ensures stops { IfErr result (StopsWriting (Self.contents self.old) (Self.contents self.new) (Self.has_failed self.new) octets.now) };
+        ensures stops { IfErr result (StopsWriting (Self.contents self.old) (Self.contents self.new) (Self.has_failed self.new) octets.now) }
+        ensures mark { OnOk result (Self.has_failed self.new ≡ Self.has_failed self.old) };
 }
 
 /// A list of octets never fails; memory may be refused.
@@ -75,9 +76,10 @@ pub struct DeviceWriter<W: Write + Drop> {
 }
 
 impl<W: Write + Drop> DeviceWriter<W> {
-    /// A writer that hasn't failed.
+    /// A writer that hasn't failed, and has given nothing to the device yet.
     pub fn new(device: W) -> DeviceWriter<W>
-        ensures { result.failed ≡ false }
+        ensures mark { result.failed ≡ false }
+        ensures device { result.device ≡ device }
     {
         DeviceWriter {
             device,

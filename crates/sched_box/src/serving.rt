@@ -1,6 +1,6 @@
 //! Serving: each object goes to the rooms that it is addressed to, and what they answer is written.
 
-ghost use Rattle.std.specs.Prelude.{◌≡◌, ◌≤◌, List, Bool, Contains, false, IfErr, IfOk, OnOk};
+ghost use Rattle.std.specs.Prelude.{◌≡◌, ◌≤◌, ℕ, List, Option, Bool, Contains, false, IfErr, IfOk, OnOk};
 ghost use Rattle.std.specs.Io.KnownBytes.{Appends};
 ghost use Rattle.ical_values.specs.Octets.{address_octets};
 ghost use Rattle.profile.specs.Calendars.{CertificateHolds};
@@ -9,7 +9,7 @@ ghost use Rattle.sched_box.specs.Answering.{AreHosted, room_addresses};
 ghost use Rattle.sched_box.specs.Config.{config_rooms};
 ghost use Rattle.sched_box.specs.Faults.{IfRefusedStream, RefusesPreamble, StopsFor, StreamStopsFor};
 ghost use Rattle.sched_box.specs.Output.{StopsSending};
-ghost use Rattle.sched_box.specs.Serving.{AnswersWhole, KeepsTexts, RoomsServe, Serves, ServesStream};
+ghost use Rattle.sched_box.specs.Serving.{AnswersWhole, KeepsTexts, RoomsServe, Serves, ServesStream, StopsKeeping};
 
 use crate::config::Config;
 use crate::fault::{ServeFault, StreamFault};
@@ -67,7 +67,7 @@ pub fn serve<R: Input, W: Output>(
 }
 
 /// What a room keeps after the same objects: its calendar and its certificate, for which the checker says yes.
-/// Refused: 90 where the box doesn't host the room.
+/// Refused: 90 where the box doesn't host the room. `TooLong` comes only after 1,073,741,824 octets.
 pub fn keep<R: Input>(
     alloc: Global,
     config: &Config,
@@ -80,6 +80,7 @@ pub fn keep<R: Input>(
     ensures refuses { IfErr result RefusesPreamble }
     ensures cause { IfErr result (StreamStopsFor (R.has_failed reader.new) false) }
     ensures none { IfErr result (IfRefusedStream (Contains (config_rooms config.now) (address_octets room.now) → ⊥)) }
+    ensures bound { IfErr result (StopsKeeping (R.remaining reader.old) (R.remaining reader.new)) }
 {
     if !config.has_room(room) {
         return Err(not_hosted());
@@ -100,6 +101,7 @@ pub fn keep<R: Input>(
 fn not_hosted() -> StreamFault
     ensures refuses { RefusesPreamble result }
     ensures cause { (reader writer : Bool) → StreamStopsFor reader writer result }
+    ensures bound { (input left : Option (List ℕ)) → StopsKeeping input left result }
 {
     StreamFault::Refused(Refusal::BAD_PREAMBLE)
 }

@@ -4,7 +4,8 @@ use Rattle.profile.specs.Calendars.{CertificateHolds}
 use Rattle.profile.specs.Streams.{new_box}
 use Rattle.sched_box.specs.Config.{config_rooms}
 use Rattle.profile.specs.Kept.{IsKeptCalendar, kept_certificate}
-use Rattle.sched_box.proofs.ServingLemmas.{keeps_texts}
+use Rattle.std.proofs.lemmas.Result.{err_from_is_err_and}
+use Rattle.sched_box.proofs.ServingLemmas.{keeps_texts, keeping_stopped}
 use Rattle.sched_box.proofs.serving.keep.Goals as goal
 
 pub returns-clause-keeps : goal.returns-clause-keeps
@@ -28,3 +29,13 @@ returns-clause-passes g c =
 
 pub returns-then-not-has_room-clause-cause : goal.returns-then-not-has_room-clause-cause
 returns-then-not-has_room-clause-cause g c = c.not_hosted.ensures.cause _ _
+
+pub returns-then-not-has_room-clause-bound : goal.returns-then-not-has_room-clause-bound
+returns-then-not-has_room-clause-bound g c = c.not_hosted.ensures.bound _ _
+
+pub returns-in_err-serve_rooms-clause-bound : goal.returns-in_err-serve_rooms-clause-bound
+returns-in_err-serve_rooms-clause-bound g c =
+    let addresses = config_rooms c.args.config.now in
+    let p = err_from_is_err_and c.from_residual-in_err-serve_rooms.result c.from_residual-in_err-serve_rooms.ensures.1 in
+    rw (p.1, p.2)
+    (keeping_stopped c.args.now (new_box addresses) c.serve_rooms.new.rooms.rooms.items (g.R.Input.remaining c.args.reader.now) (g.R.Input.remaining c.serve_rooms.new.reader) _ _ _ _ (c.in_err-serve_rooms.ensures.serves (new_box addresses) c.in_ok-rooms.ensures.hosted) c.in_err-serve_rooms.ensures.cause)

@@ -13,7 +13,7 @@ returns-clause-takes g c =
     let count = scanned.result.count in
     let within : count ≤ length (take most lent) = scanned.ensures.within in
     let shown : count ≤ length lent = search rules in
-    let takes = taken_of _ _ _ _ lent count c.buffer-lent.ensures c.fill.ensures.keeps c.fill.ensures.front c.in-Ok.ensures.end c.consume.ensures shown in
+    let takes = taken_of _ _ _ _ lent count c.buffer-lent.ensures c.fill.ensures.keeps c.fill.ensures.front c.in-Ok.ensures.end c.consume.ensures.takes shown in
     record {
       taken = take count (take most lent);
       consumed = subst (Consumes _ _) (sym (same_piece lent most count within)) takes.moved.0;
