@@ -223,6 +223,15 @@ fn few_octets_and_interrupted_calls_change_nothing(rt: HostRuntime) -> Result<()
             Ok(SERVED),
             answers,
         )?;
+        check(
+            &rt,
+            Devices {
+                flushes: interrupted,
+                ..whole
+            },
+            Ok(SERVED),
+            answers,
+        )?;
     }
     Ok(())
 }
@@ -248,6 +257,15 @@ fn a_device_that_fails_is_named(rt: HostRuntime) -> Result<(), Fail> {
         &rt,
         Devices {
             writes: endless,
+            ..whole
+        },
+        write,
+        b"",
+    )?;
+    check(
+        &rt,
+        Devices {
+            flushes: endless,
             ..whole
         },
         write,
