@@ -30,6 +30,11 @@ pub put_together : (start one two three four five new head a blank b d : List �
     → new ≡ head ++ a ++ blank ++ b ++ blank ++ d
 put_together start one two three four five new head a blank b d e0 e1 e2 e3 e4 e5 e6 = rw (e6, e5, e4, e3, e2, e1, e0) refl
 
+-- a key, word by word
+pub key_put : (old one two three four new slot a b blank : List ℕ) → one ≡ old ++ slot → two ≡ one ++ blank → three ≡ two ++ a → four ≡ three ++ blank → new ≡ four ++ b
+    → new ≡ old ++ (slot ++ blank ++ a ++ blank ++ b)
+key_put old one two three four new slot a b blank e1 e2 e3 e4 e5 = rw (e5, e4, e3, e2, e1) (simp append_assoc)
+
 -- the first lines of an object
 pub opened : (old start one two three new a b d m : List ℕ) → start ≡ old → one ≡ start ++ a → two ≡ one ++ b → three ≡ two ++ d → new ≡ three ++ m → new ≡ old ++ (a ++ (b ++ (d ++ m)))
 opened old start one two three new a b d m e0 e1 e2 e3 e4 = rw (e4, e3, e2, e1, e0) (simp append_assoc)
