@@ -1,7 +1,8 @@
 -- What is written, line by line.
-use Rattle.std.proofs.Common.{◌≡◌, ◌∙◌, ℕ, List, [], ◌∷◌, ◌++◌, refl, sym, ap, Some, append_assoc}
+use Rattle.std.proofs.Common.{◌≡◌, ◌≤◌, ◌∙◌, ℕ, List, [], ◌∷◌, ◌++◌, length, take, refl, sym, ap, arith, Some, append_assoc}
 use Rattle.std.specs.Prelude.{codes, ℤ}
-use Rattle.std.proofs.lemmas.List.{append-nil}
+use Rattle.std.proofs.lemmas.List.{append-nil, length-take, take-append-le}
+use Rattle.std.proofs.Math.Seq.{take-length}
 use Rattle.std.proofs.lemmas.Grind.{flat_map-append}
 use Rattle.std.specs.List.{flat_map}
 use Rattle.cal_events.proofs.EventLemmas.{push_zip}
@@ -34,6 +35,18 @@ put_together start one two three four five new head a blank b d e0 e1 e2 e3 e4 e
 pub key_put : (old one two three four new slot a b blank : List ℕ) → one ≡ old ++ slot → two ≡ one ++ blank → three ≡ two ++ a → four ≡ three ++ blank → new ≡ four ++ b
     → new ≡ old ++ (slot ++ blank ++ a ++ blank ++ b)
 key_put old one two three four new slot a b blank e1 e2 e3 e4 e5 = rw (e5, e4, e3, e2, e1) (simp append_assoc)
+
+-- what was written before stays: at first, after more, and after what wrote nothing
+pub kept_at_first : (old start : List ℕ) → start ≡ old → take (length old) start ≡ old
+kept_at_first old start e = rw e (take-length old)
+
+pub kept_by_more : (old before new a : List ℕ) → take (length old) before ≡ old → new ≡ before ++ a → take (length old) new ≡ old
+kept_by_more old before new a kept e =
+    let long : length old ≤ length before = omega (arith, ap length kept, length-take (length old) before) in
+    rw e (take-append-le (length old) before a long ∙ kept)
+
+pub kept_by_none : (old before new : List ℕ) → take (length old) before ≡ old → new ≡ before → take (length old) new ≡ old
+kept_by_none old before new kept e = rw e kept
 
 -- the first lines of an object
 pub opened : (old start one two three new a b d m : List ℕ) → start ≡ old → one ≡ start ++ a → two ≡ one ++ b → three ≡ two ++ d → new ≡ three ++ m → new ≡ old ++ (a ++ (b ++ (d ++ m)))
