@@ -2,8 +2,8 @@
 
     python3 bench/gate.py > out/gate.tsv      # what rt ci says goes to out/gate.log
 
-A line for each kind: its name, processor seconds. Then a line for each further edit: `edit`, its crate and name, processor seconds. Twice a
-second it reads from /proc what each prover and compiler that runs below has used, so each is short by half a second at most; what no
+A line for each kind: its name, processor seconds. Then a line for each crate: `crate`, its name, processor seconds of each kind but the
+rest; and one for each further edit: `edit`, its crate and name, processor seconds. Twice a second it reads from /proc what each prover and compiler that runs below has used, so each is short by half a second at most; what no
 sample saw, as rt itself and the programs that are run, is the line `rest`. The status is that of rt ci.
 """
 
@@ -82,14 +82,18 @@ def main():
             time.sleep(0.5)
     spent = resource.getrusage(resource.RUSAGE_CHILDREN)
     edits = list(further_edits(processes))
-    seconds = dict.fromkeys(KINDS, 0.0)
+    seconds, crates = dict.fromkeys(KINDS, 0.0), {}
     for it in filter(None, processes.values()):
         seconds[it.kind] = seconds.get(it.kind, 0.0) + it.used
+        own = crates.setdefault(it.crate, {})
+        own[it.kind] = own.get(it.kind, 0.0) + it.used
     seconds["rest"] = spent.ru_utime + spent.ru_stime - sum(seconds.values())
     for kind, used in seconds.items():
         print(f"{kind}\t{used:.0f}")
     print(f"all\t{spent.ru_utime + spent.ru_stime:.0f}")
     print(f"minutes on the clock\t{(time.monotonic() - start) / 60:.1f}")
+    for crate, own in crates.items():
+        print("crate", crate, *(f"{own.get(kind, 0.0):.0f}" for kind in KINDS[:-1]), sep="\t")
     for name, used in edits:
         print(f"edit\t{name}\t{used:.1f}")
     return gate.returncode

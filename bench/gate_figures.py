@@ -66,7 +66,7 @@ def costs(given, lines, own):
     if not given.gate:
         return ["Not measured. Measure it with `python3 bench/gate.py > out/gate.tsv`."]
     rows = rows_of(given.gate)
-    seconds = {kind[0]: float(kind[1]) for kind in rows if kind[0] != "edit"}
+    seconds = {kind[0]: float(kind[1]) for kind in rows if kind[0] not in ("crate", "edit")}
     clock, whole = seconds.pop("minutes on the clock"), seconds["all"]
     edits = sorted(((float(it[2]), it[1]) for it in rows if it[0] == "edit"), reverse=True)
     said = f"Measured on {given.machine}: {whole / 60:.0f} processor minutes, user and sys together, in {clock:.0f} minutes on the clock; "
@@ -75,7 +75,11 @@ def costs(given, lines, own):
     table += [row((kind, f"{it / 60:.1f}", f"{100 * it / whole:.0f} %")) for kind, it in seconds.items()]
     dear = "The dearest further edits, in processor seconds: " + ", ".join(f"`{name}` {it:.0f}" for it, name in edits[:5])
     dear += f"; the median is {edits[len(edits) // 2][0]:.0f}." if edits else ""
-    return [paragraph(said), "", *table, "", paragraph(dear)]
+    shares = [row(("Crate", "Proof", "Tests", "First edit", "Further edits", "Program", "All")), "|---|" + "---:|" * 6]
+    for crate in (it[1:] for it in rows if it[0] == "crate"):
+        shares.append(row((f"`{crate[0]}`", *crate[1:], round(sum(map(float, crate[1:]))))))
+    by_crate = "By crate, in processor seconds; a crate's first edit is its proof from nothing once more, in a copy:"
+    return [paragraph(said), "", *table, "", by_crate, "", *shares, "", paragraph(dear)]
 
 
 def dearest(file):
