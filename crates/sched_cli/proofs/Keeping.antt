@@ -1,5 +1,5 @@
 -- Why nothing is kept.
-use Rattle.std.proofs.Common.{ℤ, List, Contains, Option, IfSome, Result, Ok, Err, IfErr, inl, inr}
+use Rattle.std.proofs.Common.{ℕ, ℤ, List, Contains, Option, IfSome, Result, Ok, Err, IfErr, inl, inr}
 use Rattle.sched_box.specs.Faults.{IfRefusedStream, IsReadFault, RefusesPreamble}
 use Rattle.sched_box.specs.Preamble.{Opens, OpensNot}
 use Rattle.sched_box.specs.Serving.{StopsKeeping}
