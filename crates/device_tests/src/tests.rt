@@ -74,7 +74,8 @@ impl Read for SlowReader<'_> {
     }
 }
 
-/// A writer that takes at most so many octets a call, and sends them on when it is flushed.
+/// A writer that takes at most so many octets a call, and sends them on when it is flushed. Of a call that fails with WriteZero it takes
+/// none.
 #[derive(Drop)]
 struct SlowWriter {
     held: Vec<u8>,
@@ -86,7 +87,10 @@ struct SlowWriter {
 
 impl Write for SlowWriter {
     fn write(&mut self, buf: &[u8]) -> io::Result<usize> {
-        self.failures.call()?;
+        match self.failures.call() {
+            Err(error) if error.kind() == ErrorKind::WriteZero => return Ok(0),
+            called => called?,
+        }
         let count = self.most.min(buf.len());
         self.held.extend_from_slice(&buf[..count])?;
         Ok(count)
@@ -272,6 +276,15 @@ fn a_device_that_fails_is_named(rt: HostRuntime) -> Result<(), Fail> {
         b"",
     )?;
     check(&rt, Devices { write: 0, ..whole }, write, b"")?;
+    check(
+        &rt,
+        Devices {
+            writes: Failures::new(1, 1, ErrorKind::WriteZero),
+            ..whole
+        },
+        write,
+        b"",
+    )?;
     check(
         &rt,
         Devices {
