@@ -142,12 +142,17 @@ fn write_front<W: Write>(writer: &mut W, octets: &[u8]) -> Result<usize, WriteFa
     Err(WriteFault::Failed)
 }
 
+/// One flush, tried again where it is interrupted.
 fn flush<W: Write>(writer: &mut W) -> Result<(), WriteFault>
     ensures keeps { Keeps (W.contents writer.old) (W.contents writer.new) }
     ensures fault { IfErr result (λ fault. fault ≡ WriteFault.Failed) }
 {
-    match writer.flush() {
-        Ok(()) => Ok(()),
-        Err(_) => Err(WriteFault::Failed),
+    for _ in 0..TRIES {
+        match writer.flush() {
+            Ok(()) => return Ok(()),
+            Err(error) if error.kind() == ErrorKind::Interrupted => {}
+            Err(_) => return Err(WriteFault::Failed),
+        }
     }
+    Err(WriteFault::Failed)
 }

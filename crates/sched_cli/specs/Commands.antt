@@ -1,5 +1,5 @@
 -- What the commands write, and the statuses that they end with.
-use Rattle.std.specs.Prelude.{◌≡◌, ◌⊎◌, ℕ, ℤ, Bool, true, if◌then◌else◌, ◌==◌, ◌≤◌, List, ◌++◌, take, codes, decimal, Option, Result, Ok, Err}
+use Rattle.std.specs.Prelude.{◌≡◌, ◌⊎◌, ℕ, ℤ, Bool, true, if◌then◌else◌, ◌==◌, ◌≤◌, List, ◌++◌, take, codes, decimal, Contains, Option, IfSome, Result, Ok, Err}
 use Rattle.std.specs.Io.KnownBytes.{Appends, Keeps}
 use Rattle.profile.specs.Calendars.{CertificateHolds}
 use Rattle.clash_check.specs.Verdicts.{IsRefusedCalendar, IsJudgement}
@@ -7,8 +7,8 @@ use Rattle.clash_check.specs.declared.verdict.Checked.{Checked}
 use Rattle.clash_check.specs.declared.verdict.Verdict.{Verdict}
 use Rattle.clash_check.specs.declared.verdict.Verdict.TheVariants.{Yes, No}
 use Rattle.clash_check.specs.declared.verdict.Why.{Why}
-use Rattle.sched_box.specs.Preamble.{Opens}
-use Rattle.sched_box.specs.Serving.{Ends, ServesStream, KeepsTexts}
+use Rattle.sched_box.specs.Preamble.{Opens, OpensNot}
+use Rattle.sched_box.specs.Serving.{Ends, HasRead, ServesStream, KeepsTexts}
 use Rattle.sched_box.specs.declared.fault.ServeFault.TheVariants.{Read, Write, TooLong, Memory}
 use Rattle.sched_box.specs.declared.fault.StreamFault.{StreamFault}
 use Rattle.sched_box.specs.declared.fault.StreamFault.TheVariants.{Refused, Serve}
@@ -106,6 +106,25 @@ pub record KeepsBoth (input left : Option (List ℕ)) (room calendar certificate
   pub opens : Opens input rest moment rooms
   pub keeps : KeepsTexts moment rooms rest left room calendar certificate
   pub passes : CertificateHolds room calendar certificate
+
+-- why nothing is kept of input that is refused or too long: no preamble stands at its front; or the box that it names doesn't host the
+-- room; or so many octets were read behind it
+abbrev pub KeepsNone : Option (List ℕ) → Option (List ℕ) → List ℕ → StreamFault → Type 0
+KeepsNone input left room (Refused refusal) =
+    (refusal.number ≡ 90) × (IfSome input OpensNot ⊎ ((moment : ℤ) × (rooms : List (List ℕ)) × (rest : Option (List ℕ)) × Opens input rest moment rooms
+    × (Contains rooms room → ⊥)))
+KeepsNone input left room (Serve TooLong) =
+    (moment : ℤ) × (rooms : List (List ℕ)) × (rest : Option (List ℕ)) × Opens input rest moment rooms × HasRead 1_073_741_824 rest left
+KeepsNone input left room (Serve Read) = Unit {0}
+KeepsNone input left room (Serve Write) = Unit {0}
+KeepsNone input left room (Serve Memory) = Unit {0}
+
+-- and that was said
+pub record RefusesToKeep (room : List ℕ) (input left old new : Option (List ℕ)) : Type 0 where
+  pub fault : StreamFault
+  pub status : fault_status fault ≡ 3
+  pub none : KeepsNone input left room fault
+  pub said : Says (fault_text fault) old new
 
 -- the one that was asked for was written, whole
 pub record WritesKept (kept : Kept) (room : List ℕ) (ends : Ends) : Type 0 where

@@ -1,12 +1,12 @@
 //! What each command does, and the status that it ends with.
 
-ghost use Rattle.std.specs.Prelude.{◌≡◌, ◌≤◌, ◌++◌, ◌⊎◌, true, false, IfOk, IfErr, OnOk};
+ghost use Rattle.std.specs.Prelude.{◌≡◌, ◌≤◌, ◌++◌, ◌⊎◌, false, IfOk, IfErr, OnOk};
 ghost use Rattle.std.specs.Io.KnownBytes.{Appends};
 ghost use Rattle.profile.specs.Calendars.{CertificateHolds};
 ghost use Rattle.ical_values.specs.Octets.{address_octets};
-ghost use Rattle.sched_box.specs.Faults.{RefusesPreamble, StreamStopsFor};
+ghost use Rattle.sched_box.specs.Faults.{StreamStopsFor};
 ghost use Rattle.sched_box.specs.Output.{WriteStopsFor};
-ghost use Rattle.sched_cli.specs.Commands.{BlamesDevice, IsSaid, Says, ServesWith, WritesKept, KeepsBoth, WritesVerdict, refused_text, too_long_text, verdict_line, verdict_status, no_line};
+ghost use Rattle.sched_cli.specs.Commands.{BlamesDevice, IsSaid, ServesWith, WritesKept, KeepsBoth, KeepsNone, RefusesToKeep, WritesVerdict, verdict_line, verdict_status, no_line};
 
 use crate::status::{DONE, NO, report_memory, report_stream, report_write};
 use clash_check::{Checked, Verdict, Why, check};
@@ -51,7 +51,7 @@ pub fn run_keep<R: Input, W: Output, E: Output>(
     ensures device { BlamesDevice (R.has_failed reader.new) (W.has_failed writer.new) result }
     ensures status { (result ≡ 0) ⊎ (result ≡ 3) ⊎ (result ≡ 4) ⊎ (result ≡ 5) }
     ensures said { IsSaid result (E.contents errors.old) (E.contents errors.new) }
-    ensures refused { result ≡ 3 → Says (refused_text 90) (E.contents errors.old) (E.contents errors.new) ⊎ Says too_long_text (E.contents errors.old) (E.contents errors.new) }
+    ensures refused { result ≡ 3 → RefusesToKeep (address_octets room.now) (R.remaining reader.old) (R.remaining reader.new) (E.contents errors.old) (E.contents errors.new) }
     ensures kept { result ≡ 0 → WritesKept kept (address_octets room.now)
         (record { input = R.remaining reader.old; left = R.remaining reader.new; output = W.contents writer.old; written = W.contents writer.new }) }
 {
@@ -74,7 +74,7 @@ fn keep_stream<R: Input>(
     reader: &mut R,
 ) -> Result<(Vec<u8>, Vec<u8>), StreamFault>
     ensures cause { IfErr result (StreamStopsFor (R.has_failed reader.new) false) }
-    ensures refuses { IfErr result RefusesPreamble }
+    ensures none { IfErr result (KeepsNone (R.remaining reader.old) (R.remaining reader.new) (address_octets room.now)) }
     ensures keeps { IfOk result (λ kept. KeepsBoth (R.remaining reader.old) (R.remaining reader.new) (address_octets room.now) kept.0.items kept.1.items) }
 {
     let (config, now) = read_preamble(alloc, reader)?;

@@ -1,0 +1,18 @@
+use Rattle.ical_values.specs.Octets.{address_octets}
+use Rattle.ical_values.proofs.Exits.{err_exit}
+use Rattle.sched_cli.specs.Commands.{KeepsNone}
+use Rattle.sched_cli.proofs.Keeping.{unopened, unkept}
+use Rattle.sched_cli.proofs.commands.keep_stream.Goals as goal
+
+pub returns-in_err-config-clause-none : goal.returns-in_err-config-clause-none
+returns-in_err-config-clause-none g c =
+    let input = g.R.Input.remaining c.args.reader.now in
+    let left = g.R.Input.remaining c.read_preamble.new.reader in
+    let room = address_octets c.args.room.now in
+    err_exit _ (KeepsNone input left room) _ c.from_residual.ensures.1
+    (unopened input left room _ c.in_err-config.ensures.refuses c.in_err-config.ensures.faults c.in_err-config.ensures.none)
+
+pub returns-clause-none : goal.returns-clause-none
+returns-clause-none g c =
+    unkept c.keep.result (g.R.Input.remaining c.args.reader.now) _ (g.R.Input.remaining c.keep.new.reader) (address_octets c.args.room.now) _ _
+    c.in_ok-config.ensures.opens c.keep.ensures.refuses c.keep.ensures.none c.keep.ensures.bound
