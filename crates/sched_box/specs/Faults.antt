@@ -11,6 +11,11 @@ abbrev pub RefusesPreamble : StreamFault → Type 0
 RefusesPreamble (Refused r) = r.number ≡ 90
 RefusesPreamble (Serve fault) = Unit {0}
 
+-- it is refused, and no fault of a stream
+abbrev pub IsRefusal : StreamFault → Type 0
+IsRefusal (Refused r) = Unit {0}
+IsRefusal (Serve fault) = ⊥
+
 -- the fact holds where it is refused
 abbrev pub IfRefusedStream : Type 0 → StreamFault → Type 0
 IfRefusedStream P (Refused r) = P

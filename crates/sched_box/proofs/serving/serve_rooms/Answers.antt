@@ -49,10 +49,12 @@ loop-answers-preserved g c =
     let sent = c.as_slice.result.now in
     let one = c.in_ok-refused.refused in
     let reads = subst (ReadsObject b d before after) c.if-branch.true c.in_ok-next_object.ensures.reads in
-    let answers = answered_from c.args.now number after.octets.items c.octets.result.now news newer c.clear.new.self.items c.take.new.answers.items sent one c.clear.ensures.items c.as_slice.ensures.value c.octets.ensures c.in_ok-refused.ensures.answers in
-    (served_more c.args.now olds news newer (g.R.Input.remaining c.args.reader.now) b d (g.W.Output.contents c.args.writer.now) (g.W.Output.contents c.loop-answers.writer) (g.W.Output.contents c.send.new.writer) before after c.loop-answers.report _ number one sent
-    c.loop-answers.invariant.0 reads refl answers c.in_ok-refused.ensures.count c.in_ok-refused.ensures.addresses c.in_ok-send.ensures.written refl refl,
-    c.in_ok-next_object.ensures.mark ∙ c.loop-answers.invariant.1, c.in_ok-send.ensures.sent ∙ c.loop-answers.invariant.2)
+    let answers = answered_from c.args.now number after.octets.items c.octets.result.now news newer c.clear.new.self.items c.take.new.answers.items sent one c.clear.ensures.items c.as_slice.ensures.value c.octets.ensures c.in_ok-refused.ensures.answers in (
+      served_more c.args.now olds news newer (g.R.Input.remaining c.args.reader.now) b d (g.W.Output.contents c.args.writer.now) (g.W.Output.contents c.loop-answers.writer) (g.W.Output.contents c.send.new.writer) before after c.loop-answers.report _ number one sent
+          c.loop-answers.invariant.0 reads refl answers c.in_ok-refused.ensures.count c.in_ok-refused.ensures.addresses c.in_ok-send.ensures.written refl refl,
+      c.in_ok-next_object.ensures.mark ∙ c.loop-answers.invariant.1,
+      c.in_ok-send.ensures.sent ∙ c.loop-answers.invariant.2,
+    )
 
 pub returns-clause-serves : goal.returns-clause-serves
 returns-clause-serves g c =
