@@ -16,6 +16,11 @@ abbrev pub WriteStopsFor : Bool → WriteFault → Type 0
 WriteStopsFor failed Failed = failed ≡ true
 WriteStopsFor failed Memory = Unit {0}
 
+-- where memory was refused the mark is as before
+abbrev pub KeepsButFailed : Bool → Bool → WriteFault → Type 0
+KeepsButFailed before after Failed = Unit {0}
+KeepsButFailed before after Memory = after ≡ before
+
 -- the same of answers, of which there are some
 abbrev pub StopsSending : Option (List ℕ) → Option (List ℕ) → Bool → List ℕ → ServeFault → Type 0
 StopsSending old new failed octets Write = (failed ≡ true) × (0 < length octets) × ((n : ℕ) × Appends old new (take n octets))

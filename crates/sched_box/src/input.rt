@@ -1,9 +1,9 @@
 //! Where octets are read from: octets in memory, or a device that may fail.
 
-ghost use Rattle.std.specs.Prelude.{◌≡◌, ◌≤◌, ℕ, List, [], Option, Some, None, Bool, true, false, length, take, IfSome, OnSome, IfOk, IfErr, OnOk, OnErr};
+ghost use Rattle.std.specs.Prelude.{◌≡◌, ◌<◌, ◌≤◌, ℕ, List, [], Option, Some, None, Bool, true, false, length, take, IfSome, OnSome, IfOk, IfErr, OnOk, OnErr};
 ghost use Rattle.std.specs.Io.KnownBytes.{Consumes, IsAtEnd, Keeps};
 ghost use Rattle.std.specs.Io.{StartsWith};
-ghost use Rattle.std.specs.Io.Buffered.{reader_buffer, reader_inner, reader_remaining};
+ghost use Rattle.std.specs.Io.Buffered.{reader_buffer, reader_capacity, reader_inner, reader_remaining};
 
 use std::alloc::Global;
 use std::io::{self, BufRead, BufReader, ErrorKind, Read};
@@ -76,6 +76,7 @@ impl<R: Read + Drop> DeviceReader<R> {
         ensures mark { IfOk result (λ reader. reader.failed ≡ false) }
         ensures device { IfOk result (λ reader. reader_inner reader.reader ≡ device) }
         ensures nothing { IfOk result (λ reader. reader_buffer reader.reader ≡ []) }
+        ensures capacity { IfOk result (λ reader. reader_capacity reader.reader ≡ 8_192) }
     {
         let reader = BufReader::new(alloc, device)?;
         Ok(DeviceReader {
@@ -84,13 +85,15 @@ impl<R: Read + Drop> DeviceReader<R> {
         })
     }
 
-    /// The same, with a buffer of so many octets.
+    /// The same, with a buffer of so many octets, at least one: a buffer of none would show nothing of the device.
     pub fn with_capacity(alloc: Global, capacity: usize, device: R) -> io::Result<DeviceReader<R>>
         ensures mark { IfOk result (λ reader. reader.failed ≡ false) }
         ensures device { IfOk result (λ reader. reader_inner reader.reader ≡ device) }
         ensures nothing { IfOk result (λ reader. reader_buffer reader.reader ≡ []) }
+        ensures capacity { IfOk result (λ reader. 0 < capacity → reader_capacity reader.reader ≡ capacity) }
+        ensures some { IfOk result (λ reader. 0 < reader_capacity reader.reader) }
     {
-        let reader = BufReader::with_capacity(alloc, capacity, device)?;
+        let reader = BufReader::with_capacity(alloc, capacity.max(1), device)?;
         Ok(DeviceReader {
             reader,
             failed: false,

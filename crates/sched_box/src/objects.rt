@@ -3,7 +3,7 @@
 ghost use Rattle.std.specs.Prelude.{◌≡◌, ◌≤◌, ◌<◌, ◌+◌, ◌-◌, ◌++◌, [], true, false, length, take, nat_lt, slice_index, if◌then◌else◌, IfOk, IfErr, OnOk, OnErr};
 ghost use Rattle.std.specs.Io.KnownBytes.{Keeps};
 ghost use Rattle.ical_lines.specs.Cut.{ends_before};
-ghost use Rattle.sched_box.specs.Faults.{StopsFor};
+ghost use Rattle.sched_box.specs.Faults.{KeepsButRead, StopsFor};
 ghost use Rattle.sched_box.specs.Objects.{Cuts, IsPieceFault, ReadsObject, StopsReading, TakesPiece, piece_of};
 
 use crate::fault::ServeFault;
@@ -39,7 +39,8 @@ enum Piece {
 impl Objects {
     /// A stream from which nothing is read yet; 1,073,741,824 octets may be read of it.
     pub fn new(alloc: Global) -> Objects
-        ensures { result.left ≡ MOST_OCTETS }
+        ensures left { result.left ≡ MOST_OCTETS }
+        ensures nothing { result.octets.items ≡ [] }
     {
         Objects {
             left: MOST_OCTETS,
@@ -60,6 +61,8 @@ impl Objects {
         ensures reads { IfOk result (ReadsObject (R.remaining reader.old) (R.remaining reader.new) self.old self.new) }
         ensures stops { IfErr result (StopsReading (R.remaining reader.old) (R.remaining reader.new) self.old self.new) }
         ensures cause { IfErr result (StopsFor (R.has_failed reader.new) false) }
+        ensures mark { OnOk result (R.has_failed reader.new ≡ R.has_failed reader.old) }
+        ensures told { IfErr result (KeepsButRead (R.has_failed reader.old) (R.has_failed reader.new)) }
     {
         self.octets.clear();
         let mut cutter = Cutter::new();
@@ -85,6 +88,8 @@ impl Objects {
         ensures keeps { OnErr result (Keeps (R.remaining reader.old) (R.remaining reader.new)) }
         ensures faults { IfErr result IsPieceFault }
         ensures cause { IfErr result (StopsFor (R.has_failed reader.new) false) }
+        ensures mark { OnOk result (R.has_failed reader.new ≡ R.has_failed reader.old) }
+        ensures told { IfErr result (KeepsButRead (R.has_failed reader.old) (R.has_failed reader.new)) }
     {
         let Ok(()) = reader.fill() else {
             return Err(ServeFault::Read);

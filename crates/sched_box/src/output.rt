@@ -2,7 +2,7 @@
 
 ghost use Rattle.std.specs.Prelude.{◌≡◌, ◌≤◌, ◌<◌, ℕ, List, Option, Some, None, Bool, true, false, length, take, IfOk, IfErr, OnOk, OnErr};
 ghost use Rattle.std.specs.Io.KnownBytes.{Appends, Keeps};
-ghost use Rattle.sched_box.specs.Output.{StopsWriting};
+ghost use Rattle.sched_box.specs.Output.{KeepsButFailed, StopsWriting};
 ghost use Rattle.sched_box.specs.declared.output.WriteFault.TheVariants as fault;
 
 use crate::input::TRIES;
@@ -38,7 +38,8 @@ pub trait Output {
     fn put(&mut self, octets: &[u8]) -> Result<(), WriteFault>
         ensures written { OnOk result (Appends (Self.contents self.old) (Self.contents self.new) octets.now) }
         ensures stops { IfErr result (StopsWriting (Self.contents self.old) (Self.contents self.new) (Self.has_failed self.new) octets.now) }
-        ensures mark { OnOk result (Self.has_failed self.new ≡ Self.has_failed self.old) };
+        ensures mark { OnOk result (Self.has_failed self.new ≡ Self.has_failed self.old) }
+        ensures told { IfErr result (KeepsButFailed (Self.has_failed self.old) (Self.has_failed self.new)) };
 }
 
 /// A list of octets never fails; memory may be refused.

@@ -1,9 +1,9 @@
 //! The preamble of a stream: its lines are taken from the reader up to the empty one, and nothing after it.
 
-ghost use Rattle.std.specs.Prelude.{◌≡◌, ◌≤◌, ◌<◌, ◌++◌, ℕ, List, length, nat_lt, ◌&&◌, not, take, true, false, IfOk, IfErr, IfSome, OnErr};
+ghost use Rattle.std.specs.Prelude.{◌≡◌, ◌≤◌, ◌<◌, ◌++◌, ℕ, List, length, nat_lt, ◌&&◌, not, take, true, false, IfOk, IfErr, IfSome, OnOk, OnErr};
 ghost use Rattle.std.specs.Io.KnownBytes.{Keeps};
 ghost use Rattle.sched_box.specs.Config.{config_rooms};
-ghost use Rattle.sched_box.specs.Faults.{IfRefusedStream, IsReadFault, RefusesPreamble, StopsFor, StreamStopsFor};
+ghost use Rattle.sched_box.specs.Faults.{IfRefusedStream, IsReadFault, KeepsButRead, RefusesPreamble, StopsFor, StreamKeepsButRead, StreamStopsFor};
 ghost use Rattle.sched_box.specs.Objects.{IsPieceFault};
 ghost use Rattle.sched_box.specs.Preamble.{IsLong, Leads, Opens, OpensNot, StopsInPreamble, TakesPiece, TakesPreamble, is_closed, next_place};
 ghost use Rattle.sched_box.specs.declared.preamble.Place.TheVariants.{Inside};
@@ -26,6 +26,8 @@ pub fn read_preamble<R: Input>(
     ensures refuses { IfErr result RefusesPreamble }
     ensures faults { IfErr result IsReadFault }
     ensures cause { IfErr result (StreamStopsFor (R.has_failed reader.new) false) }
+    ensures mark { OnOk result (R.has_failed reader.new ≡ R.has_failed reader.old) }
+    ensures told { IfErr result (StreamKeepsButRead (R.has_failed reader.old) (R.has_failed reader.new)) }
     ensures none { IfErr result (IfRefusedStream (IfSome (R.remaining reader.old) OpensNot)) }
     ensures stops { OnErr result (StopsInPreamble (R.remaining reader.old) (R.remaining reader.new)) }
 {
@@ -44,6 +46,8 @@ fn take_preamble<R: Input>(alloc: Global, reader: &mut R) -> Result<Vec<u8>, Str
     ensures refuses { IfErr result RefusesPreamble }
     ensures faults { IfErr result IsReadFault }
     ensures cause { IfErr result (StreamStopsFor (R.has_failed reader.new) false) }
+    ensures mark { OnOk result (R.has_failed reader.new ≡ R.has_failed reader.old) }
+    ensures told { IfErr result (StreamKeepsButRead (R.has_failed reader.old) (R.has_failed reader.new)) }
     ensures none { IfErr result (IfRefusedStream (IfSome (R.remaining reader.old) IsLong)) }
     ensures stops { OnErr result (StopsInPreamble (R.remaining reader.old) (R.remaining reader.new)) }
 {
@@ -68,6 +72,8 @@ fn take_piece<R: Input>(
         × TakesPiece (R.remaining reader.old) (R.remaining reader.new) place.old place.new taken goes) }
     ensures faults { IfErr result IsPieceFault }
     ensures cause { IfErr result (StopsFor (R.has_failed reader.new) false) }
+    ensures mark { OnOk result (R.has_failed reader.new ≡ R.has_failed reader.old) }
+    ensures told { IfErr result (KeepsButRead (R.has_failed reader.old) (R.has_failed reader.new)) }
     ensures keeps { OnErr result (Keeps (R.remaining reader.old) (R.remaining reader.new)) }
 {
     let Ok(()) = reader.fill() else {

@@ -1,13 +1,14 @@
 //! Serving: each object goes to the rooms that it is addressed to, and what they answer is written.
 
 ghost use Rattle.std.specs.Prelude.{◌≡◌, ◌≤◌, ℕ, List, Option, Bool, Contains, false, IfErr, IfOk, OnOk};
-ghost use Rattle.std.specs.Io.KnownBytes.{Appends};
+ghost use Rattle.std.specs.Io.KnownBytes.{Appends, Keeps};
+ghost use Rattle.std.specs.Result.{IsErrAnd};
 ghost use Rattle.ical_values.specs.Octets.{address_octets};
 ghost use Rattle.profile.specs.Calendars.{CertificateHolds};
 ghost use Rattle.profile.specs.Streams.{Hosted, new_box};
 ghost use Rattle.sched_box.specs.Answering.{AreHosted, room_addresses};
 ghost use Rattle.sched_box.specs.Config.{config_rooms};
-ghost use Rattle.sched_box.specs.Faults.{IfRefusedStream, RefusesPreamble, StopsFor, StreamStopsFor};
+ghost use Rattle.sched_box.specs.Faults.{IfRefusedStream, IsRefusal, KeepsButRead, KeepsButWrite, RefusesPreamble, StopsFor, StreamKeepsButRead, StreamKeepsButWrite, StreamStopsFor};
 ghost use Rattle.sched_box.specs.Output.{StopsSending};
 ghost use Rattle.sched_box.specs.Serving.{AnswersWhole, KeepsTexts, RoomsServe, Serves, ServesStream, StopsKeeping};
 
@@ -39,6 +40,10 @@ pub fn serve_stream<R: Input, W: Output>(
     ensures counts { IfOk result (λ report. report.refused ≤ report.objects) }
     ensures refuses { IfErr result RefusesPreamble }
     ensures cause { IfErr result (StreamStopsFor (R.has_failed reader.new) (W.has_failed writer.new)) }
+    ensures mark { OnOk result (R.has_failed reader.new ≡ R.has_failed reader.old) }
+    ensures told { IfErr result (StreamKeepsButRead (R.has_failed reader.old) (R.has_failed reader.new)) }
+    ensures sent { OnOk result (W.has_failed writer.new ≡ W.has_failed writer.old) }
+    ensures unsent { IfErr result (StreamKeepsButWrite (W.has_failed writer.old) (W.has_failed writer.new)) }
     ensures serves { ServesStream (record { input = R.remaining reader.old; left = R.remaining reader.new; output = W.contents writer.old; written = W.contents writer.new }) result }
     ensures whole { OnOk result (AnswersWhole (record { input = R.remaining reader.old; left = R.remaining reader.new; output = W.contents writer.old; written = W.contents writer.new })) }
 {
@@ -59,6 +64,10 @@ pub fn serve<R: Input, W: Output>(
 ) -> Result<ServeReport, ServeFault>
     ensures counts { IfOk result (λ report. report.refused ≤ report.objects) }
     ensures cause { IfErr result (StopsFor (R.has_failed reader.new) (W.has_failed writer.new)) }
+    ensures mark { OnOk result (R.has_failed reader.new ≡ R.has_failed reader.old) }
+    ensures told { IfErr result (KeepsButRead (R.has_failed reader.old) (R.has_failed reader.new)) }
+    ensures sent { OnOk result (W.has_failed writer.new ≡ W.has_failed writer.old) }
+    ensures unsent { IfErr result (KeepsButWrite (W.has_failed writer.old) (W.has_failed writer.new)) }
     ensures serves { Serves now (new_box (config_rooms config.now))
         (record { input = R.remaining reader.old; left = R.remaining reader.new; output = W.contents writer.old; written = W.contents writer.new }) result }
 {
@@ -67,7 +76,7 @@ pub fn serve<R: Input, W: Output>(
 }
 
 /// What a room keeps after the same objects: its calendar and its certificate, for which the checker says yes.
-/// Refused: 90 where the box doesn't host the room. `TooLong` comes only after 1,073,741,824 octets.
+/// Refused: 90 where the box doesn't host the room, before anything is read. `TooLong` comes only after 1,073,741,824 octets.
 pub fn keep<R: Input>(
     alloc: Global,
     config: &Config,
@@ -79,12 +88,36 @@ pub fn keep<R: Input>(
     ensures passes { IfOk result (λ kept. CertificateHolds (address_octets room.now) kept.0.items kept.1.items) }
     ensures refuses { IfErr result RefusesPreamble }
     ensures cause { IfErr result (StreamStopsFor (R.has_failed reader.new) false) }
+    ensures mark { OnOk result (R.has_failed reader.new ≡ R.has_failed reader.old) }
+    ensures told { IfErr result (StreamKeepsButRead (R.has_failed reader.old) (R.has_failed reader.new)) }
     ensures none { IfErr result (IfRefusedStream (Contains (config_rooms config.now) (address_octets room.now) → ⊥)) }
     ensures bound { IfErr result (StopsKeeping (R.remaining reader.old) (R.remaining reader.new)) }
+    ensures unhosted { (Contains (config_rooms config.now) (address_octets room.now) → ⊥)
+        → IsErrAnd result IsRefusal × Keeps (R.remaining reader.old) (R.remaining reader.new) }
 {
     if !config.has_room(room) {
         return Err(not_hosted());
     }
+    keep_hosted(alloc, config, reader, now, room)
+}
+
+/// The same of a room that the box hosts.
+fn keep_hosted<R: Input>(
+    alloc: Global,
+    config: &Config,
+    reader: &mut R,
+    now: Stamp,
+    room: &Address,
+) -> Result<(Vec<u8>, Vec<u8>), StreamFault>
+    ensures keeps { IfOk result (λ kept. KeepsTexts now (config_rooms config.now) (R.remaining reader.old) (R.remaining reader.new) (address_octets room.now) kept.0.items kept.1.items) }
+    ensures passes { IfOk result (λ kept. CertificateHolds (address_octets room.now) kept.0.items kept.1.items) }
+    ensures refuses { IfErr result RefusesPreamble }
+    ensures cause { IfErr result (StreamStopsFor (R.has_failed reader.new) false) }
+    ensures mark { OnOk result (R.has_failed reader.new ≡ R.has_failed reader.old) }
+    ensures told { IfErr result (StreamKeepsButRead (R.has_failed reader.old) (R.has_failed reader.new)) }
+    ensures none { IfErr result (IfRefusedStream (Contains (config_rooms config.now) (address_octets room.now) → ⊥)) }
+    ensures bound { IfErr result (StopsKeeping (R.remaining reader.old) (R.remaining reader.new)) }
+{
     let mut rooms = Rooms::new(alloc, config)?;
     let mut nowhere = Nowhere;
     serve_rooms(alloc, &mut rooms, reader, &mut nowhere, now)?;
@@ -101,6 +134,8 @@ pub fn keep<R: Input>(
 fn not_hosted() -> StreamFault
     ensures refuses { RefusesPreamble result }
     ensures cause { (reader writer : Bool) → StreamStopsFor reader writer result }
+    ensures told { (reader : Bool) → StreamKeepsButRead reader reader result }
+    ensures refusal { IsRefusal result }
     ensures bound { (input left : Option (List ℕ)) → StopsKeeping input left result }
 {
     StreamFault::Refused(Refusal::BAD_PREAMBLE)
@@ -117,6 +152,10 @@ fn serve_rooms<R: Input, W: Output>(
     ensures counts { IfOk result (λ report. report.refused ≤ report.objects) }
     ensures addresses { OnOk result (room_addresses rooms.new.rooms.items ≡ room_addresses rooms.old.rooms.items) }
     ensures cause { IfErr result (StopsFor (R.has_failed reader.new) (W.has_failed writer.new)) }
+    ensures mark { OnOk result (R.has_failed reader.new ≡ R.has_failed reader.old) }
+    ensures told { IfErr result (KeepsButRead (R.has_failed reader.old) (R.has_failed reader.new)) }
+    ensures sent { OnOk result (W.has_failed writer.new ≡ W.has_failed writer.old) }
+    ensures unsent { IfErr result (KeepsButWrite (W.has_failed writer.old) (W.has_failed writer.new)) }
     ensures serves { (before : List Hosted) → AreHosted rooms.old.rooms.items before → RoomsServe now before rooms.new.rooms.items
         (record { input = R.remaining reader.old; left = R.remaining reader.new; output = W.contents writer.old; written = W.contents writer.new }) result }
 {
@@ -143,6 +182,8 @@ fn serve_rooms<R: Input, W: Output>(
 fn send<W: Output>(writer: &mut W, answers: &[u8]) -> Result<(), ServeFault>
     ensures written { OnOk result (Appends (W.contents writer.old) (W.contents writer.new) answers.now) }
     ensures stops { IfErr result (StopsSending (W.contents writer.old) (W.contents writer.new) (W.has_failed writer.new) answers.now) }
+    ensures sent { OnOk result (W.has_failed writer.new ≡ W.has_failed writer.old) }
+    ensures unsent { IfErr result (KeepsButWrite (W.has_failed writer.old) (W.has_failed writer.new)) }
 {
     if answers.is_empty() {
         return Ok(());

@@ -74,6 +74,10 @@ write_text write.Memory = memory_text
 abbrev pub BlamesDevice : Bool → Bool → ℕ → Type 0
 BlamesDevice reader writer status = status ≡ 4 → (reader ≡ true) ⊎ (writer ≡ true)
 
+-- and one that failed is told: with another status their marks are as before
+abbrev pub TellsDevice : ℕ → Bool → Bool → Bool → Bool → Type 0
+TellsDevice status reader_before reader writer_before writer = (status ≡ 4 → ⊥) → (reader ≡ reader_before) × (writer ≡ writer_before)
+
 -- 0 where all objects were served
 abbrev pub stream_status : Result ServeReport StreamFault → ℕ
 stream_status (Ok report) = 0

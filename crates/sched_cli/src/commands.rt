@@ -1,12 +1,12 @@
 //! What each command does, and the status that it ends with.
 
 ghost use Rattle.std.specs.Prelude.{◌≡◌, ◌≤◌, ◌++◌, ◌⊎◌, false, IfOk, IfErr, OnOk};
-ghost use Rattle.std.specs.Io.KnownBytes.{Appends};
+ghost use Rattle.std.specs.Io.KnownBytes.{Appends, Keeps};
 ghost use Rattle.profile.specs.Calendars.{CertificateHolds};
 ghost use Rattle.ical_values.specs.Octets.{address_octets};
-ghost use Rattle.sched_box.specs.Faults.{StreamStopsFor};
-ghost use Rattle.sched_box.specs.Output.{WriteStopsFor};
-ghost use Rattle.sched_cli.specs.Commands.{BlamesDevice, IsSaid, ServesWith, WritesKept, KeepsBoth, KeepsNone, RefusesToKeep, WritesVerdict, verdict_line, verdict_status, no_line};
+ghost use Rattle.sched_box.specs.Faults.{StreamKeepsButRead, StreamStopsFor};
+ghost use Rattle.sched_box.specs.Output.{KeepsButFailed, WriteStopsFor};
+ghost use Rattle.sched_cli.specs.Commands.{BlamesDevice, IsSaid, ServesWith, WritesKept, KeepsBoth, KeepsNone, RefusesToKeep, TellsDevice, WritesVerdict, verdict_line, verdict_status, no_line};
 
 use crate::status::{DONE, NO, report_memory, report_stream, report_write};
 use clash_check::{Checked, Verdict, Why, check};
@@ -30,6 +30,7 @@ pub fn run_serve<R: Input, W: Output, E: Output>(
     errors: &mut E,
 ) -> u8
     ensures device { BlamesDevice (R.has_failed reader.new) (W.has_failed writer.new) result }
+    ensures told { TellsDevice result (R.has_failed reader.old) (R.has_failed reader.new) (W.has_failed writer.old) (W.has_failed writer.new) }
     ensures serves { ServesWith result (record { input = R.remaining reader.old; left = R.remaining reader.new; output = W.contents writer.old; written = W.contents writer.new })
         (E.contents errors.old) (E.contents errors.new) }
 {
@@ -49,8 +50,10 @@ pub fn run_keep<R: Input, W: Output, E: Output>(
     errors: &mut E,
 ) -> u8
     ensures device { BlamesDevice (R.has_failed reader.new) (W.has_failed writer.new) result }
+    ensures told { TellsDevice result (R.has_failed reader.old) (R.has_failed reader.new) (W.has_failed writer.old) (W.has_failed writer.new) }
     ensures status { (result ≡ 0) ⊎ (result ≡ 3) ⊎ (result ≡ 4) ⊎ (result ≡ 5) }
     ensures said { IsSaid result (E.contents errors.old) (E.contents errors.new) }
+    ensures unwritten { result ≡ 3 → Keeps (W.contents writer.old) (W.contents writer.new) }
     ensures refused { result ≡ 3 → RefusesToKeep (address_octets room.now) (R.remaining reader.old) (R.remaining reader.new) (E.contents errors.old) (E.contents errors.new) }
     ensures kept { result ≡ 0 → WritesKept kept (address_octets room.now)
         (record { input = R.remaining reader.old; left = R.remaining reader.new; output = W.contents writer.old; written = W.contents writer.new }) }
@@ -74,6 +77,8 @@ fn keep_stream<R: Input>(
     reader: &mut R,
 ) -> Result<(Vec<u8>, Vec<u8>), StreamFault>
     ensures cause { IfErr result (StreamStopsFor (R.has_failed reader.new) false) }
+    ensures mark { OnOk result (R.has_failed reader.new ≡ R.has_failed reader.old) }
+    ensures told { IfErr result (StreamKeepsButRead (R.has_failed reader.old) (R.has_failed reader.new)) }
     ensures none { IfErr result (KeepsNone (R.remaining reader.old) (R.remaining reader.new) (address_octets room.now)) }
     ensures keeps { IfOk result (λ kept. KeepsBoth (R.remaining reader.old) (R.remaining reader.new) (address_octets room.now) kept.0.items kept.1.items) }
 {
@@ -85,6 +90,7 @@ fn keep_stream<R: Input>(
 fn write_out<W: Output, E: Output>(writer: &mut W, errors: &mut E, octets: &[u8]) -> u8
     ensures written { result ≡ 0 → Appends (W.contents writer.old) (W.contents writer.new) octets.now }
     ensures device { BlamesDevice false (W.has_failed writer.new) result }
+    ensures told { TellsDevice result false false (W.has_failed writer.old) (W.has_failed writer.new) }
     ensures status { (result ≡ 0) ⊎ (result ≡ 4) ⊎ (result ≡ 5) }
     ensures said { IsSaid result (E.contents errors.old) (E.contents errors.new) }
 {
@@ -108,6 +114,7 @@ pub fn run_check<W: Output, E: Output>(
     ensures no { result ≡ 1 → CertificateHolds (address_octets room.now) calendar.now certificate.now → ⊥ }
     ensures answers { result ≤ 1 → WritesVerdict result (address_octets room.now) calendar.now certificate.now (W.contents writer.old) (W.contents writer.new) }
     ensures device { BlamesDevice false (W.has_failed writer.new) result }
+    ensures told { TellsDevice result false false (W.has_failed writer.old) (W.has_failed writer.new) }
     ensures status { (result ≤ 1) ⊎ (result ≡ 4) ⊎ (result ≡ 5) }
     ensures said { IsSaid result (E.contents errors.old) (E.contents errors.new) }
 {
@@ -140,6 +147,8 @@ fn print_verdict<W: Output>(
 ) -> Result<(), WriteFault>
     ensures line { OnOk result (Appends (W.contents writer.old) (W.contents writer.new) (verdict_line checked.verdict)) }
     ensures cause { IfErr result (WriteStopsFor (W.has_failed writer.new)) }
+    ensures mark { OnOk result (W.has_failed writer.new ≡ W.has_failed writer.old) }
+    ensures told { IfErr result (KeepsButFailed (W.has_failed writer.old) (W.has_failed writer.new)) }
 {
     let mut line = Vec::new(alloc);
     let Ok(()) = append_verdict(&mut line, checked.verdict) else {

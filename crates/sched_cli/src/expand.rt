@@ -1,7 +1,7 @@
 //! `expand`: the instances of one event, one line each: its original start, its start, and how many seconds it lasts.
 
 ghost use Rattle.std.specs.Prelude.{◌≡◌, ◌⊎◌, ◌++◌, ◌∷◌, ◌<◌, ℕ, List, [], decimal, Some, None, false, OnOk, IfOk, IfErr, IfSome, IfNone};
-ghost use Rattle.std.specs.Io.KnownBytes.{Appends};
+ghost use Rattle.std.specs.Io.KnownBytes.{Appends, Keeps};
 ghost use Rattle.profile.specs.Days.{day_index};
 ghost use Rattle.profile.specs.Values.{IsClockSeconds};
 ghost use Rattle.profile.specs.Rules.{rule_days_from};
@@ -28,7 +28,7 @@ use std::alloc::{AllocError, Global};
 const FULL: usize = 65_536;
 
 /// `expand`: prints the first instances of the event that an object says, at most `limit` of them, as lines `slot start seconds`
-/// by start.
+/// by start. An event without a rule has one line, whatever the limit.
 pub fn run_expand<W: Output, E: Output>(
     alloc: Global,
     octets: &[u8],
@@ -37,6 +37,7 @@ pub fn run_expand<W: Output, E: Output>(
     errors: &mut E,
 ) -> u8
     ensures expands { result ≡ 0 → ExpandsTo octets.now limit (W.contents writer.old) (W.contents writer.new) }
+    ensures unwritten { result ≡ 3 → Keeps (W.contents writer.old) (W.contents writer.new) }
     ensures refused { result ≡ 3 → (n : ℕ) × SeriesTextFault octets.now n × Says (refused_text n) (E.contents errors.old) (E.contents errors.new) }
     ensures said { IsSaid result (E.contents errors.old) (E.contents errors.new) }
     ensures device { BlamesDevice false (W.has_failed writer.new) result }

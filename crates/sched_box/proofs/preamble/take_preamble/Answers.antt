@@ -1,4 +1,4 @@
-use Rattle.std.proofs.Common.{sym, subst, arith, length-append, ap, length}
+use Rattle.std.proofs.Common.{◌∙◌, refl, sym, subst, arith, length-append, ap, length}
 use Rattle.std.proofs.lemmas.Result.{err_from_is_err_and}
 use Rattle.std.proofs.KnownBytes.{Consumes-kept, Consumes-nil, Consumes-trans}
 use Rattle.std.specs.Io.KnownBytes.{Consumes}
@@ -10,13 +10,14 @@ use Rattle.sched_box.proofs.preamble.take_preamble.Goals as goal
 pub loop-place-init : goal.loop-place-init
 loop-place-init g c =
     let none = sym c.new-octets.ensures.items in
-    (subst (Consumes _ _) none (Consumes-nil _), subst (λ o. Leads Start o Start) none (leads_none Start))
+    (subst (Consumes _ _) none (Consumes-nil _), subst (λ o. Leads Start o Start) none (leads_none Start), refl)
 
 pub loop-place-preserved : goal.loop-place-preserved
 loop-place-preserved g c =
     let (taken, is, t) = c.in_ok-take_piece.ensures.takes in (
       subst (Consumes _ _) (sym is) (Consumes-trans _ _ _ _ _ c.loop-place.invariant.0 t.consumed),
       subst (λ o. Leads Start o c.take_piece.new.place) (sym is) (leads_trans _ _ _ _ _ c.loop-place.invariant.1 t.leads),
+      c.in_ok-take_piece.ensures.mark ∙ c.loop-place.invariant.2,
     )
 
 pub loop-place-smaller : goal.loop-place-smaller

@@ -1,7 +1,7 @@
 use Rattle.ical_values.specs.Octets.{address_octets}
 use Rattle.ical_values.proofs.Exits.{err_exit}
 use Rattle.sched_cli.specs.Commands.{KeepsNone}
-use Rattle.sched_cli.proofs.Keeping.{unopened, unkept}
+use Rattle.sched_cli.proofs.Keeping.{unopened, unkept, kept_both}
 use Rattle.sched_cli.proofs.commands.keep_stream.Goals as goal
 
 pub returns-in_err-config-clause-none : goal.returns-in_err-config-clause-none
@@ -16,3 +16,8 @@ pub returns-clause-none : goal.returns-clause-none
 returns-clause-none g c =
     unkept c.keep.result (g.R.Input.remaining c.args.reader.now) _ (g.R.Input.remaining c.keep.new.reader) (address_octets c.args.room.now) _ _
     c.in_ok-config.ensures.opens c.keep.ensures.refuses c.keep.ensures.none c.keep.ensures.bound
+
+pub returns-clause-keeps : goal.returns-clause-keeps
+returns-clause-keeps g c =
+    kept_both c.keep.result (λ k. k.0.items) (λ k. k.1.items) (g.R.Input.remaining c.args.reader.now) _ (g.R.Input.remaining c.keep.new.reader)
+    (address_octets c.args.room.now) _ _ c.in_ok-config.ensures.opens c.keep.ensures.keeps c.keep.ensures.passes

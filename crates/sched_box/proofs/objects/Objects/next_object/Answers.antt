@@ -1,4 +1,4 @@
-use Rattle.std.proofs.Common.{◌++◌, subst, arith, length-append}
+use Rattle.std.proofs.Common.{◌∙◌, ◌++◌, subst, arith, length-append}
 use Rattle.std.proofs.lemmas.Result.{err_from_is_err_and}
 use Rattle.std.proofs.KnownBytes.{Consumes-trans, Consumes-kept}
 use Rattle.ical_lines.specs.Cut.{fresh}
@@ -8,7 +8,7 @@ use Rattle.sched_box.proofs.objects.Objects.next_object.Goals as goal
 
 pub returns-in_err-take_piece-clause-stops : goal.returns-in_err-take_piece-clause-stops
 returns-in_err-take_piece-clause-stops g c =
-    let (taken, consumed, kept, cuts, left) = c.loop-self.invariant in
+    let (taken, consumed, kept, cuts, left, mark) = c.loop-self.invariant in
     let p = err_from_is_err_and c.from_residual.result c.from_residual.ensures.1 in
     let same = c.in_err-take_piece.ensures.left in
     rw (p.1, p.2)
@@ -16,18 +16,19 @@ returns-in_err-take_piece-clause-stops g c =
 
 pub loop-self-preserved : goal.loop-self-preserved
 loop-self-preserved g c =
-    let (taken, consumed, kept, cuts, left) = c.loop-self.invariant in
+    let (taken, consumed, kept, cuts, left, mark) = c.loop-self.invariant in
     let t = c.in_ok-take_piece.ensures.takes in (
       taken ++ t.taken,
       Consumes-trans _ _ _ _ _ consumed t.consumed,
       kept_more 1_048_577 _ _ taken t.taken kept t.kept,
       cuts_trans fresh _ _ taken t.taken cuts t.cuts,
       (let l = t.left in omega (arith, length-append taken t.taken)),
+      c.in_ok-take_piece.ensures.mark ∙ mark,
     )
 
 pub returns-in-Ended-clause-reads : goal.returns-in-Ended-clause-reads
 returns-in-Ended-clause-reads g c =
-    let (taken, consumed, kept, cuts, left) = c.loop-self.invariant in
+    let (taken, consumed, kept, cuts, left, mark) = c.loop-self.invariant in
     let t = c.in_ok-take_piece.ensures.takes in
     let ended = subst (IsPieceEnd _ _ _ _) c.in-Ended.is t.ends in (
       taken ++ t.taken,
@@ -38,7 +39,7 @@ returns-in-Ended-clause-reads g c =
 
 pub returns-in-End-clause-reads : goal.returns-in-End-clause-reads
 returns-in-End-clause-reads g c =
-    let (taken, consumed, kept, cuts, left) = c.loop-self.invariant in
+    let (taken, consumed, kept, cuts, left, mark) = c.loop-self.invariant in
     let t = c.in_ok-take_piece.ensures.takes in
     let ended = subst (IsPieceEnd _ _ _ _) c.in-End.is t.ends in (
       taken ++ t.taken,
@@ -49,5 +50,5 @@ returns-in-End-clause-reads g c =
 
 pub returns-clause-stops : goal.returns-clause-stops
 returns-clause-stops g c =
-    let (taken, consumed, kept, cuts, left) = c.loop-self.invariant in
+    let (taken, consumed, kept, cuts, left, mark) = c.loop-self.invariant in
     stops_in _ _ taken _ consumed cuts _ _ _ left (omega arith)

@@ -8,6 +8,7 @@ abbrev pub invariant-loop-self : goal.invariant-loop-self
 invariant-loop-self g l =
     (taken : List ℕ) × Consumes (g.R.Input.remaining l.fn.reader) (g.R.Input.remaining l.reader) taken
     × (l.self.octets.items ≡ kept_of taken) × Cuts fresh taken l.cutter × (l.self.left + length taken ≡ l.fn.self.left)
+    × (g.R.Input.has_failed l.reader ≡ g.R.Input.has_failed l.fn.reader)
 
 abbrev pub decreases-loop-self : goal.decreases-loop-self
 decreases-loop-self g l = l.self.left
