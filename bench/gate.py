@@ -3,8 +3,9 @@
     python3 bench/gate.py > out/gate.tsv      # what rt ci says goes to out/gate.log
 
 A line for each kind: its name, processor seconds. Then a line for each crate: `crate`, its name, processor seconds of each kind but the
-rest; and one for each further edit: `edit`, its crate and name, processor seconds. Twice a second it reads from /proc what each prover and compiler that runs below has used, so each is short by half a second at most; what no
-sample saw, as rt itself and the programs that are run, is the line `rest`. The status is that of rt ci.
+rest; and one for each further edit: `edit`, its crate and name, processor seconds. Twice a second it reads from /proc what each prover and
+compiler that runs below has used, so each is short by half a second at most; what no sample saw, as rt itself and the programs that are
+run, is the line `rest`. The status is that of rt ci.
 """
 
 import os

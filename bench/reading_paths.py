@@ -13,7 +13,7 @@ from pathlib import Path
 from repository import ROOT
 
 SPECS = ROOT / "crates" / "profile" / "specs"
-IMPORT = re.compile(r"^use Rattle\.profile\.specs\.(\w+)\.\{([^}]*)\}", re.MULTILINE)
+IMPORT = re.compile(r"^use Rattle\.profile\.specs\.(?:\w+\.)?(\w+)\.\{([^}]*)\}", re.MULTILINE)
 # in a module with parameters a definition is indented
 DEFINED = re.compile(r"^ *(?:pub )?(?:abbrev|data|record)(?: pub)? (\w+)", re.MULTILINE)
 CONSTRUCTOR = re.compile(r"^ +(\w+) :", re.MULTILINE)
@@ -64,9 +64,16 @@ def read(files, wanted):
     return found
 
 
+def below(files, module):
+    """The files that a file stands on, each after those that it stands on itself, and the file."""
+    for name in dict.fromkeys(files[module].imports.values()):
+        yield from below(files, name)
+    yield module
+
+
 def main():
-    files = {path.stem: File(path) for path in sorted(SPECS.glob("*.antt")) if path.stem != "Lib"}
-    order = re.findall(r"^pub mod (\w+)", (SPECS / "Lib.antt").read_text(encoding="utf-8"), re.MULTILINE)
+    files = {path.stem: File(path) for path in sorted(SPECS.rglob("*.antt")) if path.stem[0].isupper() and path.stem != "Lib"}
+    order = list(dict.fromkeys(module for name in files for module in below(files, name)))
     paths = {"the names given": sys.argv[1:]} if sys.argv[1:] else PATHS
     for path, names in paths.items():
         blocks = read(files, names)

@@ -6,7 +6,7 @@ use mir.Syntax.{w16}
 use Rattle.jiff_core.specs.declared.error.Error.{Error}
 use Rattle.jiff_core.specs.declared.civil.date.Date.{Date}
 use Rattle.jiff_core.specs.Date.{epoch_day, IsYmd}
-use Rattle.profile.specs.Days.{is_leap_year, days_in_month, days_before_year, days_of_months, days_before, number_of_date, number_of_day, IsDate}
+use Rattle.profile.specs.series.Days.{is_leap_year, days_in_month, days_before_year, days_of_months, days_before, number_of_date, number_of_day, IsDate}
 use Rattle.jiff_core.specs.Calendar as jiff
 use Rattle.jiff_core.proofs.SignedLemmas.{signed_arith, signed_casts}
 use Rattle.jiff_core.proofs.MarchLemmas.{leap_day, leap_day-shift, days_of_years-suc, days_of_years-march_days, days_in_year-leap_day}

@@ -2,7 +2,7 @@
 use Rattle.std.proofs.Common.{◌≡◌, ◌∙◌, inl, inr, ap, sym, refl, ℕ, zero, suc, ◌+◌, ◌-◌, ◌*◌, ◌/◌, ◌%◌, ◌<◌, ◌≤◌, Bool, true, false, nat_le, arith, ℤ, pos, negsuc, unsigned_abs, ◌+ℤ◌, ◌-ℤ◌}
 use Rattle.std.proofs.lemmas.Bool.Decides.{nat_tests}
 use Rattle.std.proofs.lemmas.Bool.{cases_order}
-use Rattle.profile.specs.Days.{Frequency, Daily, Weekly, Monthly, Yearly, IsDate, IsDayDate, day_index, number_of_day, period_of, periods_in_400_years, is_leap_year, days_in_year, days_in_month, days_before_year, days_of_months, days_before, year_start, greatest, year_of, month_of, year_days_before, year_days_after, month_days_before, month_days_after, weekday_of}
+use Rattle.profile.specs.series.Days.{Frequency, Daily, Weekly, Monthly, Yearly, IsDate, IsDayDate, day_index, number_of_day, period_of, periods_in_400_years, is_leap_year, days_in_year, days_in_month, days_before_year, days_of_months, days_before, year_start, greatest, year_of, month_of, year_days_before, year_days_after, month_days_before, month_days_after, weekday_of}
 use Rattle.jiff_core.specs.Calendar as jiff
 use Rattle.jiff_core.proofs.SignedLemmas.{signed_arith, one_part}
 use Rattle.jiff_core.proofs.MarchLemmas.{leap_day, leap_day-shift, days_of_years-march_days}

@@ -1,6 +1,6 @@
 -- Worked dates, by the definitions alone.
 use Rattle.std.proofs.Common.{◌≡◌, refl, pos, negsuc, arith}
-use Rattle.profile.specs.Days.{days_before_year, days_of_months, days_before, days_before_1970, number_of_date, IsDate}
+use Rattle.profile.specs.series.Days.{days_before_year, days_of_months, days_before, days_before_1970, number_of_date, IsDate}
 
 epoch : days_before 1970 1 1 ≡ days_before_1970
 unfolding days_before_year days_of_months

@@ -2,7 +2,7 @@
 use Rattle.std.proofs.Common.{◌≡◌, ◌∙◌, ap, sym, refl, inl, inr, ℕ, zero, suc, ◌+◌, ◌-◌, ◌*◌, ◌/◌, ◌%◌, ◌<◌, ◌≤◌, arith}
 use Rattle.std.proofs.lemmas.Bool.{cases_lt}
 use Rattle.std.proofs.lemmas.Bool.Decides.{nat_tests}
-use Rattle.profile.specs.Days.{Frequency, Daily, Weekly, Monthly, Yearly, days_in_year, days_in_month, days_of_months, year_start, year_of, month_of, year_days_before, month_days_before, period_of, shortest_period}
+use Rattle.profile.specs.series.Days.{Frequency, Daily, Weekly, Monthly, Yearly, days_in_year, days_in_month, days_of_months, year_start, year_of, month_of, year_days_before, month_days_before, period_of, shortest_period}
 use Rattle.cal_days.proofs.Order.{year_length, months_step}
 use Rattle.cal_days.proofs.Dates.{year_start-step, year_begins, year_ends, months_from_0, month_begins, month_range, in_month}
 

@@ -3,7 +3,7 @@ use Rattle.std.proofs.Common.{◌≡◌, ◌∙◌, ℕ, zero, suc, ◌+◌, ◌
 use Rattle.std.proofs.lemmas.Bool.{cases_order}
 use Rattle.jiff_core.proofs.CalendarLemmas.{days_of_months_all}
 use Rattle.jiff_core.proofs.SignedLemmas.{signed_arith}
-use Rattle.profile.specs.Days.{IsDate, days_in_year, days_in_month, days_before_year, days_of_months, days_before, number_of_date}
+use Rattle.profile.specs.series.Days.{IsDate, days_in_year, days_in_month, days_before_year, days_of_months, days_before, number_of_date}
 use Rattle.cal_days.proofs.Bridge.{months_same}
 
 pub years_step : (year : ℕ) → days_before_year (suc year) ≡ days_before_year year + days_in_year year

@@ -1,6 +1,6 @@
 -- What the types stand for.
 use Rattle.std.specs.Prelude.{◌≡◌, ℕ, ◌+◌, ◌*◌, ◌<◌, ◌≤◌}
-use Rattle.profile.specs.Days.{Frequency, Daily, Weekly, Monthly, Yearly, period_of, periods_in_400_years, shortest_period}
+use Rattle.profile.specs.series.Days.{Frequency, Daily, Weekly, Monthly, Yearly, period_of, periods_in_400_years, shortest_period}
 use Rattle.cal_days.specs.declared.period.Frequency as rust
 use Rattle.cal_days.specs.declared.period.Frequency.TheVariants as the
 

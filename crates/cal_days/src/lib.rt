@@ -5,7 +5,7 @@
 #![tactic(auto)]
 
 ghost use Rattle.std.specs.Prelude.{ℕ, suc, ◌≡◌, ◌↔◌, ◌+◌, ◌<◌, ◌≤◌, ◌≤ℤ◌, ◌+ℤ◌, ◌-ℤ◌, pos, negsuc, unsigned_abs, IsSome, IfSome};
-ghost use Rattle.profile.specs.Days.{IsDayNumber, IsDayDate, IsDate, days_before, number_of_date, number_of_day, is_leap_year, days_in_year, days_in_month, year_start, day_index, year_of, month_of, month_days_before, month_days_after, year_days_before, year_days_after, weekday_of};
+ghost use Rattle.profile.specs.series.Days.{IsDayNumber, IsDayDate, IsDate, days_before, number_of_date, number_of_day, is_leap_year, days_in_year, days_in_month, year_start, day_index, year_of, month_of, month_days_before, month_days_after, year_days_before, year_days_after, weekday_of};
 ghost use Rattle.cal_days.specs.Views.{PeriodsRepeat, PeriodsAscend, PeriodsLast};
 
 mod period;
@@ -43,7 +43,7 @@ pub struct Day {
 
 impl Model for Day {
     ghost use Rattle.std.specs.Prelude.{ℤ};
-    ghost use Rattle.profile.specs.Days.{IsDayNumber};
+    ghost use Rattle.profile.specs.series.Days.{IsDayNumber};
 
     ghost Value = { ℤ };
 
@@ -142,7 +142,7 @@ impl Day {
     }
 
     /// Its weekday, from 0 for Monday to 6 for Sunday.
-    #[tactic(auto, unfolding(profile::specs::Days::weekday_of))]
+    #[tactic(auto, unfolding(profile::specs::series::Days::weekday_of))]
     pub fn weekday(self) -> u8
         ensures value { result ≡ weekday_of (day_index self) }
         ensures range { result < 7 }

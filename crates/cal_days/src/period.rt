@@ -1,7 +1,7 @@
 //! The periods of recurrence (RFC 5545 3.3.10, FREQ): days, weeks, months and years.
 
 ghost use Rattle.std.specs.Prelude.{◌≡◌};
-ghost use Rattle.profile.specs.Days.{day_index, period_of};
+ghost use Rattle.profile.specs.series.Days.{day_index, period_of};
 ghost use Rattle.cal_days.specs.Views.{frequency_of};
 
 use crate::Day;
@@ -35,7 +35,7 @@ impl Model for PeriodIndex {
 
 impl PeriodIndex {
     /// The day itself, its week from the weekday `week_start` on (0 is Monday), its month or its year.
-    #[tactic(auto, unfolding(profile::specs::Days::period_of))]
+    #[tactic(auto, unfolding(profile::specs::series::Days::period_of))]
     pub fn of(frequency: Frequency, week_start: u8, day: Day) -> PeriodIndex
         ensures { result ≡ period_of (frequency_of frequency) week_start (day_index day) }
     {

@@ -14,9 +14,9 @@ use Rattle.std.proofs.lemmas.List.Elements.{All-nil, All-cons}
 use Rattle.std.proofs.lemmas.List.Sorted.{IsPermutation-map, IsPermutation-sym, sorted_far, ranks_by}
 use Rattle.std.proofs.lemmas.Map.Lookups.{exact_pairs, exact_bytes}
 use denote.Ref.{Bor}
-use Rattle.profile.specs.Instances.{Key, Booked}
+use Rattle.profile.specs.checker.Instances.{Key, Booked}
 use Rattle.cal_events.specs.declared.calendar.Entry.{Entry}
-use Rattle.cal_events.specs.declared.instance.Booking.{Booking}
+use Rattle.cal_events.specs.declared.instance.OwnedInstance.{OwnedInstance}
 use Rattle.cal_events.specs.Calendars.{booked_of, confirmed_in, meeting_of, texts_of, meeting_cmp, HaveOtherTexts, HasEqualNeighbours, HaveTwins, MeetingsDiffer, HaveDifferentKeys}
 use Rattle.cal_events.proofs.Distinct.{Distinct, distinct_permutation, SomeTwo, some_two_permutation}
 
@@ -154,5 +154,5 @@ keys_differ (e ∷ es) h =
     (others (meeting_of e) es (λ k d w. h zero (suc k) d (omega arith) (omega arith)))
     (keys_differ es (λ i j d lt w. h (suc i) (suc j) d (omega arith) (omega arith)))
 
-pub keys_differ_of : (es : List Entry) (bs : List Booking) → MeetingsDiffer es → map booked_of bs ≡ confirmed_in es → HaveDifferentKeys (map booked_of bs)
+pub keys_differ_of : (es : List Entry) (bs : List OwnedInstance) → MeetingsDiffer es → map booked_of bs ≡ confirmed_in es → HaveDifferentKeys (map booked_of bs)
 keys_differ_of es bs h e = subst HaveDifferentKeys (sym e) (keys_differ es h)

@@ -3,11 +3,11 @@ use Rattle.std.proofs.Common.{◌≡◌, true, false, List, [], ◌∷◌, ◌<�
 use Rattle.std.specs.Prelude.{Some, None}
 use Rattle.std.proofs.lemmas.Bool.{true≢false}
 use Rattle.std.proofs.lemmas.Int.{ints}
-use Rattle.profile.specs.Days.{days_before_year, days_of_months}
-use Rattle.profile.specs.Values.{SpellsStamp, SpellsDuration, unescaped}
-use Rattle.profile.specs.Trees.{Tree}
-use Rattle.profile.specs.Events.{Event, Accepted, Declined, SaysEvent, EventFault, confirmed, has_unread, no_organiser}
-use Rattle.profile.specs.Properties.{IsDateText, TimeFault}
+use Rattle.profile.specs.series.Days.{days_before_year, days_of_months}
+use Rattle.profile.specs.text.Values.{SpellsStamp, SpellsDuration, unescaped}
+use Rattle.profile.specs.text.Trees.{Tree}
+use Rattle.profile.specs.events.Events.{Event, Accepted, Declined, SaysEvent, EventFault, confirmed, has_unread, no_organiser}
+use Rattle.profile.specs.events.Properties.{IsDateText, TimeFault}
 use Rattle.cal_events.proofs.Meanings.{utc_means}
 
 -- 2025-03-10T09:00:00Z is 1,741,597,200

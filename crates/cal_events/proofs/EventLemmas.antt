@@ -14,11 +14,11 @@ use Rattle.ical_values.specs.Refused.{IfRefused}
 use Rattle.ical_values.specs.Octets.{text_octets}
 use Rattle.ical_values.specs.declared.text.Text.{Text}
 use Rattle.cal_events.specs.declared.component.Attendee.{Attendee}
-use Rattle.profile.specs.Lines.{line_value}
-use Rattle.profile.specs.Values.{SpellsDate, SpellsLocal, SpellsStamp, SpellsSequence, SpellsDuration, SpellsLong, IsUid, unescaped}
-use Rattle.profile.specs.Trees.{Tree}
-use Rattle.profile.specs.Events.{SaysSequence, EventFault, IsAttendee, bad_attendee}
-use Rattle.profile.specs.Properties.{is_of, lines_named, StandsAtMostOnce, SomeLine, Says, IsUidLine, TimeKind, DateTime, time_kind, IsDateText, IsLocalText, KindFault, TimeFault, IsNegativeOrLong, IsNoAddress}
+use Rattle.profile.specs.text.Lines.{line_value}
+use Rattle.profile.specs.text.Values.{SpellsDate, SpellsLocal, SpellsStamp, SpellsSequence, SpellsDuration, SpellsLong, IsUid, unescaped}
+use Rattle.profile.specs.text.Trees.{Tree}
+use Rattle.profile.specs.events.Events.{SaysSequence, EventFault, IsAttendee, bad_attendee}
+use Rattle.profile.specs.events.Properties.{is_of, lines_named, StandsAtMostOnce, SomeLine, Says, IsUidLine, TimeKind, DateTime, time_kind, IsDateText, IsLocalText, KindFault, TimeFault, IsNegativeOrLong, IsNoAddress}
 use Rattle.cal_events.specs.Events.{attendee_of, IsTime}
 use Rattle.ical_tree.proofs.OneLine.{the_line}
 

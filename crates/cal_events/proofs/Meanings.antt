@@ -1,8 +1,8 @@
 -- A local time means one instant, on the clocks of UTC and of each zone that a VTIMEZONE says.
 use Rattle.std.proofs.Common.{◌≡◌, ◌∙◌, sym, refl, inl, inr, ℤ, pos, ◌<ℤ◌, arith}
 use Rattle.std.proofs.lemmas.Int.{ints}
-use Rattle.profile.specs.Zones.{Zone, Constant, Single, Pair, IsZoneOnset, IsSkipped, IsOneMeaning, Means}
-use Rattle.profile.specs.ZoneTexts.{AreMatched}
+use Rattle.profile.specs.series.Zones.{Zone, Constant, Single, Pair, IsZoneOnset, IsSkipped, IsOneMeaning, Means}
+use Rattle.profile.specs.series.ZoneTexts.{AreMatched}
 
 -- UTC shows the instant itself
 pub utc_means : (t : ℤ) → Means (Constant (pos 0)) t t

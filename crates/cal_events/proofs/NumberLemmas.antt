@@ -7,18 +7,18 @@ use Rattle.std.proofs.lemmas.List.Elements.{All-contains, All-filter, All-contai
 use Rattle.ical_lines.specs.Fault.{RefusesOnly, RefusesBy}
 use Rattle.ical_lines.specs.declared.fault.Fault.{Fault}
 use Rattle.ical_lines.specs.declared.fault.Fault.TheVariants.{Refused, Memory}
-use Rattle.profile.specs.Faults.{is_event_fault, is_zoned_event_fault, is_zone_fault, is_unread, is_rule_fault, is_series_event_fault}
-use Rattle.profile.specs.Lines.{line_param, line_value, is_same_name}
-use Rattle.profile.specs.Trees.{Tree}
-use Rattle.profile.specs.ZoneTexts.{PartsFault, no_part, in_part, ruled, other_parts, unruled, unmatched, close, TimesFault, dates, missing, twice as part_twice, fixed, bad_start as bad_part, bad_from, bad_to}
-use Rattle.profile.specs.Properties.{TimeKind, DateTime, Date, Period, Other, time_kind, UnfixedOrMalformed, IsDateText, IsLocalText, KindFault, ends_in_z, is_of, lines_named}
-use Rattle.profile.specs.ZonedTimes.{is_in_zone, zone_named, DateOrMalformed, LocalFault, NamedFault, FaultIn, EventTimesFault, bad_start, bad_end, bad_duration, ends_early, ends_late, lasts_long, starts_out, ends_out, no_start, twice as times_twice, end_and_duration, nominal}
-use Rattle.profile.specs.RuleTexts.{RuleFault, unknown, bad_value, no_frequency, two_frequencies, twice as rule_twice, apart, two_ends}
-use Rattle.profile.specs.EventRules.{EventRuleFault, bad_rule, starts_outside, two_rules}
+use Rattle.profile.specs.faults.Faults.{is_event_fault, is_zoned_event_fault, is_zone_fault, is_unread, is_rule_fault, is_series_event_fault}
+use Rattle.profile.specs.text.Lines.{line_param, line_value, is_same_name}
+use Rattle.profile.specs.text.Trees.{Tree}
+use Rattle.profile.specs.series.ZoneTexts.{PartsFault, no_part, in_part, ruled, other_parts, unruled, unmatched, close, TimesFault, dates, missing, twice as part_twice, fixed, bad_start as bad_part, bad_from, bad_to}
+use Rattle.profile.specs.events.Properties.{TimeKind, DateTime, Date, Period, Other, time_kind, UnfixedOrMalformed, IsDateText, IsLocalText, KindFault, ends_in_z, is_of, lines_named}
+use Rattle.profile.specs.events.ZonedTimes.{is_in_zone, zone_named, DateOrMalformed, LocalFault, NamedFault, FaultIn, EventTimesFault, bad_start, bad_end, bad_duration, ends_early, ends_late, lasts_long, starts_out, ends_out, no_start, twice as times_twice, end_and_duration, nominal}
+use Rattle.profile.specs.series.RuleTexts.{RuleFault, unknown, bad_value, no_frequency, two_frequencies, twice as rule_twice, apart, two_ends}
+use Rattle.profile.specs.events.EventRules.{EventRuleFault, bad_rule, starts_outside, two_rules}
 use Rattle.cal_events.specs.declared.component.Purpose.{Purpose}
 use Rattle.cal_events.specs.declared.component.Purpose.TheVariants.{Request, Calendar, Series}
 use Rattle.cal_events.specs.Events.{is_message, has_unread_for, is_fault_for}
-use Rattle.profile.specs.Events.{is_recurrence, is_of_instances, is_end_of_event, is_unread_line, has_unread, EventFault, in_times, in_rule, bad_stamp, bad_uid, bad_organiser, bad_attendee, bad_sequence, no_uid, no_stamp_given, twice, no_organiser}
+use Rattle.profile.specs.events.Events.{is_recurrence, is_of_instances, is_end_of_event, is_unread_line, has_unread, EventFault, in_times, in_rule, bad_stamp, bad_uid, bad_organiser, bad_attendee, bad_sequence, no_uid, no_stamp_given, twice, no_organiser}
 
 abbrev Lines : Type 0
 Lines = List (List ℕ)

@@ -3,9 +3,9 @@ use Rattle.std.proofs.Common.{◌≡◌, ◌≢◌, ℕ, zero, suc, Bool, false,
 use Rattle.std.specs.Prelude.{Contains, AllPairs}
 use Rattle.std.specs.List.{AllZip}
 use Rattle.std.proofs.lemmas.Bool.{true≢false}
-use Rattle.profile.specs.Trees.{Tree, vevents}
-use Rattle.profile.specs.Instances.{Booked}
-use Rattle.profile.specs.Events.{Event, SaysEvent, EventFault, SaysCalendar, CalendarFault, in_event, one_meeting, not_yet, confirmed, meeting_said}
+use Rattle.profile.specs.text.Trees.{Tree, vevents}
+use Rattle.profile.specs.checker.Instances.{Booked}
+use Rattle.profile.specs.events.Events.{Event, SaysEvent, EventFault, SaysCalendar, CalendarFault, in_event, one_meeting, not_yet, confirmed, meeting_said}
 
 abbrev Lines : Type 0
 Lines = List (List ℕ)

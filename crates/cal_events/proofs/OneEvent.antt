@@ -6,11 +6,11 @@ use Rattle.std.specs.List.{AllZip}
 use Rattle.std.proofs.lemmas.Bool.{true≢false}
 use Rattle.std.proofs.lemmas.List.Elements.{All-from_recursion, All-contains}
 use Rattle.std.proofs.lemmas.Option.{same_Some}
-use Rattle.profile.specs.Lines.{line_value}
-use Rattle.profile.specs.Values.{SpellsStamp, SpellsSequence, IsUid, unescaped}
-use Rattle.profile.specs.Trees.{Tree}
-use Rattle.profile.specs.Events.{SaysEvent, Event, Attendee, IsAttendee, EventFault, single_names, in_times, in_rule, bad_stamp, bad_uid, bad_organiser, bad_attendee, bad_sequence, no_uid, no_stamp_given, twice, no_organiser}
-use Rattle.profile.specs.Properties.{lines_named, IsMissing, Says, IsUidLine, IsAddressLine, IsStampLine, IsSequenceLine, IsNoStamp, IsNoAddress, IsNoSequence, TimeKind, DateTime, Date, Period, Other, time_kind, IsDateText, IsLocalText, UnfixedOrMalformed, KindFault, TimeFault}
+use Rattle.profile.specs.text.Lines.{line_value}
+use Rattle.profile.specs.text.Values.{SpellsStamp, SpellsSequence, IsUid, unescaped}
+use Rattle.profile.specs.text.Trees.{Tree}
+use Rattle.profile.specs.events.Events.{SaysEvent, Event, Attendee, IsAttendee, EventFault, single_names, in_times, in_rule, bad_stamp, bad_uid, bad_organiser, bad_attendee, bad_sequence, no_uid, no_stamp_given, twice, no_organiser}
+use Rattle.profile.specs.events.Properties.{lines_named, IsMissing, Says, IsUidLine, IsAddressLine, IsStampLine, IsSequenceLine, IsNoStamp, IsNoAddress, IsNoSequence, TimeKind, DateTime, Date, Period, Other, time_kind, IsDateText, IsLocalText, UnfixedOrMalformed, KindFault, TimeFault}
 use Rattle.ical_tree.proofs.OneLine.{IsFunctional}
 use Rattle.cal_events.proofs.Said.{same_said, said_by}
 use Rattle.cal_events.proofs.OneEventRule.{OneRule, NoRuleFault, one_event_rule, no_rule_fault}

@@ -5,13 +5,13 @@ use Rattle.std.proofs.lemmas.Bool.{true≢false, cases_order}
 use Rattle.std.proofs.lemmas.Bool.Decides.{nat_tests}
 use Rattle.std.proofs.lemmas.Int.{ints}
 use Rattle.std.proofs.lemmas.Option.{same_Some}
-use Rattle.profile.specs.Lines.{line_value}
-use Rattle.profile.specs.Trees.{Tree}
-use Rattle.profile.specs.Rules.{Parts, RuleText, Until, UntilDay, UntilLocal, UntilInstant, rule_of, is_rule_day, is_counted}
-use Rattle.profile.specs.RuleTexts.{SpellsRule, RuleFault}
-use Rattle.profile.specs.Zones.{Zone, IsOneMeaning, NoneFrom, IsLastDay}
-use Rattle.profile.specs.ZonedTimes.{SaysZonedTime, clock_of, is_in_zone, first_local, EventTimes, SaysEventTimes}
-use Rattle.profile.specs.EventRules.{IsLastAllowed, AllowsNone, IsOnDay, GivesRule, IsRuleLine, SaysEventRule, IsOutside, EventRuleFault, bad_rule, starts_outside, two_rules}
+use Rattle.profile.specs.text.Lines.{line_value}
+use Rattle.profile.specs.text.Trees.{Tree}
+use Rattle.profile.specs.series.Rules.{Parts, RuleText, Until, UntilDay, UntilLocal, UntilInstant, rule_of, is_rule_day, is_counted}
+use Rattle.profile.specs.series.RuleTexts.{SpellsRule, RuleFault}
+use Rattle.profile.specs.series.Zones.{Zone, IsOneMeaning, NoneFrom, IsLastDay}
+use Rattle.profile.specs.events.ZonedTimes.{SaysZonedTime, clock_of, is_in_zone, first_local, EventTimes, SaysEventTimes}
+use Rattle.profile.specs.events.EventRules.{IsLastAllowed, AllowsNone, IsOnDay, GivesRule, IsRuleLine, SaysEventRule, IsOutside, EventRuleFault, bad_rule, starts_outside, two_rules}
 use Rattle.ical_tree.proofs.OneLine.{IsFunctional, only_line}
 use Rattle.cal_events.proofs.OneTimes.{Lines, OneZonedTime, OneDuration, at_most_one, clock_one, one_times}
 use Rattle.cal_events.proofs.Said.{same_said, said_by}

@@ -5,11 +5,11 @@ use Rattle.std.proofs.lemmas.Bool.{true≢false}
 use Rattle.std.proofs.lemmas.Bool.Decides.{nat_tests}
 use Rattle.ical_lines.proofs.ContentLemmas.{read_fine}
 use Rattle.ical_tree.proofs.OneLine.{at_one}
-use Rattle.profile.specs.Lines.{logical_lines}
-use Rattle.profile.specs.Objects.{has_version, count_inside, most_events}
-use Rattle.profile.specs.Trees.{Tree, tree_name, tree_own, tree_inside, vevents}
-use Rattle.profile.specs.Events.{Event, SaysEvent, names_instances}
-use Rattle.profile.specs.Series.{SaysSeries, SpellsSeries, SeriesFault, in_event, no_event, several, not_yet, SeriesTextFault, in_lines, in_tree, no_version, many_events, in_vevents}
+use Rattle.profile.specs.text.Lines.{logical_lines}
+use Rattle.profile.specs.text.Objects.{has_version, count_inside, most_events}
+use Rattle.profile.specs.text.Trees.{Tree, tree_name, tree_own, tree_inside, vevents}
+use Rattle.profile.specs.events.Events.{Event, SaysEvent, names_instances}
+use Rattle.profile.specs.events.Series.{SaysSeries, SpellsSeries, SeriesFault, in_event, no_event, several, not_yet, SeriesTextFault, in_lines, in_tree, no_version, many_events, in_vevents}
 use Rattle.cal_events.proofs.OneCalendar.{OneEvent, NoFault}
 use Rattle.cal_events.proofs.OneText.{OneTree, PairsUp}
 

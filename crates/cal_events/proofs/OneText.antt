@@ -2,12 +2,12 @@
 use Rattle.std.proofs.Common.{◌≡◌, ℕ, Bool, true, false, List, subst, sym, ap, ◌∙◌}
 use Rattle.std.proofs.lemmas.Bool.{true≢false}
 use Rattle.ical_lines.proofs.ContentLemmas.{read_fine}
-use Rattle.profile.specs.Lines.{logical_lines}
-use Rattle.profile.specs.Objects.{SpellsTree, IsObject, has_version, lines_have}
-use Rattle.profile.specs.Trees.{Tree, tree_name, tree_own, tree_inside}
-use Rattle.profile.specs.Instances.{Booked}
-use Rattle.profile.specs.Events.{SaysCalendar, CalendarFault}
-use Rattle.profile.specs.Calendars.{SpellsCalendar, CalendarTextFault, in_lines, in_tree, no_version, in_vevents}
+use Rattle.profile.specs.text.Lines.{logical_lines}
+use Rattle.profile.specs.text.Objects.{SpellsTree, IsObject, has_version, lines_have}
+use Rattle.profile.specs.text.Trees.{Tree, tree_name, tree_own, tree_inside}
+use Rattle.profile.specs.checker.Instances.{Booked}
+use Rattle.profile.specs.events.Events.{SaysCalendar, CalendarFault}
+use Rattle.profile.specs.checker.Calendars.{SpellsCalendar, CalendarTextFault, in_lines, in_tree, no_version, in_vevents}
 
 abbrev Lines : Type 0
 Lines = List (List ℕ)

@@ -4,12 +4,12 @@ use Rattle.std.specs.Prelude.{Option, Some, None, All}
 use Rattle.std.proofs.lemmas.Int.{ints}
 use Rattle.std.proofs.lemmas.List.Elements.{All-from_recursion, All-contains}
 use Rattle.std.proofs.lemmas.Option.{same_Some}
-use Rattle.profile.specs.Lines.{line_value, line_param}
-use Rattle.profile.specs.Trees.{Tree}
-use Rattle.profile.specs.Values.{SpellsDuration, SpellsNegative}
-use Rattle.profile.specs.Zones.{Zone, Constant, IsOneMeaning, Means}
-use Rattle.profile.specs.Properties.{lines_named, StandsAtMostOnce, SomeLine, Length, length_seconds, LastsFor, IsNegativeOrLong}
-use Rattle.profile.specs.ZonedTimes.{zone_named, is_in_zone, SaysZoneOf, SpellsZoned, SaysZonedTime, clock_of, SaysInstant, IsInDates, SaysInDates, SaysOutOfDates, ZonedTimeFault, EventTimes, LastsUntil, LastsSo, SaysEventTimes, StartAndEndLie, HasDays, names_of_times, EventTimesFault, bad_start, bad_end, bad_duration, ends_early, ends_late, lasts_long, starts_out, ends_out, no_start, twice, end_and_duration, nominal}
+use Rattle.profile.specs.text.Lines.{line_value, line_param}
+use Rattle.profile.specs.text.Trees.{Tree}
+use Rattle.profile.specs.text.Values.{SpellsDuration, SpellsNegative}
+use Rattle.profile.specs.series.Zones.{Zone, Constant, IsOneMeaning, Means}
+use Rattle.profile.specs.events.Properties.{lines_named, StandsAtMostOnce, SomeLine, Length, length_seconds, LastsFor, IsNegativeOrLong}
+use Rattle.profile.specs.events.ZonedTimes.{zone_named, is_in_zone, SaysZoneOf, SpellsZoned, SaysZonedTime, clock_of, SaysInstant, IsInDates, SaysInDates, SaysOutOfDates, ZonedTimeFault, EventTimes, LastsUntil, LastsSo, SaysEventTimes, StartAndEndLie, HasDays, names_of_times, EventTimesFault, bad_start, bad_end, bad_duration, ends_early, ends_late, lasts_long, starts_out, ends_out, no_start, twice, end_and_duration, nominal}
 use Rattle.ical_tree.proofs.OneLine.{IsFunctional, same_option, only_line}
 use Rattle.cal_events.proofs.Meanings.{one_meaning}
 

@@ -1,13 +1,13 @@
 -- A line says at most one local time in one zone, and none where a fault stands in it.
 use Rattle.std.proofs.Common.{◌≡◌, ap, refl, subst, inl, inr, ℕ, List, ℤ, codes}
 use Rattle.std.specs.Prelude.{Option, Some, None}
-use Rattle.profile.specs.Lines.{line_param, line_value}
-use Rattle.profile.specs.Trees.{Tree}
-use Rattle.profile.specs.Values.{SpellsStamp, SpellsLocal}
-use Rattle.profile.specs.Zones.{Zone}
-use Rattle.profile.specs.ZoneTexts.{SaysZone, ZoneFault}
-use Rattle.profile.specs.Properties.{TimeKind, DateTime, time_kind, KindFault}
-use Rattle.profile.specs.ZonedTimes.{zone_named, SaysZoneOf, SpellsZoned, SaysZonedTime, LocalFault, NamedFault, FaultIn, ZonedTimeFault}
+use Rattle.profile.specs.text.Lines.{line_param, line_value}
+use Rattle.profile.specs.text.Trees.{Tree}
+use Rattle.profile.specs.text.Values.{SpellsStamp, SpellsLocal}
+use Rattle.profile.specs.series.Zones.{Zone}
+use Rattle.profile.specs.series.ZoneTexts.{SaysZone, ZoneFault}
+use Rattle.profile.specs.events.Properties.{TimeKind, DateTime, time_kind, KindFault}
+use Rattle.profile.specs.events.ZonedTimes.{zone_named, SaysZoneOf, SpellsZoned, SaysZonedTime, LocalFault, NamedFault, FaultIn, ZonedTimeFault}
 
 abbrev OneStamp : Type 0
 OneStamp = (text : List ℕ) (a b : ℤ) → SpellsStamp text a → SpellsStamp text b → a ≡ b

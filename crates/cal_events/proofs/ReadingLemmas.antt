@@ -11,9 +11,9 @@ use Rattle.ical_lines.specs.declared.fault.Fault.TheVariants.{Refused, Memory}
 use Rattle.ical_tree.specs.Tree.{component_lines}
 use Rattle.ical_tree.specs.declared.component.Component.{Component}
 use Rattle.ical_tree.proofs.OneLine.{at_place}
-use Rattle.profile.specs.Trees.{Tree, vevents}
-use Rattle.profile.specs.Instances.{Booked}
-use Rattle.profile.specs.Events.{Event, SaysEvent, SaysCalendar, CalendarFault, in_event, one_meeting, not_yet, has_unread, booked_by, is_confirmed, confirmed, meeting_said}
+use Rattle.profile.specs.text.Trees.{Tree, vevents}
+use Rattle.profile.specs.checker.Instances.{Booked}
+use Rattle.profile.specs.events.Events.{Event, SaysEvent, SaysCalendar, CalendarFault, in_event, one_meeting, not_yet, has_unread, booked_by, is_confirmed, confirmed, meeting_said}
 use Rattle.cal_events.specs.declared.calendar.Entry.{Entry}
 use Rattle.cal_events.specs.Calendars.{booked_of, confirmed_in, meeting_of, MeetingsDiffer, IsTwinsFault}
 use Rattle.cal_events.specs.declared.component.Purpose.TheVariants.{Calendar}

@@ -5,15 +5,15 @@ use Rattle.std.proofs.lemmas.Bool.{false≢true}
 use Rattle.ical_lines.specs.Fault.{RefusesBy}
 use Rattle.ical_lines.specs.declared.fault.Fault.{Fault}
 use Rattle.ical_lines.specs.declared.fault.Fault.TheVariants.{Refused}
-use Rattle.profile.specs.Days.{day_index, number_of_day, IsDayDate, days_before_year, days_of_months}
-use Rattle.profile.specs.Lines.{line_value}
-use Rattle.profile.specs.Trees.{Tree}
-use Rattle.profile.specs.Rules.{Parts, RuleText, Until, UntilLocal, UntilInstant, rule_of, is_rule_day}
-use Rattle.profile.specs.RuleTexts.{SpellsRule}
-use Rattle.profile.specs.Zones.{Zone, Means, NoneFrom, IsLastDay}
-use Rattle.profile.specs.Properties.{StandsAtMostOnce, Says, BothOrNeither}
-use Rattle.profile.specs.ZonedTimes.{clock_of, EventTimes, SaysEventTimes}
-use Rattle.profile.specs.EventRules.{IsLastAllowed, AllowsNone, IsOnDay, GivesRule, IsOutside, StartsOutside, EventRuleFault, starts_outside}
+use Rattle.profile.specs.series.Days.{day_index, number_of_day, IsDayDate, days_before_year, days_of_months}
+use Rattle.profile.specs.text.Lines.{line_value}
+use Rattle.profile.specs.text.Trees.{Tree}
+use Rattle.profile.specs.series.Rules.{Parts, RuleText, Until, UntilLocal, UntilInstant, rule_of, is_rule_day}
+use Rattle.profile.specs.series.RuleTexts.{SpellsRule}
+use Rattle.profile.specs.series.Zones.{Zone, Means, NoneFrom, IsLastDay}
+use Rattle.profile.specs.events.Properties.{StandsAtMostOnce, Says, BothOrNeither}
+use Rattle.profile.specs.events.ZonedTimes.{clock_of, EventTimes, SaysEventTimes}
+use Rattle.profile.specs.events.EventRules.{IsLastAllowed, AllowsNone, IsOnDay, GivesRule, IsOutside, StartsOutside, EventRuleFault, starts_outside}
 use Rattle.cal_events.specs.Zoned.{IsRuleText}
 use Rattle.cal_events.proofs.EventLemmas.{some_line}
 

@@ -1,7 +1,7 @@
 -- A property that stands once says one value.
 use Rattle.std.proofs.Common.{◌≡◌, ℕ, Bool, List, subst, refl, ap}
 use Rattle.std.specs.Prelude.{Option, Some, None}
-use Rattle.profile.specs.Properties.{SomeLine, BothOrNeither, Says}
+use Rattle.profile.specs.events.Properties.{SomeLine, BothOrNeither, Says}
 use Rattle.ical_tree.proofs.OneLine.{IsFunctional, only_line}
 use Rattle.cal_events.proofs.OneTimes.{Lines, same_line}
 

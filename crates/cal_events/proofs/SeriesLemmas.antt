@@ -12,11 +12,11 @@ use Rattle.ical_tree.specs.Reading.{SpellsOf, Stands, calendar_has}
 use Rattle.ical_tree.specs.declared.component.Component.{Component}
 use Rattle.ical_tree.proofs.TreeOfLemmas.{tree_of-own, spells_tree, count_tree, object_tree}
 use Rattle.ical_values.proofs.Exits.{err_exit}
-use Rattle.profile.specs.Lines.{logical_lines, reads_as_lines}
-use Rattle.profile.specs.Objects.{has_version, count_inside, is_calendar_name}
-use Rattle.profile.specs.Trees.{Tree, vevents}
-use Rattle.profile.specs.Events.{SaysEvent, names_instances}
-use Rattle.profile.specs.Series.{SaysSeries, SpellsSeries, SeriesFault, in_event, no_event, several, not_yet, SeriesTextFault, in_lines, in_tree, no_version, many_events, in_vevents}
+use Rattle.profile.specs.text.Lines.{logical_lines, reads_as_lines}
+use Rattle.profile.specs.text.Objects.{has_version, count_inside, is_calendar_name}
+use Rattle.profile.specs.text.Trees.{Tree, vevents}
+use Rattle.profile.specs.events.Events.{SaysEvent, names_instances}
+use Rattle.profile.specs.events.Series.{SaysSeries, SpellsSeries, SeriesFault, in_event, no_event, several, not_yet, SeriesTextFault, in_lines, in_tree, no_version, many_events, in_vevents}
 use Rattle.cal_events.specs.declared.component.EventComponent.{EventComponent}
 use Rattle.cal_events.specs.declared.component.Purpose.TheVariants.{Series}
 use Rattle.cal_events.specs.Events.{event_of, IsUnreadOrFault, IsNotOneEvent}

@@ -14,7 +14,7 @@ use Rattle.std.proofs.lemmas.List.Elements.{All-nil, All-cons, All-weaker}
 use Rattle.std.proofs.lemmas.List.Sorted.{All-permutation, Contains-permutation}
 use denote.Param.Members.{Mut}
 use denote.Ref.{Bor}
-use Rattle.profile.specs.Instances.{horizon, IsWithin}
+use Rattle.profile.specs.checker.Instances.{horizon, IsWithin}
 use Rattle.cal_events.specs.declared.sweep.Span.{Span}
 use Rattle.cal_events.specs.declared.sweep.Placed.{Placed}
 use Rattle.cal_events.specs.declared.sweep.Overlap.{Overlap}

@@ -2,11 +2,11 @@
 use Rattle.std.proofs.Common.{◌≡◌, ◌∙◌, ℕ, ◌<◌, ◌≤◌, ◌^◌, Bool, true, false, true≢false, List, codes, subst, sym, ap, inl, inr, arith, ℤ, pos, ◌+ℤ◌, ◌<ℤ◌}
 use Rattle.std.specs.Prelude.{Option, Some, None, ◌⊎◌, IsTrue}
 use Rattle.std.proofs.lemmas.Int.{ints}
-use Rattle.profile.specs.Trees.{Tree}
-use Rattle.profile.specs.Lines.{line_value}
-use Rattle.profile.specs.Values.{SpellsDuration, SpellsNegative, SpellsLong}
-use Rattle.profile.specs.Properties.{StandsAtMostOnce, SomeLine, length_seconds, IsNoDuration, IsNegativeOrLong}
-use Rattle.profile.specs.ZonedTimes.{EventTimes, LastsSo, SaysInstant, SaysInDates, SaysOutOfDates, SaysEventTimes, EventTimesFault, is_in_zone, HasDays, bad_duration, ends_early, ends_late, ends_out, lasts_long, starts_out, nominal}
+use Rattle.profile.specs.text.Trees.{Tree}
+use Rattle.profile.specs.text.Lines.{line_value}
+use Rattle.profile.specs.text.Values.{SpellsDuration, SpellsNegative, SpellsLong}
+use Rattle.profile.specs.events.Properties.{StandsAtMostOnce, SomeLine, length_seconds, IsNoDuration, IsNegativeOrLong}
+use Rattle.profile.specs.events.ZonedTimes.{EventTimes, LastsSo, SaysInstant, SaysInDates, SaysOutOfDates, SaysEventTimes, EventTimesFault, is_in_zone, HasDays, bad_duration, ends_early, ends_late, ends_out, lasts_long, starts_out, nominal}
 use Rattle.cal_events.specs.declared.event_times.Extent.{Extent}
 use Rattle.cal_events.specs.declared.event_times.Extent.TheVariants.{ToEnd, For}
 use Rattle.cal_events.specs.declared.event_times.SaidTimes.{SaidTimes}

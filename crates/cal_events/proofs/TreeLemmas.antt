@@ -10,12 +10,12 @@ use Rattle.ical_tree.specs.Tree.{component_name, component_lines, component_chil
 use Rattle.ical_tree.proofs.TreeOfLemmas.{tree_of-name, tree_of-own, tree_of-inside, spells_tree, object_tree}
 use Rattle.ical_tree.specs.Reading.{Stands, calendar_has}
 use Rattle.ical_tree.specs.declared.component.Component.{Component}
-use Rattle.profile.specs.Lines.{is_same_name, logical_lines, reads_as_lines}
-use Rattle.profile.specs.Objects.{SpellsTree, has_version}
-use Rattle.profile.specs.Trees.{Tree, tree_name, tree_own, vevents}
-use Rattle.profile.specs.Instances.{Booked}
-use Rattle.profile.specs.Events.{SaysCalendar, CalendarFault}
-use Rattle.profile.specs.Calendars.{SpellsCalendar, CalendarTextFault, in_lines, in_tree, no_version, in_vevents}
+use Rattle.profile.specs.text.Lines.{is_same_name, logical_lines, reads_as_lines}
+use Rattle.profile.specs.text.Objects.{SpellsTree, has_version}
+use Rattle.profile.specs.text.Trees.{Tree, tree_name, tree_own, vevents}
+use Rattle.profile.specs.checker.Instances.{Booked}
+use Rattle.profile.specs.events.Events.{SaysCalendar, CalendarFault}
+use Rattle.profile.specs.checker.Calendars.{SpellsCalendar, CalendarTextFault, in_lines, in_tree, no_version, in_vevents}
 use Rattle.cal_events.specs.Events.{is_vevent, vevents_of}
 use Rattle.cal_events.proofs.ReadingLemmas.{events_in}
 use Rattle.ical_values.proofs.Exits.{err_exit}

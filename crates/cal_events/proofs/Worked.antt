@@ -3,7 +3,7 @@ use Rattle.std.proofs.Common.{◌≡◌, ℕ, ℤ, pos, negsuc, true, false, Lis
 use Rattle.std.specs.Prelude.{codes}
 use Rattle.std.specs.declared.cmp.Ordering.TheVariants.{Less}
 use Rattle.std.proofs.lemmas.Int.{ints}
-use Rattle.profile.specs.Instances.{Key, Booked, IsClash, IsWithin, horizon, booked_cmp}
+use Rattle.profile.specs.checker.Instances.{Key, Booked, IsClash, IsWithin, horizon, booked_cmp}
 use Rattle.cal_events.specs.Sweep.{holds_instant}
 
 -- an instance of Ann's meeting in these seconds, named by its start

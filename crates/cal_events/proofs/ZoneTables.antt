@@ -11,9 +11,9 @@ use Rattle.cal_zones.specs.declared.zone.Zone.{Zone}
 use Rattle.ical_lines.specs.declared.fault.Refusal.{Refusal}
 use Rattle.ical_tree.specs.Tree.{component_name, component_lines}
 use Rattle.ical_tree.specs.declared.component.Component.{Component}
-use Rattle.profile.specs.Lines.{is_same_name}
-use Rattle.profile.specs.Properties.{BothOrNeither}
-use Rattle.profile.specs.ZonedTimes.{zone_name}
+use Rattle.profile.specs.text.Lines.{is_same_name}
+use Rattle.profile.specs.events.Properties.{BothOrNeither}
+use Rattle.profile.specs.events.ZonedTimes.{zone_name}
 use Rattle.cal_events.specs.Zones.{name_said, is_zone_called, IsZoneRead, AreZonesAmong}
 
 -- ---- a search in a list with one item more

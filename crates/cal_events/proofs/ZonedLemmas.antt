@@ -10,12 +10,12 @@ use Rattle.ical_lines.specs.declared.fault.Refusal.{Refusal}
 use Rattle.ical_tree.specs.Tree.{component_name, component_children, tree_of}
 use Rattle.ical_tree.specs.declared.component.Component.{Component}
 use Rattle.ical_tree.proofs.TreeOfLemmas.{tree_of-name, tree_of-own, tree_of-inside}
-use Rattle.profile.specs.Lines.{line_param, line_value, is_same_name}
-use Rattle.profile.specs.Trees.{Tree, tree_name, tree_own}
-use Rattle.profile.specs.Zones as zones
-use Rattle.profile.specs.Values.{SpellsStamp}
-use Rattle.profile.specs.Properties.{BothOrNeither, TimeKind, DateTime, time_kind, TimeFault}
-use Rattle.profile.specs.ZonedTimes.{has_zone_name, zone_named, SaysZoneOf, SpellsZoned, SaysZonedTime, LocalFault, NamedFault, InZoneFault, FaultIn, ZonedTimeFault}
+use Rattle.profile.specs.text.Lines.{line_param, line_value, is_same_name}
+use Rattle.profile.specs.text.Trees.{Tree, tree_name, tree_own}
+use Rattle.profile.specs.series.Zones as zones
+use Rattle.profile.specs.text.Values.{SpellsStamp}
+use Rattle.profile.specs.events.Properties.{BothOrNeither, TimeKind, DateTime, time_kind, TimeFault}
+use Rattle.profile.specs.events.ZonedTimes.{has_zone_name, zone_named, SaysZoneOf, SpellsZoned, SaysZonedTime, LocalFault, NamedFault, InZoneFault, FaultIn, ZonedTimeFault}
 use Rattle.cal_events.specs.Events.{IsTime}
 use Rattle.cal_events.specs.Zones.{is_zone_called, IsZoneRead}
 

@@ -5,13 +5,14 @@ use Rattle.std.specs.Cmp.Lexicographic.{slice_cmp}
 use Rattle.std.specs.declared.cmp.Ordering.{Ordering}
 use denote.Ref.{Bor}
 use Rattle.cal_events.specs.declared.sweep.Span.{Span}
-use Rattle.profile.specs.Instances.{Key, Booked}
+use Rattle.profile.specs.checker.Instances.{Key, Booked}
 use Rattle.ical_values.specs.Octets.{address_octets, text_octets}
 use Rattle.ical_lines.specs.declared.fault.Fault.{Fault}
 use Rattle.ical_lines.specs.declared.fault.Fault.TheVariants.{Refused, Memory}
 use Rattle.cal_events.specs.declared.instance.InstanceKey.{InstanceKey}
 use Rattle.cal_events.specs.declared.instance.Instance.{Instance}
-use Rattle.cal_events.specs.declared.instance.Booking.{Booking}
+use Rattle.cal_events.specs.declared.instance.OwnedKey.{OwnedKey}
+use Rattle.cal_events.specs.declared.instance.OwnedInstance.{OwnedInstance}
 use Rattle.cal_events.specs.declared.calendar.Entry.{Entry}
 use Rattle.cal_events.specs.declared.calendar.Singles.{Singles}
 
@@ -23,9 +24,13 @@ key_of k = record { organiser = k.organiser.now; uid = k.uid.now; slot = k.slot 
 abbrev pub instance_of : Instance → Booked
 instance_of i = record { key = key_of i.key; start = i.start; end = i.end }
 
--- the instance that a booking is
-abbrev pub booked_of : Booking → Booked
-booked_of b = record { key = record { organiser = address_octets b.organiser; uid = text_octets b.uid; slot = b.slot }; start = b.start; end = b.end }
+-- the key that owns its texts
+abbrev pub owned_key_of : OwnedKey → Key
+owned_key_of k = record { organiser = address_octets k.organiser; uid = text_octets k.uid; slot = k.slot }
+
+-- the instance that owns its texts
+abbrev pub booked_of : OwnedInstance → Booked
+booked_of i = record { key = owned_key_of i.key; start = i.start; end = i.end }
 
 -- the singles that an iterator has left
 abbrev pub singles_left : Singles → List Booked
@@ -37,7 +42,7 @@ HaveDifferentKeys all = AllPairs (λ a b. a.key ≢ b.key) all
 
 -- the meeting of an event: its organiser and its UID
 abbrev pub meeting_of : Entry → List ℕ × List ℕ
-meeting_of e = (address_octets e.booking.organiser, text_octets e.booking.uid)
+meeting_of e = (address_octets e.booking.key.organiser, text_octets e.booking.key.uid)
 
 -- the instances of the confirmed events, in order
 abbrev pub confirmed_in : List Entry → List Booked
@@ -53,7 +58,7 @@ abbrev pub HaveTwins : List Entry → Type 0
 HaveTwins es = (i : ℕ) × (j : ℕ) × (d : List ℕ × List ℕ) × (i < j) × (j < length es)
     × (slice_index_or (map meeting_of es) i d ≡ slice_index_or (map meeting_of es) j d)
 
--- want of memory, or two events of one meeting
+-- out of memory, or two events of one meeting
 abbrev pub IsTwinsFault : List Entry → Fault → Type 0
 IsTwinsFault es Memory = Unit {0}
 IsTwinsFault es (Refused r) = (r.number ≡ 53) × HaveTwins es
@@ -76,5 +81,5 @@ HasEqualNeighbours ps = (k : ℕ) × (p : Bor (List ℕ) × Bor (List ℕ)) × (
     × (slice_index_or ps k p ≡ p) × (slice_index_or ps (k + 1) q ≡ q) × (texts_of p ≡ texts_of q)
 
 -- the span of a booking
-abbrev pub span_of : Booking → Span
+abbrev pub span_of : OwnedInstance → Span
 span_of b = record { start = b.start; end = b.end }

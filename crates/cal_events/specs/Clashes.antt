@@ -1,6 +1,6 @@
 -- The clash that two places of a list name.
 use Rattle.std.specs.Prelude.{List, ◌≡◌, ◌<◌, ◌≤ℤ◌, length, slice_index_or}
-use Rattle.profile.specs.Instances.{Booked, IsClash}
+use Rattle.profile.specs.checker.Instances.{Booked, IsClash}
 use Rattle.cal_events.specs.declared.sweep.Overlap.{Overlap}
 
 -- the instances at the two places clash at the instant: the second's start, and the first starts no later

@@ -5,17 +5,17 @@ use Rattle.ical_values.specs.declared.duration.Duration.{Duration}
 use Rattle.std.specs.List.{AllZip, list_any}
 use Rattle.cal_events.specs.Calendars.{booked_of}
 use Rattle.cal_events.specs.declared.calendar.Entry.{Entry}
-use Rattle.profile.specs.Faults.{is_event_fault, is_series_event_fault, is_unread}
-use Rattle.profile.specs.Instances.{Booked}
-use Rattle.profile.specs.Events as profile
-use Rattle.profile.specs.Properties as properties
-use Rattle.profile.specs.Properties.{length_seconds, time_kind}
-use Rattle.profile.specs.Trees.{Tree}
-use Rattle.profile.specs.Values.{SpellsStamp}
-use Rattle.profile.specs.ZonedTimes as zoned
-use Rattle.profile.specs.Zones.{Zone}
+use Rattle.profile.specs.faults.Faults.{is_event_fault, is_series_event_fault, is_unread}
+use Rattle.profile.specs.checker.Instances.{Booked}
+use Rattle.profile.specs.events.Events as profile
+use Rattle.profile.specs.events.Properties as properties
+use Rattle.profile.specs.events.Properties.{length_seconds, time_kind}
+use Rattle.profile.specs.text.Trees.{Tree}
+use Rattle.profile.specs.text.Values.{SpellsStamp}
+use Rattle.profile.specs.events.ZonedTimes as zoned
+use Rattle.profile.specs.series.Zones.{Zone}
 use Rattle.cal_zones.specs.Kinds.{zone_of}
-use Rattle.profile.specs.Lines.{line_value, is_same_name}
+use Rattle.profile.specs.text.Lines.{line_value, is_same_name}
 use Rattle.ical_tree.specs.Tree.{component_name, component_lines, component_children}
 use Rattle.ical_tree.specs.declared.component.Component.{Component}
 use Rattle.cal_events.specs.declared.event_times.Extent.{Extent}
@@ -118,7 +118,7 @@ abbrev pub IsUnreadOrFault : Tree → Purpose → List (List ℕ) → ℕ → Ty
 IsUnreadOrFault object purpose lines n =
     ((n ≡ 99) × (has_unread_for purpose lines ≡ true)) ⊎ profile.EventFault object (is_message purpose) lines n
 
--- one of some VEVENTs does
+-- one of these VEVENTs has
 abbrev pub IsUnreadOrFaultAmong : Tree → Purpose → List (List (List ℕ)) → ℕ → Type 0
 IsUnreadOrFaultAmong object purpose vevents n = (lines : List (List ℕ)) × Contains vevents lines × IsUnreadOrFault object purpose lines n
 

@@ -1,6 +1,6 @@
 -- Spans that share an instant, and the list that the sweep sorts.
 use Rattle.std.specs.Prelude.{ℕ, ℤ, pos, Bool, cond, ◌&&◌, List, [], ◌∷◌, ◌+◌, ◌<◌, ◌≢◌, ◌≡◌, ◌≤ℤ◌, ◌<ℤ◌, int_lt, length, slice_index_or}
-use Rattle.profile.specs.Instances.{horizon, IsWithin}
+use Rattle.profile.specs.checker.Instances.{horizon, IsWithin}
 use Rattle.cal_events.specs.declared.sweep.Span.{Span}
 use Rattle.cal_events.specs.declared.sweep.Placed.{Placed}
 use Rattle.cal_events.specs.declared.sweep.Overlap.{Overlap}

@@ -1,12 +1,12 @@
 -- What the readers of times in zones see of components.
 use Rattle.std.specs.Prelude.{◌≡◌, ◌↔◌, ℕ, ◌<◌, Bool, true, false, IsTrue, List, codes, Option, Some, None, ℤ, ◌+ℤ◌}
-use Rattle.profile.specs.Trees.{Tree}
-use Rattle.profile.specs.Zones.{Zone, Means}
-use Rattle.profile.specs.Lines.{line_value}
-use Rattle.profile.specs.Rules.{RuleText}
-use Rattle.profile.specs.RuleTexts.{SpellsRule}
-use Rattle.profile.specs.Properties.{Length, LastsFor, StandsAtMostOnce, Says}
-use Rattle.profile.specs.ZonedTimes.{is_in_zone, IsInDates, SaysZonedTime, clock_of}
+use Rattle.profile.specs.text.Trees.{Tree}
+use Rattle.profile.specs.series.Zones.{Zone, Means}
+use Rattle.profile.specs.text.Lines.{line_value}
+use Rattle.profile.specs.series.Rules.{RuleText}
+use Rattle.profile.specs.series.RuleTexts.{SpellsRule}
+use Rattle.profile.specs.events.Properties.{Length, LastsFor, StandsAtMostOnce, Says}
+use Rattle.profile.specs.events.ZonedTimes.{is_in_zone, IsInDates, SaysZonedTime, clock_of}
 use Rattle.cal_events.specs.Events.{length_of, zone_said}
 use Rattle.cal_events.specs.declared.event_rule.SaidRule.{SaidRule}
 use Rattle.cal_events.specs.declared.event_times.Extent.{Extent}

@@ -7,11 +7,11 @@ use Rattle.cal_zones.specs.declared.zone.Zone.{Zone}
 use Rattle.ical_lines.specs.declared.fault.Refusal.{Refusal}
 use Rattle.ical_tree.specs.Tree.{component_name, component_lines, component_children, tree_of}
 use Rattle.ical_tree.specs.declared.component.Component.{Component}
-use Rattle.profile.specs.Lines.{is_same_name}
-use Rattle.profile.specs.Properties.{BothOrNeither}
-use Rattle.profile.specs.ZonedTimes.{zone_name, has_zone_name}
-use Rattle.profile.specs.ZoneTexts.{SaysZone, ZoneFault}
-use Rattle.profile.specs.Trees.{Tree}
+use Rattle.profile.specs.text.Lines.{is_same_name}
+use Rattle.profile.specs.events.Properties.{BothOrNeither}
+use Rattle.profile.specs.events.ZonedTimes.{zone_name, has_zone_name}
+use Rattle.profile.specs.series.ZoneTexts.{SaysZone, ZoneFault}
+use Rattle.profile.specs.text.Trees.{Tree}
 use Rattle.cal_events.specs.declared.zones.Zones.{Zones}
 
 -- the name that a component gives a zone: none where it is no VTIMEZONE

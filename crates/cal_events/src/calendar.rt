@@ -3,13 +3,13 @@
 ghost use Rattle.std.specs.Prelude.{◌≡◌, ◌<◌, map, length, IfOk, IfErr, IfNone, IfSome, MatchBool};
 ghost use Rattle.std.specs.List.{AllAdjacentBelow};
 ghost use Rattle.std.specs.Iterator.{YieldsFirstBy, item_count};
-ghost use Rattle.profile.specs.Instances.{IsClear};
+ghost use Rattle.profile.specs.checker.Instances.{IsClear};
 ghost use Rattle.ical_lines.specs.Fault.{RefusesOnly};
-ghost use Rattle.profile.specs.Faults.{is_between};
+ghost use Rattle.profile.specs.faults.Faults.{is_between};
 ghost use Rattle.cal_events.specs.Calendars.{booked_of, instance_of, singles_left, confirmed_in, meeting_of, HaveDifferentKeys, MeetingsDiffer, HaveTwins, IsTwinsFault, texts_of, span_of, HaveOtherTexts, HasEqualNeighbours};
 ghost use Rattle.cal_events.specs.Clashes.{Names};
 
-use crate::instance::{Booking, Instance};
+use crate::instance::{Instance, OwnedInstance};
 use crate::sweep::{Overlap, Span, first_overlap};
 use ical_lines::{Fault, Refusal};
 use std::alloc::{AllocError, Global};
@@ -19,19 +19,19 @@ use std::marker::Model;
 /// cancelled (RFC 5545 3.2.12, 3.8.1.11).
 #[derive(Drop)]
 pub struct Entry {
-    pub booking: Booking,
+    pub booking: OwnedInstance,
     pub confirmed: bool,
 }
 
 /// The confirmed instances of a room.
 #[derive(Drop)]
 pub struct Calendar {
-    bookings: Vec<Booking>,
+    bookings: Vec<OwnedInstance>,
 }
 
 impl Model for Calendar {
     ghost use Rattle.std.specs.Prelude.{List, map};
-    ghost use Rattle.profile.specs.Instances.{Booked};
+    ghost use Rattle.profile.specs.checker.Instances.{Booked};
     ghost use Rattle.cal_events.specs.Calendars.{booked_of, HaveDifferentKeys};
 
     ghost Value = { List Booked };
@@ -44,7 +44,7 @@ impl Model for Calendar {
 /// The singles of a calendar, in its order.
 #[derive(Drop)]
 pub struct Singles<'a> {
-    bookings: &'a [Booking],
+    bookings: &'a [OwnedInstance],
 }
 
 impl Calendar {
@@ -74,7 +74,7 @@ impl Calendar {
     }
 
     /// The same, owned by the calendar.
-    pub fn bookings(&self) -> &[Booking]
+    pub fn bookings(&self) -> &[OwnedInstance]
         ensures all { map booked_of result.now ≡ self.now }
         ensures keys { HaveDifferentKeys self.now }
     {
@@ -116,7 +116,7 @@ impl<'a> Iterator for Singles<'a> {
     fn next(&mut self) -> Option<Instance<'a>> {
         let (booking, rest) = self.bookings.split_first()?;
         self.bookings = rest;
-        Some(booking.instance())
+        Some(booking.lend())
     }
 }
 
@@ -135,7 +135,8 @@ fn meetings_of(alloc: Global, entries: &[Entry]) -> Result<Vec<(&str, &str)>, Al
 {
     let mut meetings = Vec::new(alloc);
     for entry in entries {
-        meetings.push((entry.booking.organiser.as_str(), entry.booking.uid.as_str()))?;
+        let key = &entry.booking.key;
+        meetings.push((key.organiser.as_str(), key.uid.as_str()))?;
     }
     Ok(meetings)
 }
@@ -160,7 +161,7 @@ fn is_same_meeting(a: (&str, &str), b: (&str, &str)) -> bool
 }
 
 /// The bookings of the confirmed events, in order.
-fn confirmed(alloc: Global, entries: Vec<Entry>) -> Result<Vec<Booking>, AllocError>
+fn confirmed(alloc: Global, entries: Vec<Entry>) -> Result<Vec<OwnedInstance>, AllocError>
     ensures { IfOk result (λ v. map booked_of v.items ≡ confirmed_in entries.items) }
 {
     let mut bookings = Vec::new(alloc);
@@ -173,7 +174,7 @@ fn confirmed(alloc: Global, entries: Vec<Entry>) -> Result<Vec<Booking>, AllocEr
 }
 
 /// The span of each booking, in order.
-fn spans_of(alloc: Global, bookings: &[Booking]) -> Result<Vec<Span>, AllocError>
+fn spans_of(alloc: Global, bookings: &[OwnedInstance]) -> Result<Vec<Span>, AllocError>
     ensures { IfOk result (λ v. v.items ≡ map span_of bookings.now) }
 {
     let mut spans = Vec::new(alloc);

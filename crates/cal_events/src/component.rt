@@ -5,11 +5,11 @@ ghost use Rattle.std.specs.List.{AllZip};
 ghost use Rattle.ical_lines.specs.Fault.{RefusesOnly, RefusesBy};
 ghost use Rattle.ical_lines.specs.Text.{line_text};
 ghost use Rattle.ical_values.specs.Octets.{address_octets, text_octets};
-ghost use Rattle.profile.specs.Trees.{Tree};
-ghost use Rattle.profile.specs.Faults.{is_event_fault};
-ghost use Rattle.profile.specs.Values.{SpellsStamp};
-ghost use Rattle.profile.specs.Events.{Event, answer_named, answer_of, SaysSequence, SaysEvent, IsAttendee, EventFault};
-ghost use Rattle.profile.specs.Properties.{length_seconds, lines_named, malformed_number, Says, IsUidLine, IsAddressLine, IsStampLine, IsDateText, IsLocalText, IsNoAddress, UnfixedOrMalformed, time_kind, DateTime, KindFault, TimeFault};
+ghost use Rattle.profile.specs.text.Trees.{Tree};
+ghost use Rattle.profile.specs.faults.Faults.{is_event_fault};
+ghost use Rattle.profile.specs.text.Values.{SpellsStamp};
+ghost use Rattle.profile.specs.events.Events.{Event, answer_named, answer_of, SaysSequence, SaysEvent, IsAttendee, EventFault};
+ghost use Rattle.profile.specs.events.Properties.{length_seconds, lines_named, malformed_number, Says, IsUidLine, IsAddressLine, IsStampLine, IsDateText, IsLocalText, IsNoAddress, UnfixedOrMalformed, time_kind, DateTime, KindFault, TimeFault};
 ghost use Rattle.cal_events.specs.Zones.{object_of, AreRead};
 ghost use Rattle.cal_events.specs.Events.{is_message, has_unread_for, is_fault_for, IsUnreadOrFault, participation_of, attendee_of, length_of, event_of, said_kind, IsTime};
 

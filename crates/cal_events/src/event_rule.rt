@@ -4,10 +4,10 @@ ghost use Rattle.std.specs.Prelude.{◌≡◌, ◌<◌, ℕ, List, IfOk, IfErr, 
 ghost use Rattle.ical_lines.specs.Fault.{RefusesBy};
 ghost use Rattle.cal_rules.specs.Views.{until_of};
 ghost use Rattle.cal_zones.specs.Kinds.{zone_of};
-ghost use Rattle.profile.specs.Days.{day_index};
-ghost use Rattle.profile.specs.Trees.{Tree};
-ghost use Rattle.profile.specs.ZonedTimes.{SaysEventTimes, clock_of};
-ghost use Rattle.profile.specs.EventRules.{IsLastAllowed, AllowsNone, GivesRule, SaysEventRule, IsOutside, EventRuleFault};
+ghost use Rattle.profile.specs.series.Days.{day_index};
+ghost use Rattle.profile.specs.text.Trees.{Tree};
+ghost use Rattle.profile.specs.events.ZonedTimes.{SaysEventTimes, clock_of};
+ghost use Rattle.profile.specs.events.EventRules.{IsLastAllowed, AllowsNone, GivesRule, SaysEventRule, IsOutside, EventRuleFault};
 ghost use Rattle.cal_events.specs.Events.{times_of, zone_said};
 ghost use Rattle.cal_events.specs.Zoned.{IsRuleSaid};
 

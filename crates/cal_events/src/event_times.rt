@@ -3,11 +3,11 @@
 
 ghost use Rattle.std.specs.Prelude.{◌≡◌, ◌↔◌, ◌≤◌, ◌^◌, ℕ, List, Some, pos, ◌+ℤ◌, ◌<ℤ◌, IfOk, IfErr, OnOk, OnErr, IsTrue};
 ghost use Rattle.ical_lines.specs.Text.{line_text};
-ghost use Rattle.profile.specs.Trees.{Tree};
-ghost use Rattle.profile.specs.Zones.{IsNearEpoch};
-ghost use Rattle.profile.specs.Faults.{is_event_fault};
-ghost use Rattle.profile.specs.Properties.{length_seconds};
-ghost use Rattle.profile.specs.ZonedTimes.{is_in_zone, IsInDates, ZonedTimeFault, HasCountedDays, HasNominalLength, SaysEventTimes, EventTimesFault};
+ghost use Rattle.profile.specs.text.Trees.{Tree};
+ghost use Rattle.profile.specs.series.Zones.{IsNearEpoch};
+ghost use Rattle.profile.specs.faults.Faults.{is_event_fault};
+ghost use Rattle.profile.specs.events.Properties.{length_seconds};
+ghost use Rattle.profile.specs.events.ZonedTimes.{is_in_zone, IsInDates, ZonedTimeFault, HasCountedDays, HasNominalLength, SaysEventTimes, EventTimesFault};
 ghost use Rattle.cal_events.specs.Events.{times_of, length_of, GivesLength, ExtentFault};
 ghost use Rattle.cal_events.specs.Zones.{object_of, AreRead};
 ghost use Rattle.cal_events.specs.Zoned.{EndsSo, IsExtentIn, IsExact, IsNominal, AreSaid};

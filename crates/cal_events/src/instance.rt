@@ -1,6 +1,6 @@
 //! Instances: a meeting's hold on the room for one span of time, and which one it is.
 ghost use Rattle.std.specs.Prelude.{◌≡◌};
-ghost use Rattle.cal_events.specs.Calendars.{instance_of, booked_of};
+ghost use Rattle.cal_events.specs.Calendars.{key_of, owned_key_of, instance_of, booked_of};
 
 use ical_values::{Address, Text};
 
@@ -25,28 +25,42 @@ pub struct Instance<'a> {
     pub end: i64,
 }
 
-/// An instance that owns its texts.
-#[derive(Drop)]
-pub struct Booking {
+/// A key that owns its texts.
+#[derive(Clone, Drop)]
+pub struct OwnedKey {
     pub organiser: Address,
     pub uid: Text,
     pub slot: i64,
+}
+
+impl OwnedKey {
+    /// The key, with its texts borrowed.
+    pub fn lend(&self) -> InstanceKey<'_>
+        ensures { key_of result ≡ owned_key_of self.now }
+    {
+        InstanceKey {
+            organiser: self.organiser.as_str(),
+            uid: self.uid.as_str(),
+            slot: self.slot,
+        }
+    }
+}
+
+/// An instance that owns its texts.
+#[derive(Drop)]
+pub struct OwnedInstance {
+    pub key: OwnedKey,
     pub start: i64,
     pub end: i64,
 }
 
-impl Booking {
+impl OwnedInstance {
     /// The instance, with its texts borrowed.
-    pub fn instance(&self) -> Instance<'_>
+    pub fn lend(&self) -> Instance<'_>
         ensures { instance_of result ≡ booked_of self.now }
     {
-        let key = InstanceKey {
-            organiser: self.organiser.as_str(),
-            uid: self.uid.as_str(),
-            slot: self.slot,
-        };
         Instance {
-            key,
+            key: self.key.lend(),
             start: self.start,
             end: self.end,
         }

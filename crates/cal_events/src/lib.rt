@@ -16,7 +16,7 @@ mod zones;
 pub use calendar::{Calendar, Entry, Singles};
 pub use component::{Attendee, EventComponent, ParticipationStatus, Purpose, one_event};
 pub use event_times::{EventTimes, refuse_nominal_length};
-pub use instance::{Booking, HORIZON, Instance, InstanceKey};
+pub use instance::{HORIZON, Instance, InstanceKey, OwnedInstance, OwnedKey};
 pub use reading::{one_calendar, one_calendar_text, read_events, refuse_unread_events};
 pub use series::{one_series, read_series, series_of};
 pub use sweep::{Overlap, Span, first_overlap};

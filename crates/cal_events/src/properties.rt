@@ -1,8 +1,8 @@
 //! The properties of one VEVENT by their names (RFC 5545 3.6.1, 3.8), and what isn't read yet.
 ghost use Rattle.std.specs.Prelude.{◌≡◌, ◌⊎◌, Some, true, false, option_map, IfOk, IfErr, OnOk, OnErr};
 ghost use Rattle.ical_lines.specs.Text.{line_text};
-ghost use Rattle.profile.specs.Events.{is_unread_line, is_of_instances, is_end_of_event};
-ghost use Rattle.profile.specs.Properties.{IsMissing, StandsAtMostOnce, StandsTwice};
+ghost use Rattle.profile.specs.events.Events.{is_unread_line, is_of_instances, is_end_of_event};
+ghost use Rattle.profile.specs.events.Properties.{IsMissing, StandsAtMostOnce, StandsTwice};
 ghost use Rattle.cal_events.specs.Events.{is_unread_for, has_unread_for};
 
 use crate::component::Purpose;

@@ -3,18 +3,18 @@ ghost use Rattle.std.specs.Prelude.{ℕ, List, ◌≡◌, [], true, false, map, 
 ghost use Rattle.std.specs.List.{list_any, AllZip};
 ghost use Rattle.ical_lines.specs.Fault.{RefusesOnly, RefusesBy};
 ghost use Rattle.ical_values.specs.Octets.{address_octets};
-ghost use Rattle.profile.specs.Faults.{is_calendar_fault, is_unread};
-ghost use Rattle.profile.specs.Instances.{Booked};
-ghost use Rattle.profile.specs.Calendars.{SpellsCalendar, CalendarTextFault};
-ghost use Rattle.profile.specs.Events.{is_confirmed, SaysCalendar, SaysEvent, CalendarFault, has_unread};
-ghost use Rattle.profile.specs.Trees.{Tree};
+ghost use Rattle.profile.specs.faults.Faults.{is_calendar_fault, is_unread};
+ghost use Rattle.profile.specs.checker.Instances.{Booked};
+ghost use Rattle.profile.specs.checker.Calendars.{SpellsCalendar, CalendarTextFault};
+ghost use Rattle.profile.specs.events.Events.{is_confirmed, SaysCalendar, SaysEvent, CalendarFault, has_unread};
+ghost use Rattle.profile.specs.text.Trees.{Tree};
 ghost use Rattle.ical_tree.specs.Tree.{component_lines, tree_of};
 ghost use Rattle.cal_events.specs.Zones.{object_of, AreRead};
 ghost use Rattle.cal_events.specs.Events.{IsUnreadOrFault, IsUnreadOrFaultAmong, is_message, has_unread_for, is_fault_for, event_of, vevents_of, entry_view, entry_said, AreEntries};
 
 use crate::calendar::{Calendar, Entry};
 use crate::component::{EventComponent, ParticipationStatus, Purpose, one_event};
-use crate::instance::Booking;
+use crate::instance::{OwnedInstance, OwnedKey};
 use crate::properties::refuse_unread;
 use crate::zones::Zones;
 use ical_lines::{Fault, Limits, Unfolded};
@@ -158,13 +158,12 @@ fn entry_of(alloc: Global, event: &EventComponent, room: &Address) -> Result<Ent
     let confirmed = has_accepted(event, room);
     let start = event.times.instant.instant();
     let end = event.end();
-    let booking = Booking {
+    let key = OwnedKey {
         organiser: organiser_of(alloc, event)?,
         uid: event.uid.clone()?,
         slot: start,
-        start,
-        end,
     };
+    let booking = OwnedInstance { key, start, end };
     Ok(Entry { booking, confirmed })
 }
 

@@ -4,9 +4,9 @@
 ghost use Rattle.std.specs.Prelude.{◌≡◌, ◌∷◌, [], ℕ, List, IfOk, IfErr};
 ghost use Rattle.ical_lines.specs.Fault.{RefusesOnly, RefusesBy};
 ghost use Rattle.ical_tree.specs.Tree.{component_lines, tree_of};
-ghost use Rattle.profile.specs.Faults.{is_series_fault};
-ghost use Rattle.profile.specs.Events.{Event};
-ghost use Rattle.profile.specs.Series.{SaysSeries, SpellsSeries, SeriesFault, SeriesTextFault};
+ghost use Rattle.profile.specs.faults.Faults.{is_series_fault};
+ghost use Rattle.profile.specs.events.Events.{Event};
+ghost use Rattle.profile.specs.events.Series.{SaysSeries, SpellsSeries, SeriesFault, SeriesTextFault};
 ghost use Rattle.cal_events.specs.Events.{event_of, vevents_of, IsNotOneEvent};
 
 use crate::component::{EventComponent, Purpose, one_event};

@@ -7,7 +7,7 @@ ghost use Rattle.cal_events.specs.Sweep.{IsOverlap, AreApart, AreNeighbours, pla
 use crate::instance::HORIZON;
 use std::alloc::{AllocError, Global};
 
-/// The seconds from `start` on and before `end`.
+/// The seconds from `start` on and before `end`, each counted from 1970-01-01T00:00:00Z.
 #[derive(Clone, Copy, PartialEq, Eq)]
 pub struct Span {
     pub start: i64,

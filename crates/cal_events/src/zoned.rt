@@ -2,13 +2,13 @@
 //! (RFC 5545 3.2.19, 3.3.5, 3.6.5, 3.8.3.1). A VTIMEZONE that no line names isn't read.
 ghost use Rattle.std.specs.Prelude.{◌≡◌, ℕ, List, Option, None, Some, ℤ, IfOk, IfErr};
 ghost use Rattle.ical_lines.specs.Text.{line_text};
-ghost use Rattle.profile.specs.Lines.{line_value};
-ghost use Rattle.profile.specs.Trees.{Tree};
-ghost use Rattle.profile.specs.Values.{SpellsLocal};
-ghost use Rattle.profile.specs.Zones as zones;
-ghost use Rattle.profile.specs.Zones.{Means, IsNearEpoch};
-ghost use Rattle.profile.specs.Properties.{time_kind, DateTime};
-ghost use Rattle.profile.specs.ZonedTimes.{SpellsZoned, SaysZonedTime, clock_of, DateOrMalformed, LocalFault, InZoneFault, ZonedTimeFault};
+ghost use Rattle.profile.specs.text.Lines.{line_value};
+ghost use Rattle.profile.specs.text.Trees.{Tree};
+ghost use Rattle.profile.specs.text.Values.{SpellsLocal};
+ghost use Rattle.profile.specs.series.Zones as zones;
+ghost use Rattle.profile.specs.series.Zones.{Means, IsNearEpoch};
+ghost use Rattle.profile.specs.events.Properties.{time_kind, DateTime};
+ghost use Rattle.profile.specs.events.ZonedTimes.{SpellsZoned, SaysZonedTime, clock_of, DateOrMalformed, LocalFault, InZoneFault, ZonedTimeFault};
 ghost use Rattle.cal_zones.specs.Kinds.{zone_of};
 ghost use Rattle.cal_events.specs.Zones.{object_of, AreRead};
 ghost use Rattle.cal_events.specs.Events.{zone_said};

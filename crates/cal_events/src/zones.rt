@@ -5,8 +5,8 @@ ghost use Rattle.std.specs.Prelude.{◌≡◌, ◌∷◌, ◌++◌, [], List, fi
 ghost use Rattle.ical_lines.specs.Text.{line_text};
 ghost use Rattle.ical_tree.specs.Tree.{component_lines};
 ghost use Rattle.ical_tree.specs.declared.component.Component.{Component};
-ghost use Rattle.profile.specs.Properties.{is_of};
-ghost use Rattle.profile.specs.ZonedTimes.{zone_named, SaysZoneOf, NamedFault};
+ghost use Rattle.profile.specs.events.Properties.{is_of};
+ghost use Rattle.profile.specs.events.ZonedTimes.{zone_named, SaysZoneOf, NamedFault};
 ghost use Rattle.cal_zones.specs.Kinds.{zone_of};
 ghost use Rattle.cal_events.specs.Zones.{AreZonesAmong, IsZoneRead, name_said, object_of, AreRead};
 
@@ -29,7 +29,7 @@ pub(crate) struct Zones<'c, 'a> {
 }
 
 impl<'c, 'a> Zones<'c, 'a> {
-    /// The VTIMEZONEs directly inside an object. It fails only for want of memory.
+    /// The VTIMEZONEs directly inside an object. It fails only where memory runs out.
     pub(crate) fn of(alloc: Global, object: &'c Component<'a>) -> Result<Zones<'c, 'a>, AllocError>
         ensures object { IfOk result (λ zones. zones.object.now ≡ object.now) }
         ensures read { IfOk result AreRead }

@@ -2,7 +2,7 @@
 use Rattle.std.proofs.Common.{◌≡◌, ◌∙◌, sym, refl, inl, inr, ℕ, zero, suc, ◌+◌, ◌-◌, ◌<◌, ◌≤◌, min, max, Bool, true, false, ◌&&◌, nat_le, Some, None, arith}
 use Rattle.std.proofs.lemmas.Bool.{cases_lt, false≢true, and_cases, and_left, and_right}
 use Rattle.std.proofs.lemmas.Bool.Decides.{nat_tests}
-use Rattle.profile.specs.Rules.{Parts, count_days, is_rule_day, is_within_count, is_counted, is_base, is_placed, last_rule_day}
+use Rattle.profile.specs.series.Rules.{Parts, count_days, is_rule_day, is_within_count, is_counted, is_base, is_placed, last_rule_day}
 use Rattle.cal_rules.specs.Counted.{NoneIn, IsFirstIn, NoneFrom, NoneBetween, IsNextCounted, EndsAt, is_chosen}
 
 -- no such day before DTSTART

@@ -2,10 +2,10 @@
 use Rattle.std.proofs.Common.{◌≡◌, ◌∙◌, sym, refl, ℕ, ◌+◌, ◌-◌, ◌<◌, ◌≤◌, min, max, true, false, Option, Some, None, MatchOption, arith}
 use Rattle.std.proofs.lemmas.Bool.{false≢true}
 use Rattle.std.specs.List.{list_any, list_all}
-use Rattle.profile.specs.Rules.{Pattern, Parts, allows, is_nth, is_missing, passes, is_in_step, count_days, last_rule_day}
+use Rattle.profile.specs.series.Rules.{Pattern, Parts, allows, is_nth, is_missing, passes, is_in_step, count_days, last_rule_day}
 use Rattle.cal_rules.specs.declared.facts.DayFacts.{DayFacts}
 use Rattle.cal_rules.specs.declared.cursor.Cursor.{Cursor}
-use Rattle.cal_rules.specs.declared.cursor.Span.{Span}
+use Rattle.cal_rules.specs.declared.cursor.PeriodDays.{PeriodDays}
 use Rattle.cal_rules.specs.Spans.{IsSpan}
 use Rattle.cal_rules.specs.Known.{AreFacts}
 use Rattle.cal_rules.specs.Counted.{NoneIn, NoneFrom, is_chosen}
@@ -78,7 +78,7 @@ placed_is p c s inside some passed =
 -- FROM THE END
 
 -- where all set positions count from the last day, it isn't counted how many days pass before
-pub entered_from_end : (p : Pattern) (day depth : ℕ) (span : Span) (here : DayFacts) (later : ℕ) → IsSpan p.frequency p.week_start day span.first span.end → is_in_step p day ≡ true → span.end ≤ 3_653_155 → list_all (is_among_last depth) p.positions ≡ true → AreFacts here → day ≤ here.index → here.index ≤ span.end → later ≡ count_days (passes p) here.index (span.end - here.index) → StandsAt p (record { day = here; span = span; earlier = 0; later = later })
+pub entered_from_end : (p : Pattern) (day depth : ℕ) (span : PeriodDays) (here : DayFacts) (later : ℕ) → IsSpan p.frequency p.week_start day span.first span.end → is_in_step p day ≡ true → span.end ≤ 3_653_155 → list_all (is_among_last depth) p.positions ≡ true → AreFacts here → day ≤ here.index → here.index ≤ span.end → later ≡ count_days (passes p) here.index (span.end - here.index) → StandsAt p (record { day = here; span = span; earlier = 0; later = later })
 entered_from_end p day depth span here later s step high deep facts low inside count =
     let first = s.first_day in
     let place = s.not_before in

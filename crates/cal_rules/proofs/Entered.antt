@@ -5,7 +5,7 @@ use Rattle.std.specs.Fn.{Shared, FnReturnsAt}
 use Rattle.std.specs.List.{AllZip, Contains, list_all, slice_split}
 use Rattle.std.proofs.lemmas.List.{length-map, map-id}
 use Rattle.std.proofs.lemmas.List.Elements.{Contains-append_right}
-use Rattle.profile.specs.RuleTexts.{SpellsList, SpellsNone}
+use Rattle.profile.specs.series.RuleTexts.{SpellsList, SpellsNone}
 use Rattle.cal_rules.specs.Lists.{IsNoList}
 
 push_zip : {A : Type 0} (Is : List ℕ → A → Type 0) (vs : List (List ℕ)) (xs : List A) (v : List ℕ) (x : A) → AllZip Is vs xs → Is v x → AllZip Is (vs ++ v ∷ []) (xs ++ x ∷ [])

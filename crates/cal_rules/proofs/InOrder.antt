@@ -6,9 +6,9 @@ use Rattle.std.proofs.lemmas.Int.{ints}
 use Rattle.std.proofs.lemmas.List.FromFn.{length-map-range_with_len, get_or-map-range_with_len, length-range_with_len, get_or-range_with_len}
 use Rattle.std.specs.List.{list_any, list_all, range_with_len}
 use Rattle.std.specs.Ordering.{int_eq}
-use Rattle.profile.specs.Faults.{is_between}
-use Rattle.profile.specs.Rules.{RuleText, WeekdayNumber, Until, is_weekly, is_long, is_place, is_plain, is_entry, is_missing, is_short, is_in_range, go_together, IsAllowed}
-use Rattle.profile.specs.RuleTexts.{months_from, numbers_from, entries_from, nth_number, nth_entry, is_same_entry, rule_text, as_written, HandsIn, SpellsRule}
+use Rattle.profile.specs.faults.Faults.{is_between}
+use Rattle.profile.specs.series.Rules.{RuleText, WeekdayNumber, Until, is_weekly, is_long, is_place, is_plain, is_entry, is_missing, is_short, is_in_range, go_together, IsAllowed}
+use Rattle.profile.specs.series.RuleTexts.{months_from, numbers_from, entries_from, nth_number, nth_entry, is_same_entry, rule_text, as_written, HandsIn, SpellsRule}
 use Rattle.cal_rules.proofs.WholeRule.{Ranges, ranges, rule_back}
 use Rattle.cal_rules.proofs.ReadBack.{up_to, below}
 use Rattle.cal_rules.proofs.OneRule.{weekday_test}

@@ -2,7 +2,7 @@
 use Rattle.std.proofs.Common.{◌≡◌, ◌∙◌, ap, sym, refl, ℕ, suc, pos, Bool, true, false, ◌&&◌, ◌||◌, ◌==◌, nat_eq, List, [], ◌∷◌, map, if◌then◌else◌, arith}
 use Rattle.std.proofs.lemmas.Bool.Decides.{nat_tests}
 use Rattle.std.specs.List.{list_any}
-use Rattle.profile.specs.Rules.{allows, names_weekday}
+use Rattle.profile.specs.series.Rules.{allows, names_weekday}
 
 or_false : (b : Bool) → (b || false) ≡ b
 or_false true = refl

@@ -1,7 +1,7 @@
 -- The lists of a rule as they are written.
 use Rattle.std.proofs.Common.{to_z, of_z, w16, ◌≡◌, ◌∙◌, ap, ℕ, ◌<◌, List, [], ◌∷◌, ◌++◌, codes, append_assoc, append-nil, pos, ◌-ℤ◌, arith}
 use Rattle.std.proofs.lemmas.Int.{ints}
-use Rattle.profile.specs.RuleTexts.{listed, nth_number}
+use Rattle.profile.specs.series.RuleTexts.{listed, nth_number}
 
 joined : (b lead entry rest : List ℕ) → ((b ++ lead) ++ entry) ++ rest ≡ b ++ (lead ++ entry ++ rest)
 joined b lead entry rest = simp append_assoc

@@ -3,7 +3,7 @@ use Rattle.std.proofs.Common.{◌≡◌, refl, ℕ, zero, suc, ◌+◌, ◌-◌,
 use Rattle.std.proofs.lemmas.Bool.{and_parts}
 use Rattle.std.proofs.lemmas.Bool.Decides.{nat_tests}
 use Rattle.std.specs.List.{range_with_len}
-use Rattle.profile.specs.Rules.{Parts, RuleText, is_in_range, is_rule_day, is_counted, rule_days_from, NoDayFrom, IsNextDay, last_rule_day}
+use Rattle.profile.specs.series.Rules.{Parts, RuleText, is_in_range, is_rule_day, is_counted, rule_days_from, NoDayFrom, IsNextDay, last_rule_day}
 use Rattle.cal_rules.proofs.Counting.{counted_bound}
 
 -- INTERVAL is at least 1

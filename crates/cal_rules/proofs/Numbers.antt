@@ -9,11 +9,11 @@ use denote.Ref.{Bor}
 use Rattle.std.specs.Str.{IsCharBoundary}
 use Rattle.std.specs.Str.Parse.{AllDigits, IsNumeral, digits_value, without_leading_plus, ParsesUnsigned}
 use Rattle.std.specs.Result.{result_ok}
-use Rattle.profile.specs.Faults.{is_between}
-use Rattle.profile.specs.Days.{Frequency, Daily, Weekly, Monthly, Yearly}
-use Rattle.profile.specs.Values.{IsNumber, SpellsDate, SpellsLocal, SpellsStamp}
-use Rattle.profile.specs.Rules.{WeekdayNumber, Until, UntilDay, UntilLocal, UntilInstant}
-use Rattle.profile.specs.RuleTexts.{frequency_word, weekday_word, SpellsFrequency, SpellsWeekday, SpellsBetween, SpellsPlace, SpellsEntry, SpellsUntil, SpellsNone}
+use Rattle.profile.specs.faults.Faults.{is_between}
+use Rattle.profile.specs.series.Days.{Frequency, Daily, Weekly, Monthly, Yearly}
+use Rattle.profile.specs.text.Values.{IsNumber, SpellsDate, SpellsLocal, SpellsStamp}
+use Rattle.profile.specs.series.Rules.{WeekdayNumber, Until, UntilDay, UntilLocal, UntilInstant}
+use Rattle.profile.specs.series.RuleTexts.{frequency_word, weekday_word, SpellsFrequency, SpellsWeekday, SpellsBetween, SpellsPlace, SpellsEntry, SpellsUntil, SpellsNone}
 use Rattle.ical_values.proofs.Spelled.{clock_parts, date_length}
 use Rattle.ical_values.proofs.Readings.{date_same, clock_same, stamp_same}
 use Rattle.ical_values.proofs.Parts.{head, tail}

@@ -5,10 +5,10 @@ use Rattle.std.proofs.lemmas.Bool.Decides.{nat_tests}
 use Rattle.std.proofs.lemmas.List.Elements.{All-contains}
 use Rattle.std.specs.List.{list_all}
 use Rattle.std.proofs.lemmas.Bool.{and_from, or_right}
-use Rattle.profile.specs.Faults.{is_between}
-use Rattle.profile.specs.Days.{Frequency}
-use Rattle.profile.specs.Rules.{RuleText, WeekdayNumber, Until, is_place, is_plain, is_entry, is_count, is_short, is_in_range, go_together, has_one_end, IsAllowed}
-use Rattle.profile.specs.RuleTexts.{RuleKey, Interval, Count, EndsAt, WeekStart, ByMonth, ByMonthDay, ByDay, BySetPosition, rule_parts, key_word, values_of, frequency_word, SpellsBetween, SpellsPlace, SpellsEntry, SpellsList, SpellsWeekday, SpellsCount, SpellsUntil, IsGiven, SaysOr, SaysFrequency, IsKnownPart, IsBadValue, SaysParts, SpellsRule, RuleFault, unknown, bad_value, no_frequency, two_frequencies, twice, apart, two_ends, IsLeastRuleFault}
+use Rattle.profile.specs.faults.Faults.{is_between}
+use Rattle.profile.specs.series.Days.{Frequency}
+use Rattle.profile.specs.series.Rules.{RuleText, WeekdayNumber, Until, is_place, is_plain, is_entry, is_count, is_short, is_in_range, go_together, has_one_end, IsAllowed}
+use Rattle.profile.specs.series.RuleTexts.{RuleKey, Interval, Count, EndsAt, WeekStart, ByMonth, ByMonthDay, ByDay, BySetPosition, rule_parts, key_word, values_of, frequency_word, SpellsBetween, SpellsPlace, SpellsEntry, SpellsList, SpellsWeekday, SpellsCount, SpellsUntil, IsGiven, SaysOr, SaysFrequency, IsKnownPart, IsBadValue, SaysParts, SpellsRule, RuleFault, unknown, bad_value, no_frequency, two_frequencies, twice, apart, two_ends, IsLeastRuleFault}
 use Rattle.ical_lines.specs.declared.fault.Fault.{Fault}
 use Rattle.ical_lines.specs.declared.fault.Fault.TheVariants.{Refused, Memory}
 use Rattle.ical_lines.specs.declared.fault.Refusal.{Refusal}

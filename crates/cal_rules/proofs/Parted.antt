@@ -5,7 +5,7 @@ use Rattle.std.proofs.lemmas.List.Elements.{All-contains, Contains-append_right}
 use Rattle.std.proofs.lemmas.Str.Pattern.{IsSplitOnceResult, split_once_first, split_parts}
 use denote.Ref.{Bor}
 use Rattle.std.specs.List.{cons_option, before_first, position_or_len}
-use Rattle.profile.specs.RuleTexts.{RuleKey, Interval, Count, EndsAt, WeekStart, ByMonth, ByMonthDay, ByDay, BySetPosition, rule_parts, after_key, key_word, values_of, frequency_word, SpellsFrequency, SpellsNone, IsKnownPart, IsBadValue, RuleFault, bad_value, two_frequencies, twice}
+use Rattle.profile.specs.series.RuleTexts.{RuleKey, Interval, Count, EndsAt, WeekStart, ByMonth, ByMonthDay, ByDay, BySetPosition, rule_parts, after_key, key_word, values_of, frequency_word, SpellsFrequency, SpellsNone, IsKnownPart, IsBadValue, RuleFault, bad_value, two_frequencies, twice}
 use Rattle.cal_rules.specs.Taken.{word, Said, Spells, HasBadValue, HasNoBadValue, HaveOneTwice}
 
 -- ---- what follows a key

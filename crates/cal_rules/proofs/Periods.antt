@@ -1,7 +1,7 @@
 -- The days of the period of a day, by its frequency.
 use Rattle.std.proofs.Common.{◌≡◌, ◌∙◌, sym, refl, ℕ, suc, ◌+◌, ◌-◌, ◌*◌, ◌%◌, ◌<◌, ◌≤◌, max, arith}
-use Rattle.profile.specs.Days.{Frequency, Daily, Weekly, Monthly, Yearly, period_of, year_start, year_of, month_of, month_days_before, month_days_after, year_days_before, year_days_after}
-use Rattle.profile.specs.Rules.{reach}
+use Rattle.profile.specs.series.Days.{Frequency, Daily, Weekly, Monthly, Yearly, period_of, year_start, year_of, month_of, month_days_before, month_days_after, year_days_before, year_days_after}
+use Rattle.profile.specs.series.Rules.{reach}
 use Rattle.cal_days.proofs.Dates.{date_counts, in_month, in_year, month_length_max, month_range, year_begins, year_ends, year_length_max, year_start-is, year_start-step}
 use Rattle.cal_days.proofs.Growth.{Within, ascends, year_short}
 use Rattle.cal_rules.specs.Spans.{IsSpan}

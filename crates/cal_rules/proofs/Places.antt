@@ -3,7 +3,7 @@ use Rattle.std.proofs.Common.{◌≡◌, ◌∙◌, ap, sym, refl, ℕ, ◌+◌,
 use Rattle.std.proofs.lemmas.Bool.{false≢true, and_parts}
 use Rattle.std.proofs.lemmas.Bool.Decides.{nat_tests}
 use Rattle.std.specs.List.{list_any, list_all}
-use Rattle.profile.specs.Rules.{Pattern, allows, is_nth, is_missing, passes, is_in_step, count_days}
+use Rattle.profile.specs.series.Rules.{Pattern, allows, is_nth, is_missing, passes, is_in_step, count_days}
 use Rattle.cal_rules.specs.Spans.{IsSpan}
 use Rattle.cal_rules.specs.Counted.{NoneIn, is_chosen}
 use Rattle.cal_rules.specs.Standing.{is_from_first, is_among_last}

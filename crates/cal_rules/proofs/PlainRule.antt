@@ -3,10 +3,10 @@ use Rattle.std.proofs.Common.{◌≡◌, refl, ℕ, true, ◌&&◌, List, [], �
 use Rattle.std.proofs.lemmas.Bool.{and_parts}
 use Rattle.std.specs.Fmt.{signed_decimal}
 use Rattle.std.specs.List.{list_all}
-use Rattle.profile.specs.Faults.{is_between}
-use Rattle.profile.specs.Days.{Frequency}
-use Rattle.profile.specs.Rules.{RuleText, WeekdayNumber, is_place, is_entry, is_short, go_together}
-use Rattle.profile.specs.RuleTexts.{RuleKey, Interval, Count, EndsAt, WeekStart, ByMonth, ByMonthDay, ByDay, BySetPosition, frequency_word, SpellsBetween, SpellsPlace, SpellsEntry, SpellsMonths, SpellsMonthDays, SpellsEntries, SpellsRule, listed, entry_text}
+use Rattle.profile.specs.faults.Faults.{is_between}
+use Rattle.profile.specs.series.Days.{Frequency}
+use Rattle.profile.specs.series.Rules.{RuleText, WeekdayNumber, is_place, is_entry, is_short, go_together}
+use Rattle.profile.specs.series.RuleTexts.{RuleKey, Interval, Count, EndsAt, WeekStart, ByMonth, ByMonthDay, ByDay, BySetPosition, frequency_word, SpellsBetween, SpellsPlace, SpellsEntry, SpellsMonths, SpellsMonthDays, SpellsEntries, SpellsRule, listed, entry_text}
 use Rattle.cal_rules.proofs.ReadBack.{between_back, place_back, entry_back, month_small, comma, semicolon, lacks_decimal, lacks_place, lacks_entry}
 use Rattle.cal_rules.proofs.WholeRule.{Built, start, more, list_values, list_piece, list_says, built_values, built_frequency, built_known, says_at}
 

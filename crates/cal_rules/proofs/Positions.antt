@@ -2,8 +2,8 @@
 use Rattle.std.proofs.Common.{◌≡◌, ◌∙◌, ap, refl, inl, inr, ℕ, zero, suc, ◌+◌, ◌-◌, ◌<◌, ◌≤◌, Bool, true, false, ◌==◌, nat_le, if◌then◌else◌, arith}
 use Rattle.std.proofs.lemmas.Bool.{cases_lt, and_left, and_right, ne_eqb, eq-eqb}
 use Rattle.std.proofs.lemmas.Bool.Decides.{nat_tests}
-use Rattle.profile.specs.Days.{period_of}
-use Rattle.profile.specs.Rules.{Pattern, allows, is_nth, is_missing, passes, is_in_step, is_base, count_days, reach, is_mate, mates_before, mates_after, is_placed}
+use Rattle.profile.specs.series.Days.{period_of}
+use Rattle.profile.specs.series.Rules.{Pattern, allows, is_nth, is_missing, passes, is_in_step, is_base, count_days, reach, is_mate, mates_before, mates_after, is_placed}
 use Rattle.cal_rules.specs.Spans.{IsSpan}
 use Rattle.cal_rules.specs.Counted.{NoneIn, is_chosen}
 use Rattle.cal_rules.proofs.Periods.{reach_max}

@@ -10,10 +10,10 @@ use Rattle.std.proofs.lemmas.Str.Parse.{digit_from_value}
 use Rattle.std.specs.Int.{IsInRange}
 use Rattle.std.specs.Str.Parse.{AllDigits}
 use Rattle.std.specs.List.{slice_split, list_all, AllZip}
-use Rattle.profile.specs.Faults.{is_between}
-use Rattle.profile.specs.Rules.{WeekdayNumber, is_place, is_plain, is_entry}
-use Rattle.profile.specs.Values.{IsNumber}
-use Rattle.profile.specs.RuleTexts.{weekday_word, SpellsBetween, SpellsPlace, SpellsEntry, SpellsList, SpellsMonths, SpellsEntries, listed, entry_text}
+use Rattle.profile.specs.faults.Faults.{is_between}
+use Rattle.profile.specs.series.Rules.{WeekdayNumber, is_place, is_plain, is_entry}
+use Rattle.profile.specs.text.Values.{IsNumber}
+use Rattle.profile.specs.series.RuleTexts.{weekday_word, SpellsBetween, SpellsPlace, SpellsEntry, SpellsList, SpellsMonths, SpellsEntries, listed, entry_text}
 
 pub number_back : (n : ℕ) → n < 2 ^ 64 → IsNumber (decimal n) n
 number_back n h = let d = decimal_is_IsNumeral n h in (d.0.0, d.0.1, d.1)

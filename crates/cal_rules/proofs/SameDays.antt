@@ -3,10 +3,10 @@ use Rattle.std.proofs.Common.{◌≡◌, ◌∙◌, ap, sym, refl, ℕ, zero, su
 use Rattle.std.proofs.lemmas.Bool.{and_parts, false≢true}
 use Rattle.std.specs.List.{list_any, list_all, range_with_len}
 use Rattle.std.specs.Ordering.{int_eq}
-use Rattle.profile.specs.Faults.{is_between}
-use Rattle.profile.specs.Days.{month_of, month_days_before, month_days_after, weekday_of}
-use Rattle.profile.specs.Rules.{WeekdayNumber, Pattern, Parts, RuleText, Until, rule_of, is_missing, implies_month, implies_month_day, implies_weekday, counts_in_year, is_place, is_entry, is_short, IsAllowed, allows, is_nth, names_weekday, same_weekdays_before, same_weekdays_after, passes_month, passes_month_day, passes_weekday, passes, is_in_step, is_base, reach, is_mate, mates_before, mates_after, is_placed, is_counted, is_within_count, is_rule_day}
-use Rattle.profile.specs.RuleTexts.{months_from, numbers_from, entries_from, nth_number, nth_entry, is_same_entry, as_written}
+use Rattle.profile.specs.faults.Faults.{is_between}
+use Rattle.profile.specs.series.Days.{month_of, month_days_before, month_days_after, weekday_of}
+use Rattle.profile.specs.series.Rules.{WeekdayNumber, Pattern, Parts, RuleText, Until, rule_of, is_missing, implies_month, implies_month_day, implies_weekday, counts_in_year, is_place, is_entry, is_short, IsAllowed, allows, is_nth, names_weekday, same_weekdays_before, same_weekdays_after, passes_month, passes_month_day, passes_weekday, passes, is_in_step, is_base, reach, is_mate, mates_before, mates_after, is_placed, is_counted, is_within_count, is_rule_day}
+use Rattle.profile.specs.series.RuleTexts.{months_from, numbers_from, entries_from, nth_number, nth_entry, is_same_entry, as_written}
 use Rattle.cal_rules.proofs.Positions.{count_same}
 use Rattle.cal_rules.proofs.WholeRule.{ranges}
 use Rattle.cal_rules.proofs.InOrder.{kept, kept_missing, int_one, int_itself, number_there, numbers_missing, entry_one, entry_itself, entry_there, entries_missing, nat_one, month_there, months_missing}

@@ -10,9 +10,9 @@ use Rattle.std.specs.List.Sorted.{IsStrictlyIncreasing}
 use Rattle.std.specs.Ordering.{int_eq}
 use Rattle.std.proofs.lemmas.Bool.{and_parts, and_from}
 use Rattle.std.proofs.lemmas.Simd.{map-map}
-use Rattle.profile.specs.Faults.{is_between}
-use Rattle.profile.specs.Rules.{RuleText, WeekdayNumber, is_place, is_entry, is_short, is_in_range}
-use Rattle.profile.specs.RuleTexts.{listed, months_from, numbers_from, entries_from, nth_number, nth_entry, is_same_entry}
+use Rattle.profile.specs.faults.Faults.{is_between}
+use Rattle.profile.specs.series.Rules.{RuleText, WeekdayNumber, is_place, is_entry, is_short, is_in_range}
+use Rattle.profile.specs.series.RuleTexts.{listed, months_from, numbers_from, entries_from, nth_number, nth_entry, is_same_entry}
 use Rattle.cal_rules.proofs.InOrder.{int_one, int_itself, number_apart, entry_one, entry_itself, entry_apart}
 use Rattle.cal_rules.proofs.Judging.{any_map}
 use Rattle.cal_rules.proofs.WholeRule.{ranges}

@@ -3,8 +3,8 @@ use Rattle.std.proofs.Common.{◌≡◌, ◌∙◌, sym, inl, inr, ℕ, zero, su
 use Rattle.std.proofs.Math.Nat.{mod-add-mod, mod-eq_of_lt, add-mod_left}
 use Rattle.std.proofs.lemmas.Bool.{cases_lt, ne_eqb, eq-eqb}
 use Rattle.cal_days.specs.Views.{PeriodsAscend, PeriodsLast}
-use Rattle.profile.specs.Days.{period_of, shortest_period}
-use Rattle.profile.specs.Rules.{Pattern, is_in_step}
+use Rattle.profile.specs.series.Days.{period_of, shortest_period}
+use Rattle.profile.specs.series.Rules.{Pattern, is_in_step}
 use Rattle.cal_rules.specs.Spans.{IsSpan}
 use Rattle.cal_rules.specs.Counted.{NoneIn, is_chosen}
 use Rattle.cal_rules.proofs.Positions.{chosen_step}

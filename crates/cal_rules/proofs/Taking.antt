@@ -7,9 +7,9 @@ use Rattle.ical_lines.specs.Fault.{RefusesBy}
 use Rattle.ical_lines.specs.declared.fault.Fault.{Fault}
 use Rattle.ical_lines.specs.declared.fault.Fault.TheVariants.{Memory, Refused}
 use Rattle.ical_lines.specs.declared.fault.Refusal.{Refusal}
-use Rattle.profile.specs.Days.{Frequency}
-use Rattle.profile.specs.Rules.{RuleText, Until}
-use Rattle.profile.specs.RuleTexts.{RuleKey, Interval, Count, EndsAt, WeekStart, ByMonth, ByMonthDay, ByDay, BySetPosition, after_key, rule_parts, SpellsFrequency, SpellsInterval, SpellsCount, SpellsUntil, SpellsWeekday, SpellsMonths, SpellsMonthDays, SpellsEntries, SpellsPositions, SpellsNone, IsKnownPart, IsGiven, SaysOr, SaysFrequency, SaysParts}
+use Rattle.profile.specs.series.Days.{Frequency}
+use Rattle.profile.specs.series.Rules.{RuleText, Until}
+use Rattle.profile.specs.series.RuleTexts.{RuleKey, Interval, Count, EndsAt, WeekStart, ByMonth, ByMonthDay, ByDay, BySetPosition, after_key, rule_parts, SpellsFrequency, SpellsInterval, SpellsCount, SpellsUntil, SpellsWeekday, SpellsMonths, SpellsMonthDays, SpellsEntries, SpellsPositions, SpellsNone, IsKnownPart, IsGiven, SaysOr, SaysFrequency, SaysParts}
 use Rattle.cal_days.specs.Views.{frequency_of}
 use Rattle.cal_rules.specs.declared.parts.Parts as rust
 use Rattle.cal_rules.specs.Views.{entry_of, until_of}

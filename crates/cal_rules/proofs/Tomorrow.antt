@@ -1,6 +1,6 @@
 -- The day after a day, and the day before it, in the same month.
 use Rattle.std.proofs.Common.{◌≡◌, ◌∙◌, sym, ℕ, suc, ◌+◌, ◌-◌, ◌%◌, ◌<◌, ◌≤◌, arith}
-use Rattle.profile.specs.Days.{days_in_month, year_of, month_of, weekday_of, month_days_before, month_days_after, year_days_before, year_days_after}
+use Rattle.profile.specs.series.Days.{days_in_month, year_of, month_of, weekday_of, month_days_before, month_days_after, year_days_before, year_days_after}
 use Rattle.cal_days.proofs.Dates.{Named, named, date_counts, in_month, in_year, month_length_max, month_range, year_begins, year_length_max}
 use Rattle.cal_rules.specs.declared.facts.DayFacts.{DayFacts}
 use Rattle.cal_rules.specs.Known.{AreFacts}

@@ -6,11 +6,11 @@ use Rattle.std.proofs.lemmas.List.Elements.{All-nil, All-cons, All-append, All-s
 use Rattle.std.proofs.lemmas.List.Splits.{slice_split_none, length-slice_split}
 use Rattle.std.specs.Fmt.{signed_decimal}
 use Rattle.std.specs.List.{list_all, onto_first, cons_option}
-use Rattle.profile.specs.Faults.{is_between}
-use Rattle.profile.specs.Days.{Frequency, Daily, Weekly, Monthly, Yearly, days_in_month}
-use Rattle.profile.specs.Values.{two_digits, four_digits, SpellsDate, SpellsTime, SpellsLocal}
-use Rattle.profile.specs.Rules.{RuleText, Until, UntilDay, UntilLocal, UntilInstant, is_place, is_entry, is_count, is_short, is_in_range, go_together, has_one_end}
-use Rattle.profile.specs.RuleTexts.{RuleKey, Interval, Count, EndsAt, WeekStart, ByMonth, ByMonthDay, ByDay, BySetPosition, rule_parts, after_key, key_word, values_of, frequency_word, weekday_word, SpellsBetween, SpellsPlace, SpellsEntry, SpellsList, SpellsWeekday, SpellsCount, SpellsUntil, SpellsInterval, SpellsMonths, SpellsMonthDays, SpellsEntries, SpellsPositions, IsGiven, SaysOr, IsKnownPart, SpellsRule, listed, months_from, numbers_from, entries_from, entry_text, count_text, until_text, rule_text, as_written, HandsIn}
+use Rattle.profile.specs.faults.Faults.{is_between}
+use Rattle.profile.specs.series.Days.{Frequency, Daily, Weekly, Monthly, Yearly, days_in_month}
+use Rattle.profile.specs.text.Values.{two_digits, four_digits, SpellsDate, SpellsTime, SpellsLocal}
+use Rattle.profile.specs.series.Rules.{RuleText, Until, UntilDay, UntilLocal, UntilInstant, is_place, is_entry, is_count, is_short, is_in_range, go_together, has_one_end}
+use Rattle.profile.specs.series.RuleTexts.{RuleKey, Interval, Count, EndsAt, WeekStart, ByMonth, ByMonthDay, ByDay, BySetPosition, rule_parts, after_key, key_word, values_of, frequency_word, weekday_word, SpellsBetween, SpellsPlace, SpellsEntry, SpellsList, SpellsWeekday, SpellsCount, SpellsUntil, SpellsInterval, SpellsMonths, SpellsMonthDays, SpellsEntries, SpellsPositions, IsGiven, SaysOr, IsKnownPart, SpellsRule, listed, months_from, numbers_from, entries_from, entry_text, count_text, until_text, rule_text, as_written, HandsIn}
 use Rattle.cal_rules.proofs.Parted.{after_append}
 use Rattle.cal_rules.proofs.ReadBack.{up_to, below, between_back, place_back, entry_back, written_list, month_small, comma, semicolon, lacks, lacks_append, lacks_all, lacks_decimal, lacks_place, lacks_weekday, lacks_entry}
 

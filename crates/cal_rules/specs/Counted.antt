@@ -1,6 +1,6 @@
 -- The days of a rule but for COUNT, and where COUNT ends.
 use Rattle.std.specs.Prelude.{◌≡◌, ℕ, ◌<◌, ◌≤◌, Bool, true, false, ◌&&◌, nat_le}
-use Rattle.profile.specs.Rules.{Pattern, Parts, is_base, is_placed, is_counted, is_rule_day}
+use Rattle.profile.specs.series.Rules.{Pattern, Parts, is_base, is_placed, is_counted, is_rule_day}
 
 -- no day from that one on and before the end passes the test
 abbrev pub NoneIn : (ℕ → Bool) → ℕ → ℕ → Type 0

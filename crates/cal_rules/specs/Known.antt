@@ -1,6 +1,6 @@
 -- What is known of a day.
 use Rattle.std.specs.Prelude.{◌≡◌, ◌<◌, ◌≤◌}
-use Rattle.profile.specs.Days.{weekday_of, month_of, month_days_before, month_days_after, year_days_before, year_days_after}
+use Rattle.profile.specs.series.Days.{weekday_of, month_of, month_days_before, month_days_after, year_days_before, year_days_after}
 use Rattle.cal_rules.specs.declared.facts.DayFacts.{DayFacts}
 
 -- the facts are those of the day of that index

@@ -1,6 +1,6 @@
 -- What the iterator over the days of a rule still gives.
 use Rattle.std.specs.Prelude.{ℕ, List}
-use Rattle.profile.specs.Rules.{rule_days_from}
+use Rattle.profile.specs.series.Rules.{rule_days_from}
 use Rattle.cal_rules.specs.declared.rule.Days.{Days}
 
 -- the rule days that are still to come

@@ -1,7 +1,7 @@
 -- The days of one period, one after the other.
 use Rattle.std.specs.Prelude.{◌≡◌, ℕ, ◌+◌, ◌<◌, ◌≤◌}
-use Rattle.profile.specs.Days.{Frequency, period_of}
-use Rattle.profile.specs.Rules.{reach}
+use Rattle.profile.specs.series.Days.{Frequency, period_of}
+use Rattle.profile.specs.series.Rules.{reach}
 
 -- from the first on and before the end lie the days of the period of n, from 0001-01-01 on (RFC 5545 3.3.10, FREQ)
 pub record IsSpan (frequency : Frequency) (week_start n first end : ℕ) : Type 0 where

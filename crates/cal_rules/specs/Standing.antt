@@ -1,7 +1,7 @@
 -- Where a listing of the days of a rule stands.
 use Rattle.std.specs.Prelude.{◌≡◌, ℕ, ◌-◌, ◌<◌, ◌≤◌, Bool, true, false, nat_lt, ℤ, pos, negsuc}
 use Rattle.std.specs.List.{list_any}
-use Rattle.profile.specs.Rules.{Pattern, Parts, passes, count_days, is_in_step, is_missing}
+use Rattle.profile.specs.series.Rules.{Pattern, Parts, passes, count_days, is_in_step, is_missing}
 use Rattle.cal_rules.specs.declared.cursor.Cursor.{Cursor}
 use Rattle.cal_rules.specs.Known.{AreFacts}
 use Rattle.cal_rules.specs.Spans.{IsSpan}

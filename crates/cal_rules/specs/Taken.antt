@@ -2,9 +2,9 @@
 use Rattle.std.specs.Prelude.{◌≡◌, ℕ, ◌<◌, ◌⊎◌, ℤ, List, [], ◌∷◌, ◌++◌, length, map, codes, All, Contains, true, is_some, Option, None, Some, option_map, Result, Ok}
 use Rattle.std.specs.List.{filter_map}
 use Rattle.ical_lines.specs.declared.fault.Refusal.{Refusal}
-use Rattle.profile.specs.Days.{Frequency}
-use Rattle.profile.specs.Rules.{WeekdayNumber, Until}
-use Rattle.profile.specs.RuleTexts.{RuleKey, Interval, Count, EndsAt, WeekStart, ByMonth, ByMonthDay, ByDay, BySetPosition, key_word, after_key, SpellsFrequency, SpellsInterval, SpellsCount, SpellsUntil, SpellsWeekday, SpellsMonths, SpellsMonthDays, SpellsEntries, SpellsPositions, IsKnownPart, IsBadValue, IsGiven, SaysOr}
+use Rattle.profile.specs.series.Days.{Frequency}
+use Rattle.profile.specs.series.Rules.{WeekdayNumber, Until}
+use Rattle.profile.specs.series.RuleTexts.{RuleKey, Interval, Count, EndsAt, WeekStart, ByMonth, ByMonthDay, ByDay, BySetPosition, key_word, after_key, SpellsFrequency, SpellsInterval, SpellsCount, SpellsUntil, SpellsWeekday, SpellsMonths, SpellsMonthDays, SpellsEntries, SpellsPositions, IsKnownPart, IsBadValue, IsGiven, SaysOr}
 use Rattle.cal_days.specs.Views.{frequency_of}
 use Rattle.cal_rules.specs.declared.parts.Parts as rust
 use Rattle.cal_rules.specs.Views.{entry_of, until_of}

@@ -5,7 +5,7 @@ use Rattle.cal_rules.specs.declared.written.WeekdayNumber as rust_entry
 use Rattle.cal_rules.specs.declared.written.Written as rust
 use Rattle.cal_rules.specs.declared.written.Until as rust_until
 use Rattle.cal_rules.specs.declared.written.Until.TheVariants as the
-use Rattle.profile.specs.Rules.{WeekdayNumber, Pattern, Parts, RuleText, Until, UntilDay, UntilLocal, UntilInstant}
+use Rattle.profile.specs.series.Rules.{WeekdayNumber, Pattern, Parts, RuleText, Until, UntilDay, UntilLocal, UntilInstant}
 
 abbrev pub entry_of : rust_entry.WeekdayNumber → WeekdayNumber
 entry_of entry = record { number = entry.number; weekday = entry.weekday }

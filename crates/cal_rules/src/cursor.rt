@@ -1,9 +1,9 @@
 //! Where a listing of the days of a rule stands: a day of a period, and what is known of it.
 
 ghost use Rattle.std.specs.Prelude.{◌≡◌, ◌+◌, ◌<◌, ◌≤◌, ◌↔◌, IsTrue, max};
-ghost use Rattle.profile.specs.Rules.{Pattern};
+ghost use Rattle.profile.specs.series.Rules.{Pattern};
 ghost use Rattle.cal_days.specs.Views.{frequency_of};
-ghost use Rattle.profile.specs.Days.{Weekly};
+ghost use Rattle.profile.specs.series.Days.{Weekly};
 ghost use Rattle.cal_rules.specs.Known.{AreFacts};
 ghost use Rattle.cal_rules.specs.Spans.{IsSpan};
 
@@ -15,7 +15,7 @@ use cal_days::{FIRST_INDEX, Frequency};
 pub(crate) struct Cursor {
     pub day: DayFacts,
     /// The days of its period.
-    pub span: Span,
+    pub span: PeriodDays,
     /// How many days of the period before it pass each part. Counted where an entry of BYSETPOS counts from the first day.
     pub earlier: u32,
     /// How many from it on do. Counted where BYSETPOS is written.
@@ -34,7 +34,7 @@ impl Cursor {
     {
         Cursor {
             day,
-            span: Span {
+            span: PeriodDays {
                 first: day.index,
                 end: day.index,
             },
@@ -66,30 +66,30 @@ impl Cursor {
 
 /// The days from `first` on and before `end`, by their indices.
 #[derive(Clone, Copy)]
-pub(crate) struct Span {
+pub(crate) struct PeriodDays {
     pub first: u32,
     pub end: u32,
 }
 
-impl Span {
+impl PeriodDays {
     /// The days of the period of that day.
-    pub fn of(frequency: Frequency, week_start: u8, day: DayFacts) -> Span
+    pub fn of(frequency: Frequency, week_start: u8, day: DayFacts) -> PeriodDays
         requires facts { AreFacts day }
         requires range { (366 ≤ day.index) × (day.index ≤ 3_652_424) }
         ensures days { IsSpan (frequency_of frequency) week_start day.index result.first result.end }
         ensures range { result.end ≤ 3_652_790 }
     {
         match frequency {
-            Frequency::Daily => Span {
+            Frequency::Daily => PeriodDays {
                 first: day.index,
                 end: day.index + 1,
             },
             Frequency::Weekly => week_of(week_start, day.index),
-            Frequency::Monthly => Span {
+            Frequency::Monthly => PeriodDays {
                 first: day.index - day.month_before as u32,
                 end: day.index + day.month_after as u32 + 1,
             },
-            Frequency::Yearly => Span {
+            Frequency::Yearly => PeriodDays {
                 first: day.index - day.year_before as u32,
                 end: day.index + day.year_after as u32 + 1,
             },
@@ -98,13 +98,13 @@ impl Span {
 }
 
 /// The week of the day of that index.
-fn week_of(week_start: u8, index: u32) -> Span
+fn week_of(week_start: u8, index: u32) -> PeriodDays
     requires { (366 ≤ index) × (index ≤ 3_652_424) }
     ensures days { IsSpan Weekly week_start index result.first result.end }
     ensures range { result.end ≤ 3_652_431 }
 {
     let passed = (index + 12 - week_start as u32) % 7;
-    Span {
+    PeriodDays {
         first: (index - passed).max(FIRST_INDEX),
         end: index + 7 - passed,
     }

@@ -1,7 +1,7 @@
 //! What the parts of a rule ask of a day: looked up once a month, and counted on from day to day, or back.
 
 ghost use Rattle.std.specs.Prelude.{◌≡◌, ◌+◌, ◌-◌, ◌<◌, ◌≤◌};
-ghost use Rattle.profile.specs.Days.{day_index};
+ghost use Rattle.profile.specs.series.Days.{day_index};
 ghost use Rattle.cal_rules.specs.Known.{AreFacts};
 
 use cal_days::Day;

@@ -4,8 +4,8 @@
 
 ghost use Rattle.std.specs.Prelude.{◌≡◌, ◌+◌, ◌-◌, ◌*◌, ◌%◌, ◌<◌, ◌≤◌, true, false, ℕ, MatchOption, IfSome};
 ghost use Rattle.cal_days.specs.Views.{frequency_of};
-ghost use Rattle.profile.specs.Days.{day_index, period_of, shortest_period};
-ghost use Rattle.profile.specs.Rules.{is_counted, is_in_step, count_days, passes, is_missing};
+ghost use Rattle.profile.specs.series.Days.{day_index, period_of, shortest_period};
+ghost use Rattle.profile.specs.series.Rules.{is_counted, is_in_step, count_days, passes, is_missing};
 ghost use Rattle.cal_rules.specs.Views.{pattern_of, parts_of};
 ghost use Rattle.cal_rules.specs.Known.{AreFacts};
 ghost use Rattle.cal_rules.specs.Counted.{NoneIn, NoneFrom, EndsAt, is_chosen};
@@ -13,7 +13,7 @@ ghost use Rattle.cal_rules.specs.Standing.{StandsAt, IsPastFirst, IsPastNext, is
 ghost use Rattle.cal_rules.specs.Spans.{IsSpan};
 ghost use Rattle.std.specs.List.{list_all};
 
-use crate::cursor::{Cursor, Span};
+use crate::cursor::{Cursor, PeriodDays};
 use crate::facts::{DayFacts, looked_up};
 use crate::written::{Written, allows_nth};
 use cal_days::{Day, Frequency, LAST_INDEX};
@@ -53,7 +53,7 @@ fn periods_to_step(written: &Written, start: DayFacts, day: Day) -> u32
 
 /// From where to look further after that period, where the next one in step is so many periods after
 /// it. No period is shorter than the shortest.
-fn beyond(written: &Written, span: Span, ahead: u32) -> u32
+fn beyond(written: &Written, span: PeriodDays, ahead: u32) -> u32
     requires span { span.end ≤ 3_652_790 }
     requires ahead { ahead ≤ 65_535 }
     ensures { result ≡ span.end + shortest_period (frequency_of written.now.frequency) * (ahead - 1) }
@@ -79,7 +79,7 @@ fn first_chosen(written: &Written, start: DayFacts, from: u32, last: u32) -> Opt
     while index <= last {
         let day = Day::at_index(index).unwrap();
         let here = DayFacts::of(day);
-        let span = Span::of(written.frequency, written.week_start, here);
+        let span = PeriodDays::of(written.frequency, written.week_start, here);
         let ahead = periods_to_step(written, start, day);
         if let Some(after) = first_in_period(written, start, here, span, ahead) {
             if after.is_past(last) {
@@ -111,7 +111,7 @@ fn next_chosen(written: &Written, start: DayFacts, from: Cursor, last: u32) -> O
 }
 
 /// Is this a rule day but for COUNT?
-#[tactic(auto, using(std::proofs::lemmas::Bool::Decides::nat_tests), unfolding(profile::specs::Rules::is_counted))]
+#[tactic(auto, using(std::proofs::lemmas::Bool::Decides::nat_tests), unfolding(profile::specs::series::Rules::is_counted))]
 pub(crate) fn is_counted(written: &Written, start: DayFacts, last: Day, day: Day) -> bool
     requires interval { 1 ≤ written.now.interval }
     requires start { AreFacts start }
@@ -208,7 +208,7 @@ fn count_passing(written: &Written, start: DayFacts, from: DayFacts, end: u32) -
 }
 
 /// How many days of its period before a day pass each part.
-fn count_before(written: &Written, start: DayFacts, day: DayFacts, span: Span) -> u32
+fn count_before(written: &Written, start: DayFacts, day: DayFacts, span: PeriodDays) -> u32
     requires start { AreFacts start }
     requires range { (366 ≤ span.first) × (span.first ≤ day.index) × (day.index ≤ 3_653_155) }
     ensures { result
@@ -222,7 +222,7 @@ fn count_before(written: &Written, start: DayFacts, day: DayFacts, span: Span) -
 }
 
 /// The cursor at a day whose period is in step; or at a later one, where no day before that has a set position.
-fn enter(written: &Written, start: DayFacts, day: DayFacts, span: Span) -> Cursor
+fn enter(written: &Written, start: DayFacts, day: DayFacts, span: PeriodDays) -> Cursor
     requires start { AreFacts start }
     requires day { AreFacts day }
     requires end { span.end ≤ 3_653_155 }
@@ -304,7 +304,7 @@ fn first_in_period(
     written: &Written,
     start: DayFacts,
     day: DayFacts,
-    span: Span,
+    span: PeriodDays,
     ahead: u32,
 ) -> Option<Cursor>
     requires start { AreFacts start }
@@ -329,7 +329,7 @@ fn enter_from_end(
     written: &Written,
     start: DayFacts,
     day: DayFacts,
-    span: Span,
+    span: PeriodDays,
     depth: u32,
 ) -> Cursor
     requires start { AreFacts start }

@@ -3,7 +3,7 @@
 
 ghost use Rattle.std.specs.Prelude.{◌≡◌, ◌⊎◌, ℕ, List, [], ◌∷◌, ◌++◌, None, Some, true, is_some, IfOk, IfErr, OnOk, MatchOption};
 ghost use Rattle.ical_lines.specs.Fault.{RefusesBy};
-ghost use Rattle.profile.specs.RuleTexts.{rule_parts, IsKnownPart, SaysParts, SpellsRule, IsLeastRuleFault};
+ghost use Rattle.profile.specs.series.RuleTexts.{rule_parts, IsKnownPart, SaysParts, SpellsRule, IsLeastRuleFault};
 ghost use Rattle.cal_rules.specs.Views.{text_of};
 ghost use Rattle.cal_rules.specs.Taken.{SayParts, AreTaken, Enters, IsFaultOf, Puts, PutsRead};
 

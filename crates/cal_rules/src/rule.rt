@@ -24,8 +24,8 @@ pub struct Rule {
 
 impl Model for Rule {
     ghost use Rattle.std.specs.Prelude.{◌≤◌};
-    ghost use Rattle.profile.specs.Days.{day_index};
-    ghost use Rattle.profile.specs.Rules.{Parts};
+    ghost use Rattle.profile.specs.series.Days.{day_index};
+    ghost use Rattle.profile.specs.series.Rules.{Parts};
     ghost use Rattle.cal_rules.specs.Views.{parts_of};
     ghost use Rattle.cal_rules.specs.Known.{AreFacts};
     ghost use Rattle.cal_rules.specs.Counted.{EndsAt};
@@ -42,8 +42,8 @@ impl Rule {
     ghost use Rattle.std.specs.Prelude.{◌≡◌, ◌+◌, true, false, map, MatchOption, IfOk, IfErr};
     ghost use Rattle.cal_days.specs.Views.{frequency_of};
     ghost use Rattle.cal_rules.specs.Views.{entry_of};
-    ghost use Rattle.profile.specs.Days.{day_index};
-    ghost use Rattle.profile.specs.Rules.{rule_of, is_rule_day, rule_days_from, NoDayFrom, IsNextDay};
+    ghost use Rattle.profile.specs.series.Days.{day_index};
+    ghost use Rattle.profile.specs.series.Rules.{rule_of, is_rule_day, rule_days_from, NoDayFrom, IsNextDay};
     ghost use Rattle.cal_rules.specs.Left.{days_left};
     ghost use Rattle.cal_rules.specs.Standing.{StandsAt};
     ghost use Rattle.ical_lines.specs.declared.fault.Fault.TheVariants.{Refused};
@@ -193,7 +193,7 @@ pub struct Days<'a> {
 }
 
 impl<'a> Days<'a> {
-    ghost use Rattle.profile.specs.Rules.{rule_days_from};
+    ghost use Rattle.profile.specs.series.Rules.{rule_days_from};
     ghost use Rattle.cal_rules.specs.Left.{days_left};
 
     /// From that cursor on.
@@ -207,7 +207,7 @@ impl<'a> Days<'a> {
 
 impl<'a> Iterator for Days<'a> {
     ghost use Rattle.std.specs.Iterator.{YieldsFirstBy, item_count};
-    ghost use Rattle.profile.specs.Days.{day_index};
+    ghost use Rattle.profile.specs.series.Days.{day_index};
     ghost use Rattle.cal_rules.specs.Left.{days_left};
 
     type Item = Day;

@@ -2,11 +2,11 @@
 
 ghost use Rattle.std.specs.Prelude.{◌≡◌, ℕ, List, map, option_map, IfOk, IfErr, ◌++◌, OnOk, OnErr};
 ghost use Rattle.ical_lines.specs.Fault.{RefusesBy};
-ghost use Rattle.profile.specs.RuleTexts.{SpellsRule, RuleFault, IsLeastRuleFault};
+ghost use Rattle.profile.specs.series.RuleTexts.{SpellsRule, RuleFault, IsLeastRuleFault};
 ghost use Rattle.cal_days.specs.Views.{frequency_of};
 ghost use Rattle.cal_rules.specs.Views.{entry_of, until_of, text_of};
-ghost use Rattle.profile.specs.Rules as rules;
-ghost use Rattle.profile.specs.RuleTexts as texts;
+ghost use Rattle.profile.specs.series.Rules as rules;
+ghost use Rattle.profile.specs.series.RuleTexts as texts;
 
 use crate::parts::Parts;
 use crate::write::rule_text;
@@ -23,7 +23,7 @@ pub struct RuleText {
 }
 
 impl Model for RuleText {
-    ghost use Rattle.profile.specs.Rules as rules;
+    ghost use Rattle.profile.specs.series.Rules as rules;
     ghost use Rattle.cal_rules.specs.Views.{text_of};
 
     ghost Value = { rules.RuleText };

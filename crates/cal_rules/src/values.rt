@@ -3,8 +3,8 @@
 
 ghost use Rattle.std.specs.Prelude.{◌≡◌, ◌<◌, ◌≤◌, ◌^◌, ℕ, pos, neg_ℤ, Some, None, IfSome, IfNone, map, IfOk};
 ghost use Rattle.std.specs.Fn.{FnReturnsAt};
-ghost use Rattle.profile.specs.Values.{IsNumber};
-ghost use Rattle.profile.specs.RuleTexts.{SpellsFrequency, SpellsWeekday, SpellsBetween, SpellsInterval, SpellsCount, SpellsPlace, SpellsEntry, SpellsUntil, SpellsNone, SpellsList, SpellsMonths, SpellsEntries};
+ghost use Rattle.profile.specs.text.Values.{IsNumber};
+ghost use Rattle.profile.specs.series.RuleTexts.{SpellsFrequency, SpellsWeekday, SpellsBetween, SpellsInterval, SpellsCount, SpellsPlace, SpellsEntry, SpellsUntil, SpellsNone, SpellsList, SpellsMonths, SpellsEntries};
 ghost use Rattle.cal_days.specs.Views.{frequency_of};
 ghost use Rattle.cal_rules.specs.Lists.{IsNoList};
 ghost use Rattle.cal_rules.specs.Views.{entry_of, until_of};

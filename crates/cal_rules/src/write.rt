@@ -4,12 +4,12 @@ ghost use Rattle.std.specs.Prelude.{Option, ◌≡◌, ◌++◌, ◌<◌, ◌≤
 ghost use Rattle.std.specs.Fmt.{signed_decimal};
 ghost use Rattle.std.specs.List.{list_all};
 ghost use Rattle.std.specs.List.Sorted.{IsStrictlyIncreasing};
-ghost use Rattle.profile.specs.Faults.{is_between};
-ghost use Rattle.profile.specs.Rules.{is_place, is_entry};
+ghost use Rattle.profile.specs.faults.Faults.{is_between};
+ghost use Rattle.profile.specs.series.Rules.{is_place, is_entry};
 ghost use Rattle.cal_days.specs.Views.{frequency_of};
 ghost use Rattle.cal_rules.specs.Views.{entry_of, text_of, until_of};
-ghost use Rattle.profile.specs.Rules as rules;
-ghost use Rattle.profile.specs.RuleTexts as texts;
+ghost use Rattle.profile.specs.series.Rules as rules;
+ghost use Rattle.profile.specs.series.RuleTexts as texts;
 
 use crate::text::RuleText;
 use crate::written::{Until, WeekdayNumber, Written};

@@ -2,10 +2,10 @@
 
 ghost use Rattle.std.specs.Prelude.{◌≡◌, ◌&&◌, ◌||◌, not, map, ◌==◌};
 ghost use Rattle.std.specs.List.{list_all, list_any};
-ghost use Rattle.profile.specs.Rules.{is_weekly, is_long, is_missing, is_plain, go_together, has_one_end, is_nth, allows, names_weekday, same_weekdays_before, same_weekdays_after, names_no_day, implies_month, implies_month_day, implies_weekday, counts_in_year, passes_month, passes_month_day, passes_weekday, passes};
+ghost use Rattle.profile.specs.series.Rules.{is_weekly, is_long, is_missing, is_plain, go_together, has_one_end, is_nth, allows, names_weekday, same_weekdays_before, same_weekdays_after, names_no_day, implies_month, implies_month_day, implies_weekday, counts_in_year, passes_month, passes_month_day, passes_weekday, passes};
 ghost use Rattle.cal_rules.specs.Views.{entry_of, text_of, pattern_of};
 ghost use Rattle.cal_days.specs.Views.{frequency_of};
-ghost use Rattle.profile.specs.Days.{day_index, period_of};
+ghost use Rattle.profile.specs.series.Days.{day_index, period_of};
 ghost use Rattle.cal_rules.specs.Known.{AreFacts};
 
 use crate::facts::DayFacts;
@@ -43,7 +43,7 @@ pub(crate) struct Written {
 
 impl Written {
     /// Do the parts go together?
-    #[tactic(auto, using(std::proofs::lemmas::Bool::Decides::nat_tests), unfolding(profile::specs::Rules::go_together))]
+    #[tactic(auto, using(std::proofs::lemmas::Bool::Decides::nat_tests), unfolding(profile::specs::series::Rules::go_together))]
     pub fn go_together(&self) -> bool
         ensures { result ≡ go_together (text_of self.now) }
     {
@@ -173,7 +173,7 @@ impl Written {
     }
 
     /// Does the day pass each part that is written or implied?
-    #[tactic(auto, unfolding(profile::specs::Rules::passes))]
+    #[tactic(auto, unfolding(profile::specs::series::Rules::passes))]
     pub fn passes(&self, start: DayFacts, day: DayFacts) -> bool
         requires start { AreFacts start }
         requires day { AreFacts day }

@@ -1,8 +1,8 @@
 -- The day of a year is the one base day that its rule has there.
 use Rattle.std.proofs.Common.{◌≡◌, ◌∙◌, sym, refl, ℕ, suc, ◌+◌, ◌-◌, ◌/◌, ◌%◌, ◌<◌, Bool, true, ◌&&◌, ◌||◌, ◌==◌, arith, pos, negsuc}
 use Rattle.std.proofs.lemmas.Bool.Decides.{nat_tests}
-use Rattle.profile.specs.Days.{year_of, month_of, month_days_before, month_days_after, weekday_of, days_in_month, period_of}
-use Rattle.profile.specs.Rules.{is_base, is_in_step, passes, passes_month, passes_month_day, passes_weekday, is_plain, is_nth}
+use Rattle.profile.specs.series.Days.{year_of, month_of, month_days_before, month_days_after, weekday_of, days_in_month, period_of}
+use Rattle.profile.specs.series.Rules.{is_base, is_in_step, passes, passes_month, passes_month_day, passes_weekday, is_plain, is_nth}
 use Rattle.cal_days.proofs.Dates.{date_counts, date_is}
 use Rattle.cal_zones.specs.Shapes.{is_yearly, IsPlace, pattern_of}
 use Rattle.cal_zones.specs.Bases.{IsOnAsWritten}

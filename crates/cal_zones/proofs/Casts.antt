@@ -1,7 +1,7 @@
 -- Offsets and local times in the widths that hold them.
 use Rattle.std.proofs.Common.{◌≡◌, ◌∙◌, ap, sym, arith, ℤ, ◌-ℤ◌, to_z, of_z, w32, w64}
 use Rattle.jiff_core.proofs.SignedLemmas.{signed_arith}
-use Rattle.profile.specs.Values.{IsOffset, IsClockSeconds}
+use Rattle.profile.specs.text.Values.{IsOffset, IsClockSeconds}
 use Rattle.ical_values.proofs.Facts.{wide_clock}
 
 pub narrow : (z : ℤ) → IsOffset z → to_z w32 (of_z w32 z) ≡ z

@@ -3,7 +3,7 @@ use Rattle.std.proofs.Common.{◌≡◌, ◌∙◌, sym, arith, ℤ, ◌≤ℤ�
 use Rattle.std.proofs.lemmas.Int.{by_lt_z}
 use Rattle.std.specs.Int.Signed.{◌<ℤ◌}
 use Rattle.jiff_core.proofs.SignedLemmas.{signed_arith}
-use Rattle.profile.specs.Zones.{Onset, IsLatest, InForce, Since, Until}
+use Rattle.profile.specs.series.Zones.{Onset, IsLatest, InForce, Since, Until}
 
 -- two onsets at one instant are alike
 pub record OneAtOnce (Is : Onset → Type 0) : Type 0 where

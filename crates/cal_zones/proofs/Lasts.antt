@@ -4,9 +4,9 @@ use Rattle.std.specs.Int.{saturate_signed, saturate_to_bits}
 use Rattle.std.specs.Int.Signed.{◌<ℤ◌}
 use Rattle.std.proofs.lemmas.Bool.{cases_order}
 use Rattle.jiff_core.proofs.SignedLemmas.{signed_arith, one_part}
-use Rattle.profile.specs.Days.{IsDayNumber, day_index}
-use Rattle.profile.specs.Values.{IsClockSeconds, IsOffset}
-use Rattle.profile.specs.Zones.{Zone, Means, NoneFrom, local_time}
+use Rattle.profile.specs.series.Days.{IsDayNumber, day_index}
+use Rattle.profile.specs.text.Values.{IsClockSeconds, IsOffset}
+use Rattle.profile.specs.series.Zones.{Zone, Means, NoneFrom, local_time}
 use Rattle.cal_zones.proofs.Casts.{narrow, wide_offset}
 use Rattle.cal_zones.proofs.Zones.{AreSides, one_meaning}
 

@@ -7,10 +7,10 @@ use Rattle.std.proofs.lemmas.Bool.{true≢false, false≢true, and_parts, or_cas
 use Rattle.std.proofs.lemmas.Bool.Decides.{nat_tests, Decides-int_eq}
 use Rattle.std.proofs.lemmas.List.Folds.{list_all-map}
 use Rattle.jiff_core.proofs.SignedLemmas.{signed_arith}
-use Rattle.profile.specs.Days.{days_in_month}
-use Rattle.profile.specs.Faults.{is_between}
-use Rattle.profile.specs.Rules.{WeekdayNumber, RuleText, is_missing}
-use Rattle.profile.specs.ZoneTexts.{MonthDays, OnDay, FromStart, FromEnd, InWeek, YearRule, are_only, is_weekday, is_of_seven, are_seven, names_days, is_each_year, is_plain_yearly, is_one_day}
+use Rattle.profile.specs.series.Days.{days_in_month}
+use Rattle.profile.specs.faults.Faults.{is_between}
+use Rattle.profile.specs.series.Rules.{WeekdayNumber, RuleText, is_missing}
+use Rattle.profile.specs.series.ZoneTexts.{MonthDays, OnDay, FromStart, FromEnd, InWeek, YearRule, are_only, is_weekday, is_of_seven, are_seven, names_days, is_each_year, is_plain_yearly, is_one_day}
 use Rattle.cal_zones.specs.Named.{NamesNone}
 
 -- ---- lists and tests

@@ -3,7 +3,7 @@ use Rattle.std.proofs.Common.{◌≡◌, ◌∙◌, ap, sym, inl, inr, ℕ, zero
 use Rattle.std.proofs.lemmas.Bool.Decides.{nat_tests}
 use Rattle.std.proofs.lemmas.Bool.{cases_order, cases_lt}
 use Rattle.jiff_core.proofs.SignedLemmas.{signed_arith, one_part}
-use Rattle.profile.specs.Days.{days_before, days_in_month, year_start, year_of, month_of, month_days_before, IsDate, day_index, number_of_day}
+use Rattle.profile.specs.series.Days.{days_before, days_in_month, year_start, year_of, month_of, month_days_before, IsDate, day_index, number_of_day}
 use Rattle.cal_days.proofs.Dates.{named, named_later, month_days_before_later, date_counts, year_begins, year_ends}
 use Rattle.cal_days.proofs.Bridge.{days_in_month-later}
 use Rattle.cal_zones.specs.Shapes.{is_yearly, IsPlace}

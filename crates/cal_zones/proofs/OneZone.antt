@@ -6,14 +6,14 @@ use Rattle.std.proofs.lemmas.Slice.Eq.{bytes_eq-Decides}
 use Rattle.std.specs.Option.{option_to_list}
 use Rattle.std.proofs.lemmas.Bool.{true≢false, eqb-true}
 use Rattle.jiff_core.proofs.SignedLemmas.{signed_arith}
-use Rattle.profile.specs.Lines.{line_value, is_same_name}
-use Rattle.profile.specs.Trees.{Tree, tree_name, tree_own, tree_inside}
-use Rattle.profile.specs.Values.{SpellsLocal, SpellsOffset, two_digits, four_digits}
-use Rattle.profile.specs.Rules.{RuleText}
-use Rattle.profile.specs.RuleTexts.{SpellsRule, RuleFault}
-use Rattle.profile.specs.Properties.{lines_named, StandsTwice, IsMissing, BothOrNeither, Says, ends_in_z}
-use Rattle.profile.specs.Zones.{Zone, Constant, Single, Pair, Observance, local_time}
-use Rattle.profile.specs.ZoneTexts.{parts_by, is_part, is_standard, is_daylight, IsLocalLine, IsOffsetLine, SaysTimes, SaysOnce, SaysYearly, IsYearLine, YearRule, HasNoYearRule, TimesFault, PartsSay, PartsFault, OffsetsDiffer, HasForm, SaysZone, ZoneFault, Keeps, AreMatched, AreSpaced, AreClose, year_pattern, is_one_day, time_names, dates, missing, twice, fixed, bad_start, bad_from, bad_to, constant, single, pair, no_part, in_part, ruled, other_parts, unruled, unmatched, close}
+use Rattle.profile.specs.text.Lines.{line_value, is_same_name}
+use Rattle.profile.specs.text.Trees.{Tree, tree_name, tree_own, tree_inside}
+use Rattle.profile.specs.text.Values.{SpellsLocal, SpellsOffset, two_digits, four_digits}
+use Rattle.profile.specs.series.Rules.{RuleText}
+use Rattle.profile.specs.series.RuleTexts.{SpellsRule, RuleFault}
+use Rattle.profile.specs.events.Properties.{lines_named, StandsTwice, IsMissing, BothOrNeither, Says, ends_in_z}
+use Rattle.profile.specs.series.Zones.{Zone, Constant, Single, Pair, Observance, local_time}
+use Rattle.profile.specs.series.ZoneTexts.{parts_by, is_part, is_standard, is_daylight, IsLocalLine, IsOffsetLine, SaysTimes, SaysOnce, SaysYearly, IsYearLine, YearRule, HasNoYearRule, TimesFault, PartsSay, PartsFault, OffsetsDiffer, HasForm, SaysZone, ZoneFault, Keeps, AreMatched, AreSpaced, AreClose, year_pattern, is_one_day, time_names, dates, missing, twice, fixed, bad_start, bad_from, bad_to, constant, single, pair, no_part, in_part, ruled, other_parts, unruled, unmatched, close}
 use Rattle.cal_zones.proofs.Named.{one_named, one_day_parts}
 use Rattle.cal_zones.proofs.PartLemmas.{in_more}
 use Rattle.ical_tree.proofs.OneLine.{IsFunctional, same_option, at_one, only_line}

@@ -2,8 +2,8 @@
 use Rattle.std.proofs.Common.{◌≡◌, refl, ℕ, ◌+◌, ◌-◌, ◌*◌, ◌/◌, ◌%◌, ◌≤◌, true, ◌&&◌, nat_le, Some, arith, ℤ, pos, unsigned_abs, ◌+ℤ◌, ◌-ℤ◌, ◌≤ℤ◌}
 use Rattle.std.proofs.lemmas.Bool.Decides.{nat_tests}
 use Rattle.jiff_core.proofs.SignedLemmas.{signed_arith, one_part}
-use Rattle.profile.specs.Rules.{is_base}
-use Rattle.profile.specs.Zones.{IsOnset, IsLatest, IsFirstOf, onset_at, begins_on, local_time}
+use Rattle.profile.specs.series.Rules.{is_base}
+use Rattle.profile.specs.series.Zones.{IsOnset, IsLatest, IsFirstOf, onset_at, begins_on, local_time}
 use Rattle.cal_zones.specs.Shapes.{pattern_of}
 use Rattle.cal_zones.specs.Yearly.{IsOn, IsLatestDay, IsFirstDay}
 use Rattle.cal_zones.specs.Onsets.{observance_of, IsFirstDayOf, IsLatestAfter}

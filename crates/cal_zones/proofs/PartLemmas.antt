@@ -11,8 +11,8 @@ use Rattle.ical_tree.specs.Tree.{component_name, component_lines, component_chil
 use Rattle.ical_tree.proofs.TreeOfLemmas.{tree_of-name, tree_of-own, tree_of-inside}
 use Rattle.ical_tree.specs.declared.component.Component.{Component}
 use Rattle.ical_tree.proofs.OneLine.{at_place}
-use Rattle.profile.specs.Trees.{Tree, tree_name, tree_own}
-use Rattle.profile.specs.ZoneTexts.{parts_by, is_part, is_standard, is_daylight}
+use Rattle.profile.specs.text.Trees.{Tree, tree_name, tree_own}
+use Rattle.profile.specs.series.ZoneTexts.{parts_by, is_part, is_standard, is_daylight}
 use Rattle.cal_zones.specs.Read.{parts_in}
 
 abbrev Lines : Type 0

@@ -2,8 +2,8 @@
 use Rattle.std.proofs.Common.{◌≡◌, ◌∙◌, refl, sym, ap, subst, ℕ, suc, ◌+◌, ◌-◌, ◌≤◌, true, false, cond, ◌==◌, List, [], ◌++◌, codes, decimal, append_assoc, append-nil, arith, pos}
 use Rattle.std.specs.Fmt.{signed_decimal}
 use Rattle.std.proofs.lemmas.Bool.Decides.{nat_tests}
-use Rattle.profile.specs.Rules.{is_plain}
-use Rattle.profile.specs.RuleTexts.{weekday_word}
+use Rattle.profile.specs.series.Rules.{is_plain}
+use Rattle.profile.specs.series.RuleTexts.{weekday_word}
 use Rattle.cal_zones.specs.declared.yearly.MonthDays.{MonthDays}
 use Rattle.cal_zones.specs.declared.yearly.MonthDays.TheVariants.{Day, FromStart, FromEnd, Week}
 use Rattle.cal_zones.specs.Shapes.{is_yearly}

@@ -8,7 +8,7 @@ use Rattle.std.specs.Result.{OkIff, result_ok}
 use Rattle.std.proofs.lemmas.Bool.{false≢true, and_parts, or_cases}
 use Rattle.std.proofs.lemmas.Bool.Decides.{nat_tests, Decides-int_eq}
 use Rattle.jiff_core.proofs.SignedLemmas.{signed_arith}
-use Rattle.profile.specs.ZoneTexts.{is_of_seven, are_seven}
+use Rattle.profile.specs.series.ZoneTexts.{is_of_seven, are_seven}
 use Rattle.cal_zones.proofs.Named.{seven_at}
 
 abbrev pub least : ℤ → ℤ → ℤ

@@ -4,13 +4,13 @@ use Rattle.std.proofs.lemmas.Int.{by_lt_z}
 use Rattle.std.proofs.lemmas.Bool.{cases_order, cases_lt}
 use Rattle.std.proofs.lemmas.Option.{same_Some}
 use Rattle.jiff_core.proofs.SignedLemmas.{signed_arith, one_part}
-use Rattle.profile.specs.Days.{year_of, year_start}
-use Rattle.profile.specs.Values.{IsOffset}
-use Rattle.profile.specs.Zones.{local_time}
+use Rattle.profile.specs.series.Days.{year_of, year_start}
+use Rattle.profile.specs.text.Values.{IsOffset}
+use Rattle.profile.specs.series.Zones.{local_time}
 use Rattle.cal_days.proofs.Dates.{named_later, year_begins, year_ends}
 use Rattle.cal_zones.specs.Yearly.{IsOn, IsDayOfYear}
-use Rattle.profile.specs.Rules.{Pattern, is_base}
-use Rattle.profile.specs.ZoneTexts.{AreSpaced, AreClose}
+use Rattle.profile.specs.series.Rules.{Pattern, is_base}
+use Rattle.profile.specs.series.ZoneTexts.{AreSpaced, AreClose}
 use Rattle.cal_zones.specs.Shapes.{pattern_of}
 use Rattle.cal_zones.specs.Onsets.{rule_of}
 use Rattle.cal_zones.specs.Kinds.{pair_of}

@@ -1,7 +1,7 @@
 -- Lines that are appended one after another are the lines of a whole.
 use Rattle.std.proofs.Common.{◌≡◌, ◌∙◌, ap, sym, ℕ, List, [], ◌∷◌, ◌++◌, append_assoc, append-nil}
 use Rattle.std.proofs.lemmas.Grind.{flat_map-append}
-use Rattle.profile.specs.Lines.{folded, written}
+use Rattle.profile.specs.text.Lines.{folded, written}
 
 abbrev Lines : Type 0
 Lines = List (List ℕ)

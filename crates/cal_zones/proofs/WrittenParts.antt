@@ -4,14 +4,14 @@ use Rattle.std.specs.Prelude.{Option, Some, None}
 use Rattle.std.specs.List.{list_all}
 use Rattle.std.proofs.lemmas.Bool.{and_from}
 use Rattle.std.proofs.lemmas.List.Folds.{list_all-append}
-use Rattle.profile.specs.Lines.{is_content}
-use Rattle.profile.specs.Objects.{is_property}
-use Rattle.profile.specs.Values.{SpellsLocal, WritesLocal, SpellsOffset, WritesOffset}
-use Rattle.profile.specs.Properties.{IsMissing, lines_named}
-use Rattle.profile.specs.Rules.{Pattern}
-use Rattle.profile.specs.Zones.{Observance, local_time}
-use Rattle.profile.specs.ZoneTexts.{SaysTimes, SaysOnce, SaysYearly, YearRule, is_each_year, year_pattern}
-use Rattle.profile.specs.WrittenZones.{rule_lines, WritesPart}
+use Rattle.profile.specs.text.Lines.{is_content}
+use Rattle.profile.specs.text.Objects.{is_property}
+use Rattle.profile.specs.text.Values.{SpellsLocal, WritesLocal, SpellsOffset, WritesOffset}
+use Rattle.profile.specs.events.Properties.{IsMissing, lines_named}
+use Rattle.profile.specs.series.Rules.{Pattern}
+use Rattle.profile.specs.series.Zones.{Observance, local_time}
+use Rattle.profile.specs.series.ZoneTexts.{SaysTimes, SaysOnce, SaysYearly, YearRule, is_each_year, year_pattern}
+use Rattle.profile.specs.written.WrittenZones.{rule_lines, WritesPart}
 use Rattle.ical_lines.proofs.CleanLines.{IsClean, is_shown, clean_shown, valued, start_line}
 use Rattle.ical_values.proofs.ShownValues.{shown_local, shown_offset}
 use Rattle.cal_zones.proofs.WrittenRules.{year_rule_text, year_back, shown_year}

@@ -5,11 +5,11 @@ use Rattle.std.specs.Ordering.{int_eq}
 use Rattle.std.specs.Fmt.{signed_decimal}
 use Rattle.std.proofs.lemmas.Bool.{and_parts, and_from, or_left, or_right}
 use Rattle.std.proofs.lemmas.Bool.Decides.{nat_tests}
-use Rattle.profile.specs.Faults.{is_between}
-use Rattle.profile.specs.Days.{Yearly, days_in_month}
-use Rattle.profile.specs.Rules.{WeekdayNumber, is_place, is_plain, is_entry, is_short, go_together}
-use Rattle.profile.specs.RuleTexts.{weekday_word, listed, entry_text}
-use Rattle.profile.specs.ZoneTexts.{MonthDays, OnDay, FromStart, FromEnd, InWeek, YearRule, month_days_of, weekdays_of, is_each_year, is_of_seven, names_days, SpellsYear}
+use Rattle.profile.specs.faults.Faults.{is_between}
+use Rattle.profile.specs.series.Days.{Yearly, days_in_month}
+use Rattle.profile.specs.series.Rules.{WeekdayNumber, is_place, is_plain, is_entry, is_short, go_together}
+use Rattle.profile.specs.series.RuleTexts.{weekday_word, listed, entry_text}
+use Rattle.profile.specs.series.ZoneTexts.{MonthDays, OnDay, FromStart, FromEnd, InWeek, YearRule, month_days_of, weekdays_of, is_each_year, is_of_seven, names_days, SpellsYear}
 use Rattle.ical_lines.proofs.CleanLines.{is_shown, shown_append, shown_decimal}
 use Rattle.cal_rules.proofs.Parted.{same_octet}
 use Rattle.cal_rules.proofs.OneRule.{weekday_test}

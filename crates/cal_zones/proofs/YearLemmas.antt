@@ -2,8 +2,8 @@
 use Rattle.std.proofs.Common.{◌≡◌, subst, sym, ℕ, true, ◌&&◌, ◌==◌}
 use Rattle.std.specs.Prelude.{Option, Some, None, IfSome, IfNone, IsSome, ◌↔◌}
 use Rattle.std.proofs.lemmas.Bool.{and_from, false≢true}
-use Rattle.profile.specs.Rules.{RuleText}
-use Rattle.profile.specs.ZoneTexts.{YearRule, are_only, names_days, is_each_year, is_plain_yearly, is_one_day}
+use Rattle.profile.specs.series.Rules.{RuleText}
+use Rattle.profile.specs.series.ZoneTexts.{YearRule, are_only, names_days, is_each_year, is_plain_yearly, is_one_day}
 use Rattle.cal_zones.specs.Shapes.{days_of, rule_named, is_yearly}
 use Rattle.cal_zones.specs.declared.yearly.MonthDays.{MonthDays}
 use Rattle.cal_zones.specs.declared.yearly.Yearly.{Yearly}

@@ -4,17 +4,17 @@ use Rattle.std.specs.Prelude.{Option, Some, None, Contains}
 use Rattle.std.specs.List.{list_all, flat_map}
 use Rattle.std.proofs.lemmas.Bool.{and_parts, and_from}
 use Rattle.std.proofs.lemmas.List.Folds.{list_all-append}
-use Rattle.profile.specs.Lines.{is_content, folded, logical_lines, reads_as_lines}
-use Rattle.profile.specs.Trees.{Tree, Trees, tree, none, more, trees_list}
-use Rattle.profile.specs.Objects.{Opens, Closes, is_property}
-use Rattle.profile.specs.Objects.SpellsBody.{component}
-use Rattle.profile.specs.Values.{escaped, unescaped}
-use Rattle.profile.specs.Rules.{RuleText}
-use Rattle.profile.specs.Properties.{BothOrNeither}
-use Rattle.profile.specs.RuleTexts.{SpellsRule, RuleFault}
-use Rattle.profile.specs.Zones.{Zone, Constant, Single, Pair, Observance}
-use Rattle.profile.specs.ZoneTexts.{parts_by, is_part, is_standard, is_daylight, SaysTimes, SaysOnce, SaysYearly, IsYearLine, OffsetsDiffer, HasForm, PartsSay, SaysZone, Keeps, AreMatched, AreSpaced, is_plain_yearly, are_only, names_days, is_each_year, constant, single, pair}
-use Rattle.profile.specs.WrittenZones.{WritesPart, WritesParts, IsZoneText, IsTextName, ReadsAsZone, component_lines, keeping}
+use Rattle.profile.specs.text.Lines.{is_content, folded, logical_lines, reads_as_lines}
+use Rattle.profile.specs.text.Trees.{Tree, Trees, tree, none, more, trees_list}
+use Rattle.profile.specs.text.Objects.{Opens, Closes, is_property}
+use Rattle.profile.specs.text.Objects.SpellsBody.{component}
+use Rattle.profile.specs.text.Values.{escaped, unescaped}
+use Rattle.profile.specs.series.Rules.{RuleText}
+use Rattle.profile.specs.events.Properties.{BothOrNeither}
+use Rattle.profile.specs.series.RuleTexts.{SpellsRule, RuleFault}
+use Rattle.profile.specs.series.Zones.{Zone, Constant, Single, Pair, Observance}
+use Rattle.profile.specs.series.ZoneTexts.{parts_by, is_part, is_standard, is_daylight, SaysTimes, SaysOnce, SaysYearly, IsYearLine, OffsetsDiffer, HasForm, PartsSay, SaysZone, Keeps, AreMatched, AreSpaced, is_plain_yearly, are_only, names_days, is_each_year, constant, single, pair}
+use Rattle.profile.specs.written.WrittenZones.{WritesPart, WritesParts, IsZoneText, IsTextName, ReadsAsZone, component_lines, keeping}
 use Rattle.ical_lines.proofs.CleanLines.{IsClean, fixed}
 use Rattle.ical_values.proofs.EscapedText.{utf8_escaped, escaped_calm}
 use Rattle.ical_tree.proofs.TreeOfLemmas.{BodyT}

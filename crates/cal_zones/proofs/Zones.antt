@@ -1,7 +1,7 @@
 -- The offset of a zone, and what a local time means in it.
 use Rattle.std.proofs.Common.{◌≡◌, ◌∙◌, sym, subst, refl, inl, inr, ◌⊎◌, Option, arith, ℤ, pos, negsuc, ◌+ℤ◌, ◌≤ℤ◌}
 use Rattle.jiff_core.proofs.SignedLemmas.{signed_arith}
-use Rattle.profile.specs.Zones.{Observance, Zone, Constant, Single, Pair, Onset, IsOnset, IsZoneOnset, IsLatest, IsFirstOf, NoneBegun, InForce, Since, Until, IsOffsetAt, IsBounds, IsShownFirst, IsSkipped, Means, AreFirstOnsets, onset_at}
+use Rattle.profile.specs.series.Zones.{Observance, Zone, Constant, Single, Pair, Onset, IsOnset, IsZoneOnset, IsLatest, IsFirstOf, NoneBegun, InForce, Since, Until, IsOffsetAt, IsBounds, IsShownFirst, IsSkipped, Means, AreFirstOnsets, onset_at}
 use Rattle.cal_zones.specs.Kinds.{AreEnds, IsOrdered}
 use Rattle.cal_zones.proofs.Force.{OneAtOnce, one_offset, Between, between}
 

@@ -1,6 +1,6 @@
 -- Two observances that never begin at once.
 use Rattle.std.specs.Prelude.{◌≡◌}
-use Rattle.profile.specs.Zones.{Onset, IsOnset}
+use Rattle.profile.specs.series.Zones.{Onset, IsOnset}
 use Rattle.cal_zones.specs.Onsets.{observance_of}
 use Rattle.cal_zones.specs.declared.observance.Observance.{Observance}
 

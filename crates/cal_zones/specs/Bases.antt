@@ -1,6 +1,6 @@
 -- The law that ties the rules of one day a year to recurrence rules.
 use Rattle.std.specs.Prelude.{◌≡◌, ◌↔◌, ℕ, true}
-use Rattle.profile.specs.Rules.{is_base}
+use Rattle.profile.specs.series.Rules.{is_base}
 use Rattle.cal_zones.specs.Shapes.{pattern_of}
 use Rattle.cal_zones.specs.Yearly.{IsOn}
 use Rattle.cal_zones.specs.declared.yearly.Yearly.{Yearly}

@@ -1,16 +1,16 @@
 -- What a zone stands for, and two numbers by their order.
 use Rattle.std.specs.Prelude.{◌≡◌, ◌⊎◌, ℤ, ◌≤ℤ◌}
-use Rattle.profile.specs.Zones.{Zone, Constant, Single, Pair}
+use Rattle.profile.specs.series.Zones.{Zone, Constant, Single, Pair}
 use Rattle.cal_zones.specs.Onsets.{observance_of}
 use Rattle.cal_zones.specs.declared.observance.Observance.{Observance}
-use Rattle.cal_zones.specs.declared.zone.Kind as rust
-use Rattle.cal_zones.specs.declared.zone.Kind.TheVariants as the
+use Rattle.cal_zones.specs.declared.zone.Form as rust
+use Rattle.cal_zones.specs.declared.zone.Form.TheVariants as the
 use Rattle.cal_zones.specs.declared.zone.Zone as kept
 
 abbrev pub pair_of : Observance → Observance → Zone
 pair_of a b = Pair (observance_of a) (observance_of b)
 
-abbrev pub kind_of : rust.Kind → Zone
+abbrev pub kind_of : rust.Form → Zone
 kind_of (the.Constant k) = Constant k.offset
 kind_of (the.Single a) = Single (observance_of a)
 kind_of (the.Pair p) = pair_of p.standard p.daylight

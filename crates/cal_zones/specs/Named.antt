@@ -1,7 +1,7 @@
 -- What BYMONTHDAY and BYDAY don't name.
 use Rattle.std.specs.Prelude.{◌≡◌, ℕ, true, List, ℤ}
-use Rattle.profile.specs.Rules.{WeekdayNumber}
-use Rattle.profile.specs.ZoneTexts.{MonthDays, names_days, is_each_year}
+use Rattle.profile.specs.series.Rules.{WeekdayNumber}
+use Rattle.profile.specs.series.ZoneTexts.{MonthDays, names_days, is_each_year}
 
 -- no day of a month alone that every year has
 abbrev pub NamesNone : List ℤ → List WeekdayNumber → Type 0

@@ -1,7 +1,7 @@
 -- The onsets of one observance.
 use Rattle.std.specs.Prelude.{◌≡◌, ℕ, ◌*◌, ◌≤◌, true, Option, Some, None, ℤ, pos, ◌+ℤ◌, ◌≤ℤ◌}
-use Rattle.profile.specs.Rules.{Pattern}
-use Rattle.profile.specs.Zones.{Observance, begins_on}
+use Rattle.profile.specs.series.Rules.{Pattern}
+use Rattle.profile.specs.series.Zones.{Observance, begins_on}
 use Rattle.cal_zones.specs.Shapes.{pattern_of}
 use Rattle.cal_zones.specs.Yearly.{IsOn}
 use Rattle.cal_zones.specs.declared.yearly.Yearly.{Yearly}

@@ -5,9 +5,9 @@ use Rattle.ical_lines.specs.declared.fault.Fault.{Fault}
 use Rattle.ical_lines.specs.declared.fault.Fault.TheVariants.{Refused, Memory}
 use Rattle.ical_tree.specs.Tree.{component_name, component_lines, component_children}
 use Rattle.ical_tree.specs.declared.component.Component.{Component}
-use Rattle.profile.specs.Zones.{Zone, Single, Pair, Observance}
-use Rattle.profile.specs.Properties.{IsMissing, StandsTwice, SomeLine}
-use Rattle.profile.specs.ZoneTexts.{is_part, is_standard, is_daylight, PartsSay, PartsFault, TimesFault, SaysOnce, SaysYearly, AreMatched, AreSpaced, AreClose, HasNoYearRule, IsFixedLine, IsNoLocalLine, IsNoOffsetLine}
+use Rattle.profile.specs.series.Zones.{Zone, Single, Pair, Observance}
+use Rattle.profile.specs.events.Properties.{IsMissing, StandsTwice, SomeLine}
+use Rattle.profile.specs.series.ZoneTexts.{is_part, is_standard, is_daylight, PartsSay, PartsFault, TimesFault, SaysOnce, SaysYearly, AreMatched, AreSpaced, AreClose, HasNoYearRule, IsFixedLine, IsNoLocalLine, IsNoOffsetLine}
 
 -- those of some components whose name passes the test, each as its own lines
 abbrev pub parts_in : (List ℕ → Bool) → List Component → List (List (List ℕ))
@@ -72,7 +72,7 @@ pub data BothFault (standard daylight : List (List ℕ)) : ℕ → Type 0 where
   no_match : (a b : Observance) → SaysYearly standard a → SaysYearly daylight b → (AreMatched (Pair a b) → ⊥) → BothFault standard daylight 41
   no_space : (a b : Observance) → SaysYearly standard a → SaysYearly daylight b → AreClose (Pair a b) → BothFault standard daylight 42
 
--- want of memory stays, and any refusal becomes 40
+-- out of memory stays, and any refusal becomes 40
 abbrev pub IsShapeFault : Fault → Fault → Type 0
 IsShapeFault Memory result = result ≡ Memory
 IsShapeFault (Refused _) result = RefusesBy (λ n. n ≡ 40) result × (result ≡ Memory → ⊥)

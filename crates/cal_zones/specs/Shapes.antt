@@ -1,8 +1,8 @@
 -- The days of a month that a rule names.
 use Rattle.std.specs.Prelude.{◌≡◌, ℕ, ◌+◌, ◌-◌, ◌*◌, ◌%◌, ◌<◌, ◌≤◌, Bool}
-use Rattle.profile.specs.Rules.{Pattern}
-use Rattle.profile.specs.ZoneTexts as written
-use Rattle.profile.specs.ZoneTexts.{OnDay, InWeek, YearRule, is_each_year, year_pattern}
+use Rattle.profile.specs.series.Rules.{Pattern}
+use Rattle.profile.specs.series.ZoneTexts as written
+use Rattle.profile.specs.series.ZoneTexts.{OnDay, InWeek, YearRule, is_each_year, year_pattern}
 use Rattle.cal_zones.specs.declared.yearly.MonthDays.{MonthDays}
 use Rattle.cal_zones.specs.declared.yearly.MonthDays.TheVariants.{Day, FromStart, FromEnd, Week}
 

@@ -1,7 +1,7 @@
 -- Two observances whose onsets keep two days apart.
 use Rattle.std.specs.Prelude.{◌≡◌, ℕ, ◌+◌, ◌<◌, ◌≤◌, ◌⊎◌, ℤ, pos, unsigned_abs, ◌+ℤ◌, ◌-ℤ◌, ◌≤ℤ◌}
-use Rattle.profile.specs.Days.{year_of}
-use Rattle.profile.specs.Zones.{local_time}
+use Rattle.profile.specs.series.Days.{year_of}
+use Rattle.profile.specs.series.Zones.{local_time}
 use Rattle.cal_zones.specs.Yearly.{IsOn}
 use Rattle.cal_zones.specs.declared.yearly.Yearly.{Yearly}
 use Rattle.cal_zones.specs.declared.observance.Observance.{Observance}

@@ -1,11 +1,11 @@
 -- What is written of a zone.
 use Rattle.std.specs.Prelude.{◌≡◌, ℕ, ◌+◌, List, [], ◌∷◌, ◌++◌, map, codes, decimal}
 use Rattle.std.specs.Fmt.{signed_decimal}
-use Rattle.profile.specs.Lines.{folded, written}
-use Rattle.profile.specs.RuleTexts.{listed, entry_text}
-use Rattle.profile.specs.Zones.{Observance}
-use Rattle.profile.specs.ZoneTexts.{month_days_of, weekdays_of}
-use Rattle.profile.specs.WrittenZones.{WritesPart, component_lines}
+use Rattle.profile.specs.text.Lines.{folded, written}
+use Rattle.profile.specs.series.RuleTexts.{listed, entry_text}
+use Rattle.profile.specs.series.Zones.{Observance}
+use Rattle.profile.specs.series.ZoneTexts.{month_days_of, weekdays_of}
+use Rattle.profile.specs.written.WrittenZones.{WritesPart, component_lines}
 use Rattle.cal_zones.specs.Shapes.{days_of}
 use Rattle.cal_zones.specs.declared.yearly.MonthDays.{MonthDays}
 

@@ -1,6 +1,6 @@
 -- The one day a year of a rule.
 use Rattle.std.specs.Prelude.{◌≡◌, ℕ, ◌-◌, ◌≤◌, ◌⊎◌}
-use Rattle.profile.specs.Days.{year_of, month_of, month_days_before, days_in_month}
+use Rattle.profile.specs.series.Days.{year_of, month_of, month_days_before, days_in_month}
 use Rattle.cal_zones.specs.Shapes.{IsPlace}
 use Rattle.cal_zones.specs.declared.yearly.Yearly.{Yearly}
 

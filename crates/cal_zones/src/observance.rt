@@ -1,7 +1,7 @@
 //! One observance, STANDARD or DAYLIGHT, and its onsets.
 
 ghost use Rattle.std.specs.Prelude.{◌<◌, ◌≤◌};
-ghost use Rattle.profile.specs.Values.{IsOffset};
+ghost use Rattle.profile.specs.text.Values.{IsOffset};
 
 use crate::yearly::Yearly;
 use cal_days::Day;
@@ -30,8 +30,8 @@ pub struct Observance {
 
 impl Observance {
     ghost use Rattle.std.specs.Prelude.{◌≡◌, ◌↔◌, ◌≤◌, true, pos, negsuc, unsigned_abs, IfSome, MatchOption, ◌+ℤ◌, ◌-ℤ◌, ◌≤ℤ◌};
-    ghost use Rattle.profile.specs.Values.{IsOffset};
-    ghost use Rattle.profile.specs.Zones.{Single, local_time, IsOffsetAt, IsOnset, IsLatest, IsFirstOf, NoneBegun, onset_at};
+    ghost use Rattle.profile.specs.text.Values.{IsOffset};
+    ghost use Rattle.profile.specs.series.Zones.{Single, local_time, IsOffsetAt, IsOnset, IsLatest, IsFirstOf, NoneBegun, onset_at};
     ghost use Rattle.cal_zones.specs.Onsets.{observance_of, IsFirstDayOf};
     ghost use Rattle.cal_zones.specs.Kinds.{IsOrdered};
 

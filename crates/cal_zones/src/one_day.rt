@@ -3,7 +3,7 @@
 ghost use Rattle.std.specs.Prelude.{◌≡◌, ℕ, ◌≤◌, true, false, map, pos, [], ◌∷◌, IfSome, IfNone};
 ghost use Rattle.std.specs.List.{list_all, list_any};
 ghost use Rattle.std.specs.Ordering.{int_eq};
-ghost use Rattle.profile.specs.ZoneTexts.{YearRule, are_only, is_of_seven, are_seven, names_days, is_plain_yearly, is_one_day};
+ghost use Rattle.profile.specs.series.ZoneTexts.{YearRule, are_only, is_of_seven, are_seven, names_days, is_plain_yearly, is_one_day};
 ghost use Rattle.cal_rules.specs.Views.{entry_of};
 ghost use Rattle.cal_zones.specs.Shapes.{days_of, rule_named};
 ghost use Rattle.cal_zones.specs.Named.{NamesNone};

@@ -23,9 +23,9 @@ pub struct Pair {
 
 impl Pair {
     ghost use Rattle.std.specs.Prelude.{◌≡◌, ◌≤◌, ℕ, true, IfOk, IfErr};
-    ghost use Rattle.profile.specs.Values.{IsOffset};
-    ghost use Rattle.profile.specs.Zones.{IsOffsetAt, NoneBegun};
-    ghost use Rattle.profile.specs.ZoneTexts.{AreMatched, AreSpaced, IsPairFault};
+    ghost use Rattle.profile.specs.text.Values.{IsOffset};
+    ghost use Rattle.profile.specs.series.Zones.{IsOffsetAt, NoneBegun};
+    ghost use Rattle.profile.specs.series.ZoneTexts.{AreMatched, AreSpaced, IsPairFault};
     ghost use Rattle.cal_zones.specs.Onsets.{observance_of};
     ghost use Rattle.cal_zones.specs.Kinds.{pair_of};
 

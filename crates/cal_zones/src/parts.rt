@@ -3,11 +3,11 @@
 
 ghost use Rattle.std.specs.Prelude.{◌≡◌, ◌↔◌, ◌∷◌, [], length, count_by, find, option_map, IsTrue, IfSome, IfNone, true, false, None, Some, IfOk, IfErr};
 ghost use Rattle.ical_tree.specs.Tree.{component_name, component_lines, component_children};
-ghost use Rattle.profile.specs.Lines.{is_same_name};
-ghost use Rattle.profile.specs.ZoneTexts.{is_part, IsFixedLine, IsLocalLine, IsOffsetLine, SaysTimes, TimesFault};
+ghost use Rattle.profile.specs.text.Lines.{is_same_name};
+ghost use Rattle.profile.specs.series.ZoneTexts.{is_part, IsFixedLine, IsLocalLine, IsOffsetLine, SaysTimes, TimesFault};
 ghost use Rattle.cal_zones.specs.Read.{parts_in, parts_of, StartFault, OffsetFault};
 ghost use Rattle.ical_lines.specs.Text.{line_text};
-ghost use Rattle.profile.specs.Properties.{Says, IsMissing, is_date_time};
+ghost use Rattle.profile.specs.events.Properties.{Says, IsMissing, is_date_time};
 ghost use Rattle.cal_zones.specs.Onsets.{observance_of};
 
 use crate::observance::Observance;

@@ -4,14 +4,14 @@
 ghost use Rattle.std.specs.Prelude.{◌≡◌, ℕ, List, true, false, length, Contains, None, Some, IfOk, IfErr};
 ghost use Rattle.ical_lines.specs.Fault.{RefusesBy};
 ghost use Rattle.ical_tree.specs.Tree.{component_lines};
-ghost use Rattle.profile.specs.Trees.{Tree};
-ghost use Rattle.profile.specs.ZoneTexts.{SaysZone, ZoneFault, SaysYearly, SpellsYear, SpellsNoYear, OffsetsDiffer, Keeps, Strays, SaysTimes, TimesFault};
+ghost use Rattle.profile.specs.text.Trees.{Tree};
+ghost use Rattle.profile.specs.series.ZoneTexts.{SaysZone, ZoneFault, SaysYearly, SpellsYear, SpellsNoYear, OffsetsDiffer, Keeps, Strays, SaysTimes, TimesFault};
 ghost use Rattle.cal_zones.specs.Shapes.{rule_named};
 ghost use Rattle.cal_zones.specs.Onsets.{observance_of};
 ghost use Rattle.cal_zones.specs.Kinds.{zone_of};
 ghost use Rattle.cal_zones.specs.Read.{Says, HasFault, parts_of, SomeTimesFault, YearlyFault, IsShapeFault, SaysSingle, SingleFault};
-ghost use Rattle.profile.specs.Zones as zones;
-ghost use Rattle.profile.specs.Properties as lines;
+ghost use Rattle.profile.specs.series.Zones as zones;
+ghost use Rattle.profile.specs.events.Properties as lines;
 
 use crate::observance::Observance;
 use crate::one_day::day_of_year;

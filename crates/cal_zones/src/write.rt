@@ -1,21 +1,21 @@
 //! VTIMEZONEs as they are written (RFC 5545 3.6.5): each line folded, and ended by CRLF.
 
 ghost use Rattle.std.specs.Prelude.{◌≡◌, ◌++◌, ℕ, List, codes, OnOk, ◌≤◌, decimal, string_bytes, IfOk};
-ghost use Rattle.profile.specs.Lines.{folded, written};
-ghost use Rattle.profile.specs.Trees.{Tree};
-ghost use Rattle.profile.specs.Values.{IsOffset, WritesLocal, WritesOffset, escaped};
-ghost use Rattle.profile.specs.Zones.{local_time};
-ghost use Rattle.profile.specs.ZoneTexts.{SaysZone};
-ghost use Rattle.profile.specs.WrittenZones.{rule_lines, keeping, WritesParts, WritesZone, IsZoneText, IsTextName, ReadsAsZone};
+ghost use Rattle.profile.specs.text.Lines.{folded, written};
+ghost use Rattle.profile.specs.text.Trees.{Tree};
+ghost use Rattle.profile.specs.text.Values.{IsOffset, WritesLocal, WritesOffset, escaped};
+ghost use Rattle.profile.specs.series.Zones.{local_time};
+ghost use Rattle.profile.specs.series.ZoneTexts.{SaysZone};
+ghost use Rattle.profile.specs.written.WrittenZones.{rule_lines, keeping, WritesParts, WritesZone, IsZoneText, IsTextName, ReadsAsZone};
 ghost use Rattle.ical_values.specs.Written.{Appends};
 ghost use Rattle.cal_zones.specs.Onsets.{observance_of};
 ghost use Rattle.cal_zones.specs.Kinds.{zone_of};
 ghost use Rattle.cal_zones.specs.Written.{AppendsLines, IsPartText, IsLineOf, year_text, week_text};
-ghost use Rattle.profile.specs.Zones as zones;
+ghost use Rattle.profile.specs.series.Zones as zones;
 
 use crate::observance::Observance;
 use crate::yearly::{MonthDays, Yearly};
-use crate::zone::{Fixed, Kind, Zone};
+use crate::zone::{Fixed, Form, Zone};
 use cal_days::EPOCH_INDEX;
 use cal_rules::{one_rule, weekday_word};
 use ical_lines::{lines_read_back, write_line, write_property};
@@ -43,9 +43,9 @@ fn write_parts(out: &mut Vec<u8>, zone: &Zone) -> Result<(), AllocError>
     ensures { OnOk result (AppendsLines out.old.items out.new.items (λ lines. WritesParts lines (zone_of zone.now))) }
 {
     match &zone.kind {
-        Kind::Constant(fixed) => write_part(out, "STANDARD", &keeping(fixed)),
-        Kind::Single(observance) => write_part(out, "STANDARD", observance),
-        Kind::Pair(pair) => {
+        Form::Constant(fixed) => write_part(out, "STANDARD", &keeping(fixed)),
+        Form::Single(observance) => write_part(out, "STANDARD", observance),
+        Form::Pair(pair) => {
             write_part(out, "STANDARD", &pair.standard)?;
             write_part(out, "DAYLIGHT", &pair.daylight)?;
             Ok(())

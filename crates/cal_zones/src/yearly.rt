@@ -1,7 +1,7 @@
 //! Rules that name one day of one month, every year.
 
 ghost use Rattle.std.specs.Prelude.{◌≡◌, ◌<◌, ◌≤◌, true, ◌+◌, ◌%◌};
-ghost use Rattle.profile.specs.Days.{days_in_month};
+ghost use Rattle.profile.specs.series.Days.{days_in_month};
 ghost use Rattle.cal_zones.specs.Shapes.{is_yearly};
 
 use cal_days::{CYCLE, Day, FIRST_INDEX};
@@ -31,7 +31,7 @@ pub struct Yearly {
 
 impl Yearly {
     ghost use Rattle.std.specs.Prelude.{◌≡◌, ◌↔◌, ◌<◌, ◌≤◌, ◌+◌, true, IsSome, IfSome, negsuc, ◌≤ℤ◌};
-    ghost use Rattle.profile.specs.ZoneTexts.{is_each_year};
+    ghost use Rattle.profile.specs.series.ZoneTexts.{is_each_year};
     ghost use Rattle.cal_zones.specs.Shapes.{days_of, IsPlace};
     ghost use Rattle.cal_zones.specs.Yearly.{IsOn, IsDayOfYear, IsLatestDay, IsFirstDay, HasEarlier};
     ghost use Rattle.cal_zones.specs.Onsets.{IsLatestAfter};

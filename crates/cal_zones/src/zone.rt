@@ -2,8 +2,8 @@
 
 ghost use Rattle.std.specs.Prelude.{ℕ, ◌<◌, ◌≤◌, ◌+ℤ◌};
 ghost use Rattle.std.specs.Int.Signed.{◌<ℤ◌};
-ghost use Rattle.profile.specs.Values.{IsOffset};
-ghost use Rattle.profile.specs.Zones.{local_time};
+ghost use Rattle.profile.specs.text.Values.{IsOffset};
+ghost use Rattle.profile.specs.series.Zones.{local_time};
 
 use crate::observance::Observance;
 use crate::pair::Pair;
@@ -25,7 +25,7 @@ pub struct Fixed {
 
 /// What a zone is made of.
 #[derive(Clone, Copy)]
-pub enum Kind {
+pub enum Form {
     /// One offset for all time.
     Constant(Fixed),
     /// One observance.
@@ -37,20 +37,20 @@ pub enum Kind {
 /// A zone: which offset its clocks keep at each instant.
 #[derive(Clone, Copy)]
 pub struct Zone {
-    pub(crate) kind: Kind,
+    pub(crate) kind: Form,
 }
 
 impl Zone {
     ghost use Rattle.std.specs.Prelude.{◌≡◌, ◌<◌, ◌≤◌, ℕ, None, pos, unsigned_abs, ◌-ℤ◌, IfOk, IfErr, MatchOption, OnOk, OnErr};
-    ghost use Rattle.profile.specs.Values.{IsOffset};
-    ghost use Rattle.profile.specs.Days.{day_index};
-    ghost use Rattle.profile.specs.Zones.{Constant, Single, IsOffsetAt, Means, AreFirstOnsets, IsBounds, IsOneOffset, IsOneMeaning, IsNearEpoch, IsLastDay, NoneFrom};
-    ghost use Rattle.profile.specs.ZoneTexts.{AreMatched, AreSpaced, IsSingleFault, IsPairFault, SaysZone, ZoneFault};
+    ghost use Rattle.profile.specs.text.Values.{IsOffset};
+    ghost use Rattle.profile.specs.series.Days.{day_index};
+    ghost use Rattle.profile.specs.series.Zones.{Constant, Single, IsOffsetAt, Means, AreFirstOnsets, IsBounds, IsOneOffset, IsOneMeaning, IsNearEpoch, IsLastDay, NoneFrom};
+    ghost use Rattle.profile.specs.series.ZoneTexts.{AreMatched, AreSpaced, IsSingleFault, IsPairFault, SaysZone, ZoneFault};
     ghost use Rattle.cal_zones.specs.Onsets.{observance_of};
     ghost use Rattle.cal_zones.specs.Kinds.{zone_of, pair_of, AreEnds};
     ghost use Rattle.ical_lines.specs.Fault.{RefusesBy};
     ghost use Rattle.ical_tree.specs.Tree.{tree_of};
-    ghost use Rattle.profile.specs.WrittenZones.{IsZoneText};
+    ghost use Rattle.profile.specs.written.WrittenZones.{IsZoneText};
     ghost use Rattle.ical_values.specs.Written.{Appends};
 
     /// UTC.
@@ -58,7 +58,7 @@ impl Zone {
         ensures { zone_of result ≡ Constant (pos 0) }
     {
         Zone {
-            kind: Kind::Constant(Fixed { offset: 0 }),
+            kind: Form::Constant(Fixed { offset: 0 }),
         }
     }
 
@@ -67,7 +67,7 @@ impl Zone {
         ensures { zone_of result ≡ Constant offset }
     {
         Zone {
-            kind: Kind::Constant(Fixed {
+            kind: Form::Constant(Fixed {
                 offset: offset.seconds(),
             }),
         }
@@ -89,7 +89,7 @@ impl Zone {
             return Err(Refusal::ZONE_OFFSETS);
         }
         Ok(Zone {
-            kind: Kind::Single(observance),
+            kind: Form::Single(observance),
         })
     }
 
@@ -104,7 +104,7 @@ impl Zone {
     {
         let pair = Pair::new(standard, daylight)?;
         Ok(Zone {
-            kind: Kind::Pair(pair),
+            kind: Form::Pair(pair),
         })
     }
 
@@ -125,7 +125,7 @@ impl Zone {
         ensures { zone_of result ≡ Constant observance.offset_from }
     {
         Zone {
-            kind: Kind::Constant(Fixed {
+            kind: Form::Constant(Fixed {
                 offset: observance.offset_from,
             }),
         }
@@ -138,9 +138,9 @@ impl Zone {
         ensures range { IsOffset result }
     {
         match &self.kind {
-            Kind::Constant(fixed) => fixed.offset,
-            Kind::Single(observance) => observance.offset(instant),
-            Kind::Pair(pair) => pair.offset(instant),
+            Form::Constant(fixed) => fixed.offset,
+            Form::Single(observance) => observance.offset(instant),
+            Form::Pair(pair) => pair.offset(instant),
         }
     }
 
@@ -160,9 +160,9 @@ impl Zone {
         ensures range { IsOffset result.0 × IsOffset result.1 }
     {
         match &self.kind {
-            Kind::Constant(fixed) => (fixed.offset, fixed.offset),
-            Kind::Single(observance) => observance.offsets(),
-            Kind::Pair(pair) => pair.standard.offsets(),
+            Form::Constant(fixed) => (fixed.offset, fixed.offset),
+            Form::Single(observance) => observance.offsets(),
+            Form::Pair(pair) => pair.standard.offsets(),
         }
     }
 
@@ -172,9 +172,9 @@ impl Zone {
         ensures { AreFirstOnsets (zone_of self.now) result.0 result.1 }
     {
         match &self.kind {
-            Kind::Constant(_) => (None, None),
-            Kind::Single(observance) => (Some(observance.first_onset()), None),
-            Kind::Pair(pair) => (
+            Form::Constant(_) => (None, None),
+            Form::Single(observance) => (Some(observance.first_onset()), None),
+            Form::Pair(pair) => (
                 Some(pair.standard.first_onset()),
                 Some(pair.daylight.first_onset()),
             ),

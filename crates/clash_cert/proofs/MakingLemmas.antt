@@ -9,9 +9,9 @@ use Rattle.std.proofs.lemmas.Cmp.{on_total, then_total, nat_list_cmp_total, int_
 use Rattle.std.proofs.lemmas.Int.{ints}
 use Rattle.std.proofs.lemmas.List.{get_or-map}
 use Rattle.std.proofs.lemmas.Map.Lookups.{exact_pairs, exact_bytes, exact_signed}
-use Rattle.profile.specs.Instances.{Key, Booked, IsClash, IsClear, booked_cmp, key_cmp}
+use Rattle.profile.specs.checker.Instances.{Key, Booked, IsClash, IsClear, booked_cmp, key_cmp}
 use Rattle.cal_events.specs.declared.sweep.Overlap.{Overlap}
-use Rattle.cal_events.specs.declared.instance.Booking.{Booking}
+use Rattle.cal_events.specs.declared.instance.OwnedInstance.{OwnedInstance}
 use Rattle.cal_events.specs.Calendars.{booked_of}
 use Rattle.cal_events.specs.Clashes.{Names}
 use Rattle.clash_cert.specs.declared.making.Clash.{Clash}
@@ -96,10 +96,10 @@ by_order all a b t clash Greater e is later le keys =
 pub named_at : (all : List Booked) (o : Overlap) (clash : Clash) → Names all o → AreNamedAt all o clash → IsNamedClash all clash
 named_at all o clash n h = by_order all n.a n.b o.instant clash (booked_cmp n.b n.a) refl n.clash n.later n.earlier (h n.a n.b n.first n.second)
 
-read_at : (bs : List Booking) (i : ℕ) (x : Booking) (a : Booked) → i < length bs → x ≡ get_or bs i x → get_or (map booked_of bs) i a ≡ a → booked_of x ≡ a
+read_at : (bs : List OwnedInstance) (i : ℕ) (x : OwnedInstance) (a : Booked) → i < length bs → x ≡ get_or bs i x → get_or (map booked_of bs) i a ≡ a → booked_of x ≡ a
 read_at bs i x a w e h = ap booked_of e ∙ sym (get_or-map booked_of bs i x a w) ∙ h
 
-pub at_places : (bs : List Booking) (o : Overlap) (x y : Booking) {E : Type 0} (r : Result Clash E) → o.first < length bs → o.second < length bs
+pub at_places : (bs : List OwnedInstance) (o : Overlap) (x y : OwnedInstance) {E : Type 0} (r : Result Clash E) → o.first < length bs → o.second < length bs
     → x ≡ get_or bs o.first x → y ≡ get_or bs o.second y → IfOk r (AreNamed (booked_of x) (booked_of y) o.instant) → IfOk r (AreNamedAt (map booked_of bs) o)
 at_places bs o x y (Ok k) v w ex ey h = λ a b ea eb.
     let p = read_at bs o.first x a v ex ea in

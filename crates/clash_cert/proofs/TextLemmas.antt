@@ -18,7 +18,7 @@ use Rattle.std.proofs.Math.Seq.{drop-cons}
 use Rattle.std.proofs.lemmas.Slice.Eq.{bytes_eq-Decides}
 use Rattle.std.proofs.lemmas.List.Quantifiers.{position-Some}
 use denote.Ref.{Bor}
-use Rattle.profile.specs.Certificates.{Claims, IsClaims, lines_of, spelled}
+use Rattle.profile.specs.checker.Certificates.{Claims, IsClaims, lines_of, spelled}
 use Rattle.clash_cert.specs.Texts.{Lacks, LacksLine, LacksCount, LacksLf, IsCutAtLf, IsNoNumber}
 
 pub cancel : (a x y : List ℕ) → a ++ x ≡ a ++ y → x ≡ y

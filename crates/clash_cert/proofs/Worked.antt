@@ -2,7 +2,7 @@
 use Rattle.std.proofs.Common.{◌≡◌, [], ◌∷◌, refl, lit<, lit≤}
 use Rattle.std.specs.Prelude.{codes}
 use Rattle.std.specs.Fmt.{digits}
-use Rattle.profile.specs.Certificates.{text_of, BeginsWell}
+use Rattle.profile.specs.checker.Certificates.{text_of, BeginsWell}
 
 -- the certificate of one single
 of_one : text_of (record { singles = 1 }) ≡ codes "ROOMCERT 1\nSINGLES 1\nSERIES 0\nDONE\n"

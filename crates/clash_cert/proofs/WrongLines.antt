@@ -4,7 +4,7 @@ use Rattle.std.specs.Prelude.{codes, decimal}
 use Rattle.std.proofs.lemmas.Bool.{cases_order, true≢false}
 use Rattle.std.proofs.lemmas.List.{length-take-le}
 use Rattle.std.proofs.lemmas.Fmt.{decimal_injective}
-use Rattle.profile.specs.Certificates.{Claims, IsClaims, lines_of, spelled, Spells, BeginsWell, FirstWrong}
+use Rattle.profile.specs.checker.Certificates.{Claims, IsClaims, lines_of, spelled, Spells, BeginsWell, FirstWrong}
 use Rattle.clash_cert.specs.Texts.{LacksLine, LacksCount}
 use Rattle.clash_cert.proofs.TextLemmas.{AreLines, AreLines-take, lines_are, one_rest, one_cut, one_line, cancel, spelled-take, spelled-take_suc}
 

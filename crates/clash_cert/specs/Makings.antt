@@ -2,23 +2,18 @@
 use Rattle.std.specs.Prelude.{ℤ, List, MatchBool, ◌≡◌, slice_index_or}
 use Rattle.std.specs.Ordering.{is_lt}
 use Rattle.std.specs.declared.cmp.Ordering.TheVariants.{Less}
-use Rattle.profile.specs.Instances.{Key, Booked, IsClash, booked_cmp}
-use Rattle.profile.specs.Certificates.{text_of, CertificateStands}
-use Rattle.ical_values.specs.Octets.{address_octets, text_octets}
+use Rattle.profile.specs.checker.Instances.{Booked, IsClash, booked_cmp}
+use Rattle.profile.specs.checker.Certificates.{text_of, CertificateStands}
+use Rattle.cal_events.specs.Calendars.{owned_key_of}
 use Rattle.cal_events.specs.declared.sweep.Overlap.{Overlap}
-use Rattle.clash_cert.specs.declared.making.OwnedKey.{OwnedKey}
 use Rattle.clash_cert.specs.declared.making.Clash.{Clash}
 use Rattle.clash_cert.specs.declared.making.Made.{Made}
 use Rattle.clash_cert.specs.declared.making.Made.TheVariants as made
 
--- the key that owns its texts
-abbrev pub key_of : OwnedKey → Key
-key_of k = record { organiser = address_octets k.organiser; uid = text_octets k.uid; slot = k.slot }
-
 -- it has the keys of these instances, and this instant
 pub record HasKeys (a b : Booked) (t : ℤ) (clash : Clash) : Type 0 where
-  pub first : key_of clash.first ≡ a.key
-  pub second : key_of clash.second ≡ b.key
+  pub first : owned_key_of clash.first ≡ a.key
+  pub second : owned_key_of clash.second ≡ b.key
   pub instant : clash.instant ≡ t
 
 -- two of these instances have its keys, and clash in its instant

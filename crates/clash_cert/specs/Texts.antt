@@ -1,10 +1,10 @@
 -- What the steps of the reader say.
 use Rattle.std.specs.Prelude.{ℕ, List, ◌∷◌, ◌++◌, ◌^◌, ◌<◌, ◌≡◌, ◌≢◌, ◌==◌, Some, None, length, position, decimal}
-use Rattle.profile.specs.Certificates.{FirstWrong}
+use Rattle.profile.specs.checker.Certificates.{FirstWrong}
 use Rattle.clash_cert.specs.declared.certificate.CertFault.{CertFault}
 use Rattle.clash_cert.specs.declared.certificate.CertFault.TheVariants.{Line, Memory}
 
--- want of memory, or the first wrong or missing line
+-- out of memory, or the first wrong or missing line
 abbrev pub IsCertFault : List ℕ → CertFault → Type 0
 IsCertFault text Memory = Unit {0}
 IsCertFault text (Line n) = FirstWrong text n

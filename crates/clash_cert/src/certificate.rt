@@ -1,7 +1,7 @@
 //! The text of a certificate: lines ended by LF, `ROOMCERT 1`, `SINGLES k`, `SERIES n`, `DONE`,
 //! and nothing after. Numbers are decimal, of 64 bits, without leading zeros. So far `n` is 0.
 ghost use Rattle.std.specs.Prelude.{ℕ, List, ◌≡◌, ◌^◌, ◌<◌, ◌∷◌, ◌++◌, take, length, decimal, position, ◌==◌, IfOk, IfErr, OnOk, OnErr, MatchOption};
-ghost use Rattle.profile.specs.Certificates.{Claims, FirstWrong, Spells, text_of};
+ghost use Rattle.profile.specs.checker.Certificates.{Claims, FirstWrong, Spells, text_of};
 ghost use Rattle.clash_cert.specs.Texts.{IsCertFault, Lacks, LacksLine, LacksCount, LacksLf, IsCutAtLf, IsNoNumber};
 
 use itoa::Buffer;
@@ -28,7 +28,7 @@ pub struct Certificate {
 }
 
 impl Model for Certificate {
-    ghost use Rattle.profile.specs.Certificates.{Claims};
+    ghost use Rattle.profile.specs.checker.Certificates.{Claims};
 
     ghost Value = { Claims };
 

@@ -1,22 +1,13 @@
 //! Making: a certificate where the confirmed instances are clear, else a clash.
 ghost use Rattle.std.specs.Prelude.{◌≡◌, ◌<◌, ◌↔◌, map, length, IfOk};
 ghost use Rattle.std.specs.Ordering.{is_lt};
-ghost use Rattle.profile.specs.Instances.{IsClear, booked_cmp};
+ghost use Rattle.profile.specs.checker.Instances.{IsClear, booked_cmp};
 ghost use Rattle.cal_events.specs.Calendars.{booked_of, instance_of};
-ghost use Rattle.clash_cert.specs.Makings.{key_of, IsCertificate, IsMadeFor, AreNamed, AreNamedAt, HasKeys};
+ghost use Rattle.clash_cert.specs.Makings.{IsCertificate, IsMadeFor, AreNamed, AreNamedAt, HasKeys};
 
 use crate::certificate::Certificate;
-use cal_events::{Booking, Calendar, Instance, Overlap};
-use ical_values::{Address, Text};
+use cal_events::{Calendar, Instance, Overlap, OwnedInstance, OwnedKey};
 use std::alloc::{AllocError, Global};
-
-/// A key that owns its texts.
-#[derive(Clone, Drop)]
-pub struct OwnedKey {
-    pub organiser: Address,
-    pub uid: Text,
-    pub slot: i64,
-}
 
 /// Two instances of different keys and an instant in both, before the horizon: the later start.
 /// `first` is less by start, organiser, UID, slot.
@@ -50,7 +41,7 @@ pub fn make(alloc: Global, calendar: &Calendar) -> Result<Made, AllocError>
 }
 
 /// The clash of the bookings at two places.
-fn clash_at(bookings: &[Booking], overlap: Overlap) -> Result<Clash, AllocError>
+fn clash_at(bookings: &[OwnedInstance], overlap: Overlap) -> Result<Clash, AllocError>
     requires first { overlap.first < length bookings.now }
     requires second { overlap.second < length bookings.now }
     ensures { IfOk result (AreNamedAt (map booked_of bookings.now) overlap) }
@@ -61,10 +52,10 @@ fn clash_at(bookings: &[Booking], overlap: Overlap) -> Result<Clash, AllocError>
 }
 
 /// The clash of two bookings in that instant.
-fn clash_of(a: &Booking, b: &Booking, instant: i64) -> Result<Clash, AllocError>
+fn clash_of(a: &OwnedInstance, b: &OwnedInstance, instant: i64) -> Result<Clash, AllocError>
     ensures { IfOk result (AreNamed (booked_of a.now) (booked_of b.now) instant) }
 {
-    if is_before(&b.instance(), &a.instance()) {
+    if is_before(&b.lend(), &a.lend()) {
         in_order(b, a, instant)
     } else {
         in_order(a, b, instant)
@@ -72,11 +63,15 @@ fn clash_of(a: &Booking, b: &Booking, instant: i64) -> Result<Clash, AllocError>
 }
 
 /// The clash that names the first of two bookings first.
-fn in_order(first: &Booking, second: &Booking, instant: i64) -> Result<Clash, AllocError>
+fn in_order(
+    first: &OwnedInstance,
+    second: &OwnedInstance,
+    instant: i64,
+) -> Result<Clash, AllocError>
     ensures { IfOk result (HasKeys (booked_of first.now) (booked_of second.now) instant) }
 {
-    let first = owned_key(first)?;
-    let second = owned_key(second)?;
+    let first = first.key.clone()?;
+    let second = second.key.clone()?;
     Ok(Clash {
         first,
         second,
@@ -89,17 +84,4 @@ fn is_before(a: &Instance<'_>, b: &Instance<'_>) -> bool
     ensures { result ≡ is_lt (booked_cmp (instance_of a.now) (instance_of b.now)) }
 {
     a.start.cmp(&b.start).then(a.key.cmp(&b.key)).is_lt()
-}
-
-/// The key of a booking.
-fn owned_key(booking: &Booking) -> Result<OwnedKey, AllocError>
-    ensures { IfOk result (λ key. key_of key ≡ (booked_of booking.now).key) }
-{
-    let organiser = booking.organiser.clone()?;
-    let uid = booking.uid.clone()?;
-    Ok(OwnedKey {
-        organiser,
-        uid,
-        slot: booking.slot,
-    })
 }

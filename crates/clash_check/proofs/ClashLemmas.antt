@@ -3,22 +3,22 @@ use Rattle.std.proofs.Common.{◌≡◌, ◌<◌, ℤ, Bool, false, List, [], �
 use Rattle.std.specs.Prelude.{Contains, ◌↔◌, IsTrue}
 use Rattle.std.proofs.lemmas.Bool.{cases_order, true≢false}
 use Rattle.std.proofs.lemmas.List.{get_or-map, get_or_default, length-map}
-use Rattle.profile.specs.Instances.{Booked}
-use Rattle.cal_events.specs.declared.instance.Booking.{Booking}
+use Rattle.profile.specs.checker.Instances.{Booked}
+use Rattle.cal_events.specs.declared.instance.OwnedInstance.{OwnedInstance}
 use Rattle.cal_events.specs.Calendars.{booked_of, HaveDifferentKeys}
 use Rattle.clash_cert.specs.declared.making.Clash.{Clash}
 use Rattle.clash_cert.specs.Makings.{IsClashIn}
 use Rattle.clash_check.specs.Verdicts.{HasThatKey, Share}
 
-contains_map : (bs : List Booking) (b : Booking) → Contains bs b → Contains (map booked_of bs) (booked_of b)
+contains_map : (bs : List OwnedInstance) (b : OwnedInstance) → Contains bs b → Contains (map booked_of bs) (booked_of b)
 contains_map bs b h = (h.0, omega (arith, h.1, length-map bs booked_of), get_or-map booked_of bs h.0 b (booked_of b) h.1 ∙ ap booked_of h.2)
 
-first_of : (bs : List Booking) → 0 < length bs → Booking
+first_of : (bs : List OwnedInstance) → 0 < length bs → OwnedInstance
 first_of [] h = absurd (omega arith)
 first_of (b ∷ bs) h = b
 
 -- an instance of the calendar is one of its bookings
-booking_behind : (bs : List Booking) (a : Booked) → Contains (map booked_of bs) a → (b : Booking) × Contains bs b × (booked_of b ≡ a)
+booking_behind : (bs : List OwnedInstance) (a : Booked) → Contains (map booked_of bs) a → (b : OwnedInstance) × Contains bs b × (booked_of b ≡ a)
 booking_behind bs a h =
     let w : h.0 < length bs = omega (arith, h.1, length-map bs booked_of) in
     let d = first_of bs (omega arith) in
@@ -37,21 +37,21 @@ one_of_key all keys a b h k e =
     ]
 
 -- no booking has the key
-pub no_first : (all : List Booked) (bs : List Booking) (clash : Clash) → map booked_of bs ≡ all → ((b : Booking) → Contains bs b → HasThatKey clash.first b → ⊥) → IsClashIn all clash → ⊥
+pub no_first : (all : List Booked) (bs : List OwnedInstance) (clash : Clash) → map booked_of bs ≡ all → ((b : OwnedInstance) → Contains bs b → HasThatKey clash.first b → ⊥) → IsClashIn all clash → ⊥
 no_first all bs clash e none h =
     let b = booking_behind bs h.a (subst (λ (l : List Booked). Contains l h.a) (sym e) h.is.first) in
     none b.0 b.1 (ap (λ (x : Booked). x.key) b.2 ∙ sym h.keys.first)
 
-pub no_second : (all : List Booked) (bs : List Booking) (clash : Clash) → map booked_of bs ≡ all → ((b : Booking) → Contains bs b → HasThatKey clash.second b → ⊥) → IsClashIn all clash → ⊥
+pub no_second : (all : List Booked) (bs : List OwnedInstance) (clash : Clash) → map booked_of bs ≡ all → ((b : OwnedInstance) → Contains bs b → HasThatKey clash.second b → ⊥) → IsClashIn all clash → ⊥
 no_second all bs clash e none h =
     let b = booking_behind bs h.b (subst (λ (l : List Booked). Contains l h.b) (sym e) h.is.second) in
     none b.0 b.1 (ap (λ (x : Booked). x.key) b.2 ∙ sym h.keys.second)
 
 -- the two keys are one
-pub one_key : (all : List Booked) (clash : Clash) (first : Booking) → HasThatKey clash.first first → HasThatKey clash.second first → IsClashIn all clash → ⊥
+pub one_key : (all : List Booked) (clash : Clash) (first : OwnedInstance) → HasThatKey clash.first first → HasThatKey clash.second first → IsClashIn all clash → ⊥
 one_key all clash first h k c = c.is.differ (sym c.keys.first ∙ sym h ∙ k ∙ c.keys.second)
 
-pub shared : (all : List Booked) (bs : List Booking) (clash : Clash) (first second : Booking) → map booked_of bs ≡ all
+pub shared : (all : List Booked) (bs : List OwnedInstance) (clash : Clash) (first second : OwnedInstance) → map booked_of bs ≡ all
     → Contains bs first × HasThatKey clash.first first → Contains bs second × HasThatKey clash.second second → (HasThatKey clash.second first → ⊥)
     → Share (booked_of first) (booked_of second) clash.instant → IsClashIn all clash
 shared all bs clash first second e f s other h = record {
@@ -68,7 +68,7 @@ shared all bs clash first second e f s other h = record {
   };
 }
 
-pub shares : (all : List Booked) (bs : List Booking) (clash : Clash) (first second : Booking) → HaveDifferentKeys all → map booked_of bs ≡ all
+pub shares : (all : List Booked) (bs : List OwnedInstance) (clash : Clash) (first second : OwnedInstance) → HaveDifferentKeys all → map booked_of bs ≡ all
     → Contains bs first × HasThatKey clash.first first → Contains bs second × HasThatKey clash.second second
     → IsClashIn all clash → Share (booked_of first) (booked_of second) clash.instant
 shares all bs clash first second keys e f s c =
@@ -83,7 +83,7 @@ shares all bs clash first second keys e f s c =
 pub never : (all : List Booked) (clash : Clash) → (IsClashIn all clash → ⊥) → IsTrue false ↔ IsClashIn all clash
 never all clash h = (λ t. absurd (true≢false (sym t)), λ c. absurd (h c))
 
-pub decided : (all : List Booked) (bs : List Booking) (clash : Clash) (first second : Booking) (r b : Bool) (t : ℤ) → HaveDifferentKeys all → map booked_of bs ≡ all
+pub decided : (all : List Booked) (bs : List OwnedInstance) (clash : Clash) (first second : OwnedInstance) (r b : Bool) (t : ℤ) → HaveDifferentKeys all → map booked_of bs ≡ all
     → Contains bs first × HasThatKey clash.first first → Contains bs second × HasThatKey clash.second second → IsTrue b ↔ HasThatKey clash.second first → b ≡ false
     → t ≡ clash.instant → IsTrue r ↔ Share (booked_of first) (booked_of second) t → IsTrue r ↔ IsClashIn all clash
 decided all bs clash first second r b t keys e f s same other at iff = (

@@ -5,9 +5,9 @@ use Rattle.std.specs.List.{filter, Contains}
 use Rattle.std.proofs.lemmas.List.{get_or-map, length-map}
 use Rattle.std.proofs.lemmas.List.Elements.{Contains-get_or}
 use Rattle.std.proofs.lemmas.List.Kept.{AllPairs-filter}
-use Rattle.profile.specs.Calendars.{CertificateHolds, SpellsCalendar}
-use Rattle.profile.specs.Events.{Event, is_confirmed, booked_by, meeting_said, confirmed}
-use Rattle.profile.specs.Instances.{Key, Booked, IsClear, IsWithin, horizon}
+use Rattle.profile.specs.checker.Calendars.{CertificateHolds, SpellsCalendar}
+use Rattle.profile.specs.events.Events.{Event, is_confirmed, booked_by, meeting_said, confirmed}
+use Rattle.profile.specs.checker.Instances.{Key, Booked, IsClear, IsWithin, horizon}
 
 abbrev Apart : Event → Event → Type 0
 Apart a b = meeting_said a ≢ meeting_said b

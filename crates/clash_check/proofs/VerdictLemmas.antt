@@ -1,9 +1,9 @@
 -- A verdict is yes exactly where the certificate stands.
 use Rattle.std.proofs.Common.{◌≡◌, ℕ, List, ◌⊎◌, sym, refl, ap, subst, ◌∙◌, inl, inr}
 use Rattle.std.specs.Prelude.{◌↔◌, Result, Ok, Err, IfOk}
-use Rattle.profile.specs.Instances.{Booked}
-use Rattle.profile.specs.Certificates.{Claims, Spells, FirstWrong, CertificateStands, IsWrongText, IsWrongCount, HasClashes}
-use Rattle.profile.specs.Calendars.{SpellsCalendar, CalendarTextFault, CertificateHolds}
+use Rattle.profile.specs.checker.Instances.{Booked}
+use Rattle.profile.specs.checker.Certificates.{Claims, Spells, FirstWrong, CertificateStands, IsWrongText, IsWrongCount, HasClashes}
+use Rattle.profile.specs.checker.Calendars.{SpellsCalendar, CalendarTextFault, CertificateHolds}
 use Rattle.clash_check.specs.declared.verdict.Checked.{Checked}
 use Rattle.clash_check.specs.declared.verdict.Verdict.{Verdict}
 use Rattle.clash_check.specs.declared.verdict.Verdict.TheVariants.{Yes, No}

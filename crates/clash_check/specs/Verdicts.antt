@@ -1,13 +1,13 @@
 -- What the checker's answers say.
 use Rattle.std.specs.Prelude.{ℕ, ℤ, false, IsTrue, List, ◌≡◌, ◌≤◌, ◌<◌, ◌<ℤ◌, ◌⊎◌, length}
-use Rattle.profile.specs.Instances.{Booked, horizon, IsWithin}
-use Rattle.profile.specs.Faults.{is_calendar_fault, is_object_fault}
-use Rattle.profile.specs.Calendars.{SpellsCalendar, CalendarTextFault}
-use Rattle.profile.specs.Certificates.{CertificateStands, IsWrongText, IsWrongCount, HasClashes}
-use Rattle.cal_events.specs.declared.instance.Booking.{Booking}
+use Rattle.profile.specs.checker.Instances.{Booked, horizon, IsWithin}
+use Rattle.profile.specs.faults.Faults.{is_calendar_fault, is_object_fault}
+use Rattle.profile.specs.checker.Calendars.{SpellsCalendar, CalendarTextFault}
+use Rattle.profile.specs.checker.Certificates.{CertificateStands, IsWrongText, IsWrongCount, HasClashes}
+use Rattle.cal_events.specs.declared.instance.OwnedInstance.{OwnedInstance}
 use Rattle.cal_events.specs.Calendars.{booked_of, HaveDifferentKeys}
-use Rattle.clash_cert.specs.declared.making.OwnedKey.{OwnedKey}
-use Rattle.clash_cert.specs.Makings.{key_of}
+use Rattle.cal_events.specs.declared.instance.OwnedKey.{OwnedKey}
+use Rattle.cal_events.specs.Calendars.{owned_key_of}
 use Rattle.clash_check.specs.declared.verdict.Checked.{Checked}
 use Rattle.clash_check.specs.declared.verdict.Verdict.{Verdict}
 use Rattle.clash_check.specs.declared.verdict.Verdict.TheVariants.{Yes, No}
@@ -44,8 +44,8 @@ pub record IsJudgement (room calendar text : List ℕ) (checked : Checked) : Typ
   pub made : MakesFew all checked
 
 -- the booking has the key
-abbrev pub HasThatKey : OwnedKey → Booking → Type 0
-HasThatKey key b = (booked_of b).key ≡ key_of key
+abbrev pub HasThatKey : OwnedKey → OwnedInstance → Type 0
+HasThatKey key b = owned_key_of b.key ≡ owned_key_of key
 
 -- both hold the room in the second t, before the horizon
 abbrev pub Share : Booked → Booked → ℤ → Type 0

@@ -1,17 +1,17 @@
 //! Checking: a certificate's text against a calendar, and a clash against a calendar.
 ghost use Rattle.std.specs.Prelude.{ℕ, List, ◌≡◌, ◌<ℤ◌, ◌≤ℤ◌, ◌↔◌, ◌⊎◌, map, IsTrue, IfOk, IfNone, IfSome, Contains};
-ghost use Rattle.profile.specs.Instances.{Booked, IsClear, IsWithin};
-ghost use Rattle.profile.specs.Calendars.{CertificateHolds};
-ghost use Rattle.profile.specs.Certificates.{CertificateStands, Spells};
+ghost use Rattle.profile.specs.checker.Instances.{Booked, IsClear, IsWithin};
+ghost use Rattle.profile.specs.checker.Calendars.{CertificateHolds};
+ghost use Rattle.profile.specs.checker.Certificates.{CertificateStands, Spells};
 ghost use Rattle.ical_values.specs.Octets.{address_octets};
 ghost use Rattle.cal_events.specs.Calendars.{booked_of};
-ghost use Rattle.clash_cert.specs.Makings.{key_of, IsClashIn};
-ghost use Rattle.cal_events.specs.declared.instance.Booking.{Booking};
+ghost use Rattle.clash_cert.specs.Makings.{IsClashIn};
+ghost use Rattle.cal_events.specs.declared.instance.OwnedInstance.{OwnedInstance};
 ghost use Rattle.clash_check.specs.Verdicts.{IsVerdict, MakesFew, IsNo, IsRefusedCalendar, IsJudgement, HasThatKey, Share};
 
 use crate::verdict::{Checked, Verdict, Why};
-use cal_events::{Booking, Calendar, HORIZON, one_calendar_text};
-use clash_cert::{CertFault, Certificate, Clash, OwnedKey};
+use cal_events::{Calendar, HORIZON, OwnedInstance, OwnedKey, one_calendar_text};
+use clash_cert::{CertFault, Certificate, Clash};
 use ical_lines::Fault;
 use ical_values::Address;
 use std::alloc::{AllocError, Global};
@@ -100,16 +100,16 @@ pub fn check_clash(calendar: &Calendar, clash: &Clash) -> bool
 }
 
 /// Do both hold the room in that second, before the horizon?
-fn share(first: &Booking, second: &Booking, instant: i64) -> bool
+fn share(first: &OwnedInstance, second: &OwnedInstance, instant: i64) -> bool
     ensures { IsTrue result ↔ Share (booked_of first.now) (booked_of second.now) instant }
 {
     instant < HORIZON && is_during(first, instant) && is_during(second, instant)
 }
 
 /// The booking of that key.
-fn booking_of<'a>(bookings: &'a [Booking], key: &OwnedKey) -> Option<&'a Booking>
+fn booking_of<'a>(bookings: &'a [OwnedInstance], key: &OwnedKey) -> Option<&'a OwnedInstance>
     ensures found { IfSome result (λ b. Contains bookings.now b.now × HasThatKey key.now b.now) }
-    ensures none { IfNone result ((b : Booking) → Contains bookings.now b → HasThatKey key.now b → ⊥) }
+    ensures none { IfNone result ((b : OwnedInstance) → Contains bookings.now b → HasThatKey key.now b → ⊥) }
 {
     for booking in bookings {
         if has_key(booking, key) {
@@ -120,16 +120,17 @@ fn booking_of<'a>(bookings: &'a [Booking], key: &OwnedKey) -> Option<&'a Booking
 }
 
 /// Is it the key of the booking?
-fn has_key(booking: &Booking, key: &OwnedKey) -> bool
+fn has_key(booking: &OwnedInstance, key: &OwnedKey) -> bool
     ensures { IsTrue result ↔ HasThatKey key.now booking.now }
 {
-    booking.slot == key.slot
-        && booking.uid.as_str() == key.uid.as_str()
-        && booking.organiser.as_str() == key.organiser.as_str()
+    let own = &booking.key;
+    own.slot == key.slot
+        && own.uid.as_str() == key.uid.as_str()
+        && own.organiser.as_str() == key.organiser.as_str()
 }
 
 /// Does the booking hold the room in that second?
-fn is_during(booking: &Booking, instant: i64) -> bool
+fn is_during(booking: &OwnedInstance, instant: i64) -> bool
     ensures { IsTrue result ↔ IsWithin booking.now.start booking.now.end instant }
 {
     booking.start <= instant && instant < booking.end

@@ -328,6 +328,9 @@ fn a_reader_that_fails_leaves_the_answers_sent(rt: HostRuntime) -> Result<(), Fa
         };
         check(&rt, Devices { reads, ..one }, read, sent)?;
     }
+    // all octets were given: the answers to all objects have left before the end of the input is read
+    let reads = Failures::new(STREAM.len() as u32 + 2, 1, ErrorKind::ConnectionReset);
+    check(&rt, Devices { reads, ..one }, read, ANSWERS.as_bytes())?;
     Ok(())
 }
 
@@ -438,6 +441,65 @@ fn a_preamble_has_at_most_65536_octets(rt: HostRuntime) -> Result<(), Fail> {
         let (report, writer) = devices.serve(alloc, longer.as_str())?;
         assert!(rt; matches!(report, Err(StreamFault::Refused(refusal)) if refusal.number == 90));
         assert!(rt; writer.get_ref().sent.is_empty());
+    }
+    Ok(())
+}
+
+#[test]
+fn each_fault_has_its_text(rt: HostRuntime) -> Result<(), Fail> {
+    let alloc = rt.alloc();
+    for (fault, text) in [
+        (ServeFault::Read, "the input can't be read"),
+        (ServeFault::Write, "the output can't be written"),
+        (ServeFault::TooLong, "the input is too long"),
+        (ServeFault::Memory, "out of memory"),
+    ] {
+        let alone = format!(in alloc; "{fault}")?;
+        let of_stream = format!(in alloc; "{}", StreamFault::Serve(fault))?;
+        assert_eq!(rt; alone.as_str(), text);
+        assert_eq!(rt; of_stream.as_str(), text);
+    }
+    // a preamble of one empty line is refused
+    let (report, _) = Devices::of_octets(8_192, 8_192, 8_192).serve(alloc, "\n")?;
+    let Err(fault) = report else {
+        return Err(Fail::from(ErrorKind::InvalidData));
+    };
+    let refused = format!(in alloc; "{fault}")?;
+    assert_eq!(rt; refused.as_str(), "refused 90");
+    Ok(())
+}
+
+#[test]
+fn an_interrupted_call_is_tried_a_thousand_times(rt: HostRuntime) -> Result<(), Fail> {
+    let whole = Devices::of_octets(8_192, 8_192, 8_192);
+    let fewer = Failures::new(1, 999, ErrorKind::Interrupted);
+    let all = Failures::new(1, 1_000, ErrorKind::Interrupted);
+    let read = Err(StreamFault::Serve(ServeFault::Read));
+    let write = Err(StreamFault::Serve(ServeFault::Write));
+    let answers = ANSWERS.as_bytes();
+    let served = Ok(SERVED);
+    for (reads, report, sent) in [(fewer, served, answers), (all, read, b"")] {
+        check(&rt, Devices { reads, ..whole }, report, sent)?;
+    }
+    for (calls, report, sent) in [(fewer, served, answers), (all, write, b"")] {
+        check(
+            &rt,
+            Devices {
+                writes: calls,
+                ..whole
+            },
+            report,
+            sent,
+        )?;
+        check(
+            &rt,
+            Devices {
+                flushes: calls,
+                ..whole
+            },
+            report,
+            sent,
+        )?;
     }
     Ok(())
 }

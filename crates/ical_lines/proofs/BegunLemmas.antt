@@ -4,8 +4,8 @@ use Rattle.std.specs.List.{slice_split, onto_first, list_any}
 use Rattle.std.specs.Str.{bytes_eq}
 use Rattle.std.proofs.lemmas.Bool.Decides.{eqb_tells}
 use Rattle.std.proofs.lemmas.List.{drop_more, drop_all}
-use Rattle.profile.specs.Lines.{is_filled, is_continuation, without_return, physical_lines, gather, unfolded}
-use Rattle.profile.specs.Objects.{is_begun}
+use Rattle.profile.specs.text.Lines.{is_filled, is_continuation, without_return, physical_lines, gather, unfolded}
+use Rattle.profile.specs.text.Objects.{is_begun}
 use Rattle.ical_lines.specs.declared.object_end.Cutter.{Cutter}
 use Rattle.ical_lines.specs.declared.object_end.Place.{Place}
 use Rattle.ical_lines.specs.declared.object_end.Place.TheVariants.{Mark, Line, Return, Break}

@@ -5,7 +5,7 @@ use Rattle.std.proofs.lemmas.List.{append-nil, length-take, length-drop, drop-dr
 use Rattle.std.proofs.lemmas.List.Elements.{filter-append}
 use Rattle.std.proofs.lemmas.List.Folds.{list_any-append}
 use Rattle.memchr.specs.Find.{IsFirstByte, is_byte}
-use Rattle.profile.specs.Lines.{ended, without_return, physical_lines, is_continuation, gather, unfolded, is_filled, logical_lines, line_has, is_faulty, text_has, reads_as_lines}
+use Rattle.profile.specs.text.Lines.{ended, without_return, physical_lines, is_continuation, gather, unfolded, is_filled, logical_lines, line_has, is_faulty, text_has, reads_as_lines}
 use Rattle.ical_lines.specs.Breaks.{is_break, is_one_line, lines_of}
 use Rattle.std.specs.Str.{IsUtf8, is_utf8, IsCharBoundary}
 use Rattle.std.proofs.Math.Bool.{or-true}

@@ -10,7 +10,7 @@ use Rattle.std.proofs.lemmas.List.Folds.{list_any-append, list_all-append}
 use Rattle.std.proofs.lemmas.Str.{IsUtf8-append, IsUtf8-from_ascii, is_utf8-from_IsUtf8}
 use Rattle.std.proofs.lemmas.Str.Ascii.{IsAscii-cons, IsAscii-nil}
 use Rattle.std.proofs.lemmas.Str.Parse.{digit_from_value}
-use Rattle.profile.specs.Lines.{is_control, is_content, lacks_colon, has_bad_name, has_bad_quote, has_stop}
+use Rattle.profile.specs.text.Lines.{is_control, is_content, lacks_colon, has_bad_name, has_bad_quote, has_stop}
 
 -- no control octet but TAB stands in the text, and it is UTF-8
 pub record IsClean (text : List ℕ) : Type 0 where

@@ -9,7 +9,7 @@ use Rattle.std.proofs.lemmas.Bool.{true≢false, or_parts, and_parts, not-true, 
 use Rattle.std.proofs.lemmas.Bool.Decides.{nat_tests, eqb_tells}
 use Rattle.std.proofs.lemmas.Str.{encodes-chars, length-encode, len_utf8_bounds, IsUtf8-append, IsUtf8-nil, IsUtf8-from_ascii, IsUtf8-from_is_utf8, is_utf8-from_IsUtf8}
 use Rattle.std.proofs.lemmas.Str.Ascii.{IsAscii-cons, IsAscii-nil}
-use Rattle.profile.specs.Lines.{fold_break, fold_from, next_column, folded, without_mark, physical_lines, is_continuation, unfolded, is_filled, logical_lines, ended, outside, line_name, is_name, is_name_octet, is_control, has_control, lacks_colon, has_bad_name, has_bad_quote, line_has, is_faulty, is_content, text_has, reads_as_lines}
+use Rattle.profile.specs.text.Lines.{fold_break, fold_from, next_column, folded, without_mark, physical_lines, is_continuation, unfolded, is_filled, logical_lines, ended, outside, line_name, is_name, is_name_octet, is_control, has_control, lacks_colon, has_bad_name, has_bad_quote, line_has, is_faulty, is_content, text_has, reads_as_lines}
 use Rattle.ical_lines.specs.Breaks.{is_break, is_one_line}
 use Rattle.ical_lines.proofs.ReadBackLemmas.{reads_back}
 use Rattle.ical_lines.proofs.Utf8Lemmas.{utf8_apart}

@@ -7,8 +7,8 @@ use Rattle.std.proofs.lemmas.Bool.{cases_lt}
 use Rattle.std.proofs.lemmas.Bool.Decides.{nat_tests, eqb_tells}
 use Rattle.std.proofs.lemmas.List.{append_assoc, append-nil, drop_more, drop_all}
 use Rattle.std.proofs.lemmas.List.Splits.{join_with_byte-slice_split}
-use Rattle.profile.specs.Lines.{is_continuation, without_return}
-use Rattle.profile.specs.Objects.{is_last, parts_after, octets_after, after_object}
+use Rattle.profile.specs.text.Lines.{is_continuation, without_return}
+use Rattle.profile.specs.text.Objects.{is_last, parts_after, octets_after, after_object}
 use Rattle.ical_lines.specs.declared.object_end.Cutter.{Cutter}
 use Rattle.ical_lines.specs.declared.object_end.Place.{Place}
 use Rattle.ical_lines.specs.declared.object_end.Place.TheVariants.{Mark, Line, Return, Break}

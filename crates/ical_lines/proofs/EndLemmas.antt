@@ -9,8 +9,8 @@ use Rattle.std.proofs.lemmas.List.Elements.{filter-append}
 use Rattle.std.proofs.lemmas.List.Folds.{list_all-append}
 use Rattle.std.proofs.lemmas.List.Splits.{slice_split_none, slice_split_at, length-slice_split, join_with_byte-slice_split}
 use Rattle.std.proofs.lemmas.Slice.Eq.{bytes_eq-Decides}
-use Rattle.profile.specs.Lines.{is_continuation, without_mark, without_return, physical_lines, gather, unfolded, is_filled, logical_lines}
-use Rattle.profile.specs.Objects.{is_last, parts_after, octets_after, after_object, all_lines, lines_behind, EndsWithItsLine, EndsWithTheInput, EndsBefore}
+use Rattle.profile.specs.text.Lines.{is_continuation, without_mark, without_return, physical_lines, gather, unfolded, is_filled, logical_lines}
+use Rattle.profile.specs.text.Objects.{is_last, parts_after, octets_after, after_object, all_lines, lines_behind, EndsWithItsLine, EndsWithTheInput, EndsBefore}
 use Rattle.ical_lines.specs.Breaks.{is_break, is_one_line}
 use Rattle.ical_lines.proofs.BreakLemmas.{none_at, parts_whole}
 use Rattle.ical_lines.proofs.CutLemmas.{without_return-cons, last_by}

@@ -5,8 +5,8 @@ use Rattle.std.proofs.Math.Bool.{or-true}
 use Rattle.std.proofs.lemmas.Bool.{ltb-false, ltb-true, lt-ltb, or_parts, and_parts, not-true}
 use Rattle.std.proofs.lemmas.Bool.Decides.{Decides-eqb}
 use Rattle.std.specs.Str.{is_utf8}
-use Rattle.profile.specs.Lines.{ended, logical_lines, reads_as_lines, line_has, is_faulty, lacks_colon, has_bad_name, has_bad_quote, has_control}
-use Rattle.profile.specs.First.{least_fault, judged, fault_of, lines_fault, text_fault, is_number, comes_after}
+use Rattle.profile.specs.text.Lines.{ended, logical_lines, reads_as_lines, line_has, is_faulty, lacks_colon, has_bad_name, has_bad_quote, has_control}
+use Rattle.profile.specs.faults.First.{least_fault, judged, fault_of, lines_fault, text_fault, is_number, comes_after}
 use Rattle.ical_lines.specs.Fault.{RefusesOnly}
 use Rattle.ical_lines.specs.declared.fault.Fault.{Fault}
 use Rattle.ical_lines.specs.declared.fault.Fault.TheVariants.{Refused, Memory}

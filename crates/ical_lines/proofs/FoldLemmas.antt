@@ -6,7 +6,7 @@ use Rattle.std.proofs.lemmas.Bool.Decides.{nat_tests}
 use Rattle.std.proofs.lemmas.List.{append_assoc, append-nil, drop_more, drop_all, length-append, length_push, length-take, take-take}
 use Rattle.std.proofs.lemmas.Str.{chars-append, encodes-chars}
 use lib.Utf8.{encodes}
-use Rattle.profile.specs.Lines.{fold_break, fold_from, next_column, column_after, folded}
+use Rattle.profile.specs.text.Lines.{fold_break, fold_from, next_column, column_after, folded}
 
 pub chars_left : (cs ys : List ℕ) (c : ℕ) → (length ys < length cs) × (c ≡ get_or cs (length ys) c) → drop (length ys) cs ≡ c ∷ drop (length (ys ++ c ∷ [])) cs
 chars_left cs ys c h =

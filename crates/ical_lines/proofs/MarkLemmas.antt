@@ -9,7 +9,7 @@ use Rattle.std.proofs.lemmas.List.Sums.{fails_before_first}
 use Rattle.std.proofs.lemmas.Str.{IsCharBoundary-before_ascii}
 use Rattle.std.proofs.lemmas.Bool.{or_parts}
 use Rattle.std.proofs.lemmas.Bool.Decides.{nat_tests}
-use Rattle.profile.specs.Lines.{outside, front, back, line_head, line_name, line_params, pieces}
+use Rattle.profile.specs.text.Lines.{outside, front, back, line_head, line_name, line_params, pieces}
 use Rattle.ical_lines.specs.Breaks.{is_mark, value_or_none}
 use Rattle.ical_lines.specs.PiecesOf.{pieces_of}
 use Rattle.ical_lines.proofs.BreakLemmas.{not_any}

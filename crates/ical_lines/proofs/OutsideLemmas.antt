@@ -3,7 +3,7 @@ use Rattle.std.proofs.Common.{◌≡◌, ◌∙◌, ℕ, zero, suc, ◌+◌, ◌
 use Rattle.std.proofs.lemmas.Bool.{false_from_ne_true}
 use Rattle.std.proofs.lemmas.Bool.Decides.{nat_tests}
 use Rattle.memchr.specs.Find.{IsFirstByte, is_byte2}
-use Rattle.profile.specs.Lines.{outside_from, outside}
+use Rattle.profile.specs.text.Lines.{outside_from, outside}
 
 -- an octet that is no quote and no stop stands before
 passed : (stop : ℕ) (c : ℕ) (cs : List ℕ) → is_byte2 34 stop c ≡ false → outside_from stop false (c ∷ cs) ≡ 1 + outside_from stop false cs

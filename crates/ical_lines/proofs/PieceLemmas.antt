@@ -6,7 +6,7 @@ use Rattle.std.specs.Str.{IsUtf8, IsCharBoundary}
 use Rattle.std.proofs.lemmas.Bool.Decides.{nat_tests}
 use Rattle.std.proofs.lemmas.List.{get_or-drop, length-drop}
 use Rattle.std.proofs.lemmas.Str.{IsUtf8-drop, IsCharBoundary-before_ascii, IsCharBoundary-after_ascii}
-use Rattle.profile.specs.Lines.{outside_from, outside, front, back, pieces_from, pieces}
+use Rattle.profile.specs.text.Lines.{outside_from, outside, front, back, pieces_from, pieces}
 use Rattle.ical_lines.specs.PiecesOf.{pieces_of}
 
 ltb-suc : (n m : ℕ) → ltb n m ≡ ltb (suc n) (suc m)

@@ -4,7 +4,7 @@ use Rattle.std.specs.Str.{IsUtf8, IsCharBoundary}
 use Rattle.std.proofs.lemmas.Bool.Decides.{nat_tests}
 use Rattle.std.proofs.lemmas.List.{get_or-drop, length-drop}
 use Rattle.std.proofs.lemmas.Str.{IsCharBoundary-before_ascii, IsCharBoundary-after_ascii}
-use Rattle.profile.specs.Lines.{is_quoted}
+use Rattle.profile.specs.text.Lines.{is_quoted}
 
 quoted_facts : (text : List ℕ) → is_quoted text ≡ true → (2 ≤ length text) × (get_or text 0 0 ≡ 34) × (get_or text (length text - 1) 0 ≡ 34)
 quoted_facts text h = grind (arith, nat_tests)

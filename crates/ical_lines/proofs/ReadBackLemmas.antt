@@ -10,7 +10,7 @@ use Rattle.std.proofs.lemmas.Bool.Decides.{nat_tests}
 use Rattle.std.proofs.lemmas.Str.{encodes-chars, length-encode, len_utf8_bounds, IsUtf8-append, IsUtf8-from_ascii}
 use Rattle.std.proofs.lemmas.Str.Ascii.{IsAscii-cons, IsAscii-nil}
 use Rattle.std.proofs.lemmas.Bool.{or_parts, not-true}
-use Rattle.profile.specs.Lines.{fold_from, folded, without_return, physical_lines, is_continuation, gather, unfolded, is_short}
+use Rattle.profile.specs.text.Lines.{fold_from, folded, without_return, physical_lines, is_continuation, gather, unfolded, is_short}
 use Rattle.ical_lines.specs.Breaks.{is_break, is_one_line}
 use Rattle.ical_lines.proofs.BreakLemmas.{none_at, any_append}
 

@@ -3,7 +3,7 @@ use Rattle.std.proofs.Common.{◌≡◌, ◌≢◌, ◌∙◌, ap, sym, refl, �
 use Rattle.std.specs.Prelude.{MatchOption}
 use Rattle.std.specs.Option.{unwrap_or}
 use Rattle.std.proofs.lemmas.Bool.Decides.{eqb_tells}
-use Rattle.profile.specs.Lines.{without_return}
+use Rattle.profile.specs.text.Lines.{without_return}
 use Rattle.ical_lines.proofs.CutLemmas.{without_return-cons, without_return-other}
 use Rattle.ical_lines.proofs.ReadBackLemmas.{without-return}
 

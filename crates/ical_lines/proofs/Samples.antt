@@ -3,8 +3,8 @@ use Rattle.std.proofs.Common.{◌≡◌, true, false, [], ◌∷◌, ◌++◌, r
 use lib.Utf8.{encode}
 use Rattle.std.specs.Str.{chars}
 use Rattle.std.specs.List.{flat_map}
-use Rattle.profile.specs.Lines.{logical_lines, line_name, line_value, lacks_colon, has_bad_name, has_bad_quote, has_control, is_content, fold_from, folded}
-use Rattle.profile.specs.Objects.{after_object, is_begun, all_lines, EndsWithItsLine}
+use Rattle.profile.specs.text.Lines.{logical_lines, line_name, line_value, lacks_colon, has_bad_name, has_bad_quote, has_control, is_content, fold_from, folded}
+use Rattle.profile.specs.text.Objects.{after_object, is_begun, all_lines, EndsWithItsLine}
 
 -- a continuation is joined without its blank
 joined : logical_lines (codes "A:x" ++ 13 ∷ 10 ∷ codes " y" ++ 13 ∷ 10 ∷ []) ≡ codes "A:xy" ∷ []

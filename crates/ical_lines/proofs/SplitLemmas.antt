@@ -6,7 +6,7 @@ use Rattle.std.proofs.lemmas.List.Sums.{position_or_len_is}
 use Rattle.std.proofs.lemmas.List.Splits.{slice_split_first, slice_split_none}
 use Rattle.std.proofs.lemmas.Bool.{false_from_ne_true}
 use Rattle.memchr.specs.Find.{IsFirstByte, is_byte}
-use Rattle.profile.specs.Lines.{physical_lines, without_return}
+use Rattle.profile.specs.text.Lines.{physical_lines, without_return}
 
 -- the first byte that is c ends the first part
 pub split_at_byte : (c : ℕ) (xs : List ℕ) (i : ℕ) → IsFirstByte (is_byte c) xs (Some i) → slice_split (λ x. eqb x c) xs ≡ take i xs ∷ slice_split (λ x. eqb x c) (drop (i + 1) xs)

@@ -4,7 +4,7 @@ use Rattle.std.specs.List.{list_any, list_all}
 use Rattle.std.proofs.lemmas.List.{append_assoc, append-nil, length-drop, take-append-drop}
 use Rattle.std.proofs.lemmas.Bool.{or_parts, and_parts, not-true}
 use Rattle.std.proofs.lemmas.Bool.Decides.{nat_tests}
-use Rattle.profile.specs.Lines.{physical_lines, is_continuation, gather, unfolded, is_filled, logical_lines, without_mark}
+use Rattle.profile.specs.text.Lines.{physical_lines, is_continuation, gather, unfolded, is_filled, logical_lines, without_mark}
 use Rattle.ical_lines.specs.Breaks.{is_break, is_one_line, lines_of}
 use Rattle.ical_lines.specs.Unfold.{with_breaks, broken_if_filled}
 use Rattle.ical_lines.proofs.BreakLemmas.{unfolded_lines_whole}

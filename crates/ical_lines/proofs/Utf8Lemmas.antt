@@ -8,7 +8,7 @@ use Rattle.std.proofs.lemmas.Bool.{false_from_ne_true, true≢false}
 use Rattle.std.proofs.lemmas.Bool.Decides.{eqb_tells}
 use Rattle.std.proofs.lemmas.Str.{IsUtf8-append, IsUtf8-nil, IsUtf8-take, IsUtf8-drop, IsCharBoundary-before_ascii, IsCharBoundary-after_ascii, IsUtf8-from_ascii, IsUtf8-from_is_utf8, is_utf8-from_IsUtf8}
 use Rattle.std.proofs.lemmas.Str.Ascii.{IsAscii-cons, IsAscii-nil}
-use Rattle.profile.specs.Lines.{ended, without_return, physical_lines, is_filled}
+use Rattle.profile.specs.text.Lines.{ended, without_return, physical_lines, is_filled}
 use Rattle.ical_lines.specs.Breaks.{is_break, lines_of}
 use Rattle.ical_lines.proofs.BreakLemmas.{filled_cons}
 

@@ -1,7 +1,7 @@
 -- The lines of a text in which no line is folded.
 use Rattle.std.specs.Prelude.{ℕ, Bool, not, ◌||◌, ◌==◌, List, filter, Option, Some, None, if◌then◌else◌}
 use Rattle.std.specs.List.{list_any}
-use Rattle.profile.specs.Lines.{physical_lines, is_filled, has_stop, line_value}
+use Rattle.profile.specs.text.Lines.{physical_lines, is_filled, has_stop, line_value}
 
 abbrev pub is_break : ℕ → Bool
 is_break c = c == 10

@@ -1,7 +1,7 @@
 -- A text of lines, and what the types that lend them show.
 use Rattle.std.specs.Prelude.{ℕ, List, map}
 use Rattle.std.specs.String.{string_bytes}
-use Rattle.profile.specs.Lines.{param_name, param_value}
+use Rattle.profile.specs.text.Lines.{param_name, param_value}
 use Rattle.ical_lines.specs.Pieces.{pieces_left}
 use Rattle.ical_lines.specs.declared.line.Line.{Line}
 use Rattle.ical_lines.specs.declared.param.Param.{Param}

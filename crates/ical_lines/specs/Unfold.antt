@@ -1,7 +1,7 @@
 -- What the steps of unfolding leave.
 use Rattle.std.specs.Prelude.{ℕ, List, [], ◌∷◌, ◌++◌, filter, Option, None, Some}
 use Rattle.std.specs.List.{flat_map}
-use Rattle.profile.specs.Lines.{physical_lines, is_filled}
+use Rattle.profile.specs.text.Lines.{physical_lines, is_filled}
 use denote.Ref.{Bor}
 
 -- the physical lines of what follows, if anything does

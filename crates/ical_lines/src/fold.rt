@@ -4,7 +4,7 @@
 ghost use Rattle.std.specs.Prelude.{◌≡◌, ◌++◌, ◌∷◌, ◌≤◌, List, ℕ, true, false, take, length, IfOk, OnOk, OnErr};
 ghost use Rattle.std.specs.Char.{encode_utf8};
 ghost use Rattle.std.specs.Str.{chars};
-ghost use Rattle.profile.specs.Lines.{fold_break, fold_from, next_column, column_after, folded, is_continuation, is_short, physical_lines, unfolded};
+ghost use Rattle.profile.specs.text.Lines.{fold_break, fold_from, next_column, column_after, folded, is_continuation, is_short, physical_lines, unfolded};
 ghost use Rattle.std.specs.List.{list_all};
 ghost use Rattle.ical_lines.specs.Breaks.{is_one_line};
 

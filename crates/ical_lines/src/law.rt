@@ -2,8 +2,8 @@
 //! object of a stream ends.
 ghost use Rattle.std.specs.Prelude.{ℕ, Bool, List, ◌≡◌, true, false};
 ghost use Rattle.std.specs.List.{flat_map, list_all};
-ghost use Rattle.profile.specs.Lines.{is_content, folded, logical_lines, reads_as_lines, text_has};
-ghost use Rattle.profile.specs.Objects.{after_object, EndsBefore};
+ghost use Rattle.profile.specs.text.Lines.{is_content, folded, logical_lines, reads_as_lines, text_has};
+ghost use Rattle.profile.specs.text.Objects.{after_object, EndsBefore};
 
 /// Lines that were written one behind another read back as those lines, and nothing is wrong with them (RFC 5545 3.1).
 pub fn lines_read_back()

@@ -1,7 +1,7 @@
 //! One content line: `name *(";" param) ":" value` (RFC 5545 3.1).
 ghost use Rattle.std.specs.Prelude.{◌≡◌, ◌==◌, ◌%◌, count_by, option_map, true};
 ghost use Rattle.std.specs.List.{list_any};
-ghost use Rattle.profile.specs.Lines.{line_name, line_params, is_quote, has_control, is_control};
+ghost use Rattle.profile.specs.text.Lines.{line_name, line_params, is_quote, has_control, is_control};
 ghost use Rattle.ical_lines.specs.Breaks.{is_one_line, value_or_none};
 ghost use Rattle.ical_lines.specs.PiecesOf.{pieces_of};
 
@@ -28,9 +28,9 @@ pub struct Line<'a> {
 
 impl<'a> Line<'a> {
     ghost use Rattle.std.specs.Prelude.{◌≡◌, true, false, map, option_map, MatchOption, IfSome, IsTrue};
-    ghost use Rattle.profile.specs.Lines.{line_name, line_value, line_params, line_param, is_same_name, is_faulty, lacks_colon, line_has};
-    ghost use Rattle.profile.specs.Faults.{is_line_fault};
-    ghost use Rattle.profile.specs.First.{least_fault};
+    ghost use Rattle.profile.specs.text.Lines.{line_name, line_value, line_params, line_param, is_same_name, is_faulty, lacks_colon, line_has};
+    ghost use Rattle.profile.specs.faults.Faults.{is_line_fault};
+    ghost use Rattle.profile.specs.faults.First.{least_fault};
     ghost use Rattle.ical_lines.specs.Breaks.{is_one_line};
     ghost use Rattle.ical_lines.specs.Pieces.{pieces_left};
     ghost use Rattle.ical_lines.specs.Text.{line_text, params_left, param_of};

@@ -1,7 +1,7 @@
 //! Names of properties and parameters (RFC 5545 3.1).
 ghost use Rattle.std.specs.Prelude.{◌≡◌};
 ghost use Rattle.std.specs.List.{list_all};
-ghost use Rattle.profile.specs.Lines.{is_name, is_name_octet};
+ghost use Rattle.profile.specs.text.Lines.{is_name, is_name_octet};
 
 /// Whether a text is a name: letters, digits and `-`, at least one.
 pub fn is_name(text: &str) -> bool

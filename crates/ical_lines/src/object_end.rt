@@ -2,7 +2,7 @@
 //! An object ends with the first unfolded line that is caselessly `END:VCALENDAR`, its line break included, or with
 //! the input. A line may still be continued after its line break, so one octet more has to be seen.
 ghost use Rattle.std.specs.Prelude.{◌≡◌, ◌≤◌, [], length, take, drop, MatchOption, is_some, if◌then◌else◌};
-ghost use Rattle.profile.specs.Objects.{after_object, is_begun};
+ghost use Rattle.profile.specs.text.Objects.{after_object, is_begun};
 ghost use Rattle.ical_lines.specs.Cut.{
   ChangeNothing,
   added,

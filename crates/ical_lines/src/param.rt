@@ -2,7 +2,7 @@
 ghost use Rattle.std.specs.Prelude.{◌≡◌, Option, None, Some, not, option_map, if◌then◌else◌};
 ghost use Rattle.std.specs.List.{list_any};
 ghost use Rattle.ical_lines.specs.Pieces.{pieces_left};
-ghost use Rattle.profile.specs.Lines.{front, unquoted, is_quoted, is_item, is_badly_quoted, lacks_name};
+ghost use Rattle.profile.specs.text.Lines.{front, unquoted, is_quoted, is_item, is_badly_quoted, lacks_name};
 
 use crate::fault::Refusal;
 use crate::name::is_name;
@@ -19,7 +19,7 @@ pub struct Param<'a> {
 
 impl<'a> Param<'a> {
     ghost use Rattle.std.specs.Prelude.{◌≡◌};
-    ghost use Rattle.profile.specs.Lines.{unquoted, front};
+    ghost use Rattle.profile.specs.text.Lines.{unquoted, front};
     ghost use Rattle.ical_lines.specs.Text.{param_view, param_of};
 
     /// The parameter of a piece between two semicolons. Without a `=` its value is empty.

@@ -2,7 +2,7 @@
 //! A quote opens and the next one closes; an octet between them is inside.
 ghost use Rattle.std.specs.Prelude.{◌≡◌, ◌++◌, ◌<◌, ◌≤◌, false, length, position, MatchOption, slice_index};
 ghost use Rattle.std.specs.List.{list_any};
-ghost use Rattle.profile.specs.Lines.{outside, front, back};
+ghost use Rattle.profile.specs.text.Lines.{outside, front, back};
 ghost use Rattle.ical_lines.specs.Breaks.{is_mark};
 
 use memchr::memchr2;
@@ -91,7 +91,7 @@ pub struct Pieces<'a> {
 
 impl<'a> Pieces<'a> {
     ghost use Rattle.std.specs.Prelude.{◌≡◌, ◌<◌, option_map};
-    ghost use Rattle.profile.specs.Lines.{pieces};
+    ghost use Rattle.profile.specs.text.Lines.{pieces};
     ghost use Rattle.ical_lines.specs.Pieces.{pieces_left};
     ghost use Rattle.ical_lines.specs.PiecesOf.{pieces_of};
 

@@ -20,9 +20,9 @@ ghost use Rattle.std.specs.Prelude.{
   IfErr,
 };
 ghost use Rattle.std.specs.List.{list_any};
-ghost use Rattle.profile.specs.Faults.{is_line_fault};
-ghost use Rattle.profile.specs.First.{lines_fault, is_number};
-ghost use Rattle.profile.specs.Lines.{is_faulty, is_filled, line_has, without_return};
+ghost use Rattle.profile.specs.faults.Faults.{is_line_fault};
+ghost use Rattle.profile.specs.faults.First.{lines_fault, is_number};
+ghost use Rattle.profile.specs.text.Lines.{is_faulty, is_filled, line_has, without_return};
 ghost use Rattle.ical_lines.specs.Breaks.{is_one_line, lines_of};
 ghost use Rattle.ical_lines.specs.Limits.{is_bounded};
 
@@ -53,9 +53,9 @@ impl<'a> Model for Unfolded<'a> {
 
 impl<'a> Unfolded<'a> {
     ghost use Rattle.std.specs.Prelude.{◌≡◌, true, IfOk, OnOk, IfErr};
-    ghost use Rattle.profile.specs.Faults.{is_line_fault};
-    ghost use Rattle.profile.specs.First.{text_fault, is_number};
-    ghost use Rattle.profile.specs.Lines.{logical_lines, text_has, reads_as_lines};
+    ghost use Rattle.profile.specs.faults.Faults.{is_line_fault};
+    ghost use Rattle.profile.specs.faults.First.{text_fault, is_number};
+    ghost use Rattle.profile.specs.text.Lines.{logical_lines, text_has, reads_as_lines};
     ghost use Rattle.ical_lines.specs.Fault.{RefusesOnly};
     ghost use Rattle.ical_lines.specs.Limits.{is_bounded};
     ghost use Rattle.ical_lines.specs.Text.{lines_left};

@@ -5,7 +5,7 @@ ghost use Rattle.std.specs.Prelude.{◌≡◌, ◌++◌, ◌<◌, ◌≤◌, ◌
 ghost use Rattle.std.specs.Vec.{vec_len};
 ghost use Rattle.std.specs.List.{list_any};
 ghost use Rattle.std.specs.Str.{is_utf8};
-ghost use Rattle.profile.specs.Lines.{
+ghost use Rattle.profile.specs.text.Lines.{
   without_mark,
   without_return,
   physical_lines,

@@ -2,9 +2,9 @@
 use Rattle.std.proofs.Common.{◌≡◌, ℕ, zero, suc, ◌-◌, ◌<◌, ◌≤◌, Bool, true, false, not, ◌&&◌, Option, None, Some, is_some, List, [], ◌∷◌, ◌++◌, map, length, reverse, refl, ap, sym, subst, ◌∙◌, arith}
 use Rattle.std.proofs.lemmas.List.{append_assoc, append-nil, reverse-append, length-reverse, length-map, nil_from_length}
 use Rattle.std.proofs.lemmas.Bool.{not-true, false≢true}
-use Rattle.profile.specs.Lines.{line_value, is_same_name}
-use Rattle.profile.specs.Objects.{SpellsBody, Opens, Closes, is_begin, is_none, is_property, is_end, is_calendar_name, may_begin}
-use Rattle.profile.specs.Objects.SpellsBody.{nothing, property, component}
+use Rattle.profile.specs.text.Lines.{line_value, is_same_name}
+use Rattle.profile.specs.text.Objects.{SpellsBody, Opens, Closes, is_begin, is_none, is_property, is_end, is_calendar_name, may_begin}
+use Rattle.profile.specs.text.Objects.SpellsBody.{nothing, property, component}
 use Rattle.ical_tree.specs.declared.component.Component.{Component}
 use Rattle.ical_tree.specs.Tree.{component_name, component_lines, component_children}
 use Rattle.ical_tree.specs.Reading.{Built, Open, open_of, with_lines, names_of}

@@ -2,8 +2,8 @@
 use Rattle.std.proofs.Common.{◌≡◌, ℕ, zero, suc, true, false, ◌||◌, eqb, List, [], ◌∷◌, take, codes, refl, arith}
 use Rattle.std.specs.Char.{to_ascii_lowercase}
 use Rattle.std.proofs.lemmas.Bool.Decides.{nat_tests, eqb_tells}
-use Rattle.profile.specs.Lines.{is_same_name}
-use Rattle.profile.specs.Objects.{is_property}
+use Rattle.profile.specs.text.Lines.{is_same_name}
+use Rattle.profile.specs.text.Objects.{is_property}
 use Rattle.ical_tree.specs.Reading.{may_pair}
 use Rattle.ical_tree.proofs.BuiltLemmas.{plain}
 

@@ -3,8 +3,8 @@ use Rattle.std.proofs.Common.{◌≡◌, ◌∙◌, ap, sym, refl, subst, ℕ, z
 use Rattle.std.specs.Prelude.{Option, Some, None, Contains}
 use Rattle.std.specs.Option.{option_to_list}
 use Rattle.std.proofs.lemmas.List.{drop_more}
-use Rattle.profile.specs.Objects.{is_version, is_version_only}
-use Rattle.profile.specs.Properties.{lines_named, StandsAtMostOnce, StandsTwice, IsMissing}
+use Rattle.profile.specs.text.Objects.{is_version, is_version_only}
+use Rattle.profile.specs.events.Properties.{lines_named, StandsAtMostOnce, StandsTwice, IsMissing}
 
 abbrev Lines : Type 0
 Lines = List (List ℕ)

@@ -3,13 +3,13 @@ use Rattle.std.proofs.Common.{◌≡◌, ℕ, Bool, true, false, not, ◌&&◌, 
 use Rattle.std.proofs.lemmas.Bool.{true≢false, or_from}
 use Rattle.std.proofs.lemmas.List.{append_assoc, append-nil}
 use Rattle.std.proofs.Math.Bool.{and-false}
-use Rattle.profile.specs.Lines.{line_name, line_value}
-use Rattle.profile.specs.Objects.{is_begin, is_end, is_property, Opens, Closes, IsObject, is_none, opened_from, some_misplaced, all_fit, lines_have}
-use Rattle.profile.specs.Objects.SpellsBody.{nothing, property, component}
+use Rattle.profile.specs.text.Lines.{line_name, line_value}
+use Rattle.profile.specs.text.Objects.{is_begin, is_end, is_property, Opens, Closes, IsObject, is_none, opened_from, some_misplaced, all_fit, lines_have}
+use Rattle.profile.specs.text.Objects.SpellsBody.{nothing, property, component}
 use Rattle.ical_tree.specs.Tree.{trees_of}
 use Rattle.ical_tree.proofs.PairLemmas.{not_both, no_begin, no_end, any_misplaced, first_none, fine_first, stays_whole, stays, fine_whole, fine}
 use Rattle.ical_tree.proofs.TreeOfLemmas.{BodyT, SpellsT}
-use Rattle.profile.specs.Trees.{Tree, Trees, tree, none, more, trees_list, tree_name, tree_own, tree_inside}
+use Rattle.profile.specs.text.Trees.{Tree, Trees, tree, none, more, trees_list, tree_name, tree_own, tree_inside}
 
 abbrev Lines : Type 0
 Lines = List (List ℕ)

@@ -5,9 +5,9 @@ use Rattle.std.specs.Str.{bytes_eq, str_to_ascii_lowercase}
 use Rattle.std.proofs.lemmas.Bool.{lt-leb, or_from, or_parts, or_right, and_from, and_parts, and_right, not-true}
 use Rattle.std.proofs.lemmas.Slice.Eq.{bytes_eq-Decides}
 use Rattle.std.proofs.Math.Bool.{and-false}
-use Rattle.profile.specs.Lines.{line_name, line_value, is_same_name}
-use Rattle.profile.specs.Objects.{is_begin, is_end, is_property, Opens, Closes, SpellsBody, is_none, now_open, opened_from, misplaced, misplaced_begin, misplaced_end, misplaced_property, is_calendar_name, fits, some_misplaced, all_fit}
-use Rattle.profile.specs.Objects.SpellsBody.{nothing, property, component}
+use Rattle.profile.specs.text.Lines.{line_name, line_value, is_same_name}
+use Rattle.profile.specs.text.Objects.{is_begin, is_end, is_property, Opens, Closes, SpellsBody, is_none, now_open, opened_from, misplaced, misplaced_begin, misplaced_end, misplaced_property, is_calendar_name, fits, some_misplaced, all_fit}
+use Rattle.profile.specs.text.Objects.SpellsBody.{nothing, property, component}
 
 abbrev Lines : Type 0
 Lines = List (List ℕ)

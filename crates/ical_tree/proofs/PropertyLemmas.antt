@@ -2,8 +2,8 @@
 use Rattle.std.proofs.Common.{◌≡◌, ℕ, true, List, [], ◌∷◌, ◌++◌, sym, subst, append_assoc, append-nil}
 use Rattle.std.specs.List.{list_all}
 use Rattle.std.proofs.lemmas.Bool.{and_parts}
-use Rattle.profile.specs.Objects.{is_property}
-use Rattle.profile.specs.Objects.SpellsBody.{nothing, property}
+use Rattle.profile.specs.text.Objects.{is_property}
+use Rattle.profile.specs.text.Objects.SpellsBody.{nothing, property}
 use Rattle.ical_tree.proofs.TreeOfLemmas.{BodyT}
 
 abbrev Lines : Type 0

@@ -1,6 +1,6 @@
 -- The definitions on worked examples.
 use Rattle.std.proofs.Common.{◌≡◌, ℕ, true, false, List, [], ◌∷◌, codes, refl}
-use Rattle.profile.specs.Objects.{lines_have, misplaced, has_version, opened}
+use Rattle.profile.specs.text.Objects.{lines_have, misplaced, has_version, opened}
 
 -- without its last line an object isn't closed (21)
 not_closed : lines_have 21 (codes "BEGIN:VCALENDAR" ∷ codes "VERSION:2.0" ∷ []) ≡ true

@@ -2,8 +2,8 @@
 use Rattle.std.proofs.Common.{◌≡◌, inl, inr, ℕ, ◌+◌, ◌-◌, ◌<◌, ◌≤◌, arith, Bool, true, false, not, ◌&&◌, ◌||◌, eqb, Option, None, Some, is_some, List, [], ◌∷◌, ◌++◌, length, reverse, refl, ap, sym, subst, ◌∙◌}
 use Rattle.std.proofs.lemmas.Bool.{lt-leb, or_from, not-true}
 use Rattle.std.proofs.lemmas.List.{append_assoc, append-nil, nil_from_length, length-map, length-reverse}
-use Rattle.profile.specs.Lines.{logical_lines, text_has}
-use Rattle.profile.specs.Objects.{Opens, is_none, now_open, opened_from, opened, is_calendar_name, may_begin, misplaced, misplaced_begin, fits, some_misplaced, all_fit, lines_have}
+use Rattle.profile.specs.text.Lines.{logical_lines, text_has}
+use Rattle.profile.specs.text.Objects.{Opens, is_none, now_open, opened_from, opened, is_calendar_name, may_begin, misplaced, misplaced_begin, fits, some_misplaced, all_fit, lines_have}
 use Rattle.ical_lines.specs.Fault.{RefusesOnly, RefusesBy}
 use Rattle.ical_lines.specs.declared.fault.Fault.{Fault}
 use Rattle.ical_lines.specs.declared.fault.Fault.TheVariants.{Refused, Memory}

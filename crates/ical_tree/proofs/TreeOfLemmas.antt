@@ -2,9 +2,9 @@
 use Rattle.std.proofs.Common.{◌≡◌, ℕ, ◌+◌, suc, Bool, nat_lt, ◌&&◌, cond, List, [], ◌∷◌, ◌++◌, fold, map, codes, subst, sym, refl, ap, ◌∙◌}
 use Rattle.std.specs.Prelude.{count_by}
 use Rattle.std.proofs.lemmas.List.{map-append}
-use Rattle.profile.specs.Lines.{is_same_name}
-use Rattle.profile.specs.Objects.{SpellsBody, nothing, property, component, is_calendar_name, Opens, Closes, SpellsTree, IsObject, has_version, count_inside}
-use Rattle.profile.specs.Trees.{Tree, tree, trees_list, tree_name, tree_own, tree_inside}
+use Rattle.profile.specs.text.Lines.{is_same_name}
+use Rattle.profile.specs.text.Objects.{SpellsBody, nothing, property, component, is_calendar_name, Opens, Closes, SpellsTree, IsObject, has_version, count_inside}
+use Rattle.profile.specs.text.Trees.{Tree, tree, trees_list, tree_name, tree_own, tree_inside}
 use Rattle.ical_tree.specs.declared.component.Component.{Component}
 use Rattle.ical_tree.specs.declared.component.Component.TheFolds.{fold_out-Component}
 use Rattle.ical_tree.specs.Tree.{component_name, component_lines, component_children, IsObjectOf, trees_of, tree_step, tree_of}

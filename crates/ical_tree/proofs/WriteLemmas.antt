@@ -1,7 +1,7 @@
 -- What stood before a write stands after it.
 use Rattle.std.proofs.Common.{◌≡◌, ℕ, ◌+◌, ◌<◌, ◌≤◌, Result, Ok, Err, OnOk, OnErr, List, [], ◌∷◌, ◌++◌, map, codes, length, take, get_or, refl, ap, sym, ◌∙◌, arith}
 use Rattle.std.specs.List.{flat_map}
-use Rattle.profile.specs.Lines.{folded}
+use Rattle.profile.specs.text.Lines.{folded}
 use Rattle.ical_tree.specs.declared.component.Component.{Component}
 use Rattle.ical_tree.specs.declared.component.Component.TheFolds.{fold_out-Component}
 use Rattle.ical_tree.specs.Tree.{component_name, component_lines, component_children, written_lines, written_step, written}

@@ -1,7 +1,7 @@
 -- What the lines so far have spelled.
 use Rattle.std.specs.Prelude.{◌≡◌, ◌⊎◌, ◌&&◌, ◌||◌, ◌==◌, ℕ, ◌-◌, ◌≤◌, Bool, true, not, nat_lt, map, reverse, IsTrue, List, [], ◌∷◌, ◌++◌, Option, None, Some, is_some, length, slice_index, codes}
-use Rattle.profile.specs.Lines.{logical_lines, text_has}
-use Rattle.profile.specs.Objects.{SpellsBody, SpellsTree, Opens, is_calendar_name, may_begin, has_version, count_inside, lines_have}
+use Rattle.profile.specs.text.Lines.{logical_lines, text_has}
+use Rattle.profile.specs.text.Objects.{SpellsBody, SpellsTree, Opens, is_calendar_name, may_begin, has_version, count_inside, lines_have}
 use Rattle.ical_lines.specs.Fault.{RefusesBy}
 use Rattle.ical_lines.specs.declared.fault.Fault.{Fault}
 use Rattle.ical_tree.specs.declared.component.Component.{Component}
@@ -75,6 +75,6 @@ TreeHas bounded number lines =
 abbrev pub ObjectHas : Bool → ℕ → List ℕ → Type 0
 ObjectHas bounded number octets = IsTrue (text_has bounded number octets) ⊎ TreeHas bounded number (logical_lines octets)
 
--- want of memory, or a refusal whose fault stands in the octets
+-- out of memory, or a refusal whose fault stands in the octets
 abbrev pub Stands : Bool → List ℕ → Fault → Type 0
 Stands bounded octets fault = RefusesBy (λ n. ObjectHas bounded n octets) fault

@@ -1,6 +1,6 @@
 -- What the octets that a component is written with read back as.
 use Rattle.std.specs.Prelude.{◌≡◌, ℕ, Bool, true, false, List}
-use Rattle.profile.specs.Lines.{logical_lines, reads_as_lines}
+use Rattle.profile.specs.text.Lines.{logical_lines, reads_as_lines}
 use Rattle.ical_tree.specs.declared.component.Component.{Component}
 use Rattle.ical_tree.specs.Tree.{IsObjectOf, written_lines, tree_of}
 use Rattle.ical_tree.specs.Reading.{ObjectHas}

@@ -1,9 +1,9 @@
 -- What callers see of a component.
 use Rattle.std.specs.Prelude.{ℕ, Bool, List, [], ◌∷◌, ◌++◌, codes}
 use Rattle.std.specs.List.{flat_map}
-use Rattle.profile.specs.Lines.{folded}
-use Rattle.profile.specs.Objects.{IsObject}
-use Rattle.profile.specs.Trees.{Tree, Trees, tree, none, more}
+use Rattle.profile.specs.text.Lines.{folded}
+use Rattle.profile.specs.text.Objects.{IsObject}
+use Rattle.profile.specs.text.Trees.{Tree, Trees, tree, none, more}
 use Rattle.ical_tree.specs.Runs.{run_lines}
 use Rattle.ical_tree.specs.declared.component.Component.{Component, out-Component}
 use Rattle.ical_tree.specs.declared.component.Component.TheOpen.{Component-F}

@@ -1,7 +1,7 @@
 //! Which trees lines can spell (RFC 5545 3.4, 3.6).
 ghost use Rattle.std.specs.Prelude.{ℕ, List, Bool, ◌≡◌, true};
-ghost use Rattle.profile.specs.Objects.{SpellsTree, IsObject, lines_have};
-ghost use Rattle.profile.specs.Trees.{Tree, tree_name, tree_own, tree_inside};
+ghost use Rattle.profile.specs.text.Objects.{SpellsTree, IsObject, lines_have};
+ghost use Rattle.profile.specs.text.Trees.{Tree, tree_name, tree_own, tree_inside};
 
 /// Lines spell at most one tree, and no object where a fault stands in how they pair up.
 pub fn one_tree()

@@ -24,7 +24,7 @@ impl<'a> Properties<'a> {
     ghost use Rattle.std.specs.Prelude.{◌≡◌, ◌⊎◌, map, Some, option_map, IfOk, IfErr};
     ghost use Rattle.ical_lines.specs.Text.{line_text};
     ghost use Rattle.ical_tree.specs.Tree.{component_lines};
-    ghost use Rattle.profile.specs.Properties.{StandsAtMostOnce, StandsTwice, IsMissing};
+    ghost use Rattle.profile.specs.events.Properties.{StandsAtMostOnce, StandsTwice, IsMissing};
 
     /// The own lines of a component, in order. It fails only for memory.
     pub fn of(alloc: Global, component: &'a Component) -> Result<Properties<'a>, AllocError>

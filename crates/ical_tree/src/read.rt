@@ -25,9 +25,9 @@ ghost use Rattle.std.specs.Prelude.{
   OnOk,
   IsTrue,
 };
-ghost use Rattle.profile.specs.Faults.{is_object_fault};
-ghost use Rattle.profile.specs.Lines.{line_value};
-ghost use Rattle.profile.specs.Objects.{is_end, is_property, is_calendar_name, has_version, count_inside, may_begin, Opens, is_none, now_open, misplaced, misplaced_begin, misplaced_end, misplaced_property};
+ghost use Rattle.profile.specs.faults.Faults.{is_object_fault};
+ghost use Rattle.profile.specs.text.Lines.{line_value};
+ghost use Rattle.profile.specs.text.Objects.{is_end, is_property, is_calendar_name, has_version, count_inside, may_begin, Opens, is_none, now_open, misplaced, misplaced_begin, misplaced_end, misplaced_property};
 ghost use Rattle.ical_lines.specs.Breaks.{is_one_line};
 ghost use Rattle.ical_lines.specs.Fault.{RefusesOnly, RefusesBy};
 ghost use Rattle.ical_lines.specs.Limits.{is_bounded};

@@ -2,7 +2,7 @@
 
 ghost use Rattle.std.specs.Prelude.{◌≡◌, ℕ, Bool, true, List, take, length, OnErr, OnOk, ◌++◌};
 ghost use Rattle.std.specs.List.{flat_map};
-ghost use Rattle.profile.specs.Lines.{folded, logical_lines, reads_as_lines};
+ghost use Rattle.profile.specs.text.Lines.{folded, logical_lines, reads_as_lines};
 ghost use Rattle.ical_tree.specs.ReadsBack.{ReadsBack};
 ghost use Rattle.ical_tree.specs.Tree.{IsObjectOf, written, component_lines};
 

@@ -11,7 +11,7 @@ use Rattle.std.proofs.lemmas.List.{length-map}
 use Rattle.std.proofs.Common.{nat_lt}
 use Rattle.std.specs.Str.{chars, IsUtf8}
 use lib.Utf8.{encode, encodes}
-use Rattle.profile.specs.Values.{IsAddress, is_scheme, is_scheme_octet, is_path, is_path_octet, lower_case}
+use Rattle.profile.specs.text.Values.{IsAddress, is_scheme, is_scheme_octet, is_path, is_path_octet, lower_case}
 
 octets_no_colon : (cs : List ℕ) → list_all is_scheme_octet cs ≡ true → (i : ℕ) → i < length cs → get_or cs i 0 ≢ 58
 octets_no_colon [] h i k = absurd (omega arith)

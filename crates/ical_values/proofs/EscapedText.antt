@@ -9,8 +9,8 @@ use Rattle.std.proofs.lemmas.Str.{IsUtf8-append, IsUtf8-nil, IsUtf8-encode, enco
 use Rattle.std.specs.Str.{IsUtf8}
 use Rattle.std.specs.Char.{IsScalar}
 use lib.Utf8.{encode, encodes, scalars}
-use Rattle.profile.specs.Lines.{is_control}
-use Rattle.profile.specs.Values.{escaped, escaped_octet}
+use Rattle.profile.specs.text.Lines.{is_control}
+use Rattle.profile.specs.text.Values.{escaped, escaped_octet}
 use Rattle.ical_values.specs.Escaped.{is_escaped}
 
 -- one ASCII octet

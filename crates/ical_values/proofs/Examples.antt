@@ -1,8 +1,8 @@
 -- Worked values, by the definitions alone.
 use Rattle.std.proofs.Common.{◌≡◌, [], false, inl, inr, codes, refl, arith, pos, negsuc}
 use Rattle.std.specs.Fmt.{digits}
-use Rattle.profile.specs.Days.{days_before_year, days_of_months}
-use Rattle.profile.specs.Values.{SpellsStamp, WritesStamp, SpellsSequence, SpellsOffset, SpellsDuration, SpellsExact, IsAddress, is_scheme, is_path, lower_case, escaped, unescaped, duration_text}
+use Rattle.profile.specs.series.Days.{days_before_year, days_of_months}
+use Rattle.profile.specs.text.Values.{SpellsStamp, WritesStamp, SpellsSequence, SpellsOffset, SpellsDuration, SpellsExact, IsAddress, is_scheme, is_path, lower_case, escaped, unescaped, duration_text}
 
 -- second 60 is read as 59
 leap_second : SpellsStamp (codes "20161231T235960Z") (pos 1_483_228_799)

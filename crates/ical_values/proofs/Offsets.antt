@@ -1,6 +1,6 @@
 -- Digits of an offset, and its sign.
 use Rattle.std.proofs.Common.{◌≡◌, ◌≢◌, ◌∙◌, ℕ, ◌≤◌, inl, inr, List, [], ◌∷◌, ◌++◌, length, get_or, drop, codes, Option, Some, None, IfNone, sym, ap, arith, length-append, ℤ}
-use Rattle.profile.specs.Values.{SpellsTime, SpellsSize, SpellsOffset}
+use Rattle.profile.specs.text.Values.{SpellsTime, SpellsSize, SpellsOffset}
 use Rattle.ical_values.proofs.Spelled.{list_of_4, time_length}
 
 pub if_none_weaker : {A : Type 0} (r : Option A) {P Q : Type 0} → (P → Q) → IfNone r P → IfNone r Q

@@ -9,7 +9,7 @@ use Rattle.std.proofs.lemmas.Bool.{cases_order}
 use Rattle.std.proofs.lemmas.Str.Parse.{digit_from_value, digit_at}
 use Rattle.std.specs.Int.{IsInRange}
 use Rattle.std.specs.Str.Parse.{AllDigits, digits_value}
-use Rattle.profile.specs.Values.{IsNumber, SpellsPart, SpellsExact, SpellsDays, SpellsCounts, SpellsUnsigned}
+use Rattle.profile.specs.text.Values.{IsNumber, SpellsPart, SpellsExact, SpellsDays, SpellsCounts, SpellsUnsigned}
 use Rattle.ical_values.specs.Counts.{capped, Begins, Takes, TakesOrSkips, CountsExact, CountsDays, CountsUnsigned}
 
 pub head : (a b : ℕ) (xs ys : List ℕ) → a ∷ xs ≡ b ∷ ys → a ≡ b

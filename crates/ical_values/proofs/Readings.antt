@@ -7,8 +7,8 @@ use Rattle.std.proofs.lemmas.Fmt.{decimal_is_IsNumeral}
 use Rattle.std.proofs.lemmas.Str.Parse.{digit_from_value}
 use Rattle.std.specs.Int.{is_negative}
 use Rattle.std.specs.Str.Parse.{AllDigits, digits_value}
-use Rattle.profile.specs.Days.{IsDate, number_of_date, days_in_month}
-use Rattle.profile.specs.Values.{two_digits, SpellsDate, SpellsTime, SpellsClock, SpellsStamp, WritesStamp, SpellsSequence, SpellsSize, SpellsOffset, WritesOffset}
+use Rattle.profile.specs.series.Days.{IsDate, number_of_date, days_in_month}
+use Rattle.profile.specs.text.Values.{two_digits, SpellsDate, SpellsTime, SpellsClock, SpellsStamp, WritesStamp, SpellsSequence, SpellsSize, SpellsOffset, WritesOffset}
 use Rattle.ical_values.proofs.Spelled.{clock_parts, date_digits, two_same, four_same}
 use Rattle.ical_values.proofs.Offsets.{time_same, size_same}
 

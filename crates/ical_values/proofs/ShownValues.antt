@@ -4,8 +4,8 @@ use Rattle.std.specs.List.{list_all}
 use Rattle.std.specs.Int.{is_negative}
 use Rattle.std.specs.Str.{IsUtf8}
 use Rattle.std.proofs.lemmas.Bool.{and_from}
-use Rattle.profile.specs.Days.{IsDate, is_leap_year}
-use Rattle.profile.specs.Values.{two_digits, four_digits, SpellsDate, SpellsTime, WritesLocal, WritesStamp, WritesOffset}
+use Rattle.profile.specs.series.Days.{IsDate, is_leap_year}
+use Rattle.profile.specs.text.Values.{two_digits, four_digits, SpellsDate, SpellsTime, WritesLocal, WritesStamp, WritesOffset}
 use Rattle.ical_lines.proofs.CleanLines.{is_shown, clean_shown, shown_append, shown_digit}
 
 shown_two : (n : ℕ) → n < 100 → list_all is_shown (two_digits n) ≡ true

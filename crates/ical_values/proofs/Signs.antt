@@ -1,7 +1,7 @@
 -- The sign of a duration.
 use Rattle.std.proofs.Common.{◌≡◌, ◌∙◌, ℕ, ◌<◌, ◌^◌, inl, inr, List, ◌∷◌, refl, sym, arith}
 use Rattle.ical_values.proofs.Parts.{head, tail}
-use Rattle.profile.specs.Values.{SpellsUnsigned, SpellsDuration, SpellsNegative, SpellsLong}
+use Rattle.profile.specs.text.Values.{SpellsUnsigned, SpellsDuration, SpellsNegative, SpellsLong}
 use Rattle.ical_values.specs.Counts.{CountsUnsigned, SpellsLongBody}
 
 -- counts that fit 32 bits are those of the text

@@ -3,7 +3,7 @@ use Rattle.std.proofs.Common.{◌≡◌, ◌≢◌, ◌∙◌, ℕ, ◌^◌, ◌
 use Rattle.std.proofs.lemmas.List.{append-nil}
 use Rattle.std.proofs.lemmas.Bool.Decides.{nat_tests}
 use Rattle.std.proofs.lemmas.Fmt.{decimal_is_IsNumeral}
-use Rattle.profile.specs.Values.{IsNumber, SpellsPart, SpellsExact, SpellsDays, SpellsCounts, SpellsUnsigned, SpellsDuration, SpellsNegative, duration_text}
+use Rattle.profile.specs.text.Values.{IsNumber, SpellsPart, SpellsExact, SpellsDays, SpellsCounts, SpellsUnsigned, SpellsDuration, SpellsNegative, duration_text}
 use Rattle.ical_values.specs.Counts.{Begins}
 use Rattle.ical_values.proofs.Parts.{begins_same, begins_nothing, begins_later, part_begins, exact_begins, days_begin}
 

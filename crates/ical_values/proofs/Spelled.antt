@@ -5,9 +5,9 @@ use Rattle.std.proofs.lemmas.Int.{ints}
 use Rattle.std.proofs.lemmas.List.{append-nil}
 use Rattle.std.proofs.Common.{append_assoc}
 use Rattle.cal_days.proofs.Bridge.{number_low}
-use Rattle.profile.specs.Days.{IsDayDate, day_index, number_of_day}
-use Rattle.profile.specs.Zones.{local_time}
-use Rattle.profile.specs.Values.{two_digits, four_digits, SpellsDate, SpellsTime, SpellsClock}
+use Rattle.profile.specs.series.Days.{IsDayDate, day_index, number_of_day}
+use Rattle.profile.specs.series.Zones.{local_time}
+use Rattle.profile.specs.text.Values.{two_digits, four_digits, SpellsDate, SpellsTime, SpellsClock}
 
 -- a list of 4 by its elements
 pub list_of_4 : (s : List ℕ) → length s ≡ 4 → s ≡ get_or s 0 0 ∷ get_or s 1 0 ∷ get_or s 2 0 ∷ get_or s 3 0 ∷ []

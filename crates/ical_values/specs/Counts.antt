@@ -1,6 +1,6 @@
 -- What is read of a duration before its range is judged: counts that stop at the greatest u64.
 use Rattle.std.specs.Prelude.{◌≡◌, ℕ, ◌≤◌, ◌^◌, ◌⊎◌, min, List, ◌∷◌, ◌++◌}
-use Rattle.profile.specs.Values.{IsNumber, SpellsExact, SpellsDays, SpellsUnsigned}
+use Rattle.profile.specs.text.Values.{IsNumber, SpellsExact, SpellsDays, SpellsUnsigned}
 
 -- a number, or the greatest u64 where it is greater
 abbrev pub capped : ℕ → ℕ

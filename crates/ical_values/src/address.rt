@@ -5,8 +5,8 @@ ghost use Rattle.std.specs.Prelude.{ℕ, List, [], ◌≡◌, ◌++◌, true, ma
 ghost use Rattle.std.specs.List.{list_all};
 ghost use Rattle.std.specs.Char.{to_ascii_lowercase};
 ghost use Rattle.std.specs.Str.{chars, encode_utf8_all};
-ghost use Rattle.profile.specs.Faults.{is_address_fault};
-ghost use Rattle.profile.specs.Values.{IsAddress, lower_case, is_scheme, is_scheme_octet, is_path, is_path_octet};
+ghost use Rattle.profile.specs.faults.Faults.{is_address_fault};
+ghost use Rattle.profile.specs.text.Values.{IsAddress, lower_case, is_scheme, is_scheme_octet, is_path, is_path_octet};
 ghost use Rattle.ical_lines.specs.Fault.{RefusesOnly};
 ghost use Rattle.ical_values.specs.Octets.{address_octets};
 ghost use Rattle.ical_values.specs.Refused.{IfRefused};

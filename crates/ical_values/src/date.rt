@@ -1,7 +1,7 @@
 //! Dates as `YYYYMMDD` (RFC 5545 3.3.4), of the years 0001 to 9999.
 
 ghost use Rattle.std.specs.Prelude.{◌≡◌, ◌≤◌, ◌≤ℤ◌, ℕ, ℤ, pos, IfSome, IfNone};
-ghost use Rattle.profile.specs.Values.{SpellsDate};
+ghost use Rattle.profile.specs.text.Values.{SpellsDate};
 
 use crate::digits;
 use cal_days::Day;

@@ -1,7 +1,7 @@
 //! Decimal digits: one, two and four of them, as ASCII octets.
 
 ghost use Rattle.std.specs.Prelude.{◌≡◌, ◌+◌, ◌<◌, ◌≤◌, ◌∷◌, [], ℕ, IfSome, IfNone};
-ghost use Rattle.profile.specs.Values.{two_digits, four_digits};
+ghost use Rattle.profile.specs.text.Values.{two_digits, four_digits};
 
 /// The digit that an octet stands for.
 pub fn digit(octet: u8) -> Option<u8>

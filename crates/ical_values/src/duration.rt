@@ -4,7 +4,7 @@
 ghost use Rattle.std.specs.Prelude.{◌≡◌, ◌+◌, ◌*◌, ◌<◌, ◌≤◌, ◌^◌, ◌++◌, ◌∷◌, ◌⊎◌, ℕ, List, length, take, slice_index, IfSome, IfNone, IfOk, IfErr, OnOk, OnErr};
 ghost use Rattle.std.specs.Int.{IsInRange};
 ghost use Rattle.std.specs.Str.Parse.{AllDigits, digits_value};
-ghost use Rattle.profile.specs.Values.{duration_text, SpellsDuration, SpellsNegative, SpellsLong, SpellsUnsigned, SpellsDays, SpellsExact};
+ghost use Rattle.profile.specs.text.Values.{duration_text, SpellsDuration, SpellsNegative, SpellsLong, SpellsUnsigned, SpellsDays, SpellsExact};
 ghost use Rattle.ical_values.specs.Counts.{capped, Begins, Takes, TakesOrSkips, CountsExact, CountsDays, CountsUnsigned, SpellsLongBody};
 
 use crate::append::append_all;

@@ -2,7 +2,7 @@
 //! without a zone. Second 60 is read as 59.
 
 ghost use Rattle.std.specs.Prelude.{ℕ, List, ◌≡◌, ◌↔◌, ◌++◌, ◌<◌, ◌≤ℤ◌, ◌+ℤ◌, ◌*ℤ◌, pos, ℤ, IsSome, IfSome, IfOk, IfErr, OnOk, OnErr};
-ghost use Rattle.profile.specs.Values.{SpellsLocal, WritesLocal, IsClockSeconds};
+ghost use Rattle.profile.specs.text.Values.{SpellsLocal, WritesLocal, IsClockSeconds};
 ghost use Rattle.ical_values.specs.Written.{Appends};
 
 use crate::clock::{self, DAY_SECONDS, seconds_at};
@@ -19,7 +19,7 @@ pub struct LocalTime {
 
 impl Model for LocalTime {
     ghost use Rattle.std.specs.Prelude.{ℤ};
-    ghost use Rattle.profile.specs.Values.{IsClockSeconds};
+    ghost use Rattle.profile.specs.text.Values.{IsClockSeconds};
 
     ghost Value = { ℤ };
 

@@ -2,7 +2,7 @@
 //! `-000000` are none.
 
 ghost use Rattle.std.specs.Prelude.{List, ◌≡◌, ◌↔◌, ◌<◌, ℕ, ℤ, IsSome, IfSome, IfNone, IfOk, IfErr, OnOk, OnErr};
-ghost use Rattle.profile.specs.Values.{SpellsOffset, WritesOffset, SpellsSize, IsOffset};
+ghost use Rattle.profile.specs.text.Values.{SpellsOffset, WritesOffset, SpellsSize, IsOffset};
 ghost use Rattle.ical_values.specs.Written.{Appends};
 
 use crate::append::append_all;
@@ -19,7 +19,7 @@ pub struct UtcOffset {
 
 impl Model for UtcOffset {
     ghost use Rattle.std.specs.Prelude.{ℤ};
-    ghost use Rattle.profile.specs.Values.{IsOffset};
+    ghost use Rattle.profile.specs.text.Values.{IsOffset};
 
     ghost Value = { ℤ };
 

@@ -2,7 +2,7 @@
 //! may stand (RFC 5545 3.3.8); a minus sign may not, also before 0.
 
 ghost use Rattle.std.specs.Prelude.{List, ◌≡◌, ◌↔◌, ◌++◌, ◌<◌, ◌^◌, ℕ, decimal, IsSome, IfSome, IfOk, IfErr, OnOk, OnErr};
-ghost use Rattle.profile.specs.Values.{SpellsSequence};
+ghost use Rattle.profile.specs.text.Values.{SpellsSequence};
 
 use ical_lines::Refusal;
 use itoa::Buffer;

@@ -2,7 +2,7 @@
 
 ghost use Rattle.std.specs.Prelude.{◌≡◌, decimal, string_bytes, IfOk};
 ghost use Rattle.std.specs.Str.{IsUtf8};
-ghost use Rattle.profile.specs.Values.{escaped, WritesLocal, WritesOffset, WritesStamp};
+ghost use Rattle.profile.specs.text.Values.{escaped, WritesLocal, WritesOffset, WritesStamp};
 ghost use Rattle.ical_values.specs.Octets.{text_octets};
 
 use crate::local_time::LocalTime;

@@ -2,8 +2,8 @@
 //! kept as its instant. Leap seconds aren't counted: second 60 is read as 59.
 
 ghost use Rattle.std.specs.Prelude.{ℕ, List, ◌≡◌, ◌↔◌, ◌++◌, negsuc, IsSome, IfSome, ℤ, IfOk, IfErr, OnOk, OnErr};
-ghost use Rattle.profile.specs.Values.{SpellsStamp, WritesStamp, IsClockSeconds};
-ghost use Rattle.profile.specs.Properties.{ends_in_z};
+ghost use Rattle.profile.specs.text.Values.{SpellsStamp, WritesStamp, IsClockSeconds};
+ghost use Rattle.profile.specs.events.Properties.{ends_in_z};
 ghost use Rattle.ical_values.specs.Written.{Appends};
 
 use crate::clock;
@@ -19,7 +19,7 @@ pub struct Stamp {
 
 impl Model for Stamp {
     ghost use Rattle.std.specs.Prelude.{ℤ};
-    ghost use Rattle.profile.specs.Values.{IsClockSeconds};
+    ghost use Rattle.profile.specs.text.Values.{IsClockSeconds};
 
     ghost Value = { ℤ };
 

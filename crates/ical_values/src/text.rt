@@ -3,10 +3,10 @@
 
 ghost use Rattle.std.specs.Prelude.{ℕ, List, ◌≡◌, ◌++◌, ◌∷◌, ◌≤◌, length, string_bytes, IfOk, IfErr, OnOk, OnErr};
 ghost use Rattle.std.specs.List.{list_any};
-ghost use Rattle.profile.specs.Values.{escaped, escaped_octet, unescaped, IsUid};
+ghost use Rattle.profile.specs.text.Values.{escaped, escaped_octet, unescaped, IsUid};
 ghost use Rattle.ical_lines.specs.Fault.{RefusesOnly};
 ghost use Rattle.ical_values.specs.Octets.{text_octets};
-ghost use Rattle.profile.specs.Faults.{is_uid_fault};
+ghost use Rattle.profile.specs.faults.Faults.{is_uid_fault};
 ghost use Rattle.ical_values.specs.Escaped.{is_escaped};
 ghost use Rattle.ical_values.specs.Refused.{IfRefused};
 

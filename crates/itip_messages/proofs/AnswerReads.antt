@@ -4,11 +4,11 @@ use Rattle.std.specs.List.{AllZip}
 use Rattle.std.specs.Prelude.{option_to_list}
 use Rattle.std.proofs.lemmas.List.{same_from_push}
 use Rattle.std.proofs.lemmas.List.Elements.{filter-append}
-use Rattle.profile.specs.Events.{IsAttendee}
-use Rattle.profile.specs.Properties.{Says, IsStampLine, lines_named, is_of}
-use Rattle.profile.specs.Revisions.{Part, Slot, Whole, At}
-use Rattle.profile.specs.Values.{IsUid, SpellsStamp, escaped}
-use Rattle.profile.specs.Messages.{Outcome, Accept, Busy, SeriesLimit, SinglesLimit, TellsSlot, TellsOutcome, partstat, IsReplyEvent}
+use Rattle.profile.specs.events.Events.{IsAttendee}
+use Rattle.profile.specs.events.Properties.{Says, IsStampLine, lines_named, is_of}
+use Rattle.profile.specs.rooms.Revisions.{Part, Slot, Whole, At}
+use Rattle.profile.specs.text.Values.{IsUid, SpellsStamp, escaped}
+use Rattle.profile.specs.rooms.Messages.{Outcome, Accept, Busy, SeriesLimit, SinglesLimit, TellsSlot, TellsOutcome, partstat, IsReplyEvent}
 use Rattle.ical_values.proofs.Escapes.{read_back}
 use Rattle.ical_values.proofs.Readings.{stamp_written, sequence_written}
 use Rattle.itip_messages.specs.ReadBack.{IsReadAddress, IsVevent, SaysAnswer, participation_of, instance_of}

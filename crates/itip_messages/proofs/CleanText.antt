@@ -8,8 +8,8 @@ use Rattle.std.proofs.lemmas.Bool.Decides.{nat_tests}
 use Rattle.std.proofs.lemmas.List.Folds.{list_any-append}
 use Rattle.std.proofs.lemmas.Str.{scalars-chars}
 use lib.Utf8.{scalars}
-use Rattle.profile.specs.Lines.{is_control}
-use Rattle.profile.specs.Values.{duration_text, IsAddress, is_scheme, is_scheme_octet, is_path_octet, lower_case}
+use Rattle.profile.specs.text.Lines.{is_control}
+use Rattle.profile.specs.text.Values.{duration_text, IsAddress, is_scheme, is_scheme_octet, is_path_octet, lower_case}
 use Rattle.ical_values.proofs.Addresses.{lower_text, lower_address}
 use Rattle.ical_lines.proofs.CleanLines.{IsClean, is_shown, shown_append, shown_decimal}
 use Rattle.itip_messages.specs.ReadBack.{IsTextAddress}

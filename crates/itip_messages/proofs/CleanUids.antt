@@ -6,8 +6,8 @@ use Rattle.std.specs.Char.{IsScalar}
 use Rattle.std.proofs.lemmas.Bool.{and_from, or_parts, cases_Bool, cases_order, both_ways}
 use Rattle.std.proofs.lemmas.Bool.Decides.{nat_tests}
 use Rattle.std.proofs.lemmas.Str.{IsUtf8-append, IsUtf8-nil, IsUtf8-encode, encode_ascii, inside_one, char_from_byte}
-use Rattle.profile.specs.Lines.{is_control}
-use Rattle.profile.specs.Values.{escaped, unescaped, is_escape, meant}
+use Rattle.profile.specs.text.Lines.{is_control}
+use Rattle.profile.specs.text.Values.{escaped, unescaped, is_escape, meant}
 use Rattle.ical_values.proofs.Escapes.{unescaped_front, unescaped_pair, unescaped_lone}
 use Rattle.ical_values.proofs.EscapedText.{is_read, utf8_escaped, utf8_one, escaped_calm}
 use lib.Utf8.{encode, encodes, scalars}

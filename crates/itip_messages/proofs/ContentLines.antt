@@ -3,8 +3,8 @@ use Rattle.std.proofs.Common.{◌≡◌, ◌∙◌, ℕ, true, false, List, [], 
 use Rattle.std.specs.List.{list_all, flat_map}
 use Rattle.std.proofs.lemmas.Bool.{and_from, and_parts}
 use Rattle.std.proofs.lemmas.List.Folds.{list_all-append}
-use Rattle.profile.specs.Lines.{is_content, folded, logical_lines, reads_as_lines}
-use Rattle.profile.specs.Messages.{canonical, method_lines, object_lines}
+use Rattle.profile.specs.text.Lines.{is_content, folded, logical_lines, reads_as_lines}
+use Rattle.profile.specs.rooms.Messages.{canonical, method_lines, object_lines}
 use Rattle.ical_lines.proofs.CleanLines.{IsClean, valued, fixed}
 use Rattle.itip_messages.proofs.ObjectTree.{Lines, vevent_lines}
 

@@ -1,7 +1,7 @@
 -- Worked examples of the definitions of messages and replies, computed.
 use Rattle.std.proofs.Common.{◌≡◌, ℕ, pos, true, false, List, [], ◌∷◌, Some, None, refl, codes}
-use Rattle.profile.specs.Events.{Event, NeedsAction}
-use Rattle.profile.specs.Messages.{word, object_lines, is_method, is_unread_method, are_one_meeting, names_room}
+use Rattle.profile.specs.events.Events.{Event, NeedsAction}
+use Rattle.profile.specs.rooms.Messages.{word, object_lines, is_method, is_unread_method, are_one_meeting, names_room}
 
 -- ---- words of a status
 

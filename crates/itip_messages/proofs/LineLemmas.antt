@@ -6,9 +6,9 @@ use Rattle.std.proofs.Math.Seq.{take-length}
 use Rattle.std.proofs.lemmas.Grind.{flat_map-append}
 use Rattle.std.specs.List.{flat_map}
 use Rattle.cal_events.proofs.EventLemmas.{push_zip}
-use Rattle.profile.specs.Lines.{folded, written}
-use Rattle.profile.specs.Revisions.{At}
-use Rattle.profile.specs.Messages.{TellsSlot, opening_lines}
+use Rattle.profile.specs.text.Lines.{folded, written}
+use Rattle.profile.specs.rooms.Revisions.{At}
+use Rattle.profile.specs.rooms.Messages.{TellsSlot, opening_lines}
 use Rattle.ical_values.specs.Written.{Appends}
 use Rattle.itip_messages.specs.declared.reply.ReplyEvent.{ReplyEvent}
 use Rattle.itip_messages.specs.Replies.{IsStampLine, WritesLines, WritesEvents, IsWrittenEvent, IsReplyText}

@@ -9,18 +9,18 @@ use Rattle.std.proofs.lemmas.Bool.{or_parts}
 use Rattle.ical_lines.specs.declared.fault.Fault.{Fault}
 use Rattle.ical_lines.specs.declared.fault.Fault.TheVariants.{Refused, Memory}
 use Rattle.ical_lines.specs.declared.fault.Refusal.{Refusal}
-use Rattle.profile.specs.Lines.{line_value}
-use Rattle.profile.specs.Trees.{Tree, tree_own, vevents}
-use Rattle.profile.specs.Events.{Event, SaysEvent, has_unread}
-use Rattle.profile.specs.Messages.{SaysRequest, MethodFault, bad_method, unread_method, MessageFault, in_event, not_yet, no_event, two_meetings, two_wholes, is_same_meeting, are_one_meeting, is_unread_method, is_method}
-use Rattle.profile.specs.Properties.{lines_named, BothOrNeither, StandsAtMostOnce}
+use Rattle.profile.specs.text.Lines.{line_value}
+use Rattle.profile.specs.text.Trees.{Tree, tree_own, vevents}
+use Rattle.profile.specs.events.Events.{Event, SaysEvent, has_unread}
+use Rattle.profile.specs.rooms.Messages.{SaysRequest, MethodFault, bad_method, unread_method, MessageFault, in_event, not_yet, no_event, two_meetings, two_wholes, is_same_meeting, are_one_meeting, is_unread_method, is_method}
+use Rattle.profile.specs.events.Properties.{lines_named, BothOrNeither, StandsAtMostOnce}
 use Rattle.cal_events.specs.declared.component.EventComponent.{EventComponent}
 use Rattle.cal_events.specs.declared.component.Purpose.TheVariants.{Request}
 use Rattle.cal_events.specs.Events.{event_of, IsUnreadOrFault, IsUnreadOrFaultAmong}
 use Rattle.cal_events.proofs.EventLemmas.{some_line}
 use Rattle.cal_events.proofs.ReadingLemmas.{unread_among}
-use Rattle.profile.specs.Revisions as revisions
-use Rattle.profile.specs.Messages.{AreParts, IsPart, names_room}
+use Rattle.profile.specs.rooms.Revisions as revisions
+use Rattle.profile.specs.rooms.Messages.{AreParts, IsPart, names_room}
 use Rattle.itip_order.specs.Parts.{slot_of}
 use Rattle.itip_messages.specs.declared.message.Message.{Message}
 use Rattle.itip_messages.specs.Messages.{NamesRequest, WordFault, MeetingFault, StandsFor, component_names, part_for}

@@ -5,11 +5,11 @@ use Rattle.std.specs.Prelude.{map}
 use Rattle.std.proofs.lemmas.Bool.{and_parts}
 use Rattle.ical_tree.proofs.TreeOfLemmas.{BodyT}
 use Rattle.ical_tree.proofs.PropertyLemmas.{own_body}
-use Rattle.profile.specs.Lines.{is_same_name}
-use Rattle.profile.specs.Trees.{Tree, Trees, tree, none, more, trees_list, tree_name, tree_own, tree_inside, vevents}
-use Rattle.profile.specs.Objects.{is_property, has_version, Opens, Closes, IsObject}
-use Rattle.profile.specs.Objects.SpellsBody.{component}
-use Rattle.profile.specs.Messages.{method_lines, object_lines}
+use Rattle.profile.specs.text.Lines.{is_same_name}
+use Rattle.profile.specs.text.Trees.{Tree, Trees, tree, none, more, trees_list, tree_name, tree_own, tree_inside, vevents}
+use Rattle.profile.specs.text.Objects.{is_property, has_version, Opens, Closes, IsObject}
+use Rattle.profile.specs.text.Objects.SpellsBody.{component}
+use Rattle.profile.specs.rooms.Messages.{method_lines, object_lines}
 
 abbrev pub Lines : Type 0
 Lines = List (List ℕ)

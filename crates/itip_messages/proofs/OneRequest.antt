@@ -8,12 +8,12 @@ use Rattle.std.proofs.lemmas.Bool.Decides.{nat_tests}
 use Rattle.std.proofs.lemmas.Slice.Eq.{bytes_eq-Decides}
 use Rattle.ical_lines.proofs.ContentLemmas.{read_fine}
 use Rattle.ical_tree.proofs.OneLine.{at_one}
-use Rattle.profile.specs.Lines.{logical_lines, line_value, is_same_name}
-use Rattle.profile.specs.Objects.{SpellsTree, IsObject, has_version, lines_have, count_inside, most_events}
-use Rattle.profile.specs.Trees.{Tree, tree_name, tree_own, tree_inside}
-use Rattle.profile.specs.Events.{Event, SaysEvent, EventFault, has_unread}
-use Rattle.profile.specs.Messages.{SaysRequest, SpellsRequest, MethodFault, two_methods, bad_method, unread_method, no_method, MessageFault, in_method, in_event, not_yet, no_event, two_meetings, two_wholes, is_unread_method, is_method, are_one_meeting}
-use Rattle.profile.specs.Streams.{ObjectFault}
+use Rattle.profile.specs.text.Lines.{logical_lines, line_value, is_same_name}
+use Rattle.profile.specs.text.Objects.{SpellsTree, IsObject, has_version, lines_have, count_inside, most_events}
+use Rattle.profile.specs.text.Trees.{Tree, tree_name, tree_own, tree_inside}
+use Rattle.profile.specs.events.Events.{Event, SaysEvent, EventFault, has_unread}
+use Rattle.profile.specs.rooms.Messages.{SaysRequest, SpellsRequest, MethodFault, two_methods, bad_method, unread_method, no_method, MessageFault, in_method, in_event, not_yet, no_event, two_meetings, two_wholes, is_unread_method, is_method, are_one_meeting}
+use Rattle.profile.specs.streams.Streams.{ObjectFault}
 
 abbrev Lines : Type 0
 Lines = List (List ℕ)

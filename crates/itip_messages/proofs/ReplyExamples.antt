@@ -1,11 +1,11 @@
 -- Worked answers that meet the premises of the laws on replies: one accepts, one declines and names two instances.
 use Rattle.std.proofs.Common.{ℕ, pos, List, [], ◌∷◌, codes, refl, arith}
 use Rattle.std.specs.Fmt.{digits}
-use Rattle.profile.specs.Days.{days_before_year, days_of_months}
-use Rattle.profile.specs.Instances.{Key}
-use Rattle.profile.specs.Messages.{Accept, Busy}
-use Rattle.profile.specs.Revisions.{Part, Whole, Absent}
-use Rattle.profile.specs.Values.{WritesStamp, IsUid}
+use Rattle.profile.specs.series.Days.{days_before_year, days_of_months}
+use Rattle.profile.specs.checker.Instances.{Key}
+use Rattle.profile.specs.rooms.Messages.{Accept, Busy}
+use Rattle.profile.specs.rooms.Revisions.{Part, Whole, Absent}
+use Rattle.profile.specs.text.Values.{WritesStamp, IsUid}
 use Rattle.itip_messages.specs.ReadBack.{IsTextAddress, IsReadAddress, IsAnswer}
 use Rattle.ical_lines.proofs.CleanLines.{clean_shown}
 use Rattle.itip_messages.proofs.ObjectTree.{Lines, vevent_lines}

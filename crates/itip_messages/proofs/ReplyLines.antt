@@ -3,11 +3,11 @@ use Rattle.std.proofs.Common.{◌≡◌, ◌∙◌, ℕ, true, List, [], ◌∷�
 use Rattle.std.specs.List.{list_all, flat_map, Contains, AllZip}
 use Rattle.std.proofs.lemmas.Bool.{and_from}
 use Rattle.std.proofs.lemmas.List.Folds.{list_all-append}
-use Rattle.profile.specs.Lines.{is_content}
-use Rattle.profile.specs.Objects.{is_property}
-use Rattle.profile.specs.Revisions.{Slot, Whole, At}
-use Rattle.profile.specs.Values.{escaped}
-use Rattle.profile.specs.Messages.{Outcome, Accept, Busy, SeriesLimit, SinglesLimit, TellsSlot, TellsOutcome, partstat}
+use Rattle.profile.specs.text.Lines.{is_content}
+use Rattle.profile.specs.text.Objects.{is_property}
+use Rattle.profile.specs.rooms.Revisions.{Slot, Whole, At}
+use Rattle.profile.specs.text.Values.{escaped}
+use Rattle.profile.specs.rooms.Messages.{Outcome, Accept, Busy, SeriesLimit, SinglesLimit, TellsSlot, TellsOutcome, partstat}
 use Rattle.itip_order.proofs.Lists.{in_head, in_tail}
 use Rattle.itip_messages.specs.ReadBack.{IsTextAddress, IsTextOutcome, IsAnswer, IsVevent}
 use Rattle.ical_lines.proofs.CleanLines.{IsClean, is_shown, shown_append, clean_shown, shown_decimal, valued, fixed}

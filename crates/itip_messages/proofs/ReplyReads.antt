@@ -1,10 +1,10 @@
 -- A reply that was written reads back as one object, with its VEVENTs in it.
 use Rattle.std.proofs.Common.{◌≡◌, ◌∙◌, ℕ, false, List, codes, Some, refl, sym, ap, subst}
 use Rattle.std.specs.List.{flat_map, Contains, AllZip}
-use Rattle.profile.specs.Lines.{logical_lines, reads_as_lines, written}
-use Rattle.profile.specs.Objects.{IsObject}
-use Rattle.profile.specs.Trees.{tree_name, tree_own, tree_inside}
-use Rattle.profile.specs.Messages.{object_lines}
+use Rattle.profile.specs.text.Lines.{logical_lines, reads_as_lines, written}
+use Rattle.profile.specs.text.Objects.{IsObject}
+use Rattle.profile.specs.text.Trees.{tree_name, tree_own, tree_inside}
+use Rattle.profile.specs.rooms.Messages.{object_lines}
 use Rattle.itip_messages.specs.ReadBack.{IsTextAddress, IsAnswer, IsVevent, ReadsAsReply}
 use Rattle.itip_messages.proofs.ObjectTree.{Lines, vevent_lines, calendar_tree, calendar_vevents, object_spelled}
 use Rattle.itip_messages.proofs.ContentLines.{LinesBack, ReadsLines, object_content, reply_method}

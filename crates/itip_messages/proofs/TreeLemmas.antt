@@ -8,8 +8,8 @@ use Rattle.ical_lines.specs.declared.fault.Fault.TheVariants.{Refused, Memory}
 use Rattle.ical_tree.specs.Tree.{IsObjectOf, tree_of}
 use Rattle.ical_tree.proofs.TreeOfLemmas.{object_tree}
 use Rattle.ical_tree.specs.declared.component.Component.{Component}
-use Rattle.profile.specs.Lines.{logical_lines, reads_as_lines}
-use Rattle.profile.specs.Messages.{MessageFault}
+use Rattle.profile.specs.text.Lines.{logical_lines, reads_as_lines}
+use Rattle.profile.specs.rooms.Messages.{MessageFault}
 use Rattle.itip_messages.specs.declared.message.Message.{Message}
 use Rattle.itip_messages.specs.Messages.{IsMessageOf, IsSpelled, ReadFault}
 use Rattle.ical_tree.specs.Reading.{Stands}

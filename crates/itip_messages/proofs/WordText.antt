@@ -7,8 +7,8 @@ use Rattle.std.proofs.lemmas.Bool.{and_parts, and_from, ltb-true, lt-ltb}
 use Rattle.std.proofs.lemmas.Bool.Decides.{nat_tests}
 use Rattle.std.proofs.lemmas.List.Folds.{list_all-append}
 use lib.Utf8.{encode, encodes, scalars}
-use Rattle.profile.specs.Instances.{Key}
-use Rattle.profile.specs.Messages.{is_plain, hexadecimal, word_octet, word, IsKeyText}
+use Rattle.profile.specs.checker.Instances.{Key}
+use Rattle.profile.specs.rooms.Messages.{is_plain, hexadecimal, word_octet, word, IsKeyText}
 use Rattle.ical_lines.proofs.CleanLines.{is_shown, shown_append}
 use Rattle.ical_values.proofs.ShownValues.{shown_stamp}
 

@@ -3,12 +3,12 @@ use Rattle.std.specs.Prelude.{◌≡◌, ℕ, ◌<◌, ◌⊎◌, Bool, true, fa
 use Rattle.ical_lines.specs.Fault.{RefusesBy}
 use Rattle.std.specs.List.{list_any}
 use Rattle.std.specs.Str.{bytes_eq}
-use Rattle.profile.specs.Lines.{line_value, is_same_name}
-use Rattle.profile.specs.Trees.{Tree}
-use Rattle.profile.specs.Events.{Event, booked_by}
-use Rattle.profile.specs.Properties.{lines_named}
-use Rattle.profile.specs.Messages.{IsContent, canonical, SaysRequest, SpellsRequest, RequestFault, is_method, is_unread_method, are_one_meeting}
-use Rattle.profile.specs.Revisions as revisions
+use Rattle.profile.specs.text.Lines.{line_value, is_same_name}
+use Rattle.profile.specs.text.Trees.{Tree}
+use Rattle.profile.specs.events.Events.{Event, booked_by}
+use Rattle.profile.specs.events.Properties.{lines_named}
+use Rattle.profile.specs.rooms.Messages.{IsContent, canonical, SaysRequest, SpellsRequest, RequestFault, is_method, is_unread_method, are_one_meeting}
+use Rattle.profile.specs.rooms.Revisions as revisions
 use Rattle.ical_values.specs.Octets.{text_octets, address_octets}
 use Rattle.ical_lines.specs.declared.fault.Fault.{Fault}
 use Rattle.ical_tree.specs.Reading.{Stands}
@@ -49,7 +49,7 @@ IsMessageOf object message = (event : Event) × SaysRequest object event × Stan
 abbrev pub IsSpelled : List ℕ → Message → Type 0
 IsSpelled octets message = (event : Event) × SpellsRequest octets event × StandsFor message event
 
--- want of memory, or a fault of the object or of what it says stands in the octets
+-- out of memory, or a fault of the object or of what it says stands in the octets
 abbrev pub ReadFault : List ℕ → Fault → Type 0
 ReadFault octets fault = Stands true octets fault ⊎ RefusesBy (RequestFault octets) fault
 

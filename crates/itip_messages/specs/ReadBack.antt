@@ -2,15 +2,15 @@
 use Rattle.std.specs.Prelude.{◌≡◌, ℕ, ◌<◌, ◌^◌, not, ◌||◌, ◌==◌, true, false, List, [], ◌∷◌, ◌++◌, codes, Option, None, Some, ℤ}
 use Rattle.std.specs.List.{flat_map, list_all, AllZip}
 use Rattle.std.specs.Str.{IsUtf8}
-use Rattle.profile.specs.Lines.{is_control, logical_lines, reads_as_lines}
-use Rattle.profile.specs.Objects.{IsObject}
-use Rattle.profile.specs.Trees.{Tree, tree_name, tree_own, tree_inside, vevents}
-use Rattle.profile.specs.Values.{IsAddress, lower_case}
-use Rattle.profile.specs.Events.{IsAttendee, Participation, Accepted, Declined}
-use Rattle.profile.specs.Properties.{Says, IsUidLine, IsAddressLine, IsSequenceLine, IsStampLine, lines_named}
-use Rattle.profile.specs.Instances.{Key}
-use Rattle.profile.specs.Revisions.{Part, Slot, Whole, At}
-use Rattle.profile.specs.Messages.{Outcome, Accept, Busy, SeriesLimit, SinglesLimit, IsReplyEvent, object_lines}
+use Rattle.profile.specs.text.Lines.{is_control, logical_lines, reads_as_lines}
+use Rattle.profile.specs.text.Objects.{IsObject}
+use Rattle.profile.specs.text.Trees.{Tree, tree_name, tree_own, tree_inside, vevents}
+use Rattle.profile.specs.text.Values.{IsAddress, lower_case}
+use Rattle.profile.specs.events.Events.{IsAttendee, Participation, Accepted, Declined}
+use Rattle.profile.specs.events.Properties.{Says, IsUidLine, IsAddressLine, IsSequenceLine, IsStampLine, lines_named}
+use Rattle.profile.specs.checker.Instances.{Key}
+use Rattle.profile.specs.rooms.Revisions.{Part, Slot, Whole, At}
+use Rattle.profile.specs.rooms.Messages.{Outcome, Accept, Busy, SeriesLimit, SinglesLimit, IsReplyEvent, object_lines}
 
 -- ---- texts
 

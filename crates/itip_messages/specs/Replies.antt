@@ -2,11 +2,11 @@
 use Rattle.std.specs.Prelude.{◌≡◌, ℕ, List, ◌++◌, codes, Option, Some, None, ℤ}
 use Rattle.std.specs.List.{flat_map, AllZip}
 use denote.Ref.{Bor}
-use Rattle.profile.specs.Lines.{folded, written}
-use Rattle.profile.specs.Values.{WritesStamp}
-use Rattle.profile.specs.Instances.{Key}
-use Rattle.profile.specs.Revisions as revisions
-use Rattle.profile.specs.Messages as messages
+use Rattle.profile.specs.text.Lines.{folded, written}
+use Rattle.profile.specs.text.Values.{WritesStamp}
+use Rattle.profile.specs.checker.Instances.{Key}
+use Rattle.profile.specs.rooms.Revisions as revisions
+use Rattle.profile.specs.rooms.Messages as messages
 use Rattle.ical_values.specs.Octets.{text_octets, address_octets}
 use Rattle.itip_messages.specs.declared.reply.ConflictKey.{ConflictKey}
 use Rattle.itip_messages.specs.declared.reply.Conflict.{Conflict}

@@ -1,12 +1,12 @@
 //! What octets say as a REQUEST, and what a reply that was written reads back as.
 ghost use Rattle.std.specs.Prelude.{◌≡◌, ◌<◌, ◌^◌, ℕ, ℤ, List, Contains, Some, codes};
 ghost use Rattle.std.specs.List.{flat_map};
-ghost use Rattle.profile.specs.Events.{Event};
-ghost use Rattle.profile.specs.Messages.{IsReplyEvent, Outcome, SpellsRequest, object_lines};
-ghost use Rattle.profile.specs.Revisions.{Part};
-ghost use Rattle.profile.specs.Values.{IsUid};
-ghost use Rattle.profile.specs.Lines.{written};
-ghost use Rattle.profile.specs.Streams.{ObjectFault};
+ghost use Rattle.profile.specs.events.Events.{Event};
+ghost use Rattle.profile.specs.rooms.Messages.{IsReplyEvent, Outcome, SpellsRequest, object_lines};
+ghost use Rattle.profile.specs.rooms.Revisions.{Part};
+ghost use Rattle.profile.specs.text.Values.{IsUid};
+ghost use Rattle.profile.specs.text.Lines.{written};
+ghost use Rattle.profile.specs.streams.Streams.{ObjectFault};
 ghost use Rattle.itip_messages.specs.ReadBack.{IsTextAddress, IsReadAddress, IsAnswer, IsVevent, ReadsAsReply, SaysAnswer};
 
 use cal_events::one_event;

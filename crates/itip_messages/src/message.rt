@@ -6,10 +6,10 @@ ghost use Rattle.ical_lines.specs.Fault.{RefusesOnly, RefusesBy};
 ghost use Rattle.ical_lines.specs.Text.{line_text};
 ghost use Rattle.ical_tree.specs.Tree.{tree_of};
 ghost use Rattle.ical_values.specs.Octets.{address_octets};
-ghost use Rattle.profile.specs.Faults.{is_message_fault};
-ghost use Rattle.profile.specs.Lines.{line_value, is_same_name};
-ghost use Rattle.profile.specs.Values.{duration_text};
-ghost use Rattle.profile.specs.Messages.{MethodFault, MessageFault, is_same_meeting, is_unread_method};
+ghost use Rattle.profile.specs.faults.Faults.{is_message_fault};
+ghost use Rattle.profile.specs.text.Lines.{line_value, is_same_name};
+ghost use Rattle.profile.specs.text.Values.{duration_text};
+ghost use Rattle.profile.specs.rooms.Messages.{MethodFault, MessageFault, is_same_meeting, is_unread_method};
 ghost use Rattle.cal_events.specs.Events.{event_of};
 ghost use Rattle.itip_messages.specs.Messages.{IsCanonical, IsMessageOf, IsSpelled, MeetingFault, NamesRequest, ReadFault, StandsFor, WordFault, component_names};
 

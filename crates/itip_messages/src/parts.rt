@@ -3,8 +3,8 @@ ghost use Rattle.std.specs.Prelude.{◌≡◌, ◌++◌, map, IfOk};
 ghost use Rattle.std.specs.List.{list_any};
 ghost use Rattle.ical_values.specs.Octets.{address_octets};
 ghost use Rattle.itip_order.specs.Parts.{part_of, parts_of};
-ghost use Rattle.profile.specs.Events.{Event};
-ghost use Rattle.profile.specs.Messages.{AreParts};
+ghost use Rattle.profile.specs.events.Events.{Event};
+ghost use Rattle.profile.specs.rooms.Messages.{AreParts};
 ghost use Rattle.itip_messages.specs.Messages.{StandsFor, component_names, part_for, parts_for};
 
 use crate::message::{Message, MessageComponent};

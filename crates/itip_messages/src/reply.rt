@@ -1,8 +1,8 @@
 //! Replies of a room (RFC 5546 3.2.3): one VEVENT for each part that was decided.
 ghost use Rattle.std.specs.Prelude.{◌≡◌, ◌↔◌, ◌++◌, ◌∷◌, [], ◌<◌, true, string_bytes, IsSome, IfSome, OnOk, OnErr};
-ghost use Rattle.profile.specs.Lines.{folded};
-ghost use Rattle.profile.specs.Values.{IsClockSeconds, WritesStamp};
-ghost use Rattle.profile.specs.Messages.{TellsSlot, TellsOutcome, IsKeyText, word, word_octet, is_plain, hexadecimal};
+ghost use Rattle.profile.specs.text.Lines.{folded};
+ghost use Rattle.profile.specs.text.Values.{IsClockSeconds, WritesStamp};
+ghost use Rattle.profile.specs.rooms.Messages.{TellsSlot, TellsOutcome, IsKeyText, word, word_octet, is_plain, hexadecimal};
 ghost use Rattle.cal_events.specs.Calendars.{key_of as instance_key};
 ghost use Rattle.ical_values.specs.Written.{Appends};
 ghost use Rattle.itip_messages.specs.Replies.{IsConflict, IsReplyText, IsWrittenEvent, WritesEvents, WritesLines, attendee_line, busy, key_of, outcome_of, slot_of};

@@ -1,8 +1,8 @@
 //! An object that is being written, line by line (RFC 5545 3.1): each line folded, ended by CRLF.
 ghost use Rattle.std.specs.Prelude.{◌≡◌, [], ◌++◌, codes, decimal, option_map, length, take, OnOk, OnErr};
-ghost use Rattle.profile.specs.Lines.{folded, written};
-ghost use Rattle.profile.specs.Values.{escaped};
-ghost use Rattle.profile.specs.Messages.{opening_lines, method_lines};
+ghost use Rattle.profile.specs.text.Lines.{folded, written};
+ghost use Rattle.profile.specs.text.Values.{escaped};
+ghost use Rattle.profile.specs.rooms.Messages.{opening_lines, method_lines};
 ghost use Rattle.ical_values.specs.Octets.{text_octets};
 ghost use Rattle.ical_values.specs.Written.{Appends};
 ghost use Rattle.itip_messages.specs.Replies.{IsStampLine, text_now};

@@ -8,7 +8,7 @@ use Rattle.std.specs.List.{Contains}
 use Rattle.std.proofs.lemmas.Bool.{and_parts, true≢false, or_left, or_right, and_from}
 use Rattle.std.proofs.lemmas.List.{take-append-drop}
 use Rattle.std.proofs.lemmas.List.Elements.{Contains-get_or, Contains-append_cases}
-use Rattle.profile.specs.Revisions.{Whole, Part, place_cmp, same_meeting, same_place, is_whole, stands_beside, allows}
+use Rattle.profile.specs.rooms.Revisions.{Whole, Part, place_cmp, same_meeting, same_place, is_whole, stands_beside, allows}
 use Rattle.itip_order.specs.Registers.{is_ascending, is_allowed_by, at_slot, IsAt, IsGap}
 use Rattle.itip_order.proofs.Lists.{all_at, all_from, in_cons, none_in_nil}
 use Rattle.itip_order.proofs.Order.{then_equal}

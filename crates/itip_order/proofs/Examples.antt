@@ -1,6 +1,6 @@
 -- Worked examples of the view.
 use Rattle.std.proofs.Common.{◌≡◌, ℕ, pos, true, false, [], ◌∷◌, refl}
-use Rattle.profile.specs.Revisions.{Slot, Whole, At, Body, Set, Absent, Cancelled, Part, in_view}
+use Rattle.profile.specs.rooms.Revisions.{Slot, Whole, At, Body, Set, Absent, Cancelled, Part, in_view}
 use Rattle.itip_order.specs.Registers.{StandsFor, shown}
 
 part : Slot → ℕ → ℕ → Body → Part

@@ -7,7 +7,7 @@ use Rattle.std.specs.List.{Contains}
 use Rattle.std.proofs.lemmas.Bool.{and_parts, and_from, true≢false, or_cases, or_left, or_right, not_from_false, not-true, cases_Bool, false_from_ne_true, true_from_ne_false}
 use Rattle.std.proofs.lemmas.Cmp.{upto, tied_back}
 use Rattle.std.proofs.lemmas.List.Elements.{Contains-append_left}
-use Rattle.profile.specs.Revisions.{Whole, Revision, Body, Set, Absent, Cancelled, Part, revision_cmp, body_cmp, part_cmp, same_place, implies, is_greatest, stands_beside, allows, in_view}
+use Rattle.profile.specs.rooms.Revisions.{Whole, Revision, Body, Set, Absent, Cancelled, Part, revision_cmp, body_cmp, part_cmp, same_place, implies, is_greatest, stands_beside, allows, in_view}
 use Rattle.itip_order.proofs.Lists.{all_at, all_from, in_cons, in_head, in_tail, none_in_nil}
 use Rattle.itip_order.proofs.Order.{slot_total, meeting_total, revision_total, part_total, is_eq_true, then_equal}
 use Rattle.itip_order.proofs.Registers.{Greatest, greatest_at, greatest_from, greatest_unique, implies_at, implies_from, eq_refl, place_sym, place_trans, part_le_refl, part_le_trans}

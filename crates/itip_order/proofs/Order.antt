@@ -6,7 +6,7 @@ use Rattle.std.specs.Ordering.{nat_cmp, int_cmp, ordering_then, then_cmp, on, is
 use Rattle.std.specs.Cmp.{IsTotalOrder}
 use Rattle.std.specs.FinMap.{IsAntisymmetric, nat_cmp-IsAntisymmetric, int_cmp-IsAntisymmetric, slice_cmp-IsAntisymmetric}
 use Rattle.std.proofs.lemmas.Cmp.{nat_cmp_total, int_cmp_total, nat_list_cmp_total, on_total, then_total}
-use Rattle.profile.specs.Revisions.{Slot, Whole, At, Revision, Body, Set, Absent, Cancelled, Part, octets_cmp, slot_cmp, meeting_cmp, place_cmp, revision_cmp, body_cmp, part_cmp}
+use Rattle.profile.specs.rooms.Revisions.{Slot, Whole, At, Revision, Body, Set, Absent, Cancelled, Part, octets_cmp, slot_cmp, meeting_cmp, place_cmp, revision_cmp, body_cmp, part_cmp}
 
 -- the Whole comes first
 slot_rank : Slot → ℕ

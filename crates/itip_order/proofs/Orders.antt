@@ -5,7 +5,7 @@ use Rattle.std.specs.Cmp.{both_ways}
 use Rattle.std.specs.List.{list_any, Contains}
 use Rattle.std.proofs.lemmas.Bool.{and_parts, and_from, true≢false}
 use Rattle.std.proofs.lemmas.Cmp.{tied_itself}
-use Rattle.profile.specs.Revisions.{Part, place_cmp, part_cmp, same_place, is_greatest, implies, allows, in_view}
+use Rattle.profile.specs.rooms.Revisions.{Part, place_cmp, part_cmp, same_place, is_greatest, implies, allows, in_view}
 use Rattle.itip_order.specs.Registers.{is_ascending, StandsFor, SameParts}
 use Rattle.itip_order.proofs.Lists.{all_at, all_from, any_from, in_cons, in_head, in_tail, none_in_nil}
 use Rattle.itip_order.proofs.Order.{place_total}

@@ -7,7 +7,7 @@ use Rattle.std.specs.List.{list_all, list_any, Contains, filter}
 use Rattle.std.proofs.lemmas.Bool.{and_parts, and_from, true≢false, both_ways, cases_Bool}
 use Rattle.std.proofs.lemmas.Cmp.{upto, tied_itself, tied_back}
 use Rattle.std.proofs.lemmas.List.Elements.{Contains-append_left, Contains-push, Contains-push_cases}
-use Rattle.profile.specs.Revisions.{Whole, Part, place_cmp, part_cmp, same_place, same_part, is_whole, implies, is_greatest, allows, in_view}
+use Rattle.profile.specs.rooms.Revisions.{Whole, Part, place_cmp, part_cmp, same_place, same_part, is_whole, implies, is_greatest, allows, in_view}
 use Rattle.itip_order.specs.Registers.{is_ascending, StandsFor, IsView, shown}
 use Rattle.itip_order.proofs.Lists.{all_at, all_from, any_at, any_from, filter_at, filter_from}
 use Rattle.itip_order.proofs.Order.{slot_total, place_total, part_total, part_same, is_eq_true, then_equal}

@@ -11,7 +11,7 @@ use Rattle.std.proofs.Math.ListN.{get_or-map}
 use Rattle.std.proofs.lemmas.List.Elements.{Contains-get_or, All-map}
 use Rattle.std.proofs.lemmas.List.Sums.{list_all-from_AllPass}
 use Rattle.std.proofs.lemmas.List.Sorted.{searchable_from_sorted}
-use Rattle.profile.specs.Revisions.{Part, place_cmp}
+use Rattle.profile.specs.rooms.Revisions.{Part, place_cmp}
 use Rattle.itip_order.specs.Registers.{is_ascending, IsAt, IsGap}
 use Rattle.itip_order.proofs.Lists.{all_at}
 use Rattle.itip_order.proofs.Order.{place_total}

@@ -5,7 +5,7 @@ use Rattle.std.specs.List.{Contains, insert, AllZip}
 use Rattle.std.proofs.lemmas.List.{map-append, map-set, take-map, drop-map}
 use Rattle.std.proofs.Math.ListN.{get_or-map}
 use Rattle.std.proofs.lemmas.List.Elements.{Contains-get_or}
-use Rattle.profile.specs.Revisions as revisions
+use Rattle.profile.specs.rooms.Revisions as revisions
 use Rattle.itip_order.specs.declared.part.Part.{Part}
 use Rattle.itip_order.specs.Parts.{part_of, parts_of}
 use Rattle.itip_order.specs.Registers.{is_ascending, IsAt, IsGap}

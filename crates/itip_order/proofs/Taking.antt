@@ -10,7 +10,7 @@ use Rattle.std.proofs.lemmas.Cmp.{alike_right, tied_itself}
 use Rattle.std.proofs.lemmas.List.{take-append-drop, set_split}
 use Rattle.std.proofs.Math.Seq.{drop-cons}
 use Rattle.std.proofs.lemmas.List.Elements.{Contains-append_left, Contains-append_right, Contains-append_cases}
-use Rattle.profile.specs.Revisions.{Part, place_cmp, part_cmp, same_place, allows, in_view}
+use Rattle.profile.specs.rooms.Revisions.{Part, place_cmp, part_cmp, same_place, allows, in_view}
 use Rattle.itip_order.specs.declared.held.Freshness.TheVariants.{Fresh, Same, Stale}
 use Rattle.itip_order.specs.Freshness.{IsFreshness}
 use Rattle.itip_order.specs.Registers.{is_ascending, is_allowed_by, is_known, StandsFor, IsAt, IsGap}

@@ -1,6 +1,6 @@
 -- What taking a part did to the view.
 use Rattle.std.specs.Prelude.{List, [], ◌∷◌, ◌++◌, IsTrue}
-use Rattle.profile.specs.Revisions.{Part, in_view}
+use Rattle.profile.specs.rooms.Revisions.{Part, in_view}
 use Rattle.itip_order.specs.declared.held.Freshness.{Freshness}
 use Rattle.itip_order.specs.declared.held.Freshness.TheVariants.{Fresh, Same, Stale}
 

@@ -7,7 +7,7 @@ use Rattle.itip_order.specs.declared.part.Revision.{Revision}
 use Rattle.itip_order.specs.declared.part.Body.{Body}
 use Rattle.itip_order.specs.declared.part.Body.TheVariants.{Set, Absent, Cancelled}
 use Rattle.itip_order.specs.declared.part.Part.{Part}
-use Rattle.profile.specs.Revisions as revisions
+use Rattle.profile.specs.rooms.Revisions as revisions
 
 abbrev pub slot_of : Slot → revisions.Slot
 slot_of Whole = revisions.Whole

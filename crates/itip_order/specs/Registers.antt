@@ -3,7 +3,7 @@ use Rattle.std.specs.Prelude.{◌≡◌, ℕ, ◌<◌, ◌≤◌, Bool, true, �
 use Rattle.std.specs.declared.cmp.Ordering.TheVariants.{Equal}
 use Rattle.std.specs.List.{list_all, list_any}
 use Rattle.std.specs.Ordering.{is_lt, is_gt}
-use Rattle.profile.specs.Revisions.{Slot, Part, place_cmp, same_place, is_greatest, in_view, allows}
+use Rattle.profile.specs.rooms.Revisions.{Slot, Part, place_cmp, same_place, is_greatest, in_view, allows}
 
 -- each part's place is below those of all later ones: by organiser, UID, slot
 abbrev pub is_ascending : List Part → Bool

@@ -8,7 +8,7 @@ ghost use Rattle.std.specs.Iterator.{YieldsFirstBy, item_count};
 ghost use Rattle.std.specs.List.{insert};
 ghost use Rattle.itip_order.specs.Parts.{part_of, parts_of, slot_of};
 ghost use Rattle.itip_order.specs.Registers.{is_ascending, is_allowed_by, shown, at_slot, is_known, StandsFor, IsView, SameParts, IsAt, IsGap};
-ghost use Rattle.profile.specs.Revisions as revisions;
+ghost use Rattle.profile.specs.rooms.Revisions as revisions;
 
 use crate::part::{Body, Part, Slot};
 use std::alloc::{AllocError, Global};
@@ -35,7 +35,7 @@ pub struct Held {
 
 impl Model for Held {
     ghost use Rattle.std.specs.Prelude.{List, IsTrue};
-    ghost use Rattle.profile.specs.Revisions as revisions;
+    ghost use Rattle.profile.specs.rooms.Revisions as revisions;
     ghost use Rattle.itip_order.specs.Parts.{parts_of};
     ghost use Rattle.itip_order.specs.Registers.{is_ascending};
 
@@ -144,7 +144,7 @@ pub struct View<'a> {
 
 impl<'a> Model for View<'a> {
     ghost use Rattle.std.specs.Prelude.{List, IsTrue};
-    ghost use Rattle.profile.specs.Revisions as revisions;
+    ghost use Rattle.profile.specs.rooms.Revisions as revisions;
     ghost use Rattle.itip_order.specs.Parts.{parts_of};
     ghost use Rattle.itip_order.specs.Registers.{is_ascending, allowed_by};
 

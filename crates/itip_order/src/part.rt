@@ -3,7 +3,7 @@
 //! Octets of organisers and UIDs are compared as they are: an `Address` is kept in lower case.
 
 ghost use Rattle.std.specs.Prelude.{◌≡◌};
-ghost use Rattle.profile.specs.Revisions.{meeting_cmp, place_cmp, part_cmp};
+ghost use Rattle.profile.specs.rooms.Revisions.{meeting_cmp, place_cmp, part_cmp};
 
 use ical_values::{Address, Sequence, Stamp, Text};
 use std::alloc::AllocError;

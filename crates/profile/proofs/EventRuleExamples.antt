@@ -4,14 +4,14 @@ use Rattle.std.specs.Prelude.{Some, None}
 use Rattle.std.proofs.lemmas.Int.{ints}
 use Rattle.std.proofs.lemmas.Bool.{true≢false}
 use Rattle.std.proofs.lemmas.List.Elements.{All-from_recursion}
-use Rattle.profile.specs.Days.{Daily, Weekly, days_before_year, days_of_months, greatest, year_of, month_of, year_days_before, year_days_after, month_days_before, month_days_after, weekday_of, period_of}
-use Rattle.profile.specs.Trees.{Tree}
-use Rattle.profile.specs.Values.{SpellsStamp}
-use Rattle.profile.specs.Rules.{RuleText, UntilDay, UntilLocal, UntilInstant, rule_of, is_rule_day, is_within_count, is_counted, is_placed, mates_before, mates_after, is_mate, count_days, is_base, is_in_step, passes, passes_month, passes_month_day, passes_weekday, last_rule_day, go_together}
-use Rattle.profile.specs.RuleTexts.{rule_parts, after_key, SpellsRule, IsKnownPart, Count, ByDay}
-use Rattle.profile.specs.Zones.{Zone, Constant, Means}
-use Rattle.profile.specs.ZonedTimes.{EventTimes}
-use Rattle.profile.specs.EventRules.{IsLastAllowed, AllowsNone, SaysEventRule, EventRuleFault, two_rules, starts_outside}
+use Rattle.profile.specs.series.Days.{Daily, Weekly, days_before_year, days_of_months, greatest, year_of, month_of, year_days_before, year_days_after, month_days_before, month_days_after, weekday_of, period_of}
+use Rattle.profile.specs.text.Trees.{Tree}
+use Rattle.profile.specs.text.Values.{SpellsStamp}
+use Rattle.profile.specs.series.Rules.{RuleText, UntilDay, UntilLocal, UntilInstant, rule_of, is_rule_day, is_within_count, is_counted, is_placed, mates_before, mates_after, is_mate, count_days, is_base, is_in_step, passes, passes_month, passes_month_day, passes_weekday, last_rule_day, go_together}
+use Rattle.profile.specs.series.RuleTexts.{rule_parts, after_key, SpellsRule, IsKnownPart, Count, ByDay}
+use Rattle.profile.specs.series.Zones.{Zone, Constant, Means}
+use Rattle.profile.specs.events.ZonedTimes.{EventTimes}
+use Rattle.profile.specs.events.EventRules.{IsLastAllowed, AllowsNone, SaysEventRule, EventRuleFault, two_rules, starts_outside}
 
 -- ---- the last day that UNTIL allows
 

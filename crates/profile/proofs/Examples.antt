@@ -4,17 +4,17 @@
 use Rattle.std.proofs.Common.{◌≡◌, ◌<◌, ◌∙◌, ℕ, zero, suc, pos, true, false, List, [], ◌∷◌, ◌++◌, None, refl, codes, ap, arith, get_or, lit<}
 use Rattle.std.proofs.lemmas.Bool.{false≢true}
 use Rattle.std.proofs.lemmas.Fmt.{decimal_digit}
-use Rattle.profile.specs.Faults.{is_event_fault, is_calendar_fault, is_message_fault}
-use Rattle.profile.specs.Lines.{line_param}
-use Rattle.profile.specs.Calendars.{CalendarTextFault, in_lines, in_tree}
-use Rattle.profile.specs.Trees.{Tree, tree, none, more, vevents}
-use Rattle.profile.specs.Events.{Event, Participation, Accepted, Declined, NeedsAction, is_unread_line, has_unread, answer_named, booked_by, confirmed}
-use Rattle.profile.specs.Properties.{lines_named}
-use Rattle.profile.specs.Revisions.{Part, Whole, Set, same_meeting}
-use Rattle.profile.specs.Messages.{Accept, SinglesLimit, MethodFault, no_method, object_lines, word}
-use Rattle.profile.specs.Rooms.{Answer, Book, Claim, empty_book, is_confirmed}
-use Rattle.profile.specs.Kept.{IsKept, kept_certificate, first_parts}
-use Rattle.profile.specs.Streams.{Now, Room, moments, rooms, refused_line, AreObjects}
+use Rattle.profile.specs.faults.Faults.{is_event_fault, is_calendar_fault, is_message_fault}
+use Rattle.profile.specs.text.Lines.{line_param}
+use Rattle.profile.specs.checker.Calendars.{CalendarTextFault, in_lines, in_tree}
+use Rattle.profile.specs.text.Trees.{Tree, tree, none, more, vevents}
+use Rattle.profile.specs.events.Events.{Event, Participation, Accepted, Declined, NeedsAction, is_unread_line, has_unread, answer_named, booked_by, confirmed}
+use Rattle.profile.specs.events.Properties.{lines_named}
+use Rattle.profile.specs.rooms.Revisions.{Part, Whole, Set, same_meeting}
+use Rattle.profile.specs.rooms.Messages.{Accept, SinglesLimit, MethodFault, no_method, object_lines, word}
+use Rattle.profile.specs.rooms.Rooms.{Answer, Book, Claim, empty_book, is_confirmed}
+use Rattle.profile.specs.rooms.Kept.{IsKept, kept_certificate, first_parts}
+use Rattle.profile.specs.streams.Streams.{Now, Room, moments, rooms, refused_line, AreObjects}
 
 -- ---- lists of refusals
 

@@ -1,8 +1,8 @@
 -- Worked days, by the definitions alone.
 use Rattle.std.proofs.Common.{◌≡◌, ℕ, ℤ, pos, negsuc, refl, List, [], ◌∷◌, Option, Some, None, filter}
 use Rattle.std.specs.List.{range_with_len}
-use Rattle.profile.specs.Days.{Frequency, Daily, Weekly, Monthly, Yearly, day_index, greatest, year_of, month_of, year_days_before, year_days_after, month_days_before, month_days_after, weekday_of, period_of, days_of_months}
-use Rattle.profile.specs.Rules.{WeekdayNumber, Parts, is_rule_day, is_within_count, is_counted, is_placed, mates_before, mates_after, is_mate, count_days, is_base, is_in_step, passes, passes_month, passes_month_day, passes_weekday, last_rule_day}
+use Rattle.profile.specs.series.Days.{Frequency, Daily, Weekly, Monthly, Yearly, day_index, greatest, year_of, month_of, year_days_before, year_days_after, month_days_before, month_days_after, weekday_of, period_of, days_of_months}
+use Rattle.profile.specs.series.Rules.{WeekdayNumber, Parts, is_rule_day, is_within_count, is_counted, is_placed, mates_before, mates_after, is_mate, count_days, is_base, is_in_step, passes, passes_month, passes_month_day, passes_weekday, last_rule_day}
 
 -- 2025-01-01 is a Wednesday
 wednesday : weekday_of (day_index (pos 20_089)) ≡ 2

@@ -3,11 +3,11 @@ use Rattle.std.proofs.Common.{◌≡◌, ℕ, IsTrue, refl, ap, inl, inr, List, 
 use Rattle.std.proofs.lemmas.Bool.Decides.{nat_tests}
 use Rattle.std.proofs.lemmas.Fmt.{decimal_digit}
 use Rattle.std.proofs.lemmas.List.Elements.{All-from_recursion}
-use Rattle.profile.specs.Faults.{is_between}
-use Rattle.profile.specs.Days.{Frequency, Daily, Weekly, Monthly, Yearly, days_before_year, days_of_months}
-use Rattle.profile.specs.Rules.{RuleText, UntilDay, go_together}
-use Rattle.profile.specs.Values.{SpellsDate}
-use Rattle.profile.specs.RuleTexts.{Interval, Count, EndsAt, WeekStart, ByMonth, ByMonthDay, ByDay, BySetPosition, rule_parts, after_key, frequency_word, IsKnownPart, SpellsRule, RuleFault, unknown, bad_value, apart, two_ends, no_frequency, twice, months_from, numbers_from, entries_from, rule_text}
+use Rattle.profile.specs.faults.Faults.{is_between}
+use Rattle.profile.specs.series.Days.{Frequency, Daily, Weekly, Monthly, Yearly, days_before_year, days_of_months}
+use Rattle.profile.specs.series.Rules.{RuleText, UntilDay, go_together}
+use Rattle.profile.specs.text.Values.{SpellsDate}
+use Rattle.profile.specs.series.RuleTexts.{Interval, Count, EndsAt, WeekStart, ByMonth, ByMonthDay, ByDay, BySetPosition, rule_parts, after_key, frequency_word, IsKnownPart, SpellsRule, RuleFault, unknown, bad_value, apart, two_ends, no_frequency, twice, months_from, numbers_from, entries_from, rule_text}
 
 -- ---- FREQ=WEEKLY;INTERVAL=2;COUNT=4;BYDAY=TU,SU;WKST=MO, of RFC 5545 3.8.5.3
 

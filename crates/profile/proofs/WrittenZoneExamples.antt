@@ -3,11 +3,11 @@ use Rattle.std.proofs.Common.{◌≡◌, ℕ, ◌+◌, ◌*◌, ◌≤◌, pos, 
 use Rattle.std.proofs.lemmas.Int.{ints}
 use Rattle.std.specs.Fmt.{digits}
 use Rattle.std.specs.Prelude.{Some, None}
-use Rattle.profile.specs.Days.{IsDate, number_of_date, days_before_year, days_of_months}
-use Rattle.profile.specs.Values.{SpellsTime, WritesLocal, WritesOffset, two_digits, four_digits}
-use Rattle.profile.specs.Zones.{Observance, Constant, Single, Pair, local_time}
-use Rattle.profile.specs.ZoneTexts.{YearRule, OnDay, FromStart, FromEnd, InWeek, year_pattern}
-use Rattle.profile.specs.WrittenZones.{rule_lines, WritesZone}
+use Rattle.profile.specs.series.Days.{IsDate, number_of_date, days_before_year, days_of_months}
+use Rattle.profile.specs.text.Values.{SpellsTime, WritesLocal, WritesOffset, two_digits, four_digits}
+use Rattle.profile.specs.series.Zones.{Observance, Constant, Single, Pair, local_time}
+use Rattle.profile.specs.series.ZoneTexts.{YearRule, OnDay, FromStart, FromEnd, InWeek, year_pattern}
+use Rattle.profile.specs.written.WrittenZones.{rule_lines, WritesZone}
 
 -- ---- rules
 

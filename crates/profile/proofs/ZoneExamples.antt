@@ -1,9 +1,9 @@
 -- Worked zones, by the definitions alone: New York in 2025.
 use Rattle.std.proofs.Common.{◌≡◌, ℕ, ℤ, pos, negsuc, refl, [], ◌∷◌, Some, filter, inl, inr}
 use Rattle.std.specs.List.{range_with_len}
-use Rattle.profile.specs.Days.{Yearly, day_index, greatest, year_of, month_of, year_days_before, year_days_after, month_days_before, month_days_after, weekday_of, period_of, days_of_months}
-use Rattle.profile.specs.Rules.{Pattern, is_base, is_in_step, passes, passes_month, passes_month_day, passes_weekday}
-use Rattle.profile.specs.Zones.{Observance, Pair, Onset, IsZoneOnset, begins_on}
+use Rattle.profile.specs.series.Days.{Yearly, day_index, greatest, year_of, month_of, year_days_before, year_days_after, month_days_before, month_days_after, weekday_of, period_of, days_of_months}
+use Rattle.profile.specs.series.Rules.{Pattern, is_base, is_in_step, passes, passes_month, passes_month_day, passes_weekday}
+use Rattle.profile.specs.series.Zones.{Observance, Pair, Onset, IsZoneOnset, begins_on}
 
 -- FREQ=YEARLY;BYMONTH=m;BYDAY=kSU
 sunday : ℕ → ℤ → ℕ → Pattern

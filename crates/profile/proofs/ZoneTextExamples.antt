@@ -1,12 +1,12 @@
 -- Worked VTIMEZONEs, by the definitions alone.
 use Rattle.std.proofs.Common.{◌≡◌, ℕ, ℤ, pos, negsuc, zero, suc, refl, inl, inr, true, false, List, [], ◌∷◌, codes, subst, arith}
 use Rattle.std.specs.Prelude.{Some, None, Contains}
-use Rattle.profile.specs.Days.{Yearly, days_before_year, days_of_months}
-use Rattle.profile.specs.Rules.{WeekdayNumber, RuleText}
-use Rattle.profile.specs.Trees.{Tree, tree, none, more}
-use Rattle.profile.specs.Values.{SpellsLocal, SpellsOffset}
-use Rattle.profile.specs.Zones.{Observance, Constant, local_time}
-use Rattle.profile.specs.ZoneTexts.{parts_by, is_part, is_daylight, SaysTimes, SaysZone, ZoneFault, Keeps, FromStart, FromEnd, InWeek, is_each_year, names_days, is_one_day, constant, no_part, in_part, dates}
+use Rattle.profile.specs.series.Days.{Yearly, days_before_year, days_of_months}
+use Rattle.profile.specs.series.Rules.{WeekdayNumber, RuleText}
+use Rattle.profile.specs.text.Trees.{Tree, tree, none, more}
+use Rattle.profile.specs.text.Values.{SpellsLocal, SpellsOffset}
+use Rattle.profile.specs.series.Zones.{Observance, Constant, local_time}
+use Rattle.profile.specs.series.ZoneTexts.{parts_by, is_part, is_daylight, SaysTimes, SaysZone, ZoneFault, Keeps, FromStart, FromEnd, InWeek, is_each_year, names_days, is_one_day, constant, no_part, in_part, dates}
 
 -- ---- days
 

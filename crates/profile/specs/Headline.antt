@@ -2,12 +2,12 @@
 -- `yes_means_free` of clash_check. That the program does what is said here of runs and of the checker's yes is what the contracts of
 -- `Room::take`, `Room::calendar_text`, `Room::certificate_text` and `check` say.
 use Rattle.std.specs.Prelude.{◌≡◌, ◌↔◌, ◌≤◌, ℕ, ℤ, ◌<ℤ◌, List, Contains, AllPairs, IsTrue, length, nat_lt}
-use Rattle.profile.specs.Instances.{Key, Booked, IsWithin, IsClear, horizon}
-use Rattle.profile.specs.Calendars.{CertificateHolds, SpellsCalendar}
-use Rattle.profile.specs.Messages.{Outcome, Accept, Busy}
-use Rattle.profile.specs.Rooms.{Book, Claim, Delivery, Runs, IsStep, NamesClash, asked, confirmed, if_accepted, empty_book, most_singles}
-use Rattle.profile.specs.Streams.{IsDelivered}
-use Rattle.profile.specs.Kept.{IsKeptCalendar, kept_certificate}
+use Rattle.profile.specs.checker.Instances.{Key, Booked, IsWithin, IsClear, horizon}
+use Rattle.profile.specs.checker.Calendars.{CertificateHolds, SpellsCalendar}
+use Rattle.profile.specs.rooms.Messages.{Outcome, Accept, Busy}
+use Rattle.profile.specs.rooms.Rooms.{Book, Claim, Delivery, Runs, IsStep, NamesClash, asked, confirmed, if_accepted, empty_book, most_singles}
+use Rattle.profile.specs.streams.Streams.{IsDelivered}
+use Rattle.profile.specs.rooms.Kept.{IsKeptCalendar, kept_certificate}
 
 -- Whatever messages come, in any order and repeated, each room's kept calendar and certificate pass the checker:
 abbrev pub KeptTextsPass : Type 0

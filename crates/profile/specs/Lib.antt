@@ -1,31 +1,18 @@
--- what texts and lines are
-pub mod Faults
-pub mod Lines
-pub mod First
-pub mod Trees
-pub mod Objects
--- what values and events say
-pub mod Days
-pub mod Values
-pub mod Properties
-pub mod Instances
-pub mod Events
--- the checker's yes
-pub mod Certificates
-pub mod Calendars
--- what a room takes, decides and keeps
-pub mod Revisions
-pub mod Messages
-pub mod Rooms
-pub mod Kept
-pub mod Streams
+-- the headline, and below it what it stands on, by what a reader wants to believe
 pub mod Headline
--- rules and zones
-pub mod Rules
-pub mod RuleTexts
-pub mod Zones
-pub mod ZoneTexts
-pub mod WrittenZones
-pub mod ZonedTimes
-pub mod EventRules
-pub mod Series
+-- what a yes of the checker means
+pub mod checker
+-- what a room takes, decides and keeps
+pub mod rooms
+-- what is written for a stream
+pub mod streams
+-- what the lines of a VEVENT say
+pub mod events
+-- days, rules and zones
+pub mod series
+-- what octets, lines, components and values are
+pub mod text
+-- the numbers of refusals, and which comes first
+pub mod faults
+-- the written form of a zone
+pub mod written

@@ -10,8 +10,8 @@ use Rattle.std.proofs.lemmas.Map.Text.{is_eq-slice_cmp}
 use Rattle.std.proofs.lemmas.Slice.Eq.{bytes_eq-Decides}
 use Rattle.indexmap.specs.IndexMap.{insert_entry}
 use Rattle.ical_values.specs.Octets.{address_octets, text_octets}
-use Rattle.profile.specs.Revisions.{Part, same_meeting, octets_cmp}
-use Rattle.profile.specs.Kept.{first_parts}
+use Rattle.profile.specs.rooms.Revisions.{Part, same_meeting, octets_cmp}
+use Rattle.profile.specs.rooms.Kept.{first_parts}
 use Rattle.room_books.specs.declared.meeting.MeetingKey.{MeetingKey}
 use Rattle.room_books.specs.declared.meeting.Meeting.{Meeting}
 use Rattle.room_books.specs.Views.{same_key}

@@ -11,11 +11,11 @@ use Rattle.std.proofs.lemmas.List.Folds.{list_all-append}
 use Rattle.std.proofs.lemmas.List.Splits.{slice_split_at, length-slice_split}
 use Rattle.std.proofs.lemmas.Str.{IsUtf8-append, IsUtf8-from_ascii}
 use Rattle.std.proofs.lemmas.Str.Ascii.{IsAscii-cons, IsAscii-nil}
-use Rattle.profile.specs.Events.{Event}
-use Rattle.profile.specs.Properties.{length_seconds}
-use Rattle.profile.specs.Messages.{IsContent, canonical}
-use Rattle.profile.specs.Revisions.{Body, Set, Absent, Cancelled}
-use Rattle.profile.specs.Values.{duration_text}
+use Rattle.profile.specs.events.Events.{Event}
+use Rattle.profile.specs.events.Properties.{length_seconds}
+use Rattle.profile.specs.rooms.Messages.{IsContent, canonical}
+use Rattle.profile.specs.rooms.Revisions.{Body, Set, Absent, Cancelled}
+use Rattle.profile.specs.text.Values.{duration_text}
 use Rattle.ical_lines.proofs.CleanLines.{is_shown, clean_shown}
 use Rattle.ical_values.proofs.ShownValues.{shown_stamp}
 use Rattle.itip_messages.proofs.CleanText.{shown_duration}

@@ -4,12 +4,12 @@ use Rattle.std.specs.Prelude.{slice_get, unwrap_or}
 use Rattle.std.specs.Option.{option_to_list}
 use Rattle.std.specs.Prelude.{Vec, vec_len}
 use Rattle.std.proofs.lemmas.Grind.{common_steps}
-use Rattle.profile.specs.Events.{Event, booked_by}
-use Rattle.profile.specs.Messages.{AreParts, IsPart}
-use Rattle.profile.specs.Properties.{length_seconds}
-use Rattle.profile.specs.Streams.{AreClaims}
-use Rattle.profile.specs.Revisions.{Part, Whole}
-use Rattle.profile.specs.Rooms.{Claim, Book, is_set, is_set_body}
+use Rattle.profile.specs.events.Events.{Event, booked_by}
+use Rattle.profile.specs.rooms.Messages.{AreParts, IsPart}
+use Rattle.profile.specs.events.Properties.{length_seconds}
+use Rattle.profile.specs.streams.Streams.{AreClaims}
+use Rattle.profile.specs.rooms.Revisions.{Part, Whole}
+use Rattle.profile.specs.rooms.Rooms.{Claim, Book, is_set, is_set_body}
 use Rattle.itip_order.specs.Parts.{parts_of}
 use Rattle.itip_order.specs.declared.part.Part.{Part as HeldPart}
 use Rattle.itip_messages.specs.declared.message.Message.{Message}
@@ -17,12 +17,12 @@ use Rattle.itip_messages.specs.declared.message.MessageComponent.{MessageCompone
 use Rattle.itip_messages.specs.Messages.{StandsFor}
 use Rattle.room_books.specs.declared.meeting.MeetingKey.{MeetingKey}
 use Rattle.room_books.specs.declared.meeting.Meeting.{Meeting}
-use Rattle.room_books.specs.declared.meeting.Span.{Span}
+use Rattle.cal_events.specs.declared.sweep.Span.{Span}
 use Rattle.room_books.specs.declared.answer.Answer.{Answer}
 use Rattle.room_books.specs.declared.answer.Kind.{Kind}
 use Rattle.room_books.specs.declared.answer.Kind.TheVariants.{NotAddressed}
 use Rattle.room_books.specs.Takings.{kind_view, reply_octets}
-use Rattle.profile.specs.Kept.{Replies}
+use Rattle.profile.specs.rooms.Kept.{Replies}
 use Rattle.room_books.specs.Standing.{Stands, StepsTo, StepsWith, body_lines, claim_of, part_list, span_said}
 use Rattle.room_books.proofs.Bodies.{body_of}
 use Rattle.room_books.proofs.Steps.{none_steps}

@@ -8,7 +8,7 @@ use Rattle.room_books.specs.declared.meeting.Meeting.{Meeting}
 use Rattle.room_books.specs.declared.meeting.Decided.{Decided}
 use Rattle.room_books.specs.declared.meeting.Outcome.{Outcome}
 use Rattle.room_books.specs.declared.meeting.Outcome.TheVariants.{Accepted, Declined, Limit}
-use Rattle.room_books.specs.declared.meeting.Span.{Span}
+use Rattle.cal_events.specs.declared.sweep.Span.{Span}
 use Rattle.room_books.specs.declared.taking.Asked.{Asked}
 use Rattle.room_books.specs.declared.taking.Taken.{Taken}
 use Rattle.room_books.specs.Views.{same_key, booked_of, others, confirmed_span, span_where, IsDecision}

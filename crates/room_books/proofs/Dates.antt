@@ -8,13 +8,13 @@ use Rattle.std.proofs.lemmas.List.Elements.{Contains-append_cases}
 use Rattle.std.proofs.lemmas.Map.Views.{lookup-from_Contains}
 use Rattle.clash_cert.specs.Makings.{HasKeys}
 use Rattle.itip_order.proofs.Lists.{in_cons, in_head, in_tail, none_in_nil, filter_at}
-use Rattle.profile.specs.Instances.{Key, Booked, booked_cmp}
-use Rattle.profile.specs.Values.{IsClockSeconds}
-use Rattle.profile.specs.Rooms.{Book, is_accept}
+use Rattle.profile.specs.checker.Instances.{Key, Booked, booked_cmp}
+use Rattle.profile.specs.text.Values.{IsClockSeconds}
+use Rattle.profile.specs.rooms.Rooms.{Book, is_accept}
 use Rattle.room_books.specs.declared.meeting.MeetingKey.{MeetingKey}
 use Rattle.room_books.specs.declared.meeting.Meeting.{Meeting}
 use Rattle.room_books.specs.declared.meeting.Decided.{Decided}
-use Rattle.room_books.specs.declared.meeting.Span.{Span}
+use Rattle.cal_events.specs.declared.sweep.Span.{Span}
 use Rattle.room_books.specs.declared.meeting.Outcome.{Outcome}
 use Rattle.room_books.specs.declared.meeting.Outcome.TheVariants.{Accepted, Declined, Limit}
 use Rattle.room_books.specs.declared.answer.LimitKind.TheVariants.{Series, Singles}

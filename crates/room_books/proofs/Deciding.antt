@@ -1,8 +1,8 @@
 -- Instants that two spans share.
 use Rattle.std.proofs.Common.{◌≡◌, ℤ, ◌≤ℤ◌, ◌<ℤ◌, inl, inr, sym, ◌∙◌, subst, arith}
 use Rattle.std.proofs.lemmas.Int.{ints}
-use Rattle.profile.specs.Instances.{horizon}
-use Rattle.room_books.specs.declared.meeting.Span.{Span}
+use Rattle.profile.specs.checker.Instances.{horizon}
+use Rattle.cal_events.specs.declared.sweep.Span.{Span}
 use Rattle.room_books.specs.Views.{HaveInstant, IsLater, Overlap}
 
 -- there is one later start

@@ -1,9 +1,9 @@
 -- Worked examples of the definitions of a room: a request that is accepted, one that is declined, and a repeat.
 use Rattle.std.proofs.Common.{◌≡◌, ℕ, pos, [], ◌∷◌, refl}
-use Rattle.profile.specs.Instances.{Key, Booked}
-use Rattle.profile.specs.Revisions.{Part, Whole, At, Body, Set, Absent, Cancelled}
-use Rattle.profile.specs.Messages.{Accept, Busy, SinglesLimit}
-use Rattle.profile.specs.Rooms.{Claim, Book, confirmed, asked, kind_of, shown, answered, Accepted, Declined, Repeated, Stale, NotAddressed}
+use Rattle.profile.specs.checker.Instances.{Key, Booked}
+use Rattle.profile.specs.rooms.Revisions.{Part, Whole, At, Body, Set, Absent, Cancelled}
+use Rattle.profile.specs.rooms.Messages.{Accept, Busy, SinglesLimit}
+use Rattle.profile.specs.rooms.Rooms.{Claim, Book, confirmed, asked, kind_of, shown, answered, Accepted, Declined, Repeated, Stale, NotAddressed}
 use Rattle.room_books.specs.Keeping.{kept}
 
 -- a meeting of the organiser `a`, booked from nine to ten

@@ -16,15 +16,15 @@ use Rattle.itip_messages.specs.Replies.{IsStampLine}
 use Rattle.itip_order.specs.Registers.{IsView}
 use Rattle.itip_order.proofs.Lists.{in_head, in_tail, filter_at}
 use Rattle.itip_order.proofs.Registers.{greatest_at, greatest_unique}
-use Rattle.profile.specs.Kept.{first_parts, IsKeptEvent, AreKept}
-use Rattle.profile.specs.Lines.{written, folded}
-use Rattle.profile.specs.Revisions.{Part, Set, Whole, in_view}
-use Rattle.profile.specs.Messages.{canonical}
-use Rattle.profile.specs.Rooms.{Claim, Answer, Book, is_confirmed, confirmed}
-use Rattle.profile.specs.Values.{WritesStamp, escaped}
+use Rattle.profile.specs.rooms.Kept.{first_parts, IsKeptEvent, AreKept}
+use Rattle.profile.specs.text.Lines.{written, folded}
+use Rattle.profile.specs.rooms.Revisions.{Part, Set, Whole, in_view}
+use Rattle.profile.specs.rooms.Messages.{canonical}
+use Rattle.profile.specs.rooms.Rooms.{Claim, Answer, Book, is_confirmed, confirmed}
+use Rattle.profile.specs.text.Values.{WritesStamp, escaped}
 use Rattle.room_books.specs.declared.meeting.MeetingKey.{MeetingKey}
 use Rattle.room_books.specs.declared.meeting.Meeting.{Meeting}
-use Rattle.room_books.specs.declared.meeting.Span.{Span}
+use Rattle.cal_events.specs.declared.sweep.Span.{Span}
 use Rattle.room_books.specs.Views.{same_key, booked_list, confirmed_span, all_confirmed}
 use Rattle.room_books.specs.Standing.{is_of, of_meeting, answers_of, Meets, MeetsAt, Stands, IsOfEvent, body_lines}
 use Rattle.room_books.specs.Keeping.{WritesAnswers, WritesEvent, kept_of, kept_parts, kept, claims_of}

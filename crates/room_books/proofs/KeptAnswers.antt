@@ -3,16 +3,16 @@ use Rattle.std.proofs.Common.{◌≡◌, ◌∙◌, ℕ, ◌<◌, ◌^◌, Bool,
 use Rattle.std.specs.List.{list_all, Contains, AllZip}
 use Rattle.std.specs.Str.{bytes_eq}
 use Rattle.std.proofs.lemmas.Slice.Eq.{bytes_eq-Decides}
-use Rattle.profile.specs.Lines.{is_content, line_value, logical_lines}
-use Rattle.profile.specs.Trees.{Tree, vevents}
-use Rattle.profile.specs.Objects.{is_property}
-use Rattle.profile.specs.Values.{IsAddress, SpellsSequence, escaped, lower_case, duration_text}
-use Rattle.profile.specs.Instances.{Booked}
-use Rattle.profile.specs.Events.{Event, SaysEvent, SaysSequence, IsAttendee, has_unread, is_confirmed, booked_by, meeting_said}
-use Rattle.profile.specs.Properties.{Says, BothOrNeither, StandsAtMostOnce, IsAddressLine, IsUidLine, IsSequenceLine, is_of, lines_named}
-use Rattle.profile.specs.Messages.{SpellsRequest, IsPart, names_room}
-use Rattle.profile.specs.Rooms.{Claim, Answer}
-use Rattle.profile.specs.Kept.{IsKeptEvent}
+use Rattle.profile.specs.text.Lines.{is_content, line_value, logical_lines}
+use Rattle.profile.specs.text.Trees.{Tree, vevents}
+use Rattle.profile.specs.text.Objects.{is_property}
+use Rattle.profile.specs.text.Values.{IsAddress, SpellsSequence, escaped, lower_case, duration_text}
+use Rattle.profile.specs.checker.Instances.{Booked}
+use Rattle.profile.specs.events.Events.{Event, SaysEvent, SaysSequence, IsAttendee, has_unread, is_confirmed, booked_by, meeting_said}
+use Rattle.profile.specs.events.Properties.{Says, BothOrNeither, StandsAtMostOnce, IsAddressLine, IsUidLine, IsSequenceLine, is_of, lines_named}
+use Rattle.profile.specs.rooms.Messages.{SpellsRequest, IsPart, names_room}
+use Rattle.profile.specs.rooms.Rooms.{Claim, Answer}
+use Rattle.profile.specs.rooms.Kept.{IsKeptEvent}
 use Rattle.itip_order.proofs.Lists.{in_cons, in_head, in_tail, none_in_nil, filter_at, any_at}
 use Rattle.ical_values.proofs.Addresses.{lower_twice}
 use Rattle.ical_values.proofs.Escapes.{read_back}

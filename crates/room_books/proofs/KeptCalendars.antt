@@ -2,20 +2,20 @@
 use Rattle.std.proofs.Common.{◌≡◌, ◌≢◌, ◌∙◌, ℕ, true, false, List, [], ◌∷◌, ◌++◌, length, map, None, refl, sym, ap, ap₂, subst, arith, cond, suc}
 use Rattle.std.specs.List.{filter, flat_map, list_all, list_any, Contains, AllPairs, AllZip}
 use Rattle.std.proofs.lemmas.Bool.{and_from, or_from}
-use Rattle.profile.specs.Lines.{is_content, logical_lines, reads_as_lines, written}
-use Rattle.profile.specs.Objects.{is_property, IsObject}
-use Rattle.profile.specs.Trees.{Tree, tree_name, tree_own, tree_inside}
-use Rattle.profile.specs.Events as events
-use Rattle.profile.specs.Events.{Event, SaysEvent, SaysCalendar, has_unread, booked_by, meeting_said}
-use Rattle.profile.specs.Calendars.{SpellsCalendar, CertificateHolds}
-use Rattle.profile.specs.Instances.{Booked}
-use Rattle.profile.specs.Messages.{object_lines}
-use Rattle.profile.specs.Rooms.{Claim, Answer, Book, Delivery, Runs, empty_book, confirmed, is_confirmed}
-use Rattle.profile.specs.Kept.{AreKept, IsKept, IsKeptEvent, IsKeptCalendar, kept_certificate, first_parts}
-use Rattle.profile.specs.Revisions.{Part, Whole}
+use Rattle.profile.specs.text.Lines.{is_content, logical_lines, reads_as_lines, written}
+use Rattle.profile.specs.text.Objects.{is_property, IsObject}
+use Rattle.profile.specs.text.Trees.{Tree, tree_name, tree_own, tree_inside}
+use Rattle.profile.specs.events.Events as events
+use Rattle.profile.specs.events.Events.{Event, SaysEvent, SaysCalendar, has_unread, booked_by, meeting_said}
+use Rattle.profile.specs.checker.Calendars.{SpellsCalendar, CertificateHolds}
+use Rattle.profile.specs.checker.Instances.{Booked}
+use Rattle.profile.specs.rooms.Messages.{object_lines}
+use Rattle.profile.specs.rooms.Rooms.{Claim, Answer, Book, Delivery, Runs, empty_book, confirmed, is_confirmed}
+use Rattle.profile.specs.rooms.Kept.{AreKept, IsKept, IsKeptEvent, IsKeptCalendar, kept_certificate, first_parts}
+use Rattle.profile.specs.rooms.Revisions.{Part, Whole}
 use Rattle.room_books.specs.Keeping.{kept, claims_of}
 use Rattle.room_books.proofs.KeptClaims.{apart_few, kept_claims}
-use Rattle.profile.specs.Streams.{IsDelivered}
+use Rattle.profile.specs.streams.Streams.{IsDelivered}
 use Rattle.std.specs.Prelude.{◌↔◌}
 use Rattle.itip_order.proofs.Lists.{in_head, in_tail, filter_at, filter_from}
 use Rattle.room_books.proofs.Runs.{Good, IsWithin, within_good}

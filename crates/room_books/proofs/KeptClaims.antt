@@ -6,9 +6,9 @@ use Rattle.std.specs.Ordering.{is_eq}
 use Rattle.std.proofs.lemmas.Bool.{and_parts, and_from, true≢false}
 use Rattle.std.proofs.lemmas.List.{length-map, map-append}
 use Rattle.itip_order.proofs.Lists.{in_cons, in_head, in_tail, none_in_nil, filter_at, filter_from}
-use Rattle.profile.specs.Revisions.{Part, Whole, slot_cmp, same_meeting}
-use Rattle.profile.specs.Rooms.{Claim, Answer, Book, is_confirmed}
-use Rattle.profile.specs.Kept.{first_parts, IsKept, AreKeptOf, AreKept}
+use Rattle.profile.specs.rooms.Revisions.{Part, Whole, slot_cmp, same_meeting}
+use Rattle.profile.specs.rooms.Rooms.{Claim, Answer, Book, is_confirmed}
+use Rattle.profile.specs.rooms.Kept.{first_parts, IsKept, AreKeptOf, AreKept}
 use Rattle.room_books.specs.Keeping.{kept_of, kept_parts, kept, claims_of}
 use Rattle.room_books.proofs.Pairs.{Pairwise, pairs_from, pairs_short, map_at, map_from, pairs_filter, filter_and}
 use Rattle.room_books.proofs.KeptMeetings.{AnswersApart, of_part, meeting_sym, meeting_trans}

@@ -3,12 +3,12 @@ use Rattle.std.proofs.Common.{◌≡◌, ℕ, ℤ, negsuc, ◌≤◌, ◌≤ℤ�
 use Rattle.std.specs.Str.{bytes_eq}
 use Rattle.std.specs.Prelude.{unwrap_or, option_map}
 use Rattle.std.proofs.lemmas.Slice.Eq.{bytes_eq-Decides}
-use Rattle.profile.specs.Values.{SpellsStamp, SpellsSequence, SpellsDuration, unescaped, IsAddress, IsUid, lower_case}
+use Rattle.profile.specs.text.Values.{SpellsStamp, SpellsSequence, SpellsDuration, unescaped, IsAddress, IsUid, lower_case}
 use Rattle.std.proofs.lemmas.Bool.{false≢true}
-use Rattle.profile.specs.Trees.{Tree}
-use Rattle.profile.specs.Instances.{horizon}
-use Rattle.profile.specs.Events.{Event, Attendee, Accepted, SaysEvent, has_unread, is_confirmed, booked_by, is_accepted}
-use Rattle.profile.specs.Properties.{length_seconds}
+use Rattle.profile.specs.text.Trees.{Tree}
+use Rattle.profile.specs.checker.Instances.{horizon}
+use Rattle.profile.specs.events.Events.{Event, Attendee, Accepted, SaysEvent, has_unread, is_confirmed, booked_by, is_accepted}
+use Rattle.profile.specs.events.Properties.{length_seconds}
 use Rattle.cal_events.proofs.Meanings.{utc_means}
 
 -- the own lines of a kept VEVENT with these values

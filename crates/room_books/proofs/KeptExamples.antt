@@ -2,28 +2,28 @@
 use Rattle.std.proofs.Common.{◌≡◌, ℕ, pos, true, List, [], ◌∷◌, ◌++◌, codes, Some, None, inl, inr, refl, sym, ap, subst, arith, ◌∙◌, ◌≤◌, length}
 use Rattle.std.specs.List.{Contains}
 use Rattle.std.specs.Str.{is_utf8, chars}
-use Rattle.profile.specs.Lines.{logical_lines, reads_as_lines, written}
-use Rattle.profile.specs.Values.{SpellsDuration, IsAddress, unescaped}
+use Rattle.profile.specs.text.Lines.{logical_lines, reads_as_lines, written}
+use Rattle.profile.specs.text.Values.{SpellsDuration, IsAddress, unescaped}
 use Rattle.std.specs.Fmt.{digits}
 use Rattle.std.proofs.lemmas.Int.{ints}
 use Rattle.std.proofs.lemmas.Bool.{false≢true}
 use lib.Utf8.{encode}
-use Rattle.profile.specs.Trees.{Tree, tree, none, more, tree_name, tree_own, tree_inside}
-use Rattle.profile.specs.Objects.{IsObject}
-use Rattle.profile.specs.Instances.{Booked, IsClear}
-use Rattle.profile.specs.Events.{Event, NeedsAction, SaysEvent, booked_by}
-use Rattle.profile.specs.Messages.{SpellsRequest, IsPart, Accept, canonical, object_lines}
-use Rattle.profile.specs.Revisions.{Part, Whole, Set}
-use Rattle.profile.specs.Rooms.{Book, Claim, Delivery, Runs, empty_book, confirmed, answered}
-use Rattle.profile.specs.Streams.{IsDelivered}
-use Rattle.profile.specs.Kept.{IsKeptCalendar}
+use Rattle.profile.specs.text.Trees.{Tree, tree, none, more, tree_name, tree_own, tree_inside}
+use Rattle.profile.specs.text.Objects.{IsObject}
+use Rattle.profile.specs.checker.Instances.{Booked, IsClear}
+use Rattle.profile.specs.events.Events.{Event, NeedsAction, SaysEvent, booked_by}
+use Rattle.profile.specs.rooms.Messages.{SpellsRequest, IsPart, Accept, canonical, object_lines}
+use Rattle.profile.specs.rooms.Revisions.{Part, Whole, Set}
+use Rattle.profile.specs.rooms.Rooms.{Book, Claim, Delivery, Runs, empty_book, confirmed, answered}
+use Rattle.profile.specs.streams.Streams.{IsDelivered}
+use Rattle.profile.specs.rooms.Kept.{IsKeptCalendar}
 use Rattle.room_books.specs.Keeping.{kept_of}
 use Rattle.room_books.proofs.KeptClaims.{claims_kept}
 use Rattle.cal_events.proofs.Meanings.{utc_means}
 use Rattle.itip_order.proofs.Lists.{in_cons, none_in_nil}
 use Rattle.ical_values.proofs.Readings.{stamp_written}
 use Rattle.itip_messages.proofs.ReplyExamples.{stamp, start}
-use Rattle.profile.specs.Objects.SpellsBody.{nothing, property}
+use Rattle.profile.specs.text.Objects.SpellsBody.{nothing, property}
 use Rattle.itip_messages.proofs.ObjectTree.{Lines, vevent_lines, parts_more}
 
 -- ---- the message

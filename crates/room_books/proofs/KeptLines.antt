@@ -2,8 +2,8 @@
 use Rattle.std.proofs.Common.{◌≡◌, ℕ, true, List, ◌++◌, length, codes, refl, arith, lt-ltb}
 use Rattle.std.specs.List.{list_all}
 use Rattle.std.proofs.lemmas.Bool.{and_from}
-use Rattle.profile.specs.Lines.{is_content}
-use Rattle.profile.specs.Objects.{is_property}
+use Rattle.profile.specs.text.Lines.{is_content}
+use Rattle.profile.specs.text.Objects.{is_property}
 use Rattle.ical_lines.proofs.CleanLines.{IsClean, valued, start_line}
 use Rattle.itip_messages.proofs.ContentLines.{uid_line, sequence_line, stamp_line, organiser_line, accepted_line}
 use Rattle.room_books.proofs.KeptEvents.{kept_own}

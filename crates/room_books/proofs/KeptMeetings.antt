@@ -5,9 +5,9 @@ use Rattle.std.specs.List.{filter, flat_map, Contains, AllPairs}
 use Rattle.std.proofs.lemmas.Bool.{not-true, both_ways, cases_Bool, false_from_ne_true, not_from_false}
 use Rattle.std.proofs.lemmas.Cmp.{tied_itself, tied_back}
 use Rattle.std.proofs.lemmas.List.Filters.{length-filter_both}
-use Rattle.profile.specs.Revisions.{Part, same_meeting, octets_cmp}
-use Rattle.profile.specs.Rooms.{Answer, Book, is_confirmed}
-use Rattle.profile.specs.Kept.{first_parts}
+use Rattle.profile.specs.rooms.Revisions.{Part, same_meeting, octets_cmp}
+use Rattle.profile.specs.rooms.Rooms.{Answer, Book, is_confirmed}
+use Rattle.profile.specs.rooms.Kept.{first_parts}
 use Rattle.room_books.specs.Keeping.{kept}
 use Rattle.itip_order.proofs.Lists.{in_cons, in_head, in_tail, none_in_nil, filter_at, filter_from}
 use Rattle.itip_order.proofs.Order.{meeting_total, is_eq_true}

@@ -8,10 +8,10 @@ use Rattle.std.proofs.lemmas.List.{take_at, drop_all, get_or_at, take-append-dro
 use Rattle.std.proofs.lemmas.List.Elements.{Contains-append_left, Contains-append_right, Contains-push, Contains-push_cases}
 use Rattle.std.proofs.lemmas.List.Folds.{list_any-append}
 use Rattle.std.proofs.lemmas.Str.{IsUtf8-take, IsUtf8-drop, IsUtf8-nil, IsUtf8-from_is_utf8, IsCharBoundary-before_ascii, IsCharBoundary-after_ascii}
-use Rattle.profile.specs.Lines.{outside_from, outside, line_value, is_control, is_faulty, has_control, ended, logical_lines, reads_as_lines}
-use Rattle.profile.specs.Trees.{Tree, tree_name, tree_own, tree_inside, vevents}
-use Rattle.profile.specs.Objects.{SpellsBody, IsObject}
-use Rattle.profile.specs.Objects.SpellsBody.{nothing, property, component}
+use Rattle.profile.specs.text.Lines.{outside_from, outside, line_value, is_control, is_faulty, has_control, ended, logical_lines, reads_as_lines}
+use Rattle.profile.specs.text.Trees.{Tree, tree_name, tree_own, tree_inside, vevents}
+use Rattle.profile.specs.text.Objects.{SpellsBody, IsObject}
+use Rattle.profile.specs.text.Objects.SpellsBody.{nothing, property, component}
 use Rattle.itip_order.proofs.Lists.{in_cons, in_tail, none_in_nil, filter_at}
 use Rattle.ical_lines.proofs.CleanLines.{IsClean}
 use Rattle.itip_messages.proofs.ObjectTree.{Lines}

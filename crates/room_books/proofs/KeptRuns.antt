@@ -5,11 +5,11 @@ use Rattle.std.specs.List.{filter, Contains}
 use Rattle.std.proofs.lemmas.Bool.{and_parts, and_from, not-true, both_ways, false_from_ne_true}
 use Rattle.std.proofs.lemmas.List.{length-map}
 use Rattle.std.proofs.lemmas.List.Elements.{Contains-append_cases, filter-append}
-use Rattle.profile.specs.Events.{Event}
-use Rattle.profile.specs.Messages.{Outcome, SpellsRequest}
-use Rattle.profile.specs.Revisions.{Part, Whole, slot_cmp, same_meeting, same_place, in_view}
-use Rattle.profile.specs.Rooms.{Claim, Answer, Book, empty_book, is_accept, is_confirmed, is_fresh, is_set, parts_of, asked, answered, IsStep, Delivery, Runs}
-use Rattle.profile.specs.Streams.{IsDelivered, AreClaims}
+use Rattle.profile.specs.events.Events.{Event}
+use Rattle.profile.specs.rooms.Messages.{Outcome, SpellsRequest}
+use Rattle.profile.specs.rooms.Revisions.{Part, Whole, slot_cmp, same_meeting, same_place, in_view}
+use Rattle.profile.specs.rooms.Rooms.{Claim, Answer, Book, empty_book, is_accept, is_confirmed, is_fresh, is_set, parts_of, asked, answered, IsStep, Delivery, Runs}
+use Rattle.profile.specs.streams.Streams.{IsDelivered, AreClaims}
 use Rattle.itip_order.proofs.Lists.{in_cons, in_head, in_tail, none_in_nil, filter_at, filter_no_longer}
 use Rattle.itip_order.proofs.Order.{is_eq_true}
 use Rattle.itip_order.proofs.Registers.{greatest_at, greatest_unique}

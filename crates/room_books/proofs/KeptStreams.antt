@@ -1,9 +1,9 @@
 -- Over a stream: each room's book is one that octets asked for, step by step.
 use Rattle.std.proofs.Common.{◌+◌, ℕ, ℤ, List, [], ◌∷◌, inl, inr, sym, subst}
 use Rattle.std.specs.List.{Contains}
-use Rattle.profile.specs.Events.{Event}
-use Rattle.profile.specs.Messages.{SpellsRequest}
-use Rattle.profile.specs.Streams.{Hosted, Takes, AllTake, Answers, AllAnswers, new_box}
+use Rattle.profile.specs.events.Events.{Event}
+use Rattle.profile.specs.rooms.Messages.{SpellsRequest}
+use Rattle.profile.specs.streams.Streams.{Hosted, Takes, AllTake, Answers, AllAnswers, new_box}
 use Rattle.itip_order.proofs.Lists.{in_cons, none_in_nil}
 use Rattle.room_books.proofs.KeptRuns.{KeepsAll, keeps_none, keeps_step, one_asked}
 

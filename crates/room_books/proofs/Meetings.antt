@@ -11,14 +11,14 @@ use Rattle.std.proofs.lemmas.List.{append-nil}
 use Rattle.std.proofs.lemmas.List.Elements.{filter-append, Contains-append_left, Contains-push, Contains-push_cases}
 use Rattle.std.proofs.lemmas.Slice.Eq.{bytes_eq-Decides}
 use Rattle.ical_values.specs.Octets.{address_octets, text_octets}
-use Rattle.profile.specs.Instances.{Booked}
-use Rattle.profile.specs.Revisions.{Part, Whole, Slot, octets_cmp, slot_cmp, meeting_cmp, part_cmp, same_place, is_whole, is_greatest, implies, allows, in_view, same_meeting, stands_beside}
-use Rattle.profile.specs.Rooms.{Answer, is_accept, is_confirmed, left_of, confirmed_in}
+use Rattle.profile.specs.checker.Instances.{Booked}
+use Rattle.profile.specs.rooms.Revisions.{Part, Whole, Slot, octets_cmp, slot_cmp, meeting_cmp, part_cmp, same_place, is_whole, is_greatest, implies, allows, in_view, same_meeting, stands_beside}
+use Rattle.profile.specs.rooms.Rooms.{Answer, is_accept, is_confirmed, left_of, confirmed_in}
 use Rattle.itip_order.proofs.Lists.{all_from, in_head, in_tail, filter_at, filter_from}
 use Rattle.itip_order.proofs.Order.{is_eq_true, then_equal}
 use Rattle.itip_order.proofs.Registers.{greatest_at, greatest_from, greatest_unique, eq_refl, place_sym, place_trans, part_le_trans, implies_from, part_le_refl}
 use Rattle.room_books.specs.declared.meeting.MeetingKey.{MeetingKey}
-use Rattle.room_books.specs.declared.meeting.Span.{Span}
+use Rattle.cal_events.specs.declared.sweep.Span.{Span}
 use Rattle.room_books.specs.Views.{same_key, booked_of}
 use Rattle.room_books.specs.Standing.{is_of, of_meeting}
 use Rattle.room_books.proofs.Views.{AllWhole, le_unless, view_back, confirmed_all}

@@ -4,10 +4,10 @@ use Rattle.std.specs.List.{Contains}
 use Rattle.std.proofs.lemmas.Bool.{both_ways}
 use Rattle.std.proofs.lemmas.List.{length-map}
 use Rattle.std.proofs.lemmas.List.Elements.{Contains-append_left, Contains-append_cases}
-use Rattle.profile.specs.Messages.{Outcome}
-use Rattle.profile.specs.Revisions.{Part, in_view}
-use Rattle.profile.specs.Rooms.{Claim, Answer, Book, empty_book, is_fresh, is_set, parts_of, asked, answered, IsStep, Delivery, Runs}
-use Rattle.profile.specs.Streams.{IsDelivered}
+use Rattle.profile.specs.rooms.Messages.{Outcome}
+use Rattle.profile.specs.rooms.Revisions.{Part, in_view}
+use Rattle.profile.specs.rooms.Rooms.{Claim, Answer, Book, empty_book, is_fresh, is_set, parts_of, asked, answered, IsStep, Delivery, Runs}
+use Rattle.profile.specs.streams.Streams.{IsDelivered}
 use Rattle.itip_order.proofs.Lists.{in_cons, in_head, in_tail, none_in_nil, filter_no_longer}
 use Rattle.room_books.proofs.Views.{view_back}
 use Rattle.room_books.proofs.KeptRuns.{OneAsked, delivered_asked, KeepsAll, keeps_step, keeps_none, new_answer}

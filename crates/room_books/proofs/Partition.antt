@@ -5,9 +5,9 @@ use Rattle.std.specs.Map.{keys_of}
 use Rattle.std.proofs.lemmas.Bool.{both_ways, not-true, false_from_ne_true}
 use Rattle.std.proofs.lemmas.List.Elements.{Contains-append_left, Contains-append_right, Contains-append_cases}
 use Rattle.std.proofs.lemmas.Map.Keys.{IsDistinct-head, IsDistinct-tail}
-use Rattle.profile.specs.Instances.{Booked}
-use Rattle.profile.specs.Revisions.{Part}
-use Rattle.profile.specs.Rooms.{Answer, is_confirmed, left_of, confirmed_in}
+use Rattle.profile.specs.checker.Instances.{Booked}
+use Rattle.profile.specs.rooms.Revisions.{Part}
+use Rattle.profile.specs.rooms.Rooms.{Answer, is_confirmed, left_of, confirmed_in}
 use Rattle.itip_order.proofs.Lists.{in_cons, in_head, in_tail, none_in_nil, filter_at}
 use Rattle.room_books.specs.declared.meeting.MeetingKey.{MeetingKey}
 use Rattle.room_books.specs.declared.meeting.Meeting.{Meeting}

@@ -13,10 +13,10 @@ use Rattle.itip_order.proofs.Lists.{none_in_nil, in_head, in_tail, in_cons, filt
 use Rattle.indexmap.specs.IndexMap.{insert_entry}
 use Rattle.itip_order.specs.declared.held.Freshness.{Freshness}
 use Rattle.itip_order.specs.declared.held.Freshness.TheVariants.{Fresh, Same, Stale}
-use Rattle.profile.specs.Instances.{Booked}
+use Rattle.profile.specs.checker.Instances.{Booked}
 use Rattle.room_books.specs.declared.meeting.MeetingKey.{MeetingKey}
 use Rattle.room_books.specs.declared.meeting.Meeting.{Meeting}
-use Rattle.room_books.specs.declared.meeting.Span.{Span}
+use Rattle.cal_events.specs.declared.sweep.Span.{Span}
 use Rattle.room_books.specs.declared.timeline.Busy.{Busy}
 use Rattle.room_books.specs.Views.{same_key, is_place, is_other, booked_of, booked_list, confirmed_span, confirmed_of, others, all_confirmed, span_of, HaveInstant, IsFree}
 use Rattle.room_books.specs.Timelines.{HoldsInstants, holds_instants, AreBusy, busy_at, busy_list, size_of, held_at, span_in, span_by, MayConfirm, ConfirmsAfter, IsTimelineOf, IsFirstAfter, IsFreeBut, IsChanged}

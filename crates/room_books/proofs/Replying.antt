@@ -2,10 +2,10 @@
 use Rattle.std.proofs.Common.{◌≡◌, ℕ, ℤ, List, [], ◌∷◌, ◌++◌, Some, codes, sym, ap, ◌∙◌, subst, append-nil}
 use Rattle.std.specs.List.{flat_map, AllZip}
 use Rattle.ical_values.specs.Written.{Appends}
-use Rattle.profile.specs.Revisions.{Part}
-use Rattle.profile.specs.Messages.{IsReplyEvent, object_lines}
-use Rattle.profile.specs.Messages as messages
-use Rattle.profile.specs.Lines.{written}
+use Rattle.profile.specs.rooms.Revisions.{Part}
+use Rattle.profile.specs.rooms.Messages.{IsReplyEvent, object_lines}
+use Rattle.profile.specs.rooms.Messages as messages
+use Rattle.profile.specs.text.Lines.{written}
 use Rattle.itip_messages.specs.Replies.{outcome_of, IsReplyText, IsWrittenEvent}
 use Rattle.itip_messages.specs.declared.reply.ReplyEvent.{ReplyEvent}
 use Rattle.room_books.specs.Takings.{Told}

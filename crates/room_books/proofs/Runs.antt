@@ -5,10 +5,10 @@ use Rattle.std.specs.List.{Contains, filter, flat_map}
 use Rattle.std.proofs.lemmas.Bool.{and_parts, and_from, true≢false, both_ways, not-true, not_from_false, false_from_ne_true, lt-ltb}
 use Rattle.std.proofs.lemmas.List.Elements.{Contains-append_left, Contains-append_right, Contains-append_cases, filter-append}
 use Rattle.std.proofs.lemmas.Grind.{flat_map-append}
-use Rattle.profile.specs.Instances.{Booked, IsClear}
-use Rattle.profile.specs.Revisions.{Part, in_view}
-use Rattle.profile.specs.Messages.{Outcome, Accept, Busy, SeriesLimit, SinglesLimit}
-use Rattle.profile.specs.Rooms.{Claim, Answer, Book, empty_book, is_accept, is_confirmed, is_hidden, left_of, confirmed_in, confirmed, is_fresh, is_set, parts_of, asked, most_singles, Decides, answered, IsStep, Delivery, Runs}
+use Rattle.profile.specs.checker.Instances.{Booked, IsClear}
+use Rattle.profile.specs.rooms.Revisions.{Part, in_view}
+use Rattle.profile.specs.rooms.Messages.{Outcome, Accept, Busy, SeriesLimit, SinglesLimit}
+use Rattle.profile.specs.rooms.Rooms.{Claim, Answer, Book, empty_book, is_accept, is_confirmed, is_hidden, left_of, confirmed_in, confirmed, is_fresh, is_set, parts_of, asked, most_singles, Decides, answered, IsStep, Delivery, Runs}
 use Rattle.itip_order.proofs.Lists.{in_cons, in_head, in_tail, none_in_nil, filter_at}
 use Rattle.room_books.proofs.Pairs.{map_from}
 use Rattle.room_books.proofs.Views.{view_back, hidden_stays}

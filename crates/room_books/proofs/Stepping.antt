@@ -14,15 +14,16 @@ use Rattle.std.proofs.lemmas.List.Elements.{Contains-append_left, Contains-appen
 use Rattle.std.proofs.lemmas.Map.Made.{IsDistinct-keys_filter}
 use Rattle.std.proofs.lemmas.Map.Views.{lookup-from_Contains}
 use Rattle.clash_cert.specs.declared.making.Clash.{Clash}
-use Rattle.clash_cert.specs.Makings.{key_of, HasKeys}
+use Rattle.cal_events.specs.Calendars.{owned_key_of}
+use Rattle.clash_cert.specs.Makings.{HasKeys}
 use Rattle.clash_cert.proofs.MakingLemmas.{less_from_before, less_from_not_before}
 use Rattle.itip_order.proofs.Lists.{in_cons, in_head, in_tail, none_in_nil, filter_at, filter_from}
-use Rattle.profile.specs.Instances.{Key, Booked, IsClear, IsWithin, key_cmp, booked_cmp}
-use Rattle.profile.specs.Revisions.{Part, Whole, in_view}
-use Rattle.profile.specs.Rooms.{Answer, Book, Decides, NamesClash, most_singles, confirmed_in}
+use Rattle.profile.specs.checker.Instances.{Key, Booked, IsClear, IsWithin, key_cmp, booked_cmp}
+use Rattle.profile.specs.rooms.Revisions.{Part, Whole, in_view}
+use Rattle.profile.specs.rooms.Rooms.{Answer, Book, Decides, NamesClash, most_singles, confirmed_in}
 use Rattle.room_books.specs.declared.meeting.MeetingKey.{MeetingKey}
 use Rattle.room_books.specs.declared.meeting.Meeting.{Meeting}
-use Rattle.room_books.specs.declared.meeting.Span.{Span}
+use Rattle.cal_events.specs.declared.sweep.Span.{Span}
 use Rattle.room_books.specs.declared.meeting.Outcome.{Outcome}
 use Rattle.room_books.specs.declared.meeting.Outcome.TheVariants.{Accepted, Declined, Limit}
 use Rattle.room_books.specs.declared.answer.LimitKind.TheVariants.{Series, Singles}
@@ -72,7 +73,7 @@ module _ (all kept : List Booked) (x : Booked) (same : AreSame all kept) (clear 
     ]
   ]
 
-  names : (clash : Clash) → IsClashWith kept x clash → NamesClash (all ++ x ∷ []) (key_of clash.first) (key_of clash.second) clash.instant
+  names : (clash : Clash) → IsClashWith kept x clash → NamesClash (all ++ x ∷ []) (owned_key_of clash.first) (owned_key_of clash.second) clash.instant
   names clash w = elim (cases_Bool (is_lt (booked_cmp w.other x))) [
     | inl before ↦
         let h = MatchBool-at_true (HasKeys w.other x clash.instant clash) (HasKeys x w.other clash.instant clash) before w.named in

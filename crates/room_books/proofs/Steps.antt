@@ -1,7 +1,7 @@
 -- The room after a part stands for the book after the step.
 use Rattle.std.proofs.Common.{◌≡◌, ℕ, ℤ, Bool, true, false, not, ◌&&◌, ◌||◌, cond, List, [], ◌∷◌, ◌++◌, inl, inr, Option, None, Some, refl, sym, ap, ◌∙◌, subst, length, append-nil, arith, codes}
 use Rattle.std.specs.Prelude.{◌==◌, nat_lt, IsTrue, if◌then◌else◌, unwrap_or, is_some}
-use Rattle.profile.specs.Values.{IsClockSeconds}
+use Rattle.profile.specs.text.Values.{IsClockSeconds}
 use Rattle.indexmap.specs.IndexMap.{insert_entry}
 use Rattle.std.specs.List.{Contains, filter, flat_map, IsDistinct}
 use Rattle.std.specs.Map.{keys_of, lookup}
@@ -13,15 +13,15 @@ use Rattle.itip_order.specs.Freshness.{IsFreshness}
 use Rattle.itip_order.specs.declared.held.Freshness.{Freshness}
 use Rattle.itip_order.specs.declared.held.Freshness.TheVariants.{Fresh, Same, Stale}
 use Rattle.itip_order.proofs.Lists.{none_in_nil, in_cons, in_head, filter_at, filter_from}
-use Rattle.profile.specs.Instances.{Booked}
-use Rattle.profile.specs.Revisions.{Part, Whole, in_view, same_part, part_cmp}
-use Rattle.profile.specs.Messages as messages
-use Rattle.profile.specs.Rooms.{Claim, Answer, Book, empty_book, Decides, confirmed, confirmed_in, if_accepted, is_accept, is_set, asked, answered, IsStep, kind_of, kind_of_outcome, Kind, Withdrawn, Repeated}
-use Rattle.profile.specs.Rooms as rooms
-use Rattle.profile.specs.Rooms.{shown}
-use Rattle.profile.specs.Kept.{IsReply, Replies, ShowsAnswer, first_parts}
-use Rattle.profile.specs.Lines.{written}
-use Rattle.profile.specs.Messages.{IsReplyEvent, object_lines}
+use Rattle.profile.specs.checker.Instances.{Booked}
+use Rattle.profile.specs.rooms.Revisions.{Part, Whole, in_view, same_part, part_cmp}
+use Rattle.profile.specs.rooms.Messages as messages
+use Rattle.profile.specs.rooms.Rooms.{Claim, Answer, Book, empty_book, Decides, confirmed, confirmed_in, if_accepted, is_accept, is_set, asked, answered, IsStep, kind_of, kind_of_outcome, Kind, Withdrawn, Repeated}
+use Rattle.profile.specs.rooms.Rooms as rooms
+use Rattle.profile.specs.rooms.Rooms.{shown}
+use Rattle.profile.specs.rooms.Kept.{IsReply, Replies, ShowsAnswer, first_parts}
+use Rattle.profile.specs.text.Lines.{written}
+use Rattle.profile.specs.rooms.Messages.{IsReplyEvent, object_lines}
 use Rattle.std.specs.Ordering.{is_le}
 use Rattle.std.specs.List.{AllZip}
 use Rattle.itip_order.proofs.Registers.{greatest_at, greatest_from, greatest_unique, part_le_refl, same_part_refl}
@@ -29,7 +29,7 @@ use Rattle.room_books.specs.Replying.{IsReplyOf, Tells, TellsDecided}
 use Rattle.room_books.specs.declared.meeting.MeetingKey.{MeetingKey}
 use Rattle.room_books.specs.declared.meeting.Meeting.{Meeting}
 use Rattle.room_books.specs.declared.meeting.Decided.{Decided}
-use Rattle.room_books.specs.declared.meeting.Span.{Span}
+use Rattle.cal_events.specs.declared.sweep.Span.{Span}
 use Rattle.room_books.specs.declared.meeting.Outcome.{Outcome}
 use Rattle.room_books.specs.declared.meeting.Outcome.TheVariants.{Accepted, Declined, Limit}
 use Rattle.room_books.specs.declared.answer.LimitKind.TheVariants.{Series, Singles}

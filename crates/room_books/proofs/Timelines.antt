@@ -9,8 +9,8 @@ use Rattle.std.proofs.lemmas.List.{take-append-drop, get_or-take, get_or-drop, l
 use Rattle.std.proofs.lemmas.List.Elements.{Contains-append_left, Contains-append_right, Contains-append_cases, Contains-get_or, filter-append}
 use Rattle.std.proofs.Math.Seq.{drop-cons}
 use Rattle.itip_order.proofs.Lists.{none_in_nil, in_head, in_tail, in_cons, filter_at, filter_from}
-use Rattle.profile.specs.Instances.{horizon}
-use Rattle.room_books.specs.declared.meeting.Span.{Span}
+use Rattle.profile.specs.checker.Instances.{horizon}
+use Rattle.cal_events.specs.declared.sweep.Span.{Span}
 use Rattle.room_books.specs.declared.timeline.Busy.{Busy}
 use Rattle.room_books.specs.Views.{is_place, HaveInstant}
 use Rattle.room_books.specs.Timelines.{HoldsInstants, holds_instants, AreBusy, IsPlaceAfter, is_beside, IsFirstAfter, busy_at, busy_list, IsFreeBut, IsChanged}

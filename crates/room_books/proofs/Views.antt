@@ -11,9 +11,9 @@ use Rattle.itip_order.proofs.Lasting.{greatest_of, gone_for_good, revision_le}
 use Rattle.itip_order.proofs.Lists.{all_at, all_from, any_at, any_from}
 use Rattle.itip_order.proofs.Order.{slot_total, meeting_total, revision_total, part_total, is_eq_true, then_equal}
 use Rattle.itip_order.proofs.Registers.{Greatest, greatest_at, greatest_from, greatest_unique, implies_at, implies_from, place_sym, place_trans}
-use Rattle.profile.specs.Instances.{Booked}
-use Rattle.profile.specs.Revisions.{Slot, Whole, At, Revision, Part, slot_cmp, meeting_cmp, revision_cmp, part_cmp, same_meeting, same_place, is_whole, is_cancelled, is_greatest, implies, stands_beside, allows, in_view}
-use Rattle.profile.specs.Rooms.{Answer, is_confirmed, is_hidden, left_of, confirmed_in}
+use Rattle.profile.specs.checker.Instances.{Booked}
+use Rattle.profile.specs.rooms.Revisions.{Slot, Whole, At, Revision, Part, slot_cmp, meeting_cmp, revision_cmp, part_cmp, same_meeting, same_place, is_whole, is_cancelled, is_greatest, implies, stands_beside, allows, in_view}
+use Rattle.profile.specs.rooms.Rooms.{Answer, is_confirmed, is_hidden, left_of, confirmed_in}
 
 -- one of two parts of a place is at most the other
 pub le_unless : (w q : Part) → is_le (part_cmp w q) ≡ false → is_le (part_cmp q w) ≡ true

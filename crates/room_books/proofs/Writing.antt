@@ -3,12 +3,12 @@ use Rattle.std.proofs.Common.{◌≡◌, ℕ, zero, suc, ◌+◌, List, [], ◌�
 use Rattle.std.specs.Prelude.{slice_get}
 use Rattle.std.specs.List.{flat_map, AllZip}
 use Rattle.std.proofs.lemmas.Grind.{flat_map-append}
-use Rattle.profile.specs.Kept.{IsKeptEvent}
-use Rattle.profile.specs.Lines.{written, folded}
-use Rattle.profile.specs.Messages.{object_lines, opening_lines}
-use Rattle.profile.specs.Rooms.{Answer}
+use Rattle.profile.specs.rooms.Kept.{IsKeptEvent}
+use Rattle.profile.specs.text.Lines.{written, folded}
+use Rattle.profile.specs.rooms.Messages.{object_lines, opening_lines}
+use Rattle.profile.specs.rooms.Rooms.{Answer}
 use Rattle.std.proofs.lemmas.List.{map-append}
-use Rattle.profile.specs.Rooms.{Claim}
+use Rattle.profile.specs.rooms.Rooms.{Claim}
 use Rattle.room_books.specs.Keeping.{WritesAnswers, claims_of}
 
 -- ---- written lines

@@ -1,10 +1,10 @@
 -- What is written of what a room keeps.
 use Rattle.std.specs.Prelude.{◌≡◌, ℕ, List, ◌++◌, ◌&&◌, filter, map}
 use Rattle.std.specs.List.{flat_map, AllZip}
-use Rattle.profile.specs.Revisions.{Part, same_meeting}
-use Rattle.profile.specs.Rooms.{Claim, Answer, Book, is_confirmed}
-use Rattle.profile.specs.Kept.{first_parts, IsKeptEvent}
-use Rattle.profile.specs.Lines.{written}
+use Rattle.profile.specs.rooms.Revisions.{Part, same_meeting}
+use Rattle.profile.specs.rooms.Rooms.{Claim, Answer, Book, is_confirmed}
+use Rattle.profile.specs.rooms.Kept.{first_parts, IsKeptEvent}
+use Rattle.profile.specs.text.Lines.{written}
 use Rattle.room_books.specs.Standing.{body_lines}
 
 -- the confirmed answers of the meeting of a part

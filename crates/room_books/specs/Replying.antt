@@ -1,9 +1,9 @@
 -- What a reply tells of one part.
 use Rattle.std.specs.Prelude.{◌≡◌, ℕ, List, codes, Option, Some, None}
 use Rattle.ical_values.specs.Octets.{address_octets}
-use Rattle.profile.specs.Revisions.{Part}
-use Rattle.profile.specs.Messages.{IsReplyEvent, object_lines}
-use Rattle.profile.specs.Lines.{written}
+use Rattle.profile.specs.rooms.Revisions.{Part}
+use Rattle.profile.specs.rooms.Messages.{IsReplyEvent, object_lines}
+use Rattle.profile.specs.text.Lines.{written}
 use Rattle.itip_messages.specs.Replies.{Answers, outcome_of}
 use Rattle.itip_messages.specs.declared.reply.ReplyEvent.{ReplyEvent}
 use Rattle.itip_order.specs.declared.held.Freshness.{Freshness}

@@ -6,19 +6,19 @@ use Rattle.std.specs.List.{AllZip}
 use Rattle.std.specs.Map.{lookup, keys_of}
 use Rattle.ical_values.specs.Octets.{address_octets, text_octets}
 use Rattle.itip_order.specs.Registers.{StandsFor}
-use Rattle.profile.specs.Instances.{IsClear}
-use Rattle.profile.specs.Revisions.{Part, Body, Set, Absent, Cancelled, Whole, in_view}
-use Rattle.profile.specs.Messages.{Outcome, IsPart}
-use Rattle.profile.specs.Events.{Event, booked_by}
-use Rattle.profile.specs.Properties.{length_seconds}
+use Rattle.profile.specs.checker.Instances.{IsClear}
+use Rattle.profile.specs.rooms.Revisions.{Part, Body, Set, Absent, Cancelled, Whole, in_view}
+use Rattle.profile.specs.rooms.Messages.{Outcome, IsPart}
+use Rattle.profile.specs.events.Events.{Event, booked_by}
+use Rattle.profile.specs.events.Properties.{length_seconds}
 use Rattle.itip_order.specs.Parts.{part_of}
 use Rattle.itip_order.specs.declared.part.Part.{Part as HeldPart}
-use Rattle.profile.specs.Rooms.{Claim, Answer, Book, Kind, confirmed, confirmed_in, most_singles, IsStep, kind_of}
+use Rattle.profile.specs.rooms.Rooms.{Claim, Answer, Book, Kind, confirmed, confirmed_in, most_singles, IsStep, kind_of}
 use Rattle.room_books.specs.declared.meeting.MeetingKey.{MeetingKey}
 use Rattle.room_books.specs.declared.meeting.Meeting.{Meeting}
-use Rattle.room_books.specs.declared.meeting.Span.{Span}
+use Rattle.cal_events.specs.declared.sweep.Span.{Span}
 use Rattle.room_books.specs.Takings.{Told, told_in, AreDated}
-use Rattle.profile.specs.Kept.{Replies, first_parts}
+use Rattle.profile.specs.rooms.Kept.{Replies, first_parts}
 use Rattle.room_books.specs.Views.{same_key, booked_list, confirmed_span}
 
 -- the part is of the meeting

@@ -1,15 +1,15 @@
 -- What a part does to its meeting.
 use Rattle.std.specs.Prelude.{◌≡◌, ℕ, ℤ, List, [], ◌∷◌, ◌++◌, Option, Some, None, option_map, Vec}
-use Rattle.profile.specs.Values.{IsClockSeconds}
-use Rattle.clash_cert.specs.Makings.{key_of}
+use Rattle.profile.specs.text.Values.{IsClockSeconds}
+use Rattle.cal_events.specs.Calendars.{owned_key_of}
 use Rattle.itip_order.specs.Registers.{StandsFor}
 use Rattle.itip_order.specs.Parts.{part_of}
 use Rattle.itip_order.specs.Freshness.{IsFreshness}
 use Rattle.itip_order.specs.declared.held.Freshness.{Freshness}
 use Rattle.itip_order.specs.declared.held.Freshness.TheVariants.{Fresh, Same, Stale}
-use Rattle.profile.specs.Revisions as revisions
-use Rattle.profile.specs.Messages as messages
-use Rattle.profile.specs.Rooms as rooms
+use Rattle.profile.specs.rooms.Revisions as revisions
+use Rattle.profile.specs.rooms.Messages as messages
+use Rattle.profile.specs.rooms.Rooms as rooms
 use Rattle.room_books.specs.declared.answer.Answer.{Answer}
 use Rattle.room_books.specs.declared.answer.Kind.{Kind}
 use Rattle.room_books.specs.declared.answer.Kind.TheVariants as kind
@@ -17,7 +17,7 @@ use Rattle.room_books.specs.declared.answer.LimitKind.TheVariants.{Series, Singl
 use Rattle.room_books.specs.declared.meeting.MeetingKey.{MeetingKey}
 use Rattle.room_books.specs.declared.meeting.Meeting.{Meeting}
 use Rattle.room_books.specs.declared.meeting.Decided.{Decided}
-use Rattle.room_books.specs.declared.meeting.Span.{Span}
+use Rattle.cal_events.specs.declared.sweep.Span.{Span}
 use Rattle.room_books.specs.declared.taking.Asked.{Asked}
 use Rattle.room_books.specs.declared.taking.Taken.{Taken}
 use Rattle.room_books.specs.Views.{booked_of, outcome_of, others, IsDecision}
@@ -74,7 +74,7 @@ pub record IsMeetingAfter (before : Option Meeting) (entries : List (MeetingKey 
 -- what a kind says
 abbrev pub kind_view : Kind → rooms.Kind
 kind_view kind.Accepted = rooms.Accepted
-kind_view (kind.Declined clash) = rooms.Declined (key_of clash.first) (key_of clash.second) clash.instant
+kind_view (kind.Declined clash) = rooms.Declined (owned_key_of clash.first) (owned_key_of clash.second) clash.instant
 kind_view (kind.Limit Series) = rooms.SeriesSpent
 kind_view (kind.Limit Singles) = rooms.SinglesSpent
 kind_view kind.Cancelled = rooms.Withdrawn

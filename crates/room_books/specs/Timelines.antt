@@ -1,14 +1,14 @@
 -- What is confirmed in a room, in order of time.
 use Rattle.std.specs.Prelude.{◌≡◌, ◌≢◌, ◌⊎◌, ◌<◌, ◌≤◌, ℕ, ℤ, ◌<ℤ◌, ◌≤ℤ◌, int_lt, Bool, false, not, ◌==◌, ◌&&◌, if◌then◌else◌, List, [], ◌∷◌, length, take, drop, filter, Contains, AllPairs, Option, Some, None, slice_get}
-use Rattle.profile.specs.Instances.{horizon}
+use Rattle.profile.specs.checker.Instances.{horizon}
 use Rattle.room_books.specs.declared.meeting.MeetingKey.{MeetingKey}
 use Rattle.room_books.specs.declared.meeting.Meeting.{Meeting}
-use Rattle.room_books.specs.declared.meeting.Span.{Span}
+use Rattle.cal_events.specs.declared.sweep.Span.{Span}
 use Rattle.room_books.specs.declared.timeline.Busy.{Busy}
 use Rattle.std.specs.Map.{lookup}
 use Rattle.itip_order.specs.declared.held.Freshness.{Freshness}
 use Rattle.itip_order.specs.declared.held.Freshness.TheVariants.{Fresh, Same, Stale}
-use Rattle.profile.specs.Rooms.{most_singles}
+use Rattle.profile.specs.rooms.Rooms.{most_singles}
 use Rattle.room_books.specs.Views.{same_key, confirmed_span, all_confirmed, others, is_place, HaveInstant, IsFree}
 
 -- the span holds an instant before the horizon

@@ -4,15 +4,16 @@ use Rattle.std.specs.List.{flat_map}
 use Rattle.std.specs.Str.{bytes_eq}
 use denote.Ref.{Bor}
 use Rattle.ical_values.specs.Octets.{address_octets, text_octets}
-use Rattle.clash_cert.specs.Makings.{key_of, AreNamed}
-use Rattle.profile.specs.Instances.{Booked, IsWithin, horizon}
-use Rattle.profile.specs.Messages as messages
-use Rattle.profile.specs.Rooms.{most_singles}
+use Rattle.cal_events.specs.Calendars.{owned_key_of}
+use Rattle.clash_cert.specs.Makings.{AreNamed}
+use Rattle.profile.specs.checker.Instances.{Booked, IsWithin, horizon}
+use Rattle.profile.specs.rooms.Messages as messages
+use Rattle.profile.specs.rooms.Rooms.{most_singles}
 use Rattle.room_books.specs.declared.answer.LimitKind.TheVariants.{Series, Singles}
 use Rattle.room_books.specs.declared.meeting.MeetingKey.{MeetingKey}
 use Rattle.room_books.specs.declared.meeting.Meeting.{Meeting}
 use Rattle.room_books.specs.declared.meeting.Decided.{Decided}
-use Rattle.room_books.specs.declared.meeting.Span.{Span}
+use Rattle.cal_events.specs.declared.sweep.Span.{Span}
 use Rattle.room_books.specs.declared.meeting.Outcome.{Outcome}
 use Rattle.room_books.specs.declared.meeting.Outcome.TheVariants.{Accepted, Declined, Limit}
 use Rattle.clash_cert.specs.declared.making.Clash.{Clash}
@@ -33,7 +34,7 @@ booked_of key span = record {
 -- what was decided
 abbrev pub outcome_of : Outcome → messages.Outcome
 outcome_of Accepted = messages.Accept
-outcome_of (Declined clash) = messages.Busy (key_of clash.first) (key_of clash.second) clash.instant
+outcome_of (Declined clash) = messages.Busy (owned_key_of clash.first) (owned_key_of clash.second) clash.instant
 outcome_of (Limit Series) = messages.SeriesLimit
 outcome_of (Limit Singles) = messages.SinglesLimit
 

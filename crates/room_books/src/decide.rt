@@ -2,16 +2,16 @@
 
 ghost use Rattle.std.specs.Prelude.{◌≡◌, true, false, ℤ, ◌≤ℤ◌, ◌<ℤ◌, ◌↔◌, IsTrue, ◌⊎◌, IfOk, length};
 ghost use Rattle.std.specs.Ordering.{is_lt};
-ghost use Rattle.profile.specs.Instances.{booked_cmp, horizon};
+ghost use Rattle.profile.specs.checker.Instances.{booked_cmp, horizon};
 ghost use Rattle.clash_cert.specs.Makings.{AreNamed, HasKeys};
 ghost use Rattle.room_books.specs.Views.{booked_of, others, span_of, HaveInstant, IsLater, Overlap, IsBusyIn, IsDecision};
 ghost use Rattle.room_books.specs.Timelines.{IsTimelineOf};
 
 use crate::answer::LimitKind;
-use crate::meeting::{Meeting, MeetingKey, Outcome, Span};
+use crate::meeting::{Meeting, MeetingKey, Outcome};
 use crate::room::keys_differ;
 use crate::timeline::Timeline;
-use cal_events::HORIZON;
+use cal_events::{HORIZON, Span};
 use clash_cert::Clash;
 use indexmap::IndexMap;
 use std::alloc::AllocError;

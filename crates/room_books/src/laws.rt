@@ -1,11 +1,11 @@
 //! What holds of each room, whatever it takes: laws, with nothing to do.
 
 ghost use Rattle.std.specs.Prelude.{◌≡◌, ◌≤◌, ◌↔◌, ℕ, ℤ, List, length, Contains};
-ghost use Rattle.profile.specs.Instances.{Booked, IsClear};
-ghost use Rattle.profile.specs.Rooms.{Answer, Book, Delivery, Runs, empty_book, confirmed, most_singles};
-ghost use Rattle.profile.specs.Streams.{IsDelivered, AllAnswers, Hosted, new_box};
-ghost use Rattle.profile.specs.Kept.{IsKeptCalendar, kept_certificate};
-ghost use Rattle.profile.specs.Calendars.{CertificateHolds, SpellsCalendar};
+ghost use Rattle.profile.specs.checker.Instances.{Booked, IsClear};
+ghost use Rattle.profile.specs.rooms.Rooms.{Answer, Book, Delivery, Runs, empty_book, confirmed, most_singles};
+ghost use Rattle.profile.specs.streams.Streams.{IsDelivered, AllAnswers, Hosted, new_box};
+ghost use Rattle.profile.specs.rooms.Kept.{IsKeptCalendar, kept_certificate};
+ghost use Rattle.profile.specs.checker.Calendars.{CertificateHolds, SpellsCalendar};
 ghost use Rattle.profile.specs.Headline.{AcceptedWhereClear, KeptTextsPass};
 
 /// Whatever messages a room took, one after another from the first: no two of its confirmed instances of

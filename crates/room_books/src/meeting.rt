@@ -3,13 +3,12 @@
 
 ghost use Rattle.std.specs.Prelude.{◌≡◌, IfOk};
 ghost use Rattle.ical_values.specs.Octets.{address_octets, text_octets};
-ghost use Rattle.cal_events.specs.Calendars.{instance_of};
-ghost use Rattle.clash_cert.specs.Makings.{key_of};
+ghost use Rattle.cal_events.specs.Calendars.{instance_of, owned_key_of};
 ghost use Rattle.room_books.specs.Views.{confirmed_span, booked_of, IsKeyOf};
 
 use crate::answer::LimitKind;
-use cal_events::{Instance, InstanceKey};
-use clash_cert::{Clash, OwnedKey};
+use cal_events::{Instance, InstanceKey, OwnedKey, Span};
+use clash_cert::Clash;
 use ical_values::{Address, Stamp, Text};
 use itip_order::Held;
 use std::alloc::AllocError;
@@ -23,7 +22,7 @@ pub struct MeetingKey {
 
 impl MeetingKey {
     /// The name of the meeting that has this ORGANIZER's address and this UID, both copied (RFC 5545 3.8.4.7).
-    /// It fails only for want of memory.
+    /// It fails only where memory runs out.
     pub fn of(organiser: &Address, uid: &Text) -> Result<MeetingKey, AllocError>
         ensures { IfOk result (IsKeyOf (address_octets organiser.now) (text_octets uid.now)) }
     {
@@ -50,7 +49,7 @@ impl MeetingKey {
 
     /// The key of that instance, with its own texts.
     pub fn owned(&self, span: Span) -> Result<OwnedKey, AllocError>
-        ensures { IfOk result (λ key. key_of key ≡ (booked_of self.now span).key) }
+        ensures { IfOk result (λ key. owned_key_of key ≡ (booked_of self.now span).key) }
     {
         let organiser = self.organiser.clone()?;
         let uid = self.uid.clone()?;
@@ -78,13 +77,6 @@ pub struct Decided {
     pub moment: Stamp,
     pub outcome: Outcome,
     pub span: Span,
-}
-
-/// The half-open time from `start` to before `end`, in seconds from 1970-01-01T00:00:00Z.
-#[derive(Clone, Copy, PartialEq, Eq)]
-pub struct Span {
-    pub start: i64,
-    pub end: i64,
 }
 
 /// A meeting of a room.

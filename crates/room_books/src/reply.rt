@@ -2,11 +2,9 @@
 
 ghost use Rattle.std.specs.Prelude.{◌≡◌, IfOk, IfSome, None};
 ghost use Rattle.ical_values.specs.Octets.{address_octets};
-ghost use Rattle.cal_events.specs.Calendars.{key_of as instance_key};
-ghost use Rattle.clash_cert.specs.Makings.{key_of as owned_key};
 ghost use Rattle.itip_order.specs.Parts.{part_of};
 ghost use Rattle.itip_messages.specs.Replies.{outcome_of as decision_outcome};
-ghost use Rattle.profile.specs.Revisions as revisions;
+ghost use Rattle.profile.specs.rooms.Revisions as revisions;
 ghost use Rattle.room_books.specs.Views.{outcome_of};
 ghost use Rattle.room_books.specs.Takings.{told, octets_in, OutcomeDated};
 ghost use Rattle.room_books.specs.Replying.{IsEventFor, Tells, TellsDecided};
@@ -14,8 +12,7 @@ ghost use Rattle.room_books.specs.Replying.{IsEventFor, Tells, TellsDecided};
 use crate::answer::LimitKind;
 use crate::meeting::{Decided, Outcome};
 use crate::taking::Taken;
-use cal_events::InstanceKey;
-use clash_cert::{Clash, OwnedKey};
+use clash_cert::Clash;
 use ical_values::Address;
 use itip_messages::{Conflict, Decision, ReplyEvent, write_reply};
 use itip_order::{Freshness, Part};
@@ -91,20 +88,10 @@ fn busy(clash: &Clash) -> Option<Decision<'_>>
     ensures decision { IfSome result (λ decision. decision_outcome decision ≡ outcome_of (Outcome.Declined clash.now)) }
     ensures none { result ≡ None → OutcomeDated (outcome_of (Outcome.Declined clash.now)) → ⊥ }
 {
-    let first = borrowed_key(&clash.first);
-    let second = borrowed_key(&clash.second);
+    let first = clash.first.lend();
+    let second = clash.second.lend();
     match Conflict::of(clash.instant, first, second) {
         Some(conflict) => Some(Decision::Busy(conflict)),
         None => None,
-    }
-}
-
-fn borrowed_key(key: &OwnedKey) -> InstanceKey<'_>
-    ensures { instance_key result ≡ owned_key key.now }
-{
-    InstanceKey {
-        organiser: key.organiser.as_str(),
-        uid: key.uid.as_str(),
-        slot: key.slot,
     }
 }

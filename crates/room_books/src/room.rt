@@ -7,13 +7,13 @@ ghost use Rattle.indexmap.specs.IndexMap.{keys, insert_entry, IsUnchanged, Updat
 ghost use Rattle.itip_order.specs.Parts.{part_of};
 ghost use Rattle.ical_values.specs.Octets.{address_octets};
 ghost use Rattle.itip_messages.specs.Messages.{StandsFor};
-ghost use Rattle.profile.specs.Events.{Event};
-ghost use Rattle.profile.specs.Properties.{length_seconds};
-ghost use Rattle.profile.specs.Messages.{AreParts};
-ghost use Rattle.profile.specs.Revisions as revisions;
-ghost use Rattle.profile.specs.Values.{IsClockSeconds};
-ghost use Rattle.profile.specs.Rooms.{Claim, Book, empty_book, is_set};
-ghost use Rattle.profile.specs.Streams.{AreClaims};
+ghost use Rattle.profile.specs.events.Events.{Event};
+ghost use Rattle.profile.specs.events.Properties.{length_seconds};
+ghost use Rattle.profile.specs.rooms.Messages.{AreParts};
+ghost use Rattle.profile.specs.rooms.Revisions as revisions;
+ghost use Rattle.profile.specs.text.Values.{IsClockSeconds};
+ghost use Rattle.profile.specs.rooms.Rooms.{Claim, Book, empty_book, is_set};
+ghost use Rattle.profile.specs.streams.Streams.{AreClaims};
 ghost use Rattle.room_books.specs.Views.{same_key, confirmed_span};
 ghost use Rattle.room_books.specs.Timelines.{IsTimelineOf, ConfirmsAfter, span_by};
 ghost use Rattle.room_books.specs.Takings.{kind_view, reply_octets};
@@ -21,10 +21,11 @@ ghost use Rattle.room_books.specs.Standing.{Stands, StepsWith, IsOfEvent, claim_
 
 use crate::answer::{Answer, Kind};
 use crate::decide::Meetings;
-use crate::meeting::{Meeting, MeetingKey, Span};
+use crate::meeting::{Meeting, MeetingKey};
 use crate::reply::reply_to;
 use crate::taking::{Asked, Taken, kind_of, meeting_after};
 use crate::timeline::Timeline;
+use cal_events::Span;
 use ical_values::{Address, Stamp};
 use indexmap::IndexMap;
 use itip_messages::Message;

@@ -2,8 +2,8 @@
 
 ghost use Rattle.std.specs.Prelude.{◌≡◌, IfOk, List, option_copied};
 ghost use Rattle.indexmap.specs.IndexMap.{get_by};
-ghost use Rattle.profile.specs.Revisions as revisions;
-ghost use Rattle.profile.specs.Rooms as rooms;
+ghost use Rattle.profile.specs.rooms.Revisions as revisions;
+ghost use Rattle.profile.specs.rooms.Rooms as rooms;
 ghost use Rattle.itip_order.specs.Registers.{StandsFor};
 ghost use Rattle.room_books.specs.Views.{others, booked_of, same_key, outcome_of, IsDecision};
 ghost use Rattle.room_books.specs.Timelines.{IsTimelineOf};
@@ -11,8 +11,9 @@ ghost use Rattle.room_books.specs.Takings.{StandsAt, told_in, told_by, kind_view
 
 use crate::answer::Kind;
 use crate::decide::{Meetings, decide};
-use crate::meeting::{Decided, Meeting, MeetingKey, Outcome, Span};
+use crate::meeting::{Decided, Meeting, MeetingKey, Outcome};
 use crate::timeline::Timeline;
+use cal_events::Span;
 use ical_values::Stamp;
 use itip_order::{Freshness, Held, Part};
 use std::alloc::{AllocError, Global};

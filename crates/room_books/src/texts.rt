@@ -6,11 +6,11 @@ ghost use Rattle.std.specs.Str.{IsUtf8};
 ghost use Rattle.std.specs.Str.Lines.{lines};
 ghost use Rattle.ical_values.specs.Octets.{address_octets};
 ghost use Rattle.itip_order.specs.Parts.{part_of};
-ghost use Rattle.profile.specs.Certificates.{text_of};
-ghost use Rattle.profile.specs.Kept.{first_parts, kept_certificate, IsKeptCalendar};
-ghost use Rattle.profile.specs.Lines.{written};
-ghost use Rattle.profile.specs.Revisions as revisions;
-ghost use Rattle.profile.specs.Rooms.{Answer, Book};
+ghost use Rattle.profile.specs.checker.Certificates.{text_of};
+ghost use Rattle.profile.specs.rooms.Kept.{first_parts, kept_certificate, IsKeptCalendar};
+ghost use Rattle.profile.specs.text.Lines.{written};
+ghost use Rattle.profile.specs.rooms.Revisions as revisions;
+ghost use Rattle.profile.specs.rooms.Rooms.{Answer, Book};
 ghost use Rattle.room_books.specs.Standing.{IsOfEvent, Meets, Stands, is_of};
 ghost use Rattle.room_books.specs.Keeping.{WritesAnswers, WritesEvent, kept_of, kept_parts};
 

@@ -5,8 +5,7 @@ ghost use Rattle.std.specs.List.{find};
 ghost use Rattle.room_books.specs.Timelines.{AreBusy, HoldsInstants, IsPlaceAfter, IsFirstAfter, IsFreeBut, IsChanged, IsTimelineOf, is_beside, size_of, busy_at, busy_list, holds_instants};
 ghost use Rattle.std.specs.Vec.{vec_len, vec_capacity};
 
-use crate::meeting::Span;
-use cal_events::HORIZON;
+use cal_events::{HORIZON, Span};
 use std::alloc::{AllocError, Global};
 
 /// An instance that holds the room.

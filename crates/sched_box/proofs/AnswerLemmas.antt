@@ -6,11 +6,11 @@ use Rattle.std.proofs.lemmas.List.{append_assoc, append-nil, take_more, take_mor
 use Rattle.ical_values.specs.Octets.{address_octets}
 use Rattle.itip_messages.specs.Messages.{StandsFor, IsSpelled}
 use Rattle.itip_messages.specs.declared.message.Message.{Message}
-use Rattle.profile.specs.Events.{Event}
-use Rattle.profile.specs.Rooms as machine
-use Rattle.profile.specs.Rooms.{Book, Claim, IsStep}
-use Rattle.profile.specs.Kept.{Replies}
-use Rattle.profile.specs.Streams.{AllTake, AreClaims, Hosted, ObjectFault, refused_line}
+use Rattle.profile.specs.events.Events.{Event}
+use Rattle.profile.specs.rooms.Rooms as machine
+use Rattle.profile.specs.rooms.Rooms.{Book, Claim, IsStep}
+use Rattle.profile.specs.rooms.Kept.{Replies}
+use Rattle.profile.specs.streams.Streams.{AllTake, AreClaims, Hosted, ObjectFault, refused_line}
 use Rattle.room_books.specs.Standing.{Stands, StepsWith}
 use Rattle.room_books.specs.declared.room.Room.{Room}
 use Rattle.sched_box.specs.Objects.{kept_of}

@@ -11,9 +11,9 @@ use Rattle.ical_tree.specs.Tree.{component_name, component_lines, component_chil
 use Rattle.ical_tree.specs.Reading.{SpellsOf, calendar_has, ObjectHas}
 use Rattle.ical_tree.specs.declared.component.Component.{Component}
 use Rattle.itip_messages.specs.Messages.{ReadFault}
-use Rattle.profile.specs.Lines.{logical_lines, text_has}
-use Rattle.profile.specs.Objects.{is_calendar_name, count_inside, has_version}
-use Rattle.profile.specs.Streams.{TreeFault, ObjectFault}
+use Rattle.profile.specs.text.Lines.{logical_lines, text_has}
+use Rattle.profile.specs.text.Objects.{is_calendar_name, count_inside, has_version}
+use Rattle.profile.specs.streams.Streams.{TreeFault, ObjectFault}
 use Rattle.sched_box.specs.Objects.{kept_of}
 
 -- ---- what a tree has

@@ -3,8 +3,8 @@ use Rattle.std.proofs.Common.{◌≡◌, ◌≢◌, ℕ, zero, suc, ◌/◌, ◌
 use Rattle.std.proofs.lemmas.Bool.Decides.{nat_tests}
 use Rattle.std.proofs.lemmas.List.{append_cancel_right, append_assoc}
 use Rattle.std.specs.List.{list_all}
-use Rattle.profile.specs.Values.{two_digits, four_digits, SpellsDate, SpellsTime, SpellsClock, SpellsStamp, IsAddress, is_scheme, is_scheme_octet, is_path, is_path_octet}
-use Rattle.profile.specs.Streams.{Setting, Now, Room, IsSetting, SaysSettings, by_end, by_lf, by_crlf, last, with_lf, with_crlf}
+use Rattle.profile.specs.text.Values.{two_digits, four_digits, SpellsDate, SpellsTime, SpellsClock, SpellsStamp, IsAddress, is_scheme, is_scheme_octet, is_path, is_path_octet}
+use Rattle.profile.specs.streams.Streams.{Setting, Now, Room, IsSetting, SaysSettings, by_end, by_lf, by_crlf, last, with_lf, with_crlf}
 use Rattle.sched_box.specs.Settings.{IsUnbroken, Breaks}
 
 -- ---- no octet is below a space

@@ -5,7 +5,7 @@ use Rattle.std.proofs.lemmas.Bool.Decides.{nat_tests}
 use Rattle.std.proofs.lemmas.List.{append_assoc, append_cancel_left, drop_more, take_more}
 use Rattle.std.specs.Io.{StartsWith}
 use Rattle.std.specs.Io.KnownBytes.{Consumes, IsAtEnd}
-use Rattle.profile.specs.Objects.{is_begun, after_object}
+use Rattle.profile.specs.text.Objects.{is_begun, after_object}
 use Rattle.ical_lines.specs.Cut.{ChangeNothing, rest_after, begun_after, ends_before, step, fresh}
 use Rattle.ical_lines.specs.declared.object_end.Cutter.{Cutter}
 use Rattle.ical_lines.proofs.CutLemmas.{cutter_ends}

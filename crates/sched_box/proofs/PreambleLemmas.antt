@@ -6,9 +6,9 @@ use Rattle.memchr.specs.Find.{IsFirstByte, is_byte}
 use Rattle.std.proofs.lemmas.List.{append_assoc, append_cancel_right, get_or-take, take_all, take_more}
 use Rattle.std.specs.Io.KnownBytes.{Consumes, IsAtEnd}
 use Rattle.std.proofs.KnownBytes.{Consumes-trans}
-use Rattle.profile.specs.Streams.{Setting, SaysSettings, by_end, by_lf, by_crlf, last, with_lf, with_crlf, IsPreamble}
-use Rattle.sched_box.specs.declared.preamble.Place.{Place}
-use Rattle.sched_box.specs.declared.preamble.Place.TheVariants.{Start, Return, Inside, Closed}
+use Rattle.profile.specs.streams.Streams.{Setting, SaysSettings, by_end, by_lf, by_crlf, last, with_lf, with_crlf, IsPreamble}
+use Rattle.sched_box.specs.declared.preamble.LineState.{LineState}
+use Rattle.sched_box.specs.declared.preamble.LineState.TheVariants.{Start, Return, Inside, Closed}
 use Rattle.sched_box.specs.Preamble.{is_closed, next_place, place_after, rest_of, Leads, TakesPiece, TakesPreamble, IsLong, Opens, OpensNot, StopsInPreamble}
 use Rattle.sched_box.specs.declared.fault.StreamFault.{StreamFault}
 use Rattle.sched_box.specs.declared.fault.StreamFault.TheVariants.{Refused, Serve}
@@ -21,20 +21,20 @@ use Rattle.sched_box.proofs.Lines.{Above, setting_above, setting_some}
 
 -- ---- leading on
 
-pub leads_none : (p : Place) → Leads p [] p
+pub leads_none : (p : LineState) → Leads p [] p
 leads_none p = record { place = refl; rest = λ more. refl }
 
-place_append : (p : Place) (xs ys : List ℕ) → place_after p (xs ++ ys) ≡ place_after (place_after p xs) ys
+place_append : (p : LineState) (xs ys : List ℕ) → place_after p (xs ++ ys) ≡ place_after (place_after p xs) ys
 place_append p [] ys = refl
 place_append p (x ∷ xs) ys = place_append (next_place p x) xs ys
 
-pub leads_trans : (a b c : Place) (xs ys : List ℕ) → Leads a xs b → Leads b ys c → Leads a (xs ++ ys) c
+pub leads_trans : (a b c : LineState) (xs ys : List ℕ) → Leads a xs b → Leads b ys c → Leads a (xs ++ ys) c
 leads_trans a b c xs ys l m = record {
   place = place_append a xs ys ∙ ap (λ p. place_after p ys) l.place ∙ m.place;
   rest = λ more. ap (rest_of a) (append_assoc xs ys more) ∙ l.rest (ys ++ more) ∙ m.rest more;
 }
 
-pub leads_step : (p : Place) (x : ℕ) → is_closed p ≡ false → Leads p (x ∷ []) (next_place p x)
+pub leads_step : (p : LineState) (x : ℕ) → is_closed p ≡ false → Leads p (x ∷ []) (next_place p x)
 leads_step p x open' = record {
   place = refl;
   rest = λ more. ap (λ b. cond b (x ∷ more) (rest_of (next_place p x) more)) open';
@@ -44,7 +44,7 @@ closed_rest : (ys : List ℕ) → rest_of Closed ys ≡ ys
 closed_rest [] = refl
 closed_rest (y ∷ ys) = refl
 
-rest_short : (p : Place) (ys : List ℕ) → length (rest_of p ys) ≤ length ys
+rest_short : (p : LineState) (ys : List ℕ) → length (rest_of p ys) ≤ length ys
 rest_short p [] = omega arith
 rest_short Closed (y ∷ ys) = omega arith
 rest_short Start (y ∷ ys) = let h = rest_short (next_place Start y) ys in omega arith
@@ -57,12 +57,12 @@ no_lf_leads : (cs : List ℕ) → ((k : ℕ) → k < length cs → eqb (get_or c
 no_lf_leads [] h = leads_none Inside
 no_lf_leads (c ∷ cs) h =
     let here : next_place Inside c ≡ Inside = ap (λ b. cond b Start Inside) (h 0 (omega arith)) in
-    let P : Place → Type 0 = Leads Inside (c ∷ []) in
+    let P : LineState → Type 0 = Leads Inside (c ∷ []) in
     leads_trans Inside Inside Inside (c ∷ []) cs (subst P here (leads_step Inside c refl)) (no_lf_leads cs (λ k l. h (suc k) (omega arith)))
 
 lf_leads : (c : ℕ) → eqb c 10 ≡ true → Leads Inside (c ∷ []) Start
 lf_leads c h =
-    let P : Place → Type 0 = Leads Inside (c ∷ []) in
+    let P : LineState → Type 0 = Leads Inside (c ∷ []) in
     subst P (ap (λ b. cond b Start Inside) h) (leads_step Inside c refl)
 
 pub line_ends : (lent : List ℕ) (end : ℕ) → IsFirstByte (is_byte 10) lent (Some end) → Leads Inside (take (end + 1) lent) Start
@@ -92,16 +92,16 @@ starts c h = ap (λ b. cond b Closed (cond (eqb c 13) Return Inside)) (no_ten c 
 inside_leads : (cs : List ℕ) → Above cs → Leads Inside cs Inside
 inside_leads [] a = leads_none Inside
 inside_leads (c ∷ cs) a =
-    let P : Place → Type 0 = Leads Inside (c ∷ []) in
+    let P : LineState → Type 0 = Leads Inside (c ∷ []) in
     leads_trans Inside Inside Inside (c ∷ []) cs (subst P (inside c a.0) (leads_step Inside c refl)) (inside_leads cs a.1)
 
 line_leads : (cs : List ℕ) → Above cs → 0 < length cs → Leads Start cs Inside
 line_leads [] a some = absurd (omega arith)
 line_leads (c ∷ cs) a some =
-    let P : Place → Type 0 = Leads Start (c ∷ []) in
+    let P : LineState → Type 0 = Leads Start (c ∷ []) in
     leads_trans Start Inside Inside (c ∷ []) cs (subst P (starts c a.0) (leads_step Start c refl)) (inside_leads cs a.1)
 
-pub says_leads : {closed : Bool} {octets : List ℕ} {list : List Setting} → SaysSettings closed octets list → (place : Place) × Leads Start octets place × (is_closed place ≡ closed)
+pub says_leads : {closed : Bool} {octets : List ℕ} {list : List Setting} → SaysSettings closed octets list → (place : LineState) × Leads Start octets place × (is_closed place ≡ closed)
 says_leads by_end = (Start, leads_none Start, refl)
 says_leads by_lf = (Closed, leads_step Start 10 refl, refl)
 says_leads by_crlf = (Closed, leads_trans Start Return Closed (13 ∷ []) (10 ∷ []) (leads_step Start 13 refl) (leads_step Return 10 refl), refl)
@@ -124,7 +124,7 @@ follows octets preamble rest closed moment addresses is all says =
     let (place, leads, closes) = says_leads says.says in
     ap (rest_of Start) is ∙ leads.rest rest ∙ at closed place closes all
   where
-    at : (c : Bool) (p : Place) → is_closed p ≡ c → (c ≡ false → rest ≡ []) → rest_of p rest ≡ rest
+    at : (c : Bool) (p : LineState) → is_closed p ≡ c → (c ≡ false → rest ≡ []) → rest_of p rest ≡ rest
     at true Closed e h = closed_rest rest
     at true Start e h = absurd (true≢false (sym e))
     at true Return e h = absurd (true≢false (sym e))
@@ -134,7 +134,7 @@ follows octets preamble rest closed moment addresses is all says =
 -- ---- what was taken from a reader
 
 -- the place where the octets lead is one
-one_place : (octets : List ℕ) (a b : Place) → Leads Start octets a → Leads Start octets b → a ≡ b
+one_place : (octets : List ℕ) (a b : LineState) → Leads Start octets a → Leads Start octets b → a ≡ b
 one_place octets a b l m = sym l.place ∙ m.place
 
 pub opened : (a b : Option (List ℕ)) (octets : List ℕ) (moment : ℤ) (addresses : List (List ℕ)) → TakesPreamble a b octets → (closed : Bool) → IsPreamble closed octets moment addresses → Opens a b moment addresses
@@ -182,7 +182,7 @@ pub long_not_known : (a : Option (List ℕ)) → IfSome a IsLong → IfSome a Op
 long_not_known None h = tt
 long_not_known (Some xs) h = long_not xs h
 
-pub too_long : (a b : Option (List ℕ)) (octets : List ℕ) (place : Place) → Consumes a b octets → Leads Start octets place → 65_536 < length octets → IfSome a IsLong
+pub too_long : (a b : Option (List ℕ)) (octets : List ℕ) (place : LineState) → Consumes a b octets → Leads Start octets place → 65_536 < length octets → IfSome a IsLong
 too_long None b octets place c l long = tt
 too_long (Some xs) None octets place c l long = absurd c
 too_long (Some xs) (Some ys) octets place c l long =
@@ -194,7 +194,7 @@ too_long (Some xs) (Some ys) octets place c l long =
 -- ---- a piece
 
 -- what is taken of what a reader lends, of which at most so many octets are looked at
-pub piece : (a c : Option (List ℕ)) (lent : List ℕ) (most count : ℕ) (from to : Place) (goes : Bool) → count ≤ length (take most lent) → most ≡ min (length lent) 65_537
+pub piece : (a c : Option (List ℕ)) (lent : List ℕ) (most count : ℕ) (from to : LineState) (goes : Bool) → count ≤ length (take most lent) → most ≡ min (length lent) 65_537
     → Consumes a c (take count lent) × (length lent ≡ 0 → OnSome a (IsAtEnd c)) → Leads from (take count (take most lent)) to
     → (is_closed from ≡ false → 0 < length (take most lent) → 0 < count) → goes ≡ (nat_lt 0 count && not (is_closed to))
     → TakesPiece a c from to (take count (take most lent)) goes
@@ -209,10 +209,17 @@ piece a c lent most count from to goes within most_is moved leads some goes_is =
       some = λ e. goes_some (is_closed to) (sym (goes_is ∙ refl) ∙ e) count_is;
     }
   where
-    goes_some : (b : Bool) → (nat_lt 0 count && not b) ≡ true → length (take count (take most lent)) ≡ count → 0 < length (take count (take most lent))
-    goes_some b e is = let h : nat_lt 0 count ≡ true = grind (arith, nat_tests) in let k : 0 < count = grind (arith, nat_tests) in omega arith
+    not_closed : (b : Bool) → (true && not b) ≡ true → b ≡ false
+    not_closed true e = absurd (true≢false (sym e))
+    not_closed false e = refl
 
-    closed_to : (p : Place) → is_closed p ≡ true → p ≡ Closed
+    goes_some : (b : Bool) → (nat_lt 0 count && not b) ≡ true → length (take count (take most lent)) ≡ count → (0 < length (take count (take most lent))) × (b ≡ false)
+    goes_some b e is =
+        let h : nat_lt 0 count ≡ true = grind (arith, nat_tests) in
+        let k : 0 < count = grind (arith, nat_tests) in
+        (omega arith, not_closed b (sym (ap (λ (x : Bool). x && not b) h) ∙ e))
+
+    closed_to : (p : LineState) → is_closed p ≡ true → p ≡ Closed
     closed_to Start e = absurd (true≢false (sym e))
     closed_to Return e = absurd (true≢false (sym e))
     closed_to Inside e = absurd (true≢false (sym e))
@@ -241,7 +248,7 @@ piece a c lent most count from to goes within most_is moved leads some goes_is =
         inr (moved.1 (no_lent none (some fe)))
 
 -- the last piece
-pub taken_all : (a b c : Option (List ℕ)) (octets taken : List ℕ) (place to : Place) (goes : Bool) → Consumes a b octets → Leads Start octets place → TakesPiece b c place to taken goes → goes ≡ false → TakesPreamble a c (octets ++ taken)
+pub taken_all : (a b c : Option (List ℕ)) (octets taken : List ℕ) (place to : LineState) (goes : Bool) → Consumes a b octets → Leads Start octets place → TakesPiece b c place to taken goes → goes ≡ false → TakesPreamble a c (octets ++ taken)
 taken_all a b c octets taken place to goes consumed leads t e = record {
   place = to;
   consumed = Consumes-trans a b c octets taken consumed t.consumed;
@@ -260,7 +267,7 @@ taken_all a b c octets taken place to goes consumed leads t e = record {
 
 -- ---- no octet past the empty line was taken
 
-pub stops : (a b : Option (List ℕ)) (octets : List ℕ) (place : Place) → Consumes a b octets → Leads Start octets place → StopsInPreamble a b
+pub stops : (a b : Option (List ℕ)) (octets : List ℕ) (place : LineState) → Consumes a b octets → Leads Start octets place → StopsInPreamble a b
 stops a b octets place consumed l = record { taken = octets; consumed = consumed; within = short a b consumed }
   where
     short : (a b : Option (List ℕ)) → Consumes a b octets → IfSome a (λ xs. IfSome b (λ ys. length (rest_of Start xs) ≤ length ys))

@@ -3,9 +3,9 @@ use Rattle.std.proofs.Common.{◌≡◌, inl, inr, ℕ, ℤ, Bool, zero, suc, �
 use Rattle.std.proofs.lemmas.List.{append_assoc, append-nil}
 use Rattle.std.specs.Io.KnownBytes.{Appends, Consumes, Keeps, IsAtEnd}
 use Rattle.std.proofs.KnownBytes.{Appends-kept, Appends-nil, Appends-trans, Keeps-refl}
-use Rattle.profile.specs.Objects.{is_begun, after_object}
-use Rattle.profile.specs.Rooms.{Book}
-use Rattle.profile.specs.Streams.{BeginsWith, AreObjects, Answers, AllAnswers, Hosted, new_box}
+use Rattle.profile.specs.text.Objects.{is_begun, after_object}
+use Rattle.profile.specs.rooms.Rooms.{Book}
+use Rattle.profile.specs.streams.Streams.{BeginsWith, AreObjects, Answers, AllAnswers, Hosted, new_box}
 use Rattle.room_books.specs.declared.room.Room.{Room}
 use Rattle.sched_box.specs.declared.fault.ServeFault.{ServeFault}
 use Rattle.sched_box.specs.declared.fault.ServeFault.TheVariants.{Read, Write, TooLong, Memory}
@@ -13,16 +13,16 @@ use Rattle.sched_box.specs.declared.objects.Objects.{Objects}
 use Rattle.sched_box.specs.declared.serving.ServeReport.{ServeReport}
 use Rattle.sched_box.specs.Answering.{AreHosted, IsHosted, AnswersKept, room_addresses}
 use Rattle.sched_box.specs.Objects.{kept_of, TakesObject, ReadsObject, IsStop, StopsReading}
-use Rattle.sched_box.specs.Serving.{AnswersWhole, Ends, Gives, GivesPart, IsWithinBound, ServesAll, ServesSome, ServesCut, HasRead, HasReadLess, ServesUntil, Serves, RoomsServe, ServesStream, KeepsTexts, StopsKeeping}
+use Rattle.sched_box.specs.Serving.{AnswersWhole, Ends, Gives, GivesPart, IsWithinBound, ServesAll, ServesSome, ServesCut, HasRead, ServesUntil, Serves, RoomsServe, ServesStream, KeepsTexts, StopsKeeping}
 use Rattle.std.proofs.Common.{◌≢◌, Contains, true≢false}
 use Rattle.std.specs.Str.{bytes_eq}
 use Rattle.std.proofs.lemmas.Slice.Eq.{bytes_eq-Decides}
 use Rattle.std.proofs.lemmas.Bool.{cases_lt}
-use Rattle.profile.specs.Kept.{IsKeptCalendar, kept_certificate}
+use Rattle.profile.specs.rooms.Kept.{IsKeptCalendar, kept_certificate}
 use Rattle.std.proofs.lemmas.List.{map-append, take_more}
 use Rattle.ical_values.specs.Octets.{address_octets}
 use Rattle.ical_values.specs.declared.address.Address.{Address}
-use Rattle.profile.specs.Rooms.{empty_book}
+use Rattle.profile.specs.rooms.Rooms.{empty_book}
 use Rattle.room_books.specs.Standing.{Stands}
 use Rattle.sched_box.specs.declared.fault.StreamFault.{StreamFault}
 use Rattle.sched_box.specs.declared.fault.StreamFault.TheVariants as stream
@@ -152,15 +152,10 @@ all_read None c n h e = tt
 all_read (Some xs) None n h e = absurd h
 all_read (Some xs) (Some zs) n h e = omega arith
 
-read_less : (a c : Option (List ℕ)) (n : ℕ) → HasLeft a c n → 0 < n → HasReadLess 1_073_741_824 a c
+read_less : (a c : Option (List ℕ)) (n : ℕ) → HasLeft a c n → 0 < n → IsWithinBound a c
 read_less None c n h some = tt
 read_less (Some xs) None n h some = absurd h
 read_less (Some xs) (Some zs) n h some = omega arith
-
-within_bound : (a c : Option (List ℕ)) (n : ℕ) → HasLeft a c n → IsWithinBound a c
-within_bound None c n h = tt
-within_bound (Some xs) None n h = absurd h
-within_bound (Some xs) (Some zs) n h = omega arith
 
 -- the stream ended before the next object did
 pub stopped : (moment : ℤ) (olds news : List Room) (a b c output written : Option (List ℕ)) (before after : Objects) (report : ServeReport) (fault : ServeFault)
@@ -295,12 +290,12 @@ served_more moment olds news newer a b c output written new before after report 
 pub served_all : (moment : ℤ) (olds news : List Room) (a b c output written : Option (List ℕ)) (before after : Objects) (report : ServeReport)
     → Sofar moment olds news a b output written before.left report → ReadsObject b c before after false → (start : List Hosted) → AreHosted olds start
     → (final : List Hosted) × AreHosted news final × ServesAll moment start final (record { input = a; left = c; output = output; written = written }) report
-served_all moment olds news a b c output written before after report so (taken, t, left, rest) start have =
+served_all moment olds news a b c output written before after report so (taken, t, left, more) start have =
     let served = so.served start have in
     let ended = gives_all a b c served.objects after.octets.items taken served.gives t in (
       served.after,
       served.hosted,
-      record { objects = served.objects; octets = served.octets; are = ended.0; end = ended.1; answers = served.answers; counted = served.counted; bound = within_bound a c after.left (read_on a b c taken before.left after.left so.read t.consumed left); written = served.writes },
+      record { objects = served.objects; octets = served.octets; are = ended.0; end = ended.1; answers = served.answers; counted = served.counted; bound = read_less a c after.left (read_on a b c taken before.left after.left so.read t.consumed left) more; written = served.writes },
     )
 
 -- ---- the parts of a function's answer
@@ -325,7 +320,7 @@ serves_none moment before input output fault is =
     subst P (sym is)
     (record { objects = []; after = before; octets = []; refused = 0; gives = none input; answers = (refl, refl, refl); written = Appends-nil output }, unread input)
   where
-    unread : (a : Option (List ℕ)) → HasReadLess 1_073_741_824 a a
+    unread : (a : Option (List ℕ)) → IsWithinBound a a
     unread None = tt
     unread (Some xs) = omega arith
 
@@ -490,4 +485,4 @@ pub keeping_stopped : (moment : ℤ) (before : List Hosted) (news : List Room) (
 keeping_stopped moment before news a b c d reader Read h cause = h.1
 keeping_stopped moment before news a b c d reader Write h cause = absurd (true≢false (sym cause))
 keeping_stopped moment before news a b c d reader TooLong h cause = h.1
-keeping_stopped moment before news a b c d reader Memory h cause = tt
+keeping_stopped moment before news a b c d reader Memory h cause = h.1

@@ -5,9 +5,9 @@ use Rattle.std.specs.Option.{option_to_list}
 use Rattle.std.proofs.lemmas.List.{append_assoc, append-nil, get_or_append_left}
 use Rattle.std.proofs.Math.Seq.{get_or-append_seam}
 use Rattle.std.proofs.lemmas.List.Quantifiers.{all_pairs_push}
-use Rattle.profile.specs.Values.{SpellsStamp, IsAddress, lower_case}
+use Rattle.profile.specs.text.Values.{SpellsStamp, IsAddress, lower_case}
 use Rattle.ical_values.specs.Octets.{address_octets}
-use Rattle.profile.specs.Streams.{Setting, Now, Room, IsSetting, SaysSettings, by_end, by_lf, by_crlf, last, with_lf, with_crlf, moments, rooms, IsPreamble, IsConfiguration}
+use Rattle.profile.specs.streams.Streams.{Setting, Now, Room, IsSetting, SaysSettings, by_end, by_lf, by_crlf, last, with_lf, with_crlf, moments, rooms, IsPreamble, IsConfiguration}
 use Rattle.std.specs.Str.{IsUtf8}
 use Rattle.std.proofs.lemmas.Str.{IsUtf8-from_is_utf8, is_utf8-from_IsUtf8}
 use Rattle.std.proofs.lemmas.List.{length-map}

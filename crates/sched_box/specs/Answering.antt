@@ -4,8 +4,8 @@ use Rattle.std.specs.List.{AllZip}
 use Rattle.ical_values.specs.Octets.{address_octets}
 use Rattle.itip_messages.specs.Messages.{StandsFor}
 use Rattle.itip_messages.specs.declared.message.Message.{Message}
-use Rattle.profile.specs.Events.{Event}
-use Rattle.profile.specs.Streams.{Hosted, Takes, Answers}
+use Rattle.profile.specs.events.Events.{Event}
+use Rattle.profile.specs.streams.Streams.{Hosted, Takes, Answers}
 use Rattle.room_books.specs.Standing.{Stands}
 use Rattle.room_books.specs.declared.room.Room.{Room}
 use Rattle.sched_box.specs.Objects.{kept_of}

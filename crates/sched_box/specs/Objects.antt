@@ -1,7 +1,7 @@
 -- How the objects of a stream are taken from a reader, octet by octet.
 use Rattle.std.specs.Prelude.{◌≡◌, ◌≤◌, ◌<◌, ◌+◌, ◌-◌, ℕ, Bool, true, false, List, [], ◌∷◌, ◌++◌, length, take, nat_lt, if◌then◌else◌, Option, IfSome, OnSome}
 use Rattle.std.specs.Io.KnownBytes.{Consumes, IsAtEnd}
-use Rattle.profile.specs.Objects.{is_begun, after_object}
+use Rattle.profile.specs.text.Objects.{is_begun, after_object}
 use Rattle.ical_lines.specs.Cut.{rest_after, begun_after, ends_before}
 use Rattle.ical_lines.specs.declared.object_end.Cutter.{Cutter}
 use Rattle.sched_box.specs.declared.fault.ServeFault.{ServeFault}

@@ -1,47 +1,47 @@
 -- How a preamble is taken from a reader: up to its empty line, octet by octet.
 use Rattle.std.specs.Prelude.{◌≡◌, ◌⊎◌, ◌<◌, ◌≤◌, ◌+◌, ◌==◌, ℕ, ℤ, Bool, true, false, if◌then◌else◌, List, [], ◌∷◌, ◌++◌, length, Option, IfSome, OnSome}
 use Rattle.std.specs.Io.KnownBytes.{Consumes, IsAtEnd}
-use Rattle.profile.specs.Streams.{IsPreamble}
-use Rattle.sched_box.specs.declared.preamble.Place.{Place}
-use Rattle.sched_box.specs.declared.preamble.Place.TheVariants.{Start, Return, Inside, Closed}
+use Rattle.profile.specs.streams.Streams.{IsPreamble}
+use Rattle.sched_box.specs.declared.preamble.LineState.{LineState}
+use Rattle.sched_box.specs.declared.preamble.LineState.TheVariants.{Start, Return, Inside, Closed}
 
-abbrev pub is_closed : Place → Bool
+abbrev pub is_closed : LineState → Bool
 is_closed Start = false
 is_closed Return = false
 is_closed Inside = false
 is_closed Closed = true
 
 -- the place after one octet more
-abbrev pub next_place : Place → ℕ → Place
+abbrev pub next_place : LineState → ℕ → LineState
 next_place Start octet = if octet == 10 then Closed else (if octet == 13 then Return else Inside)
 next_place Return octet = if octet == 10 then Closed else Inside
 next_place Inside octet = if octet == 10 then Start else Inside
 next_place Closed octet = Closed
 
-abbrev pub place_after : Place → List ℕ → Place
+abbrev pub place_after : LineState → List ℕ → LineState
 place_after place [] = place
 place_after place (octet ∷ octets) = place_after (next_place place octet) octets
 
 -- what follows the empty line, of the octets that are still to come
-abbrev pub rest_of : Place → List ℕ → List ℕ
+abbrev pub rest_of : LineState → List ℕ → List ℕ
 rest_of place [] = []
 rest_of place (octet ∷ octets) = if is_closed place then octet ∷ octets else rest_of (next_place place octet) octets
 
 -- the octets lead from one place to the other, and all of them stand before the end of the empty line
-pub record Leads (old : Place) (octets : List ℕ) (new : Place) : Type 0 where
+pub record Leads (old : LineState) (octets : List ℕ) (new : LineState) : Type 0 where
   pub place : place_after old octets ≡ new
   pub rest : (more : List ℕ) → rest_of old (octets ++ more) ≡ rest_of new more
 
 -- the octets that were taken lead on; where nothing goes on, the empty line or the end of the input was met
-pub record TakesPiece (old new : Option (List ℕ)) (from to : Place) (octets : List ℕ) (goes : Bool) : Type 0 where
+pub record TakesPiece (old new : Option (List ℕ)) (from to : LineState) (octets : List ℕ) (goes : Bool) : Type 0 where
   pub consumed : Consumes old new octets
   pub leads : Leads from octets to
   pub stops : goes ≡ false → (to ≡ Closed) ⊎ OnSome old (IsAtEnd new)
-  pub some : goes ≡ true → 0 < length octets
+  pub some : goes ≡ true → (0 < length octets) × (is_closed to ≡ false)
 
 -- the octets up to the empty line were taken, or all
 pub record TakesPreamble (old new : Option (List ℕ)) (octets : List ℕ) : Type 0 where
-  pub place : Place
+  pub place : LineState
   pub consumed : Consumes old new octets
   pub leads : Leads Start octets place
   pub stops : (place ≡ Closed) ⊎ OnSome old (IsAtEnd new)

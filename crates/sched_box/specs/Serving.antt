@@ -1,9 +1,9 @@
 -- What a reader gave and a writer took, once serving has ended.
 use Rattle.std.specs.Prelude.{◌≡◌, ◌⊎◌, ℕ, ℤ, ◌+◌, ◌≤◌, ◌<◌, List, [], ◌∷◌, ◌++◌, length, take, Contains, Option, Some, None, IfSome, OnSome, Result, Ok, Err}
 use Rattle.std.specs.Io.KnownBytes.{Appends, Keeps, IsAtEnd}
-use Rattle.profile.specs.Objects.{after_object}
-use Rattle.profile.specs.Kept.{IsKeptCalendar, kept_certificate}
-use Rattle.profile.specs.Streams.{BeginsWith, AreObjects, Answers, AllAnswers, AnswersStream, Hosted, new_box}
+use Rattle.profile.specs.text.Objects.{after_object}
+use Rattle.profile.specs.rooms.Kept.{IsKeptCalendar, kept_certificate}
+use Rattle.profile.specs.streams.Streams.{BeginsWith, AreObjects, Answers, AllAnswers, AnswersStream, Hosted, new_box}
 use Rattle.room_books.specs.declared.room.Room.{Room}
 use Rattle.sched_box.specs.declared.fault.ServeFault.{ServeFault}
 use Rattle.sched_box.specs.declared.fault.ServeFault.TheVariants.{Read, Write, TooLong, Memory}
@@ -34,9 +34,13 @@ GivesPart (Some input) None objects = ⊥
 GivesPart (Some input) (Some left) objects =
     (rest : List ℕ) × (part : List ℕ) × BeginsWith input objects rest × (rest ≡ part ++ left) × (length (after_object rest) ≤ length left)
 
--- of a reader that tells its octets at most 1,073,741,824 were read; this profile's choice
+-- of a reader that tells its octets fewer than 1,073,741,824 were read; this profile's choice
 abbrev pub IsWithinBound : Option (List ℕ) → Option (List ℕ) → Type 0
-IsWithinBound input left = IfSome input (λ octets. IfSome left (λ rest. length octets ≤ length rest + 1_073_741_824))
+IsWithinBound input left = IfSome input (λ octets. IfSome left (λ rest. length octets < length rest + 1_073_741_824))
+
+-- so many octets of it were read
+abbrev pub HasRead : ℕ → Option (List ℕ) → Option (List ℕ) → Type 0
+HasRead n input left = IfSome input (λ octets. IfSome left (λ rest. length octets ≡ length rest + n))
 
 -- all objects were taken, and the answers to them written
 pub record ServesAll (moment : ℤ) (before after : List Hosted) (ends : Ends) (report : ServeReport) : Type 0 where
@@ -76,20 +80,12 @@ pub record ServesCut (moment : ℤ) (before : List Hosted) (ends : Ends) : Type 
   pub some : 0 < length answer
   pub written : Appends ends.output ends.written (octets ++ take cut answer)
 
--- so many octets were read
-abbrev pub HasRead : ℕ → Option (List ℕ) → Option (List ℕ) → Type 0
-HasRead n input left = IfSome input (λ octets. IfSome left (λ rest. length octets ≡ length rest + n))
-
--- or fewer
-abbrev pub HasReadLess : ℕ → Option (List ℕ) → Option (List ℕ) → Type 0
-HasReadLess n input left = IfSome input (λ octets. IfSome left (λ rest. length octets < length rest + n))
-
 -- how serving ends before the input does: the stream is too long exactly where 1,073,741,824 octets were read
 abbrev pub ServesUntil : ℤ → List Hosted → Ends → ServeFault → Type 0
-ServesUntil moment before ends Read = ServesSome moment before ends × HasReadLess 1_073_741_824 ends.input ends.left
-ServesUntil moment before ends Memory = ServesSome moment before ends × HasReadLess 1_073_741_824 ends.input ends.left
+ServesUntil moment before ends Read = ServesSome moment before ends × IsWithinBound ends.input ends.left
+ServesUntil moment before ends Memory = ServesSome moment before ends × IsWithinBound ends.input ends.left
 ServesUntil moment before ends TooLong = ServesSome moment before ends × HasRead 1_073_741_824 ends.input ends.left
-ServesUntil moment before ends Write = ServesCut moment before ends × HasReadLess 1_073_741_824 ends.input ends.left
+ServesUntil moment before ends Write = ServesCut moment before ends × IsWithinBound ends.input ends.left
 
 -- what comes of serving, from this box on
 abbrev pub Serves : ℤ → List Hosted → Ends → Result ServeReport ServeFault → Type 0
@@ -137,7 +133,7 @@ pub record KeepsTexts (moment : ℤ) (rooms : List (List ℕ)) (input left : Opt
 -- how it ends before its input does: the stream is too long exactly where 1,073,741,824 octets of objects were read
 abbrev pub StopsKeeping : Option (List ℕ) → Option (List ℕ) → StreamFault → Type 0
 StopsKeeping input left (Refused refusal) = Unit {0}
-StopsKeeping input left (Serve Read) = HasReadLess 1_073_741_824 input left
+StopsKeeping input left (Serve Read) = IsWithinBound input left
 StopsKeeping input left (Serve Write) = ⊥
 StopsKeeping input left (Serve TooLong) = HasRead 1_073_741_824 input left
-StopsKeeping input left (Serve Memory) = Unit {0}
+StopsKeeping input left (Serve Memory) = IsWithinBound input left

@@ -3,7 +3,7 @@ use Rattle.std.specs.Prelude.{◌≡◌, ◌≢◌, ◌⊎◌, ◌≤◌, ◌<�
 use Rattle.std.specs.Option.{option_to_list}
 use Rattle.std.specs.Str.{is_utf8}
 use Rattle.ical_values.specs.Octets.{address_octets}
-use Rattle.profile.specs.Streams.{Setting, Now, Room, IsSetting, SaysSettings, moments, rooms}
+use Rattle.profile.specs.streams.Streams.{Setting, Now, Room, IsSetting, SaysSettings, moments, rooms}
 use Rattle.sched_box.specs.declared.settings.Settings.{Settings}
 
 -- the addresses of the rooms so far

@@ -5,8 +5,8 @@ ghost use Rattle.std.specs.Prelude.{◌≡◌, ◌↔◌, ℕ, List, [], Bool, �
 ghost use Rattle.ical_lines.specs.Fault.{RefusesOnly};
 ghost use Rattle.ical_values.specs.Octets.{address_octets};
 ghost use Rattle.ical_values.specs.Refused.{IfRefused};
-ghost use Rattle.profile.specs.Faults.{is_preamble_fault};
-ghost use Rattle.profile.specs.Streams.{IsPreamble, IsConfiguration};
+ghost use Rattle.profile.specs.faults.Faults.{is_preamble_fault};
+ghost use Rattle.profile.specs.streams.Streams.{IsPreamble, IsConfiguration};
 ghost use Rattle.sched_box.specs.Config.{config_rooms};
 ghost use Rattle.sched_box.specs.Settings.{ReadsSettings, ReadsNone};
 

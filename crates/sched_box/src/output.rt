@@ -34,12 +34,16 @@ pub trait Output {
     // A call of it has failed. Only a call that fails changes it.
     ghost has_failed: { Self → Bool };
 
+    // What it is given may be lost: a call of it has failed, or may be refused memory.
+    ghost may_lose: { Self → Bool };
+
     /// Writes octets whole, and holds none of them back: who waits for an answer gets it now.
     fn put(&mut self, octets: &[u8]) -> Result<(), WriteFault>
         ensures written { OnOk result (Appends (Self.contents self.old) (Self.contents self.new) octets.now) }
         ensures stops { IfErr result (StopsWriting (Self.contents self.old) (Self.contents self.new) (Self.has_failed self.new) octets.now) }
         ensures mark { OnOk result (Self.has_failed self.new ≡ Self.has_failed self.old) }
-        ensures told { IfErr result (KeepsButFailed (Self.has_failed self.old) (Self.has_failed self.new)) };
+        ensures told { IfErr result (KeepsButFailed (Self.has_failed self.old) (Self.has_failed self.new)) }
+        ensures lost { OnErr result (Self.may_lose self.new ≡ true) };
 }
 
 /// A list of octets never fails; memory may be refused.
@@ -47,6 +51,8 @@ impl Output for Vec<u8> {
     ghost contents = { λ list. Some list.items };
 
     ghost has_failed = { λ _. false };
+
+    ghost may_lose = { λ _. true };
 
     fn put(&mut self, octets: &[u8]) -> Result<(), WriteFault> {
         match self.extend_from_slice(octets) {
@@ -62,6 +68,8 @@ pub(crate) struct Nowhere;
 
 impl Output for Nowhere {
     ghost has_failed = { λ _. false };
+
+    ghost may_lose = { λ _. false };
 
     fn put(&mut self, _octets: &[u8]) -> Result<(), WriteFault> {
         Ok(())
@@ -100,6 +108,8 @@ impl<W: Write + Drop> Output for DeviceWriter<W> {
     ghost contents = { λ w. W.contents w.device };
 
     ghost has_failed = { λ w. w.failed };
+
+    ghost may_lose = { λ w. w.failed };
 
     fn put(&mut self, octets: &[u8]) -> Result<(), WriteFault> {
         let written = write_whole(&mut self.device, octets);

@@ -1,12 +1,12 @@
 //! The preamble of a stream: its lines are taken from the reader up to the empty one, and nothing after it.
 
-ghost use Rattle.std.specs.Prelude.{◌≡◌, ◌≤◌, ◌<◌, ◌++◌, ℕ, List, length, nat_lt, ◌&&◌, not, take, true, false, IfOk, IfErr, IfSome, OnOk, OnErr};
+ghost use Rattle.std.specs.Prelude.{◌≡◌, ◌≤◌, ◌<◌, ◌+◌, ◌++◌, ℕ, List, length, nat_lt, ◌&&◌, not, take, true, false, IfOk, IfErr, IfSome, OnOk, OnErr};
 ghost use Rattle.std.specs.Io.KnownBytes.{Keeps};
 ghost use Rattle.sched_box.specs.Config.{config_rooms};
 ghost use Rattle.sched_box.specs.Faults.{IfRefusedStream, IsReadFault, KeepsButRead, RefusesPreamble, StopsFor, StreamKeepsButRead, StreamStopsFor};
 ghost use Rattle.sched_box.specs.Objects.{IsPieceFault};
 ghost use Rattle.sched_box.specs.Preamble.{IsLong, Leads, Opens, OpensNot, StopsInPreamble, TakesPiece, TakesPreamble, is_closed, next_place};
-ghost use Rattle.sched_box.specs.declared.preamble.Place.TheVariants.{Inside};
+ghost use Rattle.sched_box.specs.declared.preamble.LineState.TheVariants.{Inside};
 
 use crate::config::{Config, LONGEST};
 use crate::fault::{ServeFault, StreamFault};
@@ -43,6 +43,7 @@ pub fn read_preamble<R: Input>(
 /// Refused: 90 where they are more than 65,536.
 fn take_preamble<R: Input>(alloc: Global, reader: &mut R) -> Result<Vec<u8>, StreamFault>
     ensures takes { IfOk result (λ octets. TakesPreamble (R.remaining reader.old) (R.remaining reader.new) octets.items) }
+    ensures few { IfOk result (λ octets. length octets.items ≤ 131_073) }
     ensures refuses { IfErr result RefusesPreamble }
     ensures faults { IfErr result IsReadFault }
     ensures cause { IfErr result (StreamStopsFor (R.has_failed reader.new) false) }
@@ -52,7 +53,7 @@ fn take_preamble<R: Input>(alloc: Global, reader: &mut R) -> Result<Vec<u8>, Str
     ensures stops { OnErr result (StopsInPreamble (R.remaining reader.old) (R.remaining reader.new)) }
 {
     let mut octets = Vec::new(alloc);
-    let mut place = Place::Start;
+    let mut place = LineState::Start;
     while octets.len() <= LONGEST {
         if !take_piece(reader, &mut place, &mut octets)? {
             return Ok(octets);
@@ -65,11 +66,12 @@ fn take_preamble<R: Input>(alloc: Global, reader: &mut R) -> Result<Vec<u8>, Str
 /// than a preamble may have; false after the empty line, and at the end of the input.
 fn take_piece<R: Input>(
     reader: &mut R,
-    place: &mut Place,
+    place: &mut LineState,
     octets: &mut Vec<u8>,
 ) -> Result<bool, ServeFault>
     ensures takes { IfOk result (λ goes. (taken : List ℕ) × (octets.new.items ≡ octets.old.items ++ taken)
         × TakesPiece (R.remaining reader.old) (R.remaining reader.new) place.old place.new taken goes) }
+    ensures few { length octets.new.items ≤ length octets.old.items + 65_537 }
     ensures faults { IfErr result IsPieceFault }
     ensures cause { IfErr result (StopsFor (R.has_failed reader.new) false) }
     ensures mark { OnOk result (R.has_failed reader.new ≡ R.has_failed reader.old) }
@@ -90,7 +92,7 @@ fn take_piece<R: Input>(
 
 /// Where the octets of a preamble have come to.
 #[derive(Clone, Copy, PartialEq, Eq)]
-enum Place {
+enum LineState {
     /// At the start of a line.
     Start,
     /// After a CR at the start of a line.
@@ -101,20 +103,20 @@ enum Place {
     Closed,
 }
 
-impl Place {
+impl LineState {
     /// The place after one octet more.
-    fn after(self, octet: u8) -> Place
+    fn after(self, octet: u8) -> LineState
         ensures { result ≡ next_place self octet }
     {
         match self {
-            Place::Start if octet == b'\n' => Place::Closed,
-            Place::Start if octet == b'\r' => Place::Return,
-            Place::Start => Place::Inside,
-            Place::Return if octet == b'\n' => Place::Closed,
-            Place::Return => Place::Inside,
-            Place::Inside if octet == b'\n' => Place::Start,
-            Place::Inside => Place::Inside,
-            Place::Closed => Place::Closed,
+            LineState::Start if octet == b'\n' => LineState::Closed,
+            LineState::Start if octet == b'\r' => LineState::Return,
+            LineState::Start => LineState::Inside,
+            LineState::Return if octet == b'\n' => LineState::Closed,
+            LineState::Return => LineState::Inside,
+            LineState::Inside if octet == b'\n' => LineState::Start,
+            LineState::Inside => LineState::Inside,
+            LineState::Closed => LineState::Closed,
         }
     }
 
@@ -123,7 +125,7 @@ impl Place {
         ensures { result ≡ is_closed self }
     {
         match self {
-            Place::Closed => true,
+            LineState::Closed => true,
             _ => false,
         }
     }
@@ -133,7 +135,7 @@ impl Place {
 #[derive(Clone, Copy)]
 struct Scanned {
     count: usize,
-    place: Place,
+    place: LineState,
 }
 
 impl Scanned {
@@ -146,15 +148,15 @@ impl Scanned {
 }
 
 /// What leads on of the octets that were lent: the rest of a line that has begun, or one octet where none has.
-fn scan(place: Place, lent: &[u8]) -> Scanned
+fn scan(place: LineState, lent: &[u8]) -> Scanned
     ensures within { result.count ≤ length lent.now }
     ensures leads { Leads place (take result.count lent.now) result.place }
     ensures some { is_closed place ≡ false → 0 < length lent.now → 0 < result.count }
 {
     match place {
-        Place::Inside => scan_line(lent),
-        Place::Closed => Scanned { count: 0, place },
-        Place::Start | Place::Return => scan_octet(place, lent),
+        LineState::Inside => scan_line(lent),
+        LineState::Closed => Scanned { count: 0, place },
+        LineState::Start | LineState::Return => scan_octet(place, lent),
     }
 }
 
@@ -167,17 +169,17 @@ fn scan_line(lent: &[u8]) -> Scanned
     match memchr(b'\n', lent) {
         Some(end) => Scanned {
             count: end + 1,
-            place: Place::Start,
+            place: LineState::Start,
         },
         None => Scanned {
             count: lent.len(),
-            place: Place::Inside,
+            place: LineState::Inside,
         },
     }
 }
 
 /// The first octet, where there is one.
-fn scan_octet(place: Place, lent: &[u8]) -> Scanned
+fn scan_octet(place: LineState, lent: &[u8]) -> Scanned
     requires { is_closed place ≡ false }
     ensures within { result.count ≤ length lent.now }
     ensures leads { Leads place (take result.count lent.now) result.place }

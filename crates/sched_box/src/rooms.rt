@@ -4,9 +4,9 @@ ghost use Rattle.std.specs.Prelude.{◌≡◌, ◌≤◌, ◌++◌, ◌<◌, ℕ
 ghost use Rattle.ical_lines.specs.Fault.{RefusesBy};
 ghost use Rattle.ical_values.specs.Octets.{address_octets};
 ghost use Rattle.itip_messages.specs.Messages.{IsSpelled};
-ghost use Rattle.profile.specs.Streams.{ObjectFault, new_box, refused_line};
+ghost use Rattle.profile.specs.streams.Streams.{ObjectFault, new_box, refused_line};
 ghost use Rattle.room_books.specs.Standing.{Stands};
-ghost use Rattle.profile.specs.Rooms.{empty_book};
+ghost use Rattle.profile.specs.rooms.Rooms.{empty_book};
 ghost use Rattle.std.specs.Str.{bytes_eq};
 ghost use Rattle.sched_box.specs.Answering.{AnswersKept, AreHosted, RoomTakes, RoomsTake, room_addresses, sent_octets};
 ghost use Rattle.sched_box.specs.Config.{config_rooms};

@@ -4,8 +4,8 @@ ghost use Rattle.std.specs.Prelude.{◌≡◌, ◌≤◌, ℕ, List, Option, Boo
 ghost use Rattle.std.specs.Io.KnownBytes.{Appends, Keeps};
 ghost use Rattle.std.specs.Result.{IsErrAnd};
 ghost use Rattle.ical_values.specs.Octets.{address_octets};
-ghost use Rattle.profile.specs.Calendars.{CertificateHolds};
-ghost use Rattle.profile.specs.Streams.{Hosted, new_box};
+ghost use Rattle.profile.specs.checker.Calendars.{CertificateHolds};
+ghost use Rattle.profile.specs.streams.Streams.{Hosted, new_box};
 ghost use Rattle.sched_box.specs.Answering.{AreHosted, room_addresses};
 ghost use Rattle.sched_box.specs.Config.{config_rooms};
 ghost use Rattle.sched_box.specs.Faults.{IfRefusedStream, IsRefusal, KeepsButRead, KeepsButWrite, RefusesPreamble, StopsFor, StreamKeepsButRead, StreamKeepsButWrite, StreamStopsFor};

@@ -3,9 +3,9 @@
 ghost use Rattle.std.specs.Prelude.{◌≡◌, ◌↔◌, ◌<◌, ℤ, List, ℕ, length, map, Contains, IfOk, IfSome, OnOk, IfErr, OnErr, IsTrue, MatchOption};
 ghost use Rattle.std.specs.List.{list_any};
 ghost use Rattle.std.specs.Str.{bytes_eq};
-ghost use Rattle.profile.specs.Faults.{is_preamble_fault};
-ghost use Rattle.profile.specs.Streams.{Setting, Now, Room, IsSetting};
-ghost use Rattle.profile.specs.Values.{SpellsStamp, IsAddress, lower_case};
+ghost use Rattle.profile.specs.faults.Faults.{is_preamble_fault};
+ghost use Rattle.profile.specs.streams.Streams.{Setting, Now, Room, IsSetting};
+ghost use Rattle.profile.specs.text.Values.{SpellsStamp, IsAddress, lower_case};
 ghost use Rattle.ical_lines.specs.Fault.{RefusesOnly};
 ghost use Rattle.ical_values.specs.Refused.{IfRefused};
 ghost use Rattle.ical_values.specs.Octets.{address_octets};

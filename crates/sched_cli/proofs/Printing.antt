@@ -4,7 +4,7 @@ use Rattle.std.proofs.lemmas.List.Folds.{concat-append}
 use Rattle.std.proofs.KnownBytes.{Appends-trans}
 use Rattle.std.specs.List.{concat}
 use Rattle.std.specs.Io.KnownBytes.{Appends}
-use Rattle.profile.specs.Zones.{Zone}
+use Rattle.profile.specs.series.Zones.{Zone}
 use Rattle.cal_events.proofs.EventLemmas.{push_zip}
 use Rattle.sched_cli.specs.Expanding.{IsPrintedOn, IsHandedOver, PrintsFirst, PrintsUpTo}
 

@@ -1,39 +1,70 @@
--- What was said, piece by piece.
-use Rattle.std.proofs.Common.{◌≡◌, ℕ, Bool, List, ◌++◌, length, take, drop, Option, Some, None, Result, Ok, Err, OnOk, IfErr, sym, ap, subst, ◌∙◌, arith, append_assoc, append-nil, take-append-drop, take_all}
+-- What was said, piece by piece, and what was written where a device failed.
+use Rattle.std.proofs.Common.{◌≡◌, inl, inr, ℕ, Bool, true, List, [], ◌++◌, length, take, drop, Option, Some, None, Result, Ok, Err, OnOk, OnErr, IfErr, sym, ap, subst, ◌∙◌, arith, append_assoc, append-nil, take-append-drop}
 use lib.Seq.{take-append_seam}
 use Rattle.std.specs.Io.KnownBytes.{Appends, Keeps}
 use Rattle.std.proofs.KnownBytes.{Appends-trans}
 use Rattle.sched_box.specs.Output.{StopsWriting}
 use Rattle.sched_box.specs.declared.output.WriteFault.{WriteFault}
 use Rattle.sched_box.specs.declared.output.WriteFault.TheVariants as write
-use Rattle.sched_cli.specs.Commands.{Says, IsSaid, write_text, write_status}
+use Rattle.ical_lines.specs.Fault.{RefusesBy}
+use Rattle.ical_lines.specs.declared.fault.Fault.{Fault}
+use Rattle.ical_lines.specs.declared.fault.Fault.TheVariants as lines
+use Rattle.sched_cli.specs.Commands.{Says, IsSaid, read_status, read_text, refused_text, write_text, write_status}
 
--- a beginning of a piece behind what was said whole is a beginning of the line
-pub says_more : (a b c : Option (List ℕ)) (line done piece rest : List ℕ) → line ≡ done ++ (piece ++ rest) → Appends a b done → Says piece b c → Says line a c
-says_more a b c line done piece rest is whole (n, begun) =
+-- a beginning of these octets was written
+abbrev pub IsCut : Option (List ℕ) → Option (List ℕ) → List ℕ → Type 0
+IsCut a b octets = (n : ℕ) × Appends a b (take n octets)
+
+-- of a line of which a piece was cut, behind what was said whole
+cut_more : (a b c : Option (List ℕ)) (line done piece rest : List ℕ) → line ≡ done ++ (piece ++ rest) → Appends a b done → IsCut b c piece → IsCut a c line
+cut_more a b c line done piece rest is before (n, begun) =
     let split : line ≡ (done ++ take n piece) ++ (drop n piece ++ rest) =
     is ∙ ap (λ (l : List ℕ). done ++ (l ++ rest)) (sym (take-append-drop n piece)) ∙ ap (λ (l : List ℕ). done ++ l) (append_assoc (take n piece) (drop n piece) rest) ∙ sym (append_assoc done (take n piece) (drop n piece ++ rest)) in
     let front : take (length (done ++ take n piece)) line ≡ done ++ take n piece = ap (take (length (done ++ take n piece))) split ∙ take-append_seam (done ++ take n piece) (drop n piece ++ rest) in
-    (length (done ++ take n piece), subst (Appends a c) (sym front) (Appends-trans a b c done (take n piece) whole begun))
+    (length (done ++ take n piece), subst (Appends a c) (sym front) (Appends-trans a b c done (take n piece) before begun))
 
-kept_says : (a b : Option (List ℕ)) (line : List ℕ) → Keeps a b → Says line a b
-kept_says None b line k = (0, tt)
-kept_says (Some xs) None line k = absurd k
-kept_says (Some xs) (Some ys) line k = (0, k ∙ sym (append-nil xs))
+kept_cut : (a b : Option (List ℕ)) (line : List ℕ) → Keeps a b → IsCut a b line
+kept_cut None b line k = (0, tt)
+kept_cut (Some xs) None line k = absurd k
+kept_cut (Some xs) (Some ys) line k = (0, k ∙ sym (append-nil xs))
 
-pub stopped_says : (a b : Option (List ℕ)) (failed : Bool) (line : List ℕ) (fault : WriteFault) → StopsWriting a b failed line fault → Says line a b
-stopped_says a b failed line write.Failed (f, begun) = begun
-stopped_says a b failed line write.Memory kept = kept_says a b line kept
+stopped_cut : (a b : Option (List ℕ)) (failed : Bool) (line : List ℕ) (fault : WriteFault) → StopsWriting a b failed line fault → IsCut a b line
+stopped_cut a b failed line write.Failed (f, begun) = begun
+stopped_cut a b failed line write.Memory kept = kept_cut a b line kept
 
-pub whole_says : (a b : Option (List ℕ)) (line : List ℕ) → Appends a b line → Says line a b
-whole_says a b line whole = (length line, subst (Appends a b) (sym (take_all (length line) line (omega arith))) whole)
+-- what was said where a piece of the line couldn't be written
+pub stopped_says : (a b c : Option (List ℕ)) (failed lost : Bool) (line done piece rest : List ℕ) (fault : WriteFault) → line ≡ done ++ (piece ++ rest) → Appends a b done
+    → StopsWriting b c failed piece fault → lost ≡ true → Says line a c lost
+stopped_says a b c failed lost line done piece rest fault is before stops l =
+    let (n, begun) = cut_more a b c line done piece rest is before (stopped_cut b c failed piece fault stops) in
+    inr (l, (n, begun))
 
--- what a put has written
-pub put_says : {X : Type 0} (a b : Option (List ℕ)) (failed : Bool) (line : List ℕ) (r : Result X WriteFault) → OnOk r (Appends a b line) → IfErr r (StopsWriting a b failed line) → Says line a b
-put_says a b failed line (Ok x) whole stopped = whole_says a b line whole
-put_says a b failed line (Err fault) whole stopped = stopped_says a b failed line fault stopped
+-- and where that piece is the last
+pub put_says : {X : Type 0} (a b c : Option (List ℕ)) (failed lost : Bool) (line done piece : List ℕ) (r : Result X WriteFault) → line ≡ done ++ piece → Appends a b done
+    → OnOk r (Appends b c piece) → IfErr r (StopsWriting b c failed piece) → OnErr r (lost ≡ true) → Says line a c lost
+put_says a b c failed lost line done piece (Ok x) is before more stops l = inl (subst (Appends a c) (sym is) (Appends-trans a b c done piece before more))
+put_says a b c failed lost line done piece (Err fault) is before more stops l =
+    stopped_says a b c failed lost line done piece [] fault (is ∙ ap (λ (p : List ℕ). done ++ p) (sym (append-nil piece))) before stops l
 
 -- what is said of a fault, and its status
-pub said_write : (status : ℕ) (fault : WriteFault) (a b : Option (List ℕ)) → status ≡ write_status fault → Says (write_text fault) a b → IsSaid status a b
-said_write status write.Failed a b is says = record { quiet = λ l. absurd (omega (arith, is, l)); device = λ e. says; memory = λ e. absurd (omega (arith, is, e)) }
-said_write status write.Memory a b is says = record { quiet = λ l. absurd (omega (arith, is, l)); device = λ e. absurd (omega (arith, is, e)); memory = λ e. says }
+pub said_write : (status : ℕ) (fault : WriteFault) (a b : Option (List ℕ)) (lost : Bool) → status ≡ write_status fault → Says (write_text fault) a b lost → IsSaid status a b lost
+said_write status write.Failed a b lost is says = record { quiet = λ l. absurd (omega (arith, is, l)); device = λ e. says; memory = λ e. absurd (omega (arith, is, e)) }
+said_write status write.Memory a b lost is says = record { quiet = λ l. absurd (omega (arith, is, l)); device = λ e. absurd (omega (arith, is, e)); memory = λ e. says }
+
+-- with 4 a beginning was written, with 5 nothing
+pub cut_at_4 : (status : ℕ) (fault : WriteFault) (a b : Option (List ℕ)) (failed : Bool) (octets : List ℕ) → status ≡ write_status fault → StopsWriting a b failed octets fault → status ≡ 4 → IsCut a b octets
+cut_at_4 status fault a b failed octets is stops e = stopped_cut a b failed octets fault stops
+
+pub kept_at_5 : (status : ℕ) (fault : WriteFault) (a b : Option (List ℕ)) (failed : Bool) (octets : List ℕ) → status ≡ write_status fault → StopsWriting a b failed octets fault → status ≡ 5 → Keeps a b
+kept_at_5 status write.Failed a b failed octets is stops e = absurd (omega (arith, is, e))
+kept_at_5 status write.Memory a b failed octets is stops e = stops
+
+-- what can't be read
+pub said_read : (status : ℕ) (fault : Fault) (a b : Option (List ℕ)) (lost : Bool) → status ≡ read_status fault → Says (read_text fault) a b lost → IsSaid status a b lost
+said_read status (lines.Refused refusal) a b lost is says = record { quiet = λ l. absurd (omega (arith, is, l)); device = λ e. absurd (omega (arith, is, e)); memory = λ e. absurd (omega (arith, is, e)) }
+said_read status lines.Memory a b lost is says = record { quiet = λ l. absurd (omega (arith, is, l)); device = λ e. absurd (omega (arith, is, e)); memory = λ e. says }
+
+pub refused_at_3 : (P : ℕ → Type 0) (status : ℕ) (fault : Fault) (a b : Option (List ℕ)) (lost : Bool) → status ≡ read_status fault → RefusesBy P fault → Says (read_text fault) a b lost
+    → status ≡ 3 → (n : ℕ) × P n × Says (refused_text n) a b lost
+refused_at_3 P status (lines.Refused refusal) a b lost is stands says e = (refusal.number, stands, says)
+refused_at_3 P status lines.Memory a b lost is stands says e = absurd (omega (arith, is, e))

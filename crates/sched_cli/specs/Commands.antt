@@ -1,13 +1,15 @@
 -- What the commands write, and the statuses that they end with.
 use Rattle.std.specs.Prelude.{◌≡◌, ◌⊎◌, ℕ, ℤ, Bool, true, if◌then◌else◌, ◌==◌, ◌≤◌, List, ◌++◌, take, codes, decimal, Contains, Option, IfSome, Result, Ok, Err}
 use Rattle.std.specs.Io.KnownBytes.{Appends, Keeps}
-use Rattle.profile.specs.Calendars.{CertificateHolds}
+use Rattle.profile.specs.checker.Calendars.{CertificateHolds}
 use Rattle.clash_check.specs.Verdicts.{IsRefusedCalendar, IsJudgement}
 use Rattle.clash_check.specs.declared.verdict.Checked.{Checked}
 use Rattle.clash_check.specs.declared.verdict.Verdict.{Verdict}
 use Rattle.clash_check.specs.declared.verdict.Verdict.TheVariants.{Yes, No}
 use Rattle.clash_check.specs.declared.verdict.Why.{Why}
-use Rattle.sched_box.specs.Preamble.{Opens, OpensNot}
+use Rattle.ical_lines.specs.declared.fault.Fault.{Fault}
+use Rattle.ical_lines.specs.declared.fault.Fault.TheVariants as lines
+use Rattle.sched_box.specs.Preamble.{Opens, OpensNot, StopsInPreamble}
 use Rattle.sched_box.specs.Serving.{Ends, HasRead, ServesStream, KeepsTexts}
 use Rattle.sched_box.specs.declared.fault.ServeFault.TheVariants.{Read, Write, TooLong, Memory}
 use Rattle.sched_box.specs.declared.fault.StreamFault.{StreamFault}
@@ -21,9 +23,9 @@ use Rattle.sched_cli.specs.declared.commands.Kept.TheVariants.{Calendar, Certifi
 
 -- ---- standard error
 
--- the line was written, or, where that fails, a beginning of it
-abbrev pub Says : List ℕ → Option (List ℕ) → Option (List ℕ) → Type 0
-Says line old new = (n : ℕ) × Appends old new (take n line)
+-- the line was written; only where it may be lost, a beginning of it
+abbrev pub Says : List ℕ → Option (List ℕ) → Option (List ℕ) → Bool → Type 0
+Says line old new lost = Appends old new line ⊎ ((lost ≡ true) × ((n : ℕ) × Appends old new (take n line)))
 
 abbrev pub refused_text : ℕ → List ℕ
 refused_text n = codes "roombox: refused " ++ decimal n ++ codes "\n"
@@ -46,10 +48,10 @@ fault_text (Serve TooLong) = too_long_text
 fault_text (Serve Memory) = memory_text
 
 -- what is said with the statuses 0, 1, 4 and 5: with 0 and 1 nothing
-pub record IsSaid (status : ℕ) (old new : Option (List ℕ)) : Type 0 where
+pub record IsSaid (status : ℕ) (old new : Option (List ℕ)) (lost : Bool) : Type 0 where
   pub quiet : status ≤ 1 → Keeps old new
-  pub device : status ≡ 4 → Says device_text old new
-  pub memory : status ≡ 5 → Says memory_text old new
+  pub device : status ≡ 4 → Says device_text old new lost
+  pub memory : status ≡ 5 → Says memory_text old new lost
 
 -- ---- a stream
 
@@ -70,6 +72,15 @@ abbrev pub write_text : WriteFault → List ℕ
 write_text Failed = device_text
 write_text write.Memory = memory_text
 
+-- and for what can't be read
+abbrev pub read_status : Fault → ℕ
+read_status (lines.Refused refusal) = 3
+read_status lines.Memory = 5
+
+abbrev pub read_text : Fault → List ℕ
+read_text (lines.Refused refusal) = refused_text refusal.number
+read_text lines.Memory = memory_text
+
 -- a device is blamed only where one has failed: the reader, the writer
 abbrev pub BlamesDevice : Bool → Bool → ℕ → Type 0
 BlamesDevice reader writer status = status ≡ 4 → (reader ≡ true) ⊎ (writer ≡ true)
@@ -84,16 +95,16 @@ stream_status (Ok report) = 0
 stream_status (Err fault) = fault_status fault
 
 -- what is said at its end
-abbrev pub SaysStream : Result ServeReport StreamFault → Option (List ℕ) → Option (List ℕ) → Type 0
-SaysStream (Ok report) old new = Keeps old new
-SaysStream (Err fault) old new = Says (fault_text fault) old new
+abbrev pub SaysStream : Result ServeReport StreamFault → Option (List ℕ) → Option (List ℕ) → Bool → Type 0
+SaysStream (Ok report) old new lost = Keeps old new
+SaysStream (Err fault) old new lost = Says (fault_text fault) old new lost
 
 -- the stream was served so, this is the status for it, and this was said
-pub record ServesWith (status : ℕ) (ends : Ends) (old new : Option (List ℕ)) : Type 0 where
+pub record ServesWith (status : ℕ) (ends : Ends) (old new : Option (List ℕ)) (lost : Bool) : Type 0 where
   pub ended : Result ServeReport StreamFault
   pub serves : ServesStream ends ended
   pub status_is : status ≡ stream_status ended
-  pub said : SaysStream ended old new
+  pub said : SaysStream ended old new lost
 
 -- ---- what a room keeps
 
@@ -111,12 +122,12 @@ pub record KeepsBoth (input left : Option (List ℕ)) (room calendar certificate
   pub keeps : KeepsTexts moment rooms rest left room calendar certificate
   pub passes : CertificateHolds room calendar certificate
 
--- why nothing is kept of input that is refused or too long: no preamble stands at its front; or the box that it names doesn't host the
--- room; or so many octets were read behind it
+-- why nothing is kept of input that is refused or too long: no preamble stands at its front, and no octet past its empty line was taken;
+-- or the box that it names doesn't host the room, and nothing behind it was taken; or 1,073,741,824 octets were read behind it
 abbrev pub KeepsNone : Option (List ℕ) → Option (List ℕ) → List ℕ → StreamFault → Type 0
 KeepsNone input left room (Refused refusal) =
-    (refusal.number ≡ 90) × (IfSome input OpensNot ⊎ ((moment : ℤ) × (rooms : List (List ℕ)) × (rest : Option (List ℕ)) × Opens input rest moment rooms
-    × (Contains rooms room → ⊥)))
+    (refusal.number ≡ 90) × ((IfSome input OpensNot × StopsInPreamble input left)
+    ⊎ ((moment : ℤ) × (rooms : List (List ℕ)) × (rest : Option (List ℕ)) × Opens input rest moment rooms × (Contains rooms room → ⊥) × Keeps rest left))
 KeepsNone input left room (Serve TooLong) =
     (moment : ℤ) × (rooms : List (List ℕ)) × (rest : Option (List ℕ)) × Opens input rest moment rooms × HasRead 1_073_741_824 rest left
 KeepsNone input left room (Serve Read) = Unit {0}
@@ -124,11 +135,11 @@ KeepsNone input left room (Serve Write) = Unit {0}
 KeepsNone input left room (Serve Memory) = Unit {0}
 
 -- and that was said
-pub record RefusesToKeep (room : List ℕ) (input left old new : Option (List ℕ)) : Type 0 where
+pub record RefusesToKeep (room : List ℕ) (input left old new : Option (List ℕ)) (lost : Bool) : Type 0 where
   pub fault : StreamFault
   pub status : fault_status fault ≡ 3
   pub none : KeepsNone input left room fault
-  pub said : Says (fault_text fault) old new
+  pub said : Says (fault_text fault) old new lost
 
 -- the one that was asked for was written, whole
 pub record WritesKept (kept : Kept) (room : List ℕ) (ends : Ends) : Type 0 where
@@ -136,6 +147,14 @@ pub record WritesKept (kept : Kept) (room : List ℕ) (ends : Ends) : Type 0 whe
   pub certificate : List ℕ
   pub keeps : KeepsBoth ends.input ends.left room calendar certificate
   pub written : Appends ends.output ends.written (text_of kept calendar certificate)
+
+-- a beginning of it was
+pub record CutsKept (kept : Kept) (room : List ℕ) (ends : Ends) : Type 0 where
+  pub calendar : List ℕ
+  pub certificate : List ℕ
+  pub keeps : KeepsBoth ends.input ends.left room calendar certificate
+  pub count : ℕ
+  pub written : Appends ends.output ends.written (take count (text_of kept calendar certificate))
 
 -- ---- the checker's answer
 
@@ -161,3 +180,10 @@ pub record WritesVerdict (status : ℕ) (room calendar certificate : List ℕ) (
   pub judged : IsRefusedCalendar calendar checked ⊎ IsJudgement room calendar certificate checked
   pub line : Appends output written (verdict_line checked.verdict)
   pub ends : status ≡ verdict_status checked.verdict
+
+-- a beginning of it was written
+pub record CutsVerdict (room calendar certificate : List ℕ) (output written : Option (List ℕ)) : Type 0 where
+  pub checked : Checked
+  pub judged : IsRefusedCalendar calendar checked ⊎ IsJudgement room calendar certificate checked
+  pub count : ℕ
+  pub line : Appends output written (take count (verdict_line checked.verdict))

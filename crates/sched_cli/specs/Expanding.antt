@@ -2,13 +2,13 @@
 use Rattle.std.specs.Prelude.{◌≡◌, ◌⊎◌, ℕ, ◌<◌, ℤ, pos, ◌+ℤ◌, ◌*ℤ◌, List, [], ◌∷◌, ◌++◌, length, take, decimal, Option, Some, None}
 use Rattle.std.specs.List.{AllZip, concat}
 use Rattle.std.specs.Io.KnownBytes.{Appends}
-use Rattle.profile.specs.Values.{WritesStamp, IsClockSeconds}
-use Rattle.profile.specs.Rules.{Parts, rule_days_from}
-use Rattle.profile.specs.Properties.{length_seconds}
-use Rattle.profile.specs.ZonedTimes.{clock_of}
-use Rattle.profile.specs.Events.{Event}
-use Rattle.profile.specs.Series.{SpellsSeries}
-use Rattle.profile.specs.Zones.{Zone, Means, local_time}
+use Rattle.profile.specs.text.Values.{WritesStamp, IsClockSeconds}
+use Rattle.profile.specs.series.Rules.{Parts, rule_days_from}
+use Rattle.profile.specs.events.Properties.{length_seconds}
+use Rattle.profile.specs.events.ZonedTimes.{clock_of}
+use Rattle.profile.specs.events.Events.{Event}
+use Rattle.profile.specs.events.Series.{SpellsSeries}
+use Rattle.profile.specs.series.Zones.{Zone, Means, local_time}
 
 -- the line of an instance that starts at an instant: its original start, its start, and how many seconds it lasts
 abbrev pub IsInstanceLine : ℕ → ℤ → List ℕ → Type 0

@@ -1,12 +1,12 @@
 //! What each command does, and the status that it ends with.
 
-ghost use Rattle.std.specs.Prelude.{◌≡◌, ◌≤◌, ◌++◌, ◌⊎◌, false, IfOk, IfErr, OnOk};
+ghost use Rattle.std.specs.Prelude.{◌≡◌, ◌≤◌, ◌++◌, ◌⊎◌, ℕ, take, false, IfOk, IfErr, OnOk};
 ghost use Rattle.std.specs.Io.KnownBytes.{Appends, Keeps};
-ghost use Rattle.profile.specs.Calendars.{CertificateHolds};
+ghost use Rattle.profile.specs.checker.Calendars.{CertificateHolds};
 ghost use Rattle.ical_values.specs.Octets.{address_octets};
 ghost use Rattle.sched_box.specs.Faults.{StreamKeepsButRead, StreamStopsFor};
-ghost use Rattle.sched_box.specs.Output.{KeepsButFailed, WriteStopsFor};
-ghost use Rattle.sched_cli.specs.Commands.{BlamesDevice, IsSaid, ServesWith, WritesKept, KeepsBoth, KeepsNone, RefusesToKeep, TellsDevice, WritesVerdict, verdict_line, verdict_status, no_line};
+ghost use Rattle.sched_box.specs.Output.{KeepsButFailed, StopsWriting};
+ghost use Rattle.sched_cli.specs.Commands.{BlamesDevice, CutsKept, CutsVerdict, IsSaid, ServesWith, WritesKept, KeepsBoth, KeepsNone, RefusesToKeep, TellsDevice, WritesVerdict, verdict_line, verdict_status, no_line};
 
 use crate::status::{DONE, NO, report_memory, report_stream, report_write};
 use clash_check::{Checked, Verdict, Why, check};
@@ -32,7 +32,7 @@ pub fn run_serve<R: Input, W: Output, E: Output>(
     ensures device { BlamesDevice (R.has_failed reader.new) (W.has_failed writer.new) result }
     ensures told { TellsDevice result (R.has_failed reader.old) (R.has_failed reader.new) (W.has_failed writer.old) (W.has_failed writer.new) }
     ensures serves { ServesWith result (record { input = R.remaining reader.old; left = R.remaining reader.new; output = W.contents writer.old; written = W.contents writer.new })
-        (E.contents errors.old) (E.contents errors.new) }
+        (E.contents errors.old) (E.contents errors.new) (E.may_lose errors.new) }
 {
     match serve_stream(alloc, reader, writer) {
         Ok(_) => DONE,
@@ -52,10 +52,12 @@ pub fn run_keep<R: Input, W: Output, E: Output>(
     ensures device { BlamesDevice (R.has_failed reader.new) (W.has_failed writer.new) result }
     ensures told { TellsDevice result (R.has_failed reader.old) (R.has_failed reader.new) (W.has_failed writer.old) (W.has_failed writer.new) }
     ensures status { (result ≡ 0) ⊎ (result ≡ 3) ⊎ (result ≡ 4) ⊎ (result ≡ 5) }
-    ensures said { IsSaid result (E.contents errors.old) (E.contents errors.new) }
-    ensures unwritten { result ≡ 3 → Keeps (W.contents writer.old) (W.contents writer.new) }
-    ensures refused { result ≡ 3 → RefusesToKeep (address_octets room.now) (R.remaining reader.old) (R.remaining reader.new) (E.contents errors.old) (E.contents errors.new) }
+    ensures said { IsSaid result (E.contents errors.old) (E.contents errors.new) (E.may_lose errors.new) }
+    ensures unwritten { (result ≡ 3) ⊎ (result ≡ 5) → Keeps (W.contents writer.old) (W.contents writer.new) }
+    ensures refused { result ≡ 3 → RefusesToKeep (address_octets room.now) (R.remaining reader.old) (R.remaining reader.new) (E.contents errors.old) (E.contents errors.new) (E.may_lose errors.new) }
     ensures kept { result ≡ 0 → WritesKept kept (address_octets room.now)
+        (record { input = R.remaining reader.old; left = R.remaining reader.new; output = W.contents writer.old; written = W.contents writer.new }) }
+    ensures cut { result ≡ 4 → Keeps (W.contents writer.old) (W.contents writer.new) ⊎ CutsKept kept (address_octets room.now)
         (record { input = R.remaining reader.old; left = R.remaining reader.new; output = W.contents writer.old; written = W.contents writer.new }) }
 {
     match keep_stream(alloc, room, reader) {
@@ -89,10 +91,12 @@ fn keep_stream<R: Input>(
 /// Writes octets, whole.
 fn write_out<W: Output, E: Output>(writer: &mut W, errors: &mut E, octets: &[u8]) -> u8
     ensures written { result ≡ 0 → Appends (W.contents writer.old) (W.contents writer.new) octets.now }
+    ensures cut { result ≡ 4 → (n : ℕ) × Appends (W.contents writer.old) (W.contents writer.new) (take n octets.now) }
+    ensures unwritten { result ≡ 5 → Keeps (W.contents writer.old) (W.contents writer.new) }
     ensures device { BlamesDevice false (W.has_failed writer.new) result }
     ensures told { TellsDevice result false false (W.has_failed writer.old) (W.has_failed writer.new) }
     ensures status { (result ≡ 0) ⊎ (result ≡ 4) ⊎ (result ≡ 5) }
-    ensures said { IsSaid result (E.contents errors.old) (E.contents errors.new) }
+    ensures said { IsSaid result (E.contents errors.old) (E.contents errors.new) (E.may_lose errors.new) }
 {
     match writer.put(octets) {
         Ok(()) => DONE,
@@ -113,10 +117,12 @@ pub fn run_check<W: Output, E: Output>(
     ensures yes { result ≡ 0 → CertificateHolds (address_octets room.now) calendar.now certificate.now }
     ensures no { result ≡ 1 → CertificateHolds (address_octets room.now) calendar.now certificate.now → ⊥ }
     ensures answers { result ≤ 1 → WritesVerdict result (address_octets room.now) calendar.now certificate.now (W.contents writer.old) (W.contents writer.new) }
+    ensures cut { result ≡ 4 → CutsVerdict (address_octets room.now) calendar.now certificate.now (W.contents writer.old) (W.contents writer.new) }
+    ensures unwritten { result ≡ 5 → Keeps (W.contents writer.old) (W.contents writer.new) }
     ensures device { BlamesDevice false (W.has_failed writer.new) result }
     ensures told { TellsDevice result false false (W.has_failed writer.old) (W.has_failed writer.new) }
     ensures status { (result ≤ 1) ⊎ (result ≡ 4) ⊎ (result ≡ 5) }
-    ensures said { IsSaid result (E.contents errors.old) (E.contents errors.new) }
+    ensures said { IsSaid result (E.contents errors.old) (E.contents errors.new) (E.may_lose errors.new) }
 {
     let Ok(checked) = check(alloc, calendar, certificate, room) else {
         return report_memory(errors);
@@ -146,7 +152,7 @@ fn print_verdict<W: Output>(
     checked: Checked,
 ) -> Result<(), WriteFault>
     ensures line { OnOk result (Appends (W.contents writer.old) (W.contents writer.new) (verdict_line checked.verdict)) }
-    ensures cause { IfErr result (WriteStopsFor (W.has_failed writer.new)) }
+    ensures stops { IfErr result (StopsWriting (W.contents writer.old) (W.contents writer.new) (W.has_failed writer.new) (verdict_line checked.verdict)) }
     ensures mark { OnOk result (W.has_failed writer.new ≡ W.has_failed writer.old) }
     ensures told { IfErr result (KeepsButFailed (W.has_failed writer.old) (W.has_failed writer.new)) }
 {

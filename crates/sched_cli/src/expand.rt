@@ -2,23 +2,22 @@
 
 ghost use Rattle.std.specs.Prelude.{◌≡◌, ◌⊎◌, ◌++◌, ◌∷◌, ◌<◌, ℕ, List, [], decimal, Some, None, false, OnOk, IfOk, IfErr, IfSome, IfNone};
 ghost use Rattle.std.specs.Io.KnownBytes.{Appends, Keeps};
-ghost use Rattle.profile.specs.Days.{day_index};
-ghost use Rattle.profile.specs.Values.{IsClockSeconds};
-ghost use Rattle.profile.specs.Rules.{rule_days_from};
-ghost use Rattle.profile.specs.Series.{SeriesTextFault};
-ghost use Rattle.profile.specs.Zones.{Means, IsNearEpoch, local_time};
-ghost use Rattle.profile.specs.Properties.{length_seconds};
-ghost use Rattle.profile.specs.ZonedTimes.{clock_of};
+ghost use Rattle.profile.specs.series.Days.{day_index};
+ghost use Rattle.profile.specs.text.Values.{IsClockSeconds};
+ghost use Rattle.profile.specs.series.Rules.{rule_days_from};
+ghost use Rattle.profile.specs.events.Series.{SeriesTextFault};
+ghost use Rattle.profile.specs.series.Zones.{Means, IsNearEpoch, local_time};
+ghost use Rattle.profile.specs.events.Properties.{length_seconds};
+ghost use Rattle.profile.specs.events.ZonedTimes.{clock_of};
 ghost use Rattle.cal_events.specs.Events.{event_of, length_of, zone_said};
-ghost use Rattle.sched_box.specs.Output.{WriteStopsFor};
-ghost use Rattle.sched_cli.specs.Commands.{BlamesDevice, IsSaid, Says, refused_text};
+ghost use Rattle.sched_box.specs.Output.{KeepsButFailed, WriteStopsFor};
+ghost use Rattle.sched_cli.specs.Commands.{BlamesDevice, IsSaid, Says, TellsDevice, refused_text};
 ghost use Rattle.sched_cli.specs.Expanding.{IsInstanceLine, IsPrinted, IsPrintedOn, IsHandedOver, IsSecondOf, PrintsFirst, PrintsSeries, ExpandsTo};
 
-use crate::status::{DONE, report_memory, report_refused, report_write};
+use crate::status::{DONE, report_read, report_write};
 use cal_days::Day;
 use cal_events::{EventComponent, EventTimes, ZonedTime, read_series};
 use cal_rules::Rule;
-use ical_lines::Fault;
 use ical_values::{DAY_SECONDS, LocalTime, Stamp};
 use itoa::Buffer;
 use sched_box::{Output, WriteFault};
@@ -38,15 +37,15 @@ pub fn run_expand<W: Output, E: Output>(
 ) -> u8
     ensures expands { result ≡ 0 → ExpandsTo octets.now limit (W.contents writer.old) (W.contents writer.new) }
     ensures unwritten { result ≡ 3 → Keeps (W.contents writer.old) (W.contents writer.new) }
-    ensures refused { result ≡ 3 → (n : ℕ) × SeriesTextFault octets.now n × Says (refused_text n) (E.contents errors.old) (E.contents errors.new) }
-    ensures said { IsSaid result (E.contents errors.old) (E.contents errors.new) }
+    ensures refused { result ≡ 3 → (n : ℕ) × SeriesTextFault octets.now n × Says (refused_text n) (E.contents errors.old) (E.contents errors.new) (E.may_lose errors.new) }
+    ensures said { IsSaid result (E.contents errors.old) (E.contents errors.new) (E.may_lose errors.new) }
     ensures device { BlamesDevice false (W.has_failed writer.new) result }
+    ensures told { TellsDevice result false false (W.has_failed writer.old) (W.has_failed writer.new) }
     ensures status { (result ≡ 0) ⊎ (result ≡ 3) ⊎ (result ≡ 4) ⊎ (result ≡ 5) }
 {
     let event = match read_series(alloc, octets) {
         Ok(event) => event,
-        Err(Fault::Refused(refusal)) => return report_refused(errors, refusal),
-        Err(Fault::Memory) => return report_memory(errors),
+        Err(fault) => return report_read(errors, fault),
     };
     match print_series(alloc, &event, limit, writer) {
         Ok(()) => DONE,
@@ -62,9 +61,11 @@ fn print_series<W: Output>(
     writer: &mut W,
 ) -> Result<(), WriteFault>
     ensures cause { IfErr result (WriteStopsFor (W.has_failed writer.new)) }
+    ensures mark { OnOk result (W.has_failed writer.new ≡ W.has_failed writer.old) }
+    ensures told { IfErr result (KeepsButFailed (W.has_failed writer.old) (W.has_failed writer.new)) }
     ensures prints { OnOk result (PrintsSeries (event_of event.now) limit (W.contents writer.old) (W.contents writer.new)) }
 {
-    let mut lines = Lines::new(alloc, event.times.seconds())?;
+    let mut lines = InstanceLines::new(alloc, event.times.seconds())?;
     let Some(rule) = &event.rule else {
         lines.append_instant(event.times.start.instant())?;
         lines.hand_over(writer)?;
@@ -81,12 +82,14 @@ fn print_days<W: Output>(
     times: &EventTimes,
     rule: &Rule,
     limit: usize,
-    lines: &mut Lines,
+    lines: &mut InstanceLines,
     writer: &mut W,
 ) -> Result<(), WriteFault>
     requires text { lines.old.text.items ≡ [] }
     requires length { lines.old.length.items ≡ decimal (length_seconds (length_of times.now.length)) ++ 10 ∷ [] }
     ensures cause { IfErr result (WriteStopsFor (W.has_failed writer.new)) }
+    ensures mark { OnOk result (W.has_failed writer.new ≡ W.has_failed writer.old) }
+    ensures told { IfErr result (KeepsButFailed (W.has_failed writer.old) (W.has_failed writer.new)) }
     ensures prints { OnOk result ((second : ℕ) × IsSecondOf times.now.start.local second × PrintsFirst (clock_of (zone_said times.now.start)) second (length_seconds (length_of times.now.length)) limit
         (rule_days_from rule.now rule.now.pattern.start) (W.contents writer.old) (W.contents writer.new) lines.new.text.items) }
 {
@@ -106,11 +109,13 @@ fn print_day<W: Output>(
     times: &EventTimes,
     day: Day,
     second: u32,
-    lines: &mut Lines,
+    lines: &mut InstanceLines,
     writer: &mut W,
 ) -> Result<(), WriteFault>
     requires { lines.old.length.items ≡ decimal (length_seconds (length_of times.now.length)) ++ 10 ∷ [] }
     ensures cause { IfErr result (WriteStopsFor (W.has_failed writer.new)) }
+    ensures mark { OnOk result (W.has_failed writer.new ≡ W.has_failed writer.old) }
+    ensures told { IfErr result (KeepsButFailed (W.has_failed writer.old) (W.has_failed writer.new)) }
     ensures length { lines.new.length.items ≡ lines.old.length.items }
     ensures line { OnOk result ((line : List ℕ) × IsPrintedOn (clock_of (zone_said times.now.start)) second (length_seconds (length_of times.now.length)) (day_index day) line
         × IsHandedOver (W.contents writer.old) (W.contents writer.new) lines.new.text.items (lines.old.text.items ++ line)) }
@@ -127,7 +132,7 @@ fn append_day(
     times: &EventTimes,
     day: Day,
     second: u32,
-    lines: &mut Lines,
+    lines: &mut InstanceLines,
 ) -> Result<(), AllocError>
     requires { lines.old.length.items ≡ decimal (length_seconds (length_of times.now.length)) ++ 10 ∷ [] }
     ensures length { lines.new.length.items ≡ lines.old.length.items }
@@ -143,7 +148,7 @@ fn append_day(
 
 /// The lines of instances that all last as long, on their way to a writer.
 #[derive(Drop)]
-struct Lines {
+struct InstanceLines {
     text: Vec<u8>,
     /// The start of the last line.
     start: Vec<u8>,
@@ -151,9 +156,9 @@ struct Lines {
     length: Vec<u8>,
 }
 
-impl Lines {
+impl InstanceLines {
     /// None yet.
-    fn new(alloc: Global, seconds: u64) -> Result<Lines, AllocError>
+    fn new(alloc: Global, seconds: u64) -> Result<InstanceLines, AllocError>
         ensures text { IfOk result (λ lines. lines.text.items ≡ []) }
         ensures length { IfOk result (λ lines. lines.length.items ≡ decimal seconds ++ 10 ∷ []) }
     {
@@ -161,7 +166,7 @@ impl Lines {
         let mut digits = Buffer::new();
         length.extend_from_slice(digits.format(seconds).as_bytes())?;
         length.push(b'\n')?;
-        Ok(Lines {
+        Ok(InstanceLines {
             text: Vec::new(alloc),
             start: Vec::new(alloc),
             length,
@@ -198,6 +203,8 @@ impl Lines {
     fn hand_over<W: Output>(&mut self, writer: &mut W) -> Result<(), WriteFault>
         ensures written { OnOk result (Appends (W.contents writer.old) (W.contents writer.new) self.old.text.items) }
         ensures cause { IfErr result (WriteStopsFor (W.has_failed writer.new)) }
+        ensures mark { OnOk result (W.has_failed writer.new ≡ W.has_failed writer.old) }
+        ensures told { IfErr result (KeepsButFailed (W.has_failed writer.old) (W.has_failed writer.new)) }
         ensures text { OnOk result (self.new.text.items ≡ []) }
         ensures length { self.new.length.items ≡ self.old.length.items }
     {

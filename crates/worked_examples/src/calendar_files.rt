@@ -17,11 +17,9 @@ pub fn kept(alloc: Global, octets: &[u8], room: &Address) -> Result<String, NoAn
     let calendar = Calendar::read(alloc, octets, room)?;
     let mut list = calendar.single_count().to_string(alloc)?;
     for booking in calendar.bookings() {
-        let organiser = booking.organiser.as_str();
-        let item = format!(in alloc;
-            "{organiser} {} {} {}",
-            booking.slot, booking.start, booking.end
-        )?;
+        let organiser = booking.key.organiser.as_str();
+        let slot = booking.key.slot;
+        let item = format!(in alloc; "{organiser} {slot} {} {}", booking.start, booking.end)?;
         append(&mut list, ", ", item.as_str())?;
     }
     Ok(list)

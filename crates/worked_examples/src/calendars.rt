@@ -3,8 +3,8 @@
 
 use crate::certificates::verdict_text;
 use crate::names::ANN;
-use cal_events::{Booking, Calendar, Entry};
-use clash_cert::{Clash, Made, OwnedKey, make};
+use cal_events::{Calendar, Entry, OwnedInstance, OwnedKey};
+use clash_cert::{Clash, Made, make};
 use clash_check::{check_clash, judge_read};
 use example_cases::answers::{Answers, append, none, yes_or_no};
 use example_cases::spelled::{escaped, octets_of};
@@ -38,10 +38,13 @@ fn entry(alloc: Global, event: &str) -> Result<Entry, NoAnswer> {
     let (start, rest) = first_word(rest);
     let (end, status) = first_word(rest);
     let start = number(start)?;
-    let booking = Booking {
+    let key = OwnedKey {
         organiser: Address::read(alloc, ANN)?,
         uid: Text::read(alloc, uid)?,
         slot: start,
+    };
+    let booking = OwnedInstance {
+        key,
         start,
         end: number(end)?,
     };

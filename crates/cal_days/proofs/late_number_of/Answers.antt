@@ -1,5 +1,5 @@
 use Rattle.std.proofs.Common.{arith, refl, sym, pos, ◌+ℤ◌, ◌-ℤ◌, ◌≡◌, ◌∙◌, to_z, of_z, w32, w64}
-use Rattle.profile.specs.Days.{number_of_day}
+use Rattle.profile.specs.series.Days.{number_of_day}
 use Rattle.jiff_core.proofs.SignedLemmas.{signed_arith}
 use Rattle.cal_days.proofs.Bridge.{late}
 use Rattle.cal_days.proofs.late_number_of.Goals as goal

@@ -1,6 +1,6 @@
 use Rattle.std.proofs.Common.{◌≡◌, arith}
 use Rattle.jiff_core.proofs.SignedLemmas.{signed_arith}
-use Rattle.profile.specs.Days.{number_of_day}
+use Rattle.profile.specs.series.Days.{number_of_day}
 use Rattle.cal_days.proofs.Dates.{civil_parts}
 use Rattle.cal_days.proofs.Day.civil.Goals as goal
 

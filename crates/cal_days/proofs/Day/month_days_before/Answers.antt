@@ -1,5 +1,5 @@
 use Rattle.std.proofs.Common.{arith}
-use Rattle.profile.specs.Days.{day_index}
+use Rattle.profile.specs.series.Days.{day_index}
 use Rattle.cal_days.proofs.Dates.{month_place_max}
 use Rattle.cal_days.proofs.Day.month_days_before.Goals as goal
 

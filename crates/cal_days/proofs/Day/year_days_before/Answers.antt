@@ -1,5 +1,5 @@
 use Rattle.std.proofs.Common.{arith}
-use Rattle.profile.specs.Days.{day_index}
+use Rattle.profile.specs.series.Days.{day_index}
 use Rattle.cal_days.proofs.Dates.{YearPlace, year_place}
 use Rattle.cal_days.proofs.Day.year_days_before.Goals as goal
 

@@ -3,8 +3,8 @@ use Rattle.std.specs.List.{AllZip}
 use Rattle.ical_lines.specs.Fault.{RefusesBy}
 use Rattle.ical_lines.specs.Text.{line_text}
 use Rattle.ical_tree.proofs.OneLine.{at_place}
-use Rattle.profile.specs.Events.{EventFault, IsAttendee}
-use Rattle.profile.specs.Properties.{lines_named}
+use Rattle.profile.specs.events.Events.{EventFault, IsAttendee}
+use Rattle.profile.specs.events.Properties.{lines_named}
 use Rattle.cal_events.specs.Events.{attendee_of}
 use Rattle.cal_events.specs.declared.component.Attendee.{Attendee}
 use Rattle.cal_events.proofs.EventLemmas.{attendee_pushed, attendee_fault, one_other}

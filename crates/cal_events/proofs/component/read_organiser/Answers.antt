@@ -3,10 +3,10 @@ use Rattle.ical_lines.specs.Fault.{RefusesBy}
 use Rattle.std.specs.Prelude.{option_map}
 use Rattle.std.specs.Option.{option_to_list}
 use Rattle.ical_lines.specs.Text.{line_text}
-use Rattle.profile.specs.Values.{IsAddress}
-use Rattle.profile.specs.Events.{EventFault}
-use Rattle.profile.specs.Properties.{IsNoAddress}
-use Rattle.profile.specs.Events.{twice, bad_organiser, no_organiser}
+use Rattle.profile.specs.text.Values.{IsAddress}
+use Rattle.profile.specs.events.Events.{EventFault}
+use Rattle.profile.specs.events.Properties.{IsNoAddress}
+use Rattle.profile.specs.events.Events.{twice, bad_organiser, no_organiser}
 use Rattle.cal_events.specs.Events.{is_message}
 use Rattle.cal_events.proofs.EventLemmas.{by_number, some_line}
 use Rattle.ical_values.proofs.Exits.{err_exit}

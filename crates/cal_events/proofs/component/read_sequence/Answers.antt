@@ -3,10 +3,10 @@ use Rattle.std.specs.Prelude.{option_map}
 use Rattle.std.specs.Option.{option_to_list}
 use Rattle.ical_lines.specs.Text.{line_text}
 use Rattle.ical_lines.specs.declared.fault.Refusal.{Refusal}
-use Rattle.profile.specs.Values.{SpellsSequence}
-use Rattle.profile.specs.Events.{EventFault}
-use Rattle.profile.specs.Properties.{IsNoSequence}
-use Rattle.profile.specs.Events.{twice, bad_sequence}
+use Rattle.profile.specs.text.Values.{SpellsSequence}
+use Rattle.profile.specs.events.Events.{EventFault}
+use Rattle.profile.specs.events.Properties.{IsNoSequence}
+use Rattle.profile.specs.events.Events.{twice, bad_sequence}
 use Rattle.cal_events.proofs.EventLemmas.{some_line, sequence_said}
 use Rattle.ical_values.proofs.Exits.{refusal_exit, err_both}
 use Rattle.cal_events.proofs.component.read_sequence.Goals as goal

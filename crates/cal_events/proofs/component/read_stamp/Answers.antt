@@ -2,10 +2,10 @@ use Rattle.std.proofs.Common.{codes, sym, ap, subst, refl, ◌∙◌, arith}
 use Rattle.std.specs.Prelude.{option_map}
 use Rattle.std.specs.Option.{option_to_list}
 use Rattle.ical_lines.specs.Text.{line_text}
-use Rattle.profile.specs.Lines.{line_value}
-use Rattle.profile.specs.Events.{EventFault}
-use Rattle.profile.specs.Properties.{IsNoStamp}
-use Rattle.profile.specs.Events.{twice, bad_stamp, no_stamp_given}
+use Rattle.profile.specs.text.Lines.{line_value}
+use Rattle.profile.specs.events.Events.{EventFault}
+use Rattle.profile.specs.events.Properties.{IsNoStamp}
+use Rattle.profile.specs.events.Events.{twice, bad_stamp, no_stamp_given}
 use Rattle.cal_events.specs.Events.{is_message}
 use Rattle.cal_events.proofs.EventLemmas.{some_line}
 use Rattle.ical_values.proofs.Exits.{refusal_exit}

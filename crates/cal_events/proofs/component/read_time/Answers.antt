@@ -1,7 +1,7 @@
 use Rattle.std.proofs.Common.{refl}
 use Rattle.std.proofs.lemmas.Result.{IfErr-weaker}
 use Rattle.ical_lines.specs.Text.{line_text}
-use Rattle.profile.specs.Properties.{DateTime, Date, Period, Other, KindFault, TimeFault}
+use Rattle.profile.specs.events.Properties.{DateTime, Date, Period, Other, KindFault, TimeFault}
 use Rattle.cal_events.proofs.EventLemmas.{kind_fault, time_said}
 use Rattle.cal_events.proofs.component.read_time.Goals as goal
 

@@ -3,11 +3,11 @@ use Rattle.ical_lines.specs.Text.{line_text}
 use Rattle.ical_lines.specs.Fault.{RefusesOnly, RefusesBy}
 use Rattle.ical_values.specs.Refused.{IfRefused}
 use Rattle.ical_values.proofs.Exits.{err_exit, err_both}
-use Rattle.profile.specs.Faults.{is_uid_fault}
-use Rattle.profile.specs.Lines.{line_value}
-use Rattle.profile.specs.Values.{IsUid, unescaped}
-use Rattle.profile.specs.Events.{EventFault}
-use Rattle.profile.specs.Events.{twice, no_uid, bad_uid}
+use Rattle.profile.specs.faults.Faults.{is_uid_fault}
+use Rattle.profile.specs.text.Lines.{line_value}
+use Rattle.profile.specs.text.Values.{IsUid, unescaped}
+use Rattle.profile.specs.events.Events.{EventFault}
+use Rattle.profile.specs.events.Events.{twice, no_uid, bad_uid}
 use Rattle.cal_events.proofs.EventLemmas.{by_number, some_line, uid_said}
 use Rattle.cal_events.proofs.component.read_uid.Goals as goal
 

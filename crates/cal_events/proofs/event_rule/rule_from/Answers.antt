@@ -1,11 +1,11 @@
 use Rattle.std.proofs.Common.{arith, subst, refl, inl, option_map}
 use Rattle.std.specs.Prelude.{Option}
 use Rattle.std.proofs.lemmas.Int.{ints}
-use Rattle.profile.specs.Days.{day_index}
-use Rattle.profile.specs.Rules.{Until}
-use Rattle.profile.specs.Zones.{Zone}
-use Rattle.profile.specs.ZonedTimes.{clock_of}
-use Rattle.profile.specs.EventRules.{IsLastAllowed, AllowsNone, IsOnDay}
+use Rattle.profile.specs.series.Days.{day_index}
+use Rattle.profile.specs.series.Rules.{Until}
+use Rattle.profile.specs.series.Zones.{Zone}
+use Rattle.profile.specs.events.ZonedTimes.{clock_of}
+use Rattle.profile.specs.events.EventRules.{IsLastAllowed, AllowsNone, IsOnDay}
 use Rattle.cal_rules.specs.Views.{until_of}
 use Rattle.cal_events.specs.Events.{zone_said}
 use Rattle.cal_events.proofs.RuleLemmas.{rule_given, rule_refused}

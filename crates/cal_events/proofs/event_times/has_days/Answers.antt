@@ -1,8 +1,8 @@
 use Rattle.std.proofs.Common.{arith, subst, sym, List, ℕ, rules}
 use Rattle.std.proofs.lemmas.Bool.Decides.{nat_tests}
 use Rattle.ical_lines.specs.Text.{line_text}
-use Rattle.profile.specs.Lines.{line_value}
-use Rattle.profile.specs.Values.{SpellsDuration}
+use Rattle.profile.specs.text.Lines.{line_value}
+use Rattle.profile.specs.text.Values.{SpellsDuration}
 use Rattle.cal_events.specs.Events.{length_of}
 use Rattle.cal_events.proofs.TimesLemmas.{not_counted}
 use Rattle.cal_events.proofs.event_times.has_days.Goals as goal

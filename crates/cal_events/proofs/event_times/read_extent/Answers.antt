@@ -3,7 +3,7 @@ use Rattle.std.specs.Prelude.{option_map}
 use Rattle.std.specs.Option.{option_to_list}
 use Rattle.std.proofs.lemmas.Int.{ints}
 use Rattle.ical_lines.specs.Text.{line_text}
-use Rattle.profile.specs.ZonedTimes.{EventTimesFault, ZonedTimeFault, twice, bad_end, end_and_duration}
+use Rattle.profile.specs.events.ZonedTimes.{EventTimesFault, ZonedTimeFault, twice, bad_end, end_and_duration}
 use Rattle.ical_values.proofs.Exits.{refusal_exit}
 use Rattle.cal_events.specs.Zones.{object_of}
 use Rattle.cal_events.specs.Zoned.{EndsSo}

@@ -1,6 +1,6 @@
 use Rattle.std.proofs.Common.{◌≡◌, sym, refl, true, codes}
 use Rattle.ical_lines.specs.Text.{line_text}
-use Rattle.profile.specs.ZonedTimes.{is_in_zone, HasDays, nominal}
+use Rattle.profile.specs.events.ZonedTimes.{is_in_zone, HasDays, nominal}
 use Rattle.cal_events.proofs.EventLemmas.{some_line}
 use Rattle.cal_events.proofs.event_times.refuse_nominal_length.Goals as goal
 

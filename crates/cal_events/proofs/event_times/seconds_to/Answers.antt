@@ -1,9 +1,9 @@
 use Rattle.std.proofs.Common.{◌≡◌, arith, to_z, of_z, w64, ◌-ℤ◌, ◌+ℤ◌, ◌∙◌, sym, subst, ℤ, Bool}
 use Rattle.std.specs.Prelude.{◌↔◌, IsTrue}
 use Rattle.ical_lines.specs.Text.{line_text}
-use Rattle.profile.specs.ZonedTimes.{IsInDates, is_in_zone, clock_of}
+use Rattle.profile.specs.events.ZonedTimes.{IsInDates, is_in_zone, clock_of}
 use Rattle.std.proofs.lemmas.Int.{ints}
-use Rattle.profile.specs.Zones.{Means}
+use Rattle.profile.specs.series.Zones.{Means}
 use Rattle.cal_events.specs.Events.{zone_said}
 use Rattle.cal_events.proofs.event_times.seconds_to.Goals as goal
 

@@ -5,8 +5,8 @@ use Rattle.ical_tree.specs.Tree.{component_lines, component_children, tree_of}
 use Rattle.ical_tree.specs.declared.component.Component.{Component}
 use Rattle.ical_values.specs.Octets.{address_octets}
 use Rattle.ical_values.proofs.Exits.{err_exit}
-use Rattle.profile.specs.Trees.{Tree}
-use Rattle.profile.specs.Events.{CalendarFault, SaysEvent, has_unread}
+use Rattle.profile.specs.text.Trees.{Tree}
+use Rattle.profile.specs.events.Events.{CalendarFault, SaysEvent, has_unread}
 use Rattle.cal_events.specs.declared.component.Purpose.TheVariants.{Calendar}
 use Rattle.cal_events.specs.Events.{event_of, vevents_of, AreEntries, IsUnreadOrFault}
 use Rattle.cal_events.proofs.ReadingLemmas.{events_in, is_among, take_other, take_event, read_event, entry_pushed, event_stands}

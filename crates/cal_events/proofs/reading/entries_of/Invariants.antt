@@ -2,7 +2,7 @@ use Rattle.std.proofs.Common.{◌≡◌, false, take}
 use Rattle.std.specs.List.{list_any}
 use Rattle.ical_tree.specs.Tree.{component_children, tree_of}
 use Rattle.ical_values.specs.Octets.{address_octets}
-use Rattle.profile.specs.Events.{has_unread}
+use Rattle.profile.specs.events.Events.{has_unread}
 use Rattle.cal_events.specs.Events.{AreEntries}
 use Rattle.cal_events.proofs.ReadingLemmas.{events_in}
 use Rattle.cal_events.proofs.reading.entries_of.Given as goal

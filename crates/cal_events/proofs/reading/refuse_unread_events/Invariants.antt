@@ -1,7 +1,7 @@
 use Rattle.std.proofs.Common.{◌≡◌, drop}
 use Rattle.std.specs.List.{list_any}
 use Rattle.ical_tree.specs.Tree.{component_children}
-use Rattle.profile.specs.Events.{has_unread}
+use Rattle.profile.specs.events.Events.{has_unread}
 use Rattle.cal_events.specs.Events.{vevents_of}
 use Rattle.cal_events.proofs.ReadingLemmas.{events_in}
 use Rattle.cal_events.proofs.reading.refuse_unread_events.Given as goal

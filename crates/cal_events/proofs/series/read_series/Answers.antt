@@ -3,7 +3,7 @@ use Rattle.std.proofs.lemmas.Result.{IfErr-weaker}
 use Rattle.ical_lines.specs.Fault.{RefusesBy}
 use Rattle.ical_tree.specs.Tree.{IsObjectOf, tree_of}
 use Rattle.ical_tree.proofs.StandsLemmas.{text_stands, tree_stands}
-use Rattle.profile.specs.Series.{SeriesFault, SeriesTextFault}
+use Rattle.profile.specs.events.Series.{SeriesFault, SeriesTextFault}
 use Rattle.cal_events.proofs.SeriesLemmas.{series_spelled, fault_there, object_refused}
 use Rattle.cal_events.proofs.series.read_series.Goals as goal
 

@@ -1,11 +1,11 @@
 use Rattle.std.proofs.Common.{ap, subst, false}
 use Rattle.std.specs.Prelude.{IfOk, IfErr}
-use Rattle.profile.specs.Trees.{Tree}
-use Rattle.profile.specs.Events.{SaysEvent}
+use Rattle.profile.specs.text.Trees.{Tree}
+use Rattle.profile.specs.events.Events.{SaysEvent}
 use Rattle.std.proofs.lemmas.Result.{IfErr-weaker}
 use Rattle.ical_lines.specs.Fault.{RefusesBy}
 use Rattle.ical_tree.specs.Tree.{component_lines, tree_of}
-use Rattle.profile.specs.Series.{SeriesFault}
+use Rattle.profile.specs.events.Series.{SeriesFault}
 use Rattle.ical_values.proofs.Exits.{err_exit}
 use Rattle.cal_events.specs.declared.component.Purpose.TheVariants.{Series}
 use Rattle.cal_events.specs.Events.{event_of, vevents_of, IsUnreadOrFault}

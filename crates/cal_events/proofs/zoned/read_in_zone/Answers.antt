@@ -1,8 +1,8 @@
 use Rattle.std.proofs.Common.{inl, inr}
 use Rattle.ical_lines.specs.Text.{line_text}
-use Rattle.profile.specs.Lines.{line_value}
-use Rattle.profile.specs.Properties.{time_kind}
-use Rattle.profile.specs.ZonedTimes.{InZoneFault}
+use Rattle.profile.specs.text.Lines.{line_value}
+use Rattle.profile.specs.events.Properties.{time_kind}
+use Rattle.profile.specs.events.ZonedTimes.{InZoneFault}
 use Rattle.ical_values.proofs.Exits.{refusal_exit}
 use Rattle.cal_events.specs.Zones.{object_of}
 use Rattle.cal_events.proofs.zoned.read_in_zone.Goals as goal

@@ -1,8 +1,8 @@
 use Rattle.std.proofs.lemmas.Result.{IfErr-weaker}
 use Rattle.ical_lines.specs.Text.{line_text}
-use Rattle.profile.specs.Lines.{line_value}
-use Rattle.profile.specs.Properties.{DateTime, time_kind}
-use Rattle.profile.specs.ZonedTimes.{LocalFault}
+use Rattle.profile.specs.text.Lines.{line_value}
+use Rattle.profile.specs.events.Properties.{DateTime, time_kind}
+use Rattle.profile.specs.events.ZonedTimes.{LocalFault}
 use Rattle.cal_events.proofs.ZonedLemmas.{local_fault}
 use Rattle.cal_events.proofs.zoned.read_local.Goals as goal
 

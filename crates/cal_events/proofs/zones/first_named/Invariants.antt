@@ -2,7 +2,7 @@ use Rattle.std.proofs.Common.{◌≡◌}
 use Rattle.std.specs.Prelude.{find}
 use Rattle.ical_tree.specs.Runs.{lines_left}
 use Rattle.ical_tree.specs.Tree.{component_lines}
-use Rattle.profile.specs.Properties.{is_of}
+use Rattle.profile.specs.events.Properties.{is_of}
 use Rattle.cal_events.proofs.zones.first_named.Given as goal
 
 -- the lines that are left decide it

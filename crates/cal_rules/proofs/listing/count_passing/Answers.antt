@@ -1,5 +1,5 @@
 use Rattle.std.proofs.Common.{◌≡◌, ◌∙◌, ◌-◌, sym, true, false, arith}
-use Rattle.profile.specs.Rules.{passes}
+use Rattle.profile.specs.series.Rules.{passes}
 use Rattle.cal_rules.specs.Views.{pattern_of}
 use Rattle.cal_rules.proofs.Positions.{count_zero, count_step}
 use Rattle.cal_rules.proofs.listing.count_passing.Goals as goal

@@ -1,5 +1,5 @@
 use Rattle.std.proofs.Common.{◌≡◌, ◌<◌, ◌≤◌, ◌-◌}
-use Rattle.profile.specs.Rules.{passes, count_days}
+use Rattle.profile.specs.series.Rules.{passes, count_days}
 use Rattle.cal_rules.specs.Views.{pattern_of}
 use Rattle.cal_rules.specs.Known.{AreFacts}
 use Rattle.cal_rules.proofs.listing.count_passing.Given as goal

@@ -1,6 +1,6 @@
 use Rattle.std.proofs.Common.{◌≡◌, ◌∙◌, ◌-◌, ◌+◌, refl, arith}
-use Rattle.profile.specs.Days.{day_index}
-use Rattle.profile.specs.Rules.{count_days}
+use Rattle.profile.specs.series.Days.{day_index}
+use Rattle.profile.specs.series.Rules.{count_days}
 use Rattle.cal_rules.specs.Views.{pattern_of, parts_of}
 use Rattle.cal_rules.proofs.Counting.{count_next, ends_never, ends_early, ends_at}
 use Rattle.cal_rules.proofs.listing.find_end.Goals as goal

@@ -1,6 +1,6 @@
 use Rattle.std.proofs.Common.{◌≡◌, ◌≤◌, ◌-◌}
-use Rattle.profile.specs.Days.{day_index}
-use Rattle.profile.specs.Rules.{is_counted, count_days}
+use Rattle.profile.specs.series.Days.{day_index}
+use Rattle.profile.specs.series.Rules.{is_counted, count_days}
 use Rattle.cal_rules.specs.Views.{pattern_of, parts_of}
 use Rattle.cal_rules.specs.Standing.{StandsAt}
 use Rattle.cal_rules.proofs.listing.find_end.Given as goal

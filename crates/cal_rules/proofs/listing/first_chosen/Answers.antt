@@ -1,5 +1,5 @@
 use Rattle.std.proofs.Common.{arith}
-use Rattle.profile.specs.Days.{day_index}
+use Rattle.profile.specs.series.Days.{day_index}
 use Rattle.cal_rules.specs.Views.{pattern_of}
 use Rattle.cal_rules.proofs.Strides.{out_of_step, beyond_none}
 use Rattle.cal_rules.proofs.listing.first_chosen.Goals as goal

@@ -1,4 +1,4 @@
-use Rattle.profile.specs.Days.{day_index}
+use Rattle.profile.specs.series.Days.{day_index}
 use Rattle.cal_rules.specs.Views.{parts_of}
 use Rattle.cal_rules.proofs.Cursors.{past_next}
 use Rattle.cal_rules.proofs.listing.next_counted.Goals as goal

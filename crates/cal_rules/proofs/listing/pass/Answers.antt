@@ -1,5 +1,5 @@
 use Rattle.std.proofs.Common.{◌≡◌, ◌∙◌, sym, true, false, rules, arith}
-use Rattle.profile.specs.Rules.{is_missing}
+use Rattle.profile.specs.series.Rules.{is_missing}
 use Rattle.cal_rules.specs.Views.{pattern_of}
 use Rattle.cal_rules.proofs.Positions.{chosen_passes, chosen_plain}
 use Rattle.cal_rules.proofs.Cursors.{on_flat, on_plain, on_passed, later_is, earlier_few, placed_is}

@@ -1,4 +1,4 @@
-use Rattle.profile.specs.Days.{day_index}
+use Rattle.profile.specs.series.Days.{day_index}
 use Rattle.cal_rules.specs.Views.{pattern_of}
 use Rattle.cal_rules.proofs.Strides.{step_of_one, step_here}
 use Rattle.cal_rules.proofs.listing.periods_to_step.Goals as goal

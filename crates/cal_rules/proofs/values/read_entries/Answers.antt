@@ -1,5 +1,5 @@
 use Rattle.std.proofs.Common.{rules}
-use Rattle.profile.specs.RuleTexts.{SpellsEntry}
+use Rattle.profile.specs.series.RuleTexts.{SpellsEntry}
 use Rattle.cal_rules.specs.Views.{entry_of}
 use Rattle.cal_rules.proofs.Entered.{ok_some, ok_none, list_viewed, list_none}
 use Rattle.cal_rules.proofs.values.read_entries.Goals as goal

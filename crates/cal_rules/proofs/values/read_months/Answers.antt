@@ -1,5 +1,5 @@
 use Rattle.std.proofs.Common.{rules}
-use Rattle.profile.specs.RuleTexts.{SpellsBetween}
+use Rattle.profile.specs.series.RuleTexts.{SpellsBetween}
 use Rattle.cal_rules.proofs.Entered.{ok_some, ok_none, list_spelled, list_none}
 use Rattle.cal_rules.proofs.values.read_months.Goals as goal
 

@@ -1,5 +1,5 @@
 use Rattle.std.proofs.Common.{rules}
-use Rattle.profile.specs.RuleTexts.{SpellsPlace}
+use Rattle.profile.specs.series.RuleTexts.{SpellsPlace}
 use Rattle.cal_rules.proofs.Entered.{ok_some, ok_none, list_spelled, list_none}
 use Rattle.cal_rules.proofs.values.read_places.Goals as goal
 

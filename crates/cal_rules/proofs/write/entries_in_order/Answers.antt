@@ -1,7 +1,7 @@
 use Rattle.std.proofs.Common.{◌+◌, ◌∙◌, ap, map, take, arith}
 use Rattle.std.proofs.lemmas.List.{take_all, take_more, map-append}
-use Rattle.profile.specs.Rules.{is_entry}
-use Rattle.profile.specs.RuleTexts.{nth_entry}
+use Rattle.profile.specs.series.Rules.{is_entry}
+use Rattle.profile.specs.series.RuleTexts.{nth_entry}
 use Rattle.cal_rules.specs.Views.{entry_of}
 use Rattle.cal_rules.proofs.Sorting.{entries_sorted, one_place, all_below, all_mapped}
 use Rattle.cal_rules.proofs.write.entries_in_order.Goals as goal

@@ -1,5 +1,5 @@
 use Rattle.std.proofs.Common.{map, take}
-use Rattle.profile.specs.RuleTexts.{nth_entry}
+use Rattle.profile.specs.series.RuleTexts.{nth_entry}
 use Rattle.cal_rules.specs.Views.{entry_of}
 use Rattle.cal_rules.proofs.Sorting.{ArePlaces}
 use Rattle.cal_rules.proofs.write.entries_in_order.Given as goal

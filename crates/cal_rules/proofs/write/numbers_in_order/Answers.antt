@@ -1,7 +1,7 @@
 use Rattle.std.proofs.Common.{◌+◌, ◌∙◌, ap, take, get_or, pos, w16, FitsSigned, to_z-of_z, rules, arith}
 use Rattle.std.proofs.lemmas.List.{take_all, take_more}
-use Rattle.profile.specs.Rules.{is_place}
-use Rattle.profile.specs.RuleTexts.{nth_number}
+use Rattle.profile.specs.series.Rules.{is_place}
+use Rattle.profile.specs.series.RuleTexts.{nth_number}
 use Rattle.cal_rules.proofs.Sorting.{numbers_sorted, one_place, all_below, all_at}
 use Rattle.cal_rules.proofs.write.numbers_in_order.Goals as goal
 

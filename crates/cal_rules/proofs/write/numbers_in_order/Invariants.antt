@@ -1,5 +1,5 @@
 use Rattle.std.proofs.Common.{take}
-use Rattle.profile.specs.RuleTexts.{nth_number}
+use Rattle.profile.specs.series.RuleTexts.{nth_number}
 use Rattle.cal_rules.proofs.Sorting.{ArePlaces}
 use Rattle.cal_rules.proofs.write.numbers_in_order.Given as goal
 

@@ -1,5 +1,5 @@
 use Rattle.std.proofs.Common.{◌∙◌, ◌++◌, ap, sym, refl, codes, decimal, map, string_bytes, if◌then◌else◌}
-use Rattle.profile.specs.RuleTexts.{listed}
+use Rattle.profile.specs.series.RuleTexts.{listed}
 use Rattle.cal_rules.proofs.Sorting.{next_listed, none_listed}
 use Rattle.cal_rules.proofs.write.push_months.Goals as goal
 

@@ -1,5 +1,5 @@
 use Rattle.std.proofs.Common.{◌≡◌, ◌++◌, map, drop, codes, decimal, string_bytes, if◌then◌else◌}
-use Rattle.profile.specs.RuleTexts.{listed}
+use Rattle.profile.specs.series.RuleTexts.{listed}
 use Rattle.cal_rules.proofs.write.push_months.Given as goal
 
 -- what is written so far and those that are left make the whole

@@ -1,6 +1,6 @@
 use Rattle.std.proofs.Common.{◌<◌, ◌∙◌, ◌++◌, ap, sym, refl, codes, get_or, string_bytes, if◌then◌else◌}
 use Rattle.std.specs.Fmt.{signed_decimal}
-use Rattle.profile.specs.RuleTexts.{nth_number, numbers_from}
+use Rattle.profile.specs.series.RuleTexts.{nth_number, numbers_from}
 use Rattle.cal_rules.proofs.Listed.{number_cast}
 use Rattle.cal_rules.proofs.Sorting.{next_listed, none_listed, all_listed}
 use Rattle.cal_rules.proofs.write.push_numbers.Goals as goal

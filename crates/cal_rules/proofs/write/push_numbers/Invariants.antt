@@ -1,6 +1,6 @@
 use Rattle.std.proofs.Common.{◌≡◌, ◌++◌, map, drop, codes, string_bytes, if◌then◌else◌}
 use Rattle.std.specs.Fmt.{signed_decimal}
-use Rattle.profile.specs.RuleTexts.{listed, nth_number}
+use Rattle.profile.specs.series.RuleTexts.{listed, nth_number}
 use Rattle.cal_rules.proofs.write.push_numbers.Given as goal
 
 -- what is written so far and those that are left make the whole

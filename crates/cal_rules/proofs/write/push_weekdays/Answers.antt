@@ -1,5 +1,5 @@
 use Rattle.std.proofs.Common.{◌∙◌, ◌++◌, ap, sym, refl, codes, map, string_bytes, if◌then◌else◌}
-use Rattle.profile.specs.RuleTexts.{nth_entry, entry_text, entries_from}
+use Rattle.profile.specs.series.RuleTexts.{nth_entry, entry_text, entries_from}
 use Rattle.cal_rules.specs.Views.{entry_of}
 use Rattle.cal_rules.proofs.Sorting.{next_listed, none_listed, all_listed}
 use Rattle.cal_rules.proofs.write.push_weekdays.Goals as goal

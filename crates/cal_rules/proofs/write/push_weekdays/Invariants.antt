@@ -1,5 +1,5 @@
 use Rattle.std.proofs.Common.{◌≡◌, ◌++◌, map, drop, codes, string_bytes, if◌then◌else◌}
-use Rattle.profile.specs.RuleTexts.{listed, nth_entry, entry_text}
+use Rattle.profile.specs.series.RuleTexts.{listed, nth_entry, entry_text}
 use Rattle.cal_rules.proofs.write.push_weekdays.Given as goal
 
 -- what is written so far and those that are left make the whole

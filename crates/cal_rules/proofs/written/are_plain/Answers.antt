@@ -1,6 +1,6 @@
 use Rattle.std.proofs.Common.{◌∙◌, sym}
 use Rattle.std.proofs.lemmas.List.Folds.{list_all-map}
-use Rattle.profile.specs.Rules.{is_plain}
+use Rattle.profile.specs.series.Rules.{is_plain}
 use Rattle.cal_rules.specs.Views.{entry_of}
 use Rattle.cal_rules.proofs.written.are_plain.Goals as goal
 

@@ -4,7 +4,7 @@ use Rattle.std.specs.List.{list_all, list_any, range_with_len}
 use Rattle.std.specs.Ordering.{int_eq}
 use Rattle.std.proofs.lemmas.Iterator.{YieldsList-from_slice, YieldsList-from_range}
 use Rattle.std.proofs.lemmas.Iterator.Search.{all_from_yields_List}
-use Rattle.profile.specs.ZoneTexts.{is_of_seven}
+use Rattle.profile.specs.series.ZoneTexts.{is_of_seven}
 use Rattle.cal_zones.proofs.one_day.are_seven.Goals as goal
 
 -- both tests, where the first one passed

@@ -1,5 +1,5 @@
 use Rattle.std.proofs.Common.{◌∙◌, pos, true, false, map}
-use Rattle.profile.specs.ZoneTexts.{is_weekday}
+use Rattle.profile.specs.series.ZoneTexts.{is_weekday}
 use Rattle.cal_rules.specs.Views.{entry_of}
 use Rattle.ical_values.proofs.Exits.{if_none}
 use Rattle.cal_zones.specs.Shapes.{days_of}

@@ -1,7 +1,7 @@
 use Rattle.std.proofs.Common.{◌≡◌, ◌∙◌, sym, arith}
 use Rattle.std.proofs.lemmas.Bool.{true≢false}
 use Rattle.ical_tree.specs.Tree.{component_children}
-use Rattle.profile.specs.Lines.{is_same_name}
+use Rattle.profile.specs.text.Lines.{is_same_name}
 use Rattle.cal_zones.proofs.PartLemmas.{count_in, only_found, not_found}
 use Rattle.cal_zones.proofs.parts.only_named.Goals as goal
 

@@ -1,7 +1,7 @@
 use Rattle.std.proofs.Common.{◌≡◌, ◌∙◌, sym, arith}
 use Rattle.std.proofs.lemmas.Bool.{true≢false}
 use Rattle.ical_tree.specs.Tree.{component_children}
-use Rattle.profile.specs.ZoneTexts.{is_part}
+use Rattle.profile.specs.series.ZoneTexts.{is_part}
 use Rattle.cal_zones.proofs.PartLemmas.{count_in, only_found, not_found}
 use Rattle.cal_zones.proofs.parts.only_part.Goals as goal
 

@@ -1,7 +1,7 @@
 use Rattle.std.proofs.Common.{◌≡◌, sym, subst, inr, ℤ, List, ℕ}
 use Rattle.ical_lines.specs.Text.{line_text}
 use Rattle.ical_lines.specs.declared.fault.Refusal.{Refusal}
-use Rattle.profile.specs.Values.{SpellsLocal}
+use Rattle.profile.specs.text.Values.{SpellsLocal}
 use Rattle.cal_zones.specs.Read.{StartFault}
 use Rattle.ical_values.proofs.Exits.{err_both}
 use Rattle.cal_zones.proofs.parts.read_local.Goals as goal

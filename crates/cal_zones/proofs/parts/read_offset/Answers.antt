@@ -4,9 +4,9 @@ use Rattle.std.proofs.lemmas.Result.{IfOk-weaker}
 use Rattle.ical_lines.specs.Text.{line_text}
 use Rattle.ical_lines.specs.declared.fault.Refusal.{Refusal}
 use Rattle.ical_tree.proofs.OneLine.{the_line}
-use Rattle.profile.specs.Values.{SpellsOffset}
-use Rattle.profile.specs.Properties.{Says}
-use Rattle.profile.specs.ZoneTexts.{IsOffsetLine}
+use Rattle.profile.specs.text.Values.{SpellsOffset}
+use Rattle.profile.specs.events.Properties.{Says}
+use Rattle.profile.specs.series.ZoneTexts.{IsOffsetLine}
 use Rattle.cal_zones.specs.Read.{OffsetFault}
 use Rattle.cal_zones.proofs.Reading.{said}
 use Rattle.ical_values.proofs.Exits.{refusal_exit, err_both}

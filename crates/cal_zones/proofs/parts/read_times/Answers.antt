@@ -3,8 +3,8 @@ use Rattle.std.specs.Prelude.{Some, true}
 use Rattle.ical_lines.specs.Text.{line_text}
 use Rattle.ical_lines.specs.declared.fault.Refusal.{Refusal}
 use Rattle.ical_tree.proofs.OneLine.{the_line}
-use Rattle.profile.specs.Properties.{Says}
-use Rattle.profile.specs.ZoneTexts.{IsLocalLine, IsOffsetLine, TimesFault, dates}
+use Rattle.profile.specs.events.Properties.{Says}
+use Rattle.profile.specs.series.ZoneTexts.{IsLocalLine, IsOffsetLine, TimesFault, dates}
 use Rattle.cal_zones.proofs.Reading.{said, not_one, start_fault, from_fault, to_fault}
 use Rattle.ical_values.proofs.Exits.{refusal_exit}
 use Rattle.cal_zones.proofs.parts.read_times.Goals as goal

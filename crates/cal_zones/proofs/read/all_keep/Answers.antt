@@ -2,7 +2,7 @@ use Rattle.std.proofs.Common.{◌≡◌, ◌<◌, ◌≤◌, ℕ, ℤ, List, len
 use Rattle.std.specs.Prelude.{Contains}
 use Rattle.ical_tree.specs.Tree.{component_lines, component_children}
 use Rattle.ical_tree.specs.declared.component.Component.{Component}
-use Rattle.profile.specs.ZoneTexts.{is_part, Keeps, Strays, TimesFault}
+use Rattle.profile.specs.series.ZoneTexts.{is_part, Keeps, Strays, TimesFault}
 use Rattle.cal_zones.specs.Read.{SomeTimesFault, parts_of}
 use Rattle.cal_zones.proofs.PartLemmas.{is_among, drop_other, drop_part, all_left, none_left}
 use Rattle.cal_zones.proofs.Reading.{fault_exit}

@@ -1,7 +1,7 @@
 use Rattle.std.proofs.Common.{ℕ, List, drop}
 use Rattle.std.specs.Prelude.{Contains}
 use Rattle.ical_tree.specs.Tree.{component_children}
-use Rattle.profile.specs.ZoneTexts.{is_part, Keeps}
+use Rattle.profile.specs.series.ZoneTexts.{is_part, Keeps}
 use Rattle.cal_zones.specs.Read.{parts_in, parts_of}
 use Rattle.cal_zones.proofs.read.all_keep.Given as goal
 

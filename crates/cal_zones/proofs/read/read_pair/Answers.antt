@@ -1,5 +1,5 @@
 use Rattle.ical_tree.specs.Tree.{component_lines, component_children}
-use Rattle.profile.specs.ZoneTexts.{other_parts}
+use Rattle.profile.specs.series.ZoneTexts.{other_parts}
 use Rattle.cal_zones.specs.Kinds.{zone_of}
 use Rattle.cal_zones.specs.Read.{HasFault, YearlyFault, in_standard, in_daylight, parts_of, standards_of, daylights_of}
 use Rattle.cal_zones.proofs.PartLemmas.{standard_is_part, daylight_is_part}

@@ -3,8 +3,8 @@ use Rattle.ical_lines.specs.Fault.{RefusesBy}
 use Rattle.ical_tree.specs.Tree.{component_lines}
 use Rattle.cal_zones.specs.Onsets.{observance_of, rule_of}
 use Rattle.cal_zones.specs.Read.{SingleFault, in_times, has_rule}
-use Rattle.profile.specs.Properties.{IsMissing}
-use Rattle.profile.specs.ZoneTexts.{SaysOnce}
+use Rattle.profile.specs.events.Properties.{IsMissing}
+use Rattle.profile.specs.series.ZoneTexts.{SaysOnce}
 use Rattle.cal_zones.proofs.Reading.{single_refused}
 use Rattle.ical_values.proofs.Exits.{err_exit}
 use Rattle.cal_zones.proofs.read.read_single.Goals as goal

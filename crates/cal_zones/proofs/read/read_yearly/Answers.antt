@@ -5,8 +5,8 @@ use Rattle.ical_lines.specs.declared.fault.Refusal.{Refusal}
 use Rattle.ical_tree.proofs.OneLine.{the_line}
 use Rattle.ical_tree.specs.Tree.{component_lines}
 use Rattle.std.specs.Prelude.{Some, true}
-use Rattle.profile.specs.Properties.{Says}
-use Rattle.profile.specs.ZoneTexts.{HasNoYearRule, IsYearLine, SpellsYear, SpellsNoYear}
+use Rattle.profile.specs.events.Properties.{Says}
+use Rattle.profile.specs.series.ZoneTexts.{HasNoYearRule, IsYearLine, SpellsYear, SpellsNoYear}
 use Rattle.cal_zones.specs.Shapes.{rule_named}
 use Rattle.cal_zones.specs.Onsets.{observance_of}
 use Rattle.cal_zones.specs.Read.{YearlyFault}

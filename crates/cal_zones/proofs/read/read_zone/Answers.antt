@@ -1,7 +1,7 @@
 use Rattle.std.proofs.Common.{◌≡◌, sym, subst, ℤ, to_z, of_z, w32, Some, None}
 use Rattle.ical_tree.specs.Tree.{component_lines, component_children}
-use Rattle.profile.specs.Zones.{Zone}
-use Rattle.profile.specs.ZoneTexts.{is_part, PartsSay, Keeps, Strays, TimesFault, no_part, in_part, constant}
+use Rattle.profile.specs.series.Zones.{Zone}
+use Rattle.profile.specs.series.ZoneTexts.{is_part, PartsSay, Keeps, Strays, TimesFault, no_part, in_part, constant}
 use Rattle.cal_zones.specs.Onsets.{observance_of}
 use Rattle.cal_zones.specs.Read.{HasFault, SomeTimesFault, parts_of, standards_of, daylights_of}
 use Rattle.cal_zones.proofs.Casts.{narrow}

@@ -2,9 +2,9 @@ use Rattle.cal_zones.specs.Onsets.{observance_of}
 use Rattle.cal_zones.proofs.WrittenLines.{part_written, line_written}
 use Rattle.cal_zones.proofs.write.write_part.Goals as goal
 use Rattle.std.proofs.Common.{◌++◌, ◌∷◌, [], refl, subst, codes, ℤ}
-use Rattle.profile.specs.Values.{WritesOffset}
+use Rattle.profile.specs.text.Values.{WritesOffset}
 use Rattle.cal_zones.proofs.Casts.{narrow}
-use Rattle.profile.specs.WrittenZones.{rule_lines, component_lines}
+use Rattle.profile.specs.written.WrittenZones.{rule_lines, component_lines}
 
 pub returns : goal.returns
 returns c =

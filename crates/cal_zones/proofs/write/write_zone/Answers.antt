@@ -1,6 +1,6 @@
 use Rattle.std.proofs.Common.{refl, ◌++◌, ◌∷◌, codes}
-use Rattle.profile.specs.Values.{escaped}
-use Rattle.profile.specs.WrittenZones.{component_lines}
+use Rattle.profile.specs.text.Values.{escaped}
+use Rattle.profile.specs.written.WrittenZones.{component_lines}
 use Rattle.cal_zones.proofs.WrittenLines.{zone_written}
 use Rattle.cal_zones.proofs.write.write_zone.Goals as goal
 

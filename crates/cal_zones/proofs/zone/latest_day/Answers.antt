@@ -1,5 +1,5 @@
 use Rattle.std.proofs.Common.{◌≤◌, refl, arith}
-use Rattle.profile.specs.Days.{day_index}
+use Rattle.profile.specs.series.Days.{day_index}
 use Rattle.cal_zones.proofs.Lasts.{clock_day, later_day, later_second}
 use Rattle.cal_zones.proofs.zone.latest_day.Goals as goal
 

@@ -1,6 +1,6 @@
 use Rattle.std.proofs.Common.{List, subst}
 use Rattle.std.proofs.lemmas.Option.{MatchOption-at_some}
-use Rattle.profile.specs.Instances.{Booked}
+use Rattle.profile.specs.checker.Instances.{Booked}
 use Rattle.cal_events.specs.Clashes.{Names}
 use Rattle.clash_cert.specs.Makings.{AreNamedAt}
 use Rattle.clash_cert.proofs.MakingLemmas.{named_at, not_clear}

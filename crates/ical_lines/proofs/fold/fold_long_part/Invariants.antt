@@ -1,6 +1,6 @@
 use Rattle.std.proofs.Common.{◌≡◌, ◌≤◌, ◌++◌, take, length, drop}
 use Rattle.std.specs.Str.{chars}
-use Rattle.profile.specs.Lines.{fold_from, column_after}
+use Rattle.profile.specs.text.Lines.{fold_from, column_after}
 use Rattle.ical_lines.proofs.fold.fold_long_part.Given as goal
 
 abbrev pub invariant-loop-character : goal.invariant-loop-character

@@ -1,6 +1,6 @@
 use Rattle.std.proofs.Common.{◌≡◌, ◌||◌, drop}
 use Rattle.std.specs.List.{list_any}
-use Rattle.profile.specs.Lines.{is_control}
+use Rattle.profile.specs.text.Lines.{is_control}
 use Rattle.ical_lines.proofs.line.has_control.Given as goal
 
 abbrev pub invariant-loop-octet : goal.invariant-loop-octet

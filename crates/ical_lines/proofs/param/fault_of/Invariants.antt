@@ -1,6 +1,6 @@
 use Rattle.std.proofs.Common.{◌≡◌, ◌||◌}
 use Rattle.std.specs.List.{list_any}
-use Rattle.profile.specs.Lines.{lacks_name, is_badly_quoted}
+use Rattle.profile.specs.text.Lines.{lacks_name, is_badly_quoted}
 use Rattle.ical_lines.specs.Pieces.{pieces_left}
 use Rattle.ical_lines.proofs.param.fault_of.Given as goal
 

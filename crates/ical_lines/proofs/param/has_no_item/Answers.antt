@@ -1,7 +1,7 @@
 use Rattle.std.proofs.Common.{not, refl, rules, tests}
 use Rattle.std.proofs.lemmas.Iterator.Search.{any_from_yields_List}
 use Rattle.std.proofs.lemmas.Iterator.Consumers.{YieldsList-from_first}
-use Rattle.profile.specs.Lines.{is_item}
+use Rattle.profile.specs.text.Lines.{is_item}
 use Rattle.ical_lines.specs.Pieces.{pieces_left}
 use Rattle.ical_lines.proofs.param.has_no_item.Goals as goal
 

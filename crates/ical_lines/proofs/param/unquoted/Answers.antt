@@ -1,5 +1,5 @@
 use Rattle.std.proofs.Common.{sym, ap, ◌∙◌}
-use Rattle.profile.specs.Lines.{is_quoted}
+use Rattle.profile.specs.text.Lines.{is_quoted}
 use Rattle.ical_lines.proofs.QuoteLemmas.{quoted_start}
 use Rattle.ical_lines.proofs.param.unquoted.Goals as goal
 

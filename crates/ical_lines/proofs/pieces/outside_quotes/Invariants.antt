@@ -1,5 +1,5 @@
 use Rattle.std.proofs.Common.{◌≡◌, ◌+◌, drop}
-use Rattle.profile.specs.Lines.{outside_from, outside}
+use Rattle.profile.specs.text.Lines.{outside_from, outside}
 use Rattle.ical_lines.proofs.pieces.outside_quotes.Given as goal
 
 abbrev pub invariant-loop-place : goal.invariant-loop-place

@@ -1,7 +1,7 @@
 use Rattle.std.proofs.Common.{◌≡◌, ◌+◌, ◌≤◌, ◌&&◌, ℕ, nat_lt, length, true, false}
 use Rattle.std.specs.List.{list_any, find}
-use Rattle.profile.specs.First.{judged}
-use Rattle.profile.specs.Lines.{is_faulty, line_has}
+use Rattle.profile.specs.faults.First.{judged}
+use Rattle.profile.specs.text.Lines.{is_faulty, line_has}
 use Rattle.ical_lines.specs.Breaks.{lines_of}
 use Rattle.ical_lines.specs.Limits.{is_bounded}
 use Rattle.ical_lines.specs.Text.{lines_left}

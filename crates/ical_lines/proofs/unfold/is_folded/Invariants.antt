@@ -1,6 +1,6 @@
 use Rattle.std.proofs.Common.{◌≡◌, length, drop}
 use Rattle.std.specs.List.{list_any}
-use Rattle.profile.specs.Lines.{physical_lines, is_continuation}
+use Rattle.profile.specs.text.Lines.{physical_lines, is_continuation}
 use Rattle.ical_lines.specs.Unfold.{lines_after}
 use Rattle.ical_lines.proofs.unfold.is_folded.Given as goal
 

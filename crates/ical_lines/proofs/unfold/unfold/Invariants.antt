@@ -1,5 +1,5 @@
 use Rattle.std.proofs.Common.{◌≡◌, ◌≤◌, ◌++◌, filter, take, drop, length, vec_len}
-use Rattle.profile.specs.Lines.{is_filled, gather, unfolded, physical_lines}
+use Rattle.profile.specs.text.Lines.{is_filled, gather, unfolded, physical_lines}
 use Rattle.ical_lines.specs.Unfold.{lines_after, with_breaks}
 use Rattle.ical_lines.proofs.unfold.unfold.Given as goal
 

@@ -1,6 +1,6 @@
 use Rattle.std.proofs.Common.{◌≡◌, OnOk, subst, ◌++◌, ◌∷◌, [], codes, ap, ◌∙◌}
 use Rattle.std.specs.List.{flat_map}
-use Rattle.profile.specs.Lines.{folded}
+use Rattle.profile.specs.text.Lines.{folded}
 use Rattle.ical_lines.proofs.FoldLemmas.{keeps_on}
 use Rattle.ical_tree.specs.Tree.{component_lines}
 use Rattle.ical_tree.proofs.WriteLemmas.{keeps_written, keeps_after, child_first, child_more, all_written}

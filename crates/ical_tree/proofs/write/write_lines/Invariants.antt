@@ -1,6 +1,6 @@
 use Rattle.std.proofs.Common.{◌≡◌, ◌++◌, take, length}
 use Rattle.std.specs.List.{flat_map}
-use Rattle.profile.specs.Lines.{folded}
+use Rattle.profile.specs.text.Lines.{folded}
 use Rattle.ical_tree.specs.Runs.{lines_left}
 use Rattle.ical_tree.specs.Tree.{component_lines}
 use Rattle.ical_tree.proofs.write.write_lines.Given as goal

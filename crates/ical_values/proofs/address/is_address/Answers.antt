@@ -1,6 +1,6 @@
 use Rattle.std.proofs.Common.{◌∙◌, arith, Some, None, ap}
 use Rattle.std.proofs.lemmas.Str.Pattern.{split_after}
-use Rattle.profile.specs.Values.{is_scheme, is_path}
+use Rattle.profile.specs.text.Values.{is_scheme, is_path}
 use Rattle.ical_values.proofs.Addresses.{scheme_no_colon}
 use Rattle.ical_values.proofs.address.is_address.Goals as goal
 

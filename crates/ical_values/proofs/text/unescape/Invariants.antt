@@ -1,7 +1,7 @@
 use Rattle.std.proofs.Common.{◌≡◌, ◌++◌, length, string_bytes}
 use denote.Text.{Utf8}
 use denote.Shadow.{shadow}
-use Rattle.profile.specs.Values.{unescaped}
+use Rattle.profile.specs.text.Values.{unescaped}
 use Rattle.ical_values.proofs.text.unescape.Given as goal
 
 abbrev pub decreases-loop-front : goal.decreases-loop-front

@@ -1,5 +1,5 @@
 use Rattle.std.proofs.Common.{◌≡◌, ◌++◌, length, take}
-use Rattle.profile.specs.Values.{escaped}
+use Rattle.profile.specs.text.Values.{escaped}
 use Rattle.ical_values.proofs.text.write_escaped.Given as goal
 
 abbrev pub invariant-loop-octet : goal.invariant-loop-octet

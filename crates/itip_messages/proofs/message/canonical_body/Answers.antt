@@ -1,5 +1,5 @@
 use Rattle.std.proofs.Common.{◌≡◌, ◌++◌, ◌∙◌, codes, refl}
-use Rattle.profile.specs.Values.{duration_text}
+use Rattle.profile.specs.text.Values.{duration_text}
 use Rattle.itip_messages.proofs.ContentLines.{two_lines, two_octets}
 use Rattle.itip_messages.proofs.message.canonical_body.Goals as goal
 

@@ -1,6 +1,6 @@
 use Rattle.std.proofs.Common.{ap, sym, subst}
 use Rattle.ical_lines.specs.Text.{line_text}
-use Rattle.profile.specs.Messages.{MethodFault, two_methods, no_method}
+use Rattle.profile.specs.rooms.Messages.{MethodFault, two_methods, no_method}
 use Rattle.itip_messages.proofs.MessageLemmas.{word_stands}
 use Rattle.ical_values.proofs.Exits.{refusal_exit}
 use Rattle.itip_messages.proofs.message.method_of.Goals as goal

@@ -1,5 +1,5 @@
 use Rattle.std.proofs.Common.{◌≡◌, ◌++◌, take, string_bytes}
-use Rattle.profile.specs.Messages.{word}
+use Rattle.profile.specs.rooms.Messages.{word}
 use Rattle.itip_messages.proofs.reply.put_word.Given as goal
 
 abbrev pub invariant-loop-octet : goal.invariant-loop-octet

@@ -1,8 +1,8 @@
 use Rattle.std.proofs.Common.{◌≡◌, ◌∙◌, ◌++◌, ◌∷◌, [], ap, refl, subst, codes, decimal}
-use Rattle.profile.specs.Lines.{folded}
-use Rattle.profile.specs.Values.{escaped}
-use Rattle.profile.specs.Revisions.{Slot}
-use Rattle.profile.specs.Messages.{TellsSlot}
+use Rattle.profile.specs.text.Lines.{folded}
+use Rattle.profile.specs.text.Values.{escaped}
+use Rattle.profile.specs.rooms.Revisions.{Slot}
+use Rattle.profile.specs.rooms.Messages.{TellsSlot}
 use Rattle.ical_values.specs.Octets.{text_octets, address_octets}
 use Rattle.itip_messages.specs.Replies.{attendee_line}
 use Rattle.itip_messages.proofs.LineLemmas.{event_written}

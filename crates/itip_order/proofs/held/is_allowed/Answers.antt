@@ -1,6 +1,6 @@
 use Rattle.std.proofs.Common.{◌∙◌, ap}
 use Rattle.std.specs.Ordering.{is_eq}
-use Rattle.profile.specs.Revisions as revisions
+use Rattle.profile.specs.rooms.Revisions as revisions
 use Rattle.itip_order.specs.Parts.{part_of, parts_of, slot_of}
 use Rattle.itip_order.proofs.Allowed.{allowed_whole, allowed_absent, allowed_found}
 use Rattle.itip_order.proofs.Steps.{register_is}

@@ -2,7 +2,7 @@ use Rattle.std.proofs.Common.{rules}
 use Rattle.std.proofs.lemmas.Fn.{always_returns_same}
 use Rattle.itip_order.specs.Parts.{part_of, slot_of}
 use Rattle.itip_order.specs.Registers.{at_slot}
-use Rattle.profile.specs.Revisions.{place_cmp}
+use Rattle.profile.specs.rooms.Revisions.{place_cmp}
 use Rattle.itip_order.proofs.Search.{searched}
 use Rattle.itip_order.proofs.held.place_of.Goals as goal
 

@@ -1,5 +1,5 @@
 use Rattle.std.proofs.Common.{◌≡◌, true, List, subst}
-use Rattle.profile.specs.Revisions as revisions
+use Rattle.profile.specs.rooms.Revisions as revisions
 use Rattle.itip_order.specs.Registers.{is_ascending}
 use Rattle.itip_order.proofs.Orders.{stands_itself}
 use Rattle.itip_order.proofs.held.stands_for_its_registers.Goals as goal

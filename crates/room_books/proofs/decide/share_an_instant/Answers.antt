@@ -1,7 +1,7 @@
 use Rattle.std.proofs.Common.{ℤ, ◌<ℤ◌, sym, ◌∙◌, subst, rules, w64, FitsSigned}
 use Rattle.std.proofs.lemmas.Bool.{true≢false}
 use Rattle.std.proofs.lemmas.Int.{to_z-of_z}
-use Rattle.profile.specs.Instances.{horizon}
+use Rattle.profile.specs.checker.Instances.{horizon}
 use Rattle.room_books.proofs.Deciding.{overlap_from, none_from}
 use Rattle.room_books.proofs.decide.share_an_instant.Goals as goal
 

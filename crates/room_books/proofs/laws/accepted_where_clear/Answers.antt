@@ -1,8 +1,8 @@
 use Rattle.std.proofs.Common.{◌≡◌, ◌≤◌, refl, subst, arith, List, length}
-use Rattle.profile.specs.Instances.{Booked, IsClear}
+use Rattle.profile.specs.checker.Instances.{Booked, IsClear}
 use Rattle.profile.specs.Headline.{would_be}
-use Rattle.profile.specs.Messages.{Outcome, Accept, Busy, SeriesLimit, SinglesLimit}
-use Rattle.profile.specs.Rooms.{Decides, most_singles}
+use Rattle.profile.specs.rooms.Messages.{Outcome, Accept, Busy, SeriesLimit, SinglesLimit}
+use Rattle.profile.specs.rooms.Rooms.{Decides, most_singles}
 use Rattle.room_books.proofs.laws.accepted_where_clear.Goals as goal
 
 -- what is decided where nothing stands against it

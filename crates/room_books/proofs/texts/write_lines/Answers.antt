@@ -4,7 +4,7 @@ use Rattle.std.specs.Iterator.{AlwaysYields}
 use Rattle.std.specs.Str.Iter.{lines_steps}
 use Rattle.std.specs.Str.Lines.{lines}
 use Rattle.std.proofs.lemmas.Iterator.Splits.{YieldsList-from_lines}
-use Rattle.profile.specs.Lines.{written}
+use Rattle.profile.specs.text.Lines.{written}
 use Rattle.ical_lines.proofs.Yields.{some_more, none_more}
 use Rattle.room_books.proofs.Writing.{one_written}
 use Rattle.room_books.proofs.texts.write_lines.Goals as goal

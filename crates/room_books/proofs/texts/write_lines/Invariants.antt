@@ -3,7 +3,7 @@ use Rattle.std.proofs.Common.{◌≡◌, ◌++◌, List, ℕ}
 use Rattle.std.specs.Iterator.{AlwaysYields}
 use Rattle.std.specs.Str.Iter.{lines_steps}
 use Rattle.std.specs.Str.Lines.{lines}
-use Rattle.profile.specs.Lines.{written}
+use Rattle.profile.specs.text.Lines.{written}
 use Rattle.room_books.proofs.texts.write_lines.Given as goal
 
 abbrev pub invariant-loop-line : goal.invariant-loop-line

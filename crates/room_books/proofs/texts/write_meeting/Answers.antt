@@ -3,7 +3,7 @@ use Rattle.std.proofs.Common.{List, sym, ap, ◌∙◌, subst}
 use Rattle.ical_values.specs.Octets.{address_octets}
 use Rattle.itip_order.specs.Parts.{part_of}
 use Rattle.itip_order.proofs.Lists.{none_in_nil}
-use Rattle.profile.specs.Revisions as revisions
+use Rattle.profile.specs.rooms.Revisions as revisions
 use Rattle.room_books.specs.Standing.{body_lines, of_meeting}
 use Rattle.std.specs.List.{Contains}
 use Rattle.room_books.proofs.Keeping.{none_kept, one_kept, is_shown, shown_is}

@@ -2,7 +2,7 @@
 use Rattle.std.proofs.Common.{◌+◌, ◌<◌, length, take, sym, subst, arith}
 use Rattle.std.proofs.lemmas.Bool.{true≢false}
 use Rattle.ical_values.specs.Octets.{address_octets}
-use Rattle.profile.specs.Kept.{first_parts}
+use Rattle.profile.specs.rooms.Kept.{first_parts}
 use Rattle.room_books.specs.Keeping.{WritesAnswers, kept_parts}
 use Rattle.room_books.proofs.Keeping.{meeting_written, all_written}
 use Rattle.room_books.proofs.texts.write_meetings.Goals as goal

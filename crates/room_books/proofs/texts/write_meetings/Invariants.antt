@@ -1,8 +1,8 @@
 -- The meetings so far are written.
 use Rattle.std.proofs.Common.{take}
 use Rattle.ical_values.specs.Octets.{address_octets}
-use Rattle.profile.specs.Kept.{first_parts}
-use Rattle.profile.specs.Rooms.{Book}
+use Rattle.profile.specs.rooms.Kept.{first_parts}
+use Rattle.profile.specs.rooms.Rooms.{Book}
 use Rattle.room_books.specs.Keeping.{WritesAnswers, kept_parts}
 use Rattle.room_books.specs.Standing.{Stands}
 use Rattle.room_books.proofs.texts.write_meetings.Given as goal

@@ -4,8 +4,8 @@ use Rattle.std.specs.Str.{IsUtf8}
 use Rattle.std.specs.Str.Lines.{lines}
 use Rattle.ical_values.specs.Octets.{address_octets}
 use Rattle.itip_order.specs.Parts.{part_of, body_of}
-use Rattle.profile.specs.Lines.{written, folded}
-use Rattle.profile.specs.Revisions.{Set}
+use Rattle.profile.specs.text.Lines.{written, folded}
+use Rattle.profile.specs.rooms.Revisions.{Set}
 use Rattle.room_books.proofs.Keeping.{event_written, own_utf8}
 use Rattle.room_books.proofs.texts.write_part.Goals as goal
 

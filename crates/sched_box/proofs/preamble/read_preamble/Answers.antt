@@ -1,6 +1,6 @@
 use Rattle.std.proofs.Common.{Bool, List, ℕ, ℤ, sym, subst, rules}
 use Rattle.std.proofs.lemmas.Result.{err_from_is_err_and}
-use Rattle.profile.specs.Streams.{IsPreamble}
+use Rattle.profile.specs.streams.Streams.{IsPreamble}
 use Rattle.sched_box.specs.Config.{config_rooms}
 use Rattle.sched_box.proofs.PreambleLemmas.{opened, opens_not, long_stream, refused_is, stops_after}
 use Rattle.sched_box.proofs.preamble.read_preamble.Goals as goal

@@ -2,7 +2,7 @@ use Rattle.std.proofs.Common.{◌∙◌, refl, sym, subst, arith, length-append,
 use Rattle.std.proofs.lemmas.Result.{err_from_is_err_and}
 use Rattle.std.proofs.KnownBytes.{Consumes-kept, Consumes-nil, Consumes-trans}
 use Rattle.std.specs.Io.KnownBytes.{Consumes}
-use Rattle.sched_box.specs.declared.preamble.Place.TheVariants.{Start}
+use Rattle.sched_box.specs.declared.preamble.LineState.TheVariants.{Start}
 use Rattle.sched_box.specs.Preamble.{Leads, TakesPreamble}
 use Rattle.sched_box.proofs.PreambleLemmas.{leads_none, leads_trans, stops, too_long, taken_all}
 use Rattle.sched_box.proofs.preamble.take_preamble.Goals as goal
@@ -23,7 +23,7 @@ loop-place-preserved g c =
 pub loop-place-smaller : goal.loop-place-smaller
 loop-place-smaller g c =
     let (taken, is, t) = c.in_ok-take_piece.ensures.takes in
-    let more = t.some c.if-not-branch.false in
+    let more = (t.some c.if-not-branch.false).0 in
     omega (arith, ap length is, length-append c.loop-place.octets.items taken)
 
 pub returns-then-not-branch-clause-takes : goal.returns-then-not-branch-clause-takes

@@ -1,7 +1,7 @@
 use Rattle.std.proofs.Common.{◌≡◌, ◌-◌, length}
 use Rattle.std.specs.Io.KnownBytes.{Consumes}
 use Rattle.sched_box.specs.Preamble.{Leads}
-use Rattle.sched_box.specs.declared.preamble.Place.TheVariants.{Start}
+use Rattle.sched_box.specs.declared.preamble.LineState.TheVariants.{Start}
 use Rattle.sched_box.proofs.preamble.take_preamble.Given as goal
 
 abbrev pub invariant-loop-place : goal.invariant-loop-place

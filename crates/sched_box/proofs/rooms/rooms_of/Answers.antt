@@ -1,6 +1,6 @@
 use Rattle.std.proofs.Common.{◌∙◌, ap, map, subst, arith}
 use Rattle.ical_values.specs.Octets.{address_octets}
-use Rattle.profile.specs.Streams.{new_box}
+use Rattle.profile.specs.streams.Streams.{new_box}
 use Rattle.sched_box.specs.Answering.{AreHosted}
 use Rattle.sched_box.proofs.ServingLemmas.{none_made, made_more, all_made}
 use Rattle.sched_box.proofs.rooms.rooms_of.Goals as goal

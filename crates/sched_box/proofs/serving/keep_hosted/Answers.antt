@@ -1,9 +1,9 @@
 use Rattle.std.proofs.Common.{Contains, subst, sym}
 use Rattle.ical_values.specs.Octets.{address_octets}
-use Rattle.profile.specs.Calendars.{CertificateHolds}
-use Rattle.profile.specs.Streams.{new_box}
+use Rattle.profile.specs.checker.Calendars.{CertificateHolds}
+use Rattle.profile.specs.streams.Streams.{new_box}
 use Rattle.sched_box.specs.Config.{config_rooms}
-use Rattle.profile.specs.Kept.{IsKeptCalendar, kept_certificate}
+use Rattle.profile.specs.rooms.Kept.{IsKeptCalendar, kept_certificate}
 use Rattle.std.proofs.lemmas.Result.{err_from_is_err_and}
 use Rattle.sched_box.proofs.ServingLemmas.{keeps_texts, keeping_stopped}
 use Rattle.sched_box.proofs.serving.keep_hosted.Goals as goal

@@ -1,5 +1,5 @@
 use Rattle.std.proofs.lemmas.Result.{err_from_is_err_and}
-use Rattle.profile.specs.Streams.{new_box}
+use Rattle.profile.specs.streams.Streams.{new_box}
 use Rattle.sched_box.specs.Config.{config_rooms}
 use Rattle.sched_box.proofs.ServingLemmas.{serves_from, serves_none}
 use Rattle.sched_box.proofs.serving.serve.Goals as goal

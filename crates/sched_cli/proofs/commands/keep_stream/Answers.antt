@@ -10,12 +10,12 @@ returns-in_err-config-clause-none g c =
     let left = g.R.Input.remaining c.read_preamble.new.reader in
     let room = address_octets c.args.room.now in
     err_exit _ (KeepsNone input left room) _ c.from_residual.ensures.1
-    (unopened input left room _ c.in_err-config.ensures.refuses c.in_err-config.ensures.faults c.in_err-config.ensures.none)
+    (unopened input left room _ c.in_err-config.ensures.refuses c.in_err-config.ensures.faults c.in_err-config.ensures.none c.in_err-config.ensures.stops)
 
 pub returns-clause-none : goal.returns-clause-none
 returns-clause-none g c =
     unkept c.keep.result (g.R.Input.remaining c.args.reader.now) _ (g.R.Input.remaining c.keep.new.reader) (address_octets c.args.room.now) _ _
-    c.in_ok-config.ensures.opens c.keep.ensures.refuses c.keep.ensures.none c.keep.ensures.bound
+    c.in_ok-config.ensures.opens c.keep.ensures.refuses c.keep.ensures.none c.keep.ensures.bound c.keep.ensures.unhosted
 
 pub returns-clause-keeps : goal.returns-clause-keeps
 returns-clause-keeps g c =

@@ -1,6 +1,6 @@
 use Rattle.std.proofs.Common.{to_z, of_z, w64, ◌≡◌, sym, refl, inl, inr, [], append-nil, arith}
 use Rattle.std.proofs.lemmas.Int.{ints}
-use Rattle.profile.specs.Properties.{length_seconds}
+use Rattle.profile.specs.events.Properties.{length_seconds}
 use Rattle.cal_events.specs.Events.{length_of}
 use Rattle.sched_cli.proofs.expand.append_day.Goals as goal
 

@@ -1,9 +1,9 @@
 use Rattle.std.proofs.Common.{◌∙◌, List, ℕ}
-use Rattle.profile.specs.Days.{day_index}
-use Rattle.profile.specs.Rules.{rule_days_from}
+use Rattle.profile.specs.series.Days.{day_index}
+use Rattle.profile.specs.series.Rules.{rule_days_from}
 use Rattle.cal_rules.specs.Left.{days_left}
-use Rattle.profile.specs.Properties.{length_seconds}
-use Rattle.profile.specs.ZonedTimes.{clock_of}
+use Rattle.profile.specs.events.Properties.{length_seconds}
+use Rattle.profile.specs.events.ZonedTimes.{clock_of}
 use Rattle.cal_events.specs.Events.{length_of, zone_said}
 use Rattle.sched_cli.proofs.Printing.{one_more}
 use Rattle.sched_cli.proofs.expand.print_days.Goals as goal
@@ -18,4 +18,5 @@ loop-count-preserved g c =
           (rule_days_from c.args.rule.now c.args.rule.now.pattern.start) (days_left c.loop-count.days) (days_left c.next.new.self)
           (g.W.Output.contents c.args.writer.now) (g.W.Output.contents c.loop-count.writer) (g.W.Output.contents c.print_day.new.writer)
           c.loop-count.lines.text.items c.print_day.new.lines.text.items moved.0 c.in-Some.ensures.steps moved.1 moved.2 i.printed;
+      mark = ◌∙◌ c.in_ok-print_day.ensures.mark i.mark;
     }

@@ -2,9 +2,9 @@ use Rattle.std.proofs.Common.{to_z, of_z, w64, arith, ◌≡◌, ◌∙◌, ◌+
 use Rattle.std.specs.Fmt.{decimal}
 use Rattle.std.proofs.lemmas.Int.{ints}
 use Rattle.std.specs.Io.KnownBytes.{Appends}
-use Rattle.profile.specs.Rules.{Parts, rule_days_from}
-use Rattle.profile.specs.Properties.{length_seconds}
-use Rattle.profile.specs.ZonedTimes.{clock_of}
+use Rattle.profile.specs.series.Rules.{Parts, rule_days_from}
+use Rattle.profile.specs.events.Properties.{length_seconds}
+use Rattle.profile.specs.events.ZonedTimes.{clock_of}
 use Rattle.cal_events.specs.Events.{length_of, zone_said}
 use Rattle.sched_cli.specs.Expanding.{PrintsStarts}
 use Rattle.sched_cli.proofs.Printing.{finished}

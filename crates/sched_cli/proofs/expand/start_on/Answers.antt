@@ -1,11 +1,11 @@
 use Rattle.std.proofs.Common.{to_z, of_z, w64, ◌≡◌, ℤ, subst, arith}
 use Rattle.std.proofs.lemmas.Bool.{false≢true}
 use Rattle.std.proofs.lemmas.Int.{ints}
-use Rattle.profile.specs.Days.{day_index}
-use Rattle.profile.specs.Values.{IsClockSeconds}
-use Rattle.profile.specs.Zones.{Means, local_time}
-use Rattle.profile.specs.Zones.{Zone}
-use Rattle.profile.specs.ZonedTimes.{clock_of}
+use Rattle.profile.specs.series.Days.{day_index}
+use Rattle.profile.specs.text.Values.{IsClockSeconds}
+use Rattle.profile.specs.series.Zones.{Means, local_time}
+use Rattle.profile.specs.series.Zones.{Zone}
+use Rattle.profile.specs.events.ZonedTimes.{clock_of}
 use Rattle.cal_events.specs.Events.{zone_said}
 use Rattle.ical_values.proofs.Exits.{if_none}
 use Rattle.sched_cli.proofs.expand.start_on.Goals as goal

@@ -1,7 +1,7 @@
 use Rattle.ical_lines.specs.Fault.{RefusesBy}
 use Rattle.ical_values.specs.Octets.{address_octets}
 use Rattle.ical_values.proofs.Exits.{err_exit}
-use Rattle.profile.specs.Events.{CalendarFault}
+use Rattle.profile.specs.events.Events.{CalendarFault}
 use Rattle.ical_tree.specs.Tree.{tree_of}
 use Rattle.cal_events.specs.Events.{vevents_of}
 use Rattle.cal_events.proofs.ReadingLemmas.{calendar_said, twins_stand, unread_stands}

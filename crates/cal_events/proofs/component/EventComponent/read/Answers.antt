@@ -1,7 +1,7 @@
 use Rattle.std.proofs.Common.{inl, inr}
 use Rattle.std.proofs.lemmas.Result.{IfErr-weaker}
 use Rattle.ical_lines.specs.Fault.{RefusesOnly, RefusesBy}
-use Rattle.profile.specs.Events.{EventFault, in_times}
+use Rattle.profile.specs.events.Events.{EventFault, in_times}
 use Rattle.cal_events.specs.Events.{is_message, is_fault_for, IsUnreadOrFault}
 use Rattle.cal_events.proofs.NumberLemmas.{unread_for, refused_for}
 use Rattle.cal_events.specs.Zones.{object_of}

@@ -2,8 +2,8 @@ use Rattle.std.proofs.Common.{codes, sym, subst, refl, arith}
 use Rattle.ical_lines.specs.Fault.{RefusesBy}
 use Rattle.std.specs.Prelude.{option_map}
 use Rattle.ical_lines.specs.Text.{line_text}
-use Rattle.profile.specs.Events.{EventFault, in_times, in_rule, twice}
-use Rattle.profile.specs.EventRules.{EventRuleFault}
+use Rattle.profile.specs.events.Events.{EventFault, in_times, in_rule, twice}
+use Rattle.profile.specs.events.EventRules.{EventRuleFault}
 use Rattle.cal_events.specs.Events.{is_message}
 use Rattle.cal_events.specs.Zones.{object_of}
 use Rattle.cal_events.proofs.ZonedLemmas.{weaker_fault}

@@ -2,7 +2,7 @@ use Rattle.std.proofs.Common.{◌≡◌, drop, map, option_map}
 use Rattle.std.specs.List.{find}
 use Rattle.std.specs.Str.{bytes_eq}
 use Rattle.ical_values.specs.Octets.{address_octets}
-use Rattle.profile.specs.Events.{answer_of}
+use Rattle.profile.specs.events.Events.{answer_of}
 use Rattle.cal_events.specs.Events.{attendee_of, event_of}
 use Rattle.cal_events.proofs.component.EventComponent.status_of.Given as goal
 

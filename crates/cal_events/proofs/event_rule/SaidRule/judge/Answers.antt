@@ -1,9 +1,9 @@
 use Rattle.ical_lines.specs.Fault.{RefusesBy}
-use Rattle.profile.specs.EventRules.{IsOutside, EventRuleFault}
+use Rattle.profile.specs.events.EventRules.{IsOutside, EventRuleFault}
 use Rattle.cal_events.specs.Events.{times_of}
 use Rattle.ical_values.proofs.Exits.{err_exit}
 use Rattle.std.proofs.Common.{◌≡◌, subst}
-use Rattle.profile.specs.ZonedTimes.{clock_of}
+use Rattle.profile.specs.events.ZonedTimes.{clock_of}
 use Rattle.cal_events.proofs.RuleLemmas.{outside_stands}
 use Rattle.cal_events.proofs.ZonedLemmas.{weaker_fault}
 use Rattle.cal_events.proofs.event_rule.SaidRule.judge.Goals as goal

@@ -2,9 +2,9 @@ use Rattle.std.proofs.Common.{◌∙◌, codes, sym, ap, subst, option_map}
 use Rattle.std.specs.Option.{option_to_list}
 use Rattle.ical_lines.specs.Fault.{RefusesBy}
 use Rattle.ical_lines.specs.Text.{line_text}
-use Rattle.profile.specs.Lines.{line_value}
-use Rattle.profile.specs.RuleTexts.{IsLeastRuleFault}
-use Rattle.profile.specs.EventRules.{EventRuleFault, bad_rule, two_rules}
+use Rattle.profile.specs.text.Lines.{line_value}
+use Rattle.profile.specs.series.RuleTexts.{IsLeastRuleFault}
+use Rattle.profile.specs.events.EventRules.{EventRuleFault, bad_rule, two_rules}
 use Rattle.ical_values.proofs.Exits.{err_exit}
 use Rattle.cal_events.proofs.EventLemmas.{some_line}
 use Rattle.cal_events.proofs.ZonedLemmas.{weaker_fault}

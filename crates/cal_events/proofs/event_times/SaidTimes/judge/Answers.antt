@@ -1,8 +1,8 @@
 use Rattle.std.proofs.Common.{◌≡◌, ◌∙◌, arith, to_z, of_z, w64, rules}
 use Rattle.std.proofs.lemmas.Bool.{false≢true}
 use Rattle.std.proofs.lemmas.Int.{ints}
-use Rattle.profile.specs.Values.{IsClockSeconds}
-use Rattle.profile.specs.ZonedTimes.{EventTimesFault}
+use Rattle.profile.specs.text.Values.{IsClockSeconds}
+use Rattle.profile.specs.events.ZonedTimes.{EventTimesFault}
 use Rattle.ical_values.proofs.Exits.{refusal_exit}
 use Rattle.cal_events.proofs.TimesLemmas.{times_said, extent_judged, start_judged, end_judged}
 use Rattle.cal_events.proofs.event_times.SaidTimes.judge.Goals as goal

@@ -1,13 +1,13 @@
 use Rattle.std.proofs.Common.{◌≡◌, codes, sym, subst, refl, inl, inr, arith, to_z, of_z, w64, ℤ}
 use Rattle.std.proofs.lemmas.Int.{ints}
-use Rattle.profile.specs.Zones.{Means}
+use Rattle.profile.specs.series.Zones.{Means}
 use Rattle.ical_lines.specs.Text.{line_text}
-use Rattle.profile.specs.ZonedTimes.{EventTimesFault, ZonedTimeFault, no_start, twice, bad_start}
+use Rattle.profile.specs.events.ZonedTimes.{EventTimesFault, ZonedTimeFault, no_start, twice, bad_start}
 use Rattle.ical_values.proofs.Exits.{refusal_exit}
 use Rattle.cal_events.proofs.EventLemmas.{some_line}
 use Rattle.cal_events.proofs.TimesLemmas.{nominal_given}
 use Rattle.std.specs.Prelude.{◌↔◌, IsTrue}
-use Rattle.profile.specs.ZonedTimes.{IsInDates, clock_of}
+use Rattle.profile.specs.events.ZonedTimes.{IsInDates, clock_of}
 use Rattle.cal_events.specs.Zones.{object_of}
 use Rattle.cal_events.specs.Events.{zone_said}
 use Rattle.cal_events.specs.Zoned.{IsNominal, IsExact}

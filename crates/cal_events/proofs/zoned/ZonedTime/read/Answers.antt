@@ -2,9 +2,9 @@ use Rattle.std.proofs.Common.{◌≡◌, ◌∙◌, ap, sym}
 use Rattle.std.specs.Prelude.{option_map}
 use Rattle.std.proofs.lemmas.Result.{IfOk-weaker, IfErr-weaker}
 use Rattle.ical_lines.specs.Text.{line_text}
-use Rattle.profile.specs.Lines.{line_value}
-use Rattle.profile.specs.Properties.{DateTime, time_kind}
-use Rattle.profile.specs.ZonedTimes.{SpellsZoned, SaysZonedTime, InZoneFault, ZonedTimeFault}
+use Rattle.profile.specs.text.Lines.{line_value}
+use Rattle.profile.specs.events.Properties.{DateTime, time_kind}
+use Rattle.profile.specs.events.ZonedTimes.{SpellsZoned, SaysZonedTime, InZoneFault, ZonedTimeFault}
 use Rattle.std.specs.Prelude.{Some}
 use Rattle.cal_events.specs.Events.{zone_said}
 use Rattle.cal_events.specs.Zones.{object_of}

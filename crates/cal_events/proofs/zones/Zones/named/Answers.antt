@@ -4,9 +4,9 @@ use Rattle.cal_zones.specs.Kinds.{zone_of}
 use Rattle.cal_zones.specs.declared.zone.Zone.{Zone}
 use Rattle.ical_lines.specs.declared.fault.Refusal.{Refusal}
 use Rattle.ical_tree.specs.Tree.{component_children}
-use Rattle.profile.specs.Trees.{Tree}
-use Rattle.profile.specs.Properties.{BothOrNeither}
-use Rattle.profile.specs.ZonedTimes.{SaysZoneOf, NamedFault}
+use Rattle.profile.specs.text.Trees.{Tree}
+use Rattle.profile.specs.events.Properties.{BothOrNeither}
+use Rattle.profile.specs.events.ZonedTimes.{SaysZoneOf, NamedFault}
 use Rattle.cal_events.specs.Zones.{is_zone_called, IsZoneRead}
 use Rattle.cal_events.proofs.ZonedLemmas.{zone_among, zone_read, no_zone_read}
 use Rattle.cal_events.proofs.zones.Zones.named.Goals as goal

@@ -1,6 +1,6 @@
 use Rattle.std.proofs.Common.{arith}
 use Rattle.cal_rules.proofs.Tomorrow.{month_left, month_has, ranges}
-use Rattle.profile.specs.Days.{day_index}
+use Rattle.profile.specs.series.Days.{day_index}
 use Rattle.cal_rules.proofs.facts.DayFacts.of.Goals as goal
 
 pub overflow_sub-result-2 : goal.overflow_sub-result-2

@@ -1,6 +1,6 @@
 use Rattle.std.proofs.Common.{refl, map, None, Some}
 use Rattle.std.proofs.lemmas.Result.{IfErr-weaker}
-use Rattle.profile.specs.RuleTexts.{Interval, Count, EndsAt, WeekStart, ByMonth, ByMonthDay, ByDay, BySetPosition}
+use Rattle.profile.specs.series.RuleTexts.{Interval, Count, EndsAt, WeekStart, ByMonth, ByMonthDay, ByDay, BySetPosition}
 use Rattle.cal_days.specs.Views.{frequency_of}
 use Rattle.cal_rules.specs.Views.{entry_of, until_of}
 use Rattle.cal_rules.proofs.Parted.{named, unmarked, unnamed, no_name, no_frequency_part}

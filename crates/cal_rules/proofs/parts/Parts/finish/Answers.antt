@@ -1,6 +1,6 @@
 use Rattle.std.proofs.Common.{◌≡◌, ◌∙◌, sym, ap, ℕ, List, None, option_map}
 use Rattle.std.specs.Result.{result_ok}
-use Rattle.profile.specs.RuleTexts.{rule_parts, SpellsFrequency, IsLeastRuleFault}
+use Rattle.profile.specs.series.RuleTexts.{rule_parts, SpellsFrequency, IsLeastRuleFault}
 use Rattle.cal_days.specs.Views.{frequency_of}
 use Rattle.cal_rules.specs.Views.{text_of}
 use Rattle.cal_rules.specs.Taken.{field, values_in, AreTaken}

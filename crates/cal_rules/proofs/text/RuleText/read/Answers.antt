@@ -1,7 +1,7 @@
 use Rattle.std.proofs.Common.{◌++◌, [], ◌∷◌, refl, arith}
 use Rattle.ical_lines.specs.Fault.{RefusesBy}
 use Rattle.ical_lines.specs.declared.fault.Fault.TheVariants.{Refused}
-use Rattle.profile.specs.RuleTexts.{rule_parts, IsLeastRuleFault}
+use Rattle.profile.specs.series.RuleTexts.{rule_parts, IsLeastRuleFault}
 use Rattle.cal_rules.specs.Views.{text_of}
 use Rattle.cal_rules.proofs.Cuts.{all_left, cut_more, cut_done}
 use Rattle.cal_rules.proofs.OneRule.{least_unknown, is_allowed}

@@ -1,5 +1,5 @@
 use Rattle.std.proofs.Common.{◌≡◌, ◌++◌, ℕ, List}
-use Rattle.profile.specs.RuleTexts.{rule_parts}
+use Rattle.profile.specs.series.RuleTexts.{rule_parts}
 use Rattle.cal_rules.specs.Taken.{AreTaken}
 use Rattle.cal_rules.proofs.Cuts.{Leaves}
 use Rattle.cal_rules.proofs.text.RuleText.read.Given as goal

@@ -1,6 +1,6 @@
 use Rattle.std.proofs.Common.{◌∙◌, sym, refl, ◌==◌}
-use Rattle.profile.specs.Days.{month_of}
-use Rattle.profile.specs.Rules.{implies_month, passes_month}
+use Rattle.profile.specs.series.Days.{month_of}
+use Rattle.profile.specs.series.Rules.{implies_month, passes_month}
 use Rattle.cal_rules.specs.Views.{pattern_of}
 use Rattle.cal_rules.proofs.Judging.{by_implied, by_written}
 use Rattle.cal_rules.proofs.written.Written.passes_month.Goals as goal

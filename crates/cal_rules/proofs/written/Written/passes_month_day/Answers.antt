@@ -1,6 +1,6 @@
 use Rattle.std.proofs.Common.{◌∙◌, sym, pos, suc}
-use Rattle.profile.specs.Days.{month_days_before, month_days_after}
-use Rattle.profile.specs.Rules.{implies_month_day, is_nth, passes_month_day}
+use Rattle.profile.specs.series.Days.{month_days_before, month_days_after}
+use Rattle.profile.specs.series.Rules.{implies_month_day, is_nth, passes_month_day}
 use Rattle.cal_rules.specs.Views.{pattern_of}
 use Rattle.cal_rules.proofs.Judging.{by_implied, by_written, same_suc}
 use Rattle.cal_rules.proofs.written.Written.passes_month_day.Goals as goal

@@ -1,6 +1,6 @@
 use Rattle.std.proofs.Common.{◌∙◌, sym, refl, pos, map}
-use Rattle.profile.specs.Days.{weekday_of}
-use Rattle.profile.specs.Rules.{implies_weekday, counts_in_year, same_weekdays_before, same_weekdays_after, names_weekday, passes_weekday}
+use Rattle.profile.specs.series.Days.{weekday_of}
+use Rattle.profile.specs.series.Rules.{implies_weekday, counts_in_year, same_weekdays_before, same_weekdays_after, names_weekday, passes_weekday}
 use Rattle.cal_rules.specs.Views.{entry_of, pattern_of}
 use Rattle.cal_rules.proofs.Judging.{by_implied, by_written, plain_weekday, allows_map}
 use Rattle.cal_rules.proofs.written.Written.passes_weekday.Goals as goal

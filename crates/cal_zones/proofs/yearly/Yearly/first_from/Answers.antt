@@ -1,5 +1,5 @@
 use Rattle.std.proofs.Common.{◌≡◌, ◌∙◌, ap, arith}
-use Rattle.profile.specs.Days.{year_of}
+use Rattle.profile.specs.series.Days.{year_of}
 use Rattle.cal_zones.proofs.OneDay.{first_same_year, first_year_after, year_range, day_range}
 use Rattle.cal_zones.proofs.yearly.Yearly.first_from.Goals as goal
 

@@ -1,5 +1,5 @@
 use Rattle.std.proofs.Common.{◌≡◌, ◌∙◌, ◌-◌, ap, arith}
-use Rattle.profile.specs.Days.{year_of}
+use Rattle.profile.specs.series.Days.{year_of}
 use Rattle.cal_zones.proofs.OneDay.{day_near, second_year, latest_same_year, latest_year_before}
 use Rattle.cal_zones.proofs.yearly.Yearly.latest_early.Goals as goal
 

@@ -1,8 +1,8 @@
 use Rattle.std.proofs.Common.{◌≡◌, ◌∙◌, ◌+◌, ◌-◌, ◌≤ℤ◌, arith, to_z, of_z, w64, to_z-of_z}
 use Rattle.std.specs.Int.Signed.{◌<ℤ◌}
 use Rattle.jiff_core.proofs.SignedLemmas.{signed_arith}
-use Rattle.profile.specs.Days.{IsDayNumber, day_index}
-use Rattle.profile.specs.Zones.{local_time}
+use Rattle.profile.specs.series.Days.{IsDayNumber, day_index}
+use Rattle.profile.specs.series.Zones.{local_time}
 use Rattle.cal_zones.specs.Kinds.{zone_of}
 use Rattle.cal_zones.proofs.Casts.{narrow}
 use Rattle.cal_zones.proofs.Lasts.{local_of_day, none_past, none_more}

@@ -1,5 +1,5 @@
 use Rattle.std.proofs.Common.{◌+◌, ◌≤◌}
-use Rattle.profile.specs.Zones.{NoneFrom}
+use Rattle.profile.specs.series.Zones.{NoneFrom}
 use Rattle.cal_zones.specs.Kinds.{zone_of}
 use Rattle.cal_zones.proofs.zone.Zone.last_day_at.Given as goal
 

@@ -1,5 +1,5 @@
 use Rattle.ical_tree.specs.Tree.{tree_of}
-use Rattle.profile.specs.ZoneTexts.{SaysZone, ZoneFault}
+use Rattle.profile.specs.series.ZoneTexts.{SaysZone, ZoneFault}
 use Rattle.cal_zones.specs.Kinds.{zone_of}
 use Rattle.cal_zones.specs.Read.{Says, HasFault}
 use Rattle.cal_zones.proofs.Reading.{weaker_fault, says_there, fault_there}

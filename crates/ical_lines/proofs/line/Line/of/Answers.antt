@@ -1,6 +1,6 @@
 use Rattle.std.proofs.Common.{Some, ap, ◌∙◌, arith}
 use Rattle.std.proofs.lemmas.Str.Pattern.{strip_prefix_char}
-use Rattle.profile.specs.Lines.{pieces}
+use Rattle.profile.specs.text.Lines.{pieces}
 use Rattle.ical_lines.proofs.MarkLemmas.{colon_name, colon_params, colon_value, semicolon_name, semicolon_params, semicolon_value}
 use Rattle.ical_lines.proofs.line.Line.of.Goals as goal
 

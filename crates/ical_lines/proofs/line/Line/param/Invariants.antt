@@ -1,6 +1,6 @@
 use Rattle.std.proofs.Common.{◌≡◌, option_map}
 use Rattle.std.specs.List.{find}
-use Rattle.profile.specs.Lines.{line_param, param_name, first_value, is_same_name}
+use Rattle.profile.specs.text.Lines.{line_param, param_name, first_value, is_same_name}
 use Rattle.ical_lines.specs.Pieces.{pieces_left}
 use Rattle.ical_lines.specs.Text.{line_text}
 use Rattle.ical_lines.proofs.line.Line.param.Given as goal

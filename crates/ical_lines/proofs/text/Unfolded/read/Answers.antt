@@ -1,6 +1,6 @@
 use Rattle.std.proofs.Common.{ap, sym, ◌∙◌}
 use Rattle.std.proofs.lemmas.Result.{err_from_is_err_and}
-use Rattle.profile.specs.Lines.{logical_lines}
+use Rattle.profile.specs.text.Lines.{logical_lines}
 use Rattle.ical_lines.specs.Breaks.{lines_of}
 use Rattle.ical_lines.specs.Limits.{is_bounded}
 use Rattle.ical_lines.proofs.BreakLemmas.{lines_stand, all_read}

@@ -2,7 +2,7 @@ use Rattle.std.proofs.Common.{refl, ap, sym, ◌∙◌, drop}
 use Rattle.std.specs.List.{list_any}
 use Rattle.std.specs.String.{string_bytes}
 use Rattle.std.proofs.lemmas.Bool.{false≢true}
-use Rattle.profile.specs.Lines.{logical_lines, physical_lines, is_continuation}
+use Rattle.profile.specs.text.Lines.{logical_lines, physical_lines, is_continuation}
 use Rattle.ical_lines.proofs.UnfoldLemmas.{lines_of-lent, lines_of-owned}
 use Rattle.ical_lines.proofs.Utf8Lemmas.{text_not_utf8}
 use Rattle.ical_lines.proofs.unfold.Text.of.Goals as goal

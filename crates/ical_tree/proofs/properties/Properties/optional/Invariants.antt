@@ -1,7 +1,7 @@
 use Rattle.std.proofs.Common.{◌≡◌, ◌++◌, drop, map, option_map}
 use Rattle.std.specs.Option.{option_to_list}
 use Rattle.ical_lines.specs.Text.{line_text}
-use Rattle.profile.specs.Properties.{lines_named}
+use Rattle.profile.specs.events.Properties.{lines_named}
 use Rattle.ical_tree.proofs.properties.Properties.optional.Given as goal
 
 -- the line found so far, and those of the name among the lines that are left, are all of the name

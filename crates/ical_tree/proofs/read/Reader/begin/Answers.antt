@@ -1,5 +1,5 @@
 use Rattle.std.proofs.Common.{◌≡◌, ◌≤◌, length, is_some, true, sym, ◌∙◌, arith}
-use Rattle.profile.specs.Objects.{may_begin}
+use Rattle.profile.specs.text.Objects.{may_begin}
 use Rattle.ical_tree.specs.Reading.{Built, names_of, open_view}
 use Rattle.ical_tree.specs.Runs.{run_lines}
 use Rattle.ical_tree.specs.Tree.{component_name}

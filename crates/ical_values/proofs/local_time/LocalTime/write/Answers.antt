@@ -2,7 +2,7 @@ use Rattle.std.proofs.Common.{◌≡◌, ◌∙◌, ◌++◌, ℕ, List, [], ari
 use Rattle.std.proofs.lemmas.Int.{ints}
 use Rattle.std.proofs.lemmas.Result.{on_ok_weaker}
 use Rattle.std.proofs.lemmas.List.{append-nil}
-use Rattle.profile.specs.Values.{SpellsClock}
+use Rattle.profile.specs.text.Values.{SpellsClock}
 use Rattle.ical_values.specs.Written.{Appends}
 use Rattle.ical_values.proofs.local_time.LocalTime.write.Goals as goal
 

@@ -1,6 +1,6 @@
 use Rattle.ical_lines.specs.Fault.{RefusesBy}
 use Rattle.ical_tree.specs.Tree.{tree_of}
-use Rattle.profile.specs.Messages.{MessageFault}
+use Rattle.profile.specs.rooms.Messages.{MessageFault}
 use Rattle.cal_events.specs.Events.{vevents_of}
 use Rattle.cal_events.proofs.TreeLemmas.{vevents_tree}
 use Rattle.itip_messages.proofs.MessageLemmas.{unread_stands}

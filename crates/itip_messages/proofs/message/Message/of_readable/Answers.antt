@@ -2,7 +2,7 @@ use Rattle.std.proofs.Common.{◌∙◌, ℕ, List, map, subst, sym}
 use Rattle.ical_lines.specs.Fault.{RefusesBy}
 use Rattle.ical_tree.specs.Tree.{component_lines, tree_of}
 use Rattle.ical_tree.proofs.TreeOfLemmas.{tree_of-own}
-use Rattle.profile.specs.Messages.{MethodFault, MessageFault, in_method}
+use Rattle.profile.specs.rooms.Messages.{MethodFault, MessageFault, in_method}
 use Rattle.cal_events.specs.Events.{event_of, vevents_of}
 use Rattle.cal_events.proofs.TreeLemmas.{vevents_tree}
 use Rattle.itip_messages.proofs.MessageLemmas.{events_stand, meeting_stands, one_said, organiser_given, stamp_given, request_said}

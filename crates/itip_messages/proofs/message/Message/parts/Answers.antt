@@ -1,8 +1,8 @@
 use Rattle.std.proofs.Common.{◌≡◌, ap, map}
 use Rattle.std.proofs.lemmas.Result.{IfOk-weaker}
 use Rattle.ical_values.specs.Octets.{address_octets}
-use Rattle.profile.specs.Events.{Event}
-use Rattle.profile.specs.Messages.{AreParts}
+use Rattle.profile.specs.events.Events.{Event}
+use Rattle.profile.specs.rooms.Messages.{AreParts}
 use Rattle.itip_order.specs.Parts.{parts_of}
 use Rattle.itip_messages.specs.Messages.{StandsFor, part_for}
 use Rattle.itip_messages.proofs.MessageLemmas.{no_parts, one_part}

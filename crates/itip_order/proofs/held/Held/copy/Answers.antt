@@ -1,5 +1,5 @@
 use Rattle.std.proofs.Common.{◌≡◌, true, List, sym, ◌∙◌, subst}
-use Rattle.profile.specs.Revisions as revisions
+use Rattle.profile.specs.rooms.Revisions as revisions
 use Rattle.itip_order.specs.Registers.{is_ascending}
 use Rattle.itip_order.proofs.Steps.{parts_of_clones}
 use Rattle.itip_order.proofs.held.Held.copy.Goals as goal

@@ -1,6 +1,6 @@
 use Rattle.std.proofs.Common.{List, sym, ap, ◌∙◌, subst}
 use Rattle.std.specs.List.{insert}
-use Rattle.profile.specs.Revisions as revisions
+use Rattle.profile.specs.rooms.Revisions as revisions
 use Rattle.itip_order.specs.Parts.{part_of, parts_of}
 use Rattle.itip_order.specs.Registers.{IsGap}
 use Rattle.itip_order.proofs.Steps.{ascending_either, parts-insert}

@@ -1,6 +1,6 @@
 use Rattle.std.proofs.Common.{List, sym, ◌∙◌, ap, subst}
 use Rattle.std.specs.Ordering.{is_eq}
-use Rattle.profile.specs.Revisions as revisions
+use Rattle.profile.specs.rooms.Revisions as revisions
 use Rattle.itip_order.specs.Parts.{part_of, parts_of}
 use Rattle.itip_order.specs.Registers.{is_allowed_by, StandsFor}
 use Rattle.itip_order.proofs.Order.{is_eq_true}

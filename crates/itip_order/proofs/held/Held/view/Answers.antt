@@ -1,5 +1,5 @@
 use Rattle.std.proofs.Common.{◌<◌, ◌^◌, length, arith, List, sym, ◌∙◌, ap, subst}
-use Rattle.profile.specs.Revisions as revisions
+use Rattle.profile.specs.rooms.Revisions as revisions
 use Rattle.itip_order.specs.Parts.{part_of, parts_of}
 use Rattle.itip_order.specs.Registers.{is_allowed_by, allowed_by, shown, IsView}
 use Rattle.std.proofs.lemmas.List.{length-map}

@@ -1,7 +1,7 @@
 use Rattle.std.proofs.Common.{◌∙◌, sym, subst}
 use Rattle.std.specs.List.{flat_map}
 use Rattle.ical_values.specs.Octets.{address_octets}
-use Rattle.profile.specs.Kept.{IsKeptCalendar}
+use Rattle.profile.specs.rooms.Kept.{IsKeptCalendar}
 use Rattle.room_books.specs.Keeping.{kept, claims_of}
 use Rattle.room_books.specs.Standing.{Stands}
 use Rattle.room_books.proofs.Keeping.{are_kept}

@@ -2,7 +2,7 @@
 use Rattle.std.proofs.Common.{◌++◌, ◌∙◌, ap, subst}
 use Rattle.std.specs.List.{IsDistinct}
 use Rattle.indexmap.specs.IndexMap.{keys}
-use Rattle.profile.specs.Certificates.{text_of}
+use Rattle.profile.specs.checker.Certificates.{text_of}
 use Rattle.room_books.specs.declared.timeline.Timeline.{Timeline}
 use Rattle.room_books.specs.Views.{same_key}
 use Rattle.room_books.proofs.Keeping.{as_many}

@@ -2,7 +2,7 @@
 use Rattle.std.proofs.Common.{◌≡◌, Option, [], ◌∷◌, subst, sym, ap, ◌∙◌}
 use Rattle.std.specs.Prelude.{unwrap_or}
 use Rattle.ical_values.specs.Octets.{address_octets}
-use Rattle.profile.specs.Messages.{AreParts}
+use Rattle.profile.specs.rooms.Messages.{AreParts}
 use Rattle.itip_order.specs.Parts.{part_of}
 use Rattle.itip_order.specs.declared.part.Part.{Part}
 use Rattle.room_books.specs.Standing.{part_list, claim_of, span_said}

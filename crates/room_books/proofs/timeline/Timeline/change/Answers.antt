@@ -1,7 +1,7 @@
 -- What was confirmed is gone when something new is put in.
 use Rattle.std.proofs.Common.{Option, None, sym, subst}
 use Rattle.std.specs.Prelude.{IfSome}
-use Rattle.room_books.specs.declared.meeting.Span.{Span}
+use Rattle.cal_events.specs.declared.sweep.Span.{Span}
 use Rattle.room_books.specs.declared.timeline.Timeline.{Timeline}
 use Rattle.room_books.specs.Timelines.{IsFreeBut}
 use Rattle.room_books.proofs.Timelines.{free_then}

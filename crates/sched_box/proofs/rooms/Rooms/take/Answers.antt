@@ -1,6 +1,6 @@
 use Rattle.std.proofs.Common.{subst, refl}
 use Rattle.ical_lines.specs.Fault.{RefusesBy}
-use Rattle.profile.specs.Streams.{ObjectFault, refused_line}
+use Rattle.profile.specs.streams.Streams.{ObjectFault, refused_line}
 use Rattle.sched_box.proofs.AnswerLemmas.{answers_taken, answers_refused, same_addresses}
 use Rattle.sched_box.proofs.rooms.Rooms.take.Goals as goal
 

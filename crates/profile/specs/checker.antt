@@ -1,0 +1,4 @@
+-- what a yes of the checker means
+pub mod Instances
+pub mod Certificates
+pub mod Calendars

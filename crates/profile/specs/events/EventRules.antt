@@ -1,0 +1,80 @@
+-- The rule of a VEVENT: on which days its RRULE lets it start (RFC 5545 3.3.10, 3.8.5.3). The days are those of the start's own clocks,
+-- which are those of the zone that DTSTART names, or of UTC. A day goes by its index.
+use Rattle.std.specs.Prelude.{◌≡◌, ℕ, ◌<◌, ◌⊎◌, false, true, List, codes, Option, Some, None, ℤ}
+use Rattle.profile.specs.series.Days.{day_index}
+use Rattle.profile.specs.text.Lines.{line_value}
+use Rattle.profile.specs.text.Trees.{Tree}
+use Rattle.profile.specs.series.Rules.{Parts, RuleText, Until, UntilDay, UntilLocal, UntilInstant, rule_of, is_rule_day, last_rule_day}
+use Rattle.profile.specs.series.RuleTexts.{SpellsRule, IsLeastRuleFault}
+use Rattle.profile.specs.series.Zones.{Zone, Means, NoneFrom, IsLastDay, local_time}
+use Rattle.profile.specs.events.Properties.{Says, StandsTwice, SomeLine}
+use Rattle.profile.specs.events.ZonedTimes.{SaysZonedTime, clock_of, EventTimes}
+
+-- ---- the last day that UNTIL allows
+
+-- of starts at that second of their days on the clocks of a zone: without UNTIL 9999-12-31; a date is that day; a local time allows
+-- the days on which the start isn't past what it means in the zone, a UTC time those on which the start isn't past it
+abbrev pub IsLastAllowed : Zone → ℕ → Option Until → ℕ → Type 0
+IsLastAllowed zone second None last = last ≡ last_rule_day
+IsLastAllowed zone second (Some (UntilDay number)) last = last ≡ day_index number
+IsLastAllowed zone second (Some (UntilLocal local)) last = (instant : ℤ) × Means zone local instant × IsLastDay zone second instant last
+IsLastAllowed zone second (Some (UntilInstant instant)) last = IsLastDay zone second instant last
+
+-- UNTIL allows no day from 0001-01-01 on, whose index is 366
+abbrev pub AllowsNone : Zone → ℕ → Option Until → Type 0
+AllowsNone zone second None = ⊥
+AllowsNone zone second (Some (UntilDay number)) = ⊥
+AllowsNone zone second (Some (UntilLocal local)) = (instant : ℤ) × Means zone local instant × NoneFrom zone second instant 366
+AllowsNone zone second (Some (UntilInstant instant)) = NoneFrom zone second instant 366
+
+-- ---- what RRULE says
+
+-- the local time lies on that day, at that second of it
+abbrev pub IsOnDay : ℤ → ℕ → ℕ → Type 0
+IsOnDay local day second = (second < 86_400) × (local ≡ local_time day second)
+
+-- the rule that a text gives to an event that starts at a local time in a zone: from the start's day, which has to be one of its days
+-- (RFC 5545 3.8.5.3 says that it should), to the last one that UNTIL allows
+pub record GivesRule (zone : Zone) (local : ℤ) (text : RuleText) (rule : Parts) : Type 0 where
+  pub day : ℕ
+  pub second : ℕ
+  pub on : IsOnDay local day second
+  pub last : ℕ
+  pub allowed : IsLastAllowed zone second text.until last
+  pub is : rule ≡ rule_of text day last
+  pub starts : is_rule_day rule day ≡ true
+
+-- the RRULE line says this rule, beside these times
+abbrev pub IsRuleLine : EventTimes → List ℕ → Parts → Type 0
+IsRuleLine times line rule = (text : RuleText) × SpellsRule (line_value line) text × GivesRule (clock_of times.zone) times.local text rule
+
+-- RRULE stands at most once: it says this rule, or there is none
+abbrev pub SaysEventRule : List (List ℕ) → EventTimes → Option Parts → Type 0
+SaysEventRule lines times rule = Says (codes "RRULE") false (IsRuleLine times) lines rule
+
+-- ---- what can be wrong with it, by the number of its refusal
+
+-- of a start at a local time in a zone: UNTIL allows no day, or the start's day isn't one of the rule that the text gives from it on
+pub record IsOutside (zone : Zone) (local : ℤ) (text : RuleText) : Type 0 where
+  pub day : ℕ
+  pub second : ℕ
+  pub on : IsOnDay local day second
+  pub none : AllowsNone zone second text.until
+      ⊎ ((last : ℕ) × IsLastAllowed zone second text.until last × (is_rule_day (rule_of text day last) day ≡ false))
+
+-- the start that a line says lies outside of the rule that another line spells
+pub record StartsOutside (object : Tree) (start line : List ℕ) : Type 0 where
+  pub zone : Option Zone
+  pub local : ℤ
+  pub says : SaysZonedTime object start zone local
+  pub text : RuleText
+  pub spelled : SpellsRule (line_value line) text
+  pub outside : IsOutside (clock_of zone) local text
+
+-- the fault of this number stands in the rule of a VEVENT
+pub data EventRuleFault (object : Tree) (lines : List (List ℕ)) : ℕ → Type 0 where
+  -- 30 to 33: in the text
+  bad_rule : {n : ℕ} → SomeLine (codes "RRULE") (λ line. IsLeastRuleFault (line_value line) n) lines → EventRuleFault object lines n
+  starts_outside : SomeLine (codes "DTSTART") (λ start. SomeLine (codes "RRULE") (StartsOutside object start) lines) lines
+      → EventRuleFault object lines 34
+  two_rules : StandsTwice (codes "RRULE") lines → EventRuleFault object lines 61

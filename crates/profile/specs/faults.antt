@@ -1,0 +1,3 @@
+-- the numbers of refusals, and which comes first
+pub mod Faults
+pub mod First

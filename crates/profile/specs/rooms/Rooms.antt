@@ -1,0 +1,170 @@
+-- The room machine: what a room keeps, and one step of it. A step is a relation, as a decline may name any clash.
+use Rattle.std.specs.Prelude.{◌≡◌, ℕ, ◌<◌, ◌≤◌, Bool, true, false, not, ◌&&◌, IsTrue, if◌then◌else◌, nat_lt, List, [], ◌∷◌, ◌++◌, length, map, filter, ℤ}
+use Rattle.std.specs.List.{flat_map, list_any}
+use Rattle.std.specs.declared.cmp.Ordering.TheVariants.{Less}
+use Rattle.profile.specs.checker.Instances.{Key, Booked, IsClash, IsClear, booked_cmp}
+use Rattle.profile.specs.rooms.Revisions.{Part, Body, At, Set, Absent, Cancelled, in_view, is_whole, same_part, same_place}
+use Rattle.profile.specs.rooms.Messages.{Outcome, Accept, Busy, SeriesLimit, SinglesLimit}
+
+-- ---- what a room keeps
+
+-- a part of a message, and what it asks for if it is to take place: the lines that say when, without line ends, and the instances. So far
+-- these are single instances: no series
+pub record Claim : Type 0 where
+  pub part : Part
+  pub content : List (List ℕ)
+  pub singles : List Booked
+
+-- what was decided about a part, and when; it stays for good
+pub record Answer : Type 0 where
+  pub claim : Claim
+  pub moment : ℤ
+  pub outcome : Outcome
+
+-- all parts ever taken, in order, and the answers to those that were decided
+pub record Book : Type 0 where
+  pub taken : List Part
+  pub answers : List Answer
+
+-- nothing was taken
+abbrev pub empty_book : Book
+empty_book = record { taken = []; answers = [] }
+
+abbrev pub is_accept : Outcome → Bool
+is_accept Accept = true
+is_accept (Busy a b t) = false
+is_accept SeriesLimit = false
+is_accept SinglesLimit = false
+
+-- the part is in the view of all parts taken, and was accepted
+abbrev pub is_confirmed : List Part → Answer → Bool
+is_confirmed taken answer = is_accept answer.outcome && in_view taken answer.claim.part
+
+-- the instance is one of a Whole, and a part of that meeting in the view is of its slot: the instance is as that part says, moved, cancelled
+-- or of no concern to this room (RFC 5545 3.8.4.4)
+abbrev pub is_hidden : List Part → Part → Booked → Bool
+is_hidden taken part booked =
+    is_whole part && list_any (λ other. in_view taken other && same_place other (record part { slot = At booked.key.slot })) taken
+
+-- the instances of an answer that no other part hides
+abbrev pub left_of : List Part → Answer → List Booked
+left_of taken answer = filter (λ booked. not (is_hidden taken answer.claim.part booked)) answer.claim.singles
+
+-- the confirmed instances, where these parts were taken and so answered
+abbrev pub confirmed_in : List Part → List Answer → List Booked
+confirmed_in taken answers = flat_map (left_of taken) (filter (is_confirmed taken) answers)
+
+abbrev pub confirmed : Book → List Booked
+confirmed book = confirmed_in book.taken book.answers
+
+-- ---- how new a part is, by the views before its message and after it
+
+abbrev pub is_fresh : List Part → List Part → Part → Bool
+is_fresh before after part = in_view after part && not (in_view before part)
+
+abbrev pub is_same : List Part → List Part → Part → Bool
+is_same before after part = in_view after part && in_view before part
+
+-- the part is to take place
+abbrev pub is_set_body : Body → Bool
+is_set_body (Set octets) = true
+is_set_body Absent = false
+is_set_body Cancelled = false
+
+abbrev pub is_set : Part → Bool
+is_set part = is_set_body part.body
+
+abbrev pub parts_of : List Claim → List Part
+parts_of claims = map (λ c. c.part) claims
+
+-- the parts that get an answer now: fresh, and to take place
+abbrev pub asked : List Part → List Part → List Claim → List Claim
+asked before after claims = filter (λ c. is_set c.part && is_fresh before after c.part) claims
+
+-- ---- the decision
+
+-- how many single instances a room may have confirmed; this profile's choice
+abbrev pub most_singles : ℕ
+most_singles = 10_000
+
+-- the two keys are those of a clash, at the later start; the lesser by start, organiser, UID and slot comes first
+pub record NamesClash (all : List Booked) (first second : Key) (t : ℤ) : Type 0 where
+  pub a : Booked
+  pub b : Booked
+  pub clash : IsClash all a b t
+  pub first_is : a.key ≡ first
+  pub second_is : b.key ≡ second
+  pub ordered : booked_cmp a b ≡ Less
+  pub later : t ≡ b.start
+
+-- what is decided where these would be the confirmed instances: the limit is looked at first, then whether any
+-- two of them share an instant; any clash may be named
+abbrev pub Decides : List Booked → Outcome → Type 0
+Decides all Accept = (length all ≤ most_singles) × IsClear all
+Decides all (Busy first second t) = (length all ≤ most_singles) × NamesClash all first second t
+Decides all SinglesLimit = most_singles < length all
+-- there are no series yet
+Decides all SeriesLimit = ⊥
+
+-- ---- a step
+
+-- the same answer to each of these, at one moment
+abbrev pub answered : ℤ → Outcome → List Claim → List Answer
+answered moment outcome claims = map (λ c. record { claim = c; moment = moment; outcome = outcome }) claims
+
+-- the book that there would be after these parts, were each that is asked accepted
+abbrev pub if_accepted : Book → List Claim → ℤ → List Part → Book
+if_accepted before claims moment taken =
+    record { taken = taken; answers = before.answers ++ answered moment Accept (asked before.taken taken claims) }
+
+-- A message with these parts is taken at a moment: its parts are taken, the old answers stay, and each part that is asked
+-- gets the one outcome, which the instances decide that would be confirmed, were each accepted
+pub record IsStep (before : Book) (claims : List Claim) (moment : ℤ) (outcome : Outcome) (after : Book) : Type 0 where
+  pub taken : after.taken ≡ before.taken ++ parts_of claims
+  pub answers : after.answers ≡ before.answers ++ answered moment outcome (asked before.taken after.taken claims)
+  pub decided : IsTrue (nat_lt 0 (length (asked before.taken after.taken claims)))
+      → Decides (confirmed (if_accepted before claims moment after.taken)) outcome
+
+-- a message, at a moment
+pub record Delivery : Type 0 where
+  pub claims : List Claim
+  pub moment : ℤ
+
+-- these messages lead, one step after another, from the first book to the second
+abbrev pub Runs : Book → List Delivery → Book → Type 0
+Runs before [] after = after ≡ before
+Runs before (d ∷ ds) after = (mid : Book) × (outcome : Outcome) × IsStep before d.claims d.moment outcome mid × Runs mid ds after
+
+-- ---- what became of a message
+
+pub data Kind : Type 0 where
+  Accepted : Kind
+  Declined : Key → Key → ℤ → Kind
+  SeriesSpent : Kind
+  SinglesSpent : Kind
+  Withdrawn : Kind
+  Repeated : Kind
+  Stale : Kind
+  NotAddressed : Kind
+
+abbrev pub kind_of_outcome : Outcome → Kind
+kind_of_outcome Accept = Accepted
+kind_of_outcome (Busy a b t) = Declined a b t
+kind_of_outcome SeriesLimit = SeriesSpent
+kind_of_outcome SinglesLimit = SinglesSpent
+
+-- decided where a part was asked; else withdrawn where a part is fresh, repeated where one is the same, stale where none is
+abbrev pub kind_of : List Part → List Part → List Claim → Outcome → Kind
+kind_of before after [] outcome = NotAddressed
+kind_of before after (c ∷ cs) outcome =
+    if nat_lt 0 (length (asked before after (c ∷ cs))) then kind_of_outcome outcome
+    else (if list_any (is_fresh before after) (parts_of (c ∷ cs)) then Withdrawn
+    else (if list_any (is_same before after) (parts_of (c ∷ cs)) then Repeated else Stale))
+
+-- the parts that a reply shows: in the view after, and to take place
+abbrev pub shown : List Part → List Claim → List Claim
+shown after claims = filter (λ c. is_set c.part && in_view after c.part) claims
+
+-- an answer to this part
+abbrev pub answers_part : Part → Answer → Bool
+answers_part part answer = same_part answer.claim.part part

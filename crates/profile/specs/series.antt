@@ -1,0 +1,6 @@
+-- days, rules and zones
+pub mod Days
+pub mod Rules
+pub mod RuleTexts
+pub mod Zones
+pub mod ZoneTexts

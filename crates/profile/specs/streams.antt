@@ -1,0 +1,2 @@
+-- what is written for a stream
+pub mod Streams

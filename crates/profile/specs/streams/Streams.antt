@@ -1,0 +1,188 @@
+-- A stream: its preamble, its objects, and what is answered to them. So far each object is a REQUEST or is refused.
+use Rattle.std.specs.Prelude.{◌≡◌, ◌≢◌, ℕ, ◌+◌, ◌<◌, ◌≤◌, ◌⊎◌, Bool, true, false, IsTrue, List, [], ◌∷◌, ◌++◌, length, map, codes, decimal, Option, ℤ, AllPairs}
+use Rattle.std.specs.Option.{option_to_list}
+use Rattle.std.specs.List.{flat_map}
+use Rattle.std.specs.Str.{is_utf8}
+use Rattle.profile.specs.text.Lines.{logical_lines, text_has}
+use Rattle.profile.specs.text.Objects.{SpellsTree, most_events, count_inside, has_version, lines_have, is_begun, after_object}
+use Rattle.profile.specs.text.Trees.{Tree, tree_name, tree_own, tree_inside}
+use Rattle.profile.specs.events.Events.{Event, booked_by}
+use Rattle.profile.specs.rooms.Messages.{SpellsRequest, RequestFault, IsPart, names_room, Outcome}
+use Rattle.profile.specs.rooms.Rooms.{Claim, Book, Delivery, IsStep, empty_book}
+use Rattle.profile.specs.rooms.Kept.{Replies}
+use Rattle.profile.specs.text.Values.{SpellsStamp, IsAddress, lower_case}
+
+-- ---- the preamble. The format is roombox's own
+
+-- what one line says: the moment of every decision, or a room
+pub data Setting : Type 0 where
+  Now : ℤ → Setting
+  Room : List ℕ → Setting
+
+abbrev pub IsSetting : List ℕ → Setting → Type 0
+IsSetting line (Now t) = (stamp : List ℕ) × (line ≡ codes "now " ++ stamp) × SpellsStamp stamp t
+IsSetting line (Room address) = (text : List ℕ) × (line ≡ codes "room " ++ text) × IsAddress text × (address ≡ lower_case text)
+
+abbrev pub moments : List Setting → List ℤ
+moments [] = []
+moments (Now t ∷ rest) = t ∷ moments rest
+moments (Room address ∷ rest) = moments rest
+
+abbrev pub rooms : List Setting → List (List ℕ)
+rooms [] = []
+rooms (Now t ∷ rest) = rooms rest
+rooms (Room address ∷ rest) = address ∷ rooms rest
+
+-- what a preamble's lines say: each is ended by LF or CRLF, and after the last comes an empty line (closed), or nothing more
+pub data SaysSettings : Bool → List ℕ → List Setting → Type 0 where
+  by_end : SaysSettings false [] []
+  by_lf : SaysSettings true (10 ∷ []) []
+  by_crlf : SaysSettings true (13 ∷ 10 ∷ []) []
+  last : (line : List ℕ) (setting : Setting) → IsSetting line setting → SaysSettings false line (setting ∷ [])
+  with_lf : {closed : Bool} {rest : List ℕ} {settings : List Setting} (line : List ℕ) (setting : Setting) → IsSetting line setting → SaysSettings closed rest settings → SaysSettings closed (line ++ 10 ∷ rest) (setting ∷ settings)
+  with_crlf : {closed : Bool} {rest : List ℕ} {settings : List Setting} (line : List ℕ) (setting : Setting) → IsSetting line setting → SaysSettings closed rest settings → SaysSettings closed (line ++ 13 ∷ 10 ∷ rest) (setting ∷ settings)
+
+-- the most octets of a preamble, and the most rooms that it hosts; this profile's choice
+abbrev pub most_of_preamble : ℕ
+most_of_preamble = 65_536
+
+abbrev pub most_rooms : ℕ
+most_rooms = 64
+
+-- the octets of a preamble, which are UTF-8, give this moment and these rooms: the moment once, a room at least, and no room twice
+pub record IsPreamble (closed : Bool) (octets : List ℕ) (moment : ℤ) (addresses : List (List ℕ)) : Type 0 where
+  pub settings : List Setting
+  pub says : SaysSettings closed octets settings
+  pub text : is_utf8 octets ≡ true
+  pub short : length octets ≤ most_of_preamble
+  pub moment_is : moments settings ≡ moment ∷ []
+  pub rooms_are : rooms settings ≡ addresses
+  pub some : 0 < length addresses
+  pub few : length addresses ≤ most_rooms
+  pub differ : AllPairs ◌≢◌ addresses
+
+-- the octets of a configuration give these rooms: a preamble's lines, without a moment
+pub record IsConfiguration (closed : Bool) (octets : List ℕ) (addresses : List (List ℕ)) : Type 0 where
+  pub settings : List Setting
+  pub says : SaysSettings closed octets settings
+  pub text : is_utf8 octets ≡ true
+  pub short : length octets ≤ most_of_preamble
+  pub timeless : moments settings ≡ []
+  pub rooms_are : rooms settings ≡ addresses
+  pub some : 0 < length addresses
+  pub few : length addresses ≤ most_rooms
+  pub differ : AllPairs ◌≢◌ addresses
+
+-- ---- the objects of a stream
+
+-- the stream begins with these objects, in order, and this rest follows them: each object is what stands before the rest after it
+abbrev pub BeginsWith : List ℕ → List (List ℕ) → List ℕ → Type 0
+BeginsWith stream [] rest = rest ≡ stream
+BeginsWith stream (object ∷ objects) rest =
+    (is_begun stream ≡ true) × (stream ≡ object ++ after_object stream) × BeginsWith (after_object stream) objects rest
+
+-- the objects of a stream, in order; a rest of empty lines is none
+abbrev pub AreObjects : List ℕ → List (List ℕ) → Type 0
+AreObjects stream objects = (rest : List ℕ) × BeginsWith stream objects rest × (is_begun rest ≡ false)
+
+-- the stream is a preamble with this moment and these rooms, and then these objects; a preamble without an empty line is all there is
+pub record IsStream (stream : List ℕ) (moment : ℤ) (addresses : List (List ℕ)) (objects : List (List ℕ)) : Type 0 where
+  pub preamble : List ℕ
+  pub rest : List ℕ
+  pub closed : Bool
+  pub is : stream ≡ preamble ++ rest
+  pub says : IsPreamble closed preamble moment addresses
+  pub all : closed ≡ false → rest ≡ []
+  pub objects_are : AreObjects rest objects
+
+-- ---- what can be wrong with an object, by the number of its refusal
+
+-- the fault of this number, 24 or 25, stands in the tree that the lines spell
+abbrev pub TreeFault : ℕ → List (List ℕ) → Type 0
+TreeFault n lines =
+    (t : Tree) × SpellsTree tree_name tree_own tree_inside 7 t lines
+    × (((n ≡ 24) × (has_version (tree_own t) ≡ false))
+    ⊎ ((n ≡ 25) × (most_events < count_inside tree_name tree_own tree_inside (codes "VEVENT") t)))
+
+-- the fault of this number stands in the octets: in a line, in how the lines pair up, in the tree, or in the message
+abbrev pub ObjectFault : ℕ → List ℕ → Type 0
+ObjectFault n octets =
+    IsTrue (text_has true n octets)
+    ⊎ (IsTrue (lines_have n (logical_lines octets))
+    ⊎ (TreeFault n (logical_lines octets)
+    ⊎ RequestFault octets n))
+
+-- ---- the answers
+
+-- what the event of a REQUEST claims: the part that it is, and its one instance
+pub record IsClaim (event : Event) (claim : Claim) : Type 0 where
+  pub part : IsPart event claim.content claim.part
+  pub singles : claim.singles ≡ booked_by event ∷ []
+
+-- what it claims of a room: that where it names the room, else nothing, as it isn't addressed to it
+abbrev pub AreClaims : List ℕ → Event → List Claim → Type 0
+AreClaims room event [] = names_room room event ≡ false
+AreClaims room event (claim ∷ []) = (names_room room event ≡ true) × IsClaim event claim
+AreClaims room event (claim ∷ other ∷ claims) = ⊥
+
+-- the delivery hands to a room what octets that spell a REQUEST claim of it
+pub record IsDelivered (room : List ℕ) (delivery : Delivery) : Type 0 where
+  pub octets : List ℕ
+  pub event : Event
+  pub spells : SpellsRequest octets event
+  pub are : AreClaims room event delivery.claims
+
+-- what a box keeps of a room that it hosts
+pub record Hosted : Type 0 where
+  pub address : List ℕ
+  pub book : Book
+
+-- a room takes the event, and answers these octets
+pub record Takes (moment : ℤ) (event : Event) (before after : Hosted) (octets : List ℕ) : Type 0 where
+  pub same : after.address ≡ before.address
+  pub claims : List Claim
+  pub are : AreClaims before.address event claims
+  pub outcome : Outcome
+  pub step : IsStep before.book claims moment outcome after.book
+  pub reply : Option (List ℕ)
+  pub replies : Replies before.address after.book claims reply
+  pub is : octets ≡ flat_map (λ x. x) (option_to_list reply)
+
+-- all rooms take it, one after another; their answers stand in the same order
+abbrev pub AllTake : ℤ → Event → List Hosted → List Hosted → List ℕ → Type 0
+AllTake moment event [] [] octets = octets ≡ []
+AllTake moment event (before ∷ befores) (after ∷ afters) octets =
+    (first : List ℕ) × (rest : List ℕ) × (octets ≡ first ++ rest) × Takes moment event before after first × AllTake moment event befores afters rest
+AllTake moment event _ _ octets = ⊥
+
+-- the line for a refused object, by its place in the stream from 1
+abbrev pub refused_line : ℕ → ℕ → List ℕ
+refused_line k n = codes "REFUSED;OBJECT=" ++ decimal k ++ codes ":" ++ decimal n ++ codes "\r\n"
+
+-- one step of a box, which hosts these rooms: the octets answer object k with what the rooms answer to it, or with the line for a refusal,
+-- which changes no room; so many refusals it is
+abbrev pub Answers : ℤ → ℕ → List ℕ → List Hosted → List Hosted → List ℕ → ℕ → Type 0
+Answers moment k object before after octets refused =
+    ((event : Event) × SpellsRequest object event × AllTake moment event before after octets × (refused ≡ 0))
+    ⊎ ((n : ℕ) × ObjectFault n object × (after ≡ before) × (octets ≡ refused_line k n) × (refused ≡ 1))
+
+-- step by step the answers to objects from number k on, one behind another, and how many objects are refused
+abbrev pub AllAnswers : ℤ → ℕ → List (List ℕ) → List Hosted → List Hosted → List ℕ → ℕ → Type 0
+AllAnswers moment k [] before after octets refused = (after ≡ before) × (octets ≡ []) × (refused ≡ 0)
+AllAnswers moment k (object ∷ objects) before after octets refused =
+    (mid : List Hosted) × (first : List ℕ) × (rest : List ℕ) × (one : ℕ) × (others : ℕ) × (octets ≡ first ++ rest) × (refused ≡ one + others)
+    × Answers moment k object before mid first one × AllAnswers moment (k + 1) objects mid after rest others
+
+-- no room has taken anything
+abbrev pub new_box : List (List ℕ) → List Hosted
+new_box rooms = map (λ room. record { address = room; book = empty_book }) rooms
+
+-- the whole of what is written for a stream that is served to its end, from rooms that have taken nothing
+pub record AnswersStream (stream octets : List ℕ) : Type 0 where
+  pub moment : ℤ
+  pub rooms : List (List ℕ)
+  pub objects : List (List ℕ)
+  pub after : List Hosted
+  pub refused : ℕ
+  pub is : IsStream stream moment rooms objects
+  pub answers : AllAnswers moment 1 objects (new_box rooms) after octets refused

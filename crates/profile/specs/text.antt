@@ -1,0 +1,5 @@
+-- what octets, lines, components and values are
+pub mod Lines
+pub mod Objects
+pub mod Trees
+pub mod Values

@@ -1,0 +1,2 @@
+-- the written form of a zone
+pub mod WrittenZones
