@@ -64,6 +64,10 @@ said = record {
   organiser = None;
   stamp = None;
   sequence = 0;
+  cancelled = false;
+  recurrence = None;
+  additions = [];
+  exceptions = [];
   times = record { zone = None; local = pos 1_741_597_200; start = pos 1_741_597_200; length = record { days = 0; seconds = 5_400 } };
   rule = None;
   attendees = record { address = codes "mailto:room@example.com"; participation = Accepted } ∷ record { address = codes "mailto:room@example.com"; participation = Declined } ∷ [];
@@ -80,7 +84,7 @@ say object = record {
   organiser = record { line = None; once = refl; stands = no_need; is = tt };
   stamp = record { line = None; once = refl; stands = no_need; is = tt };
   sequence = (None, record { line = None; once = refl; stands = no_need; is = tt }, refl);
-  status = (None, refl);
+  status = (None, refl, refl);
   times = record {
     line = codes "DTSTART;VALUE=date-time:20250310T090000Z";
     once = refl;
@@ -95,6 +99,13 @@ say object = record {
     in_dates = (omega (arith, ints), omega (arith, ints), omega (arith, ints));
   };
   rule = record { line = None; once = refl; stands = no_need; is = tt };
+  occurrences = record {
+    is = record { line = None; once = refl; stands = no_need; is = tt };
+    adds = (tt, omega arith);
+    inside = tt;
+    takes = (tt, omega arith);
+    alone = refl;
+  };
   attendees = (
     (((codes "MAILTO", codes "Room@example.com", refl, refl, refl, omega arith), refl), refl),
     ((((codes "mailto", codes "room@example.com", refl, refl, refl, omega arith), refl), refl), tt),

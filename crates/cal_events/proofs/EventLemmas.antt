@@ -18,7 +18,7 @@ use Rattle.profile.specs.text.Lines.{line_value}
 use Rattle.profile.specs.text.Values.{SpellsDate, SpellsLocal, SpellsStamp, SpellsSequence, SpellsDuration, SpellsLong, IsUid, unescaped}
 use Rattle.profile.specs.text.Trees.{Tree}
 use Rattle.profile.specs.events.Events.{SaysSequence, EventFault, IsAttendee, bad_attendee}
-use Rattle.profile.specs.events.Properties.{is_of, lines_named, StandsAtMostOnce, SomeLine, Says, IsUidLine, TimeKind, DateTime, time_kind, IsDateText, IsLocalText, KindFault, TimeFault, IsNegativeOrLong, IsNoAddress}
+use Rattle.profile.specs.events.Properties.{is_of, lines_named, StandsAtMostOnce, SomeLine, Says, IsUidLine, TimeKind, DateTime, time_kind, IsDateText, IsLocalText, KindFault, IsNegativeOrLong, IsNoAddress}
 use Rattle.cal_events.specs.Events.{attendee_of, IsTime}
 use Rattle.ical_tree.proofs.OneLine.{the_line}
 
@@ -72,12 +72,12 @@ date_test (Some number) text b e h none = (λ _. (number, h), λ _. e)
 date_test None text b e h none = (λ is. absurd (true≢false (sym is ∙ e)), λ d. absurd (none d.0 d.1))
 
 -- the kind that VALUE says decides what is wrong
-pub kind_fault : (line text : List ℕ) (kind : TimeKind) (n : ℕ) → kind ≡ time_kind line → text ≡ line_value line → KindFault kind text n → TimeFault line n
-kind_fault line text kind n k e f = subst (λ (x : TimeKind). KindFault x (line_value line) n) k (subst (λ (t : List ℕ). KindFault kind t n) e f)
+pub kind_fault : (line text : List ℕ) (kind : TimeKind) (n : ℕ) → kind ≡ time_kind line → KindFault kind text n → KindFault (time_kind line) text n
+kind_fault line text kind n k f = subst (λ (x : TimeKind). KindFault x text n) k f
 
-pub time_said : (r : Result ℤ Refusal) (line text : List ℕ) → DateTime ≡ time_kind line → text ≡ line_value line → IfOk r (SpellsStamp text) → IfOk r (IsTime line)
-time_said (Ok t) line text k e h = (sym k, subst (λ (x : List ℕ). SpellsStamp x t) e h)
-time_said (Err x) line text k e h = tt
+pub time_said : (r : Result ℤ Refusal) (line text : List ℕ) → DateTime ≡ time_kind line → IfOk r (SpellsStamp text) → IfOk r (IsTime line text)
+time_said (Ok t) line text k h = (sym k, h)
+time_said (Err x) line text k h = tt
 
 -- ---- durations
 

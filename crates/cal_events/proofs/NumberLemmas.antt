@@ -1,6 +1,7 @@
 -- The numbers of the faults of a VEVENT, and which of them are left where no time names a zone.
-use Rattle.std.proofs.Common.{◌≡◌, ◌∙◌, ap, sym, refl, inl, inr, ℕ, Bool, true, false, cond, ◌&&◌, ◌||◌, List, codes}
+use Rattle.std.proofs.Common.{eqb, ◌≡◌, ◌∙◌, ap, sym, refl, inl, inr, ℕ, Bool, true, false, cond, ◌&&◌, ◌||◌, ◌<◌, List, [], ◌∷◌, length, subst, codes, arith}
 use Rattle.std.specs.Prelude.{Option, Some, None, Contains, is_some, ◌⊎◌}
+use Rattle.std.specs.List.{list_any, flat_map}
 use Rattle.std.proofs.lemmas.Bool.{true≢false, or_parts, or_right}
 use Rattle.std.proofs.lemmas.List.Folds.{list_any_at}
 use Rattle.std.proofs.lemmas.List.Elements.{All-contains, All-filter, All-contains_itself, filter_passes}
@@ -12,13 +13,15 @@ use Rattle.profile.specs.text.Lines.{line_param, line_value, is_same_name}
 use Rattle.profile.specs.text.Trees.{Tree}
 use Rattle.profile.specs.series.ZoneTexts.{PartsFault, no_part, in_part, ruled, other_parts, unruled, unmatched, close, TimesFault, dates, missing, twice as part_twice, fixed, bad_start as bad_part, bad_from, bad_to}
 use Rattle.profile.specs.events.Properties.{TimeKind, DateTime, Date, Period, Other, time_kind, UnfixedOrMalformed, IsDateText, IsLocalText, KindFault, ends_in_z, is_of, lines_named}
-use Rattle.profile.specs.events.ZonedTimes.{is_in_zone, zone_named, DateOrMalformed, LocalFault, NamedFault, FaultIn, EventTimesFault, bad_start, bad_end, bad_duration, ends_early, ends_late, lasts_long, starts_out, ends_out, no_start, twice as times_twice, end_and_duration, nominal}
+use Rattle.profile.specs.events.ZonedTimes.{is_in_zone, zone_named, DateOrMalformed, LocalFault, NamedFault, FaultIn, ZonedTimeFault, EventTimesFault, bad_start, bad_end, bad_duration, ends_early, ends_late, lasts_long, starts_out, ends_out, no_start, twice as times_twice, end_and_duration, nominal}
 use Rattle.profile.specs.series.RuleTexts.{RuleFault, unknown, bad_value, no_frequency, two_frequencies, twice as rule_twice, apart, two_ends}
 use Rattle.profile.specs.events.EventRules.{EventRuleFault, bad_rule, starts_outside, two_rules}
+use Rattle.profile.specs.events.Occurrences.{recurs_beside_recurrence, Entry, EntryFault, entries_of, entries_named, EntriesFault, in_entry, too_many, OccurrenceFault, bad_recurrence, bad_additions, bad_exceptions, recurrence_out, additions_out, two_recurrences, ranged, recurs}
+use Rattle.profile.specs.events.Meetings.{is_meeting_event_fault}
 use Rattle.cal_events.specs.declared.component.Purpose.{Purpose}
-use Rattle.cal_events.specs.declared.component.Purpose.TheVariants.{Request, Calendar, Series}
+use Rattle.cal_events.specs.declared.component.Purpose.TheVariants.{Request, Calendar, Series, Meeting}
 use Rattle.cal_events.specs.Events.{is_message, has_unread_for, is_fault_for}
-use Rattle.profile.specs.events.Events.{is_recurrence, is_of_instances, is_end_of_event, is_unread_line, has_unread, EventFault, in_times, in_rule, bad_stamp, bad_uid, bad_organiser, bad_attendee, bad_sequence, no_uid, no_stamp_given, twice, no_organiser}
+use Rattle.profile.specs.events.Events.{is_recurrence, is_of_instances, names_instances, is_end_of_event, is_unread_line, has_unread, EventFault, in_times, in_rule, in_occurrences, bad_stamp, bad_uid, bad_organiser, bad_attendee, bad_sequence, no_uid, no_stamp_given, twice, no_organiser}
 
 abbrev Lines : Type 0
 Lines = List (List ℕ)
@@ -74,16 +77,19 @@ named_number : (o : Option Tree) (n : ℕ) → NamedFault o n → is_zoned_event
 named_number None n f = ap is_zoned_event_fault f
 named_number (Some part) n f = parts_number _ _ _ n f
 
-line_number : (object : Tree) (o : Option (List ℕ)) (line : List ℕ) (n : ℕ) → FaultIn object o line n → is_zoned_event_fault n ≡ true
-line_number object None line n f = wider n (kind_number (time_kind line) (line_value line) n f)
-line_number object (Some name) line n (inl f) = wider n (local_number (time_kind line) (line_value line) n f)
-line_number object (Some name) line n (inr (_, _, f)) = named_number (zone_named name object) n f
+text_number : (object : Tree) (o : Option (List ℕ)) (kind : TimeKind) (text : List ℕ) (n : ℕ) → FaultIn object o kind text n → is_zoned_event_fault n ≡ true
+text_number object None kind text n f = wider n (kind_number kind text n f)
+text_number object (Some name) kind text n (inl f) = wider n (local_number kind text n f)
+text_number object (Some name) kind text n (inr (_, _, f)) = named_number (zone_named name object) n f
+
+line_number : (object : Tree) (line : List ℕ) (n : ℕ) → ZonedTimeFault object line n → is_zoned_event_fault n ≡ true
+line_number object line n f = text_number object (line_param (codes "TZID") line) (time_kind line) (line_value line) n f
 
 -- ---- the times, and the event
 
 pub times_number : (object : Tree) (lines : Lines) (n : ℕ) → EventTimesFault object lines n → is_zoned_event_fault n ≡ true
-times_number object lines n (bad_start l) = line_number object (line_param (codes "TZID") l.0) l.0 n l.2
-times_number object lines n (bad_end l) = line_number object (line_param (codes "TZID") l.0) l.0 n l.2
+times_number object lines n (bad_start l) = line_number object l.0 n l.2
+times_number object lines n (bad_end l) = line_number object l.0 n l.2
 times_number object lines n (bad_duration l) = refl
 times_number object lines n (ends_early x) = refl
 times_number object lines n (ends_late x) = refl
@@ -127,15 +133,18 @@ read_start lines line c h =
     let s = stands (codes "DTSTART") lines line c in
     read_end lines line s.0 (ap (λ b. b || is_of (codes "DTEND") line) s.1) h
 
-utc_number : (object : Tree) (o : Option (List ℕ)) (line : List ℕ) (n : ℕ) → is_some o ≡ false → FaultIn object o line n → is_event_fault n ≡ true
-utc_number object None line n none f = kind_number (time_kind line) (line_value line) n f
-utc_number object (Some name) line n none f = absurd (true≢false none)
+utc_number : (object : Tree) (o : Option (List ℕ)) (kind : TimeKind) (text : List ℕ) (n : ℕ) → is_some o ≡ false → FaultIn object o kind text n → is_event_fault n ≡ true
+utc_number object None kind text n none f = kind_number kind text n f
+utc_number object (Some name) kind text n none f = absurd (true≢false none)
+
+utc_line : (object : Tree) (line : List ℕ) (n : ℕ) → is_in_zone line ≡ false → ZonedTimeFault object line n → is_event_fault n ≡ true
+utc_line object line n none f = utc_number object (line_param (codes "TZID") line) (time_kind line) (line_value line) n none f
 
 read_times : (object : Tree) (lines : Lines) (n : ℕ) → has_unread lines ≡ false → EventTimesFault object lines n → is_event_fault n ≡ true
-read_times object lines n h (bad_start l) = utc_number object (line_param (codes "TZID") l.0) l.0 n (read_start lines l.0 l.1 h) l.2
+read_times object lines n h (bad_start l) = utc_line object l.0 n (read_start lines l.0 l.1 h) l.2
 read_times object lines n h (bad_end l) =
     let s = stands (codes "DTEND") lines l.0 l.1 in
-    utc_number object (line_param (codes "TZID") l.0) l.0 n (read_end lines l.0 s.0 (or_right (is_of (codes "DTSTART") l.0) (is_of (codes "DTEND") l.0) s.1) h) l.2
+    utc_line object l.0 n (read_end lines l.0 s.0 (or_right (is_of (codes "DTSTART") l.0) (is_of (codes "DTEND") l.0) s.1) h) l.2
 read_times object lines n h (bad_duration l) = refl
 read_times object lines n h (ends_early x) = refl
 read_times object lines n h (ends_late x) = refl
@@ -159,9 +168,81 @@ read_event_rule object lines n h (bad_rule l) = absurd (read_rule lines l.0 l.1 
 read_event_rule object lines n h (starts_outside (start, c, l)) = absurd (read_rule lines l.0 l.1 h)
 read_event_rule object lines n h (two_rules x) = refl
 
+-- ---- where no line names an instance
+
+none_of : (name : List ℕ) (p : List ℕ → Bool) → ((line : List ℕ) → p line ≡ false → is_of name line ≡ false) → (lines : Lines) → list_any p lines ≡ false → lines_named name lines ≡ []
+none_of name p w [] h = refl
+none_of name p w (line ∷ lines) h =
+    let q = or_parts (p line) (list_any p lines) h in
+    ap (λ b. cond b (line ∷ lines_named name lines) (lines_named name lines)) (w line q.0) ∙ none_of name p w lines q.1
+
+none_so : (q p : List ℕ → Bool) → ((line : List ℕ) → p line ≡ false → q line ≡ false) → (lines : Lines) → list_any p lines ≡ false → list_any q lines ≡ false
+none_so q p w [] h = refl
+none_so q p w (line ∷ lines) h =
+    let x = or_parts (p line) (list_any p lines) h in ap (λ b. b || list_any q lines) (w line x.0) ∙ none_so q p w lines x.1
+
+empty : {A : Type 0} (xs : List A) (x : A) → xs ≡ [] → Contains xs x → ⊥
+empty xs x e c = go (subst (λ ys. Contains ys x) e c)
+  where
+    go : Contains [] x → ⊥
+    go (k, w, is) = absurd (omega (arith, w))
+
+no_entries : (object : Tree) (name : List ℕ) (lines : Lines) (n : ℕ) → lines_named name lines ≡ [] → EntriesFault object name (entries_named name lines) n → ⊥
+no_entries object name lines n e (in_entry entry c f) = empty (entries_named name lines) entry (ap (flat_map entries_of) e) c
+no_entries object name lines n e (too_many more) =
+    let l : length (entries_named name lines) ≡ 0 = ap (λ (ls : Lines). length (flat_map entries_of ls)) e in
+    let over : 366 < length (entries_named name lines) = more in
+    absurd (omega (arith, l, over))
+
+instance_parts : (line : List ℕ) → is_of_instances line ≡ false
+    → (is_of (codes "RDATE") line ≡ false) × (is_of (codes "EXDATE") line ≡ false) × (is_of (codes "RECURRENCE-ID") line ≡ false)
+instance_parts line h =
+    let a = or_parts (is_of (codes "RDATE") line || is_of (codes "EXDATE") line) (is_of (codes "RECURRENCE-ID") line) h in
+    let b = or_parts (is_of (codes "RDATE") line) (is_of (codes "EXDATE") line) a.0 in (b.0, b.1, a.1)
+
+-- no line names an instance
+record Unnamed (lines : Lines) : Type 0 where
+  added : lines_named (codes "RDATE") lines ≡ []
+  taken : lines_named (codes "EXDATE") lines ≡ []
+  named : lines_named (codes "RECURRENCE-ID") lines ≡ []
+  alone : recurs_beside_recurrence lines ≡ false
+
+unnamed : (lines : Lines) → names_instances lines ≡ false → Unnamed lines
+unnamed lines h =
+    let none : list_any (is_of (codes "RECURRENCE-ID")) lines ≡ false = none_so (is_of (codes "RECURRENCE-ID")) is_of_instances (λ line k. (instance_parts line k).2) lines h in
+    record {
+      added = none_of (codes "RDATE") is_of_instances (λ line k. (instance_parts line k).0) lines h;
+      taken = none_of (codes "EXDATE") is_of_instances (λ line k. (instance_parts line k).1) lines h;
+      named = none_of (codes "RECURRENCE-ID") is_of_instances (λ line k. (instance_parts line k).2) lines h;
+      alone = ap (λ b. b && list_any (λ line. is_of (codes "RRULE") line || is_of (codes "RDATE") line) lines) none;
+    }
+
+unnamed_fault : (object : Tree) (lines : Lines) (n : ℕ) → Unnamed lines → OccurrenceFault object lines n → ⊥
+unnamed_fault object lines n u (bad_recurrence l) = empty _ l.0 u.named l.1
+unnamed_fault object lines n u (bad_additions x) = no_entries object (codes "RDATE") lines n u.added x
+unnamed_fault object lines n u (bad_exceptions x) = no_entries object (codes "EXDATE") lines n u.taken x
+unnamed_fault object lines n u (recurrence_out l) = empty _ l.0 u.named l.1
+unnamed_fault object lines n u (additions_out e c out) = empty (entries_named (codes "RDATE") lines) e (ap (flat_map entries_of) u.added) c
+unnamed_fault object lines n u (two_recurrences t) = let l : length (lines_named (codes "RECURRENCE-ID") lines) ≡ 0 = ap length u.named in absurd (omega (arith, l, t))
+unnamed_fault object lines n u (ranged l) = empty _ l.0 u.named l.1
+unnamed_fault object lines n u (recurs t) = true≢false (sym t ∙ u.alone)
+
+-- lines of which none names an instance have no fault of one
+pub no_occurrences : (object : Tree) (lines : Lines) (n : ℕ) → names_instances lines ≡ false → OccurrenceFault object lines n → ⊥
+no_occurrences object lines n h f = unnamed_fault object lines n (unnamed lines h) f
+
+-- neither has one in which nothing is left unread
+read_instances : (lines : Lines) → has_unread lines ≡ false → names_instances lines ≡ false
+read_instances lines h =
+    none_so is_of_instances is_unread_line (λ line k.
+    (or_parts (is_of (codes "RRULE") line) (is_of_instances line)
+    (or_parts (is_recurrence line) (is_of (codes "STATUS") line && is_same_name (line_value line) (codes "CANCELLED"))
+    (or_parts _ (is_end_of_event line && is_in_zone line) k).0).0).1) lines h
+
 read_event : (object : Tree) (m : Bool) (lines : Lines) (n : ℕ) → has_unread lines ≡ false → EventFault object m lines n → is_event_fault n ≡ true
 read_event object m lines n h (in_times f) = read_times object lines n h f
 read_event object m lines n h (in_rule f) = read_event_rule object lines n h f
+read_event object m lines n h (in_occurrences f) = absurd (no_occurrences object lines n (read_instances lines h) f)
 read_event object m lines n h (bad_stamp l) = refl
 read_event object m lines n h (bad_uid l) = refl
 read_event object m lines n h (bad_organiser l) = refl
@@ -177,39 +258,80 @@ read_event object m lines n h (no_organiser t x) = refl
 series_wider : (n : ℕ) → is_zoned_event_fault n ≡ true → is_series_event_fault n ≡ true
 series_wider n h = ap (λ b. b || is_rule_fault n) h
 
-text_number : (text : List ℕ) (n : ℕ) → RuleFault text n → is_series_event_fault n ≡ true
-text_number text n (unknown part c h) = refl
-text_number text n (bad_value key value c h) = refl
-text_number text n (no_frequency h) = refl
-text_number text n (two_frequencies h) = refl
-text_number text n (rule_twice key h) = refl
-text_number text n (apart rule s h) = refl
-text_number text n (two_ends rule s h) = refl
+rule_text_number : (text : List ℕ) (n : ℕ) → RuleFault text n → is_series_event_fault n ≡ true
+rule_text_number text n (unknown part c h) = refl
+rule_text_number text n (bad_value key value c h) = refl
+rule_text_number text n (no_frequency h) = refl
+rule_text_number text n (two_frequencies h) = refl
+rule_text_number text n (rule_twice key h) = refl
+rule_text_number text n (apart rule s h) = refl
+rule_text_number text n (two_ends rule s h) = refl
 
 rule_number : (object : Tree) (lines : Lines) (n : ℕ) → EventRuleFault object lines n → is_series_event_fault n ≡ true
-rule_number object lines n (bad_rule l) = text_number (line_value l.0) n l.2.stands
+rule_number object lines n (bad_rule l) = rule_text_number (line_value l.0) n l.2.stands
 rule_number object lines n (starts_outside l) = refl
 rule_number object lines n (two_rules x) = refl
 
-event_number : (object : Tree) (m : Bool) (lines : Lines) (n : ℕ) → EventFault object m lines n → is_series_event_fault n ≡ true
-event_number object m lines n (in_times f) = series_wider n (times_number object lines n f)
-event_number object m lines n (in_rule f) = rule_number object lines n f
-event_number object m lines n (bad_stamp l) = refl
-event_number object m lines n (bad_uid l) = refl
-event_number object m lines n (bad_organiser l) = refl
-event_number object m lines n (bad_attendee l) = refl
-event_number object m lines n (bad_sequence l) = refl
-event_number object m lines n (no_uid x) = refl
-event_number object m lines n (no_stamp_given t x) = refl
-event_number object m lines n (twice name c x) = refl
-event_number object m lines n (no_organiser t x) = refl
+-- ---- an event with its instances
+
+meeting_wider : (n : ℕ) → is_series_event_fault n ≡ true → is_meeting_event_fault n ≡ true
+meeting_wider n h = ap (λ b. b || eqb n 65 || eqb n 67) h
+
+entry_number : (object : Tree) (name : List ℕ) (e : Entry) (n : ℕ) → EntryFault object name e n → is_meeting_event_fault n ≡ true
+entry_number object name (line, text) n (inl (_, e)) = ap is_meeting_event_fault e
+entry_number object name (line, text) n (inr (_, f)) = meeting_wider n (series_wider n (text_number object (line_param (codes "TZID") line) (time_kind line) text n f))
+
+entries_number : (object : Tree) (name : List ℕ) (es : List Entry) (n : ℕ) → EntriesFault object name es n → is_meeting_event_fault n ≡ true
+entries_number object name es n (in_entry e c f) = entry_number object name e n f
+entries_number object name es n (too_many more) = refl
+
+occurrence_number : (object : Tree) (lines : Lines) (n : ℕ) → OccurrenceFault object lines n → is_meeting_event_fault n ≡ true
+occurrence_number object lines n (bad_recurrence l) = meeting_wider n (series_wider n (line_number object l.0 n l.2))
+occurrence_number object lines n (bad_additions f) = entries_number object (codes "RDATE") (entries_named (codes "RDATE") lines) n f
+occurrence_number object lines n (bad_exceptions f) = entries_number object (codes "EXDATE") (entries_named (codes "EXDATE") lines) n f
+occurrence_number object lines n (recurrence_out l) = refl
+occurrence_number object lines n (additions_out e c out) = refl
+occurrence_number object lines n (two_recurrences t) = refl
+occurrence_number object lines n (ranged l) = refl
+occurrence_number object lines n (recurs t) = refl
+
+component_number : (object : Tree) (m : Bool) (lines : Lines) (n : ℕ) → EventFault object m lines n → is_meeting_event_fault n ≡ true
+component_number object m lines n (in_times f) = meeting_wider n (series_wider n (times_number object lines n f))
+component_number object m lines n (in_rule f) = meeting_wider n (rule_number object lines n f)
+component_number object m lines n (in_occurrences f) = occurrence_number object lines n f
+component_number object m lines n (bad_stamp l) = refl
+component_number object m lines n (bad_uid l) = refl
+component_number object m lines n (bad_organiser l) = refl
+component_number object m lines n (bad_attendee l) = refl
+component_number object m lines n (bad_sequence l) = refl
+component_number object m lines n (no_uid x) = refl
+component_number object m lines n (no_stamp_given t x) = refl
+component_number object m lines n (twice name c x) = refl
+component_number object m lines n (no_organiser t x) = refl
+
+-- ---- a series, where no line names an instance
+
+event_number : (object : Tree) (m : Bool) (lines : Lines) (n : ℕ) → names_instances lines ≡ false → EventFault object m lines n → is_series_event_fault n ≡ true
+event_number object m lines n h (in_times f) = series_wider n (times_number object lines n f)
+event_number object m lines n h (in_rule f) = rule_number object lines n f
+event_number object m lines n h (in_occurrences f) = absurd (no_occurrences object lines n h f)
+event_number object m lines n h (bad_stamp l) = refl
+event_number object m lines n h (bad_uid l) = refl
+event_number object m lines n h (bad_organiser l) = refl
+event_number object m lines n h (bad_attendee l) = refl
+event_number object m lines n h (bad_sequence l) = refl
+event_number object m lines n h (no_uid x) = refl
+event_number object m lines n h (no_stamp_given t x) = refl
+event_number object m lines n h (twice name c x) = refl
+event_number object m lines n h (no_organiser t x) = refl
 
 -- ---- what a VEVENT in which nothing is left unread is refused for
 
 pub number_for : (object : Tree) (purpose : Purpose) (lines : Lines) (n : ℕ) → has_unread_for purpose lines ≡ false → EventFault object (is_message purpose) lines n → is_fault_for purpose n ≡ true
 number_for object Request lines n h f = ap (λ b. b || is_unread n) (read_event object true lines n h f)
 number_for object Calendar lines n h f = ap (λ b. b || is_unread n) (read_event object false lines n h f)
-number_for object Series lines n h f = event_number object false lines n f
+number_for object Series lines n h f = event_number object false lines n h f
+number_for object Meeting lines n h f = component_number object false lines n f
 
 pub refused_for : (object : Tree) (purpose : Purpose) (lines : Lines) → has_unread_for purpose lines ≡ false → (f : Fault) → RefusesBy (EventFault object (is_message purpose) lines) f
     → RefusesOnly (is_fault_for purpose) f
@@ -220,3 +342,4 @@ pub unread_for : (purpose : Purpose) (n : ℕ) → n ≡ 99 → is_fault_for pur
 unread_for Request n e = ap (is_fault_for Request) e
 unread_for Calendar n e = ap (is_fault_for Calendar) e
 unread_for Series n e = ap (is_fault_for Series) e
+unread_for Meeting n e = ap (is_fault_for Meeting) e

@@ -1,18 +1,19 @@
 -- The lines of a VEVENT of an object say at most one event, and none where a fault stands in them.
-use Rattle.std.proofs.Common.{◌≡◌, ℕ, zero, suc, Bool, true, false, List, [], ◌∷◌, codes, subst, sym, refl, ap, ◌∙◌, inl, inr, arith, ℤ}
-use Rattle.std.specs.Prelude.{Option, Some, None, is_some, unwrap_or, Contains, All, ◌⊎◌}
+use Rattle.std.proofs.Common.{◌≡◌, ℕ, Bool, true, false, List, [], codes, subst, sym, refl, ap, ◌∙◌, inl, inr, arith, ℤ}
+use Rattle.std.specs.Prelude.{Option, Some, None, is_some, unwrap_or, All, ◌⊎◌}
 use Rattle.std.specs.Option.{option_to_list}
-use Rattle.std.specs.List.{AllZip}
 use Rattle.std.proofs.lemmas.Bool.{true≢false}
 use Rattle.std.proofs.lemmas.List.Elements.{All-from_recursion, All-contains}
 use Rattle.std.proofs.lemmas.Option.{same_Some}
 use Rattle.profile.specs.text.Lines.{line_value}
 use Rattle.profile.specs.text.Values.{SpellsStamp, SpellsSequence, IsUid, unescaped}
 use Rattle.profile.specs.text.Trees.{Tree}
-use Rattle.profile.specs.events.Events.{SaysEvent, Event, Attendee, IsAttendee, EventFault, single_names, in_times, in_rule, bad_stamp, bad_uid, bad_organiser, bad_attendee, bad_sequence, no_uid, no_stamp_given, twice, no_organiser}
+use Rattle.profile.specs.events.Events.{SaysEvent, Event, Attendee, IsAttendee, EventFault, single_names, in_times, in_rule, in_occurrences, bad_stamp, bad_uid, bad_organiser, bad_attendee, bad_sequence, no_uid, no_stamp_given, twice, no_organiser}
 use Rattle.profile.specs.events.Properties.{lines_named, IsMissing, Says, IsUidLine, IsAddressLine, IsStampLine, IsSequenceLine, IsNoStamp, IsNoAddress, IsNoSequence, TimeKind, DateTime, Date, Period, Other, time_kind, IsDateText, IsLocalText, UnfixedOrMalformed, KindFault, TimeFault}
 use Rattle.ical_tree.proofs.OneLine.{IsFunctional}
 use Rattle.cal_events.proofs.Said.{same_said, said_by}
+use Rattle.cal_events.proofs.Zips.{zip_one, zip_at}
+use Rattle.cal_events.proofs.OneOccurrences.{one_status, one_occurrences, no_occurrence_fault}
 use Rattle.cal_events.proofs.OneEventRule.{OneRule, NoRuleFault, one_event_rule, no_rule_fault}
 use Rattle.cal_events.proofs.OneTimes.{Lines, OneZonedTime, NoTimeFault, OneDuration, NotBoth, IsLone, at_most_one, one_times, no_times_fault}
 
@@ -42,28 +43,38 @@ attendee_same a b p q = λ i. record { address = p i; participation = q i }
 attendee_one : IsFunctional IsAttendee
 attendee_one line a b h k = attendee_same a b (h.0.1 ∙ sym k.0.1) (h.1 ∙ sym k.1)
 
-same_zip : {V : Type 0} (R : List ℕ → V → Type 0) → IsFunctional R → (ls : Lines) (a b : List V) → AllZip R ls a → AllZip R ls b → a ≡ b
-same_zip R f [] [] [] h k = refl
-same_zip R f [] [] (y ∷ b) h k = absurd k
-same_zip R f [] (x ∷ a) b h k = absurd h
-same_zip R f (l ∷ ls) [] b h k = absurd h
-same_zip R f (l ∷ ls) (x ∷ a) [] h k = absurd k
-same_zip R f (l ∷ ls) (x ∷ a) (y ∷ b) h k = let e = f l x y h.0 k.0 in let t = same_zip R f ls a b h.1 k.1 in λ i. e i ∷ t i
-
-event_same : (a b : Event) → a.uid ≡ b.uid → a.organiser ≡ b.organiser → a.stamp ≡ b.stamp → a.sequence ≡ b.sequence → a.times ≡ b.times → a.rule ≡ b.rule → a.attendees ≡ b.attendees → a ≡ b
-event_same a b p q r s t w u = λ i. record { uid = p i; organiser = q i; stamp = r i; sequence = s i; times = t i; rule = w i; attendees = u i }
+event_same : (a b : Event) → a.uid ≡ b.uid → a.organiser ≡ b.organiser → a.stamp ≡ b.stamp → a.sequence ≡ b.sequence → a.cancelled ≡ b.cancelled → a.recurrence ≡ b.recurrence
+    → a.times ≡ b.times → a.rule ≡ b.rule → a.additions ≡ b.additions → a.exceptions ≡ b.exceptions → a.attendees ≡ b.attendees → a ≡ b
+event_same a b p q r s c o t w x y u = λ i. record {
+  uid = p i;
+  organiser = q i;
+  stamp = r i;
+  sequence = s i;
+  cancelled = c i;
+  recurrence = o i;
+  times = t i;
+  rule = w i;
+  additions = x i;
+  exceptions = y i;
+  attendees = u i;
+}
 
 pub one_event : OneStamp → OneDuration → OneSequence → OneZonedTime → OneRule → (object : Tree) (m : Bool) (lines : Lines) (a b : Event) → SaysEvent object m lines a → SaysEvent object m lines b → a ≡ b
 one_event one two three zoned rules object m lines a b s t =
+    let same = one_occurrences zoned object lines a.recurrence b.recurrence a.additions b.additions a.exceptions b.exceptions s.occurrences t.occurrences in
     let given = same_said IsSequenceLine (codes "SEQUENCE") false lines s.sequence.0 t.sequence.0 (sequence_one three) s.sequence.1 t.sequence.1 in
     event_same a b
     (same_Some a.uid b.uid (same_said IsUidLine (codes "UID") true lines (Some a.uid) (Some b.uid) uid_one s.uid t.uid))
     (same_said IsAddressLine (codes "ORGANIZER") m lines a.organiser b.organiser address_one s.organiser t.organiser)
     (same_said IsStampLine (codes "DTSTAMP") m lines a.stamp b.stamp (stamp_one one) s.stamp t.stamp)
     (s.sequence.2 ∙ ap (λ (o : Option ℕ). unwrap_or o 0) given ∙ sym t.sequence.2)
+    (one_status lines a.cancelled b.cancelled s.status t.status)
+    same.0
     (one_times zoned two object lines a.times b.times s.times t.times)
     (one_event_rule zoned two rules object lines a.times b.times a.rule b.rule s.times t.times s.rule t.rule)
-    (same_zip IsAttendee attendee_one (lines_named (codes "ATTENDEE") lines) a.attendees b.attendees s.attendees t.attendees)
+    same.1
+    same.2
+    (zip_one IsAttendee attendee_one (lines_named (codes "ATTENDEE") lines) a.attendees b.attendees s.attendees t.attendees)
 
 -- ---- a start or an end has at most one fault
 
@@ -107,16 +118,11 @@ all_lone object m lines e s =
       ),
     )
 
-zip_at : {V : Type 0} (R : List ℕ → V → Type 0) (ls : Lines) (vs : List V) (line : List ℕ) → AllZip R ls vs → Contains ls line → (v : V) × R line v
-zip_at R [] vs line h (k, w, e) = absurd (omega arith)
-zip_at R (x ∷ ls) [] line h c = absurd h
-zip_at {V} R (x ∷ ls) (v ∷ vs) line h (zero, w, e) = (v, subst (λ (y : List ℕ). R y v) e h.0)
-zip_at R (x ∷ ls) (v ∷ vs) line h (suc k, w, e) = zip_at R ls vs line h.1 (k, omega arith, e)
-
 module _ (two : OneDuration) (apart : NotBoth) (zoned : OneZonedTime) (sound : NoTimeFault) (rules : OneRule) (faultless : NoRuleFault) (object : Tree) (m : Bool) (lines : Lines) (event : Event) (s : SaysEvent object m lines event) where
   pub no_fault : (n : ℕ) → EventFault object m lines n → ⊥
   no_fault n (in_times f) = no_times_fault zoned sound two apart object lines event.times s.times n f
   no_fault n (in_rule f) = no_rule_fault zoned rules faultless object lines event.times event.rule s.times s.rule n f
+  no_fault n (in_occurrences f) = no_occurrence_fault zoned sound object lines event.recurrence event.additions event.exceptions s.occurrences n f
   no_fault n (bad_stamp l) = let f = said_by IsStampLine (λ line. IsNoStamp (line_value line)) (codes "DTSTAMP") m lines event.stamp s.stamp l in l.2 f.0 f.1
   no_fault n (bad_uid l) =
       let f = said_by IsUidLine (λ line. IsUid (unescaped (line_value line)) → ⊥) (codes "UID") true lines (Some event.uid) s.uid l in l.2 (subst IsUid f.1.0 f.1.1)

@@ -69,7 +69,7 @@ pub one_event_rule : OneZonedTime → OneDuration → OneRule → (object : Tree
     → SaysEventRule lines s a → SaysEventRule lines t b → a ≡ b
 one_event_rule zoned two rules object lines s t a b h k p q =
     let e = one_times zoned two object lines s t h k in
-    same_said (IsRuleLine t) (codes "RRULE") false lines a b (rule_one rules t (clock_one object k.line t.zone t.local k.says))
+    same_said (IsRuleLine t) (codes "RRULE") false lines a b (rule_one rules t (clock_one object k.line (line_value k.line) t.zone t.local k.says))
     (subst (λ (x : EventTimes). SaysEventRule lines x a) e p) q
 
 -- ---- no fault stands where a rule is said
@@ -81,7 +81,7 @@ is_up_to_last rule day h = grind (arith, nat_tests)
 
 module _ (zoned : OneZonedTime) (rules : OneRule) (none : NoRuleFault) (object : Tree) (lines : Lines) (times : EventTimes) (rule : Option Parts) (s : SaysEventTimes object lines times) (r : SaysEventRule lines times rule) where
   the_clock : IsOneMeaning (clock_of times.zone)
-  the_clock = clock_one object s.line times.zone times.local s.says
+  the_clock = clock_one object s.line (line_value s.line) times.zone times.local s.says
 
   -- the local times of an event lie in the years from 1969 on
   late : (day second : ℕ) → IsOnDay times.local day second → 366 ≤ day
@@ -113,7 +113,7 @@ module _ (zoned : OneZonedTime) (rules : OneRule) (none : NoRuleFault) (object :
       let f = said_by (IsRuleLine times) _ (codes "RRULE") false lines rule r l in
       let out = l.2 in
       let line = same_Some s.line start (only_line (codes "DTSTART") lines (Some s.line) start s.once there) in
-      let z = zoned object start out.zone times.zone out.local times.local out.says (subst (λ (x : List ℕ). SaysZonedTime object x times.zone times.local) line s.says) in
+      let z = zoned object start (line_value start) out.zone times.zone out.local times.local out.says (subst (λ (x : List ℕ). SaysZonedTime object x times.zone times.local) line s.says) in
       let text = rules (line_value l.0) out.text f.1.0 out.spelled f.1.1 in
       not_outside f.1.0 f.0 f.1.2
       (subst (λ (t : RuleText). IsOutside (clock_of times.zone) times.local t) text

@@ -1,17 +1,16 @@
 -- Octets spell at most one series, and none where a fault stands in them.
-use Rattle.std.proofs.Common.{◌≡◌, ◌∙◌, ℕ, ◌<◌, true, false, nat_lt, List, [], ◌∷◌, length, get_or, codes, sym, ap, subst, arith}
+use Rattle.std.proofs.Common.{◌≡◌, ◌∙◌, ℕ, true, false, List, [], ◌∷◌, length, get_or, sym, ap, subst, arith}
 use Rattle.std.specs.Prelude.{Contains}
 use Rattle.std.proofs.lemmas.Bool.{true≢false}
-use Rattle.std.proofs.lemmas.Bool.Decides.{nat_tests}
 use Rattle.ical_lines.proofs.ContentLemmas.{read_fine}
 use Rattle.ical_tree.proofs.OneLine.{at_one}
 use Rattle.profile.specs.text.Lines.{logical_lines}
-use Rattle.profile.specs.text.Objects.{has_version, count_inside, most_events}
-use Rattle.profile.specs.text.Trees.{Tree, tree_name, tree_own, tree_inside, vevents}
+use Rattle.profile.specs.text.Trees.{Tree, vevents}
 use Rattle.profile.specs.events.Events.{Event, SaysEvent, names_instances}
 use Rattle.profile.specs.events.Series.{SaysSeries, SpellsSeries, SeriesFault, in_event, no_event, several, not_yet, SeriesTextFault, in_lines, in_tree, no_version, many_events, in_vevents}
 use Rattle.cal_events.proofs.OneCalendar.{OneEvent, NoFault}
 use Rattle.cal_events.proofs.OneText.{OneTree, PairsUp}
+use Rattle.cal_events.proofs.ObjectFaults.{has_version_only, has_few_events}
 
 abbrev Lines : Type 0
 Lines = List (List ℕ)
@@ -45,14 +44,8 @@ one_spelled tree one octets a b s t =
 pub no_fault : OneTree → PairsUp → NoFault → (octets : List ℕ) (a : Event) (n : ℕ) → SpellsSeries octets a → SeriesTextFault octets n → ⊥
 no_fault one pairs none octets a n s (in_lines h) = true≢false (sym h ∙ read_fine true octets n s.lines)
 no_fault one pairs none octets a n s (in_tree h) = pairs true s.tree (logical_lines octets) n s.object h
-no_fault one pairs none octets a n s (no_version t spelled h) =
-    let same : s.tree ≡ t = one 7 7 (logical_lines octets) s.tree t s.object.spelled spelled in
-    true≢false (sym s.object.version ∙ (ap (λ (x : Tree). has_version (tree_own x)) same ∙ h))
-no_fault one pairs none octets a n s (many_events t spelled h) =
-    let same : t ≡ s.tree = sym (one 7 7 (logical_lines octets) s.tree t s.object.spelled spelled) in
-    let many : most_events < count_inside tree_name tree_own tree_inside (codes "VEVENT") s.tree = subst (λ (x : Tree). most_events < count_inside tree_name tree_own tree_inside (codes "VEVENT") x) same h in
-    let over : nat_lt most_events (count_inside tree_name tree_own tree_inside (codes "VEVENT") s.tree) ≡ true = grind (arith, nat_tests) in
-    true≢false (sym over ∙ s.object.events)
+no_fault one pairs none octets a n s (no_version t spelled h) = has_version_only one octets s.tree s.object t (spelled, h)
+no_fault one pairs none octets a n s (many_events t spelled h) = has_few_events one octets s.tree s.object t (spelled, h)
 no_fault one pairs none octets a n s (in_vevents t object fault) =
     let same : s.tree ≡ t = one 7 7 (logical_lines octets) s.tree t s.object.spelled object.spelled in
     no_series_fault none t a n (subst (λ (x : Tree). SaysSeries x a) same s.says) fault

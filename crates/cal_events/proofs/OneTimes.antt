@@ -9,7 +9,8 @@ use Rattle.profile.specs.text.Trees.{Tree}
 use Rattle.profile.specs.text.Values.{SpellsDuration, SpellsNegative}
 use Rattle.profile.specs.series.Zones.{Zone, Constant, IsOneMeaning, Means}
 use Rattle.profile.specs.events.Properties.{lines_named, StandsAtMostOnce, SomeLine, Length, length_seconds, LastsFor, IsNegativeOrLong}
-use Rattle.profile.specs.events.ZonedTimes.{zone_named, is_in_zone, SaysZoneOf, SpellsZoned, SaysZonedTime, clock_of, SaysInstant, IsInDates, SaysInDates, SaysOutOfDates, ZonedTimeFault, EventTimes, LastsUntil, LastsSo, SaysEventTimes, StartAndEndLie, HasDays, names_of_times, EventTimesFault, bad_start, bad_end, bad_duration, ends_early, ends_late, lasts_long, starts_out, ends_out, no_start, twice, end_and_duration, nominal}
+use Rattle.profile.specs.events.ZonedTimes.{zone_named, is_in_zone, SaysZoneOf, SpellsZoned, SaysZonedText, SaysZonedTime, clock_of, SaysInstant, IsInDates, SaysInDates, SaysOutOfDates, ZonedTextFault, EventTimes, LastsUntil, LastsSo, SaysEventTimes, StartAndEndLie, HasDays, names_of_times, EventTimesFault, bad_start, bad_end, bad_duration, ends_early, ends_late, lasts_long, starts_out, ends_out, no_start, twice, end_and_duration, nominal}
+use Rattle.profile.specs.events.Occurrences.{IsOutside}
 use Rattle.ical_tree.proofs.OneLine.{IsFunctional, same_option, only_line}
 use Rattle.cal_events.proofs.Meanings.{one_meaning}
 
@@ -17,10 +18,10 @@ abbrev pub Lines : Type 0
 Lines = List (List ℕ)
 
 abbrev pub OneZonedTime : Type 0
-OneZonedTime = (object : Tree) (line : List ℕ) (a b : Option Zone) (s t : ℤ) → SaysZonedTime object line a s → SaysZonedTime object line b t → (a ≡ b) × (s ≡ t)
+OneZonedTime = (object : Tree) (line text : List ℕ) (a b : Option Zone) (s t : ℤ) → SaysZonedText object line text a s → SaysZonedText object line text b t → (a ≡ b) × (s ≡ t)
 
 abbrev pub NoTimeFault : Type 0
-NoTimeFault = (object : Tree) (line : List ℕ) (a : Option Zone) (s : ℤ) (n : ℕ) → SaysZonedTime object line a s → ZonedTimeFault object line n → ⊥
+NoTimeFault = (object : Tree) (line text : List ℕ) (a : Option Zone) (s : ℤ) (n : ℕ) → SaysZonedText object line text a s → ZonedTextFault object line text n → ⊥
 
 abbrev pub OneDuration : Type 0
 OneDuration = (text : List ℕ) (d s e t : ℕ) → SpellsDuration text d s → SpellsDuration text e t → (d ≡ e) × (s ≡ t)
@@ -40,35 +41,46 @@ IsLone lines name = length (lines_named name lines) ≤ 1
 
 -- ---- one instant
 
--- the clocks of what a line says show a local time at one instant
-pub clock_one : (object : Tree) (line : List ℕ) (zone : Option Zone) (local : ℤ) → SaysZonedTime object line zone local → IsOneMeaning (clock_of zone)
-clock_one object line None local h = one_meaning (Constant (pos 0)) tt
-clock_one object line (Some zone) local h = spelled (line_param (codes "TZID") line) h.1
+-- the clocks of what a text says show a local time at one instant
+pub clock_one : (object : Tree) (line text : List ℕ) (zone : Option Zone) (local : ℤ) → SaysZonedText object line text zone local → IsOneMeaning (clock_of zone)
+clock_one object line text None local h = one_meaning (Constant (pos 0)) tt
+clock_one object line text (Some zone) local h = spelled (line_param (codes "TZID") line) h.1
   where
     named : (o : Option Tree) → SaysZoneOf o zone → IsOneMeaning zone
     named None says = absurd says
     named (Some part) says = one_meaning zone says.matched
 
-    spelled : (o : Option (List ℕ)) → SpellsZoned object o (line_value line) (Some zone) local → IsOneMeaning zone
+    spelled : (o : Option (List ℕ)) → SpellsZoned object o text (Some zone) local → IsOneMeaning zone
     spelled None says = absurd says
     spelled (Some name) says = named (zone_named name object) says.1
 
-pub one_instant : OneZonedTime → (object : Tree) (line : List ℕ) (s t : ℤ) → SaysInstant object line s → SaysInstant object line t → s ≡ t
-one_instant one object line s t (zone, local, says, means) (other, clock, said, meant) =
-    let e = one object line zone other local clock says said in
-    let means' = subst (λ (l : ℤ). Means (clock_of other) l s) e.1 (subst (λ (z : Option Zone). Means (clock_of z) local s) e.0 means) in
-    clock_one object line other clock said clock s t means' meant
+-- the instant that a text says
+abbrev SaysText : Tree → List ℕ → List ℕ → ℤ → Type 0
+SaysText object line text t = (zone : Option Zone) × (local : ℤ) × SaysZonedText object line text zone local × Means (clock_of zone) local t
 
-dated : (object : Tree) (line : List ℕ) (t : ℤ) → SaysInDates object line t → SaysInstant object line t
+pub text_instant : OneZonedTime → (object : Tree) (line text : List ℕ) (s t : ℤ) → SaysText object line text s → SaysText object line text t → s ≡ t
+text_instant one object line text s t (zone, local, says, means) (other, clock, said, meant) =
+    let e = one object line text zone other local clock says said in
+    let means' = subst (λ (l : ℤ). Means (clock_of other) l s) e.1 (subst (λ (z : Option Zone). Means (clock_of z) local s) e.0 means) in
+    clock_one object line text other clock said clock s t means' meant
+
+pub one_instant : OneZonedTime → (object : Tree) (line : List ℕ) (s t : ℤ) → SaysInstant object line s → SaysInstant object line t → s ≡ t
+one_instant one object line s t h k = text_instant one object line (line_value line) s t h k
+
+pub dated : (object : Tree) (line : List ℕ) (t : ℤ) → SaysInDates object line t → SaysInstant object line t
 dated object line t (zone, local, says, means, dates) = (zone, local, says, means)
 
 -- an instant that lies in the dates doesn't lie outside
-not_out : OneZonedTime → (object : Tree) (line : List ℕ) (zone : Option Zone) (local t : ℤ) → SaysZonedTime object line zone local → Means (clock_of zone) local t
-    → IsInDates (is_in_zone line) local t → SaysOutOfDates object line → ⊥
-not_out one object line zone local t says means dates (other, clock, instant, said, meant, out) =
-    let e = one object line zone other local clock says said in
-    let i = one_instant one object line t instant (zone, local, says, means) (other, clock, said, meant) in
+pub text_not_out : OneZonedTime → (object : Tree) (line text : List ℕ) (zone : Option Zone) (local t : ℤ) → SaysZonedText object line text zone local → Means (clock_of zone) local t
+    → IsInDates (is_in_zone line) local t → IsOutside object (line, text) → ⊥
+text_not_out one object line text zone local t says means dates (other, clock, instant, said, meant, out) =
+    let e = one object line text zone other local clock says said in
+    let i = text_instant one object line text t instant (zone, local, says, means) (other, clock, said, meant) in
     out (subst (λ (x : ℤ). IsInDates (is_in_zone line) clock x) i (subst (λ (l : ℤ). IsInDates (is_in_zone line) l t) e.1 dates))
+
+pub not_out : OneZonedTime → (object : Tree) (line : List ℕ) (zone : Option Zone) (local t : ℤ) → SaysZonedTime object line zone local → Means (clock_of zone) local t
+    → IsInDates (is_in_zone line) local t → SaysOutOfDates object line → ⊥
+not_out one object line zone local t says means dates out = text_not_out one object line (line_value line) zone local t says means dates out
 
 -- ---- one length
 
@@ -95,7 +107,7 @@ pub one_times : OneZonedTime → OneDuration → (object : Tree) (lines : Lines)
 one_times one two object lines a b s t =
     let line : s.line ≡ t.line = same_Some s.line t.line (same_line (codes "DTSTART") lines (Some s.line) (Some t.line) s.once t.once) in
     let says : SaysZonedTime object t.line a.zone a.local = subst (λ (l : List ℕ). SaysZonedTime object l a.zone a.local) line s.says in
-    let e = one object t.line a.zone b.zone a.local b.local says t.says in
+    let e = one object t.line (line_value t.line) a.zone b.zone a.local b.local says t.says in
     let start = one_instant one object t.line a.start b.start (a.zone, a.local, says, s.means) (b.zone, b.local, t.says, t.means) in
     let end = same_line (codes "DTEND") lines s.end_line t.end_line s.end_once t.end_once in
     let duration = same_line (codes "DURATION") lines s.duration_line t.duration_line s.duration_once t.duration_once in
@@ -148,8 +160,8 @@ module _ (one : OneZonedTime) (none : NoTimeFault) (two : OneDuration) (apart : 
       )
 
   pub no_times_fault : (n : ℕ) → EventTimesFault object lines n → ⊥
-  no_times_fault n (bad_start l) = none object l.0 times.zone times.local n (subst (λ (x : List ℕ). SaysZonedTime object x times.zone times.local) (start_is _ l) s.says) l.2
-  no_times_fault n (bad_end l) = let until = end_said _ l in none object l.0 until.1.0 until.1.1 n until.1.2 l.2
+  no_times_fault n (bad_start l) = none object l.0 (line_value l.0) times.zone times.local n (subst (λ (x : List ℕ). SaysZonedTime object x times.zone times.local) (start_is _ l) s.says) l.2
+  no_times_fault n (bad_end l) = let until = end_said _ l in none object l.0 (line_value l.0) until.1.0 until.1.1 n until.1.2 l.2
   no_times_fault n (bad_duration l) = l.2.0 times.length.days times.length.seconds (duration_said _ l).0
   no_times_fault n (ends_early x) = let h = ends_said (λ start end. end <ℤ start) x in absurd (omega (arith, ints))
   no_times_fault n (ends_late x) =

@@ -1,13 +1,13 @@
 -- A line says at most one local time in one zone, and none where a fault stands in it.
 use Rattle.std.proofs.Common.{◌≡◌, ap, refl, subst, inl, inr, ℕ, List, ℤ, codes}
 use Rattle.std.specs.Prelude.{Option, Some, None}
-use Rattle.profile.specs.text.Lines.{line_param, line_value}
+use Rattle.profile.specs.text.Lines.{line_param}
 use Rattle.profile.specs.text.Trees.{Tree}
 use Rattle.profile.specs.text.Values.{SpellsStamp, SpellsLocal}
 use Rattle.profile.specs.series.Zones.{Zone}
 use Rattle.profile.specs.series.ZoneTexts.{SaysZone, ZoneFault}
 use Rattle.profile.specs.events.Properties.{TimeKind, DateTime, time_kind, KindFault}
-use Rattle.profile.specs.events.ZonedTimes.{zone_named, SaysZoneOf, SpellsZoned, SaysZonedTime, LocalFault, NamedFault, FaultIn, ZonedTimeFault}
+use Rattle.profile.specs.events.ZonedTimes.{zone_named, SaysZoneOf, SpellsZoned, SaysZonedText, LocalFault, NamedFault, FaultIn, ZonedTextFault}
 
 abbrev OneStamp : Type 0
 OneStamp = (text : List ℕ) (a b : ℤ) → SpellsStamp text a → SpellsStamp text b → a ≡ b
@@ -34,8 +34,8 @@ same_spelled f g z object (Some name) text None b s t h k = absurd h
 same_spelled f g z object (Some name) text (Some a) None s t h k = absurd k
 same_spelled f g z object (Some name) text (Some a) (Some b) s t (h, p) (k, q) = (ap Some (same_zone z (zone_named name object) a b p q), g text s t h k)
 
-pub one : OneStamp → OneLocal → OneZone → (object : Tree) (line : List ℕ) (a b : Option Zone) (s t : ℤ) → SaysZonedTime object line a s → SaysZonedTime object line b t → (a ≡ b) × (s ≡ t)
-one f g z object line a b s t h k = same_spelled f g z object (line_param (codes "TZID") line) (line_value line) a b s t h.1 k.1
+pub one : OneStamp → OneLocal → OneZone → (object : Tree) (line text : List ℕ) (a b : Option Zone) (s t : ℤ) → SaysZonedText object line text a s → SaysZonedText object line text b t → (a ≡ b) × (s ≡ t)
+one f g z object line text a b s t h k = same_spelled f g z object (line_param (codes "TZID") line) text a b s t h.1 k.1
 
 no_named : NoFault → (o : Option Tree) (a : Zone) (n : ℕ) → SaysZoneOf o a → NamedFault o n → ⊥
 no_named f None a n h k = h
@@ -47,13 +47,13 @@ no_local kind text s n e h f = (subst (λ k. LocalFault k text n) e f).0 (s, h)
 no_stamp : (kind : TimeKind) (text : List ℕ) (s : ℤ) (n : ℕ) → kind ≡ DateTime → SpellsStamp text s → KindFault kind text n → ⊥
 no_stamp kind text s n e h f = (subst (λ k. KindFault k text n) e f).0 s h
 
-no_spelled : NoFault → (object : Tree) (o : Option (List ℕ)) (line : List ℕ) (a : Option Zone) (s : ℤ) (n : ℕ) → time_kind line ≡ DateTime
-    → SpellsZoned object o (line_value line) a s → FaultIn object o line n → ⊥
-no_spelled z object None line None s n k h f = no_stamp (time_kind line) (line_value line) s n k h f
-no_spelled z object None line (Some a) s n k h f = absurd h
-no_spelled z object (Some name) line None s n k h f = absurd h
-no_spelled z object (Some name) line (Some a) s n k (h, p) (inl f) = no_local (time_kind line) (line_value line) s n k h f
-no_spelled z object (Some name) line (Some a) s n k (h, p) (inr (_, _, f)) = no_named z (zone_named name object) a n p f
+no_spelled : NoFault → (object : Tree) (o : Option (List ℕ)) (kind : TimeKind) (text : List ℕ) (a : Option Zone) (s : ℤ) (n : ℕ) → kind ≡ DateTime
+    → SpellsZoned object o text a s → FaultIn object o kind text n → ⊥
+no_spelled z object None kind text None s n k h f = no_stamp kind text s n k h f
+no_spelled z object None kind text (Some a) s n k h f = absurd h
+no_spelled z object (Some name) kind text None s n k h f = absurd h
+no_spelled z object (Some name) kind text (Some a) s n k (h, p) (inl f) = no_local kind text s n k h f
+no_spelled z object (Some name) kind text (Some a) s n k (h, p) (inr (_, _, f)) = no_named z (zone_named name object) a n p f
 
-pub or_a_fault : NoFault → (object : Tree) (line : List ℕ) (a : Option Zone) (s : ℤ) (n : ℕ) → SaysZonedTime object line a s → ZonedTimeFault object line n → ⊥
-or_a_fault z object line a s n h f = no_spelled z object (line_param (codes "TZID") line) line a s n h.0 h.1 f
+pub or_a_fault : NoFault → (object : Tree) (line text : List ℕ) (a : Option Zone) (s : ℤ) (n : ℕ) → SaysZonedText object line text a s → ZonedTextFault object line text n → ⊥
+or_a_fault z object line text a s n h f = no_spelled z object (line_param (codes "TZID") line) (time_kind line) text a s n h.0 h.1 f

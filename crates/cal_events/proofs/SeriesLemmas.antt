@@ -1,19 +1,17 @@
 -- The series that octets spell, or the fault that stands in them.
-use Rattle.std.proofs.Common.{◌≡◌, ◌∙◌, ℕ, zero, ◌<◌, Bool, true, false, not, ◌&&◌, ◌||◌, ◌==◌, nat_lt, List, [], ◌∷◌, length, codes, subst, sym, refl, ap, inl, inr, arith}
+use Rattle.std.proofs.Common.{◌≡◌, ◌∙◌, ℕ, zero, ◌<◌, true, false, List, [], ◌∷◌, length, subst, sym, refl, inl, inr, arith}
 use Rattle.std.specs.Prelude.{Contains, Result, Ok, Err, IfOk, IfErr, OnOk}
 use Rattle.std.specs.Result.{IsErrAnd}
-use Rattle.std.proofs.lemmas.Bool.{not-true}
-use Rattle.std.proofs.lemmas.Bool.Decides.{nat_tests}
 use Rattle.ical_lines.specs.Fault.{RefusesBy}
 use Rattle.ical_lines.specs.declared.fault.Fault.{Fault}
 use Rattle.ical_lines.specs.declared.fault.Fault.TheVariants.{Refused, Memory}
-use Rattle.ical_tree.specs.Tree.{component_name, component_lines, component_children, IsObjectOf, tree_of}
-use Rattle.ical_tree.specs.Reading.{SpellsOf, Stands, calendar_has}
+use Rattle.ical_tree.specs.Tree.{IsObjectOf, tree_of}
+use Rattle.ical_tree.specs.Reading.{Stands}
 use Rattle.ical_tree.specs.declared.component.Component.{Component}
-use Rattle.ical_tree.proofs.TreeOfLemmas.{tree_of-own, spells_tree, count_tree, object_tree}
+use Rattle.ical_tree.proofs.TreeOfLemmas.{object_tree}
 use Rattle.ical_values.proofs.Exits.{err_exit}
+use Rattle.cal_events.proofs.ObjectFaults.{no_object}
 use Rattle.profile.specs.text.Lines.{logical_lines, reads_as_lines}
-use Rattle.profile.specs.text.Objects.{has_version, count_inside, is_calendar_name}
 use Rattle.profile.specs.text.Trees.{Tree, vevents}
 use Rattle.profile.specs.events.Events.{SaysEvent, names_instances}
 use Rattle.profile.specs.events.Series.{SaysSeries, SpellsSeries, SeriesFault, in_event, no_event, several, not_yet, SeriesTextFault, in_lines, in_tree, no_version, many_events, in_vevents}
@@ -55,40 +53,7 @@ pub fault_there : (octets : List ℕ) (c : Component) → IsObjectOf true c (log
 fault_there octets c object Memory h = tt
 fault_there octets c object (Refused r) h = in_vevents (tree_of c) (object_tree true c (logical_lines octets) object) h
 
--- 25 is told only where 24 doesn't stand
-weaker : (k a b d v : Bool) → (k && (a || (b && (d && v)))) ≡ true → (a || (b && d)) ≡ true
-weaker false a b d v h = absurd (cc)
-weaker true true b d v h = refl
-weaker true false false d v h = h
-weaker true false true false v h = h
-weaker true false true true v h = refl
-
-tree_fault : (octets : List ℕ) (n : ℕ) (c : Component) → SpellsOf 7 c (logical_lines octets) → calendar_has true n c ≡ true → SeriesTextFault octets n
-tree_fault octets n c s h =
-    at ((n == 24) && not (has_version (component_lines c))) ((n == 25) && nat_lt 200 count) refl refl
-    (weaker (is_calendar_name (component_name c)) ((n == 24) && not (has_version (component_lines c))) (n == 25) (nat_lt 200 count) (has_version (component_lines c)) h)
-  where
-    count : ℕ
-    count = count_inside component_name component_lines component_children (codes "VEVENT") c
-
-    at : (a b : Bool) → ((n == 24) && not (has_version (component_lines c))) ≡ a → ((n == 25) && nat_lt 200 count) ≡ b → (a || b) ≡ true → SeriesTextFault octets n
-    at true b e f g =
-        let v : not (has_version (component_lines c)) ≡ true = grind (arith, nat_tests) in
-        let is : n ≡ 24 = grind (arith, nat_tests) in
-        subst (SeriesTextFault octets) (sym is)
-        (no_version (tree_of c) (spells_tree 7 c (logical_lines octets) s) (ap has_version (tree_of-own c) ∙ not-true (has_version (component_lines c)) v))
-    at false true e f g =
-        let many : 200 < count = grind (arith, nat_tests) in
-        let is : n ≡ 25 = grind (arith, nat_tests) in
-        subst (SeriesTextFault octets) (sym is)
-        (many_events (tree_of c) (spells_tree 7 c (logical_lines octets) s) (subst (λ k. 200 < k) (sym (count_tree (codes "VEVENT") c)) many))
-    at false false e f g = absurd (cc)
-
-no_object : (octets : List ℕ) (f : Fault) → Stands true octets f → RefusesBy (SeriesTextFault octets) f
-no_object octets Memory h = tt
-no_object octets (Refused x) (inl h) = in_lines h
-no_object octets (Refused x) (inr (inl h)) = in_tree h
-no_object octets (Refused x) (inr (inr (c, (s, h)))) = tree_fault octets x.number c s h
-
 pub object_refused : (r : Result EventComponent Fault) (octets : List ℕ) (f : Fault) → IsErrAnd r (λ e. e ≡ f) → Stands true octets f → IfErr r (RefusesBy (SeriesTextFault octets))
-object_refused r octets f e h = err_exit r (RefusesBy (SeriesTextFault octets)) f e (no_object octets f h)
+object_refused r octets f e h =
+    err_exit r (RefusesBy (SeriesTextFault octets)) f e
+    (no_object octets (SeriesTextFault octets) (λ t x. no_version t x.0 x.1) (λ t x. many_events t x.0 x.1) (λ n x. in_lines x) (λ n x. in_tree x) f h)

@@ -10,12 +10,12 @@ use Rattle.ical_lines.specs.declared.fault.Refusal.{Refusal}
 use Rattle.ical_tree.specs.Tree.{component_name, component_children, tree_of}
 use Rattle.ical_tree.specs.declared.component.Component.{Component}
 use Rattle.ical_tree.proofs.TreeOfLemmas.{tree_of-name, tree_of-own, tree_of-inside}
-use Rattle.profile.specs.text.Lines.{line_param, line_value, is_same_name}
+use Rattle.profile.specs.text.Lines.{line_param, is_same_name}
 use Rattle.profile.specs.text.Trees.{Tree, tree_name, tree_own}
 use Rattle.profile.specs.series.Zones as zones
 use Rattle.profile.specs.text.Values.{SpellsStamp}
-use Rattle.profile.specs.events.Properties.{BothOrNeither, TimeKind, DateTime, time_kind, TimeFault}
-use Rattle.profile.specs.events.ZonedTimes.{has_zone_name, zone_named, SaysZoneOf, SpellsZoned, SaysZonedTime, LocalFault, NamedFault, InZoneFault, FaultIn, ZonedTimeFault}
+use Rattle.profile.specs.events.Properties.{BothOrNeither, TimeKind, DateTime, time_kind, KindFault}
+use Rattle.profile.specs.events.ZonedTimes.{has_zone_name, zone_named, SaysZoneOf, SpellsZoned, SaysZonedText, LocalFault, NamedFault, InZoneFault, FaultIn, ZonedTextFault}
 use Rattle.cal_events.specs.Events.{IsTime}
 use Rattle.cal_events.specs.Zones.{is_zone_called, IsZoneRead}
 
@@ -66,29 +66,27 @@ pub weaker_fault : (f : Fault) (P Q : ℕ → Type 0) → ((n : ℕ) → P n →
 weaker_fault Memory P Q g h = tt
 weaker_fault (Refused e) P Q g h = g e.number h
 
--- ---- one line
+-- ---- a text of a line
 
-pub local_fault : (line text : List ℕ) (kind : TimeKind) (n : ℕ) → kind ≡ time_kind line → text ≡ line_value line → LocalFault kind text n
-    → LocalFault (time_kind line) (line_value line) n
-local_fault line text kind n k e f = subst (λ (x : TimeKind). LocalFault x (line_value line) n) k (subst (λ (t : List ℕ). LocalFault kind t n) e f)
+pub local_fault : (line text : List ℕ) (kind : TimeKind) (n : ℕ) → kind ≡ time_kind line → LocalFault kind text n → LocalFault (time_kind line) text n
+local_fault line text kind n k f = subst (λ (x : TimeKind). LocalFault x text n) k f
 
--- a line with TZID
-pub zoned_said : (object : Tree) (line name : List ℕ) (zone : Option zones.Zone) (local : ℤ) → line_param (codes "TZID") line ≡ Some name
-    → (time_kind line ≡ DateTime) × SpellsZoned object (Some name) (line_value line) zone local → SaysZonedTime object line zone local
-zoned_said object line name zone local e h = (h.0, subst (λ (o : Option (List ℕ)). SpellsZoned object o (line_value line) zone local) (sym e) h.1)
+-- of a line with TZID
+pub zoned_said : (object : Tree) (line text name : List ℕ) (zone : Option zones.Zone) (local : ℤ) → line_param (codes "TZID") line ≡ Some name
+    → (time_kind line ≡ DateTime) × SpellsZoned object (Some name) text zone local → SaysZonedText object line text zone local
+zoned_said object line text name zone local e h = (h.0, subst (λ (o : Option (List ℕ)). SpellsZoned object o text zone local) (sym e) h.1)
 
-pub zoned_fault : (object : Tree) (line name : List ℕ) (n : ℕ) → line_param (codes "TZID") line ≡ Some name → InZoneFault object name (time_kind line) (line_value line) n
-    → ZonedTimeFault object line n
-zoned_fault object line name n e h = subst (λ (o : Option (List ℕ)). FaultIn object o line n) (sym e) h
+pub zoned_fault : (object : Tree) (line text name : List ℕ) (n : ℕ) → line_param (codes "TZID") line ≡ Some name → InZoneFault object name (time_kind line) text n
+    → ZonedTextFault object line text n
+zoned_fault object line text name n e h = subst (λ (o : Option (List ℕ)). FaultIn object o (time_kind line) text n) (sym e) h
 
--- one without
-pub utc_said : (object : Tree) (line : List ℕ) (zone : Option zones.Zone) (local instant : ℤ) → line_param (codes "TZID") line ≡ None → zone ≡ None → local ≡ instant
-    → IsTime line instant → SaysZonedTime object line zone local
-utc_said object line zone local instant e z l h =
-    let text = line_value line in
+-- of one without
+pub utc_said : (object : Tree) (line text : List ℕ) (zone : Option zones.Zone) (local instant : ℤ) → line_param (codes "TZID") line ≡ None → zone ≡ None → local ≡ instant
+    → IsTime line text instant → SaysZonedText object line text zone local
+utc_said object line text zone local instant e z l h =
     let spelled : SpellsZoned object None text None local = subst (λ t. SpellsStamp text t) (sym l) h.1 in
     let none : SpellsZoned object None text zone local = subst (λ (y : Option zones.Zone). SpellsZoned object None text y local) (sym z) spelled in
     (h.0, subst (λ (o : Option (List ℕ)). SpellsZoned object o text zone local) (sym e) none)
 
-pub utc_fault : (object : Tree) (line : List ℕ) (n : ℕ) → line_param (codes "TZID") line ≡ None → TimeFault line n → ZonedTimeFault object line n
-utc_fault object line n e h = subst (λ (o : Option (List ℕ)). FaultIn object o line n) (sym e) h
+pub utc_fault : (object : Tree) (line text : List ℕ) (n : ℕ) → line_param (codes "TZID") line ≡ None → KindFault (time_kind line) text n → ZonedTextFault object line text n
+utc_fault object line text n e h = subst (λ (o : Option (List ℕ)). FaultIn object o (time_kind line) text n) (sym e) h

@@ -7,6 +7,7 @@ use Rattle.cal_events.specs.Calendars.{booked_of}
 use Rattle.cal_events.specs.declared.calendar.Entry.{Entry}
 use Rattle.profile.specs.faults.Faults.{is_event_fault, is_series_event_fault, is_unread}
 use Rattle.profile.specs.checker.Instances.{Booked}
+use Rattle.profile.specs.events.Meetings.{is_meeting_event_fault}
 use Rattle.profile.specs.events.Events as profile
 use Rattle.profile.specs.events.Properties as properties
 use Rattle.profile.specs.events.Properties.{length_seconds, time_kind}
@@ -15,7 +16,7 @@ use Rattle.profile.specs.text.Values.{SpellsStamp}
 use Rattle.profile.specs.events.ZonedTimes as zoned
 use Rattle.profile.specs.series.Zones.{Zone}
 use Rattle.cal_zones.specs.Kinds.{zone_of}
-use Rattle.profile.specs.text.Lines.{line_value, is_same_name}
+use Rattle.profile.specs.text.Lines.{is_same_name}
 use Rattle.ical_tree.specs.Tree.{component_name, component_lines, component_children}
 use Rattle.ical_tree.specs.declared.component.Component.{Component}
 use Rattle.cal_events.specs.declared.event_times.Extent.{Extent}
@@ -29,19 +30,21 @@ use Rattle.cal_events.specs.declared.component.EventComponent.{EventComponent}
 use Rattle.cal_events.specs.declared.component.ParticipationStatus.{ParticipationStatus}
 use Rattle.cal_events.specs.declared.component.ParticipationStatus.TheVariants.{NeedsAction, Tentative, Accepted, Delegated, Declined}
 use Rattle.cal_events.specs.declared.component.Purpose.{Purpose}
-use Rattle.cal_events.specs.declared.component.Purpose.TheVariants.{Request, Calendar, Series}
+use Rattle.cal_events.specs.declared.component.Purpose.TheVariants.{Request, Calendar, Series, Meeting}
 
 -- a message needs ORGANIZER and DTSTAMP, a calendar doesn't
 abbrev pub is_message : Purpose → Bool
 is_message Request = true
 is_message Calendar = false
 is_message Series = false
+is_message Meeting = false
 
 -- what isn't read yet for a purpose
 abbrev pub is_unread_for : Purpose → List ℕ → Bool
 is_unread_for Request = profile.is_unread_line
 is_unread_for Calendar = profile.is_unread_line
 is_unread_for Series = profile.is_of_instances
+is_unread_for Meeting = λ _. false
 
 abbrev pub has_unread_for : Purpose → List (List ℕ) → Bool
 has_unread_for purpose lines = list_any (is_unread_for purpose) lines
@@ -51,6 +54,7 @@ abbrev pub is_fault_for : Purpose → ℕ → Bool
 is_fault_for Request n = is_event_fault n || is_unread n
 is_fault_for Calendar n = is_event_fault n || is_unread n
 is_fault_for Series n = is_series_event_fault n
+is_fault_for Meeting n = is_meeting_event_fault n
 
 abbrev pub participation_of : ParticipationStatus → profile.Participation
 participation_of NeedsAction = profile.NeedsAction
@@ -80,8 +84,12 @@ event_of e = record {
   organiser = option_map address_octets e.organiser;
   stamp = e.stamp;
   sequence = e.sequence;
+  cancelled = e.cancelled;
+  recurrence = e.recurrence;
   times = times_of e.times;
   rule = e.rule;
+  additions = e.additions.items;
+  exceptions = e.exceptions.items;
   attendees = map attendee_of e.attendees.items;
 }
 
@@ -91,9 +99,9 @@ said_kind Date = properties.Date
 said_kind Period = properties.Period
 said_kind Other = properties.Other
 
--- the value of a line is this instant, as a UTC date-time (RFC 5545 3.3.5, form 2)
-abbrev pub IsTime : List ℕ → ℤ → Type 0
-IsTime line instant = (time_kind line ≡ properties.DateTime) × SpellsStamp (line_value line) instant
+-- a text of a line is this instant, as a UTC date-time (RFC 5545 3.3.5, form 2)
+abbrev pub IsTime : List ℕ → List ℕ → ℤ → Type 0
+IsTime line text instant = (time_kind line ≡ properties.DateTime) × SpellsStamp text instant
 
 -- the length that an extent gives
 abbrev pub GivesLength : Extent → Duration → Type 0

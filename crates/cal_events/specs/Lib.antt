@@ -4,3 +4,5 @@ pub mod Sweep
 pub mod Events
 pub mod Zones
 pub mod Zoned
+pub mod Occurrences
+pub mod Meetings

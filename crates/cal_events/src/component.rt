@@ -9,12 +9,16 @@ ghost use Rattle.profile.specs.text.Trees.{Tree};
 ghost use Rattle.profile.specs.faults.Faults.{is_event_fault};
 ghost use Rattle.profile.specs.text.Values.{SpellsStamp};
 ghost use Rattle.profile.specs.events.Events.{Event, answer_named, answer_of, SaysSequence, SaysEvent, IsAttendee, EventFault};
-ghost use Rattle.profile.specs.events.Properties.{length_seconds, lines_named, malformed_number, Says, IsUidLine, IsAddressLine, IsStampLine, IsDateText, IsLocalText, IsNoAddress, UnfixedOrMalformed, time_kind, DateTime, KindFault, TimeFault};
+ghost use Rattle.profile.specs.events.Occurrences.{SaysStatus};
+ghost use Rattle.profile.specs.events.Properties.{StandsTwice, length_seconds, lines_named, malformed_number, Says, IsUidLine, IsAddressLine, IsStampLine, IsDateText, IsLocalText, IsNoAddress, UnfixedOrMalformed, time_kind, DateTime, KindFault, TimeFault};
 ghost use Rattle.cal_events.specs.Zones.{object_of, AreRead};
 ghost use Rattle.cal_events.specs.Events.{is_message, has_unread_for, is_fault_for, IsUnreadOrFault, participation_of, attendee_of, length_of, event_of, said_kind, IsTime};
 
 use crate::event_rule::SaidRule;
 use crate::event_times::{EventTimes, SaidTimes, refuse_nominal_length, seconds_of};
+use crate::occurrences::{
+    Listing, SaidInstant, SaidInstants, judge_recurrence, refuse_recurring_instance,
+};
 use crate::properties::{optional, refuse_unread, required};
 use crate::zoned::one_zoned_time;
 use crate::zones::Zones;
@@ -39,6 +43,8 @@ pub enum Purpose {
     /// A series: UID and DTSTART have to stand. RDATE, EXDATE, RECURRENCE-ID, and days in a DURATION beside a DTSTART
     /// with TZID aren't read yet.
     Series,
+    /// An event with its instances: UID and DTSTART have to stand. Days in a DURATION beside a DTSTART with TZID aren't read yet.
+    Meeting,
 }
 
 /// What an attendee answered (RFC 5545 3.2.12, for VEVENT).
@@ -83,10 +89,19 @@ pub struct EventComponent {
     pub stamp: Option<Stamp>,
     /// SEQUENCE, 0 where it is missing.
     pub sequence: Sequence,
+    /// Whether STATUS is CANCELLED (RFC 5545 3.8.1.11).
+    pub cancelled: bool,
+    /// RECURRENCE-ID: the original start of the instance that it stands for (RFC 5545 3.8.4.4), in seconds from
+    /// 1970-01-01T00:00:00Z. None where it is no single instance of a meeting.
+    pub recurrence: Option<i64>,
     /// When it starts and how long it lasts.
     pub times: EventTimes,
     /// The rule by which it recurs, on the days of DTSTART's own clock. None where it happens once.
     pub rule: Option<Rule>,
+    /// RDATE: the starts that are added (RFC 5545 3.8.5.2), in the order of the text and in the same seconds. At most 366.
+    pub additions: Vec<i64>,
+    /// EXDATE: the starts that are taken away (RFC 5545 3.8.5.1), likewise; they may lie in any year from 1 to 9999.
+    pub exceptions: Vec<i64>,
     /// The ATTENDEE lines in the order of the text. Of several with one address the first counts.
     pub attendees: Vec<Attendee>,
 }
@@ -94,9 +109,11 @@ pub struct EventComponent {
 impl EventComponent {
     /// Reads the properties of a VEVENT, whose times may name these zones.
     /// Refused, in this order: 99 for what isn't read yet for this purpose; of UID, ORGANIZER, DTSTAMP, SEQUENCE and STATUS 10
-    /// and 14 to 16 for a value, 61 and 63 for one that is missing or stands twice; as by `SaidTimes::read` for DTSTART, DTEND
-    /// and DURATION; 61 and 30 to 33 for RRULE; 15 for an ATTENDEE; as by `SaidTimes::judge` for the times together; 34 for a
-    /// DTSTART that isn't one of the rule's days.
+    /// and 14 to 16 for a value, 61 and 63 for one that is missing or stands twice; as by `SaidInstant::read_recurrence` for
+    /// RECURRENCE-ID; as by `SaidTimes::read` for DTSTART, DTEND and DURATION; 61 and 30 to 33 for RRULE; as by
+    /// `SaidInstants::read` for RDATE and EXDATE; 15 for an ATTENDEE; as by `SaidTimes::judge` for the times together; 52 for a
+    /// RECURRENCE-ID or an RDATE outside of the dates that an event may name; 67 for RRULE or RDATE beside RECURRENCE-ID; 34 for
+    /// a DTSTART that isn't one of the rule's days.
     pub(crate) fn read(
         alloc: Global,
         zones: &Zones<'_, '_>,
@@ -131,19 +148,29 @@ impl EventComponent {
         let organiser = read_organiser(alloc, properties, purpose)?;
         let stamp = read_stamp(properties, purpose)?;
         let sequence = read_sequence(properties)?;
-        let _status = optional(properties, "STATUS")?;
+        let cancelled = read_cancelled(properties)?;
+        let said_recurrence = SaidInstant::read_recurrence(zones, properties)?;
         let said = SaidTimes::read(zones, properties)?;
         let said_rule = SaidRule::read(alloc, properties)?;
+        let said_additions = SaidInstants::read(alloc, zones, properties, Listing::Additions)?;
+        let said_exceptions = SaidInstants::read(alloc, zones, properties, Listing::Exceptions)?;
         let attendees = read_attendees(alloc, properties)?;
         let times = said.judge()?;
+        let recurrence = judge_recurrence(said_recurrence)?;
+        let additions = said_additions.judge()?;
+        refuse_recurring_instance(properties)?;
         let rule = said_rule.judge(&times)?;
         Ok(EventComponent {
             uid,
             organiser,
             stamp,
             sequence,
+            cancelled,
+            recurrence,
             times,
             rule,
+            additions,
+            exceptions: said_exceptions.instants,
             attendees,
         })
     }
@@ -210,7 +237,7 @@ fn read_organiser(
     match (optional(properties, "ORGANIZER")?, purpose) {
         (Some(line), _) => Ok(Some(Address::read(alloc, line.value())?)),
         (None, Purpose::Request) => Err(Fault::Refused(Refusal::NO_ORGANIZER)),
-        (None, Purpose::Calendar | Purpose::Series) => Ok(None),
+        (None, Purpose::Calendar | Purpose::Series | Purpose::Meeting) => Ok(None),
     }
 }
 
@@ -222,7 +249,7 @@ fn read_stamp(properties: &Properties<'_>, purpose: Purpose) -> Result<Option<St
     match (optional(properties, "DTSTAMP")?, purpose) {
         (Some(line), _) => Ok(Some(Stamp::read(line.value())?)),
         (None, Purpose::Request) => Err(Refusal::BAD_PROPERTY),
-        (None, Purpose::Calendar | Purpose::Series) => Ok(None),
+        (None, Purpose::Calendar | Purpose::Series | Purpose::Meeting) => Ok(None),
     }
 }
 
@@ -234,6 +261,19 @@ fn read_sequence(properties: &Properties<'_>) -> Result<Sequence, Refusal>
     match optional(properties, "SEQUENCE")? {
         Some(line) => Sequence::read(line.value()),
         None => Ok(Sequence::zero()),
+    }
+}
+
+/// Whether STATUS is CANCELLED, caseless.
+/// Refused: 61 where it stands twice.
+fn read_cancelled(properties: &Properties<'_>) -> Result<bool, Refusal>
+    ensures reads { IfOk result (SaysStatus properties.now) }
+    ensures refuses { IfErr result (λ e. e.number ≡ 61) }
+    ensures twice { IfErr result (λ _. StandsTwice (codes "STATUS") properties.now) }
+{
+    match optional(properties, "STATUS")? {
+        Some(line) => Ok(line.value().eq_ignore_ascii_case("CANCELLED")),
+        None => Ok(false),
     }
 }
 
@@ -257,17 +297,17 @@ pub(crate) fn kind_of(line: Line<'_>) -> TimeKind
     }
 }
 
-/// The UTC time that a line spells (RFC 5545 3.3.5, form 2).
+/// The UTC time that a text of a line spells (RFC 5545 3.3.5, form 2).
 /// Refused: 10 where the text ends in `Z` and is no UTC date-time, 11 where it is no date-time, 55 where it is a
 /// date or a floating time, 56 where VALUE is PERIOD.
-pub(crate) fn read_time(line: Line<'_>) -> Result<Stamp, Refusal>
-    ensures reads { IfOk result (IsTime (line_text line.entry)) }
+pub(crate) fn read_time(line: Line<'_>, text: &str) -> Result<Stamp, Refusal>
+    ensures reads { IfOk result (IsTime (line_text line.entry) text.now) }
     ensures refuses { IfErr result (λ e. IsTrue (is_event_fault e.number)) }
-    ensures stands { IfErr result (λ e. TimeFault (line_text line.entry) e.number) }
+    ensures stands { IfErr result (λ e. KindFault (time_kind (line_text line.entry)) text.now e.number) }
 {
     match kind_of(line) {
-        TimeKind::DateTime => read_date_time(line.value()),
-        TimeKind::Date => Err(refusal_of_date(line.value())),
+        TimeKind::DateTime => read_date_time(text),
+        TimeKind::Date => Err(refusal_of_date(text)),
         TimeKind::Period => Err(Refusal::LIST_OR_PERIOD),
         TimeKind::Other => Err(Refusal::BAD_DATE_TIME),
     }

@@ -143,7 +143,7 @@ pub fn refuse_nominal_length(properties: &Properties<'_>) -> Result<(), Refusal>
 }
 
 /// Whether TZID stands on a line.
-fn is_in_zone(line: Line<'_>) -> bool
+pub(crate) fn is_in_zone(line: Line<'_>) -> bool
     ensures { result ≡ is_in_zone (line_text line.entry) }
 {
     line.param("TZID").is_some()
@@ -173,8 +173,8 @@ fn refuse_nominal(in_zone: bool, extent: Extent) -> Result<(), Refusal>
     }
 }
 
-/// Whether a start or an end may be named, by its local time and the instant that it means.
-fn is_in_dates(in_zone: bool, local: LocalTime, instant: i64) -> bool
+/// Whether an event may name a time, by its local time and the instant that it means.
+pub(crate) fn is_in_dates(in_zone: bool, local: LocalTime, instant: i64) -> bool
     ensures { IsTrue result ↔ IsInDates in_zone local instant }
 {
     let first = if in_zone { 0 } else { FIRST_SECOND };

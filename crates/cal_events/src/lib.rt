@@ -3,9 +3,11 @@
 
 pub mod calendar;
 pub mod component;
+mod event;
 mod event_rule;
 mod event_times;
 pub mod instance;
+mod occurrences;
 mod properties;
 mod reading;
 mod series;
@@ -15,6 +17,7 @@ mod zones;
 
 pub use calendar::{Calendar, Entry, Singles};
 pub use component::{Attendee, EventComponent, ParticipationStatus, Purpose, one_event};
+pub use event::{Event, one_meeting};
 pub use event_times::{EventTimes, refuse_nominal_length};
 pub use instance::{HORIZON, Instance, InstanceKey, OwnedInstance, OwnedKey};
 pub use reading::{one_calendar, one_calendar_text, read_events, refuse_unread_events};

@@ -1,14 +1,13 @@
-//! A start or an end with its zone: TZID names a VTIMEZONE of the object that the line stands in
+//! A time with its zone, as a start or an end: TZID names a VTIMEZONE of the object that the line stands in
 //! (RFC 5545 3.2.19, 3.3.5, 3.6.5, 3.8.3.1). A VTIMEZONE that no line names isn't read.
 ghost use Rattle.std.specs.Prelude.{◌≡◌, ℕ, List, Option, None, Some, ℤ, IfOk, IfErr};
 ghost use Rattle.ical_lines.specs.Text.{line_text};
-ghost use Rattle.profile.specs.text.Lines.{line_value};
 ghost use Rattle.profile.specs.text.Trees.{Tree};
 ghost use Rattle.profile.specs.text.Values.{SpellsLocal};
 ghost use Rattle.profile.specs.series.Zones as zones;
 ghost use Rattle.profile.specs.series.Zones.{Means, IsNearEpoch};
 ghost use Rattle.profile.specs.events.Properties.{time_kind, DateTime};
-ghost use Rattle.profile.specs.events.ZonedTimes.{SpellsZoned, SaysZonedTime, clock_of, DateOrMalformed, LocalFault, InZoneFault, ZonedTimeFault};
+ghost use Rattle.profile.specs.events.ZonedTimes.{SpellsZoned, SaysZonedText, SaysZonedTime, clock_of, DateOrMalformed, LocalFault, InZoneFault, ZonedTextFault, ZonedTimeFault};
 ghost use Rattle.cal_zones.specs.Kinds.{zone_of};
 ghost use Rattle.cal_events.specs.Zones.{object_of, AreRead};
 ghost use Rattle.cal_events.specs.Events.{zone_said};
@@ -21,7 +20,7 @@ use ical_values::local_time::one_local_time;
 use ical_values::stamp::one_stamp;
 use ical_values::{LocalTime, Stamp};
 
-/// A start or an end: a local time, and the zone whose clocks show it. A UTC time has none: UTC is no zone of offset 0.
+/// A time: a local time, and the zone whose clocks show it. A UTC time has none: UTC is no zone of offset 0.
 #[derive(Clone, Copy)]
 pub struct ZonedTime {
     pub local: LocalTime,
@@ -39,9 +38,22 @@ impl ZonedTime {
         ensures says { IfOk result (λ t. SaysZonedTime (object_of zones.now) (line_text line.entry) (zone_said t) t.local) }
         ensures stands { IfErr result (λ e. ZonedTimeFault (object_of zones.now) (line_text line.entry) e.number) }
     {
+        ZonedTime::read_text(line, line.value(), zones)
+    }
+
+    /// The same of one text of the line's value, as a time of a list has VALUE and TZID of its line.
+    pub(crate) fn read_text(
+        line: Line<'_>,
+        text: &str,
+        zones: &Zones<'_, '_>,
+    ) -> Result<ZonedTime, Refusal>
+        requires zones { AreRead zones.now }
+        ensures says { IfOk result (λ t. SaysZonedText (object_of zones.now) (line_text line.entry) text.now (zone_said t) t.local) }
+        ensures stands { IfErr result (λ e. ZonedTextFault (object_of zones.now) (line_text line.entry) text.now e.number) }
+    {
         match line.param("TZID") {
-            Some(name) => read_in_zone(line, name, zones),
-            None => Ok(ZonedTime::of_stamp(read_time(line)?)),
+            Some(name) => read_in_zone(line, text, name, zones),
+            None => Ok(ZonedTime::of_stamp(read_time(line, text)?)),
         }
     }
 
@@ -76,26 +88,31 @@ impl ZonedTime {
     }
 }
 
-/// A line says at most one local time in one zone, and none where a fault stands in it.
+/// A text of a line says at most one local time in one zone, and none where a fault stands in it.
 pub fn one_zoned_time()
-    ensures one { (object : Tree) (line : List ℕ) (a b : Option zones.Zone) (s t : ℤ)
-        → SaysZonedTime object line a s → SaysZonedTime object line b t → (a ≡ b) × (s ≡ t) }
-    ensures or_a_fault { (object : Tree) (line : List ℕ) (a : Option zones.Zone) (s : ℤ) (n : ℕ)
-        → SaysZonedTime object line a s → ZonedTimeFault object line n → ⊥ }
+    ensures one { (object : Tree) (line text : List ℕ) (a b : Option zones.Zone) (s t : ℤ)
+        → SaysZonedText object line text a s → SaysZonedText object line text b t → (a ≡ b) × (s ≡ t) }
+    ensures or_a_fault { (object : Tree) (line text : List ℕ) (a : Option zones.Zone) (s : ℤ) (n : ℕ)
+        → SaysZonedText object line text a s → ZonedTextFault object line text n → ⊥ }
 {
     one_stamp();
     one_local_time();
     one_zone();
 }
 
-/// A line with TZID.
-fn read_in_zone(line: Line<'_>, name: &str, zones: &Zones<'_, '_>) -> Result<ZonedTime, Refusal>
+/// A text of a line with TZID.
+fn read_in_zone(
+    line: Line<'_>,
+    text: &str,
+    name: &str,
+    zones: &Zones<'_, '_>,
+) -> Result<ZonedTime, Refusal>
     requires zones { AreRead zones.now }
     ensures says { IfOk result (λ t. (time_kind (line_text line.entry) ≡ DateTime)
-        × SpellsZoned (object_of zones.now) (Some name.now) (line_value (line_text line.entry)) (zone_said t) t.local) }
-    ensures stands { IfErr result (λ e. InZoneFault (object_of zones.now) name.now (time_kind (line_text line.entry)) (line_value (line_text line.entry)) e.number) }
+        × SpellsZoned (object_of zones.now) (Some name.now) text.now (zone_said t) t.local) }
+    ensures stands { IfErr result (λ e. InZoneFault (object_of zones.now) name.now (time_kind (line_text line.entry)) text.now e.number) }
 {
-    let local = read_local(line)?;
+    let local = read_local(line, text)?;
     let zone = zones.named(name)?;
     Ok(ZonedTime {
         local,
@@ -103,16 +120,16 @@ fn read_in_zone(line: Line<'_>, name: &str, zones: &Zones<'_, '_>) -> Result<Zon
     })
 }
 
-/// The local time that a line with TZID spells (RFC 5545 3.3.5, form 3).
+/// The local time that a text of a line with TZID spells (RFC 5545 3.3.5, form 3).
 /// Refused: 11 where it is no local time, 55 for a date, 56 where VALUE is PERIOD.
-fn read_local(line: Line<'_>) -> Result<LocalTime, Refusal>
+fn read_local(line: Line<'_>, text: &str) -> Result<LocalTime, Refusal>
     ensures kind { IfOk result (λ _. time_kind (line_text line.entry) ≡ DateTime) }
-    ensures reads { IfOk result (SpellsLocal (line_value (line_text line.entry))) }
-    ensures stands { IfErr result (λ e. LocalFault (time_kind (line_text line.entry)) (line_value (line_text line.entry)) e.number) }
+    ensures reads { IfOk result (SpellsLocal text.now) }
+    ensures stands { IfErr result (λ e. LocalFault (time_kind (line_text line.entry)) text.now e.number) }
 {
     match kind_of(line) {
-        TimeKind::DateTime => read_local_text(line.value()),
-        TimeKind::Date => Err(refusal_of_no_local(line.value())),
+        TimeKind::DateTime => read_local_text(text),
+        TimeKind::Date => Err(refusal_of_no_local(text)),
         TimeKind::Period => Err(Refusal::LIST_OR_PERIOD),
         TimeKind::Other => Err(Refusal::BAD_DATE_TIME),
     }

@@ -91,8 +91,12 @@ impl Refusal {
     pub const TWO_MEETINGS: Refusal = Refusal { number: 62 };
     /// A message without ORGANIZER (RFC 5546 3.2).
     pub const NO_ORGANIZER: Refusal = Refusal { number: 63 };
+    /// RECURRENCE-ID with RANGE (RFC 5545 3.2.13, 3.8.4.4).
+    pub const RANGE: Refusal = Refusal { number: 65 };
     /// No VEVENT (RFC 5546 3.2).
     pub const NO_EVENT: Refusal = Refusal { number: 66 };
+    /// RRULE or RDATE beside RECURRENCE-ID: a single instance doesn't recur (RFC 5545 3.8.4.4).
+    pub const RECURRING_INSTANCE: Refusal = Refusal { number: 67 };
     /// A preamble or a configuration that can't be read.
     pub const BAD_PREAMBLE: Refusal = Refusal { number: 90 };
     /// Something that roombox doesn't read yet.

@@ -50,8 +50,12 @@ meeting uid organiser = record {
   organiser = Some organiser;
   stamp = Some (pos 1_740_830_400);
   sequence = 0;
+  cancelled = false;
+  recurrence = None;
   times = record { zone = None; local = pos 1_741_597_200; start = pos 1_741_597_200; length = record { days = 0; seconds = 3600 } };
   rule = None;
+  additions = [];
+  exceptions = [];
   attendees = record { address = codes "mailto:r1@example.com"; participation = NeedsAction } ∷ [];
 }
 

@@ -86,6 +86,10 @@ event_with first second = record {
   organiser = None;
   stamp = None;
   sequence = 0;
+  cancelled = false;
+  recurrence = None;
+  additions = [];
+  exceptions = [];
   times = record { zone = None; local = pos 100; start = pos 100; length = record { days = 1; seconds = 1 } };
   rule = None;
   attendees = record { address = codes "r:1"; participation = first } ∷ record { address = codes "r:1"; participation = second } ∷ [];

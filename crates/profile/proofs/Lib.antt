@@ -5,3 +5,4 @@ mod RuleTextExamples
 mod ZoneTextExamples
 mod WrittenZoneExamples
 mod EventRuleExamples
+mod OccurrenceExamples

@@ -2,5 +2,7 @@
 pub mod Properties
 pub mod ZonedTimes
 pub mod EventRules
+pub mod Occurrences
 pub mod Events
+pub mod Meetings
 pub mod Series

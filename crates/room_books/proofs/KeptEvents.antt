@@ -1,5 +1,5 @@
 -- What the lines of a kept event say: the event again, for the room alone, which has accepted.
-use Rattle.std.proofs.Common.{◌≡◌, ℕ, ℤ, negsuc, ◌≤◌, ◌≤ℤ◌, ◌<ℤ◌, true, false, cond, List, [], ◌∷◌, ◌++◌, codes, Option, Some, None, refl, sym, ap}
+use Rattle.std.proofs.Common.{◌≡◌, ℕ, ℤ, negsuc, ◌≤◌, ◌≤ℤ◌, ◌<ℤ◌, true, false, cond, List, [], ◌∷◌, ◌++◌, codes, Option, Some, None, refl, sym, ap, arith}
 use Rattle.std.specs.Str.{bytes_eq}
 use Rattle.std.specs.Prelude.{unwrap_or, option_map}
 use Rattle.std.proofs.lemmas.Slice.Eq.{bytes_eq-Decides}
@@ -22,8 +22,12 @@ abbrev pub kept_event : Event → List ℕ → ℤ → List ℕ → Event
 kept_event event organiser stamp room = record event {
   organiser = Some organiser;
   stamp = Some stamp;
+  cancelled = false;
+  recurrence = None;
   times = record { zone = None; local = event.times.start; start = event.times.start; length = event.times.length };
   rule = None;
+  additions = [];
+  exceptions = [];
   attendees = record { address = room; participation = Accepted } ∷ [];
 }
 
@@ -50,7 +54,7 @@ kept_says event uid sequence stamp start duration organiser room stamped s objec
   organiser = record { line = Some (codes "ORGANIZER:" ++ organiser); once = refl; stands = λ _. refl; is = (s.organised, sym s.lower) };
   stamp = record { line = Some (codes "DTSTAMP:" ++ stamp); once = refl; stands = λ _. refl; is = s.stamped_is };
   sequence = (Some event.sequence, record { line = Some (codes "SEQUENCE:" ++ sequence); once = refl; stands = λ _. refl; is = s.numbered }, refl);
-  status = (None, refl);
+  status = (None, refl, refl);
   times = record {
     line = codes "DTSTART:" ++ start;
     once = refl;
@@ -65,6 +69,13 @@ kept_says event uid sequence stamp start duration organiser room stamped s objec
     in_dates = (s.from_1970, s.from_1970, s.to_9999);
   };
   rule = record { line = None; once = refl; stands = λ h. absurd (false≢true h); is = tt };
+  occurrences = record {
+    is = record { line = None; once = refl; stands = λ h. absurd (false≢true h); is = tt };
+    adds = (tt, omega arith);
+    inside = tt;
+    takes = (tt, omega arith);
+    alone = refl;
+  };
   attendees = (((s.addressed, sym s.room_lower), refl), tt);
 }
 

@@ -50,8 +50,12 @@ event = record {
   organiser = Some (codes "mailto:ann@example.com");
   stamp = Some (pos 1_740_830_400);
   sequence = 0;
+  cancelled = false;
+  recurrence = None;
   times = record { zone = None; local = pos 1_741_597_200; start = pos 1_741_597_200; length = record { days = 0; seconds = 3600 } };
   rule = None;
+  additions = [];
+  exceptions = [];
   attendees = record { address = codes "mailto:r1@example.com"; participation = NeedsAction } ∷ [];
 }
 
@@ -95,7 +99,7 @@ says object = record {
   organiser = record { line = Some (codes "ORGANIZER:mailto:ann@example.com"); once = refl; stands = λ _. refl; is = (ann, refl) };
   stamp = record { line = Some (codes "DTSTAMP:20250301T120000Z"); once = refl; stands = λ _. refl; is = stamp_written _ _ stamp };
   sequence = (None, record { line = None; once = refl; stands = λ h. absurd (false≢true h); is = tt }, refl);
-  status = (None, refl);
+  status = (None, refl, refl);
   times = record {
     line = codes "DTSTART:20250310T090000Z";
     once = refl;
@@ -110,6 +114,13 @@ says object = record {
     in_dates = (omega (arith, ints), omega (arith, ints), omega (arith, ints));
   };
   rule = record { line = None; once = refl; stands = λ h. absurd (false≢true h); is = tt };
+  occurrences = record {
+    is = record { line = None; once = refl; stands = λ h. absurd (false≢true h); is = tt };
+    adds = (tt, omega arith);
+    inside = tt;
+    takes = (tt, omega arith);
+    alone = refl;
+  };
   attendees = (((the_room, refl), refl), tt);
 }
 

@@ -7,10 +7,11 @@ use Rattle.profile.specs.text.Lines.{line_value, line_param, is_same_name}
 use Rattle.profile.specs.text.Trees.{Tree, vevents}
 use Rattle.profile.specs.text.Values.{IsUid, unescaped}
 use Rattle.profile.specs.checker.Instances.{Booked}
-use Rattle.profile.specs.events.Properties.{is_of, lines_named, StandsAtMostOnce, IsStampLine, IsSequenceLine, IsAddressLine, Says, IsUidLine, length_seconds, StandsTwice, IsMissing, SomeLine, IsNoStamp, IsNoAddress, IsNoSequence}
+use Rattle.profile.specs.events.Properties.{is_of, lines_named, IsStampLine, IsSequenceLine, IsAddressLine, Says, IsUidLine, length_seconds, StandsTwice, IsMissing, SomeLine, IsNoStamp, IsNoAddress, IsNoSequence}
 use Rattle.profile.specs.series.Rules.{Parts}
 use Rattle.profile.specs.events.ZonedTimes.{is_in_zone, EventTimes, SaysEventTimes, EventTimesFault}
 use Rattle.profile.specs.events.EventRules.{SaysEventRule, EventRuleFault}
+use Rattle.profile.specs.events.Occurrences.{SaysStatus, SaysOccurrences, OccurrenceFault}
 
 -- ---- attendees
 
@@ -43,14 +44,19 @@ IsAttendee line attendee = IsAddressLine line attendee.address × (attendee.part
 
 -- ---- one event
 
--- what a VEVENT says; organiser and stamp may be missing in a calendar. Without a rule it happens once
+-- what a VEVENT says; organiser and stamp may be missing in a calendar. Without a rule and additions it happens once. With a recurrence it
+-- stands for that instance of its meeting. Instants are in the order of the text
 pub record Event : Type 0 where
   pub uid : List ℕ
   pub organiser : Option (List ℕ)
   pub stamp : Option ℤ
   pub sequence : ℕ
+  pub cancelled : Bool
+  pub recurrence : Option ℤ
   pub times : EventTimes
   pub rule : Option Parts
+  pub additions : List ℤ
+  pub exceptions : List ℤ
   pub attendees : List Attendee
 
 -- SEQUENCE, 0 where it is missing (RFC 5545 3.8.7.4)
@@ -64,9 +70,10 @@ pub record SaysEvent (object : Tree) (in_message : Bool) (lines : List (List ℕ
   pub organiser : Says (codes "ORGANIZER") in_message IsAddressLine lines event.organiser
   pub stamp : Says (codes "DTSTAMP") in_message IsStampLine lines event.stamp
   pub sequence : SaysSequence lines event.sequence
-  pub status : (line : Option (List ℕ)) × StandsAtMostOnce (codes "STATUS") lines line
+  pub status : SaysStatus lines event.cancelled
   pub times : SaysEventTimes object lines event.times
   pub rule : SaysEventRule lines event.times event.rule
+  pub occurrences : SaysOccurrences object lines event.recurrence event.additions event.exceptions
   pub attendees : AllZip IsAttendee (lines_named (codes "ATTENDEE") lines) event.attendees
 
 -- ---- what isn't read yet
@@ -140,7 +147,7 @@ pub record SaysCalendar (room : List ℕ) (object : Tree) (all : List Booked) : 
 
 -- ---- what can be wrong with a VEVENT, by the number of its refusal
 
--- the properties that stand at most once, beside those of the times and the rule
+-- the properties that stand at most once, beside those of the times, the rule and the occurrences
 abbrev pub single_names : List (List ℕ)
 single_names = codes "UID" ∷ codes "ORGANIZER" ∷ codes "DTSTAMP" ∷ codes "SEQUENCE" ∷ codes "STATUS" ∷ []
 
@@ -148,6 +155,7 @@ single_names = codes "UID" ∷ codes "ORGANIZER" ∷ codes "DTSTAMP" ∷ codes "
 pub data EventFault (object : Tree) (in_message : Bool) (lines : List (List ℕ)) : ℕ → Type 0 where
   in_times : {n : ℕ} → EventTimesFault object lines n → EventFault object in_message lines n
   in_rule : {n : ℕ} → EventRuleFault object lines n → EventFault object in_message lines n
+  in_occurrences : {n : ℕ} → OccurrenceFault object lines n → EventFault object in_message lines n
   bad_stamp : SomeLine (codes "DTSTAMP") (λ line. IsNoStamp (line_value line)) lines → EventFault object in_message lines 10
   bad_uid : SomeLine (codes "UID") (λ line. IsUid (unescaped (line_value line)) → ⊥) lines → EventFault object in_message lines 14
   bad_organiser : SomeLine (codes "ORGANIZER") IsNoAddress lines → EventFault object in_message lines 15

@@ -9,7 +9,7 @@ use Rattle.profile.specs.text.Values.{SpellsStamp, SpellsLocal, unescaped}
 use Rattle.profile.specs.checker.Instances.{horizon}
 use Rattle.profile.specs.series.Zones.{Zone, Constant, Means}
 use Rattle.profile.specs.series.ZoneTexts.{SaysZone, ZoneFault}
-use Rattle.profile.specs.events.Properties.{is_of, TimeKind, DateTime, Date, Period, Other, time_kind, StandsAtMostOnce, StandsTwice, IsMissing, SomeLine, IsDateText, IsLocalText, TimeFault, Length, length_seconds, LastsFor, IsNoDuration, IsNegativeOrLong, longest, first_second}
+use Rattle.profile.specs.events.Properties.{is_of, TimeKind, DateTime, Date, Period, Other, time_kind, StandsAtMostOnce, StandsTwice, IsMissing, SomeLine, IsDateText, IsLocalText, KindFault, Length, length_seconds, LastsFor, IsNoDuration, IsNegativeOrLong, longest, first_second}
 
 -- ---- VTIMEZONEs by their names
 
@@ -49,10 +49,14 @@ SpellsZoned object (Some name) text (Some zone) local = SpellsLocal text local �
 SpellsZoned object None text (Some zone) local = ⊥
 SpellsZoned object (Some name) text None local = ⊥
 
--- the line says this local time in this zone, or in UTC
+-- a text of a line says this local time in this zone, or in UTC: VALUE and TZID of the line are those of each of its texts
+abbrev pub SaysZonedText : Tree → List ℕ → List ℕ → Option Zone → ℤ → Type 0
+SaysZonedText object line text zone local =
+    (time_kind line ≡ DateTime) × SpellsZoned object (line_param (codes "TZID") line) text zone local
+
+-- the line says it: its value is the one text
 abbrev pub SaysZonedTime : Tree → List ℕ → Option Zone → ℤ → Type 0
-SaysZonedTime object line zone local =
-    (time_kind line ≡ DateTime) × SpellsZoned object (line_param (codes "TZID") line) (line_value line) zone local
+SaysZonedTime object line zone local = SaysZonedText object line (line_value line) zone local
 
 -- the clocks that show it: those of its zone, else those of UTC, which show the instant itself
 abbrev pub clock_of : Option Zone → Zone
@@ -111,12 +115,17 @@ InZoneFault object name kind text number =
     LocalFault kind text number ⊎ ((kind ≡ DateTime) × IsLocalText text × NamedFault (zone_named name object) number)
 
 -- with TZID of this name, or without TZID: as of a UTC time
-abbrev pub FaultIn : Tree → Option (List ℕ) → List ℕ → ℕ → Type 0
-FaultIn object None line number = TimeFault line number
-FaultIn object (Some name) line number = InZoneFault object name (time_kind line) (line_value line) number
+abbrev pub FaultIn : Tree → Option (List ℕ) → TimeKind → List ℕ → ℕ → Type 0
+FaultIn object None kind text number = KindFault kind text number
+FaultIn object (Some name) kind text number = InZoneFault object name kind text number
 
+-- in a text of a line
+abbrev pub ZonedTextFault : Tree → List ℕ → List ℕ → ℕ → Type 0
+ZonedTextFault object line text number = FaultIn object (line_param (codes "TZID") line) (time_kind line) text number
+
+-- in the one text of a line
 abbrev pub ZonedTimeFault : Tree → List ℕ → ℕ → Type 0
-ZonedTimeFault object line number = FaultIn object (line_param (codes "TZID") line) line number
+ZonedTimeFault object line number = ZonedTextFault object line (line_value line) number
 
 -- ---- the times of a VEVENT
 

@@ -1,4 +1,4 @@
-use Rattle.std.proofs.Common.{◌<◌, ◌≡◌, ◌∙◌, true, List, length, map, take, get_or, sym, ap, subst}
+use Rattle.std.proofs.Common.{◌<◌, ◌≡◌, ◌∙◌, List, length, map, take, get_or, sym, ap, subst}
 use Rattle.std.specs.List.{list_any, AllZip}
 use Rattle.ical_lines.specs.Fault.{RefusesBy}
 use Rattle.ical_tree.specs.Tree.{component_lines, component_children, tree_of}

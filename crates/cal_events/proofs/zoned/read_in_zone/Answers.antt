@@ -1,6 +1,5 @@
 use Rattle.std.proofs.Common.{inl, inr}
 use Rattle.ical_lines.specs.Text.{line_text}
-use Rattle.profile.specs.text.Lines.{line_value}
 use Rattle.profile.specs.events.Properties.{time_kind}
 use Rattle.profile.specs.events.ZonedTimes.{InZoneFault}
 use Rattle.ical_values.proofs.Exits.{refusal_exit}
@@ -10,13 +9,13 @@ use Rattle.cal_events.proofs.zoned.read_in_zone.Goals as goal
 pub returns-in_err-local-clause-stands : goal.returns-in_err-local-clause-stands
 returns-in_err-local-clause-stands c =
     let line = line_text c.args.line in
-    refusal_exit _ (InZoneFault (object_of c.args.zones.now) c.args.name.now (time_kind line) (line_value line)) _ c.from_residual.ensures.1
+    refusal_exit _ (InZoneFault (object_of c.args.zones.now) c.args.name.now (time_kind line) c.args.text.now) _ c.from_residual.ensures.1
     (inl c.in_err-local.ensures.stands)
 
 pub returns-in_err-zone-clause-stands : goal.returns-in_err-zone-clause-stands
 returns-in_err-zone-clause-stands c =
     let line = line_text c.args.line in
-    refusal_exit _ (InZoneFault (object_of c.args.zones.now) c.args.name.now (time_kind line) (line_value line)) _ c.from_residual-in_err-zone.ensures.1
+    refusal_exit _ (InZoneFault (object_of c.args.zones.now) c.args.name.now (time_kind line) c.args.text.now) _ c.from_residual-in_err-zone.ensures.1
     (inr (c.in_ok-local.ensures.kind, (c.in_ok-local.local, c.in_ok-local.ensures.reads), c.in_err-zone.ensures.stands))
 
 pub returns-clause-says : goal.returns-clause-says

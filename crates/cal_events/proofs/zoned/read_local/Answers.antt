@@ -1,6 +1,5 @@
 use Rattle.std.proofs.lemmas.Result.{IfErr-weaker}
 use Rattle.ical_lines.specs.Text.{line_text}
-use Rattle.profile.specs.text.Lines.{line_value}
 use Rattle.profile.specs.events.Properties.{DateTime, time_kind}
 use Rattle.profile.specs.events.ZonedTimes.{LocalFault}
 use Rattle.cal_events.proofs.ZonedLemmas.{local_fault}
@@ -9,6 +8,6 @@ use Rattle.cal_events.proofs.zoned.read_local.Goals as goal
 pub returns-in-DateTime-clause-stands : goal.returns-in-DateTime-clause-stands
 returns-in-DateTime-clause-stands c =
     let line = line_text c.args.line in
-    IfErr-weaker _ (λ e. LocalFault DateTime c.value.result.now e.number) (λ e. LocalFault (time_kind line) (line_value line) e.number)
-    (λ e h. local_fault line c.value.result.now DateTime e.number c.in-DateTime.ensures c.value.ensures h)
-    c.read_local_text.ensures.stands
+    let text = c.args.text.now in
+    IfErr-weaker _ (λ e. LocalFault DateTime text e.number) (λ e. LocalFault (time_kind line) text e.number)
+    (λ e h. local_fault line text DateTime e.number c.in-DateTime.ensures h) c.read_local_text.ensures.stands

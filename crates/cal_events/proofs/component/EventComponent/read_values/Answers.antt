@@ -1,8 +1,7 @@
 use Rattle.std.proofs.Common.{codes, sym, subst, refl, arith}
 use Rattle.ical_lines.specs.Fault.{RefusesBy}
-use Rattle.std.specs.Prelude.{option_map}
-use Rattle.ical_lines.specs.Text.{line_text}
-use Rattle.profile.specs.events.Events.{EventFault, in_times, in_rule, twice}
+use Rattle.profile.specs.events.Events.{EventFault, in_times, in_rule, in_occurrences, twice}
+use Rattle.profile.specs.events.Occurrences.{entries_named, EntriesFault, bad_additions, bad_exceptions, recurs}
 use Rattle.profile.specs.events.EventRules.{EventRuleFault}
 use Rattle.cal_events.specs.Events.{is_message}
 use Rattle.cal_events.specs.Zones.{object_of}
@@ -22,11 +21,58 @@ returns-in_err-organiser-clause-stands c =
     err_exit _ (RefusesBy (EventFault object (is_message c.args.purpose) c.args.properties.now)) _ c.from_residual-in_err-organiser.ensures.1
     (c.in_err-organiser.ensures.stands object)
 
-pub returns-in_err-_status-clause-stands : goal.returns-in_err-_status-clause-stands
-returns-in_err-_status-clause-stands c =
+pub returns-in_err-cancelled-clause-stands : goal.returns-in_err-cancelled-clause-stands
+returns-in_err-cancelled-clause-stands c =
     let P = EventFault (object_of c.args.zones.now) (is_message c.args.purpose) c.args.properties.now in
-    err_exit _ (RefusesBy P) _ c.from_residual-in_err-_status.ensures.1
-    (subst P (sym c.in_err-_status.ensures.refuses) (twice (codes "STATUS") (4, omega arith, refl) c.in_err-_status.ensures.twice))
+    err_exit _ (RefusesBy P) _ c.from_residual-in_err-cancelled.ensures.1
+    (subst P (sym c.in_err-cancelled.ensures.refuses) (twice (codes "STATUS") (4, omega arith, refl) c.in_err-cancelled.ensures.twice))
+
+pub returns-in_err-said_recurrence-clause-stands : goal.returns-in_err-said_recurrence-clause-stands
+returns-in_err-said_recurrence-clause-stands c =
+    let object = object_of c.args.zones.now in
+    let m = is_message c.args.purpose in
+    err_exit _ (RefusesBy (EventFault object m c.args.properties.now)) _ c.from_residual-in_err-said_recurrence.ensures.1
+    (in_occurrences c.in_err-said_recurrence.ensures.stands)
+
+pub returns-in_err-said_additions-clause-stands : goal.returns-in_err-said_additions-clause-stands
+returns-in_err-said_additions-clause-stands c =
+    let object = object_of c.args.zones.now in
+    let m = is_message c.args.purpose in
+    let lines = c.args.properties.now in
+    err_exit _ (RefusesBy (EventFault object m lines)) _ c.from_residual-in_err-said_additions.ensures.1
+    (weaker_fault _ (EntriesFault object (codes "RDATE") (entries_named (codes "RDATE") lines)) (EventFault object m lines) (λ n h. in_occurrences (bad_additions h))
+    c.in_err-said_additions.ensures.stands)
+
+pub returns-in_err-said_exceptions-clause-stands : goal.returns-in_err-said_exceptions-clause-stands
+returns-in_err-said_exceptions-clause-stands c =
+    let object = object_of c.args.zones.now in
+    let m = is_message c.args.purpose in
+    let lines = c.args.properties.now in
+    err_exit _ (RefusesBy (EventFault object m lines)) _ c.from_residual-in_err-said_exceptions.ensures.1
+    (weaker_fault _ (EntriesFault object (codes "EXDATE") (entries_named (codes "EXDATE") lines)) (EventFault object m lines) (λ n h. in_occurrences (bad_exceptions h))
+    c.in_err-said_exceptions.ensures.stands)
+
+pub returns-in_err-recurrence-clause-stands : goal.returns-in_err-recurrence-clause-stands
+returns-in_err-recurrence-clause-stands c =
+    let object = object_of c.args.zones.now in
+    let m = is_message c.args.purpose in
+    let lines = c.args.properties.now in
+    err_exit _ (RefusesBy (EventFault object m lines)) _ c.from_residual-in_err-recurrence.ensures.1
+    (in_occurrences (c.in_err-recurrence.ensures.stands object lines c.in_ok-said_recurrence.ensures.said))
+
+pub returns-in_err-additions-clause-stands : goal.returns-in_err-additions-clause-stands
+returns-in_err-additions-clause-stands c =
+    let object = object_of c.args.zones.now in
+    let m = is_message c.args.purpose in
+    let lines = c.args.properties.now in
+    err_exit _ (RefusesBy (EventFault object m lines)) _ c.from_residual-in_err-additions.ensures.1
+    (in_occurrences (c.in_err-additions.ensures.stands object lines c.in_ok-said_additions.ensures.listed))
+
+pub returns-in_err-refuse_recurring_instance-clause-stands : goal.returns-in_err-refuse_recurring_instance-clause-stands
+returns-in_err-refuse_recurring_instance-clause-stands c =
+    let P = EventFault (object_of c.args.zones.now) (is_message c.args.purpose) c.args.properties.now in
+    err_exit _ (RefusesBy P) _ c.from_residual-in_err-refuse_recurring_instance.ensures.1
+    (subst P (sym c.in_err-refuse_recurring_instance.ensures.number) (in_occurrences (recurs c.in_err-refuse_recurring_instance.ensures.recurs)))
 
 pub returns-in_err-said-clause-stands : goal.returns-in_err-said-clause-stands
 returns-in_err-said-clause-stands c =
@@ -73,8 +119,19 @@ returns-clause-says c = record {
   organiser = c.in_ok-organiser.ensures.reads;
   stamp = c.in_ok-stamp.ensures.reads;
   sequence = c.in_ok-sequence.ensures.reads;
-  status = (option_map line_text c.in_ok-_status._status, c.in_ok-_status.ensures.found);
+  status = c.in_ok-cancelled.ensures.reads;
   times = c.in_ok-times.ensures.says (object_of c.args.zones.now) c.args.properties.now c.in_ok-said.ensures.said;
   rule = c.in_ok-rule.ensures.says c.args.properties.now c.in_ok-said_rule.ensures.said;
+  occurrences =
+      let object = object_of c.args.zones.now in
+      let lines = c.args.properties.now in
+      let added = c.in_ok-additions.ensures.says object lines c.in_ok-said_additions.ensures.listed in
+      record {
+        is = c.in_ok-recurrence.ensures.says object lines c.in_ok-said_recurrence.ensures.said;
+        adds = added.0;
+        inside = added.1;
+        takes = c.in_ok-said_exceptions.ensures.listed.lists;
+        alone = c.in_ok-refuse_recurring_instance.ensures.alone;
+      };
   attendees = c.in_ok-attendees.ensures.reads;
 }

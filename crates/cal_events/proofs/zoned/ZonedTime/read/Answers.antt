@@ -1,48 +1,17 @@
-use Rattle.std.proofs.Common.{◌≡◌, ◌∙◌, ap, sym}
-use Rattle.std.specs.Prelude.{option_map}
-use Rattle.std.proofs.lemmas.Result.{IfOk-weaker, IfErr-weaker}
+use Rattle.std.proofs.Common.{List, ℕ, subst}
+use Rattle.std.specs.Prelude.{IfOk, IfErr}
 use Rattle.ical_lines.specs.Text.{line_text}
-use Rattle.profile.specs.text.Lines.{line_value}
-use Rattle.profile.specs.events.Properties.{DateTime, time_kind}
-use Rattle.profile.specs.events.ZonedTimes.{SpellsZoned, SaysZonedTime, InZoneFault, ZonedTimeFault}
-use Rattle.std.specs.Prelude.{Some}
+use Rattle.profile.specs.events.ZonedTimes.{SaysZonedText, ZonedTextFault}
 use Rattle.cal_events.specs.Events.{zone_said}
 use Rattle.cal_events.specs.Zones.{object_of}
-use Rattle.ical_values.proofs.Exits.{refusal_exit}
-use Rattle.cal_events.proofs.ZonedLemmas.{zoned_said, zoned_fault, utc_said, utc_fault}
 use Rattle.cal_events.proofs.zoned.ZonedTime.read.Goals as goal
 
-pub returns-in-Some-clause-says : goal.returns-in-Some-clause-says
-returns-in-Some-clause-says c =
-    let line = line_text c.args.line in
-    let object = object_of c.args.zones.now in
-    let name = c.in-Some.name.now in
-    let named = sym c.param.ensures ∙ ap (option_map (λ x. x.now)) c.in-Some.is in
-    IfOk-weaker _ (λ t. (time_kind line ≡ DateTime) × SpellsZoned object (Some name) (line_value line) (zone_said t) t.local)
-    (λ t. SaysZonedTime object line (zone_said t) t.local)
-    (λ t h. zoned_said object line name (zone_said t) t.local named h) c.read_in_zone.ensures.says
+pub returns-clause-says : goal.returns-clause-says
+returns-clause-says c =
+    subst (λ (text : List ℕ). IfOk c.read_text.result (λ t. SaysZonedText (object_of c.args.zones.now) (line_text c.args.line) text (zone_said t) t.local)) c.value.ensures
+    c.read_text.ensures.says
 
-pub returns-in-Some-clause-stands : goal.returns-in-Some-clause-stands
-returns-in-Some-clause-stands c =
-    let line = line_text c.args.line in
-    let object = object_of c.args.zones.now in
-    let name = c.in-Some.name.now in
-    let named = sym c.param.ensures ∙ ap (option_map (λ x. x.now)) c.in-Some.is in
-    let P = InZoneFault object name (time_kind line) (line_value line) in
-    IfErr-weaker _ (λ e. P e.number) (λ e. ZonedTimeFault object line e.number)
-    (λ e k. zoned_fault object line name e.number named k) c.read_in_zone.ensures.stands
-
-pub returns-in_err-read_time-in-None-clause-stands : goal.returns-in_err-read_time-in-None-clause-stands
-returns-in_err-read_time-in-None-clause-stands c =
-    let line = line_text c.args.line in
-    let object = object_of c.args.zones.now in
-    let named = sym c.param.ensures ∙ ap (option_map (λ x. x.now)) c.in-None.is in
-    refusal_exit _ (ZonedTimeFault object line) _ c.from_residual.ensures.1 (utc_fault object line _ named c.in_err-read_time-in-None.ensures.stands)
-
-pub returns-in_ok-read_time-in-None-clause-says : goal.returns-in_ok-read_time-in-None-clause-says
-returns-in_ok-read_time-in-None-clause-says c =
-    let line = line_text c.args.line in
-    let object = object_of c.args.zones.now in
-    let named = sym c.param.ensures ∙ ap (option_map (λ x. x.now)) c.in-None.is in
-    utc_said object line (zone_said c.of_stamp.result) c.of_stamp.result.local c.in_ok-read_time-in-None.field-0 named c.of_stamp.ensures.zone c.of_stamp.ensures.local
-    c.in_ok-read_time-in-None.ensures.reads
+pub returns-clause-stands : goal.returns-clause-stands
+returns-clause-stands c =
+    subst (λ (text : List ℕ). IfErr c.read_text.result (λ e. ZonedTextFault (object_of c.args.zones.now) (line_text c.args.line) text e.number)) c.value.ensures
+    c.read_text.ensures.stands

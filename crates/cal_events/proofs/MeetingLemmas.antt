@@ -1,0 +1,195 @@
+-- The event with its instances that an object says, or the fault that stands there.
+use Rattle.std.proofs.Common.{◌≡◌, ◌≢◌, ◌∙◌, ℕ, zero, suc, ◌<◌, Bool, true, false, ◌&&◌, cond, List, [], ◌∷◌, ◌++◌, length, map, filter, get_or, append-nil, sym, ap, subst, refl, inl, inr, arith, ℤ, pos, ◌||◌}
+use Rattle.std.specs.Option.{option_to_list}
+use Rattle.std.specs.Prelude.{Option, Some, Contains, AllPairs, unwrap_or, Result, Ok, Err, IfOk, IfErr}
+use Rattle.std.specs.List.{AllZip, list_all, list_any}
+use Rattle.std.proofs.lemmas.List.Folds.{list_all-map}
+use Rattle.std.specs.Str.{bytes_eq}
+use Rattle.std.specs.Result.{IsErrAnd}
+use Rattle.std.proofs.lemmas.Bool.{true≢false, and_parts}
+use Rattle.std.proofs.lemmas.Option.{same_Some}
+use Rattle.std.proofs.lemmas.List.{get_or-map, length-map, map-append}
+use Rattle.std.proofs.lemmas.List.Elements.{filter-append}
+use Rattle.std.proofs.lemmas.Slice.Eq.{bytes_eq-Decides}
+use Rattle.ical_lines.specs.Fault.{RefusesBy, RefusesOnly}
+use Rattle.profile.specs.faults.Faults.{is_object_fault}
+use Rattle.ical_lines.specs.declared.fault.Fault.{Fault}
+use Rattle.ical_lines.specs.declared.fault.Fault.TheVariants.{Refused, Memory}
+use Rattle.ical_tree.specs.Tree.{IsObjectOf, tree_of}
+use Rattle.ical_tree.specs.Reading.{Stands}
+use Rattle.ical_tree.specs.declared.component.Component.{Component}
+use Rattle.ical_tree.proofs.TreeOfLemmas.{object_tree}
+use Rattle.ical_values.proofs.Exits.{err_exit}
+use Rattle.profile.specs.text.Lines.{logical_lines, reads_as_lines}
+use Rattle.profile.specs.text.Trees.{Tree, vevents}
+use Rattle.profile.specs.events.Events.{Event, SaysEvent, meeting_said}
+use Rattle.profile.specs.rooms.Messages.{is_same_meeting}
+use Rattle.profile.specs.events.Meetings.{Meeting, is_master, is_override, is_meeting_fault, is_meeting_event_fault, AreOfOne, InstancesDiffer, SaysMeeting, SpellsMeeting, MeetingFault, in_event, two_masters, two_overrides, no_event, two_meetings, MeetingTextFault, in_lines, in_tree, no_version, many_events, in_vevents}
+use Rattle.cal_events.specs.Events.{event_of, IsUnreadOrFaultAmong}
+use Rattle.cal_events.specs.declared.component.EventComponent.{EventComponent}
+use Rattle.cal_events.specs.Meetings.{said_meeting, instants_said, IsNotOne}
+use Rattle.cal_events.specs.declared.component.Purpose.TheVariants as purposes
+use Rattle.cal_events.specs.declared.event.Event as declared
+use Rattle.cal_events.proofs.ObjectFaults.{no_object}
+
+-- ---- one meeting
+
+pair_same : (a b : Event) → a.uid ≡ b.uid → unwrap_or a.organiser [] ≡ unwrap_or b.organiser [] → meeting_said a ≡ meeting_said b
+pair_same a b p q = λ i. (q i, p i)
+
+same_is : (a b : Event) → is_same_meeting a b ≡ true → meeting_said a ≡ meeting_said b
+same_is a b h =
+    let p = and_parts (bytes_eq a.uid b.uid) (bytes_eq (unwrap_or a.organiser []) (unwrap_or b.organiser [])) h in
+    pair_same a b ((bytes_eq-Decides a.uid b.uid).0 p.0) ((bytes_eq-Decides (unwrap_or a.organiser []) (unwrap_or b.organiser [])).0 p.1)
+
+is_same : (a b : Event) → meeting_said a ≡ meeting_said b → is_same_meeting a b ≡ true
+is_same a b e =
+    let p = (bytes_eq-Decides a.uid b.uid).1 (ap (λ (m : List ℕ × List ℕ). m.1) e) in
+    let q = (bytes_eq-Decides (unwrap_or a.organiser []) (unwrap_or b.organiser [])).1 (ap (λ (m : List ℕ × List ℕ). m.0) e) in
+    ap (λ b'. b' && bytes_eq (unwrap_or a.organiser []) (unwrap_or b.organiser [])) p ∙ q
+
+each_same : (first : Event) (others : List Event) → list_all (is_same_meeting first) others ≡ true → (x : Event) → Contains (first ∷ others) x → meeting_said first ≡ meeting_said x
+each_same first others h x (zero, w, e) = ap meeting_said e
+each_same first [] h x (suc k, w, e) = absurd (omega (arith, w))
+each_same first (y ∷ others) h x (suc zero, w, e) =
+    let p = and_parts (is_same_meeting first y) (list_all (is_same_meeting first) others) h in same_is first y p.0 ∙ ap meeting_said e
+each_same first (y ∷ others) h x (suc (suc k), w, e) =
+    let p = and_parts (is_same_meeting first y) (list_all (is_same_meeting first) others) h in each_same first others p.1 x (suc k, omega (arith, w), e)
+
+pub are_of_one : (first : Event) (others : List Event) → list_all (is_same_meeting first) others ≡ true → AreOfOne (first ∷ others)
+are_of_one first others h a b c d = sym (each_same first others h a c) ∙ each_same first others h b d
+
+all_same : (first : Event) (others : List Event) → ((x : Event) → Contains others x → meeting_said first ≡ meeting_said x) → list_all (is_same_meeting first) others ≡ true
+all_same first [] h = refl
+all_same first (y ∷ others) h =
+    ap (λ b. b && list_all (is_same_meeting first) others) (is_same first y (h y (zero, omega arith, refl)))
+    ∙ all_same first others (λ x c. h x (suc c.0, omega (arith, c.1), c.2))
+
+pub not_of_one : (first : Event) (others : List Event) → list_all (is_same_meeting first) others ≡ false → AreOfOne (first ∷ others) → ⊥
+not_of_one first others h one =
+    true≢false (sym (all_same first others (λ x c. one first x (zero, omega arith, refl) (suc c.0, omega (arith, c.1), c.2))) ∙ h)
+
+pub components_not_one : (cs : List EventComponent) (first : EventComponent) (others : List EventComponent) → cs ≡ first ∷ others
+    → false ≡ list_all (λ other. is_same_meeting (event_of first) (event_of other)) others → AreOfOne (map event_of cs) → ⊥
+components_not_one cs first others e h one =
+    not_of_one (event_of first) (map event_of others) (list_all-map (is_same_meeting (event_of first)) event_of others ∙ sym h)
+    (subst (λ (l : List EventComponent). AreOfOne (map event_of l)) e one)
+
+pub components_one : (cs : List EventComponent) (first : EventComponent) (others : List EventComponent) → cs ≡ first ∷ others
+    → true ≡ list_all (λ other. is_same_meeting (event_of first) (event_of other)) others → AreOfOne (map event_of cs)
+components_one cs first others e h =
+    subst (λ (l : List EventComponent). AreOfOne (map event_of l)) (sym e)
+    (are_of_one (event_of first) (map event_of others) (list_all-map (is_same_meeting (event_of first)) event_of others ∙ sym h))
+
+-- ---- instants
+
+some_differ : (ts : List ℤ) → AllPairs ◌≢◌ (map Some ts) → AllPairs ◌≢◌ ts
+some_differ ts h i j d lt w e =
+    h i j (Some d) lt (omega (arith, length-map ts (λ (t : ℤ). Some t), w))
+    (get_or-map Some ts i d (Some d) (omega (arith, lt, w)) ∙ ap Some e ∙ sym (get_or-map Some ts j d (Some d) w))
+
+differ_some : (ts : List ℤ) → AllPairs ◌≢◌ ts → AllPairs ◌≢◌ (map Some ts)
+differ_some ts h i j d lt w e =
+    let l : length (map Some ts) ≡ length ts = length-map ts Some in
+    let below : j < length ts = omega (arith, l, w) in
+    h i j (pos 0) lt below
+    (same_Some (get_or ts i (pos 0)) (get_or ts j (pos 0)) (sym (get_or-map Some ts i (pos 0) d (omega (arith, lt, below))) ∙ e ∙ get_or-map Some ts j (pos 0) d below))
+
+-- ---- components divided
+
+-- one more of a list that is filtered
+filter_push : (p : Event → Bool) (ys : List EventComponent) (x : EventComponent) → filter p (map event_of (ys ++ x ∷ [])) ≡ filter p (map event_of ys) ++ cond (p (event_of x)) (event_of x ∷ []) []
+filter_push p ys x = ap (filter p) (map-append event_of ys (x ∷ [])) ∙ filter-append p (map event_of ys) (event_of x ∷ [])
+
+pub pushed : (p : Event → Bool) (ys os new : List EventComponent) (x : EventComponent) → p (event_of x) ≡ true → filter p (map event_of ys) ≡ map event_of os → new ≡ os ++ x ∷ []
+    → filter p (map event_of (ys ++ x ∷ [])) ≡ map event_of new
+pushed p ys os new x h e n =
+    filter_push p ys x ∙ ap (λ b. filter p (map event_of ys) ++ cond b (event_of x ∷ []) []) h ∙ ap (λ l. l ++ event_of x ∷ []) e
+    ∙ sym (ap (map event_of) n ∙ map-append event_of os (x ∷ []))
+
+pub passed : (p : Event → Bool) (ys os : List EventComponent) (x : EventComponent) → p (event_of x) ≡ false → filter p (map event_of ys) ≡ map event_of os
+    → filter p (map event_of (ys ++ x ∷ [])) ≡ map event_of os
+passed p ys os x h e =
+    filter_push p ys x ∙ ap (λ b. filter p (map event_of ys) ++ cond b (event_of x ∷ []) []) h ∙ append-nil (filter p (map event_of ys)) ∙ e
+
+pub instant_pushed : (ts more : List ℤ) (os new : List EventComponent) (t : ℤ) (x : EventComponent) → x.recurrence ≡ Some t → map Some ts ≡ instants_said (map event_of os) → more ≡ ts ++ t ∷ []
+    → new ≡ os ++ x ∷ [] → map Some more ≡ instants_said (map event_of new)
+instant_pushed ts more os new t x r e m n =
+    ap (map Some) m ∙ map-append Some ts (t ∷ []) ∙ ap (λ l. l ++ Some t ∷ []) e ∙ ap (λ o. instants_said (map event_of os) ++ o ∷ []) (sym r)
+    ∙ sym (ap (λ l. instants_said (map event_of l)) n ∙ ap instants_said (map-append event_of os (x ∷ []))
+    ∙ map-append (λ (event : Event). event.recurrence) (map event_of os) (event_of x ∷ []))
+
+-- ---- an object
+
+never : (lines : List (List ℕ)) → list_any (λ _. false) lines ≡ false
+never [] = refl
+never (line ∷ lines) = never lines
+
+none_said : (object : Tree) (vs : List (List (List ℕ))) → AllZip (SaysEvent object false) vs [] → vs ≡ []
+none_said object [] z = refl
+none_said object (v ∷ vs) z = absurd z
+
+module _ (object : Tree) (vs : List (List (List ℕ))) (same : vevents object ≡ vs) where
+  pub among_there : (n : ℕ) → IsUnreadOrFaultAmong object purposes.Meeting vs n → MeetingFault object n
+  among_there n (lines, c, inl (_, h)) = absurd (true≢false (sym h ∙ never lines))
+  among_there n (lines, c, inr f) = in_event lines (subst (λ (x : List (List (List ℕ))). Contains x lines) (sym same) c) f
+
+  module _ (events : List Event) (zip : AllZip (SaysEvent object false) vs events) where
+    pub said : AllZip (SaysEvent object false) (vevents object) events
+    said = subst (λ (x : List (List (List ℕ))). AllZip (SaysEvent object false) x events) (sym same) zip
+
+    pub not_one_there : (n : ℕ) → IsNotOne events n → MeetingFault object n
+    not_one_there n (inl (is, none)) =
+        subst (MeetingFault object) (sym is) (no_event (none_said object (vevents object) (subst (λ (es : List Event). AllZip (SaysEvent object false) (vevents object) es) none said)))
+    not_one_there n (inr (is, not)) = subst (MeetingFault object) (sym is) (two_meetings events said not)
+
+    pub masters_there : (n : ℕ) → (n ≡ 53) × (1 < length (filter is_master events)) → MeetingFault object n
+    masters_there n (is, more) = subst (MeetingFault object) (sym is) (two_masters events said more)
+
+    module _ (overrides : List Event) (instants : List ℤ) (kept : filter is_override events ≡ overrides) (of_them : map Some instants ≡ instants_said overrides) where
+      pub twins_there : (AllPairs ◌≢◌ instants → ⊥) → MeetingFault object 54
+      twins_there not =
+          two_overrides events said
+          (λ differ. not (some_differ instants (subst (λ (os : List (Option ℤ)). AllPairs ◌≢◌ os) (sym of_them) (subst InstancesDiffer kept differ))))
+
+      pub meeting_there : (whole : Meeting) → 0 < length events → AreOfOne events → filter is_master events ≡ option_to_list whole.master → whole.overrides ≡ overrides
+          → AllPairs ◌≢◌ instants → SaysMeeting object whole
+      meeting_there whole some one master rest differ = record {
+        events = events;
+        says = said;
+        some = some;
+        one = one;
+        master = master;
+        overrides = kept ∙ sym rest;
+        differ = subst InstancesDiffer (sym rest) (subst (λ (os : List (Option ℤ)). AllPairs ◌≢◌ os) of_them (differ_some instants differ));
+      }
+
+-- the numbers of what stands between them
+pub not_one_number : (events : List Event) (n : ℕ) → IsNotOne events n → is_meeting_fault n ≡ true
+not_one_number events n (inl (is, _)) = ap is_meeting_fault is
+not_one_number events n (inr (is, _)) = ap is_meeting_fault is
+
+pub component_wider : (f : Fault) → RefusesOnly is_meeting_event_fault f → RefusesOnly is_meeting_fault f
+component_wider Memory h = tt
+component_wider (Refused r) h = wider (is_object_fault r.number) (is_meeting_event_fault r.number) _ _ _ h
+  where
+    wider : (a b c d e : Bool) → b ≡ true → (a || b || c || d || e) ≡ true
+    wider true true c d e h = refl
+    wider false true c d e h = refl
+    wider a false c d e h = absurd (cc)
+
+-- ---- octets
+
+pub meeting_spelled : (r : Result declared.Event Fault) (octets : List ℕ) (c : Component) → reads_as_lines true octets ≡ true → IsObjectOf true c (logical_lines octets)
+    → IfOk r (λ event. SaysMeeting (tree_of c) (said_meeting event)) → IfOk r (λ event. SpellsMeeting octets (said_meeting event))
+meeting_spelled (Ok event) octets c lines object says = record { lines = lines; tree = tree_of c; object = object_tree true c (logical_lines octets) object; says = says }
+meeting_spelled (Err f) octets c lines object says = tt
+
+pub fault_there : (octets : List ℕ) (c : Component) → IsObjectOf true c (logical_lines octets) → (f : Fault) → RefusesBy (MeetingFault (tree_of c)) f → RefusesBy (MeetingTextFault octets) f
+fault_there octets c object Memory h = tt
+fault_there octets c object (Refused r) h = in_vevents (tree_of c) (object_tree true c (logical_lines octets) object) h
+
+pub object_refused : (r : Result declared.Event Fault) (octets : List ℕ) (f : Fault) → IsErrAnd r (λ e. e ≡ f) → Stands true octets f → IfErr r (RefusesBy (MeetingTextFault octets))
+object_refused r octets f e h =
+    err_exit r (RefusesBy (MeetingTextFault octets)) f e
+    (no_object octets (MeetingTextFault octets) (λ t x. no_version t x.0 x.1) (λ t x. many_events t x.0 x.1) (λ n x. in_lines x) (λ n x. in_tree x) f h)

@@ -1,0 +1,167 @@
+//! An event with its instances: its master and its overrides (RFC 5545 3.8.4.4), read from one object whatever its METHOD.
+
+ghost use Rattle.std.specs.Prelude.{◌≡◌, ◌≢◌, ◌<◌, ◌⊎◌, ℕ, List, [], AllPairs, Some, length, get_or, map, filter, option_map, unwrap_or, ℤ, IfOk, IfErr, OnOk, MatchBool};
+ghost use Rattle.std.specs.Option.{option_to_list};
+ghost use Rattle.std.specs.List.{list_all};
+ghost use Rattle.ical_lines.specs.Fault.{RefusesOnly, RefusesBy};
+ghost use Rattle.ical_tree.specs.Tree.{tree_of};
+ghost use Rattle.profile.specs.rooms.Messages.{is_same_meeting};
+ghost use Rattle.profile.specs.events.Meetings.{Meeting, is_master, is_override, AreOfOne, SaysMeeting, SpellsMeeting, MeetingFault, MeetingTextFault, is_meeting_fault};
+ghost use Rattle.cal_events.specs.Events.{event_of};
+ghost use Rattle.cal_events.specs.Meetings.{said_meeting, instants_said, IsNotOne};
+
+use crate::component::{EventComponent, Purpose, one_event};
+use crate::reading::read_events;
+use ical_lines::{Fault, Limits, Refusal, Unfolded};
+use ical_tree::{Component, one_tree, read_object};
+use std::alloc::Global;
+
+/// An event with its instances.
+#[derive(Drop)]
+pub struct Event {
+    /// The VEVENT without RECURRENCE-ID, None where there is none.
+    pub master: Option<EventComponent>,
+    /// Those with one, each for another instance, in the order of the text.
+    pub overrides: Vec<EventComponent>,
+}
+
+impl Event {
+    /// The event that octets spell: an object of one UID and one ORGANIZER, whose METHOD isn't looked at.
+    /// Refused: 1 to 6 and 20 to 25 for the object, and as by `of_object`.
+    pub fn read(alloc: Global, bytes: &[u8]) -> Result<Event, Fault>
+        ensures spells { IfOk result (λ event. SpellsMeeting bytes.now (said_meeting event)) }
+        ensures refuses { IfErr result (RefusesOnly is_meeting_fault) }
+        ensures stands { IfErr result (RefusesBy (MeetingTextFault bytes.now)) }
+    {
+        let text = Unfolded::read(alloc, bytes, Limits::Message)?;
+        let object = read_object(alloc, &text, Limits::Message)?;
+        Event::of_object(alloc, &object)
+    }
+
+    /// The event of an object that was read.
+    /// Refused: as by `EventComponent::read` for a VEVENT; 66 where there is none; 62 for two UIDs or two ORGANIZERs; 53 for two
+    /// VEVENTs without RECURRENCE-ID; 54 for two that stand for one instance.
+    pub fn of_object(alloc: Global, object: &Component) -> Result<Event, Fault>
+        ensures says { IfOk result (λ event. SaysMeeting (tree_of object.now) (said_meeting event)) }
+        ensures refuses { IfErr result (RefusesOnly is_meeting_fault) }
+        ensures stands { IfErr result (RefusesBy (MeetingFault (tree_of object.now))) }
+    {
+        let components = read_events(alloc, object, Purpose::Meeting)?;
+        judge_meeting(&components)?;
+        let divided = Divided::of(alloc, components)?;
+        if has_twins(&divided.instants) {
+            return Err(Fault::Refused(Refusal::TWO_OVERRIDES));
+        }
+        Ok(divided.event)
+    }
+}
+
+/// Octets spell at most one event with its instances, and none where a fault stands in them.
+pub fn one_meeting()
+    ensures one { (octets : List ℕ) (a b : Meeting) → SpellsMeeting octets a → SpellsMeeting octets b → a ≡ b }
+    ensures or_a_fault { (octets : List ℕ) (a : Meeting) (n : ℕ) → SpellsMeeting octets a → MeetingTextFault octets n → ⊥ }
+{
+    one_tree();
+    one_event();
+}
+
+/// Refuses components that aren't those of one meeting.
+/// Refused: 66 where there is none, 62 for two UIDs or two ORGANIZERs.
+fn judge_meeting(components: &[EventComponent]) -> Result<(), Refusal>
+    ensures some { OnOk result (0 < length (map event_of components.now)) }
+    ensures one { OnOk result (AreOfOne (map event_of components.now)) }
+    ensures stands { IfErr result (λ e. IsNotOne (map event_of components.now) e.number) }
+{
+    let Some((first, others)) = components.split_first() else {
+        return Err(Refusal::NO_EVENT);
+    };
+    if !are_one_meeting(first, others) {
+        return Err(Refusal::TWO_MEETINGS);
+    }
+    Ok(())
+}
+
+fn are_one_meeting(first: &EventComponent, others: &[EventComponent]) -> bool
+    ensures { result ≡ list_all (λ other. is_same_meeting (event_of first.now) (event_of other)) others.now }
+{
+    others.iter().all(|other| is_same_meeting(first, other))
+}
+
+/// Whether both are of one UID and one ORGANIZER.
+fn is_same_meeting(a: &EventComponent, b: &EventComponent) -> bool
+    ensures { result ≡ is_same_meeting (event_of a.now) (event_of b.now) }
+{
+    a.uid.as_str() == b.uid.as_str() && organiser_text(a) == organiser_text(b)
+}
+
+/// The ORGANIZER's address; the empty text where there is none.
+fn organiser_text(component: &EventComponent) -> &str
+    ensures { result.now ≡ unwrap_or (event_of component.now).organiser [] }
+{
+    match &component.organiser {
+        Some(organiser) => organiser.as_str(),
+        None => "",
+    }
+}
+
+/// Components divided by RECURRENCE-ID.
+#[derive(Drop)]
+struct Divided {
+    event: Event,
+    /// The instants of the overrides, in their order.
+    instants: Vec<i64>,
+}
+
+impl Divided {
+    /// Refused: 53 for two without RECURRENCE-ID.
+    fn of(alloc: Global, components: Vec<EventComponent>) -> Result<Divided, Fault>
+        ensures master { IfOk result (λ d. filter is_master (map event_of components.items) ≡ option_to_list (option_map event_of d.event.master)) }
+        ensures overrides { IfOk result (λ d. filter is_override (map event_of components.items) ≡ map event_of d.event.overrides.items) }
+        ensures instants { IfOk result (λ d. map Some d.instants.items ≡ instants_said (map event_of d.event.overrides.items)) }
+        ensures stands { IfErr result (RefusesBy (λ n. (n ≡ 53) × (1 < length (filter is_master (map event_of components.items))))) }
+    {
+        let mut masters = Vec::new(alloc);
+        let mut overrides = Vec::new(alloc);
+        let mut instants = Vec::new(alloc);
+        for component in components {
+            if let Some(instant) = component.recurrence {
+                instants.push(instant)?;
+                overrides.push(component)?;
+            } else {
+                masters.push(component)?;
+            }
+        }
+        if masters.len() > 1 {
+            return Err(Fault::Refused(Refusal::TWO_MASTERS));
+        }
+        let master = masters.pop();
+        let event = Event { master, overrides };
+        Ok(Divided { event, instants })
+    }
+}
+
+/// Whether two of the instants are one.
+fn has_twins(instants: &[i64]) -> bool
+    ensures { MatchBool result (AllPairs ◌≢◌ instants.now → ⊥) (AllPairs ◌≢◌ instants.now) }
+{
+    for index in 0..instants.len() {
+        if has_earlier_twin(instants, index) {
+            return true;
+        }
+    }
+    false
+}
+
+/// Whether an earlier instant is the one at an index.
+fn has_earlier_twin(instants: &[i64], index: usize) -> bool
+    requires { index < length instants.now }
+    ensures { MatchBool result ((k : ℕ) × (d : ℤ) × (k < index) × (get_or instants.now k d ≡ get_or instants.now index d))
+        ((k : ℕ) (d : ℤ) → k < index → get_or instants.now k d ≢ get_or instants.now index d) }
+{
+    for earlier in 0..index {
+        if instants[earlier] == instants[index] {
+            return true;
+        }
+    }
+    false
+}

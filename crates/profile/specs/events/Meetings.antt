@@ -1,0 +1,85 @@
+-- A meeting: what the VEVENTs of an object say of it, its master and its overrides (RFC 5545 3.8.4.4, RFC 5546 3.2). METHOD isn't looked at.
+use Rattle.std.specs.Prelude.{◌≡◌, ◌≢◌, ℕ, ◌<◌, Contains, AllPairs, Bool, true, false, not, ◌||◌, ◌==◌, List, [], length, map, filter, codes, Option, is_some}
+use Rattle.std.specs.Option.{option_to_list}
+use Rattle.std.specs.List.{AllZip}
+use Rattle.profile.specs.faults.Faults.{is_between, is_object_fault, is_series_event_fault}
+use Rattle.profile.specs.text.Lines.{logical_lines, text_has, reads_as_lines}
+use Rattle.profile.specs.text.Objects.{SpellsTree, IsObject, has_version, lines_have, count_inside, most_events}
+use Rattle.profile.specs.text.Trees.{Tree, tree_name, tree_own, tree_inside, vevents}
+use Rattle.profile.specs.events.Events.{Event, SaysEvent, EventFault, meeting_said}
+
+-- the event stands for one instance of a meeting: it has a RECURRENCE-ID
+abbrev pub is_override : Event → Bool
+is_override event = is_some event.recurrence
+
+-- it is the master: it has none
+abbrev pub is_master : Event → Bool
+is_master event = not (is_override event)
+
+-- the event without RECURRENCE-ID, if there is one, and those with one, in the order of the text
+pub record Meeting : Type 0 where
+  pub master : Option Event
+  pub overrides : List Event
+
+-- all are of one UID and one ORGANIZER
+abbrev pub AreOfOne : List Event → Type 0
+AreOfOne events = (a b : Event) → Contains events a → Contains events b → meeting_said a ≡ meeting_said b
+
+-- no two stand for one instance
+abbrev pub InstancesDiffer : List Event → Type 0
+InstancesDiffer overrides = AllPairs ◌≢◌ (map (λ event. event.recurrence) overrides)
+
+-- an object says this meeting
+pub record SaysMeeting (object : Tree) (meeting : Meeting) : Type 0 where
+  pub events : List Event
+  pub says : AllZip (SaysEvent object false) (vevents object) events
+  pub some : 0 < length events
+  pub one : AreOfOne events
+  pub master : filter is_master events ≡ option_to_list meeting.master
+  pub overrides : filter is_override events ≡ meeting.overrides
+  pub differ : InstancesDiffer meeting.overrides
+
+-- the octets are one VCALENDAR, within the limits of a message, and say this meeting
+pub record SpellsMeeting (octets : List ℕ) (meeting : Meeting) : Type 0 where
+  pub lines : reads_as_lines true octets ≡ true
+  pub tree : Tree
+  pub object : IsObject tree_name tree_own tree_inside true tree (logical_lines octets)
+  pub says : SaysMeeting tree meeting
+
+-- ---- what can be wrong with it, by the number of its refusal
+
+-- a fault of one VEVENT of it
+abbrev pub is_meeting_event_fault : ℕ → Bool
+is_meeting_event_fault n = is_series_event_fault n || n == 65 || n == 67
+
+-- a fault of an object, of its VEVENTs or between them, or the want of one
+abbrev pub is_meeting_fault : ℕ → Bool
+is_meeting_fault n = is_object_fault n || is_meeting_event_fault n || is_between 53 54 n || n == 62 || n == 66
+
+-- the fault of this number stands in the VEVENTs of an object
+pub data MeetingFault (object : Tree) : ℕ → Type 0 where
+  -- one of them has this fault
+  in_event : {n : ℕ} → (lines : List (List ℕ)) → Contains (vevents object) lines → EventFault object false lines n → MeetingFault object n
+  two_masters : (events : List Event) → AllZip (SaysEvent object false) (vevents object) events → 1 < length (filter is_master events)
+      → MeetingFault object 53
+  two_overrides : (events : List Event) → AllZip (SaysEvent object false) (vevents object) events
+      → (InstancesDiffer (filter is_override events) → ⊥) → MeetingFault object 54
+  -- two UIDs or two ORGANIZERs
+  two_meetings : (events : List Event) → AllZip (SaysEvent object false) (vevents object) events → (AreOfOne events → ⊥) → MeetingFault object 62
+  no_event : vevents object ≡ [] → MeetingFault object 66
+
+-- the fault of this number stands in the octets
+pub data MeetingTextFault (octets : List ℕ) : ℕ → Type 0 where
+  -- 1 to 6: in a line
+  in_lines : {n : ℕ} → text_has true n octets ≡ true → MeetingTextFault octets n
+  -- 20 to 23: in how the lines pair up
+  in_tree : {n : ℕ} → lines_have n (logical_lines octets) ≡ true → MeetingTextFault octets n
+  -- VERSION doesn't stand once, or isn't `2.0`
+  no_version : (t : Tree) → SpellsTree tree_name tree_own tree_inside 7 t (logical_lines octets) → has_version (tree_own t) ≡ false
+      → MeetingTextFault octets 24
+  -- more VEVENTs than a message may have
+  many_events : (t : Tree) → SpellsTree tree_name tree_own tree_inside 7 t (logical_lines octets)
+      → most_events < count_inside tree_name tree_own tree_inside (codes "VEVENT") t → MeetingTextFault octets 25
+  -- in the VEVENTs of the object that stands there
+  in_vevents : {n : ℕ} → (t : Tree) → IsObject tree_name tree_own tree_inside true t (logical_lines octets) → MeetingFault t n
+      → MeetingTextFault octets n

@@ -1,0 +1,112 @@
+-- Which instance of a meeting a VEVENT stands for, which instants it adds to those of its rule and which it takes away, and whether it is
+-- cancelled (RFC 5545 3.8.4.4, 3.8.5.2, 3.8.5.1, 3.8.1.11). Instants are seconds from 1970-01-01T00:00:00Z. A VEVENT is its lines, beside
+-- the object that it stands in.
+use Rattle.std.specs.Prelude.{◌≡◌, ℕ, ◌<◌, ◌≤◌, ◌⊎◌, ◌==◌, ◌&&◌, ◌||◌, Bool, true, false, List, length, map, codes, Contains, Option, is_some, option_map, unwrap_or, ℤ}
+use Rattle.std.specs.List.{slice_split, flat_map, list_any, AllZip}
+use Rattle.std.specs.Str.{bytes_eq}
+use Rattle.profile.specs.text.Lines.{line_value, line_param, is_same_name}
+use Rattle.profile.specs.text.Trees.{Tree}
+use Rattle.profile.specs.series.Zones.{Zone, Means}
+use Rattle.profile.specs.events.Properties.{is_of, lines_named, StandsAtMostOnce, StandsTwice, SomeLine, Says}
+use Rattle.profile.specs.events.ZonedTimes.{is_in_zone, clock_of, IsInDates, SaysZonedText, SaysInDates, SaysOutOfDates, ZonedTextFault, ZonedTimeFault}
+
+-- ---- STATUS
+
+-- the event is cancelled where its STATUS is CANCELLED, caseless; another word, and none, leaves it as it is
+abbrev pub SaysStatus : List (List ℕ) → Bool → Type 0
+SaysStatus lines cancelled =
+    (line : Option (List ℕ)) × StandsAtMostOnce (codes "STATUS") lines line
+    × (cancelled ≡ unwrap_or (option_map (λ status. is_same_name (line_value status) (codes "CANCELLED")) line) false)
+
+-- ---- RECURRENCE-ID
+
+-- RANGE stands on the line; it isn't read
+abbrev pub has_range : List ℕ → Bool
+has_range line = is_some (line_param (codes "RANGE") line)
+
+-- the line says this instant, without RANGE
+abbrev pub IsRecurrenceLine : Tree → List ℕ → ℤ → Type 0
+IsRecurrenceLine object line instant = (has_range line ≡ false) × SaysInDates object line instant
+
+-- ---- RDATE and EXDATE
+
+-- a time of a list: its line and its own text. VALUE and TZID of the line are those of all its texts
+abbrev pub Entry : Type 0
+Entry = List ℕ × List ℕ
+
+-- the texts of a line, with commas between
+abbrev pub entries_of : List ℕ → List Entry
+entries_of line = map (λ text. (line, text)) (slice_split (λ c. c == 44) (line_value line))
+
+-- the times of all lines of a property are one list, in the order of the text
+abbrev pub entries_named : List ℕ → List (List ℕ) → List Entry
+entries_named name lines = flat_map entries_of (lines_named name lines)
+
+-- the most RDATEs of a VEVENT, and the most EXDATEs; this profile's choice
+abbrev pub most_entries : ℕ
+most_entries = 366
+
+-- a text of RDATE with `/` is a period, which isn't read
+abbrev pub is_period : List ℕ → List ℕ → Bool
+is_period name text = bytes_eq name (codes "RDATE") && list_any (λ c. c == 47) text
+
+-- a time of a list of that property says this instant
+abbrev pub IsListed : Tree → List ℕ → Entry → ℤ → Type 0
+IsListed object name (line, text) instant =
+    (is_period name text ≡ false)
+    × ((zone : Option Zone) × (local : ℤ) × SaysZonedText object line text zone local × Means (clock_of zone) local instant)
+
+-- it says this instant, in the dates that an event may name, or outside of them
+abbrev pub IsInside : Tree → Entry → ℤ → Type 0
+IsInside object (line, text) instant =
+    (zone : Option Zone) × (local : ℤ) × SaysZonedText object line text zone local × Means (clock_of zone) local instant
+    × IsInDates (is_in_zone line) local instant
+
+abbrev pub IsOutside : Tree → Entry → Type 0
+IsOutside object (line, text) =
+    (zone : Option Zone) × (local : ℤ) × (instant : ℤ) × SaysZonedText object line text zone local × Means (clock_of zone) local instant
+    × (IsInDates (is_in_zone line) local instant → ⊥)
+
+-- the times of a property are these instants
+abbrev pub Lists : Tree → List ℕ → List Entry → List ℤ → Type 0
+Lists object name entries instants = AllZip (IsListed object name) entries instants × (length instants ≤ most_entries)
+
+-- ---- together
+
+-- RRULE or RDATE stands beside RECURRENCE-ID: a single instance doesn't recur
+abbrev pub recurs_beside_recurrence : List (List ℕ) → Bool
+recurs_beside_recurrence lines =
+    list_any (is_of (codes "RECURRENCE-ID")) lines && list_any (λ line. is_of (codes "RRULE") line || is_of (codes "RDATE") line) lines
+
+-- the lines say which instance the VEVENT is, if it is one of a meeting, and what is added and taken away. What is taken away may lie in any
+-- year that a date has, 1 to 9999
+pub record SaysOccurrences (object : Tree) (lines : List (List ℕ)) (recurrence : Option ℤ) (additions exceptions : List ℤ) : Type 0 where
+  pub is : Says (codes "RECURRENCE-ID") false (IsRecurrenceLine object) lines recurrence
+  pub adds : Lists object (codes "RDATE") (entries_named (codes "RDATE") lines) additions
+  pub inside : AllZip (IsInside object) (entries_named (codes "RDATE") lines) additions
+  pub takes : Lists object (codes "EXDATE") (entries_named (codes "EXDATE") lines) exceptions
+  pub alone : recurs_beside_recurrence lines ≡ false
+
+-- ---- what can be wrong, by the number of its refusal
+
+-- in a time of a list: 56 for a period, else as in a start or an end
+abbrev pub EntryFault : Tree → List ℕ → Entry → ℕ → Type 0
+EntryFault object name (line, text) number =
+    ((is_period name text ≡ true) × (number ≡ 56)) ⊎ ((is_period name text ≡ false) × ZonedTextFault object line text number)
+
+-- in the times of a property
+pub data EntriesFault (object : Tree) (name : List ℕ) (entries : List Entry) : ℕ → Type 0 where
+  in_entry : {n : ℕ} → (entry : Entry) → Contains entries entry → EntryFault object name entry n → EntriesFault object name entries n
+  too_many : most_entries < length entries → EntriesFault object name entries 56
+
+-- the fault of this number stands in the lines of a VEVENT
+pub data OccurrenceFault (object : Tree) (lines : List (List ℕ)) : ℕ → Type 0 where
+  bad_recurrence : {n : ℕ} → SomeLine (codes "RECURRENCE-ID") (λ line. ZonedTimeFault object line n) lines → OccurrenceFault object lines n
+  bad_additions : {n : ℕ} → EntriesFault object (codes "RDATE") (entries_named (codes "RDATE") lines) n → OccurrenceFault object lines n
+  bad_exceptions : {n : ℕ} → EntriesFault object (codes "EXDATE") (entries_named (codes "EXDATE") lines) n → OccurrenceFault object lines n
+  -- outside of the dates that an event may name
+  recurrence_out : SomeLine (codes "RECURRENCE-ID") (SaysOutOfDates object) lines → OccurrenceFault object lines 52
+  additions_out : (entry : Entry) → Contains (entries_named (codes "RDATE") lines) entry → IsOutside object entry → OccurrenceFault object lines 52
+  two_recurrences : StandsTwice (codes "RECURRENCE-ID") lines → OccurrenceFault object lines 61
+  ranged : SomeLine (codes "RECURRENCE-ID") (λ line. has_range line ≡ true) lines → OccurrenceFault object lines 65
+  recurs : recurs_beside_recurrence lines ≡ true → OccurrenceFault object lines 67
