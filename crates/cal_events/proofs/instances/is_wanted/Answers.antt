@@ -15,5 +15,5 @@ returns c =
     let t = to_z w64 (of_z w64 c.args.instant) in
     let d = Decides-contains xs t c.contains.result (contains_decides int_eq Decides-int_eq xs t c.contains.result c.contains.ensures.cases) in
     wanted_unless (event_of c.args.master.now) (map event_of c.args.overrides.now) c.args.after c.args.instant xs c.is_overridden.result
-    (rw same at (c.admits.ensures.0 c.if-not-admits.false)) (omega (arith, ints, c.if-instant-lt-FIRST_SECOND.false), omega (arith, ints, c.if-instant-ge-HORIZON.false))
+    (rw same at (c.admits.ensures.0 c.if-not-admits.false)) (omega (arith, ints), omega (arith, ints))
     c.deref.ensures.value (λ x. true≢false (sym (d.1 (rw same x)) ∙ c.if-contains.false)) (rw same at c.is_overridden.ensures)
