@@ -94,7 +94,7 @@ say object = record {
     duration_line = Some (codes "DURATION:PT90M");
     end_once = refl;
     duration_once = refl;
-    lasts = (ninety_minutes, λ h. no_need h);
+    lasts = ninety_minutes;
     most = omega arith;
     in_dates = (omega (arith, ints), omega (arith, ints), omega (arith, ints));
   };

@@ -29,3 +29,5 @@ pub mod ClashLemmas
 pub mod Distinct
 pub mod SweepLemmas
 mod Worked
+mod InstanceLemmas
+mod Clocks

@@ -27,7 +27,8 @@ use Rattle.profile.specs.rooms.Messages.{is_same_meeting}
 use Rattle.profile.specs.events.Meetings.{Meeting, is_master, is_override, is_meeting_fault, is_meeting_event_fault, AreOfOne, InstancesDiffer, SaysMeeting, SpellsMeeting, MeetingFault, in_event, two_masters, two_overrides, no_event, two_meetings, MeetingTextFault, in_lines, in_tree, no_version, many_events, in_vevents}
 use Rattle.cal_events.specs.Events.{event_of, IsUnreadOrFaultAmong}
 use Rattle.cal_events.specs.declared.component.EventComponent.{EventComponent}
-use Rattle.cal_events.specs.Meetings.{said_meeting, instants_said, IsNotOne}
+use Rattle.cal_events.specs.Meetings.{instants_said, IsNotOne}
+use Rattle.cal_events.specs.SaidMeetings.{said_meeting}
 use Rattle.cal_events.specs.declared.component.Purpose.TheVariants as purposes
 use Rattle.cal_events.specs.declared.event.Event as declared
 use Rattle.cal_events.proofs.ObjectFaults.{no_object}

@@ -13,7 +13,7 @@ use Rattle.profile.specs.text.Lines.{line_param, line_value, is_same_name}
 use Rattle.profile.specs.text.Trees.{Tree}
 use Rattle.profile.specs.series.ZoneTexts.{PartsFault, no_part, in_part, ruled, other_parts, unruled, unmatched, close, TimesFault, dates, missing, twice as part_twice, fixed, bad_start as bad_part, bad_from, bad_to}
 use Rattle.profile.specs.events.Properties.{TimeKind, DateTime, Date, Period, Other, time_kind, UnfixedOrMalformed, IsDateText, IsLocalText, KindFault, ends_in_z, is_of, lines_named}
-use Rattle.profile.specs.events.ZonedTimes.{is_in_zone, zone_named, DateOrMalformed, LocalFault, NamedFault, FaultIn, ZonedTimeFault, EventTimesFault, bad_start, bad_end, bad_duration, ends_early, ends_late, lasts_long, starts_out, ends_out, no_start, twice as times_twice, end_and_duration, nominal}
+use Rattle.profile.specs.events.ZonedTimes.{is_in_zone, zone_named, DateOrMalformed, LocalFault, NamedFault, FaultIn, ZonedTimeFault, EventTimesFault, bad_start, bad_end, bad_duration, ends_early, ends_late, lasts_long, starts_out, ends_out, no_start, twice as times_twice, end_and_duration}
 use Rattle.profile.specs.series.RuleTexts.{RuleFault, unknown, bad_value, no_frequency, two_frequencies, twice as rule_twice, apart, two_ends}
 use Rattle.profile.specs.events.EventRules.{EventRuleFault, bad_rule, starts_outside, two_rules}
 use Rattle.profile.specs.events.Occurrences.{recurs_beside_recurrence, Entry, EntryFault, entries_of, entries_named, EntriesFault, in_entry, too_many, OccurrenceFault, bad_recurrence, bad_additions, bad_exceptions, recurrence_out, additions_out, two_recurrences, ranged, recurs}
@@ -99,7 +99,6 @@ times_number object lines n (ends_out l) = refl
 times_number object lines n (no_start h) = refl
 times_number object lines n (times_twice name c h) = refl
 times_number object lines n (end_and_duration e d) = refl
-times_number object lines n (nominal s d) = refl
 
 pub times_refused : (object : Tree) (lines : Lines) (f : Fault) → RefusesBy (EventTimesFault object lines) f → RefusesOnly is_zoned_event_fault f
 times_refused object lines Memory h = tt
@@ -154,7 +153,6 @@ read_times object lines n h (ends_out l) = refl
 read_times object lines n h (no_start x) = refl
 read_times object lines n h (times_twice name c x) = refl
 read_times object lines n h (end_and_duration e d) = refl
-read_times object lines n h (nominal s d) = absurd (true≢false (sym s.2 ∙ read_start lines s.0 s.1 h))
 
 -- a rule that is read stands on no line
 read_rule : (lines : Lines) (line : List ℕ) → Contains (lines_named (codes "RRULE") lines) line → has_unread lines ≡ false → ⊥

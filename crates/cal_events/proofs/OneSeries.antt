@@ -6,8 +6,9 @@ use Rattle.ical_lines.proofs.ContentLemmas.{read_fine}
 use Rattle.ical_tree.proofs.OneLine.{at_one}
 use Rattle.profile.specs.text.Lines.{logical_lines}
 use Rattle.profile.specs.text.Trees.{Tree, vevents}
+use Rattle.profile.specs.events.ZonedTimes.{HasNominalLength}
 use Rattle.profile.specs.events.Events.{Event, SaysEvent, names_instances}
-use Rattle.profile.specs.events.Series.{SaysSeries, SpellsSeries, SeriesFault, in_event, no_event, several, not_yet, SeriesTextFault, in_lines, in_tree, no_version, many_events, in_vevents}
+use Rattle.profile.specs.events.Series.{SaysSeries, SpellsSeries, SeriesFault, in_event, no_event, several, not_yet, nominal, SeriesTextFault, in_lines, in_tree, no_version, many_events, in_vevents}
 use Rattle.cal_events.proofs.OneCalendar.{OneEvent, NoFault}
 use Rattle.cal_events.proofs.OneText.{OneTree, PairsUp}
 use Rattle.cal_events.proofs.ObjectFaults.{has_version_only, has_few_events}
@@ -33,6 +34,7 @@ no_series_fault none object a n s (in_event lines c f) = none object false lines
 no_series_fault none object a n s (no_event h) = let e : 1 ≡ 0 = sym (ap length s.one) ∙ ap length h in absurd (omega (arith, e))
 no_series_fault none object a n s (several h) = let e : length (vevents object) ≡ 1 = ap length s.one in absurd (omega (arith, e, h))
 no_series_fault none object a n s (not_yet lines c h) = true≢false (sym h ∙ (ap names_instances (sym (its_lines object a s lines c)) ∙ s.read))
+no_series_fault none object a n s (nominal lines c h) = s.exact (subst HasNominalLength (sym (its_lines object a s lines c)) h)
 
 -- ---- octets
 

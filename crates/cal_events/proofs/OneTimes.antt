@@ -9,7 +9,7 @@ use Rattle.profile.specs.text.Trees.{Tree}
 use Rattle.profile.specs.text.Values.{SpellsDuration, SpellsNegative}
 use Rattle.profile.specs.series.Zones.{Zone, Constant, IsOneMeaning, Means}
 use Rattle.profile.specs.events.Properties.{lines_named, StandsAtMostOnce, SomeLine, Length, length_seconds, LastsFor, IsNegativeOrLong}
-use Rattle.profile.specs.events.ZonedTimes.{zone_named, is_in_zone, SaysZoneOf, SpellsZoned, SaysZonedText, SaysZonedTime, clock_of, SaysInstant, IsInDates, SaysInDates, SaysOutOfDates, ZonedTextFault, EventTimes, LastsUntil, LastsSo, SaysEventTimes, StartAndEndLie, HasDays, names_of_times, EventTimesFault, bad_start, bad_end, bad_duration, ends_early, ends_late, lasts_long, starts_out, ends_out, no_start, twice, end_and_duration, nominal}
+use Rattle.profile.specs.events.ZonedTimes.{zone_named, is_in_zone, SaysZoneOf, SpellsZoned, SaysZonedText, SaysZonedTime, clock_of, SaysInstant, IsInDates, SaysInDates, SaysOutOfDates, ZonedTextFault, EventTimes, LastsUntil, LastsSo, SaysEventTimes, StartAndEndLie, names_of_times, EventTimesFault, bad_start, bad_end, bad_duration, ends_early, ends_late, lasts_long, starts_out, ends_out, no_start, twice, end_and_duration}
 use Rattle.profile.specs.events.Occurrences.{IsOutside}
 use Rattle.ical_tree.proofs.OneLine.{IsFunctional, same_option, only_line}
 use Rattle.cal_events.proofs.Meanings.{one_meaning}
@@ -90,13 +90,13 @@ length_same a b p q = λ i. record { days = p i; seconds = q i }
 length_one : OneDuration → IsFunctional LastsFor
 length_one one line a b h k = let e = one (line_value line) a.days a.seconds b.days b.seconds h k in length_same a b e.0 e.1
 
-same_length : OneZonedTime → OneDuration → (object : Tree) (in_zone : Bool) (start : ℤ) (e d : Option (List ℕ)) (a b : Length) → LastsSo object in_zone start e d a → LastsSo object in_zone start e d b → a ≡ b
-same_length one two object in_zone start None None a b h k = h ∙ sym k
-same_length one two object in_zone start None (Some l) a b h k = length_one two l a b h.0 k.0
-same_length one two object in_zone start (Some l) None a b h k =
+same_length : OneZonedTime → OneDuration → (object : Tree) (start : ℤ) (e d : Option (List ℕ)) (a b : Length) → LastsSo object start e d a → LastsSo object start e d b → a ≡ b
+same_length one two object start None None a b h k = h ∙ sym k
+same_length one two object start None (Some l) a b h k = length_one two l a b h k
+same_length one two object start (Some l) None a b h k =
     let e = one_instant one object l (start +ℤ pos a.seconds) (start +ℤ pos b.seconds) (dated object l _ h.1) (dated object l _ k.1) in
     length_same a b (h.0 ∙ sym k.0) (omega (arith, ints))
-same_length one two object in_zone start (Some l) (Some o) a b h k = absurd h
+same_length one two object start (Some l) (Some o) a b h k = absurd h
 
 -- ---- one event's times
 
@@ -111,12 +111,12 @@ one_times one two object lines a b s t =
     let start = one_instant one object t.line a.start b.start (a.zone, a.local, says, s.means) (b.zone, b.local, t.says, t.means) in
     let end = same_line (codes "DTEND") lines s.end_line t.end_line s.end_once t.end_once in
     let duration = same_line (codes "DURATION") lines s.duration_line t.duration_line s.duration_once t.duration_once in
-    let lasts : LastsSo object (is_in_zone t.line) b.start t.end_line t.duration_line a.length =
-    subst (λ (d : Option (List ℕ)). LastsSo object (is_in_zone t.line) b.start t.end_line d a.length) duration
-    (subst (λ (x : Option (List ℕ)). LastsSo object (is_in_zone t.line) b.start x s.duration_line a.length) end
-    (subst (λ (x : ℤ). LastsSo object (is_in_zone t.line) x s.end_line s.duration_line a.length) start
-    (subst (λ (l : List ℕ). LastsSo object (is_in_zone l) a.start s.end_line s.duration_line a.length) line s.lasts))) in
-    times_same a b e.0 e.1 start (same_length one two object (is_in_zone t.line) b.start t.end_line t.duration_line a.length b.length lasts t.lasts)
+    let lasts : LastsSo object b.start t.end_line t.duration_line a.length =
+    subst (λ (d : Option (List ℕ)). LastsSo object b.start t.end_line d a.length) duration
+    (subst (λ (x : Option (List ℕ)). LastsSo object b.start x s.duration_line a.length) end
+    (subst (λ (x : ℤ). LastsSo object x s.end_line s.duration_line a.length) start
+    (subst (λ (l : List ℕ). LastsSo object a.start s.end_line s.duration_line a.length) line s.lasts))) in
+    times_same a b e.0 e.1 start (same_length one two object b.start t.end_line t.duration_line a.length b.length lasts t.lasts)
 
 -- ---- no fault stands where times are said
 
@@ -129,19 +129,19 @@ module _ (one : OneZonedTime) (none : NoTimeFault) (two : OneDuration) (apart : 
   end_said : (P : List ℕ → Type 0) (l : SomeLine (codes "DTEND") P lines) → LastsUntil object times.start l.0 times.length
   end_said P l = go s.end_line s.duration_line (only_line (codes "DTEND") lines s.end_line l.0 s.end_once l.1) s.lasts
     where
-      go : (e d : Option (List ℕ)) → e ≡ Some l.0 → LastsSo object (is_in_zone s.line) times.start e d times.length → LastsUntil object times.start l.0 times.length
+      go : (e d : Option (List ℕ)) → e ≡ Some l.0 → LastsSo object times.start e d times.length → LastsUntil object times.start l.0 times.length
       go None d h lasts = cc
       go (Some x) (Some o) h lasts = absurd lasts
       go (Some x) None h lasts = subst (λ (y : List ℕ). LastsUntil object times.start y times.length) (same_Some x l.0 h) lasts
 
   -- the DURATION that stands
-  duration_said : (P : List ℕ → Type 0) (l : SomeLine (codes "DURATION") P lines) → LastsFor l.0 times.length × (is_in_zone s.line ≡ true → times.length.days ≡ 0)
+  duration_said : (P : List ℕ → Type 0) (l : SomeLine (codes "DURATION") P lines) → LastsFor l.0 times.length
   duration_said P l = go s.end_line s.duration_line (only_line (codes "DURATION") lines s.duration_line l.0 s.duration_once l.1) s.lasts
     where
-      go : (e d : Option (List ℕ)) → d ≡ Some l.0 → LastsSo object (is_in_zone s.line) times.start e d times.length → LastsFor l.0 times.length × (is_in_zone s.line ≡ true → times.length.days ≡ 0)
+      go : (e d : Option (List ℕ)) → d ≡ Some l.0 → LastsSo object times.start e d times.length → LastsFor l.0 times.length
       go e None h lasts = cc
       go (Some x) (Some o) h lasts = absurd lasts
-      go None (Some o) h lasts = (subst (λ (y : List ℕ). LastsFor y times.length) (same_Some o l.0 h) lasts.0, lasts.1)
+      go None (Some o) h lasts = subst (λ (y : List ℕ). LastsFor y times.length) (same_Some o l.0 h) lasts
 
   -- the start and the end that stand are those of the times
   ends_said : (R : ℤ → ℤ → Type 0) → StartAndEndLie object R lines → R times.start (times.start +ℤ pos times.length.seconds)
@@ -162,16 +162,16 @@ module _ (one : OneZonedTime) (none : NoTimeFault) (two : OneDuration) (apart : 
   pub no_times_fault : (n : ℕ) → EventTimesFault object lines n → ⊥
   no_times_fault n (bad_start l) = none object l.0 (line_value l.0) times.zone times.local n (subst (λ (x : List ℕ). SaysZonedTime object x times.zone times.local) (start_is _ l) s.says) l.2
   no_times_fault n (bad_end l) = let until = end_said _ l in none object l.0 (line_value l.0) until.1.0 until.1.1 n until.1.2 l.2
-  no_times_fault n (bad_duration l) = l.2.0 times.length.days times.length.seconds (duration_said _ l).0
+  no_times_fault n (bad_duration l) = l.2.0 times.length.days times.length.seconds (duration_said _ l)
   no_times_fault n (ends_early x) = let h = ends_said (λ start end. end <ℤ start) x in absurd (omega (arith, ints))
   no_times_fault n (ends_late x) =
       let h = ends_said (λ start end. (start +ℤ pos 31_622_400) <ℤ end) x in
       let most : 86_400 * times.length.days + times.length.seconds ≤ 31_622_400 = s.most in
       absurd (omega (arith, ints))
   no_times_fault n (lasts_long (line, at, inl negative)) =
-      apart (line_value line) times.length.days times.length.seconds (duration_said IsNegativeOrLong (line, at, inl negative)).0 negative
+      apart (line_value line) times.length.days times.length.seconds (duration_said IsNegativeOrLong (line, at, inl negative)) negative
   no_times_fault n (lasts_long (line, at, inr (length, lasts, long))) =
-      let e = length_one two line times.length length (duration_said IsNegativeOrLong (line, at, inr (length, lasts, long))).0 lasts in
+      let e = length_one two line times.length length (duration_said IsNegativeOrLong (line, at, inr (length, lasts, long))) lasts in
       let most : length_seconds length ≤ 31_622_400 = subst (λ (x : Length). length_seconds x ≤ 31_622_400) e s.most in
       absurd (omega arith)
   no_times_fault n (starts_out l) =
@@ -182,14 +182,7 @@ module _ (one : OneZonedTime) (none : NoTimeFault) (two : OneDuration) (apart : 
   no_times_fault n (end_and_duration e d) =
       go s.end_line s.duration_line (only_line (codes "DTEND") lines s.end_line e.0 s.end_once e.1) (only_line (codes "DURATION") lines s.duration_line d.0 s.duration_once d.1) s.lasts
     where
-      go : (x y : Option (List ℕ)) → x ≡ Some e.0 → y ≡ Some d.0 → LastsSo object (is_in_zone s.line) times.start x y times.length → ⊥
+      go : (x y : Option (List ℕ)) → x ≡ Some e.0 → y ≡ Some d.0 → LastsSo object times.start x y times.length → ⊥
       go None y h k is = cc
       go (Some x) None h k is = cc
       go (Some x) (Some y) h k is = is
-  no_times_fault n (nominal first (line, at, (length, lasts, some))) =
-      let zoned : is_in_zone s.line ≡ true = ap is_in_zone (start_is _ first) ∙ first.2 in
-      let said = duration_said HasDays (line, at, (length, lasts, some)) in
-      let e = length_one two line times.length length said.0 lasts in
-      let d : times.length.days ≡ length.days = ap (λ (x : Length). x.days) e in
-      let z = said.1 zoned in
-      absurd (omega (arith, d, z, some))

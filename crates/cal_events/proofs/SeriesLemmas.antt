@@ -13,8 +13,9 @@ use Rattle.ical_values.proofs.Exits.{err_exit}
 use Rattle.cal_events.proofs.ObjectFaults.{no_object}
 use Rattle.profile.specs.text.Lines.{logical_lines, reads_as_lines}
 use Rattle.profile.specs.text.Trees.{Tree, vevents}
+use Rattle.profile.specs.events.ZonedTimes.{HasNominalLength}
 use Rattle.profile.specs.events.Events.{SaysEvent, names_instances}
-use Rattle.profile.specs.events.Series.{SaysSeries, SpellsSeries, SeriesFault, in_event, no_event, several, not_yet, SeriesTextFault, in_lines, in_tree, no_version, many_events, in_vevents}
+use Rattle.profile.specs.events.Series.{SaysSeries, SpellsSeries, SeriesFault, in_event, no_event, several, not_yet, nominal, SeriesTextFault, in_lines, in_tree, no_version, many_events, in_vevents}
 use Rattle.cal_events.specs.declared.component.EventComponent.{EventComponent}
 use Rattle.cal_events.specs.declared.component.Purpose.TheVariants.{Series}
 use Rattle.cal_events.specs.Events.{event_of, IsUnreadOrFault, IsNotOneEvent}
@@ -33,9 +34,13 @@ module _ (object : Tree) (vs : List Lines) (lines : Lines) (same : vevents objec
   there = subst (λ (xs : List Lines). Contains xs lines) (sym (same ∙ one)) (zero, omega arith, refl)
 
   pub series_said : (r : Result EventComponent Fault) → IfOk r (λ event. SaysEvent object false lines (event_of event)) → OnOk r (names_instances lines ≡ false)
-      → IfOk r (λ event. SaysSeries object (event_of event))
-  series_said (Ok event) says read = record { lines = lines; one = same ∙ one; read = read; says = says }
-  series_said (Err f) says read = tt
+      → (HasNominalLength lines → ⊥) → IfOk r (λ event. SaysSeries object (event_of event))
+  series_said (Ok event) says read exact = record { lines = lines; one = same ∙ one; read = read; exact = exact; says = says }
+  series_said (Err f) says read exact = tt
+
+  pub nominal_fault : (f : Fault) → RefusesBy (λ n. (n ≡ 99) × HasNominalLength lines) f → RefusesBy (SeriesFault object) f
+  nominal_fault Memory h = tt
+  nominal_fault (Refused r) h = subst (SeriesFault object) (sym h.0) (nominal lines there h.1)
 
   pub series_fault : (f : Fault) → RefusesBy (IsUnreadOrFault object Series lines) f → RefusesBy (SeriesFault object) f
   series_fault Memory h = tt

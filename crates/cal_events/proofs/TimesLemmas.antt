@@ -6,13 +6,13 @@ use Rattle.profile.specs.text.Trees.{Tree}
 use Rattle.profile.specs.text.Lines.{line_value}
 use Rattle.profile.specs.text.Values.{SpellsDuration, SpellsNegative, SpellsLong}
 use Rattle.profile.specs.events.Properties.{StandsAtMostOnce, SomeLine, length_seconds, IsNoDuration, IsNegativeOrLong}
-use Rattle.profile.specs.events.ZonedTimes.{EventTimes, LastsSo, SaysInstant, SaysInDates, SaysOutOfDates, SaysEventTimes, EventTimesFault, is_in_zone, HasDays, bad_duration, ends_early, ends_late, ends_out, lasts_long, starts_out, nominal}
+use Rattle.profile.specs.events.ZonedTimes.{EventTimes, LastsSo, SaysInstant, SaysInDates, SaysOutOfDates, SaysEventTimes, EventTimesFault, bad_duration, ends_early, ends_late, ends_out, lasts_long, starts_out}
 use Rattle.cal_events.specs.declared.event_times.Extent.{Extent}
 use Rattle.cal_events.specs.declared.event_times.Extent.TheVariants.{ToEnd, For}
 use Rattle.cal_events.specs.declared.event_times.SaidTimes.{SaidTimes}
 use Rattle.ical_values.specs.declared.duration.Duration.{Duration}
 use Rattle.cal_events.specs.Events.{length_of, zone_said, GivesLength, ExtentFault, ends_early as lies_before, ends_late as lies_late, lasts_long as is_long}
-use Rattle.cal_events.specs.Zoned.{LastsGiven, EndsSo, IsExtentIn, IsExact, IsNominal, AreSaid}
+use Rattle.cal_events.specs.Zoned.{LastsGiven, EndsSo, IsExtentIn, AreSaid}
 use Rattle.cal_events.proofs.EventLemmas.{some_line, IsNone, long_length}
 
 abbrev Lines : Type 0
@@ -27,25 +27,11 @@ long_given object lines start d None once is h =
 long_given object lines start d (Some line) once is h =
     lasts_long (some_line (codes "DURATION") IsNegativeOrLong lines line once (inr (length_of d, is, h)))
 
-days_given : (object : Tree) (lines : Lines) (start : ℤ) (begin : List ℕ) (d : Duration) (line : Option (List ℕ)) → StandsAtMostOnce (codes "DTSTART") lines (Some begin)
-    → StandsAtMostOnce (codes "DURATION") lines line → LastsGiven line (length_of d) → is_in_zone begin ≡ true → 0 < d.days → EventTimesFault object lines 99
-days_given object lines start begin d None first once is zoned h =
-    let zero' : d.days ≡ 0 = ap (λ l. l.days) is in
-    absurd (omega arith)
-days_given object lines start begin d (Some line) first once is zoned h =
-    nominal (some_line (codes "DTSTART") (λ l. is_in_zone l ≡ true) lines begin first zoned) (some_line (codes "DURATION") HasDays lines line once (length_of d, is, h))
-
-pub nominal_given : (object : Tree) (lines : Lines) (start : ℤ) (ends_in : Bool) (begin : List ℕ) (extent : Extent) → StandsAtMostOnce (codes "DTSTART") lines (Some begin)
-    → IsExtentIn object lines start ends_in extent → IsNominal (is_in_zone begin) extent → EventTimesFault object lines 99
-nominal_given object lines start ends_in begin (ToEnd s) first x h = absurd h
-nominal_given object lines start ends_in begin (For d) first (line, none, once, is, within) (zoned, h) = days_given object lines start begin d line first once is zoned h
-
 -- ---- the times together
 
-lasted : (object : Tree) (in_zone : Bool) (start : ℤ) (d : Duration) (line : Option (List ℕ)) → LastsGiven line (length_of d) → (in_zone ≡ true → d.days ≡ 0)
-    → LastsSo object in_zone start None line (length_of d)
-lasted object in_zone start d None is exact = is
-lasted object in_zone start d (Some line) is exact = (is, exact)
+lasted : (object : Tree) (start : ℤ) (d : Duration) (line : Option (List ℕ)) → LastsGiven line (length_of d) → LastsSo object start None line (length_of d)
+lasted object start d None is = is
+lasted object start d (Some line) is = is
 
 abbrev judged : SaidTimes → ℤ → Duration → EventTimes
 judged said start length = record { zone = zone_said said.start; local = said.start.local; start = start; length = length_of length }
@@ -57,10 +43,10 @@ ends_within object line instant ends_in (zone, local, says, means, dates) within
 pub times_said : (object : Tree) (lines : Lines) (said : SaidTimes) (length : Duration) (start : ℤ) → start ≡ said.instant → AreSaid object lines said → GivesLength said.extent length
     → length_seconds (length_of length) ≤ 31_622_400 → IsTrue said.starts_in → IsTrue said.ends_in → SaysEventTimes object lines (judged said start length)
 times_said object lines said length start same a gives most starts_in ends_in =
-    subst (λ (t : ℤ). SaysEventTimes object lines (judged said t length)) (sym same) (go said.extent a.extent a.exact gives)
+    subst (λ (t : ℤ). SaysEventTimes object lines (judged said t length)) (sym same) (go said.extent a.extent gives)
   where
-    go : (extent : Extent) → IsExtentIn object lines said.instant said.ends_in extent → IsExact (is_in_zone a.line) extent → GivesLength extent length → SaysEventTimes object lines (judged said said.instant length)
-    go (ToEnd s) (line, once, none, time) exact (days, seconds) = record {
+    go : (extent : Extent) → IsExtentIn object lines said.instant said.ends_in extent → GivesLength extent length → SaysEventTimes object lines (judged said said.instant length)
+    go (ToEnd s) (line, once, none, time) (days, seconds) = record {
       line = a.line;
       once = a.once;
       says = a.says;
@@ -73,7 +59,7 @@ times_said object lines said length start same a gives most starts_in ends_in =
       most = most;
       in_dates = a.starts.0 starts_in;
     }
-    go (For d) (line, none, once, is, no_end) exact e = record {
+    go (For d) (line, none, once, is, no_end) e = record {
       line = a.line;
       once = a.once;
       says = a.says;
@@ -82,7 +68,7 @@ times_said object lines said length start same a gives most starts_in ends_in =
       duration_line = line;
       end_once = none;
       duration_once = once;
-      lasts = subst (λ (x : Duration). LastsSo object (is_in_zone a.line) said.instant None line (length_of x)) (sym e) (lasted object (is_in_zone a.line) said.instant d line is exact);
+      lasts = subst (λ (x : Duration). LastsSo object said.instant None line (length_of x)) (sym e) (lasted object said.instant d line is);
       most = most;
       in_dates = a.starts.0 starts_in;
     }

@@ -6,3 +6,6 @@ pub mod Zones
 pub mod Zoned
 pub mod Occurrences
 pub mod Meetings
+pub mod SaidMeetings
+pub mod Instances
+pub mod Left

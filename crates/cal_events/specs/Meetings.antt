@@ -1,12 +1,7 @@
--- What an event with its instances stands for.
-use Rattle.std.specs.Prelude.{◌≡◌, ◌⊎◌, ℕ, List, [], map, option_map, Option, ℤ}
+-- Which instances events stand for, and whether they are of one meeting.
+use Rattle.std.specs.Prelude.{◌≡◌, ◌⊎◌, ℕ, List, [], map, Option, ℤ}
 use Rattle.profile.specs.events.Events as profile
-use Rattle.profile.specs.events.Meetings.{Meeting, AreOfOne}
-use Rattle.cal_events.specs.Events.{event_of}
-use Rattle.cal_events.specs.declared.event.Event.{Event}
-
-abbrev pub said_meeting : Event → Meeting
-said_meeting e = record { master = option_map event_of e.master; overrides = map event_of e.overrides.items }
+use Rattle.profile.specs.events.Meetings.{AreOfOne}
 
 -- which instances events stand for
 abbrev pub instants_said : List profile.Event → List (Option ℤ)

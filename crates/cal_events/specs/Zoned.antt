@@ -1,5 +1,5 @@
 -- What the readers of times in zones see of components.
-use Rattle.std.specs.Prelude.{◌≡◌, ◌↔◌, ℕ, ◌<◌, Bool, true, false, IsTrue, List, codes, Option, Some, None, ℤ, ◌+ℤ◌}
+use Rattle.std.specs.Prelude.{◌≡◌, ◌↔◌, ℕ, Bool, true, false, IsTrue, List, codes, Option, Some, None, ℤ, pos, negsuc, ◌≤ℤ◌, ◌+ℤ◌}
 use Rattle.profile.specs.text.Trees.{Tree}
 use Rattle.profile.specs.series.Zones.{Zone, Means}
 use Rattle.profile.specs.text.Lines.{line_value}
@@ -33,15 +33,6 @@ IsExtentIn object lines start in_dates (For duration) =
     (line : Option (List ℕ)) × StandsAtMostOnce (codes "DTEND") lines None × StandsAtMostOnce (codes "DURATION") lines line
     × LastsGiven line (length_of duration) × (in_dates ≡ true)
 
--- in a zone a DURATION has no days
-abbrev pub IsExact : Bool → Extent → Type 0
-IsExact in_zone (ToEnd _) = Unit {0}
-IsExact in_zone (For duration) = in_zone ≡ true → duration.days ≡ 0
-
-abbrev pub IsNominal : Bool → Extent → Type 0
-IsNominal in_zone (ToEnd _) = ⊥
-IsNominal in_zone (For duration) = (in_zone ≡ true) × (0 < duration.days)
-
 -- what DTSTART, DTEND and DURATION say
 pub record AreSaid (object : Tree) (lines : List (List ℕ)) (said : SaidTimes) : Type 0 where
   pub line : List ℕ
@@ -50,7 +41,6 @@ pub record AreSaid (object : Tree) (lines : List (List ℕ)) (said : SaidTimes) 
   pub means : Means (clock_of (zone_said said.start)) said.start.local said.instant
   pub starts : IsTrue said.starts_in ↔ IsInDates (is_in_zone line) said.start.local said.instant
   pub extent : IsExtentIn object lines said.instant said.ends_in said.extent
-  pub exact : IsExact (is_in_zone line) said.extent
 
 -- a line of RRULE spells this rule
 abbrev pub IsRuleText : List ℕ → RuleText → Type 0
@@ -59,3 +49,7 @@ IsRuleText line text = SpellsRule (line_value line) text
 -- what RRULE says by itself
 abbrev pub IsRuleSaid : List (List ℕ) → SaidRule → Type 0
 IsRuleSaid lines said = Says (codes "RRULE") false IsRuleText lines said.text
+
+-- seconds of some ten million years on each side, where no sum of a few of them goes past 64 bits
+abbrev pub IsInYears : ℤ → Type 0
+IsInYears t = (negsuc 999_999_999_999_999 ≤ℤ t) × (t ≤ℤ pos 1_000_000_000_000_000)

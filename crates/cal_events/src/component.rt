@@ -1,6 +1,6 @@
 //! One VEVENT, read: its values, judged one property after another in a fixed order, and then
 //! together (RFC 5545 3.6.1). Events that recur are read for a series alone.
-ghost use Rattle.std.specs.Prelude.{ℕ, List, ◌≡◌, ◌⊎◌, ◌↔◌, Bool, Some, map, codes, pos, ◌+ℤ◌, option_map, true, false, IfOk, IfErr, OnOk, IsTrue};
+ghost use Rattle.std.specs.Prelude.{ℕ, List, [], unwrap_or, ◌≡◌, ◌⊎◌, ◌↔◌, Bool, Some, map, codes, pos, ◌+ℤ◌, option_map, true, false, IfOk, IfErr, OnOk, IsTrue};
 ghost use Rattle.std.specs.List.{AllZip};
 ghost use Rattle.ical_lines.specs.Fault.{RefusesOnly, RefusesBy};
 ghost use Rattle.ical_lines.specs.Text.{line_text};
@@ -15,7 +15,7 @@ ghost use Rattle.cal_events.specs.Zones.{object_of, AreRead};
 ghost use Rattle.cal_events.specs.Events.{is_message, has_unread_for, is_fault_for, IsUnreadOrFault, participation_of, attendee_of, length_of, event_of, said_kind, IsTime};
 
 use crate::event_rule::SaidRule;
-use crate::event_times::{EventTimes, SaidTimes, refuse_nominal_length, seconds_of};
+use crate::event_times::{EventTimes, SaidTimes, seconds_of};
 use crate::occurrences::{
     Listing, SaidInstant, SaidInstants, judge_recurrence, refuse_recurring_instance,
 };
@@ -40,10 +40,9 @@ pub enum Purpose {
     Request,
     /// A kept calendar: UID and DTSTART have to stand. The same isn't read yet.
     Calendar,
-    /// A series: UID and DTSTART have to stand. RDATE, EXDATE, RECURRENCE-ID, and days in a DURATION beside a DTSTART
-    /// with TZID aren't read yet.
+    /// A series: UID and DTSTART have to stand. RDATE, EXDATE and RECURRENCE-ID aren't read yet.
     Series,
-    /// An event with its instances: UID and DTSTART have to stand. Days in a DURATION beside a DTSTART with TZID aren't read yet.
+    /// An event with its instances: UID and DTSTART have to stand.
     Meeting,
 }
 
@@ -127,9 +126,6 @@ impl EventComponent {
         ensures stands { IfErr result (RefusesBy (IsUnreadOrFault (object_of zones.now) purpose properties.now)) }
     {
         refuse_unread(properties, purpose)?;
-        if purpose == Purpose::Series {
-            refuse_nominal_length(properties)?;
-        }
         EventComponent::read_values(alloc, zones, properties, purpose)
     }
 
@@ -185,6 +181,16 @@ impl EventComponent {
             ..
         } = self.times;
         instant.instant().saturating_add(seconds_of(length))
+    }
+
+    /// The ORGANIZER's address; the empty text where there is none.
+    pub(crate) fn organiser_text(&self) -> &str
+        ensures { result.now ≡ unwrap_or (event_of self.now).organiser [] }
+    {
+        match &self.organiser {
+            Some(organiser) => organiser.as_str(),
+            None => "",
+        }
     }
 
     /// What the attendee of this address answered, None where none has it.

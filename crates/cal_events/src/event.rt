@@ -1,16 +1,20 @@
 //! An event with its instances: its master and its overrides (RFC 5545 3.8.4.4), read from one object whatever its METHOD.
 
-ghost use Rattle.std.specs.Prelude.{◌≡◌, ◌≢◌, ◌<◌, ◌⊎◌, ℕ, List, [], AllPairs, Some, length, get_or, map, filter, option_map, unwrap_or, ℤ, IfOk, IfErr, OnOk, MatchBool};
+ghost use Rattle.std.specs.Prelude.{◌≡◌, ◌≢◌, ◌↔◌, ◌<◌, ◌≤ℤ◌, ◌⊎◌, ℕ, List, [], AllPairs, Some, length, get_or, map, filter, option_map, ℤ, IfOk, IfErr, OnOk, MatchBool};
 ghost use Rattle.std.specs.Option.{option_to_list};
 ghost use Rattle.std.specs.List.{list_all};
 ghost use Rattle.ical_lines.specs.Fault.{RefusesOnly, RefusesBy};
 ghost use Rattle.ical_tree.specs.Tree.{tree_of};
+ghost use Rattle.profile.specs.checker.Instances.{Booked};
 ghost use Rattle.profile.specs.rooms.Messages.{is_same_meeting};
 ghost use Rattle.profile.specs.events.Meetings.{Meeting, is_master, is_override, AreOfOne, SaysMeeting, SpellsMeeting, MeetingFault, MeetingTextFault, is_meeting_fault};
 ghost use Rattle.cal_events.specs.Events.{event_of};
-ghost use Rattle.cal_events.specs.Meetings.{said_meeting, instants_said, IsNotOne};
+ghost use Rattle.cal_events.specs.Meetings.{instants_said, IsNotOne};
+ghost use Rattle.cal_events.specs.Instances.{HasGoodClock};
+ghost use Rattle.cal_events.specs.declared.component.EventComponent.{EventComponent};
 
 use crate::component::{EventComponent, Purpose, one_event};
+use crate::instances::Instances;
 use crate::reading::read_events;
 use ical_lines::{Fault, Limits, Refusal, Unfolded};
 use ical_tree::{Component, one_tree, read_object};
@@ -23,9 +27,22 @@ pub struct Event {
     pub master: Option<EventComponent>,
     /// Those with one, each for another instance, in the order of the text.
     pub overrides: Vec<EventComponent>,
+    ghost clock: { (component : EventComponent) → master ≡ Some component → HasGoodClock (event_of component) },
 }
 
 impl Event {
+    ghost use Rattle.profile.specs.events.Starts.{IsInstance};
+    ghost use Rattle.cal_events.specs.SaidMeetings.{said_meeting};
+    ghost use Rattle.cal_events.specs.Left.{IsLeft};
+
+    /// Its instances that start at an instant or later, in seconds from 1970-01-01T00:00:00Z: each once, by start and then by slot. Takes no
+    /// memory, and looks at nothing that comes before.
+    pub fn instances(&self, from: i64) -> Instances<'_>
+        ensures { (b : Booked) → IsLeft result b ↔ IsInstance (said_meeting self.now) b × (from ≤ℤ b.start) }
+    {
+        Instances::from(self, from)
+    }
+
     /// The event that octets spell: an object of one UID and one ORGANIZER, whose METHOD isn't looked at.
     /// Refused: 1 to 6 and 20 to 25 for the object, and as by `of_object`.
     pub fn read(alloc: Global, bytes: &[u8]) -> Result<Event, Fault>
@@ -52,7 +69,10 @@ impl Event {
         if has_twins(&divided.instants) {
             return Err(Fault::Refused(Refusal::TWO_OVERRIDES));
         }
-        Ok(divided.event)
+        Ok(Event {
+            master: divided.master,
+            overrides: divided.overrides,
+        })
     }
 }
 
@@ -91,23 +111,14 @@ fn are_one_meeting(first: &EventComponent, others: &[EventComponent]) -> bool
 fn is_same_meeting(a: &EventComponent, b: &EventComponent) -> bool
     ensures { result ≡ is_same_meeting (event_of a.now) (event_of b.now) }
 {
-    a.uid.as_str() == b.uid.as_str() && organiser_text(a) == organiser_text(b)
-}
-
-/// The ORGANIZER's address; the empty text where there is none.
-fn organiser_text(component: &EventComponent) -> &str
-    ensures { result.now ≡ unwrap_or (event_of component.now).organiser [] }
-{
-    match &component.organiser {
-        Some(organiser) => organiser.as_str(),
-        None => "",
-    }
+    a.uid.as_str() == b.uid.as_str() && a.organiser_text() == b.organiser_text()
 }
 
 /// Components divided by RECURRENCE-ID.
 #[derive(Drop)]
 struct Divided {
-    event: Event,
+    master: Option<EventComponent>,
+    overrides: Vec<EventComponent>,
     /// The instants of the overrides, in their order.
     instants: Vec<i64>,
 }
@@ -115,9 +126,9 @@ struct Divided {
 impl Divided {
     /// Refused: 53 for two without RECURRENCE-ID.
     fn of(alloc: Global, components: Vec<EventComponent>) -> Result<Divided, Fault>
-        ensures master { IfOk result (λ d. filter is_master (map event_of components.items) ≡ option_to_list (option_map event_of d.event.master)) }
-        ensures overrides { IfOk result (λ d. filter is_override (map event_of components.items) ≡ map event_of d.event.overrides.items) }
-        ensures instants { IfOk result (λ d. map Some d.instants.items ≡ instants_said (map event_of d.event.overrides.items)) }
+        ensures master { IfOk result (λ d. filter is_master (map event_of components.items) ≡ option_to_list (option_map event_of d.master)) }
+        ensures overrides { IfOk result (λ d. filter is_override (map event_of components.items) ≡ map event_of d.overrides.items) }
+        ensures instants { IfOk result (λ d. map Some d.instants.items ≡ instants_said (map event_of d.overrides.items)) }
         ensures stands { IfErr result (RefusesBy (λ n. (n ≡ 53) × (1 < length (filter is_master (map event_of components.items))))) }
     {
         let mut masters = Vec::new(alloc);
@@ -135,8 +146,11 @@ impl Divided {
             return Err(Fault::Refused(Refusal::TWO_MASTERS));
         }
         let master = masters.pop();
-        let event = Event { master, overrides };
-        Ok(Divided { event, instants })
+        Ok(Divided {
+            master,
+            overrides,
+            instants,
+        })
     }
 }
 

@@ -1,21 +1,24 @@
 //! When an event starts and how long it lasts (RFC 5545 3.6.1): first its three properties as they are said, in UTC or
-//! where TZID names a zone, then all of them together. Days in a DURATION aren't read yet beside a DTSTART with TZID.
+//! where TZID names a zone, then all of them together.
 
-ghost use Rattle.std.specs.Prelude.{◌≡◌, ◌↔◌, ◌≤◌, ◌^◌, ℕ, List, Some, pos, ◌+ℤ◌, ◌<ℤ◌, IfOk, IfErr, OnOk, OnErr, IsTrue};
+ghost use Rattle.std.specs.Prelude.{◌≡◌, ◌↔◌, ◌≤◌, ◌^◌, ℕ, List, Some, pos, ◌+ℤ◌, ◌-ℤ◌, ◌<ℤ◌, ◌≤ℤ◌, IfOk, IfErr, OnOk, OnErr, IsTrue};
 ghost use Rattle.ical_lines.specs.Text.{line_text};
 ghost use Rattle.profile.specs.text.Trees.{Tree};
-ghost use Rattle.profile.specs.series.Zones.{IsNearEpoch};
+ghost use Rattle.profile.specs.series.Zones.{IsNearEpoch, Means};
+ghost use Rattle.profile.specs.events.Starts.{IsDaysLater, EndsAt};
+ghost use Rattle.cal_zones.specs.Kinds.{zone_of};
 ghost use Rattle.profile.specs.faults.Faults.{is_event_fault};
 ghost use Rattle.profile.specs.events.Properties.{length_seconds};
 ghost use Rattle.profile.specs.events.ZonedTimes.{is_in_zone, IsInDates, ZonedTimeFault, HasCountedDays, HasNominalLength, SaysEventTimes, EventTimesFault};
 ghost use Rattle.cal_events.specs.Events.{times_of, length_of, GivesLength, ExtentFault};
 ghost use Rattle.cal_events.specs.Zones.{object_of, AreRead};
-ghost use Rattle.cal_events.specs.Zoned.{EndsSo, IsExtentIn, IsExact, IsNominal, AreSaid};
+ghost use Rattle.cal_events.specs.Zoned.{EndsSo, IsExtentIn, AreSaid, IsInYears};
 
 use crate::instance::HORIZON;
 use crate::properties::{optional, required};
 use crate::zoned::ZonedTime;
 use crate::zones::Zones;
+use cal_zones::Zone;
 use ical_lines::{Line, Refusal};
 use ical_tree::Properties;
 use ical_values::duration::one_duration;
@@ -25,7 +28,7 @@ use ical_values::{DAY_SECONDS, Duration, LocalTime, Stamp};
 const LONGEST: i64 = 366 * DAY_SECONDS;
 
 /// The first second that an event may name, 1969-12-31T00:00:00Z: a local time of 1970 may be as early.
-const FIRST_SECOND: i64 = -DAY_SECONDS;
+pub(crate) const FIRST_SECOND: i64 = -DAY_SECONDS;
 
 /// The times of an event, judged together.
 #[derive(Clone, Copy)]
@@ -45,6 +48,46 @@ impl EventTimes {
     {
         seconds_of(self.length) as u64
     }
+
+    /// When an instance ends that starts at an instant: after the days of the length, in the zone of DTSTART, and its seconds (RFC 5545
+    /// 3.3.6).
+    pub(crate) fn end_from(&self, start: i64) -> i64
+        requires { IsNearEpoch start }
+        ensures { EndsAt (times_of self.now) start result }
+    {
+        let later = days_later(&self.start.clock(), start, self.length.days);
+        later + i64::from(self.length.seconds)
+    }
+}
+
+/// The instant that comes so many days later by the clocks of a zone: at the local time that they show, with the days added to it.
+fn days_later(clock: &Zone, instant: i64, days: u32) -> i64
+    requires { IsNearEpoch instant }
+    ensures later { IsDaysLater (zone_of clock.now) days instant result }
+    ensures range { IsInYears result }
+{
+    if days == 0 {
+        return instant;
+    }
+    let local = instant + i64::from(clock.offset(instant)) + i64::from(days) * DAY_SECONDS;
+    resolve(clock, local)
+}
+
+/// The instant that a local time means, in seconds, as by `Zone::resolve`, in years past 9999 too.
+fn resolve(clock: &Zone, local: i64) -> i64
+    requires { IsInYears local }
+    ensures meaning { Means (zone_of clock.now) local result }
+    ensures near { ((local -ℤ pos 86_400) ≤ℤ result) × (result ≤ℤ (local +ℤ pos 86_400)) }
+{
+    let (least, greatest) = clock.offsets();
+    let early = local - i64::from(greatest);
+    if clock.offset(early) == greatest {
+        return early;
+    }
+    let late = local - i64::from(least);
+    // For the proof alone: the clocks show it then or skip it.
+    let _ = clock.offset(late);
+    late
 }
 
 /// How long an event is said to last.
@@ -71,7 +114,7 @@ pub(crate) struct SaidTimes {
 impl SaidTimes {
     /// Reads the start of a VEVENT, and its end or its length, where they may name these zones.
     /// Refused: 61 where DTSTART is missing, one of the three stands twice, or DTEND beside DURATION; as by
-    /// `ZonedTime::read` for the two times; 12 and 51 for DURATION; 99 for days in it beside a DTSTART with TZID.
+    /// `ZonedTime::read` for the two times; 12 and 51 for DURATION.
     pub(crate) fn read(
         zones: &Zones<'_, '_>,
         properties: &Properties<'_>,
@@ -86,7 +129,6 @@ impl SaidTimes {
         let in_zone = is_in_zone(line);
         let starts_in = is_in_dates(in_zone, start.local, instant);
         let (extent, ends_in) = read_extent(zones, properties, instant)?;
-        refuse_nominal(in_zone, extent)?;
         Ok(SaidTimes {
             start,
             instant,
@@ -128,7 +170,6 @@ pub fn refuse_nominal_length(properties: &Properties<'_>) -> Result<(), Refusal>
     ensures passes { OnOk result (HasNominalLength properties.now → ⊥) }
     ensures refuses { OnErr result (HasNominalLength properties.now) }
     ensures number { IfErr result (λ e. e.number ≡ 99) }
-    ensures stands { (object : Tree) → IfErr result (λ e. EventTimesFault object properties.now e.number) }
 {
     let Ok(start) = required(properties, "DTSTART") else {
         return Ok(());
@@ -157,19 +198,6 @@ fn has_days(line: Line<'_>) -> bool
     match Duration::read(line.value()) {
         Ok(duration) => duration.days > 0,
         Err(_) => false,
-    }
-}
-
-/// Refuses days in a DURATION of an event whose start is in a zone.
-/// Refused: 99.
-fn refuse_nominal(in_zone: bool, extent: Extent) -> Result<(), Refusal>
-    ensures exact { OnOk result (IsExact in_zone extent) }
-    ensures refuses { IfErr result (λ e. e.number ≡ 99) }
-    ensures nominal { IfErr result (λ _. IsNominal in_zone extent) }
-{
-    match extent {
-        Extent::For(duration) if in_zone && duration.days > 0 => Err(Refusal::NOT_YET),
-        _ => Ok(()),
     }
 }
 

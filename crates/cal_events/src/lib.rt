@@ -7,6 +7,7 @@ mod event;
 mod event_rule;
 mod event_times;
 pub mod instance;
+mod instances;
 mod occurrences;
 mod properties;
 mod reading;
@@ -20,6 +21,7 @@ pub use component::{Attendee, EventComponent, ParticipationStatus, Purpose, one_
 pub use event::{Event, one_meeting};
 pub use event_times::{EventTimes, refuse_nominal_length};
 pub use instance::{HORIZON, Instance, InstanceKey, OwnedInstance, OwnedKey};
+pub use instances::Instances;
 pub use reading::{one_calendar, one_calendar_text, read_events, refuse_unread_events};
 pub use series::{one_series, read_series, series_of};
 pub use sweep::{Overlap, Span, first_overlap};

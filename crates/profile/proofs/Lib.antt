@@ -6,3 +6,4 @@ mod ZoneTextExamples
 mod WrittenZoneExamples
 mod EventRuleExamples
 mod OccurrenceExamples
+mod StartExamples

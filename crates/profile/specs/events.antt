@@ -5,4 +5,5 @@ pub mod EventRules
 pub mod Occurrences
 pub mod Events
 pub mod Meetings
+pub mod Starts
 pub mod Series

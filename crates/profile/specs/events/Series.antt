@@ -3,6 +3,7 @@ use Rattle.std.specs.Prelude.{◌≡◌, ℕ, ◌<◌, Contains, true, false, Li
 use Rattle.profile.specs.text.Lines.{logical_lines, text_has, reads_as_lines}
 use Rattle.profile.specs.text.Objects.{SpellsTree, IsObject, has_version, lines_have, count_inside, most_events}
 use Rattle.profile.specs.text.Trees.{Tree, tree_name, tree_own, tree_inside, vevents}
+use Rattle.profile.specs.events.ZonedTimes.{HasNominalLength}
 use Rattle.profile.specs.events.Events.{Event, SaysEvent, EventFault, names_instances}
 
 -- an object says this event: it has one VEVENT, which names no instance by itself
@@ -10,6 +11,7 @@ pub record SaysSeries (object : Tree) (event : Event) : Type 0 where
   pub lines : List (List ℕ)
   pub one : vevents object ≡ lines ∷ []
   pub read : names_instances lines ≡ false
+  pub exact : HasNominalLength lines → ⊥
   pub says : SaysEvent object false lines event
 
 -- the octets are one VCALENDAR, within the limits of a message, and say this event
@@ -29,6 +31,8 @@ pub data SeriesFault (object : Tree) : ℕ → Type 0 where
   -- several VEVENTs, or one that names instances, aren't read yet
   several : 1 < length (vevents object) → SeriesFault object 99
   not_yet : (lines : List (List ℕ)) → Contains (vevents object) lines → names_instances lines ≡ true → SeriesFault object 99
+  -- nor are days in a DURATION beside a DTSTART with TZID
+  nominal : (lines : List (List ℕ)) → Contains (vevents object) lines → HasNominalLength lines → SeriesFault object 99
 
 -- the fault of this number stands in the octets
 pub data SeriesTextFault (octets : List ℕ) : ℕ → Type 0 where

@@ -141,13 +141,12 @@ pub record EventTimes : Type 0 where
 abbrev pub LastsUntil : Tree → ℤ → List ℕ → Length → Type 0
 LastsUntil object start line length = (length.days ≡ 0) × SaysInDates object line (start +ℤ pos length.seconds)
 
--- DTEND, or DURATION, or neither: then it ends where it starts, and holds nothing (RFC 5545 3.6.1). In UTC a day of a DURATION is
--- 86,400 seconds (RFC 5545 3.3.6); days beside a DTSTART with TZID aren't read yet
-abbrev pub LastsSo : Tree → Bool → ℤ → Option (List ℕ) → Option (List ℕ) → Length → Type 0
-LastsSo object in_zone start None None length = length ≡ record { days = 0; seconds = 0 }
-LastsSo object in_zone start (Some line) None length = LastsUntil object start line length
-LastsSo object in_zone start None (Some line) length = LastsFor line length × (in_zone ≡ true → length.days ≡ 0)
-LastsSo object in_zone start (Some line) (Some other) length = ⊥
+-- DTEND, or DURATION as it is written, or neither: then it ends where it starts, and holds nothing (RFC 5545 3.6.1)
+abbrev pub LastsSo : Tree → ℤ → Option (List ℕ) → Option (List ℕ) → Length → Type 0
+LastsSo object start None None length = length ≡ record { days = 0; seconds = 0 }
+LastsSo object start (Some line) None length = LastsUntil object start line length
+LastsSo object start None (Some line) length = LastsFor line length
+LastsSo object start (Some line) (Some other) length = ⊥
 
 -- the lines of a VEVENT say these times
 pub record SaysEventTimes (object : Tree) (lines : List (List ℕ)) (times : EventTimes) : Type 0 where
@@ -159,7 +158,7 @@ pub record SaysEventTimes (object : Tree) (lines : List (List ℕ)) (times : Eve
   pub duration_line : Option (List ℕ)
   pub end_once : StandsAtMostOnce (codes "DTEND") lines end_line
   pub duration_once : StandsAtMostOnce (codes "DURATION") lines duration_line
-  pub lasts : LastsSo object (is_in_zone line) times.start end_line duration_line times.length
+  pub lasts : LastsSo object times.start end_line duration_line times.length
   pub most : length_seconds times.length ≤ longest
   pub in_dates : IsInDates (is_in_zone line) times.local times.start
 
@@ -168,10 +167,6 @@ abbrev pub StartAndEndLie : Tree → (ℤ → ℤ → Type 0) → List (List ℕ
 StartAndEndLie object R lines =
     (start : ℤ) × (end : ℤ) × SomeLine (codes "DTSTART") (λ line. SaysInstant object line start) lines
     × SomeLine (codes "DTEND") (λ line. SaysInstant object line end) lines × R start end
-
--- a duration with days
-abbrev pub HasDays : List ℕ → Type 0
-HasDays line = (length : Length) × LastsFor line length × (0 < length.days)
 
 -- a duration with days, of no more days and seconds than 32 bits count
 abbrev pub HasCountedDays : List ℕ → Type 0
@@ -206,6 +201,3 @@ pub data EventTimesFault (object : Tree) (lines : List (List ℕ)) : ℕ → Typ
   twice : (name : List ℕ) → Contains names_of_times name → StandsTwice name lines → EventTimesFault object lines 61
   end_and_duration : SomeLine (codes "DTEND") (λ _. Unit {0}) lines → SomeLine (codes "DURATION") (λ _. Unit {0}) lines
       → EventTimesFault object lines 61
-  -- days in a DURATION beside a DTSTART with TZID aren't read yet
-  nominal : SomeLine (codes "DTSTART") (λ line. is_in_zone line ≡ true) lines → SomeLine (codes "DURATION") HasDays lines
-      → EventTimesFault object lines 99

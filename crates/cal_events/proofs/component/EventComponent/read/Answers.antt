@@ -1,7 +1,7 @@
 use Rattle.std.proofs.Common.{inl, inr}
 use Rattle.std.proofs.lemmas.Result.{IfErr-weaker}
 use Rattle.ical_lines.specs.Fault.{RefusesOnly, RefusesBy}
-use Rattle.profile.specs.events.Events.{EventFault, in_times}
+use Rattle.profile.specs.events.Events.{EventFault}
 use Rattle.cal_events.specs.Events.{is_message, is_fault_for, IsUnreadOrFault}
 use Rattle.cal_events.proofs.NumberLemmas.{unread_for, refused_for}
 use Rattle.cal_events.specs.Zones.{object_of}
@@ -17,16 +17,6 @@ pub returns-in_err-refuse_unread-clause-stands : goal.returns-in_err-refuse_unre
 returns-in_err-refuse_unread-clause-stands c =
     err_exit _ (RefusesBy (IsUnreadOrFault (object_of c.args.zones.now) c.args.purpose c.args.properties.now)) _ c.from_residual.ensures.1
     (inl (c.in_err-refuse_unread.ensures.refuses, c.in_err-refuse_unread.ensures.unread))
-
-pub returns-in_err-refuse_nominal_length-clause-refuses : goal.returns-in_err-refuse_nominal_length-clause-refuses
-returns-in_err-refuse_nominal_length-clause-refuses c =
-    err_exit _ (RefusesOnly (is_fault_for c.args.purpose)) _ c.from_residual-in_err-refuse_nominal_length.ensures.1
-    (unread_for c.args.purpose _ c.in_err-refuse_nominal_length.ensures.number)
-
-pub returns-in_err-refuse_nominal_length-clause-stands : goal.returns-in_err-refuse_nominal_length-clause-stands
-returns-in_err-refuse_nominal_length-clause-stands c =
-    err_exit _ (RefusesBy (IsUnreadOrFault (object_of c.args.zones.now) c.args.purpose c.args.properties.now)) _
-    c.from_residual-in_err-refuse_nominal_length.ensures.1 (inr (in_times (c.in_err-refuse_nominal_length.ensures.stands (object_of c.args.zones.now))))
 
 pub returns-clause-refuses : goal.returns-clause-refuses
 returns-clause-refuses c =

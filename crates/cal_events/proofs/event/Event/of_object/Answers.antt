@@ -1,5 +1,5 @@
 use Rattle.std.proofs.Common.{◌≢◌, ◌<◌, subst, refl, List, map, length, ℤ}
-use Rattle.std.specs.Prelude.{AllPairs}
+use Rattle.std.specs.Prelude.{AllPairs, option_map}
 use Rattle.ical_lines.specs.Fault.{RefusesBy}
 use Rattle.ical_tree.specs.Tree.{tree_of}
 use Rattle.profile.specs.events.Meetings.{AreOfOne, MeetingFault}
@@ -7,9 +7,10 @@ use Rattle.ical_values.proofs.Exits.{err_exit}
 use Rattle.cal_events.specs.declared.component.EventComponent.{EventComponent}
 use Rattle.cal_events.specs.declared.component.Purpose.TheVariants.{Meeting}
 use Rattle.cal_events.specs.Events.{event_of, vevents_of, IsUnreadOrFaultAmong}
-use Rattle.cal_events.specs.Meetings.{said_meeting, IsNotOne}
+use Rattle.cal_events.specs.Meetings.{IsNotOne}
 use Rattle.cal_events.proofs.TreeLemmas.{vevents_tree}
 use Rattle.cal_events.proofs.ZonedLemmas.{weaker_fault}
+use Rattle.cal_events.proofs.Clocks.{all_clocks, master_good}
 use Rattle.cal_events.proofs.MeetingLemmas.{among_there, not_one_there, masters_there, twins_there, meeting_there}
 use Rattle.cal_events.proofs.event.Event.of_object.Goals as goal
 
@@ -41,7 +42,7 @@ returns-then-has_twins-clause-stands c =
     let object = c.args.object.now in
     let d = c.in_ok-divided.divided in
     twins_there (tree_of object) (vevents_of object) (vevents_tree object) (map event_of c.in_ok-components.components.items) c.in_ok-components.ensures.says
-    (map event_of d.event.overrides.items) d.instants.items c.in_ok-divided.ensures.overrides c.in_ok-divided.ensures.instants
+    (map event_of d.overrides.items) d.instants.items c.in_ok-divided.ensures.overrides c.in_ok-divided.ensures.instants
     (subst (λ (l : List ℤ). AllPairs ◌≢◌ l → ⊥) c.deref-2.ensures.value c.if-has_twins.ensures)
 
 pub returns-clause-says : goal.returns-clause-says
@@ -49,7 +50,13 @@ returns-clause-says c =
     let object = c.args.object.now in
     let d = c.in_ok-divided.divided in
     meeting_there (tree_of object) (vevents_of object) (vevents_tree object) (map event_of c.in_ok-components.components.items) c.in_ok-components.ensures.says
-    (map event_of d.event.overrides.items) d.instants.items c.in_ok-divided.ensures.overrides c.in_ok-divided.ensures.instants (said_meeting d.event)
+    (map event_of d.overrides.items) d.instants.items c.in_ok-divided.ensures.overrides c.in_ok-divided.ensures.instants (record { master = option_map event_of d.master; overrides = map event_of d.overrides.items })
     (subst (λ (l : List EventComponent). 0 < length (map event_of l)) c.deref.ensures.value c.in_ok-judge_meeting.ensures.some)
     (subst (λ (l : List EventComponent). AreOfOne (map event_of l)) c.deref.ensures.value c.in_ok-judge_meeting.ensures.one) c.in_ok-divided.ensures.master refl
     (subst (λ (l : List ℤ). AllPairs ◌≢◌ l) c.deref-2.ensures.value c.if-has_twins.ensures)
+
+pub invariant_of-result : goal.invariant_of-result
+invariant_of-result c =
+    let object = c.args.object.now in
+    let events = map event_of c.in_ok-components.components.items in
+    record { clock = master_good events c.in_ok-divided.divided.master (all_clocks (tree_of object) (vevents_of object) events c.in_ok-components.ensures.says) c.in_ok-divided.ensures.master }

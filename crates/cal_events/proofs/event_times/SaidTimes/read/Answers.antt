@@ -5,12 +5,10 @@ use Rattle.ical_lines.specs.Text.{line_text}
 use Rattle.profile.specs.events.ZonedTimes.{EventTimesFault, ZonedTimeFault, no_start, twice, bad_start}
 use Rattle.ical_values.proofs.Exits.{refusal_exit}
 use Rattle.cal_events.proofs.EventLemmas.{some_line}
-use Rattle.cal_events.proofs.TimesLemmas.{nominal_given}
 use Rattle.std.specs.Prelude.{◌↔◌, IsTrue}
 use Rattle.profile.specs.events.ZonedTimes.{IsInDates, clock_of}
 use Rattle.cal_events.specs.Zones.{object_of}
 use Rattle.cal_events.specs.Events.{zone_said}
-use Rattle.cal_events.specs.Zoned.{IsNominal, IsExact}
 use Rattle.cal_events.proofs.event_times.SaidTimes.read.Goals as goal
 
 pub returns-in_err-line-clause-stands : goal.returns-in_err-line-clause-stands
@@ -33,16 +31,6 @@ pub returns-in_err-extent-clause-stands : goal.returns-in_err-extent-clause-stan
 returns-in_err-extent-clause-stands c =
     refusal_exit _ (EventTimesFault (object_of c.args.zones.now) c.args.properties.now) _ c.from_residual-in_err-extent.ensures.1 c.in_err-extent.ensures.stands
 
-pub returns-in_err-refuse_nominal-clause-stands : goal.returns-in_err-refuse_nominal-clause-stands
-returns-in_err-refuse_nominal-clause-stands c =
-    let object = object_of c.args.zones.now in
-    let lines = c.args.properties.now in
-    let P = EventTimesFault object lines in
-    let zoned = subst (λ b. IsNominal b c.in_ok-extent.extent) c.is_in_zone-in_zone.ensures c.in_err-refuse_nominal.ensures.nominal in
-    refusal_exit _ P _ c.from_residual-in_err-refuse_nominal.ensures.1
-    (subst P (sym c.in_err-refuse_nominal.ensures.refuses)
-    (nominal_given object lines _ _ (line_text c.in_ok-line.line) c.in_ok-extent.extent c.in_ok-line.ensures.found c.in_ok-extent.ensures.reads zoned))
-
 pub returns-clause-said : goal.returns-clause-said
 returns-clause-said c =
     let start = c.in_ok-start.start in
@@ -54,5 +42,4 @@ returns-clause-said c =
       means = subst (λ (x : ℤ). Means (clock_of (zone_said start)) start.local x) (sym same) c.instant-instant.ensures.meaning;
       starts = subst (λ b. IsTrue c.is_in_dates-starts_in.result ↔ IsInDates b start.local (to_z w64 (of_z w64 c.instant-instant.result))) c.is_in_zone-in_zone.ensures c.is_in_dates-starts_in.ensures;
       extent = c.in_ok-extent.ensures.reads;
-      exact = subst (λ b. IsExact b c.in_ok-extent.extent) c.is_in_zone-in_zone.ensures c.in_ok-refuse_nominal.ensures.exact;
     }

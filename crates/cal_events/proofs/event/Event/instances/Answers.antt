@@ -1,0 +1,7 @@
+use Rattle.std.proofs.Common.{◌≡◌, to_z, of_z, w64, to_z-of_z}
+use Rattle.cal_events.proofs.event.Event.instances.Goals as goal
+
+pub returns : goal.returns
+returns c =
+    let same : to_z w64 (of_z w64 c.args.from) ≡ c.args.from = to_z-of_z c.ranges.from in
+    rw same at c.from.ensures

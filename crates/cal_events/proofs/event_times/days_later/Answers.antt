@@ -1,0 +1,24 @@
+use Rattle.std.proofs.Common.{◌≡◌, ◌*◌, ◌<◌, inr, arith, ℤ, pos, ◌+ℤ◌, ◌*ℤ◌, to_z, of_z, w32, w64, rules}
+use Rattle.std.proofs.lemmas.Int.{ints}
+use Rattle.profile.specs.series.Zones.{Means}
+use Rattle.cal_zones.specs.Kinds.{zone_of}
+use Rattle.cal_events.proofs.event_times.days_later.Goals as goal
+
+pub returns-clause-later : goal.returns-clause-later
+returns-clause-later c =
+    let t = c.args.instant in
+    let o = c.offset.result in
+    let days = c.args.days in
+    let same : to_z w64 (of_z w64 t) ≡ t = omega (arith, ints, c.requires) in
+    let sum : to_z w64 (of_z w64 (to_z w64 (of_z w64 (to_z w64 (of_z w64 t) +ℤ to_z w64 (of_z w64 c.from.result))) +ℤ to_z w64 (of_z w64 (to_z w64 (of_z w64 c.from-2.result) *ℤ pos 86_400)))) ≡ (t +ℤ o) +ℤ pos (86_400 * days) =
+    omega (arith, ints, c.from.ensures, c.from-2.ensures, c.requires, c.offset.ensures.range) in
+    let kept : to_z w64 (of_z w64 c.resolve.result) ≡ c.resolve.result = omega (arith, ints) in
+    let some : 0 < days = omega (arith, c.if-days-eq0.false) in
+    rw kept (inr (some, (o, rw same at c.offset.ensures.offset, rw sum at c.resolve.ensures.meaning)))
+
+pub returns-clause-range : goal.returns-clause-range
+returns-clause-range c =
+    let t = c.args.instant in
+    let near = c.resolve.ensures.near in
+    let fits : c.args.days < 4_294_967_296 = search rules in
+    (omega (arith, ints, c.from.ensures, c.from-2.ensures, c.requires, c.offset.ensures.range, near.0, near.1, fits), omega (arith, ints, c.from.ensures, c.from-2.ensures, c.requires, c.offset.ensures.range, near.0, near.1, fits))

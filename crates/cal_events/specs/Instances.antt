@@ -1,0 +1,104 @@
+-- The instances of an event that are left to come, and how the first of them is found.
+use Rattle.std.specs.Prelude.{◌≡◌, ◌⊎◌, ℕ, ◌<◌, true, Contains, List, Option, Some, None, MatchOption, map, int_lt, if◌then◌else◌, ℤ, ◌≤ℤ◌, ◌<ℤ◌, ◌+ℤ◌, pos}
+use Rattle.profile.specs.checker.Instances.{Booked, horizon}
+use Rattle.profile.specs.series.Days.{day_index}
+use Rattle.profile.specs.series.Rules.{Parts, is_rule_day}
+use Rattle.profile.specs.series.Zones.{Zone, Means, IsOneMeaning, local_time}
+use Rattle.profile.specs.events.Properties.{first_second}
+use Rattle.profile.specs.events.ZonedTimes.{EventTimes, clock_of}
+use Rattle.profile.specs.events.EventRules.{IsOnDay}
+use Rattle.profile.specs.events.Events as profile
+use Rattle.profile.specs.events.Starts.{IsOverridden, IsStart}
+use Rattle.cal_events.specs.Events.{event_of}
+use Rattle.cal_events.specs.declared.component.EventComponent.{EventComponent}
+use Rattle.cal_events.specs.declared.instances.Bound.{Bound}
+use Rattle.cal_events.specs.declared.instances.Place.{Place}
+
+-- ---- the clocks of a zone
+
+-- a local time more than half a day later means a later instant
+abbrev pub IsAscending : Zone → Type 0
+IsAscending zone = (a b t u : ℤ) → Means zone a t → Means zone b u → (a +ℤ pos 43_200) <ℤ b → t <ℤ u
+
+-- the clocks of DTSTART's zone show a local time at one instant, and one that is more than half a day later at a later one
+abbrev pub HasGoodClock : profile.Event → Type 0
+HasGoodClock event = IsOneMeaning (clock_of event.times.zone) × IsAscending (clock_of event.times.zone)
+
+-- ---- what is left
+
+-- of one start
+abbrev pub IsPastSlot : Option ℤ → ℤ → Type 0
+IsPastSlot None slot = Unit {0}
+IsPastSlot (Some last) slot = last <ℤ slot
+
+-- that start and slot are still to come
+abbrev pub IsAfter : Bound → ℤ → ℤ → Type 0
+IsAfter bound start slot = (bound.start <ℤ start) ⊎ ((bound.start ≡ start) × IsPastSlot bound.slot slot)
+
+-- one place comes before another
+abbrev pub IsBefore : Place → Place → Type 0
+IsBefore a b = (a.start <ℤ b.start) ⊎ ((a.start ≡ b.start) × (a.slot <ℤ b.slot))
+
+-- an instant that the master's rule or an RDATE gives is one of its starts, and is still to come
+pub record IsWanted (master : profile.Event) (overrides : List profile.Event) (bound : Bound) (instant : ℤ) : Type 0 where
+  pub after : IsAfter bound instant instant
+  pub in_dates : (first_second ≤ℤ instant) × (instant <ℤ horizon)
+  pub not_excepted : Contains master.exceptions instant → ⊥
+  pub not_overridden : IsOverridden overrides instant → ⊥
+
+-- of a rule's days before that one none has such a start
+abbrev pub NoneBefore : profile.Event → List profile.Event → Bound → ℕ → Type 0
+NoneBefore master overrides bound day =
+    (rule : Parts) → master.rule ≡ Some rule → (first second n : ℕ) → IsOnDay master.times.local first second → n < day
+    → is_rule_day rule n ≡ true → (instant : ℤ) → Means (clock_of master.times.zone) (local_time n second) instant
+    → IsWanted master overrides bound instant → ⊥
+
+-- the least instant that is so, if there is one
+abbrev pub IsLeast : (ℤ → Type 0) → Option ℤ → Type 0
+IsLeast P found = MatchOption found ((t : ℤ) → P t → ⊥) (λ t. P t × ((u : ℤ) → P u → t ≤ℤ u))
+
+-- the lesser of two instants, where there are any
+abbrev pub lesser : Option ℤ → Option ℤ → Option ℤ
+lesser None b = b
+lesser (Some x) None = Some x
+lesser (Some x) (Some y) = if int_lt y x then Some y else Some x
+
+-- ---- overrides
+
+-- the override lies at that place
+abbrev pub IsAt : EventComponent → Place → Type 0
+IsAt o place = (o.recurrence ≡ Some place.slot) × (o.times.instant ≡ place.start)
+
+-- it does, and that place is still to come
+abbrev pub IsMovedTo : EventComponent → Bound → Place → Type 0
+IsMovedTo o bound place = IsAt o place × IsAfter bound place.start place.slot
+
+-- the place that is so and comes before all others that are, if there is one
+abbrev pub IsSoonest : (Place → Type 0) → Option Place → Type 0
+IsSoonest P found = MatchOption found ((p : Place) → P p → ⊥) (λ p. P p × ((q : Place) → P q → IsBefore q p → ⊥))
+
+-- the one of two that comes first, where there are any
+abbrev pub IsSooner : Option Place → Option Place → Option Place → Type 0
+IsSooner None b r = r ≡ b
+IsSooner (Some x) None r = r ≡ Some x
+IsSooner (Some x) (Some y) r = ((r ≡ Some x) × (IsBefore y x → ⊥)) ⊎ ((r ≡ Some y) × IsBefore y x)
+
+-- ---- both
+
+-- on no day of the master's rule before that one is a start to come
+abbrev pub HasPassed : Option EventComponent → List EventComponent → Bound → ℕ → Type 0
+HasPassed master overrides bound day = (c : EventComponent) → master ≡ Some c → NoneBefore (event_of c) (map event_of overrides) bound day
+
+-- the place of the instance at a start
+abbrev pub own_place : ℤ → Place
+own_place start = record { start = start; slot = start }
+
+-- at that place is a start of the master, or an override
+abbrev pub IsHeldAt : Option EventComponent → List EventComponent → Place → Type 0
+IsHeldAt master overrides place =
+    ((c : EventComponent) × (master ≡ Some c) × (place ≡ own_place place.start) × IsStart (event_of c) (map event_of overrides) place.start)
+    ⊎ ((o : EventComponent) × Contains overrides o × IsAt o place)
+
+-- and it is to come
+abbrev pub IsHeld : Option EventComponent → List EventComponent → Bound → Place → Type 0
+IsHeld master overrides bound place = IsHeldAt master overrides place × IsAfter bound place.start place.slot

@@ -1,0 +1,419 @@
+//! The instances of an event (RFC 5545 3.8.5.3, 3.8.5.2, 3.8.5.1, 3.8.4.4), by start and then by slot. None is kept: each is looked for from
+//! the place of the one before it.
+
+ghost use Rattle.std.specs.Prelude.{◌≡◌, ◌↔◌, ◌<◌, ◌≤ℤ◌, pos, IsTrue, Some, None, map, option_map, Contains, IfSome, IfNone};
+ghost use Rattle.profile.specs.series.Days.{day_index};
+ghost use Rattle.profile.specs.series.Zones.{IsOneMeaning, IsNearEpoch, Means, local_time};
+ghost use Rattle.profile.specs.events.ZonedTimes.{clock_of};
+ghost use Rattle.profile.specs.checker.Instances.{Booked};
+ghost use Rattle.profile.specs.events.Starts.{IsGiven, IsOverridden, IsStart, IsInstance, EndsAt, key_at};
+ghost use Rattle.cal_events.specs.Calendars.{key_of, instance_of};
+ghost use Rattle.cal_events.specs.SaidMeetings.{said_meeting};
+ghost use Rattle.cal_events.specs.Events.{event_of, zone_said};
+ghost use Rattle.cal_events.specs.Instances.{IsAfter, IsPastSlot, IsBefore, IsAscending, IsWanted, NoneBefore, IsLeast, lesser, IsAt, IsMovedTo, IsSoonest, IsSooner, HasGoodClock, HasPassed, IsHeldAt, IsHeld, own_place};
+ghost use Rattle.cal_events.specs.declared.component.EventComponent.{EventComponent};
+
+use crate::component::EventComponent;
+use crate::event::Event;
+use crate::event_times::FIRST_SECOND;
+use crate::instance::{HORIZON, Instance, InstanceKey};
+use crate::zoned::ZonedTime;
+use cal_days::{Day, EPOCH_INDEX};
+use cal_rules::Rule;
+use ical_values::LocalTime;
+
+/// Where an instance lies among those of its event.
+#[derive(Clone, Copy)]
+pub(crate) struct Place {
+    pub(crate) start: i64,
+    pub(crate) slot: i64,
+}
+
+impl Place {
+    /// Whether it comes before another.
+    fn is_before(self, other: Place) -> bool
+        ensures { IsTrue result ↔ IsBefore self other }
+    {
+        if self.start == other.start {
+            return self.slot < other.slot;
+        }
+        self.start < other.start
+    }
+}
+
+/// A bound of the places that are still to come.
+#[derive(Clone, Copy)]
+pub(crate) struct Bound {
+    pub(crate) start: i64,
+    /// Of that start only greater slots are to come; all, where it is None.
+    pub(crate) slot: Option<i64>,
+}
+
+impl Bound {
+    /// Whether an instance of that start and that slot is to come.
+    fn admits(self, start: i64, slot: i64) -> bool
+        ensures { IsTrue result ↔ IsAfter self start slot }
+    {
+        if self.start == start {
+            return self.admits_slot(slot);
+        }
+        self.start < start
+    }
+
+    /// Whether an instance of its start and of that slot is.
+    fn admits_slot(self, slot: i64) -> bool
+        ensures { IsTrue result ↔ IsPastSlot self.slot slot }
+    {
+        match self.slot {
+            Some(last) => last < slot,
+            None => true,
+        }
+    }
+}
+
+/// The instances of an event that are still to come.
+#[derive(Drop)]
+pub struct Instances<'a> {
+    event: &'a Event,
+    /// Those that it admits are.
+    after: Bound,
+    /// On no day of the master's rule before it is one to come.
+    day: Day,
+    ghost passed: { HasPassed event.now.master event.now.overrides.items after (day_index day) },
+}
+
+impl<'a> Instances<'a> {
+    ghost use Rattle.cal_events.specs.Left.{IsLeft};
+
+    /// Those that start at an instant or later.
+    pub(crate) fn from(event: &'a Event, from: i64) -> Instances<'a>
+        ensures { (b : Booked) → IsLeft result b ↔ IsInstance (said_meeting event.now) b × (from ≤ℤ b.start) }
+    {
+        let after = Bound {
+            start: from,
+            slot: None,
+        };
+        Instances {
+            event,
+            after,
+            day: first_day(event, from),
+        }
+    }
+}
+
+impl<'a> Iterator for Instances<'a> {
+    ghost use Rattle.std.specs.Iterator.{endless};
+    ghost use Rattle.cal_events.specs.Left.{GivesFirst};
+
+    type Item = Instance<'a>;
+
+    ghost next_gives = { GivesFirst };
+
+    ghost remaining = { λ _. endless };
+
+    fn next(&mut self) -> Option<Instance<'a>> {
+        let (first, day) = first_place(self.event, self.after, self.day);
+        let place = first?;
+        self.after = Bound {
+            start: place.start,
+            slot: Some(place.slot),
+        };
+        self.day = day;
+        Some(instance_at(self.event, place))
+    }
+}
+
+/// Whether an instant that the master's rule or an RDATE gives is one of its starts, and is to come.
+fn is_wanted(
+    master: &EventComponent,
+    overrides: &[EventComponent],
+    after: Bound,
+    instant: i64,
+) -> bool
+    ensures { IsTrue result ↔ IsWanted (event_of master.now) (map event_of overrides.now) after instant }
+{
+    if !after.admits(instant, instant) {
+        return false;
+    }
+    if instant < FIRST_SECOND || instant >= HORIZON {
+        return false;
+    }
+    if master.exceptions.contains(&instant) {
+        return false;
+    }
+    !is_overridden(overrides, instant)
+}
+
+/// Whether one of these overrides stands for an instant.
+fn is_overridden(overrides: &[EventComponent], instant: i64) -> bool
+    ensures { IsTrue result ↔ IsOverridden (map event_of overrides.now) instant }
+{
+    for component in overrides {
+        if stands_for(component, instant) {
+            return true;
+        }
+    }
+    false
+}
+
+/// Whether an override stands for an instant.
+fn stands_for(component: &EventComponent, instant: i64) -> bool
+    ensures { IsTrue result ↔ (component.now.recurrence ≡ Some instant) }
+{
+    match component.recurrence {
+        Some(slot) => slot == instant,
+        None => false,
+    }
+}
+
+/// The first start after a bound that RDATE adds.
+fn first_added(master: &EventComponent, overrides: &[EventComponent], after: Bound) -> Option<i64>
+    ensures { IsLeast (λ t. Contains (event_of master.now).additions t × IsWanted (event_of master.now) (map event_of overrides.now) after t) result }
+{
+    let mut first = None;
+    for instant in &master.additions {
+        first = lesser(first, wanted_at(master, overrides, after, *instant));
+    }
+    first
+}
+
+/// The lesser of two instants, where there are any.
+fn lesser(a: Option<i64>, b: Option<i64>) -> Option<i64>
+    ensures { result ≡ lesser a b }
+{
+    match (a, b) {
+        (None, _) => b,
+        (Some(_), None) => a,
+        (Some(x), Some(y)) if y < x => b,
+        (Some(_), Some(_)) => a,
+    }
+}
+
+/// The first start after a bound that DTSTART or the rule gives, and a day: no rule day before it has such a start.
+fn first_given(
+    master: &EventComponent,
+    overrides: &[EventComponent],
+    after: Bound,
+    day: Day,
+) -> (Option<i64>, Day)
+    requires meaning { IsOneMeaning (clock_of (event_of master.now).times.zone) }
+    requires ascending { IsAscending (clock_of (event_of master.now).times.zone) }
+    requires none { NoneBefore (event_of master.now) (map event_of overrides.now) after (day_index day) }
+    ensures first { IsLeast (λ t. IsGiven (event_of master.now).times (event_of master.now).rule t × IsWanted (event_of master.now) (map event_of overrides.now) after t) result.0 }
+    ensures none { NoneBefore (event_of master.now) (map event_of overrides.now) after (day_index result.1) }
+{
+    match &master.rule {
+        Some(rule) => first_on_rule(master, rule, overrides, after, day),
+        None => {
+            let start = master.times.instant.instant();
+            (wanted_at(master, overrides, after, start), day)
+        }
+    }
+}
+
+/// An instant that the master's rule or an RDATE gives, if it is one of its starts and is to come.
+fn wanted_at(
+    master: &EventComponent,
+    overrides: &[EventComponent],
+    after: Bound,
+    instant: i64,
+) -> Option<i64>
+    ensures { IsLeast (λ t. (t ≡ instant) × IsWanted (event_of master.now) (map event_of overrides.now) after t) result }
+{
+    if is_wanted(master, overrides, after, instant) {
+        return Some(instant);
+    }
+    None
+}
+
+/// The first start after a bound that the rule gives, and a day: no rule day before it has such a start.
+fn first_on_rule(
+    master: &EventComponent,
+    rule: &Rule,
+    overrides: &[EventComponent],
+    after: Bound,
+    day: Day,
+) -> (Option<i64>, Day)
+    requires rule { master.now.rule ≡ Some rule.now }
+    requires meaning { IsOneMeaning (clock_of (event_of master.now).times.zone) }
+    requires ascending { IsAscending (clock_of (event_of master.now).times.zone) }
+    requires none { NoneBefore (event_of master.now) (map event_of overrides.now) after (day_index day) }
+    ensures first { IsLeast (λ t. IsGiven (event_of master.now).times (event_of master.now).rule t × IsWanted (event_of master.now) (map event_of overrides.now) after t) result.0 }
+    ensures none { NoneBefore (event_of master.now) (map event_of overrides.now) after (day_index result.1) }
+{
+    let (_, second) = master.times.start.local.day_and_second();
+    let mut from = day;
+    while let Some(found) = rule.seek(from) {
+        let start = start_on(&master.times.start, found, second);
+        if is_wanted(master, overrides, after, start) {
+            return (Some(start), found);
+        }
+        from = Day::at_index(found.index() + 1).unwrap();
+    }
+    (None, from)
+}
+
+/// The instant that a second of a day means on the clocks of a time's zone.
+fn start_on(time: &ZonedTime, day: Day, second: u32) -> i64
+    requires day { day ≤ℤ pos 2_932_896 }
+    requires second { second < 86_400 }
+    ensures meaning { Means (clock_of (zone_said time.now)) (local_time (day_index day) second) result }
+    ensures range { IsNearEpoch result }
+{
+    let local = LocalTime::of_day(day, second).unwrap();
+    time.clock().resolve(local)
+}
+
+/// The place of the first override that is to come.
+fn first_moved(overrides: &[EventComponent], after: Bound) -> Option<Place>
+    ensures { IsSoonest (λ p. (o : EventComponent) × Contains overrides.now o × IsMovedTo o after p) result }
+{
+    let mut first = None;
+    for component in overrides {
+        first = sooner(first, moved_at(component, after));
+    }
+    first
+}
+
+/// The place of an override, if it is to come.
+fn moved_at(component: &EventComponent, after: Bound) -> Option<Place>
+    ensures { IsSoonest (IsMovedTo component.now after) result }
+{
+    let slot = component.recurrence?;
+    let start = component.times.instant.instant();
+    if after.admits(start, slot) {
+        return Some(Place { start, slot });
+    }
+    None
+}
+
+/// The one of two places that comes first, where there are any.
+fn sooner(a: Option<Place>, b: Option<Place>) -> Option<Place>
+    ensures { IsSooner a b result }
+{
+    match (a, b) {
+        (None, _) => b,
+        (Some(_), None) => a,
+        (Some(x), Some(y)) if y.is_before(x) => b,
+        (Some(_), Some(_)) => a,
+    }
+}
+
+/// The override that lies at a place.
+fn override_at<'a>(overrides: &'a [EventComponent], place: Place) -> Option<&'a EventComponent>
+    ensures found { IfSome result (λ o. Contains overrides.now o.now × IsAt o.now place) }
+    ensures none { IfNone result ((o : EventComponent) → Contains overrides.now o → IsAt o place → ⊥) }
+{
+    for component in overrides {
+        if stands_for(component, place.slot) && component.times.instant.instant() == place.start {
+            return Some(component);
+        }
+    }
+    None
+}
+
+/// A day before which no day of the master's rule starts at an instant or later.
+fn first_day(event: &Event, from: i64) -> Day
+    ensures { HasPassed event.now.master event.now.overrides.items (record { start = from; slot = None }) (day_index result) }
+{
+    match &event.master {
+        Some(master) => first_day_of(master, event.overrides.as_slice(), from),
+        None => Day::at_index(EPOCH_INDEX).unwrap(),
+    }
+}
+
+/// The same of a master. Where the clocks show more than the least offset it starts even earlier.
+fn first_day_of(master: &EventComponent, overrides: &[EventComponent], from: i64) -> Day
+    ensures { NoneBefore (event_of master.now) (map event_of overrides.now) (record { start = from; slot = None }) (day_index result) }
+{
+    let (least, _) = master.times.start.clock().offsets();
+    match (
+        &master.rule,
+        LocalTime::of_seconds(from.saturating_add(least as i64)),
+    ) {
+        (Some(_), Some(local)) => local.day_and_second().0,
+        (Some(rule), None) => rule.start(),
+        (None, _) => Day::at_index(EPOCH_INDEX).unwrap(),
+    }
+}
+
+/// The first place that is to come, and a day: on no rule day before it is one.
+fn first_place(event: &Event, after: Bound, day: Day) -> (Option<Place>, Day)
+    requires { HasPassed event.now.master event.now.overrides.items after (day_index day) }
+    ensures first { IsSoonest (IsHeld event.now.master event.now.overrides.items after) result.0 }
+    ensures passed { HasPassed event.now.master event.now.overrides.items after (day_index result.1) }
+{
+    let moved = first_moved(event.overrides.as_slice(), after);
+    match &event.master {
+        Some(master) => {
+            let (start, day) = first_start(master, event.overrides.as_slice(), after, day);
+            (sooner(own_place(start), moved), day)
+        }
+        None => (moved, day),
+    }
+}
+
+/// The first start of the master that is to come, and a day: no rule day before it has such a start.
+fn first_start(
+    master: &EventComponent,
+    overrides: &[EventComponent],
+    after: Bound,
+    day: Day,
+) -> (Option<i64>, Day)
+    requires clock { HasGoodClock (event_of master.now) }
+    requires none { NoneBefore (event_of master.now) (map event_of overrides.now) after (day_index day) }
+    ensures first { IsLeast (λ t. IsStart (event_of master.now) (map event_of overrides.now) t × IsAfter after t t) result.0 }
+    ensures none { NoneBefore (event_of master.now) (map event_of overrides.now) after (day_index result.1) }
+{
+    let (given, day) = first_given(master, overrides, after, day);
+    let added = first_added(master, overrides, after);
+    (lesser(given, added), day)
+}
+
+/// The place of the instance at a start: its slot is that start.
+fn own_place(start: Option<i64>) -> Option<Place>
+    ensures { result ≡ option_map own_place start }
+{
+    match start {
+        Some(start) => Some(Place { start, slot: start }),
+        None => None,
+    }
+}
+
+/// The instance at a place.
+fn instance_at<'a>(event: &'a Event, place: Place) -> Instance<'a>
+    requires { IsHeldAt event.now.master event.now.overrides.items place }
+    ensures instance { IsInstance (said_meeting event.now) (instance_of result) }
+    ensures start { result.start ≡ place.start }
+    ensures slot { result.key.slot ≡ place.slot }
+{
+    match (
+        override_at(event.overrides.as_slice(), place),
+        &event.master,
+    ) {
+        (Some(component), _) => {
+            instance_from(component, component.times.instant.instant(), place.slot)
+        }
+        (None, Some(master)) => instance_from(master, place.start, place.slot),
+        (None, None) => unreachable!(),
+    }
+}
+
+/// The instance of a VEVENT at a start, with that slot.
+fn instance_from<'a>(component: &'a EventComponent, start: i64, slot: i64) -> Instance<'a>
+    requires { IsNearEpoch start }
+    ensures key { key_of result.key ≡ key_at (event_of component.now) slot }
+    ensures start { result.start ≡ start }
+    ensures ends { EndsAt (event_of component.now).times start result.end }
+{
+    let key = InstanceKey {
+        organiser: component.organiser_text(),
+        uid: component.uid.as_str(),
+        slot,
+    };
+    Instance {
+        key,
+        start,
+        end: component.times.end_from(start),
+    }
+}

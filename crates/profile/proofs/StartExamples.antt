@@ -1,0 +1,72 @@
+-- Starts, instances and their ends, worked by the definitions alone.
+use Rattle.std.proofs.Common.{◌≡◌, ℕ, zero, suc, ◌<◌, true, false, List, [], ◌∷◌, codes, refl, inl, inr, arith, ℤ, pos}
+use Rattle.std.specs.Prelude.{Option, Some, None, Contains}
+use Rattle.std.proofs.lemmas.Int.{ints}
+use Rattle.profile.specs.checker.Instances.{Booked}
+use Rattle.profile.specs.events.ZonedTimes.{EventTimes}
+use Rattle.profile.specs.events.Events.{Event}
+use Rattle.profile.specs.events.Meetings.{Meeting}
+use Rattle.profile.specs.events.Starts.{EndsAt, IsStart, IsInstance, key_at}
+
+-- an event in UTC without a rule, of one second, with these times beside it
+abbrev event : Option ℤ → ℤ → List ℤ → List ℤ → Event
+event recurrence start additions exceptions = record {
+  uid = codes "a";
+  organiser = None;
+  stamp = None;
+  sequence = 0;
+  cancelled = true;
+  recurrence = recurrence;
+  times = record { zone = None; local = start; start = start; length = record { days = 0; seconds = 1 } };
+  rule = None;
+  additions = additions;
+  exceptions = exceptions;
+  attendees = [];
+}
+
+-- DTSTART and two RDATEs, one of them DTSTART again, and one that EXDATE takes away
+abbrev master : Event
+master = event None (pos 100) (pos 100 ∷ pos 200 ∷ pos 300 ∷ []) (pos 300 ∷ [])
+
+-- without days it ends its seconds later
+ends : EndsAt master.times (pos 200) (pos 201)
+ends = (pos 200, inl (refl, refl), refl)
+
+-- no instant is one of an empty list
+none : (t : ℤ) → Contains [] t → ⊥
+none t (k, w, e) = omega (arith, w)
+
+at_dtstart : IsStart master [] (pos 100)
+at_dtstart = record {
+  given = inl refl;
+  in_dates = (omega (arith, ints), omega (arith, ints));
+  not_excepted = λ c. only c;
+  not_overridden = λ c. omega (arith, c.1);
+}
+  where
+    only : Contains (pos 300 ∷ []) (pos 100) → ⊥
+    only (zero, w, e) = omega (arith, ints, e)
+    only (suc k, w, e) = omega (arith, w)
+
+-- RDATE at an EXDATE is no start
+excepted : IsStart master [] (pos 300) → ⊥
+excepted s = s.not_excepted (0, omega arith, refl)
+
+-- an override that stands for DTSTART takes that away, though it is cancelled, and is an instance itself; so is one that no start is for
+abbrev override : Event
+override = event (Some (pos 100)) (pos 150) [] []
+
+abbrev other : Event
+other = event (Some (pos 50)) (pos 60) [] []
+
+abbrev meeting : Meeting
+meeting = record { master = Some master; overrides = override ∷ other ∷ [] }
+
+overridden : IsStart master meeting.overrides (pos 100) → ⊥
+overridden s = s.not_overridden (0, omega arith, refl)
+
+moved : IsInstance meeting (record { key = key_at override (pos 100); start = pos 150; end = pos 151 })
+moved = inr (record { override = override; is = (0, omega arith, refl); recurrence = refl; key = refl; starts = refl; ends = (pos 150, inl (refl, refl), refl) })
+
+added : IsInstance meeting (record { key = key_at other (pos 50); start = pos 60; end = pos 61 })
+added = inr (record { override = other; is = (1, omega arith, refl); recurrence = refl; key = refl; starts = refl; ends = (pos 60, inl (refl, refl), refl) })

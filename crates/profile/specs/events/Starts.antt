@@ -1,0 +1,102 @@
+-- When a meeting takes place: its instances, from the master's rule, its RDATEs and EXDATEs, and the overrides (RFC 5545 3.8.5.3, 3.8.5.2,
+-- 3.8.5.1, 3.8.4.4). Instants are seconds from 1970-01-01T00:00:00Z. An instance is known by its start and its slot.
+use Rattle.std.specs.Prelude.{◌≡◌, ◌⊎◌, true, ℕ, ◌*◌, ◌<◌, ◌≤◌, Contains, AllPairs, All, List, [], length, map, Option, Some, None, unwrap_or, ℤ, pos, ◌+ℤ◌, ◌≤ℤ◌, ◌<ℤ◌}
+use Rattle.profile.specs.checker.Instances.{Key, Booked, horizon}
+use Rattle.profile.specs.series.Rules.{Parts, is_rule_day}
+use Rattle.profile.specs.series.Zones.{Zone, IsOffsetAt, Means, local_time}
+use Rattle.profile.specs.events.Properties.{first_second}
+use Rattle.profile.specs.events.ZonedTimes.{EventTimes, clock_of}
+use Rattle.profile.specs.events.EventRules.{IsOnDay}
+use Rattle.profile.specs.events.Events.{Event}
+use Rattle.profile.specs.events.Meetings.{Meeting}
+
+-- ---- when an instance ends
+
+-- so many days later by the clocks of a zone: what the local time means that they show, with the days added to it. Without days it is the
+-- instant itself, also where the clocks show its local time twice
+abbrev pub IsDaysLater : Zone → ℕ → ℤ → ℤ → Type 0
+IsDaysLater zone days instant later =
+    ((days ≡ 0) × (later ≡ instant))
+    ⊎ ((0 < days) × ((offset : ℤ) × IsOffsetAt zone instant offset × Means zone ((instant +ℤ offset) +ℤ pos (86_400 * days)) later))
+
+-- an instance that starts then, of an event with these times, ends then: the days of its length are nominal and come first, in the zone of
+-- DTSTART, then its seconds exactly (RFC 5545 3.3.6). DTEND gives seconds alone, so each instance lasts as long
+abbrev pub EndsAt : EventTimes → ℤ → ℤ → Type 0
+EndsAt times start end =
+    (later : ℤ) × IsDaysLater (clock_of times.zone) times.length.days start later × (end ≡ later +ℤ pos times.length.seconds)
+
+-- ---- at which instants a master starts
+
+-- on a day of its rule, at DTSTART's second of the day on the clocks of DTSTART's zone. A local time that they skip is read with the offset
+-- before, as DTSTART itself is
+pub record IsRuleStart (times : EventTimes) (rule : Parts) (instant : ℤ) : Type 0 where
+  pub first : ℕ
+  pub second : ℕ
+  pub on : IsOnDay times.local first second
+  pub day : ℕ
+  pub listed : is_rule_day rule day ≡ true
+  pub means : Means (clock_of times.zone) (local_time day second) instant
+
+-- by its rule; without one at DTSTART alone
+abbrev pub IsGiven : EventTimes → Option Parts → ℤ → Type 0
+IsGiven times None instant = instant ≡ times.start
+IsGiven times (Some rule) instant = IsRuleStart times rule instant
+
+-- an override stands for this instant, whatever state it is in
+abbrev pub IsOverridden : List Event → ℤ → Type 0
+IsOverridden overrides instant = Contains (map (λ event. event.recurrence) overrides) (Some instant)
+
+-- its starts: by its rule or by RDATE, in the dates that an event may name, so before year 10000, but those that EXDATE names, and those
+-- that an override stands for
+pub record IsStart (master : Event) (overrides : List Event) (instant : ℤ) : Type 0 where
+  pub given : IsGiven master.times master.rule instant ⊎ Contains master.additions instant
+  pub in_dates : (first_second ≤ℤ instant) × (instant <ℤ horizon)
+  pub not_excepted : Contains master.exceptions instant → ⊥
+  pub not_overridden : IsOverridden overrides instant → ⊥
+
+-- ---- instances
+
+-- which instance of the event's meeting
+abbrev pub key_at : Event → ℤ → Key
+key_at event slot = record { organiser = unwrap_or event.organiser []; uid = event.uid; slot = slot }
+
+-- the instance at a start of the master: its slot is that start
+pub record IsOfMaster (meeting : Meeting) (instance : Booked) : Type 0 where
+  pub master : Event
+  pub is : meeting.master ≡ Some master
+  pub starts : IsStart master meeting.overrides instance.start
+  pub key : instance.key ≡ key_at master instance.start
+  pub ends : EndsAt master.times instance.start instance.end
+
+-- the instance that an override is, at its own time: its slot is RECURRENCE-ID, which EXDATE may name, and which no start of the master
+-- need be
+pub record IsOfOverride (meeting : Meeting) (instance : Booked) : Type 0 where
+  pub override : Event
+  pub is : Contains meeting.overrides override
+  pub recurrence : override.recurrence ≡ Some instance.key.slot
+  pub key : instance.key ≡ key_at override instance.key.slot
+  pub starts : instance.start ≡ override.times.start
+  pub ends : EndsAt override.times instance.start instance.end
+
+abbrev pub IsInstance : Meeting → Booked → Type 0
+IsInstance meeting instance = IsOfMaster meeting instance ⊎ IsOfOverride meeting instance
+
+-- ---- in order
+
+-- by start and then by slot
+abbrev pub ComesBefore : Booked → Booked → Type 0
+ComesBefore a b = (a.start <ℤ b.start) ⊎ ((a.start ≡ b.start) × (a.key.slot <ℤ b.key.slot))
+
+-- all that start at an instant or later, in order, each once
+pub record AreInstancesFrom (meeting : Meeting) (from : ℤ) (instances : List Booked) : Type 0 where
+  pub each : All (λ instance. IsInstance meeting instance × (from ≤ℤ instance.start)) instances
+  pub ordered : AllPairs ComesBefore instances
+  pub all : (instance : Booked) → IsInstance meeting instance → from ≤ℤ instance.start → Contains instances instance
+
+-- the first of all, so many of them, or all where there are fewer
+pub record AreFirst (meeting : Meeting) (limit : ℕ) (instances : List Booked) : Type 0 where
+  pub each : All (IsInstance meeting) instances
+  pub ordered : AllPairs ComesBefore instances
+  pub short : length instances ≤ limit
+  pub others : (instance : Booked) → IsInstance meeting instance
+      → Contains instances instance ⊎ ((length instances ≡ limit) × All (λ first. ComesBefore first instance) instances)
