@@ -64,7 +64,7 @@ kept_says event uid sequence stamp start duration organiser room stamped s objec
     duration_line = Some (codes "DURATION:" ++ duration);
     end_once = refl;
     duration_once = refl;
-    lasts = (s.lasts, λ h. absurd (false≢true h));
+    lasts = s.lasts;
     most = s.most;
     in_dates = (s.from_1970, s.from_1970, s.to_9999);
   };

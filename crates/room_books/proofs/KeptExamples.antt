@@ -109,7 +109,7 @@ says object = record {
     duration_line = Some (codes "DURATION:PT1H");
     end_once = refl;
     duration_once = refl;
-    lasts = (an_hour, λ h. absurd (false≢true h));
+    lasts = an_hour;
     most = omega arith;
     in_dates = (omega (arith, ints), omega (arith, ints), omega (arith, ints));
   };
