@@ -1,6 +1,5 @@
+pub mod Instants
 pub mod Views
-pub mod Timelines
 pub mod Takings
 pub mod Standing
-pub mod Replying
-pub mod Keeping
+pub mod Timelines

@@ -2,18 +2,9 @@
 #![tactic(auto)]
 
 pub mod answer;
-pub mod decide;
-mod laws;
+mod decide;
 pub mod meeting;
-mod reply;
-pub mod room;
 mod taking;
-mod texts;
-pub mod timeline;
+mod timeline;
 
 pub use answer::{Answer, Kind, LimitKind};
-pub use laws::{
-    accepted_where_clear, answers_stay, kept_texts_pass, kept_texts_spell, runs_stay_clear,
-    served_texts_pass,
-};
-pub use room::Room;
