@@ -111,7 +111,7 @@ impl Meeting {
 
 /// The instances that these answers confirm.
 pub(crate) fn singles_of(alloc: Global, answers: &[Given]) -> Result<Vec<Single>, AllocError>
-    ensures { IfOk result (λ singles. singles.items ≡ flat_map (λ g. g.singles.items) answers.now) }
+    ensures { IfOk result (λ singles. singles.items ≡ all_singles answers.now) }
 {
     let mut singles = Vec::new(alloc);
     for given in answers {

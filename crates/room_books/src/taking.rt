@@ -101,7 +101,11 @@ impl<'a> Views<'a> {
     }
 
     /// The claims that get an answer now: their parts are fresh, and to take place.
-    pub fn asked<'b>(&self, alloc: Global, claims: &'b [Claim]) -> Result<Vec<&'b Claim>, AllocError>
+    pub fn asked<'b>(
+        &self,
+        alloc: Global,
+        claims: &'b [Claim],
+    ) -> Result<Vec<&'b Claim>, AllocError>
         ensures { IfOk result (λ asked. (before after : List revisions.Part) → StandsAt (option_copied self.now.before) before → StandsFor self.now.after.now after
             → AreAsked before after claims.now asked.items) }
     {
@@ -169,7 +173,12 @@ impl Given {
     }
 
     /// The answer to a claim at a moment, were it accepted.
-    fn accepted(alloc: Global, held: &Held, claim: &Claim, moment: Stamp) -> Result<Given, AllocError>
+    fn accepted(
+        alloc: Global,
+        held: &Held,
+        claim: &Claim,
+        moment: Stamp,
+    ) -> Result<Given, AllocError>
         ensures { IfOk result (IsAccepted held.now claim.now moment) }
     {
         let singles = left_of(alloc, held, &claim.part, &claim.singles)?;

@@ -57,7 +57,6 @@ returns-clause-within c = λ single h.
     subst (λ (o : Option Meeting). Contains (singles_by o) single) (sym (ap option_copied c.in-Some.is))
     (subst (λ (l : List Given). Contains (all_singles l) single) all (c.loop-given.invariant.1 single h))
 
-
 pub loop-given-preserved-in_default-2 : goal.loop-given-preserved-in_default-2
 loop-given-preserved-in_default-2 c =
     let items = c.deref-given-items.result.now in
