@@ -10,4 +10,5 @@ pub mod Deciding
 pub mod Putting
 pub mod Meetings
 pub mod Own
+pub mod Parts
 pub mod Hiding

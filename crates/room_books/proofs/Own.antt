@@ -196,29 +196,3 @@ pub left_pass : (t : List Part) (p : Part) (singles left : List Single) (i : ℕ
 left_pass t p singles left i d h same hidden =
     let f : Single → Bool = λ single. not (is_hidden t p (booked_in p single)) in
     filter_no f (take i singles) left (get_or singles i d) same (ap not hidden) ∙ ap (filter f) (sym (take_more singles i d h))
-
-pub within_push : {X : Type 0} (xs left new : List X) (i : ℕ) (d : X) → i < length xs → new ≡ left ++ get_or xs i d ∷ [] → ((x : X) → Contains left x → Contains (take i xs) x) → (x : X) → Contains new x → Contains (take (i + 1) xs) x
-within_push {X = X} xs left new i d h e f x c =
-    subst (λ (l : List X). Contains l x) (sym (take_more xs i d h)) (elim (Contains-push_cases left (get_or xs i d) x (subst (λ (l : List X). Contains l x) e c)) [
-      | inl old ↦ Contains-append_left (take i xs) (get_or xs i d ∷ []) x (f x old)
-      | inr here ↦ subst (λ (z : X). Contains (take i xs ++ get_or xs i d ∷ []) z) here (Contains-push (take i xs) (get_or xs i d))
-    ])
-
-pub within_pass : {X : Type 0} (xs left : List X) (i : ℕ) (d : X) → i < length xs → ((x : X) → Contains left x → Contains (take i xs) x) → (x : X) → Contains left x → Contains (take (i + 1) xs) x
-within_pass {X = X} xs left i d h f x c = subst (λ (l : List X). Contains l x) (sym (take_more xs i d h)) (Contains-append_left (take i xs) (get_or xs i d ∷ []) x (f x c))
-
--- the same of what answers confirm
-pub singles_push : (items kept new : List Given) (i : ℕ) (given left : Given) → take (i + 1) items ≡ take i items ++ given ∷ [] → new ≡ kept ++ left ∷ [] → ((s : Single) → Contains (all_singles kept) s → Contains (all_singles (take i items)) s)
-    → ((s : Single) → Contains left.singles.items s → Contains given.singles.items s) → (s : Single) → Contains (all_singles new) s → Contains (all_singles (take (i + 1) items)) s
-singles_push items kept new i given left more e f g s c =
-    let f' : Given → List Single = λ x. x.singles.items in
-    subst (λ (l : List Single). Contains l s) (sym (ap all_singles more ∙ flat_push f' (take i items) given))
-    (elim (Contains-append_cases (all_singles kept) left.singles.items s (subst (λ (l : List Single). Contains l s) (ap all_singles e ∙ flat_push f' kept left) c)) [
-      | inl old ↦ Contains-append_left (all_singles (take i items)) given.singles.items s (f s old)
-      | inr new_one ↦ Contains-append_right (all_singles (take i items)) given.singles.items s (g s new_one)
-    ])
-
-pub singles_pass : (items kept : List Given) (i : ℕ) (given : Given) → take (i + 1) items ≡ take i items ++ given ∷ [] → ((s : Single) → Contains (all_singles kept) s → Contains (all_singles (take i items)) s)
-    → (s : Single) → Contains (all_singles kept) s → Contains (all_singles (take (i + 1) items)) s
-singles_pass items kept i given more f s c =
-    subst (λ (l : List Single). Contains l s) (sym (ap all_singles more ∙ flat_push (λ (x : Given). x.singles.items) (take i items) given)) (Contains-append_left (all_singles (take i items)) given.singles.items s (f s c))

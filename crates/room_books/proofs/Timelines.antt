@@ -271,6 +271,12 @@ holds_from s h = and_from _ _ (lt_from s.start s.end h.0) (lt_from s.start horiz
     lt_from : (a b : ℤ) → a <ℤ b → int_lt a b ≡ true
     lt_from a b l = search (arith, ints)
 
+pub holds_to : (s : Span) → holds_instants s ≡ true → HoldsInstants s
+holds_to s h = let both = and_parts _ _ h in (lt_at s.start s.end both.0, lt_at s.start horizon both.1)
+  where
+    lt_at : (a b : ℤ) → int_lt a b ≡ true → a <ℤ b
+    lt_at a b l = search (arith, ints)
+
 holds_not : (s : Span) → (HoldsInstants s → ⊥) → holds_instants s ≡ false
 holds_not s h = search (arith, ints)
 
@@ -412,18 +418,10 @@ module _ (items : List Busy) (x : Busy) (busy : AreBusy items) where
 other_place : (x : Busy) (place : ℕ) (s : Single) → x.place ≢ place → same_busy x (busy_in place s) ≡ false
 other_place x place s n = false_from_ne_true _ (λ e. n (eqb-true x.place place (and_parts _ _ e).1))
 
--- one that stands nowhere else in a list isn't in the rest
-pub once_at : (xs : List Single) (k : ℕ) (d : Single) → AllPairs ◌≢◌ xs → k < length xs → has_single (get_or xs k d) (drop (suc k) xs) ≡ false
-once_at xs k d once l = false_from_ne_true _ (λ h.
-    let c = single_at (drop (suc k) xs) (get_or xs k d) h in
-    let n = length-drop (suc k) xs in
-    let within = c.1 in
-    once k (suc k + c.0) d (omega arith) (omega (arith, n, within, l)) (sym (sym (get_or-drop (suc k) xs c.0 d) ∙ get_or_default (drop (suc k) xs) c.0 d (get_or xs k d) c.1 ∙ c.2)))
-
 module _ (place : ℕ) (s : Single) (rest : List Single) (old mid new : List Busy) where
-  drop_one : (holds same more here : Bool) → here ≡ true → (same ≡ true → more ≡ false) → ((holds && (same || more)) && not (same && here)) ≡ (holds && more)
+  drop_one : (holds same more here : Bool) → here ≡ true → (holds ≡ true → same ≡ true → more ≡ false) → ((holds && (same || more)) && not (same && here)) ≡ (holds && more)
   drop_one false same more here e h = refl
-  drop_one true true more true e h = sym (h refl)
+  drop_one true true more true e h = sym (h refl refl)
   drop_one true true more false e h = absurd (true≢false (sym e))
   drop_one true false true here e h = refl
   drop_one true false false here e h = refl
@@ -433,11 +431,11 @@ module _ (place : ℕ) (s : Single) (rest : List Single) (old mid new : List Bus
   keep_one true false e = refl
   keep_one false same e = refl
 
-  pub take_step : has_single s rest ≡ false → IsChanged place (s ∷ rest) old mid → IsTaken (busy_in place s) mid new → IsChanged place rest old new
+  pub take_step : (holds_instants s.span ≡ true → has_single s rest ≡ false) → IsChanged place (s ∷ rest) old mid → IsTaken (busy_in place s) mid new → IsChanged place rest old new
   take_step once changed taken = record {
     own = λ x e. taken x ∙ ap (λ b. b && not (same_busy x (busy_in place s))) (changed.own x e)
         ∙ drop_one (holds_instants x.single.span) (same_single x.single s) (has_single x.single rest) (x.place == place) (eq-eqb x.place place e)
-        (λ same. ap (λ z. has_single z rest) (single_same x.single s same) ∙ once);
+        (λ holds same. (let is = single_same x.single s same in ap (λ z. has_single z rest) is ∙ once (ap (λ (z : Single). holds_instants z.span) (sym is) ∙ holds)));
     others = λ x n. taken x ∙ keep_one (has_busy x mid) (same_busy x (busy_in place s)) (other_place x place s n) ∙ changed.others x n;
   }
 
@@ -508,6 +506,14 @@ later_apart xs k d separate l s c t h =
     let here : j < length xs = omega (arith, n, within, l) in
     let same : get_or xs j d ≡ s = sym (get_or-drop (suc k) xs c.0 d) ∙ get_or_default (drop (suc k) xs) c.0 d s c.1 ∙ c.2 in
     separate k j d (omega arith) here t (subst (λ (z : Single). HaveInstant (get_or xs k d).span z.span t) (sym same) h)
+
+-- so one that holds an instant isn't among them
+pub separate_once : (xs : List Single) (k : ℕ) (d : Single) → AreSeparate xs → k < length xs → holds_instants (get_or xs k d).span ≡ true → has_single (get_or xs k d) (drop (suc k) xs) ≡ false
+separate_once xs k d separate l holds = false_from_ne_true _ (λ h.
+    let s = get_or xs k d in
+    let both = holds_to s.span holds in
+    let first = both.0 in
+    later_apart xs k d separate l s (single_at (drop (suc k) xs) s h) s.span.start (record { in_first = (omega (arith, ints), first); in_second = (omega (arith, ints), first); before = both.1 }))
 
 -- ---- the change of a place
 

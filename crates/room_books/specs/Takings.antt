@@ -1,5 +1,5 @@
 -- What a message does to its meeting.
-use Rattle.std.specs.Prelude.{◌≡◌, ◌⊎◌, ℕ, ℤ, true, false, not, if◌then◌else◌, List, [], map, filter, Contains, Option, Some, None, option_map, Vec}
+use Rattle.std.specs.Prelude.{◌≡◌, ◌⊎◌, ℕ, ℤ, true, false, not, if◌then◌else◌, List, [], map, filter, Option, Some, None, option_map, Vec}
 use denote.Ref.{Bor}
 use Rattle.profile.specs.text.Values.{IsClockSeconds}
 use Rattle.cal_events.specs.Calendars.{owned_key_of}
@@ -19,6 +19,7 @@ use Rattle.room_books.specs.declared.meeting.Given.{Given}
 use Rattle.room_books.specs.declared.meeting.Outcome.{Outcome}
 use Rattle.room_books.specs.declared.taking.Claim.{Claim}
 use Rattle.room_books.specs.Views.{outcome_of}
+use Rattle.room_books.specs.Instants.{IsPartOf}
 use Rattle.std.specs.Str.Lines.{lines}
 
 -- ---- what a message asks for
@@ -72,12 +73,12 @@ abbrev pub left_in : List revisions.Part → revisions.Part → List Single → 
 left_in history part singles = filter (λ single. not (rooms.is_hidden history part (booked_in part single))) singles
 
 -- one answer is the other, with the instances that are left
-pub record IsLeftOf (held : List revisions.Part) (part : revisions.Part) (given left : Given) : Type 0 where
+pub record IsLeftOf (held : List revisions.Part) (of : revisions.Part) (given left : Given) : Type 0 where
   pub slot : left.slot ≡ given.slot
   pub moment : left.moment ≡ given.moment
   pub outcome : outcome_of left.outcome ≡ outcome_of given.outcome
-  pub singles : (history : List revisions.Part) → StandsFor held history → left.singles.items ≡ left_in history part given.singles.items
-  pub within : (single : Single) → Contains left.singles.items single → Contains given.singles.items single
+  pub singles : (history : List revisions.Part) → StandsFor held history → left.singles.items ≡ left_in history of given.singles.items
+  pub part : IsPartOf left.singles.items given.singles.items
 
 -- the answer to a claim at a moment, were it accepted
 pub record IsAccepted (held : List revisions.Part) (claim : Claim) (moment : ℤ) (given : Given) : Type 0 where
@@ -85,7 +86,7 @@ pub record IsAccepted (held : List revisions.Part) (claim : Claim) (moment : ℤ
   pub moment_is : given.moment ≡ moment
   pub outcome : outcome_of given.outcome ≡ messages.Accept
   pub singles : (history : List revisions.Part) → StandsFor held history → given.singles.items ≡ left_in history (part_of claim.part) claim.singles.items
-  pub within : (single : Single) → Contains given.singles.items single → Contains claim.singles.items single
+  pub part : IsPartOf given.singles.items claim.singles.items
 
 -- a candidate with what was decided: it confirms something only where that is to accept it
 pub record IsDecided (candidate : Given) (outcome : Outcome) (given : Given) : Type 0 where

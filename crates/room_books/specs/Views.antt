@@ -1,10 +1,11 @@
 -- What the types of a room stand for, and what is decided of an instance.
-use Rattle.std.specs.Prelude.{◌≡◌, ◌≢◌, ℕ, ℤ, Bool, not, ◌&&◌, List, [], map, filter, Contains, Option, Some, None, slice_get}
+use Rattle.std.specs.Prelude.{◌≡◌, ◌≢◌, ℕ, ℤ, Bool, not, ◌&&◌, List, [], ◌++◌, ◌≤◌, length, map, filter, Contains, AllPairs, Option, Some, None, slice_get}
 use Rattle.std.specs.List.{flat_map}
 use Rattle.std.specs.Str.{bytes_eq}
 use Rattle.ical_values.specs.Octets.{address_octets, text_octets}
 use Rattle.cal_events.specs.Calendars.{owned_key_of}
-use Rattle.profile.specs.checker.Instances.{Booked}
+use Rattle.profile.specs.checker.Instances.{Booked, IsClear}
+use Rattle.profile.specs.rooms.Rooms.{most_singles}
 use Rattle.profile.specs.rooms.Messages as messages
 use Rattle.cal_events.specs.declared.sweep.Span.{Span}
 use Rattle.room_books.specs.Instants.{HaveInstant, Overlap, AreSeparate}
@@ -101,7 +102,13 @@ abbrev pub AreBusyIn : List Booked → List Single → Option Shared → Type 0
 AreBusyIn all wanted None = (s : Single) → Contains wanted s → IsFree all s.span
 AreBusyIn all wanted (Some x) = Contains wanted x.asked × Contains all (booked_of x.other.now x.booked) × Overlap x.asked.span x.booked.span
 
--- two of these, of different original starts, share an instant, or none do
+-- two of these share an instant, of different original starts where all have different ones, or none do
 abbrev pub HaveOverlap : List Single → Option (Single × Single) → Type 0
 HaveOverlap singles None = AreSeparate singles
-HaveOverlap singles (Some p) = Contains singles p.0 × Contains singles p.1 × (p.0.slot ≢ p.1.slot) × Overlap p.0.span p.1.span
+HaveOverlap singles (Some p) = Contains singles p.0 × Contains singles p.1 × (AllPairs ◌≢◌ (slots_of singles) → p.0.slot ≢ p.1.slot) × Overlap p.0.span p.1.span
+
+-- what a meeting keeps and asks for may be confirmed beside these: within the limit, clear, and itself apart
+pub record MayJoin (others : List Booked) (key : MeetingKey) (singles : List Single) : Type 0 where
+  pub few : length (others ++ booked_list key singles) ≤ most_singles
+  pub clear : IsClear (others ++ booked_list key singles)
+  pub separate : AreSeparate singles

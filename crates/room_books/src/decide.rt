@@ -5,10 +5,11 @@ ghost use Rattle.std.specs.Ordering.{is_lt};
 ghost use Rattle.std.specs.List.{IsDistinct};
 ghost use Rattle.indexmap.specs.IndexMap.{keys};
 ghost use Rattle.profile.specs.checker.Instances.{booked_cmp, IsClear};
+ghost use Rattle.profile.specs.rooms.Messages.{Accept};
 ghost use Rattle.profile.specs.rooms.Rooms.{Decides};
 ghost use Rattle.clash_cert.specs.Makings.{AreNamed, HasKeys};
 ghost use Rattle.room_books.specs.declared.meeting.Single.{Single};
-ghost use Rattle.room_books.specs.Views.{booked_of, booked_list, confirmed_at, others, outcome_of, same_key, slots_of, spans_of, AreBusyIn, HaveOverlap};
+ghost use Rattle.room_books.specs.Views.{booked_of, booked_list, confirmed_at, others, outcome_of, same_key, slots_of, spans_of, AreBusyIn, HaveOverlap, MayJoin};
 ghost use Rattle.room_books.specs.Instants.{IsLater};
 ghost use Rattle.room_books.specs.Timelines.{IsTimelineOf};
 
@@ -50,8 +51,9 @@ pub(crate) fn decide(
     requires beside { beside ≡ length (others key.now meetings.now.entries) }
     requires few { beside + length kept.now ≤ 10_000 }
     requires clear { IsClear (others key.now meetings.now.entries ++ booked_list key.now kept.now) }
-    requires distinct { AllPairs ◌≢◌ (slots_of (kept.now ++ wanted.now)) }
-    ensures { IfOk result (λ outcome. Decides (others key.now meetings.now.entries ++ booked_list key.now (kept.now ++ wanted.now)) (outcome_of outcome)) }
+    ensures decides { IfOk result (λ outcome. AllPairs ◌≢◌ (slots_of (kept.now ++ wanted.now))
+        → Decides (others key.now meetings.now.entries ++ booked_list key.now (kept.now ++ wanted.now)) (outcome_of outcome)) }
+    ensures joins { IfOk result (λ outcome. outcome_of outcome ≡ Accept → MayJoin (others key.now meetings.now.entries) key.now (kept.now ++ wanted.now)) }
 {
     if wanted.len() > MOST_SINGLES - beside - kept.len() {
         return Ok(Outcome::Limit(LimitKind::Singles));
@@ -94,7 +96,6 @@ fn own_overlap(
     kept: &[Single],
     wanted: &[Single],
 ) -> Result<Option<(Single, Single)>, AllocError>
-    requires { AllPairs ◌≢◌ (slots_of (kept.now ++ wanted.now)) }
     ensures { IfOk result (HaveOverlap (kept.now ++ wanted.now)) }
 {
     // one alone

@@ -1,6 +1,6 @@
 //! What a message does to its meeting: computed beside the room, and put into it by the last step.
 
-ghost use Rattle.std.specs.Prelude.{◌≡◌, ◌++◌, List, IfOk, IfSome, Contains, option_copied};
+ghost use Rattle.std.specs.Prelude.{◌≡◌, ◌++◌, List, IfOk, IfSome, option_copied};
 ghost use Rattle.std.specs.List.{AllZip};
 ghost use Rattle.profile.specs.rooms.Revisions as revisions;
 ghost use Rattle.profile.specs.rooms.Rooms as rooms;
@@ -8,6 +8,7 @@ ghost use Rattle.profile.specs.rooms.Rooms.{is_set};
 ghost use Rattle.itip_order.specs.Parts.{part_of};
 ghost use Rattle.itip_order.specs.Registers.{StandsFor};
 ghost use Rattle.room_books.specs.Views.{outcome_of, all_singles, singles_by};
+ghost use Rattle.room_books.specs.Instants.{IsPartOf};
 ghost use Rattle.room_books.specs.Standing.{KeepsAll};
 ghost use Rattle.room_books.specs.Takings.{StandsAt, AreAsked, booked_in, left_in, IsLeftOf, IsAccepted, IsDecided, IsStill, parts_said};
 
@@ -121,7 +122,7 @@ impl<'a> Views<'a> {
     /// The answers to parts that stay in the view, each with the instances that it still confirms. The part is one of the meeting.
     pub fn kept(&self, alloc: Global, part: &Part) -> Result<Vec<Given>, AllocError>
         ensures kept { IfOk result (λ kept. KeepsAll (part_of part.now) (option_copied self.now.before) self.now.after.now kept.items) }
-        ensures within { IfOk result (λ kept. (single : Single) → Contains (all_singles kept.items) single → Contains (singles_by (option_copied self.now.before)) single) }
+        ensures part { IfOk result (λ kept. IsPartOf (all_singles kept.items) (singles_by (option_copied self.now.before))) }
     {
         let mut kept = Vec::new(alloc);
         let Some(meeting) = self.before else {
@@ -146,7 +147,7 @@ fn still(
     given: &Given,
 ) -> Result<Option<Given>, AllocError>
     ensures still { IfOk result (IsStill before.now after.now (part_of part.now) given.now) }
-    ensures within { IfOk result (λ still. IfSome still (λ left. (single : Single) → Contains left.singles.items single → Contains given.now.singles.items single)) }
+    ensures part { IfOk result (λ still. IfSome still (λ left. IsPartOf left.singles.items given.now.singles.items)) }
 {
     let Some(own) = before.part_in(part, given.slot) else {
         return Ok(None);
@@ -217,7 +218,7 @@ fn left_of(
     singles: &[Single],
 ) -> Result<Vec<Single>, AllocError>
     ensures left { IfOk result (λ left. (history : List revisions.Part) → StandsFor held.now history → left.items ≡ left_in history (part_of part.now) singles.now) }
-    ensures within { IfOk result (λ left. (single : Single) → Contains left.items single → Contains singles.now single) }
+    ensures part { IfOk result (λ left. IsPartOf left.items singles.now) }
 {
     let mut left = Vec::new(alloc);
     for single in singles {

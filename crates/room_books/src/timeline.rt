@@ -1,6 +1,6 @@
 //! When a room is taken: what is confirmed in it, in order of time. It knows the places of meetings, and nothing else of them.
 
-ghost use Rattle.std.specs.Prelude.{◌≡◌, ◌≢◌, ◌<◌, ◌≤◌, ◌+◌, ◌↔◌, true, IsTrue, List, [], OnOk, length, Contains, AllPairs};
+ghost use Rattle.std.specs.Prelude.{◌≡◌, ◌<◌, ◌≤◌, ◌+◌, ◌↔◌, true, IsTrue, [], OnOk, length, Contains};
 ghost use Rattle.std.specs.List.{find, take_while};
 ghost use Rattle.room_books.specs.declared.meeting.Single.{Single};
 ghost use Rattle.room_books.specs.Timelines.{AreBusy, HoldsInstants, IsPlaceAfter, AreTaken, IsSharedIn, IsFreeBut, IsFreeAmong, AreAt, IsChanged, IsTaken, IsPut, IsTimelineOf, is_beside, starts_before, busy_in, has_busy};
@@ -91,7 +91,7 @@ impl Timeline {
     /// Puts what the meeting in a place confirms after a message where it confirmed something else before.
     pub(crate) fn change(&mut self, place: usize, before: &[Single], after: &[Single])
         requires held { AreAt place before.now self.old.busy.items }
-        requires once { AllPairs ◌≢◌ before.now }
+        requires apart { AreSeparate before.now }
         requires counted { length before.now ≤ self.old.confirmed }
         requires free { (s : Single) → Contains after.now s → IsFreeBut place self.old.busy.items s.span }
         requires separate { AreSeparate after.now }
@@ -107,7 +107,7 @@ impl Timeline {
     /// Takes out all that a meeting had confirmed.
     fn take_all(&mut self, place: usize, singles: &[Single])
         requires held { AreAt place singles.now self.old.busy.items }
-        requires once { AllPairs ◌≢◌ singles.now }
+        requires apart { AreSeparate singles.now }
         requires counted { length singles.now ≤ self.old.confirmed }
         ensures changed { IsChanged place [] self.old.busy.items self.new.busy.items }
         ensures confirmed { self.new.confirmed + length singles.now ≡ self.old.confirmed }

@@ -22,6 +22,6 @@ returns c =
     let both = among singles spans are c.in-Some.overlap found first second c.own_at-first.ensures c.own_at-second.ensures in (
       both.0,
       both.1,
-      slots_differ singles spans are c.in-Some.overlap found first second c.own_at-first.ensures c.own_at-second.ensures c.requires,
+      slots_differ singles spans are c.in-Some.overlap found first second c.own_at-first.ensures c.own_at-second.ensures,
       overlap_is singles spans are c.in-Some.overlap found first second c.own_at-first.ensures c.own_at-second.ensures,
     )

@@ -1,6 +1,6 @@
 use Rattle.std.proofs.Common.{refl, rules, subst, sym, ◌∙◌, ap, List}
 use Rattle.room_books.specs.declared.meeting.Single.{Single}
-use Rattle.std.specs.Prelude.{Contains}
+use Rattle.room_books.specs.Instants.{IsPartOf}
 use Rattle.itip_order.specs.Parts.{part_of}
 use Rattle.room_books.specs.Takings.{left_in}
 use Rattle.room_books.proofs.meeting.Given.accepted.Goals as goal
@@ -11,5 +11,5 @@ returns c = record {
   moment_is = refl;
   outcome = refl;
   singles = λ history s. c.in_ok-singles.ensures.left history s ∙ ap (left_in history (part_of c.args.claim.now.part)) c.deref.ensures.value;
-  within = λ single h. subst (λ (l : List Single). Contains l single) c.deref.ensures.value (c.in_ok-singles.ensures.within single h);
+  part = subst (IsPartOf c.in_ok-singles.singles.items) c.deref.ensures.value c.in_ok-singles.ensures.part;
 }
