@@ -10,7 +10,7 @@ use Rattle.profile.specs.checker.Instances.{Booked, IsClear}
 use Rattle.profile.specs.text.Values.{IsClockSeconds}
 use Rattle.profile.specs.rooms.Revisions.{Part, Slot, Whole, At, Body, Set, Absent, Cancelled, in_view, same_place}
 use Rattle.profile.specs.rooms.Messages.{Outcome}
-use Rattle.profile.specs.rooms.Rooms.{Claim, Answer, Book, Kind, is_set, confirmed, confirmed_in, most_singles, IsStep, kind_of}
+use Rattle.profile.specs.rooms.Rooms.{Claim, Answer, Book, Kind, is_set, parts_of, asked, answered, confirmed, confirmed_in, most_singles, IsStep, kind_of}
 use Rattle.profile.specs.rooms.Kept.{Replies, first_parts}
 use Rattle.room_books.specs.declared.meeting.MeetingKey.{MeetingKey}
 use Rattle.room_books.specs.declared.meeting.Meeting.{Meeting}
@@ -141,6 +141,20 @@ pub record Stands (entries : List (MeetingKey × Meeting)) (book : Book) : Type 
   pub clear : IsClear (confirmed book)
   pub few : length (confirmed book) ≤ most_singles
   pub meets : (key : MeetingKey) → MeetsAt (book_of key book) key (lookup (same_key key) entries)
+
+-- the book after these claims, where this was decided
+abbrev pub book_after : Book → List Claim → ℤ → Outcome → Book
+book_after book claims moment outcome = record {
+  taken = book.taken ++ parts_of claims;
+  answers = book.answers ++ answered moment outcome (asked book.taken (book.taken ++ parts_of claims) claims);
+}
+
+-- a meeting after a message: by a step from the book before it
+pub record IsMeetingAfter (book : Book) (key : MeetingKey) (claims : List Claim) (moment : ℤ) (kind : Kind) (meeting : Meeting) : Type 0 where
+  pub outcome : Outcome
+  pub step : IsStep book claims moment outcome (book_after book claims moment outcome)
+  pub meets : Meets (book_of key (book_after book claims moment outcome)) key meeting
+  pub kind_is : kind ≡ kind_of book.taken (book.taken ++ parts_of claims) claims outcome
 
 -- from the book a step with these claims leads to a book that the meetings stand for
 pub record StepsTo (entries : List (MeetingKey × Meeting)) (book : Book) (claims : List Claim) (moment : ℤ) (kind : Kind) : Type 0 where

@@ -1,5 +1,6 @@
 -- What a message does to its meeting.
-use Rattle.std.specs.Prelude.{◌≡◌, ◌⊎◌, ℕ, ℤ, true, false, not, if◌then◌else◌, List, [], map, filter, Option, Some, None, option_map, Vec}
+use Rattle.std.specs.Prelude.{◌≡◌, ◌≢◌, ◌⊎◌, ◌++◌, ℕ, ℤ, true, false, not, nat_lt, IsTrue, if◌then◌else◌, List, [], length, map, filter, AllPairs, Option, Some, None, option_map, is_some, Vec}
+use Rattle.std.specs.List.{AllZip}
 use denote.Ref.{Bor}
 use Rattle.profile.specs.text.Values.{IsClockSeconds}
 use Rattle.cal_events.specs.Calendars.{owned_key_of}
@@ -18,9 +19,31 @@ use Rattle.room_books.specs.declared.meeting.Single.{Single}
 use Rattle.room_books.specs.declared.meeting.Given.{Given}
 use Rattle.room_books.specs.declared.meeting.Outcome.{Outcome}
 use Rattle.room_books.specs.declared.taking.Claim.{Claim}
-use Rattle.room_books.specs.Views.{outcome_of}
+use Rattle.room_books.specs.declared.meeting.MeetingKey.{MeetingKey}
+use Rattle.room_books.specs.Views.{outcome_of, all_singles, booked_list, slots_of, MayJoin}
 use Rattle.room_books.specs.Instants.{IsPartOf}
 use Rattle.std.specs.Str.Lines.{lines}
+
+-- ---- what is told
+
+-- what a kind says
+abbrev pub kind_view : Kind → rooms.Kind
+kind_view kind.Accepted = rooms.Accepted
+kind_view (kind.Declined clash) = rooms.Declined (owned_key_of clash.first) (owned_key_of clash.second) clash.instant
+kind_view (kind.Limit Series) = rooms.SeriesSpent
+kind_view (kind.Limit Singles) = rooms.SinglesSpent
+kind_view kind.Cancelled = rooms.Withdrawn
+kind_view kind.Repeated = rooms.Repeated
+kind_view kind.Stale = rooms.Stale
+kind_view kind.NotAddressed = rooms.NotAddressed
+
+-- the octets of a text, where there is one
+abbrev pub octets_in : {Z : Type 0} → Option (Vec ℕ Z) → Option (List ℕ)
+octets_in octets = option_map (λ octets. octets.items) octets
+
+-- the octets that an answer sends as its reply
+abbrev pub reply_octets : Answer → Option (List ℕ)
+reply_octets answer = octets_in answer.reply
 
 -- ---- what a message asks for
 
@@ -95,6 +118,33 @@ pub record IsDecided (candidate : Given) (outcome : Outcome) (given : Given) : T
   pub outcome_is : outcome_of given.outcome ≡ outcome_of outcome
   pub singles : given.singles.items ≡ (if rooms.is_accept (outcome_of outcome) then candidate.singles.items else [])
 
+-- what is decided of candidates beside what a meeting keeps and all that the others have confirmed: where all its instances have
+-- different original starts, as the machine decides; and what is accepted may be confirmed
+pub record IsDecision (others : List Booked) (key : MeetingKey) (kept wanted : List Single) (outcome : Outcome) : Type 0 where
+  pub decides : AllPairs ◌≢◌ (slots_of (kept ++ wanted)) → rooms.Decides (others ++ booked_list key (kept ++ wanted)) (outcome_of outcome)
+  pub joins : outcome_of outcome ≡ messages.Accept → MayJoin others key (kept ++ wanted)
+
+-- the answers that stay, and behind them those to the claims that are asked, decided as one
+abbrev pub IsAnswered : List Booked → MeetingKey → List revisions.Part → ℤ → List Given → List (Bor Claim) → List Given → Option Outcome → Type 0
+IsAnswered others key held moment kept asked answers None = (asked ≡ []) × (answers ≡ kept)
+IsAnswered others key held moment kept asked answers (Some outcome) =
+    (asked ≢ []) × ((candidates : List Given) × (decided : List Given)
+    × AllZip (λ claim given. IsAccepted held claim.now moment given) asked candidates
+    × AllZip (λ candidate given. IsDecided candidate outcome given) candidates decided
+    × IsDecision others key (all_singles kept) (all_singles candidates) outcome
+    × (answers ≡ kept ++ decided))
+
+-- what was decided of a message; nothing hangs on it where nothing was
+abbrev pub outcome_said : Option Outcome → messages.Outcome
+outcome_said None = messages.Accept
+outcome_said (Some outcome) = outcome_of outcome
+
+-- what became of a message of some parts, where it was decided exactly where some are asked
+abbrev pub IsKindOf : List revisions.Part → List revisions.Part → List Claim → Option Outcome → Kind → Type 0
+IsKindOf before after claims outcome kind =
+    IsTrue (nat_lt 0 (length claims)) → nat_lt 0 (length (rooms.asked before after (claims_said claims))) ≡ is_some outcome
+    → kind_view kind ≡ rooms.kind_of before after (claims_said claims) (outcome_said outcome)
+
 -- the part in the view of these registers that is of that place
 pub record IsViewed (held : List revisions.Part) (place part : revisions.Part) : Type 0 where
   pub seen : IsInView held part
@@ -114,24 +164,3 @@ OutcomeDated messages.Accept = Unit {0}
 OutcomeDated (messages.Busy a b t) = IsClockSeconds t × IsClockSeconds a.slot × IsClockSeconds b.slot
 OutcomeDated messages.SeriesLimit = Unit {0}
 OutcomeDated messages.SinglesLimit = Unit {0}
-
--- ---- what is told
-
--- what a kind says
-abbrev pub kind_view : Kind → rooms.Kind
-kind_view kind.Accepted = rooms.Accepted
-kind_view (kind.Declined clash) = rooms.Declined (owned_key_of clash.first) (owned_key_of clash.second) clash.instant
-kind_view (kind.Limit Series) = rooms.SeriesSpent
-kind_view (kind.Limit Singles) = rooms.SinglesSpent
-kind_view kind.Cancelled = rooms.Withdrawn
-kind_view kind.Repeated = rooms.Repeated
-kind_view kind.Stale = rooms.Stale
-kind_view kind.NotAddressed = rooms.NotAddressed
-
--- the octets of a text, where there is one
-abbrev pub octets_in : {Z : Type 0} → Option (Vec ℕ Z) → Option (List ℕ)
-octets_in octets = option_map (λ octets. octets.items) octets
-
--- the octets that an answer sends as its reply
-abbrev pub reply_octets : Answer → Option (List ℕ)
-reply_octets answer = octets_in answer.reply

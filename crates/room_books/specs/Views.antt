@@ -112,3 +112,7 @@ pub record MayJoin (others : List Booked) (key : MeetingKey) (singles : List Sin
   pub few : length (others ++ booked_list key singles) ≤ most_singles
   pub clear : IsClear (others ++ booked_list key singles)
   pub separate : AreSeparate singles
+
+-- no two instances of one meeting share an instant
+abbrev pub AreAllApart : List (MeetingKey × Meeting) → Type 0
+AreAllApart entries = (entry : MeetingKey × Meeting) → Contains entries entry → AreSeparate (confirmed_singles entry.1)

@@ -4,7 +4,10 @@
 pub mod answer;
 mod decide;
 pub mod meeting;
+mod reply;
+pub mod room;
 mod taking;
 mod timeline;
 
 pub use answer::{Answer, Kind, LimitKind};
+pub use room::Room;

@@ -1,7 +1,7 @@
 //! What a message does to its meeting: computed beside the room, and put into it by the last step.
 
 ghost use Rattle.std.specs.Prelude.{◌≡◌, ◌++◌, List, IfOk, IfSome, option_copied};
-ghost use Rattle.std.specs.List.{AllZip};
+ghost use Rattle.std.specs.List.{AllZip, list_any};
 ghost use Rattle.profile.specs.rooms.Revisions as revisions;
 ghost use Rattle.profile.specs.rooms.Rooms as rooms;
 ghost use Rattle.profile.specs.rooms.Rooms.{is_set};
@@ -10,8 +10,9 @@ ghost use Rattle.itip_order.specs.Registers.{StandsFor};
 ghost use Rattle.room_books.specs.Views.{outcome_of, all_singles, singles_by};
 ghost use Rattle.room_books.specs.Instants.{IsPartOf};
 ghost use Rattle.room_books.specs.Standing.{KeepsAll};
-ghost use Rattle.room_books.specs.Takings.{StandsAt, AreAsked, booked_in, left_in, IsLeftOf, IsAccepted, IsDecided, IsStill, parts_said};
+ghost use Rattle.room_books.specs.Takings.{StandsAt, AreAsked, booked_in, left_in, IsLeftOf, IsAccepted, IsDecided, IsKindOf, IsStill, kind_view, parts_said};
 
+use crate::answer::Kind;
 use crate::meeting::{Given, Meeting, Outcome, Single};
 use ical_values::Stamp;
 use itip_order::{Body, Held, Part, Slot};
@@ -119,6 +120,47 @@ impl<'a> Views<'a> {
         Ok(asked)
     }
 
+    /// What became of a message with these claims, where this was decided of those that get an answer now.
+    pub fn kind_of(&self, claims: &[Claim], outcome: &Option<Outcome>) -> Result<Kind, AllocError>
+        ensures { IfOk result (λ kind. (before after : List revisions.Part) → StandsAt (option_copied self.now.before) before → StandsFor self.now.after.now after
+            → IsKindOf before after claims.now outcome.now kind) }
+    {
+        if let Some(outcome) = outcome {
+            return kind_of_outcome(outcome);
+        }
+        if self.any_fresh(claims) {
+            return Ok(Kind::Cancelled);
+        }
+        if self.any_same(claims) {
+            return Ok(Kind::Repeated);
+        }
+        Ok(Kind::Stale)
+    }
+
+    fn any_fresh(&self, claims: &[Claim]) -> bool
+        ensures { (before after : List revisions.Part) → StandsAt (option_copied self.now.before) before → StandsFor self.now.after.now after
+            → result ≡ list_any (rooms.is_fresh before after) (parts_said claims.now) }
+    {
+        for claim in claims {
+            if self.is_fresh(&claim.part) {
+                return true;
+            }
+        }
+        false
+    }
+
+    fn any_same(&self, claims: &[Claim]) -> bool
+        ensures { (before after : List revisions.Part) → StandsAt (option_copied self.now.before) before → StandsFor self.now.after.now after
+            → result ≡ list_any (rooms.is_same before after) (parts_said claims.now) }
+    {
+        for claim in claims {
+            if self.is_same(&claim.part) {
+                return true;
+            }
+        }
+        false
+    }
+
     /// The answers to parts that stay in the view, each with the instances that it still confirms. The part is one of the meeting.
     pub fn kept(&self, alloc: Global, part: &Part) -> Result<Vec<Given>, AllocError>
         ensures kept { IfOk result (λ kept. KeepsAll (part_of part.now) (option_copied self.now.before) self.now.after.now kept.items) }
@@ -135,6 +177,16 @@ impl<'a> Views<'a> {
             kept.push(still)?;
         }
         Ok(kept)
+    }
+}
+
+fn kind_of_outcome(outcome: &Outcome) -> Result<Kind, AllocError>
+    ensures { IfOk result (λ kind. kind_view kind ≡ rooms.kind_of_outcome (outcome_of outcome.now)) }
+{
+    match outcome {
+        Outcome::Accepted => Ok(Kind::Accepted),
+        Outcome::Declined(clash) => Ok(Kind::Declined(clash.clone()?)),
+        Outcome::Limit(limit) => Ok(Kind::Limit(*limit)),
     }
 }
 

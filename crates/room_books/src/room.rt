@@ -1,0 +1,252 @@
+//! A room takes messages one after another. A message is taken whole or not at all: everything is computed
+//! beside the room, and put into it by the last step.
+
+ghost use Rattle.std.specs.Prelude.{◌≡◌, ◌<◌, ◌≤◌, ◌++◌, Some, List, [], length, IfOk, OnOk, OnErr, IsTrue};
+ghost use Rattle.std.specs.List.{IsDistinct};
+ghost use Rattle.std.specs.Map.{lookup};
+ghost use Rattle.indexmap.specs.IndexMap.{keys, insert_entry, IsUnchanged, Updates};
+ghost use Rattle.ical_values.specs.Octets.{address_octets};
+ghost use Rattle.itip_order.specs.Parts.{part_of};
+ghost use Rattle.profile.specs.checker.Instances.{IsClear};
+ghost use Rattle.profile.specs.rooms.Rooms.{Book, empty_book};
+ghost use Rattle.room_books.specs.Instants.{AreSeparate, IsPartOf};
+ghost use Rattle.room_books.specs.Views.{same_key, all_confirmed, all_singles, confirmed_at, confirmed_singles, singles_by, others, AreAllApart, IsKeyOf, MayJoin};
+ghost use Rattle.room_books.specs.Timelines.{IsTimelineOf};
+ghost use Rattle.room_books.specs.Takings.{claims_said, kind_view, reply_octets, IsDecision, IsAnswered, IsKindOf};
+ghost use Rattle.room_books.specs.Standing.{Stands, StepsWith, AreFitting, IsMeetingAfter};
+
+use crate::answer::{Answer, Kind};
+use crate::decide::{Meetings, decide, keys_differ};
+use crate::meeting::{Given, Meeting, MeetingKey, Outcome, Single, singles_of};
+use crate::reply::reply_to;
+use crate::taking::{Claim, Views, candidates, decided, held_after};
+use crate::timeline::Timeline;
+use ical_values::{Address, Stamp};
+use indexmap::IndexMap;
+use itip_order::{Held, Part};
+use std::alloc::{AllocError, Global};
+
+/// A room with all that it ever took.
+#[derive(Drop)]
+pub struct Room {
+    alloc: Global,
+    address: Address,
+    meetings: Meetings,
+    timeline: Timeline,
+    ghost timed: { IsTimelineOf (confirmed_at meetings.entries) timeline.busy.items },
+    ghost counted: { timeline.confirmed ≡ length (all_confirmed meetings.entries) },
+    ghost clear: { IsClear (all_confirmed meetings.entries) },
+    ghost apart: { AreAllApart meetings.entries },
+}
+
+/// A meeting after a message, and what became of the message.
+#[derive(Drop)]
+struct Taken {
+    meeting: Meeting,
+    kind: Kind,
+}
+
+/// The answers that a meeting has after a message, and what was decided of those that are new; None where none is.
+#[derive(Drop)]
+struct Answered {
+    answers: Vec<Given>,
+    outcome: Option<Outcome>,
+}
+
+impl Room {
+    /// A room that has taken nothing.
+    pub fn new(alloc: Global, address: Address) -> Room
+        ensures empty { Stands result.meetings.entries empty_book }
+        ensures address { result.address ≡ address }
+    {
+        Room {
+            alloc,
+            address,
+            meetings: IndexMap::new(alloc),
+            timeline: Timeline::new(alloc),
+        }
+    }
+
+    /// The allocator that the room keeps.
+    pub fn alloc(&self) -> Global {
+        self.alloc
+    }
+
+    /// The room's own address, in lower case: an ATTENDEE of this address is the room (RFC 5545 3.8.4.1).
+    pub fn address(&self) -> &Address
+        ensures { result.now ≡ self.now.address }
+    {
+        &self.address
+    }
+
+    /// The meetings, in order of first arrival.
+    pub fn meetings(&self) -> &Meetings
+        ensures { result.now ≡ self.now.meetings }
+    {
+        &self.meetings
+    }
+
+    /// How many instances the meetings have confirmed.
+    pub(crate) fn confirmed(&self) -> usize
+        ensures { result ≡ length (all_confirmed self.now.meetings.entries) }
+    {
+        self.timeline.confirmed()
+    }
+
+    /// Takes the claims of a message, of one meeting; the part is the first one's.
+    // Apart from `take`, which pays for all its locals also where a message isn't addressed to the room.
+    #[inline(never)]
+    fn take_claims(
+        &mut self,
+        first: &Part,
+        claims: &[Claim],
+        now: Stamp,
+    ) -> Result<Answer, AllocError>
+        requires some { 0 < length claims.now }
+        ensures steps { IfOk result (λ answer. ((key : MeetingKey) → IsKeyOf (part_of first.now).organiser (part_of first.now).uid key → AreFitting key (claims_said claims.now))
+            → (book : Book) → Stands self.old.meetings.entries book
+            → StepsWith (address_octets self.old.address) self.new.meetings.entries book (claims_said claims.now) now (kind_view answer.kind) (reply_octets answer)) }
+        ensures address { self.new.address ≡ self.old.address }
+        ensures refresh { IfOk result (λ answer. answer.refresh ≡ None) }
+        ensures err { OnErr result (IsUnchanged self.old.meetings self.new.meetings) }
+    {
+        keys_differ(&self.meetings);
+        let key = MeetingKey::of(&first.organiser, &first.uid)?;
+        let before = self.singles_before(&key)?;
+        let taken = self.meeting_after(&key, first, claims, &before, now)?;
+        let reply = reply_to(self.alloc, &self.address, claims, &taken.meeting)?;
+        self.put(key, taken.meeting, &before)?;
+        Ok(Answer {
+            kind: taken.kind,
+            reply,
+            refresh: None,
+        })
+    }
+
+    /// What a meeting has confirmed; nothing where it was never heard of.
+    fn singles_before(&self, key: &MeetingKey) -> Result<Vec<Single>, AllocError>
+        ensures { IfOk result (λ singles. singles.items ≡ singles_by (lookup (same_key key.now) self.now.meetings.entries)) }
+    {
+        match self.meetings.get(key) {
+            Some(meeting) => meeting.singles(self.alloc),
+            None => Ok(Vec::new(self.alloc)),
+        }
+    }
+
+    /// The meeting after these claims, of which the part is the first one's.
+    fn meeting_after(
+        &self,
+        key: &MeetingKey,
+        first: &Part,
+        claims: &[Claim],
+        before: &[Single],
+        now: Stamp,
+    ) -> Result<Taken, AllocError>
+        requires some { 0 < length claims.now }
+        requires before { before.now ≡ singles_by (lookup (same_key key.now) self.now.meetings.entries) }
+        ensures after { IfOk result (λ taken. IsKeyOf (part_of first.now).organiser (part_of first.now).uid key.now → AreFitting key.now (claims_said claims.now)
+            → (book : Book) → Stands self.now.meetings.entries book → IsMeetingAfter book key.now (claims_said claims.now) now (kind_view taken.kind) taken.meeting) }
+        ensures joins { IfOk result (λ taken. MayJoin (others key.now self.now.meetings.entries) key.now (confirmed_singles taken.meeting)) }
+    {
+        let old = self.meetings.get(key);
+        let held = held_after(self.alloc, old, claims)?;
+        let views = Views {
+            before: old,
+            after: &held,
+        };
+        let kept = views.kept(self.alloc, first)?;
+        let asked = views.asked(self.alloc, claims)?;
+        let answered = self.answers_after(key, &held, kept, &asked, before, now)?;
+        let kind = views.kind_of(claims, &answered.outcome)?;
+        Ok(Taken {
+            meeting: Meeting {
+                held,
+                answers: answered.answers,
+            },
+            kind,
+        })
+    }
+
+    /// The answers that stay, and those to the claims that are asked: one decision for all of them.
+    fn answers_after(
+        &self,
+        key: &MeetingKey,
+        held: &Held,
+        kept: Vec<Given>,
+        asked: &[&Claim],
+        before: &[Single],
+        now: Stamp,
+    ) -> Result<Answered, AllocError>
+        requires before { before.now ≡ singles_by (lookup (same_key key.now) self.now.meetings.entries) }
+        requires part { IsPartOf (all_singles kept.items) before.now }
+        ensures answered { IfOk result (λ answered. IsAnswered (others key.now self.now.meetings.entries) key.now held.now now kept.items asked.now answered.answers.items answered.outcome) }
+        ensures joins { IfOk result (λ answered. MayJoin (others key.now self.now.meetings.entries) key.now (all_singles answered.answers.items)) }
+    {
+        if asked.is_empty() {
+            return Ok(Answered {
+                answers: kept,
+                outcome: None,
+            });
+        }
+        let candidates = candidates(self.alloc, held, asked, now)?;
+        let outcome = self.decide(key, &kept, &candidates, before)?;
+        let new = decided(self.alloc, candidates, &outcome)?;
+        let mut answers = kept;
+        for given in new {
+            answers.push(given)?;
+        }
+        Ok(Answered {
+            answers,
+            outcome: Some(outcome),
+        })
+    }
+
+    /// What is decided of candidates beside what a meeting keeps of what it had confirmed, and all that the others have.
+    fn decide(
+        &self,
+        key: &MeetingKey,
+        kept: &[Given],
+        candidates: &[Given],
+        before: &[Single],
+    ) -> Result<Outcome, AllocError>
+        requires before { before.now ≡ singles_by (lookup (same_key key.now) self.now.meetings.entries) }
+        requires part { IsPartOf (all_singles kept.now) before.now }
+        ensures { IfOk result (IsDecision (others key.now self.now.meetings.entries) key.now (all_singles kept.now) (all_singles candidates.now)) }
+    {
+        keys_differ(&self.meetings);
+        let kept = singles_of(self.alloc, kept)?;
+        let wanted = singles_of(self.alloc, candidates)?;
+        let beside = self.timeline.confirmed() - before.len();
+        decide(
+            self.alloc,
+            &self.meetings,
+            &self.timeline,
+            key,
+            beside,
+            &kept,
+            &wanted,
+        )
+    }
+
+    /// Puts a meeting in its place, and what it confirms now into the timeline, where it confirmed something else before.
+    fn put(
+        &mut self,
+        key: MeetingKey,
+        meeting: Meeting,
+        before: &[Single],
+    ) -> Result<(), AllocError>
+        requires before { before.now ≡ singles_by (lookup (same_key key) self.old.meetings.entries) }
+        requires joins { MayJoin (others key self.old.meetings.entries) key (confirmed_singles meeting) }
+        ensures updates { OnOk result (Updates same_key self.old.meetings self.new.meetings key (Some meeting)) }
+        ensures entries { OnOk result (self.new.meetings.entries ≡ insert_entry same_key self.old.meetings.entries key meeting) }
+        ensures address { self.new.address ≡ self.old.address }
+        ensures err { OnErr result (IsUnchanged self.old.meetings self.new.meetings) }
+    {
+        keys_differ(&self.meetings);
+        let after = meeting.singles(self.alloc)?;
+        self.timeline.reserve(after.len())?;
+        let (place, _) = self.meetings.insert_full(key, meeting)?;
+        self.timeline.change(place, before, &after);
+        Ok(())
+    }
+}
