@@ -12,3 +12,5 @@ pub mod Meetings
 pub mod Own
 pub mod Parts
 pub mod Hiding
+pub mod Confirms
+pub mod Partition
