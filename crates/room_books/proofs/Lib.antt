@@ -14,3 +14,17 @@ pub mod Parts
 pub mod Hiding
 pub mod Confirms
 pub mod Partition
+pub mod Runs
+pub mod KeptRuns
+pub mod OneAnswer
+pub mod KeptMeetings
+pub mod KeptClaims
+pub mod KeptCalendars
+pub mod KeptStreams
+pub mod KeptAnswers
+pub mod KeptRequests
+pub mod KeptEvents
+pub mod KeptLines
+pub mod KeptExamples
+pub mod Examples
+pub mod Arrivals
