@@ -28,3 +28,8 @@ pub mod KeptLines
 pub mod KeptExamples
 pub mod Examples
 pub mod Arrivals
+pub mod Entries
+pub mod Writing
+pub mod Slots
+pub mod Keeping
+pub mod PartLines

@@ -6,6 +6,7 @@ mod decide;
 mod laws;
 pub mod meeting;
 mod taking;
+mod texts;
 mod timeline;
 
 pub use answer::{Answer, Kind, LimitKind};
