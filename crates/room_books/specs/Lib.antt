@@ -3,3 +3,4 @@ pub mod Views
 pub mod Takings
 pub mod Standing
 pub mod Timelines
+pub mod Keeping

@@ -3,11 +3,17 @@
 
 pub mod answer;
 mod decide;
+mod laws;
 pub mod meeting;
 mod reply;
 pub mod room;
 mod taking;
+mod texts;
 mod timeline;
 
 pub use answer::{Answer, Kind, LimitKind};
+pub use laws::{
+    accepted_where_clear, answers_stay, kept_texts_pass, kept_texts_spell, runs_stay_clear,
+    served_texts_pass,
+};
 pub use room::Room;

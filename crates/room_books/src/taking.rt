@@ -256,7 +256,7 @@ impl Given {
 }
 
 /// Whether a decision is to accept.
-fn is_accept(outcome: &Outcome) -> bool
+pub fn is_accept(outcome: &Outcome) -> bool
     ensures { result ≡ rooms.is_accept (outcome_of outcome.now) }
 {
     matches!(outcome, Outcome::Accepted)

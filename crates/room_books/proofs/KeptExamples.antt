@@ -1,0 +1,231 @@
+-- A worked run: the octets of one REQUEST are delivered, the room accepts it, and keeps it.
+use Rattle.std.proofs.Common.{◌≡◌, ℕ, pos, true, false, List, [], ◌∷◌, ◌++◌, codes, Some, None, inl, inr, refl, sym, ap, subst, arith, ◌∙◌, ◌≤◌, length}
+use Rattle.std.specs.List.{Contains}
+use Rattle.std.specs.Str.{is_utf8, chars}
+use Rattle.profile.specs.text.Lines.{logical_lines, reads_as_lines, written}
+use Rattle.profile.specs.text.Values.{SpellsDuration, IsAddress, unescaped}
+use Rattle.std.specs.Fmt.{digits}
+use Rattle.std.proofs.lemmas.Int.{ints}
+use Rattle.std.proofs.lemmas.Bool.{false≢true}
+use lib.Utf8.{encode}
+use Rattle.profile.specs.text.Trees.{Tree, tree, none, more, tree_name, tree_own, tree_inside}
+use Rattle.profile.specs.text.Objects.{IsObject}
+use Rattle.profile.specs.checker.Instances.{Booked, IsClear}
+use Rattle.profile.specs.events.Events.{Event, NeedsAction, SaysEvent, booked_by}
+use Rattle.profile.specs.rooms.Messages.{SpellsRequest, IsPart, Accept, canonical, object_lines}
+use Rattle.profile.specs.rooms.Revisions.{Part, Whole, Set}
+use Rattle.profile.specs.rooms.Rooms.{Book, Claim, Delivery, Runs, empty_book, confirmed, answered}
+use Rattle.profile.specs.streams.Streams.{IsDelivered}
+use Rattle.profile.specs.rooms.Kept.{IsKeptCalendar}
+use Rattle.room_books.specs.Keeping.{kept_of}
+use Rattle.room_books.proofs.KeptClaims.{claims_kept}
+use Rattle.cal_events.proofs.Meanings.{utc_means}
+use Rattle.itip_order.proofs.Lists.{in_cons, none_in_nil}
+use Rattle.ical_values.proofs.Readings.{stamp_written}
+use Rattle.itip_messages.proofs.ReplyExamples.{stamp, start}
+use Rattle.profile.specs.text.Objects.SpellsBody.{nothing, property}
+use Rattle.itip_messages.proofs.ObjectTree.{Lines, vevent_lines, parts_more}
+
+-- ---- the message
+
+abbrev room : List ℕ
+room = codes "mailto:r1@example.com"
+
+abbrev head_lines : Lines
+head_lines = codes "VERSION:2.0" ∷ codes "PRODID:-//Ann//EN" ∷ codes "METHOD:REQUEST" ∷ []
+
+abbrev own_lines : Lines
+own_lines =
+    codes "UID:a" ∷ codes "DTSTAMP:20250301T120000Z" ∷ codes "DTSTART:20250310T090000Z" ∷ codes "DURATION:PT1H" ∷ codes "ORGANIZER:mailto:ann@example.com" ∷ codes "ATTENDEE:mailto:r1@example.com" ∷ []
+
+abbrev lines : Lines
+lines = codes "BEGIN:VCALENDAR" ∷ (head_lines ++ (vevent_lines own_lines ++ codes "END:VCALENDAR" ∷ []))
+
+abbrev octets : List ℕ
+octets = canonical lines
+
+abbrev event : Event
+event = record {
+  uid = codes "a";
+  organiser = Some (codes "mailto:ann@example.com");
+  stamp = Some (pos 1_740_830_400);
+  sequence = 0;
+  cancelled = false;
+  recurrence = None;
+  times = record { zone = None; local = pos 1_741_597_200; start = pos 1_741_597_200; length = record { days = 0; seconds = 3600 } };
+  rule = None;
+  additions = [];
+  exceptions = [];
+  attendees = record { address = codes "mailto:r1@example.com"; participation = NeedsAction } ∷ [];
+}
+
+an_hour : SpellsDuration (codes "PT1H") 0 3600
+an_hour = (
+  codes "PT1H",
+  (
+    codes "T1H",
+    inr (inr (inl (
+      record {
+        hour_part = codes "1H";
+        minute_part = [];
+        second_part = [];
+        hours = 1;
+        minutes = 0;
+        seconds = 0;
+        hour = inr (codes "1", (omega arith, (omega arith, tt), refl), refl);
+        minute = inl (refl, refl);
+        second = inl (refl, refl);
+        some = omega arith;
+        spelled = refl;
+        counted = refl;
+      },
+      refl,
+    ))),
+    refl,
+  ),
+  inl refl,
+)
+
+ann : IsAddress (codes "mailto:ann@example.com")
+ann = (codes "mailto", codes "ann@example.com", refl, refl, refl, omega arith)
+
+the_room : IsAddress room
+the_room = (codes "mailto", codes "r1@example.com", refl, refl, refl, omega arith)
+
+says : (object : Tree) → SaysEvent object true own_lines event
+unfolding unescaped
+says object = record {
+  uid = record { line = Some (codes "UID:a"); once = refl; stands = λ _. refl; is = (refl, (omega arith, omega arith)) };
+  organiser = record { line = Some (codes "ORGANIZER:mailto:ann@example.com"); once = refl; stands = λ _. refl; is = (ann, refl) };
+  stamp = record { line = Some (codes "DTSTAMP:20250301T120000Z"); once = refl; stands = λ _. refl; is = stamp_written _ _ stamp };
+  sequence = (None, record { line = None; once = refl; stands = λ h. absurd (false≢true h); is = tt }, refl);
+  status = (None, refl, refl);
+  times = record {
+    line = codes "DTSTART:20250310T090000Z";
+    once = refl;
+    says = (refl, stamp_written _ _ start);
+    means = utc_means (pos 1_741_597_200);
+    end_line = None;
+    duration_line = Some (codes "DURATION:PT1H");
+    end_once = refl;
+    duration_once = refl;
+    lasts = (an_hour, λ h. absurd (false≢true h));
+    most = omega arith;
+    in_dates = (omega (arith, ints), omega (arith, ints), omega (arith, ints));
+  };
+  rule = record { line = None; once = refl; stands = λ h. absurd (false≢true h); is = tt };
+  occurrences = record {
+    is = record { line = None; once = refl; stands = λ h. absurd (false≢true h); is = tt };
+    adds = (tt, omega arith);
+    inside = tt;
+    takes = (tt, omega arith);
+    alone = refl;
+  };
+  attendees = (((the_room, refl), refl), tt);
+}
+
+abbrev message : Tree
+message = tree (codes "VCALENDAR") head_lines (more (tree (codes "VEVENT") own_lines none) none)
+
+are_lines : logical_lines octets ≡ lines
+are_lines = refl
+
+read : reads_as_lines true octets ≡ true
+unfolding is_utf8 chars encode
+read = refl
+
+object : IsObject tree_name tree_own tree_inside true message lines
+object = record {
+  spelled = record {
+    begin = codes "BEGIN:VCALENDAR";
+    end = codes "END:VCALENDAR";
+    body = head_lines ++ vevent_lines own_lines;
+    are = refl;
+    opens = record { begins = refl; names = refl };
+    closes = record { ends = refl; names = refl };
+    holds = parts_more 6 head_lines [] head_lines (own_lines ∷ []) (property _ refl (property _ refl (property _ refl nothing))) refl;
+  };
+  calendar = refl;
+  version = refl;
+  events = refl;
+}
+
+spells : SpellsRequest octets event
+spells = record {
+  lines = read;
+  tree = message;
+  object = subst (λ (l : Lines). IsObject tree_name tree_own tree_inside true message l) (sym are_lines) object;
+  says = record { method_line = codes "METHOD:REQUEST"; method = refl; request = refl; lines = own_lines; one = refl; read = refl; says = says message };
+}
+
+-- ---- the run: the message comes, and comes again
+
+abbrev content : Lines
+content = codes "DTSTART:20250310T090000Z" ∷ codes "DURATION:PT3600S" ∷ []
+
+abbrev part : Part
+part = record {
+  organiser = codes "mailto:ann@example.com";
+  uid = codes "a";
+  slot = Whole;
+  revision = record { sequence = 0; stamp = pos 1_740_830_400 };
+  body = Set (codes "DTSTART:20250310T090000Z\r\nDURATION:PT3600S\r\n");
+}
+
+is_part : IsPart event content part
+unfolding digits
+is_part = record { organiser = refl; uid = refl; slot = refl; sequence = refl; stamp = refl; when = record { start = codes "20250310T090000Z"; written = start; is = refl }; body = refl }
+
+abbrev claim : Claim
+claim = record { part = part; content = content; singles = booked_by event ∷ [] }
+
+abbrev delivery : Delivery
+delivery = record { claims = claim ∷ []; moment = pos 1_740_830_500 }
+
+delivered : IsDelivered room delivery
+delivered = record { octets = octets; event = event; spells = spells; are = (refl, record { part = is_part; singles = refl }) }
+
+abbrev once_taken : Book
+once_taken = record { taken = part ∷ []; answers = answered (pos 1_740_830_500) Accept (claim ∷ []) }
+
+abbrev taken_again : Book
+taken_again = record { taken = part ∷ part ∷ []; answers = answered (pos 1_740_830_500) Accept (claim ∷ []) }
+
+alone : (b : Booked) → IsClear (b ∷ [])
+alone b x y t c = c.differ (ap (λ (z : Booked). z.key) (only x c.first) ∙ sym (ap (λ (z : Booked). z.key) (only y c.second)))
+  where
+    only : (x : Booked) → Contains (b ∷ []) x → x ≡ b
+    only x c = elim (in_cons b [] x c) [ inl e ↦ sym e | inr nowhere ↦ absurd (none_in_nil x nowhere) ]
+
+a_run : Runs empty_book (delivery ∷ delivery ∷ []) taken_again
+a_run = (
+  once_taken,
+  Accept,
+  record { taken = refl; answers = refl; decided = λ _. (omega arith, alone (booked_by event)) },
+  (taken_again, Accept, record { taken = refl; answers = refl; decided = λ h. absurd (false≢true h) }, refl),
+)
+
+one_confirmed : confirmed taken_again ≡ booked_by event ∷ []
+one_confirmed = refl
+
+-- ---- what is kept
+
+abbrev kept_lines : Lines
+kept_lines = vevent_lines (codes "UID:a" ∷ codes "SEQUENCE:0" ∷ codes "DTSTAMP:20250301T120000Z" ∷ codes "DTSTART:20250310T090000Z" ∷ codes "DURATION:PT3600S" ∷ codes "ORGANIZER:mailto:ann@example.com" ∷ codes "ATTENDEE;PARTSTAT=ACCEPTED:mailto:r1@example.com" ∷ [])
+
+a_kept_calendar : IsKeptCalendar room taken_again (written (object_lines None kept_lines))
+unfolding digits
+a_kept_calendar = record {
+  claims = claim ∷ [];
+  kept = claims_kept taken_again (λ p c. elim (in_cons part [] p c) [ inl e ↦ subst (λ (q : Part). length (kept_of taken_again q) ≤ 1) e (omega arith) | inr nowhere ↦ absurd (none_in_nil p nowhere) ]);
+  events = kept_lines ∷ [];
+  each = (
+    record {
+      stamp = codes "20250301T120000Z";
+      written_stamp = stamp;
+      is = refl;
+    },
+    tt,
+  );
+  is = refl;
+}

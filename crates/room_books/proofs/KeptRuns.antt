@@ -1,0 +1,137 @@
+-- Over every run each answer was asked for by some octets, and no two confirmed answers are of one meeting.
+use Rattle.std.proofs.Common.{◌≡◌, ◌∙◌, ℕ, ℤ, ◌≤◌, Bool, true, false, ◌&&◌, List, [], ◌∷◌, length, sym, ap, ap₂, subst, arith, inl, inr}
+use Rattle.std.specs.Ordering.{is_eq, ordering_then}
+use Rattle.std.specs.List.{filter, Contains}
+use Rattle.std.proofs.lemmas.Bool.{and_parts, and_from, not-true, both_ways, false_from_ne_true}
+use Rattle.std.proofs.lemmas.List.{length-map}
+use Rattle.std.proofs.lemmas.List.Elements.{Contains-append_cases, filter-append}
+use Rattle.profile.specs.events.Events.{Event}
+use Rattle.profile.specs.rooms.Messages.{Outcome, SpellsRequest}
+use Rattle.profile.specs.rooms.Revisions.{Part, Whole, slot_cmp, same_meeting, same_place, in_view}
+use Rattle.profile.specs.rooms.Rooms.{Claim, Answer, Book, empty_book, is_accept, is_confirmed, is_fresh, is_set, parts_of, asked, answered, IsStep, Delivery, Runs}
+use Rattle.profile.specs.streams.Streams.{IsDelivered, AreClaims}
+use Rattle.itip_order.proofs.Lists.{in_cons, in_head, in_tail, none_in_nil, filter_at, filter_no_longer}
+use Rattle.itip_order.proofs.Order.{is_eq_true}
+use Rattle.itip_order.proofs.Registers.{greatest_at, greatest_unique}
+use Rattle.room_books.proofs.Views.{AllWhole, view_back}
+use Rattle.room_books.proofs.Runs.{IsSound, step_sound}
+use Rattle.room_books.proofs.KeptAnswers.{IsAsked}
+use Rattle.room_books.specs.Standing.{Pairwise}
+use Rattle.room_books.proofs.Pairs.{pairs_append, pairs_short, pairs_stronger, map_at}
+use Rattle.room_books.proofs.KeptMeetings.{AnswersApart}
+
+-- ---- what a delivery claims
+
+-- a delivery's claims: at most one, which its octets ask for
+pub record OneAsked (room : List ℕ) (claims : List Claim) : Type 0 where
+  pub few : length claims ≤ 1
+  each : (c : Claim) → Contains claims c → IsAsked room c
+
+pub one_asked : (room octets : List ℕ) (event : Event) (claims : List Claim) → SpellsRequest octets event → AreClaims room event claims → OneAsked room claims
+one_asked room octets event [] s h = record { few = omega arith; each = λ c k. absurd (none_in_nil c k) }
+one_asked room octets event (claim ∷ []) s h = record {
+  few = omega arith;
+  each = λ c k.
+      elim (in_cons claim [] c k) [
+        | inl here ↦ subst (IsAsked room) here (record { octets = octets; event = event; spells = s; asks = h.0; part = h.1.part; books = h.1.singles })
+        | inr there ↦ absurd (none_in_nil c there)
+      ];
+}
+one_asked room octets event (claim ∷ other ∷ claims) s h = absurd h
+
+pub delivered_asked : (room : List ℕ) (d : Delivery) → IsDelivered room d → OneAsked room d.claims
+delivered_asked room d h = one_asked room h.octets h.event d.claims h.spells h.are
+
+-- ---- the view
+
+-- two Wholes of one meeting that are in the view are one part
+one_whole : (taken : List Part) (p q : Part) → p.slot ≡ Whole → q.slot ≡ Whole → same_meeting p q ≡ true → in_view taken p ≡ true → in_view taken q ≡ true → p ≡ q
+one_whole taken p q whole other e v w =
+    let slots : slot_cmp p.slot q.slot ≡ slot_cmp Whole Whole = ap₂ slot_cmp whole other in
+    let place : same_place p q ≡ true = ap₂ (λ m s. is_eq (ordering_then m s)) (is_eq_true _ e) slots in
+    greatest_unique taken p q (greatest_at taken p (and_parts _ _ v).0) (greatest_at taken q (and_parts _ _ w).0) place
+
+-- ---- a step
+
+-- what holds of each book that is reached
+pub record KeepsAll (room : List ℕ) (book : Book) : Type 0 where
+  pub sound : IsSound book
+  pub whole : AllWhole book.taken
+  pub each : (a : Answer) → Contains book.answers a → IsAsked room a.claim
+  pub apart : Pairwise AnswersApart (filter (is_confirmed book.taken) book.answers)
+
+-- a new answer is to one of the claims, whose part is fresh
+pub record IsNew (before after : List Part) (claims : List Claim) (a : Answer) : Type 0 where
+  pub among : Contains claims a.claim
+  pub gone : in_view before a.claim.part ≡ false
+  pub seen : in_view after a.claim.part ≡ true
+
+pub new_answer : (before after : List Part) (moment : ℤ) (outcome : Outcome) (claims : List Claim) (a : Answer) → Contains (answered moment outcome (asked before after claims)) a → IsNew before after claims a
+new_answer before after moment outcome claims a c =
+    let found = map_at _ (asked before after claims) a c in
+    let is : found.0 ≡ a.claim = ap (λ (x : Answer). x.claim) found.2 in
+    let from = filter_at (λ (x : Claim). is_set x.part && is_fresh before after x.part) claims found.0 found.1 in
+    let fresh = and_parts _ _ (and_parts _ _ from.1).1 in
+    record {
+      among = subst (λ (x : Claim). Contains claims x) is from.0;
+      gone = subst (λ (x : Claim). in_view before x.part ≡ false) is (not-true _ fresh.1);
+      seen = subst (λ (x : Claim). in_view after x.part ≡ true) is fresh.0;
+    }
+
+-- a step with claims that octets ask for
+pub keeps_step : (room : List ℕ) (before : Book) (claims : List Claim) (moment : ℤ) (outcome : Outcome) (after : Book) → OneAsked room claims → IsStep before claims moment outcome after → KeepsAll room before → KeepsAll room after
+keeps_step room before claims moment outcome after one s k =
+    let now = asked before.taken after.taken claims in
+    let new : List Answer = answered moment outcome now in
+    let sound = step_sound before claims moment outcome after s k.sound in
+    let test : Answer → Bool = is_confirmed after.taken in
+    let is_new = λ (a : Answer) (c : Contains new a). new_answer before.taken after.taken moment outcome claims a c in
+    let known : (a : Answer) → Contains before.answers a → in_view after.taken a.claim.part ≡ true → in_view before.taken a.claim.part ≡ true = λ a c v.
+    view_back before.taken (parts_of claims) a.claim.part (k.sound.known a c) (subst (λ (t : List Part). in_view t a.claim.part ≡ true) s.taken v) in
+    let old_apart : Pairwise AnswersApart (filter test before.answers) = pairs_stronger AnswersApart test (is_confirmed before.taken) before.answers
+    (λ a c e. let both = and_parts (is_accept a.outcome) (in_view after.taken a.claim.part) e in and_from _ _ both.0 (known a c both.1)) k.apart in
+    let make : Claim → Answer = λ c. record { claim = c; moment = moment; outcome = outcome } in
+    let few : length (filter test new) ≤ 1 = omega (arith, filter_no_longer test new, length-map now make, filter_no_longer (λ (c : Claim). is_set c.part && is_fresh before.taken after.taken c.part) claims, one.few) in
+    let cross : (x y : Answer) → Contains (filter test before.answers) x → Contains (filter test new) y → AnswersApart x y = λ x y c h.
+    let old = filter_at test before.answers x c in
+    let fresh = filter_at test new y h in
+    let v = (and_parts (is_accept x.outcome) (in_view after.taken x.claim.part) old.1).1 in
+    let w = (and_parts (is_accept y.outcome) (in_view after.taken y.claim.part) fresh.1).1 in
+    let n = is_new y fresh.0 in
+    let a = k.each x old.0 in
+    let b = one.each y.claim n.among in
+    false_from_ne_true _ (λ e.
+    let same = one_whole after.taken x.claim.part y.claim.part a.part.slot b.part.slot e v w in
+    both_ways _ n.gone (subst (λ (p : Part). in_view before.taken p ≡ true) same (known x old.0 v))) in
+    record {
+      sound = sound;
+      whole = subst AllWhole (sym s.taken) (λ p c. elim (Contains-append_cases before.taken (parts_of claims) p c) [
+        | inl old ↦ k.whole p old
+        | inr fresh ↦ let found = map_at (λ (x : Claim). x.part) claims p fresh in subst (λ (x : Part). x.slot ≡ Whole) found.2 (one.each found.0 found.1).part.slot
+      ]);
+      each = λ a c.
+          elim (Contains-append_cases before.answers new a (subst (λ (l : List Answer). Contains l a) s.answers c)) [
+            | inl old ↦ k.each a old
+            | inr fresh ↦ one.each a.claim (is_new a fresh).among
+          ];
+      apart = subst (Pairwise AnswersApart) (sym (ap (filter test) s.answers ∙ filter-append test before.answers new)) (pairs_append AnswersApart (filter test before.answers) (filter test new) old_apart (pairs_short AnswersApart (filter test new) few) cross);
+    }
+
+pub keeps_none : (room : List ℕ) → KeepsAll room empty_book
+keeps_none room = record {
+  sound = record {
+    known = λ a c. absurd (none_in_nil a c);
+    good = record { clear = λ a b t c. none_in_nil a c.first; few = omega arith };
+  };
+  whole = λ p c. absurd (none_in_nil p c);
+  each = λ a c. absurd (none_in_nil a c);
+  apart = tt;
+}
+
+keeps_run : (room : List ℕ) (before : Book) (ds : List Delivery) (after : Book) → ((d : Delivery) → Contains ds d → IsDelivered room d) → Runs before ds after → KeepsAll room before → KeepsAll room after
+keeps_run room before [] after f r k = subst (KeepsAll room) (sym r) k
+keeps_run room before (d ∷ ds) after f r k =
+    keeps_run room r.0 ds after (λ x c. f x (in_tail d ds x c)) r.3 (keeps_step room before d.claims d.moment r.1 r.0 (delivered_asked room d (f d (in_head d ds))) r.2 k)
+
+pub runs_keep : (room : List ℕ) (ds : List Delivery) (book : Book) → ((d : Delivery) → Contains ds d → IsDelivered room d) → Runs empty_book ds book → KeepsAll room book
+runs_keep room ds book f r = keeps_run room empty_book ds book f r (keeps_none room)

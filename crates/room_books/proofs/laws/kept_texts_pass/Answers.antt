@@ -1,0 +1,6 @@
+-- What is kept reads back, line by line.
+use Rattle.room_books.proofs.KeptCalendars.{kept_passes}
+use Rattle.room_books.proofs.laws.kept_texts_pass.Goals as goal
+
+pub returns : goal.returns
+returns c = kept_passes c.lines_read_back.ensures.lines c.lines_read_back.ensures.reads

@@ -1,0 +1,6 @@
+-- What is kept reads back, line by line.
+use Rattle.room_books.proofs.KeptCalendars.{kept_same}
+use Rattle.room_books.proofs.laws.kept_texts_spell.Goals as goal
+
+pub returns : goal.returns
+returns c = λ room deliveries book calendar delivered runs kept. kept_same c.lines_read_back.ensures.lines c.lines_read_back.ensures.reads room deliveries delivered book runs calendar kept

@@ -1,0 +1,8 @@
+-- Each room's book is one that octets asked for.
+use Rattle.room_books.proofs.KeptCalendars.{keeps_pass}
+use Rattle.room_books.proofs.KeptStreams.{served_keeps}
+use Rattle.room_books.proofs.laws.served_texts_pass.Goals as goal
+
+pub returns : goal.returns
+returns c = λ moment rooms first objects after octets refused answers room has.
+    keeps_pass c.lines_read_back.ensures.lines c.lines_read_back.ensures.reads room.address room.book (served_keeps moment rooms first objects after octets refused answers room has)

@@ -1,0 +1,61 @@
+//! What holds of each room, whatever it takes: laws, with nothing to do.
+
+ghost use Rattle.std.specs.Prelude.{◌≡◌, ◌≤◌, ◌↔◌, ℕ, ℤ, List, length, Contains};
+ghost use Rattle.profile.specs.checker.Instances.{Booked, IsClear};
+ghost use Rattle.profile.specs.rooms.Rooms.{Answer, Book, Delivery, Runs, empty_book, confirmed, most_singles};
+ghost use Rattle.profile.specs.streams.Streams.{IsDelivered, AllAnswers, Hosted, new_box};
+ghost use Rattle.profile.specs.rooms.Kept.{IsKeptCalendar, kept_certificate};
+ghost use Rattle.profile.specs.checker.Calendars.{CertificateHolds, SpellsCalendar};
+ghost use Rattle.profile.specs.Headline.{AcceptedWhereClear, KeptTextsPass};
+
+/// Whatever messages a room took, one after another from the first: no two of its confirmed instances of
+/// different keys hold the room in the same second, and there are no more of them than the limit.
+pub fn runs_stay_clear()
+    ensures clear { (deliveries : List Delivery) (book : Book) → Runs empty_book deliveries book → IsClear (confirmed book) }
+    ensures few { (deliveries : List Delivery) (book : Book) → Runs empty_book deliveries book → length (confirmed book) ≤ most_singles }
+{}
+
+/// An answer is final. Whatever a room takes later, the answer stays; and no part is answered twice. So where the same
+/// octets are answered again, it is with the answer that they got.
+pub fn answers_stay()
+    ensures stays { (before after : Book) (deliveries : List Delivery) → Runs before deliveries after
+        → (answer : Answer) → Contains before.answers answer → Contains after.answers answer }
+    ensures once { (room : List ℕ) (deliveries : List Delivery) (book : Book)
+        → ((taken : Delivery) → Contains deliveries taken → IsDelivered room taken) → Runs empty_book deliveries book
+        → (a b : Answer) → Contains book.answers a → Contains book.answers b → a.claim.part ≡ b.claim.part → a ≡ b }
+{}
+
+/// A new revision is accepted exactly where no two of the instances that would be confirmed with it hold the room in the same second,
+/// and they are within the limit; and a decline for a clash names two of them and a second in both.
+pub fn accepted_where_clear()
+    ensures { AcceptedWhereClear }
+{}
+
+/// Whatever messages come, in any order and repeated: the calendar that a room keeps after them spells what it has
+/// confirmed, and the certificate beside it holds for that calendar.
+pub fn kept_texts_pass()
+    ensures { KeptTextsPass }
+{
+    ical_lines::lines_read_back();
+}
+
+/// And that calendar spells exactly what the room has confirmed: the same instances, and as many.
+pub fn kept_texts_spell()
+    ensures { (room : List ℕ) (deliveries : List Delivery) (book : Book) (text : List ℕ)
+        → ((taken : Delivery) → Contains deliveries taken → IsDelivered room taken) → Runs empty_book deliveries book → IsKeptCalendar room book text
+        → (all : List Booked) × SpellsCalendar room text all × (length all ≡ length (confirmed book))
+        × ((booked : Booked) → Contains all booked ↔ Contains (confirmed book) booked) }
+{
+    ical_lines::lines_read_back();
+}
+
+/// Whatever objects a stream has, taken or refused, one after another from the first: what each of the rooms keeps after
+/// them passes likewise.
+pub fn served_texts_pass()
+    ensures { (moment : ℤ) (rooms : List (List ℕ)) (first : ℕ) (objects : List (List ℕ)) (after : List Hosted) (replies : List ℕ) (refused : ℕ)
+        → AllAnswers moment first objects (new_box rooms) after replies refused
+        → (room : Hosted) → Contains after room
+        → (kept : List ℕ) → IsKeptCalendar room.address room.book kept → CertificateHolds room.address kept (kept_certificate room.book) }
+{
+    ical_lines::lines_read_back();
+}
