@@ -11,3 +11,6 @@ pub mod Putting
 pub mod Meetings
 pub mod Own
 pub mod Hiding
+pub mod Replying
+pub mod Claiming
+pub mod Bodies

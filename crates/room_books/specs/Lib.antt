@@ -3,3 +3,5 @@ pub mod Views
 pub mod Takings
 pub mod Standing
 pub mod Timelines
+pub mod Replying
+pub mod Claiming

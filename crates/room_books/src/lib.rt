@@ -2,8 +2,10 @@
 #![tactic(auto)]
 
 pub mod answer;
+mod claims;
 mod decide;
 pub mod meeting;
+mod reply;
 mod taking;
 mod timeline;
 
