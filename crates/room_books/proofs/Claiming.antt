@@ -1,27 +1,27 @@
 -- The claims of a message: at most one, of the part and the instance of its event.
-use Rattle.std.proofs.Common.{◌≡◌, ◌∙◌, ℤ, ℕ, ◌<◌, ◌^◌, ◌+◌, Bool, true, false, ◌||◌, List, [], ◌∷◌, ◌++◌, take, length, get_or, map, Result, Ok, Err, IfOk, inl, inr, Option, Some, refl, sym, ap, subst}
+use Rattle.std.proofs.Common.{◌≡◌, ◌∙◌, ℕ, ◌<◌, ◌+◌, Bool, true, false, ◌||◌, List, [], ◌∷◌, ◌++◌, take, length, get_or, map, Result, Ok, Err, IfOk, inl, inr, refl, sym, ap, subst}
 use Rattle.std.specs.Prelude.{if◌then◌else◌, unwrap_or}
 use Rattle.std.specs.List.{AllZip, Contains, list_any}
 use Rattle.std.specs.Str.{bytes_eq}
-use Rattle.ical_values.specs.Octets.{address_octets, text_octets}
+use Rattle.ical_values.specs.Octets.{address_octets}
 use Rattle.itip_messages.specs.declared.message.Message.{Message}
 use Rattle.itip_messages.specs.declared.message.MessageComponent.{MessageComponent}
-use Rattle.itip_messages.specs.Messages.{StandsFor, SaysComponent, component_names, part_for}
+use Rattle.itip_messages.specs.Messages.{StandsFor, component_names, part_for}
 use Rattle.itip_order.specs.Parts.{part_of, slot_of}
 use Rattle.itip_order.proofs.Lists.{in_cons, none_in_nil}
 use Rattle.profile.specs.checker.Instances.{Booked}
-use Rattle.profile.specs.events.Events.{Event, booked_by}
+use Rattle.profile.specs.events.Events.{Event}
 use Rattle.profile.specs.rooms.Messages.{IsPart, canonical, names_room}
-use Rattle.profile.specs.rooms.Revisions.{Part, Slot, Whole, Body, Set, Absent}
+use Rattle.profile.specs.rooms.Revisions.{Part, Slot, Whole, Set, Absent}
 use Rattle.profile.specs.rooms.Rooms as rooms
 use Rattle.profile.specs.rooms.Rooms.{is_set, is_set_body}
-use Rattle.profile.specs.streams.Streams.{IsClaim, AreClaims}
+use Rattle.profile.specs.streams.Streams.{IsClaim}
 use Rattle.profile.specs.text.Values.{IsClockSeconds}
 use Rattle.room_books.specs.declared.meeting.MeetingKey.{MeetingKey}
 use Rattle.room_books.specs.declared.meeting.Single.{Single}
 use Rattle.room_books.specs.declared.taking.Claim.{Claim}
 use Rattle.room_books.specs.Claiming.{instant_of, original_start, single_in, IsClaimIn, AreClaimed}
-use Rattle.room_books.specs.Takings.{body_lines, booked_in, claim_said, claims_said}
+use Rattle.room_books.specs.Takings.{body_lines, booked_in, claim_said}
 use Rattle.room_books.specs.Standing.{IsFitting, AreFitting, IsText, IsOfSlot, SlotDated, is_of}
 use Rattle.room_books.specs.Views.{IsKeyOf}
 use Rattle.room_books.proofs.Bodies.{body_of}
@@ -54,12 +54,6 @@ said part singles = record { part = part; content = body_lines part.body; single
 pub addressed : (room : List ℕ) (message : Message) (event : Event) → StandsFor message event → list_any (component_names room) message.components.items ≡ names_room room event
 addressed room message event s =
     ap (list_any (component_names room)) s.one ∙ or_false (component_names room s.component) ∙ ap (list_any (λ a. bytes_eq a.address room)) s.says.attendees
-
-pub none_claimed : (room : List ℕ) (message : Message) (event : Event) (claims : List Claim) → claims ≡ [] → list_any (component_names room) message.components.items ≡ false → StandsFor message event → AreClaimed room event claims
-none_claimed room message event claims e lacks s = subst (AreClaimed room event) (sym e) record {
-  are = sym (addressed room message event s) ∙ lacks;
-  fit = λ key claim c. absurd (none_in_nil claim c);
-}
 
 -- ---- the one claim
 
@@ -103,9 +97,9 @@ module _ (room : List ℕ) (message : Message) (event : Event) (s : StandsFor me
       body = body_is;
     };
     singles =
-      let organiser : address_octets message.organiser ≡ unwrap_or event.organiser [] = ap (λ o. unwrap_or o []) (sym s.organiser) in
-      let slot : original_start component ≡ event.times.start = own_start ∙ s.says.start in
-      λ i. record { key = record { organiser = organiser i; uid = s.uid i; slot = slot i }; start = s.says.start i; end = s.says.end i } ∷ [];
+        let organiser : address_octets message.organiser ≡ unwrap_or event.organiser [] = ap (λ o. unwrap_or o []) (sym s.organiser) in
+        let slot : original_start component ≡ event.times.start = own_start ∙ s.says.start in
+        λ i. record { key = record { organiser = organiser i; uid = s.uid i; slot = slot i }; start = s.says.start i; end = s.says.end i } ∷ [];
   }
 
   fits : IsFitting (said part (single_in component ∷ []))

@@ -1,24 +1,23 @@
 -- The reply tells the answers that the book of the meeting has.
-use Rattle.std.proofs.Common.{◌≡◌, ◌∙◌, ℕ, ◌+◌, ◌<◌, Bool, true, false, not, ◌&&◌, List, [], ◌∷◌, ◌++◌, take, length, get_or, map, codes, inl, inr, Option, Some, refl, sym, ap, subst, arith}
+use Rattle.std.proofs.Common.{◌≡◌, ◌∙◌, ℕ, ◌+◌, ◌<◌, true, not, ◌&&◌, List, [], ◌∷◌, ◌++◌, take, length, get_or, map, inl, inr, Some, sym, ap, subst, arith}
 use Rattle.std.specs.Prelude.{IsTrue, ◌==◌}
-use Rattle.std.specs.List.{AllZip, Contains, flat_map}
+use Rattle.std.specs.List.{AllZip, Contains}
 use Rattle.std.proofs.lemmas.Bool.{and_parts}
 use Rattle.std.proofs.lemmas.Bool.Decides.{nat_tests}
 use Rattle.std.proofs.lemmas.List.{length-map}
 use Rattle.std.proofs.lemmas.List.Elements.{Contains-get_or}
 use denote.Ref.{Bor}
 use Rattle.ical_values.specs.Octets.{address_octets}
-use Rattle.profile.specs.text.Lines.{folded, written}
+use Rattle.profile.specs.text.Lines.{folded}
 use Rattle.profile.specs.rooms.Revisions.{Part, in_view, same_part}
-use Rattle.profile.specs.rooms.Messages as messages
-use Rattle.profile.specs.rooms.Messages.{IsReplyEvent, opening_lines}
+use Rattle.profile.specs.rooms.Messages.{IsReplyEvent}
 use Rattle.profile.specs.rooms.Rooms.{Book, Answer, is_set, shown}
 use Rattle.profile.specs.rooms.Rooms as rooms
 use Rattle.profile.specs.rooms.Kept.{Replies, IsReply, ShowsAnswer}
-use Rattle.itip_messages.specs.Replies.{WritesLines, IsWrittenEvent, Answers}
+use Rattle.itip_messages.specs.Replies.{WritesLines, IsWrittenEvent}
 use Rattle.itip_messages.specs.declared.reply.ReplyEvent.{ReplyEvent}
-use Rattle.itip_messages.proofs.LineLemmas.{more_lines, whole}
-use Rattle.itip_order.specs.Parts.{part_of, slot_of}
+use Rattle.itip_messages.proofs.LineLemmas.{more_lines}
+use Rattle.itip_order.specs.Parts.{part_of}
 use Rattle.itip_order.proofs.Lasting.{view_one}
 use Rattle.itip_order.proofs.Lists.{in_cons, in_head, in_tail, none_in_nil, filter_at, filter_from}
 use Rattle.itip_order.proofs.Registers.{same_part_refl}
@@ -29,7 +28,7 @@ use Rattle.room_books.specs.declared.taking.Claim.{Claim}
 use Rattle.room_books.specs.Views.{outcome_of}
 use Rattle.room_books.specs.Takings.{claim_said, claims_said}
 use Rattle.room_books.specs.Standing.{AreFitting, IsOwn, IsGiven, Meets, standing}
-use Rattle.room_books.specs.Replying.{AreShown, CanTell, AllTell, IsEventIn, ShowsGiven, AreTold, WritesAnswers, IsReplyOf}
+use Rattle.room_books.specs.Replying.{AreShown, CanTell, AllTell, IsEventIn, ShowsGiven, WritesAnswers, IsReplyOf}
 use Rattle.room_books.proofs.Loops.{zip_push, one_more}
 use Rattle.room_books.proofs.Meetings.{same_place_of}
 
@@ -76,7 +75,7 @@ told_line room answers part event old new e w = (
     kept = e.kept;
     same = e.same;
     shows = subst (λ r. IsReplyEvent r part e.given.moment (outcome_of e.given.outcome) w.0) e.room_is
-      (subst (λ m. IsReplyEvent (address_octets event.room.now) part m (outcome_of e.given.outcome) w.0) e.moment (subst (λ o. IsReplyEvent (address_octets event.room.now) part event.moment o w.0) e.outcome (w.1 part e.answers_it)));
+        (subst (λ m. IsReplyEvent (address_octets event.room.now) part m (outcome_of e.given.outcome) w.0) e.moment (subst (λ o. IsReplyEvent (address_octets event.room.now) part event.moment o w.0) e.outcome (w.1 part e.answers_it)));
   },
   w.2,
 )
@@ -88,23 +87,11 @@ pub told_more : (room : List ℕ) (answers : List Given) (all : List (Bor Claim)
 told_more room answers all i claim old mid new h e before one tell =
     let b = before tell in
     let o = one (tell claim (subst (Contains all) (sym e) (Contains-get_or all i claim h))) in
-    let R : Bor Claim → List (List ℕ) → Type 0 = λ c lines. ShowsGiven room answers (part_of c.now.part) lines in
-    (
+    let R : Bor Claim → List (List ℕ) → Type 0 = λ c lines. ShowsGiven room answers (part_of c.now.part) lines in (
       b.0 ++ o.0 ∷ [],
       subst (λ (l : List (Bor Claim)). AllZip R l (b.0 ++ o.0 ∷ [])) (sym (one_more all i claim h e)) (zip_push R (take i all) b.0 claim o.0 b.1 o.1),
       more_lines folded old mid new b.0 o.0 b.2 o.2,
     )
-
--- the whole reply
-pub reply_whole : (room : List ℕ) (answers : List Given) (are : List (Bor Claim)) (empty opened mid closed : List ℕ) → empty ≡ [] → opened ≡ empty ++ written (opening_lines (Some (codes "REPLY")))
-    → (AllTell answers are → WritesAnswers room answers are opened mid) → closed ≡ mid ++ folded (codes "END:VCALENDAR") → AllTell answers are → IsReplyOf room answers are closed
-reply_whole room answers are empty opened mid closed e0 e1 f e2 tell =
-    let w = f tell in
-    record {
-      events = w.0;
-      each = w.1;
-      is = whole folded (opening_lines (Some (codes "REPLY"))) (flat_map (λ lines. lines) w.0) (codes "END:VCALENDAR") empty opened mid closed e0 e1 w.2 e2;
-    }
 
 -- ---- by the book of the meeting
 
@@ -157,7 +144,7 @@ reply_shows room key own meeting claims are octets f o m s r =
     record {
       events = told.events;
       each = subst (λ (l : List rooms.Claim). AllZip (ShowsAnswer room own) l told.events) s
-        (zip_mapped (λ x. claim_said x.now) (λ x lines. ShowsGiven room meeting.answers.items (part_of x.now.part) lines) (ShowsAnswer room own) are told.events
+          (zip_mapped (λ x. claim_said x.now) (λ x lines. ShowsGiven room meeting.answers.items (part_of x.now.part) lines) (ShowsAnswer room own) are told.events
           (λ x lines c given. shows_answer key own meeting (claims_said claims) f o m (claim_said x.now) (subst (λ (l : List rooms.Claim). Contains l (claim_said x.now)) s (in_mapped (λ y. claim_said y.now) are x c)) room lines given) told.each);
       is = told.is;
     }
@@ -172,5 +159,5 @@ pub replies_by : (room : List ℕ) (key : MeetingKey) (own : Book) (meeting : Me
 replies_by room key own meeting claims are these answers octets e a n f o m s r = (
   subst (λ (l : List rooms.Claim). IsTrue (not (length l == 0))) s (some_shown (length (map (λ x. claim_said x.now) are)) (omega (arith, n, length-map are (λ x. claim_said x.now)))),
   reply_shows room key own meeting claims are octets f o m s
-    (subst (λ (xs : List Given). AllTell xs are → IsReplyOf room xs are octets) a (subst (λ (xs : List (Bor Claim)). AllTell answers xs → IsReplyOf room answers xs octets) e r)),
+      (subst (λ (xs : List Given). AllTell xs are → IsReplyOf room xs are octets) a (subst (λ (xs : List (Bor Claim)). AllTell answers xs → IsReplyOf room answers xs octets) e r)),
 )

@@ -2,7 +2,7 @@
 use Rattle.std.specs.Prelude.{◌≡◌, ℕ, ℤ, ◌<◌, ◌^◌, List, [], ◌∷◌, Contains, if◌then◌else◌}
 use Rattle.itip_messages.specs.declared.message.Message.{Message}
 use Rattle.itip_messages.specs.declared.message.MessageComponent.{MessageComponent}
-use Rattle.itip_messages.specs.Messages.{SaysComponent, component_names, part_for}
+use Rattle.itip_messages.specs.Messages.{SaysComponent, part_for}
 use Rattle.itip_order.specs.Parts.{part_of}
 use Rattle.itip_order.specs.declared.part.Part.{Part}
 use Rattle.itip_order.specs.declared.part.Slot.{Slot}

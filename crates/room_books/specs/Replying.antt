@@ -1,5 +1,5 @@
 -- What a reply tells of the parts of a message.
-use Rattle.std.specs.Prelude.{◌≡◌, ℕ, List, ◌++◌, map, codes, Contains, Option, Some}
+use Rattle.std.specs.Prelude.{◌≡◌, ℕ, List, ◌++◌, map, codes, Contains, Some}
 use Rattle.std.specs.List.{flat_map, AllZip}
 use denote.Ref.{Bor}
 use Rattle.ical_values.specs.Octets.{address_octets}

@@ -21,11 +21,7 @@ use itip_order::{Part, Slot};
 use std::alloc::{AllocError, Global};
 
 /// The claims that a message has for a room, in the order of its text; none where it isn't addressed to it.
-pub fn claims_of(
-    alloc: Global,
-    message: &Message,
-    room: &Address,
-) -> Result<Vec<Claim>, AllocError>
+pub fn claims_of(alloc: Global, message: &Message, room: &Address) -> Result<Vec<Claim>, AllocError>
     // So far a message stands for one event.
     ensures { IfOk result (λ claims. (event : Event) → StandsFor message.now event → AreClaimed (address_octets room.now) event claims.items) }
 {
@@ -38,11 +34,7 @@ pub fn claims_of(
 /// A claim for each component.
 // Apart from `claims_of`, which most rooms leave at its first line.
 #[inline(never)]
-fn all_claims(
-    alloc: Global,
-    message: &Message,
-    room: &Address,
-) -> Result<Vec<Claim>, AllocError>
+fn all_claims(alloc: Global, message: &Message, room: &Address) -> Result<Vec<Claim>, AllocError>
     ensures { IfOk result (λ claims. AllZip (IsClaimIn (address_octets room.now) message.now) message.now.components.items claims.items) }
 {
     let mut claims = Vec::new(alloc);

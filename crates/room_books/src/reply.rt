@@ -108,11 +108,7 @@ fn write_answer(
 }
 
 /// What that VEVENT says.
-fn event_of<'a>(
-    room: &'a Address,
-    part: &'a Part,
-    answers: &'a [Given],
-) -> Option<ReplyEvent<'a>>
+fn event_of<'a>(room: &'a Address, part: &'a Part, answers: &'a [Given]) -> Option<ReplyEvent<'a>>
     ensures event { IfSome result (IsEventIn (address_octets room.now) answers.now (part_of part.now)) }
     ensures none { IfNone result (CanTell answers.now (part_of part.now) → ⊥) }
 {
