@@ -14,3 +14,4 @@ pub mod Hiding
 pub mod Replying
 pub mod Claiming
 pub mod Bodies
+pub mod BySlot

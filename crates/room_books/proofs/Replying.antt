@@ -1,22 +1,22 @@
 -- The reply tells the answers that the book of the meeting has.
-use Rattle.std.proofs.Common.{◌≡◌, ◌∙◌, ℕ, ◌+◌, ◌<◌, true, not, ◌&&◌, List, [], ◌∷◌, ◌++◌, take, length, get_or, map, inl, inr, Some, sym, ap, subst, arith}
+use Rattle.std.proofs.Common.{◌≡◌, ◌∙◌, ℕ, ◌+◌, ◌<◌, true, not, ◌&&◌, List, [], ◌∷◌, ◌++◌, take, length, get_or, map, codes, inl, inr, Some, sym, ap, subst, arith}
 use Rattle.std.specs.Prelude.{IsTrue, ◌==◌}
-use Rattle.std.specs.List.{AllZip, Contains}
+use Rattle.std.specs.List.{AllZip, Contains, flat_map}
 use Rattle.std.proofs.lemmas.Bool.{and_parts}
 use Rattle.std.proofs.lemmas.Bool.Decides.{nat_tests}
 use Rattle.std.proofs.lemmas.List.{length-map}
 use Rattle.std.proofs.lemmas.List.Elements.{Contains-get_or}
 use denote.Ref.{Bor}
 use Rattle.ical_values.specs.Octets.{address_octets}
-use Rattle.profile.specs.text.Lines.{folded}
+use Rattle.profile.specs.text.Lines.{folded, written}
 use Rattle.profile.specs.rooms.Revisions.{Part, in_view, same_part}
-use Rattle.profile.specs.rooms.Messages.{IsReplyEvent}
+use Rattle.profile.specs.rooms.Messages.{IsReplyEvent, opening_lines}
 use Rattle.profile.specs.rooms.Rooms.{Book, Answer, is_set, shown}
 use Rattle.profile.specs.rooms.Rooms as rooms
 use Rattle.profile.specs.rooms.Kept.{Replies, IsReply, ShowsAnswer}
 use Rattle.itip_messages.specs.Replies.{WritesLines, IsWrittenEvent}
 use Rattle.itip_messages.specs.declared.reply.ReplyEvent.{ReplyEvent}
-use Rattle.itip_messages.proofs.LineLemmas.{more_lines}
+use Rattle.itip_messages.proofs.LineLemmas.{more_lines, whole}
 use Rattle.itip_order.specs.Parts.{part_of}
 use Rattle.itip_order.proofs.Lasting.{view_one}
 use Rattle.itip_order.proofs.Lists.{in_cons, in_head, in_tail, none_in_nil, filter_at, filter_from}
@@ -28,9 +28,11 @@ use Rattle.room_books.specs.declared.taking.Claim.{Claim}
 use Rattle.room_books.specs.Views.{outcome_of}
 use Rattle.room_books.specs.Takings.{claim_said, claims_said}
 use Rattle.room_books.specs.Standing.{AreFitting, IsOwn, IsGiven, Meets, standing}
-use Rattle.room_books.specs.Replying.{AreShown, CanTell, AllTell, IsEventIn, ShowsGiven, WritesAnswers, IsReplyOf}
+use Rattle.room_books.specs.BySlot.{AreSame}
+use Rattle.room_books.specs.Replying.{AreShown, CanTell, AllTell, IsEventIn, ShowsGiven, AreTold, WritesAnswers, IsReplyOf}
 use Rattle.room_books.proofs.Loops.{zip_push, one_more}
 use Rattle.room_books.proofs.Meetings.{same_place_of}
+use Rattle.room_books.proofs.BySlot.{in_mapped}
 
 -- ---- lists, place by place
 
@@ -56,13 +58,6 @@ zip_mapped f R Q [] [] h z = tt
 zip_mapped f R Q [] (w ∷ zs) h z = absurd z
 zip_mapped f R Q (x ∷ xs) [] h z = absurd z
 zip_mapped f R Q (x ∷ xs) (w ∷ zs) h z = (h x w (in_head x xs) z.0, zip_mapped f R Q xs zs (λ y v c. h y v (in_tail x xs y c)) z.1)
-
-in_mapped : {X Y : Type 0} (f : X → Y) (xs : List X) (x : X) → Contains xs x → Contains (map f xs) (f x)
-in_mapped f [] x c = absurd (none_in_nil x c)
-in_mapped f (w ∷ xs) x c = elim (in_cons w xs x c) [
-  | inl here ↦ subst (λ v. Contains (f w ∷ map f xs) (f v)) here (in_head (f w) (map f xs))
-  | inr there ↦ in_tail (f w) (map f xs) (f x) (in_mapped f xs x there)
-]
 
 -- ---- what was written
 
@@ -92,6 +87,37 @@ told_more room answers all i claim old mid new h e before one tell =
       subst (λ (l : List (Bor Claim)). AllZip R l (b.0 ++ o.0 ∷ [])) (sym (one_more all i claim h e)) (zip_push R (take i all) b.0 claim o.0 b.1 o.1),
       more_lines folded old mid new b.0 o.0 b.2 o.2,
     )
+
+-- ---- the same answers in another order
+
+can_tell_from : (xs ys : List Given) (part : Part) → AreSame xs ys → CanTell xs part → CanTell ys part
+can_tell_from xs ys part same can = record {
+  slot = can.slot;
+  given = can.given;
+  kept = (same can.given).0 can.kept;
+  same = can.same;
+  dated = λ other c. can.dated other ((same other).1 c);
+}
+
+shows_from : (room : List ℕ) (xs ys : List Given) (part : Part) (lines : List (List ℕ)) → AreSame xs ys → ShowsGiven room ys part lines → ShowsGiven room xs part lines
+shows_from room xs ys part lines same s = record { given = s.given; kept = (same s.given).1 s.kept; same = s.same; shows = s.shows }
+
+told_from : (room : List ℕ) (xs ys : List Given) (are : List (Bor Claim)) (events : List (List (List ℕ))) → AreSame xs ys → AreTold room ys are events → AreTold room xs are events
+told_from room xs ys [] [] same z = tt
+told_from room xs ys [] (e ∷ events) same z = absurd z
+told_from room xs ys (c ∷ are) [] same z = absurd z
+told_from room xs ys (c ∷ are) (e ∷ events) same z = (shows_from room xs ys (part_of c.now.part) e same z.0, told_from room xs ys are events same z.1)
+
+-- the whole reply
+pub reply_whole : (room : List ℕ) (answers sorted : List Given) (are : List (Bor Claim)) (empty opened mid closed : List ℕ) → AreSame answers sorted → empty ≡ [] → opened ≡ empty ++ written (opening_lines (Some (codes "REPLY")))
+    → (AllTell sorted are → WritesAnswers room sorted are opened mid) → closed ≡ mid ++ folded (codes "END:VCALENDAR") → AllTell answers are → IsReplyOf room answers are closed
+reply_whole room answers sorted are empty opened mid closed same e0 e1 f e2 tell =
+    let w = f (λ claim c. can_tell_from answers sorted (part_of claim.now.part) same (tell claim c)) in
+    record {
+      events = w.0;
+      each = told_from room answers sorted are w.0 same w.1;
+      is = whole folded (opening_lines (Some (codes "REPLY"))) (flat_map (λ lines. lines) w.0) (codes "END:VCALENDAR") empty opened mid closed e0 e1 w.2 e2;
+    }
 
 -- ---- by the book of the meeting
 

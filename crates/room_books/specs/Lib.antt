@@ -5,3 +5,4 @@ pub mod Standing
 pub mod Timelines
 pub mod Replying
 pub mod Claiming
+pub mod BySlot

@@ -6,6 +6,7 @@ mod claims;
 mod decide;
 pub mod meeting;
 mod reply;
+mod slots;
 mod taking;
 mod timeline;
 

@@ -12,10 +12,12 @@ ghost use Rattle.room_books.specs.declared.meeting.MeetingKey.{MeetingKey};
 ghost use Rattle.room_books.specs.Views.{outcome_of};
 ghost use Rattle.room_books.specs.Takings.{claims_said, octets_in, OutcomeDated};
 ghost use Rattle.room_books.specs.Standing.{AreFitting, IsOwn, Meets, SlotDated};
+ghost use Rattle.room_books.specs.BySlot.{AreBySlot, givens};
 ghost use Rattle.room_books.specs.Replying.{AreShown, CanTell, AllTell, IsEventIn, IsReplyOf, ShowsGiven, WritesAnswers};
 
 use crate::answer::LimitKind;
-use crate::meeting::{Given, Meeting, Outcome, answer_in};
+use crate::meeting::{Given, Meeting, Outcome};
+use crate::slots::{answer_of, by_slot};
 use crate::taking::Claim;
 use clash_cert::Clash;
 use ical_values::{Address, Stamp};
@@ -26,7 +28,7 @@ use std::alloc::{AllocError, Global};
 /// The REPLY to a message with these claims, where this is the meeting after it: a VEVENT for each part that is to take place
 /// and is in the view, in their order; None where there is none.
 ///
-/// A part is looked up in the view by halves, but its answer by a walk over the answers of the meeting.
+/// A part is looked up in the view by halves, and so is its answer, for which the answers of the meeting are put in order once.
 pub fn reply_to(
     alloc: Global,
     room: &Address,
@@ -72,7 +74,8 @@ fn reply_of(
 {
     let mut object = ObjectWriter::new(alloc);
     object.begin_calendar(Some("REPLY"))?;
-    write_answers(&mut object, room, shown, answers)?;
+    let sorted = by_slot(alloc, answers)?;
+    write_answers(&mut object, room, shown, &sorted)?;
     object.end_calendar()?;
     Ok(object.finish())
 }
@@ -81,9 +84,10 @@ fn write_answers(
     object: &mut ObjectWriter,
     room: &Address,
     shown: &[&Claim],
-    answers: &[Given],
+    answers: &[&Given],
 ) -> Result<(), AllocError>
-    ensures { OnOk result (AllTell answers.now shown.now → WritesAnswers (address_octets room.now) answers.now shown.now object.old object.new) }
+    requires { AreBySlot answers.now }
+    ensures { OnOk result (AllTell (givens answers.now) shown.now → WritesAnswers (address_octets room.now) (givens answers.now) shown.now object.old object.new) }
 {
     for claim in shown {
         write_answer(object, room, &claim.part, answers)?;
@@ -96,9 +100,10 @@ fn write_answer(
     object: &mut ObjectWriter,
     room: &Address,
     part: &Part,
-    answers: &[Given],
+    answers: &[&Given],
 ) -> Result<(), AllocError>
-    ensures { OnOk result (CanTell answers.now (part_of part.now) → WritesLines object.old object.new (ShowsGiven (address_octets room.now) answers.now (part_of part.now))) }
+    requires { AreBySlot answers.now }
+    ensures { OnOk result (CanTell (givens answers.now) (part_of part.now) → WritesLines object.old object.new (ShowsGiven (address_octets room.now) (givens answers.now) (part_of part.now))) }
 {
     let Some(event) = event_of(room, part, answers) else {
         return Ok(());
@@ -108,11 +113,12 @@ fn write_answer(
 }
 
 /// What that VEVENT says.
-fn event_of<'a>(room: &'a Address, part: &'a Part, answers: &'a [Given]) -> Option<ReplyEvent<'a>>
-    ensures event { IfSome result (IsEventIn (address_octets room.now) answers.now (part_of part.now)) }
-    ensures none { IfNone result (CanTell answers.now (part_of part.now) → ⊥) }
+fn event_of<'a>(room: &'a Address, part: &'a Part, answers: &[&'a Given]) -> Option<ReplyEvent<'a>>
+    requires { AreBySlot answers.now }
+    ensures event { IfSome result (IsEventIn (address_octets room.now) (givens answers.now) (part_of part.now)) }
+    ensures none { IfNone result (CanTell (givens answers.now) (part_of part.now) → ⊥) }
 {
-    let given = answer_in(answers, part.slot)?;
+    let given = answer_of(answers, part.slot)?;
     let recurrence = recurrence_of(part.slot)?;
     // no `?`, nor in `busy`: Rattle's borrow checker doesn't follow stamps beside references through it
     let Some(decision) = decision_of(&given.outcome) else {
