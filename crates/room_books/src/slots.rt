@@ -11,7 +11,7 @@ use itip_order::Slot;
 use std::alloc::{AllocError, Global};
 
 /// The answers in the order of their slots.
-pub fn by_slot<'a>(alloc: Global, answers: &'a [Given]) -> Result<Vec<&'a Given>, AllocError>
+pub fn by_slot(alloc: Global, answers: &[Given]) -> Result<Vec<&Given>, AllocError>
     ensures same { IfOk result (λ sorted. AreSame answers.now (givens sorted.items)) }
     ensures rises { IfOk result (λ sorted. AreBySlot sorted.items) }
 {
