@@ -1,13 +1,13 @@
 -- The claims of a message: at most one, of the part and the instance of its event.
-use Rattle.std.proofs.Common.{◌≡◌, ◌∙◌, ℕ, ◌<◌, ◌+◌, Bool, true, false, ◌||◌, List, [], ◌∷◌, ◌++◌, take, length, get_or, map, Result, Ok, Err, IfOk, inl, inr, Some, refl, sym, ap, subst}
+use Rattle.std.proofs.Common.{◌≡◌, ◌∙◌, ℕ, ◌<◌, ◌+◌, true, List, [], ◌∷◌, ◌++◌, take, length, get_or, map, Result, Ok, Err, IfOk, inl, inr, Some, refl, sym, ap, subst}
 use Rattle.std.specs.Prelude.{slice_get, if◌then◌else◌, unwrap_or}
 use Rattle.std.specs.List.{AllZip, Contains, list_any}
-use Rattle.std.specs.Str.{bytes_eq}
 use Rattle.std.proofs.lemmas.Option.{slice_get_within, unwrap_or-slice_get}
 use Rattle.ical_values.specs.Octets.{address_octets}
 use Rattle.itip_messages.specs.declared.message.Message.{Message}
 use Rattle.itip_messages.specs.declared.message.MessageComponent.{MessageComponent}
 use Rattle.itip_messages.specs.Messages.{StandsFor, component_names, part_for}
+use Rattle.itip_messages.proofs.MessageLemmas.{names_said, addressed}
 use Rattle.itip_order.specs.Parts.{part_of, slot_of}
 use Rattle.itip_order.proofs.Lists.{in_cons, none_in_nil}
 use Rattle.profile.specs.checker.Instances.{Booked}
@@ -29,10 +29,6 @@ use Rattle.room_books.proofs.Bodies.{body_of}
 use Rattle.room_books.proofs.Loops.{zip_push, one_more}
 use Rattle.room_books.proofs.Meetings.{is_of_from}
 
-or_false : (b : Bool) → (b || false) ≡ b
-or_false true = refl
-or_false false = refl
-
 only : {X : Type 0} (P : X → Type 0) (x y : X) → P x → Contains (x ∷ []) y → P y
 only P x y p c = elim (in_cons x [] y c) [ inl here ↦ subst P here p | inr none ↦ absurd (none_in_nil y none) ]
 
@@ -50,11 +46,6 @@ zip_more {X} {Y} R items all i x ys new y same h e is z r =
 -- what a part asks for with these instances
 abbrev said : Part → List Single → rooms.Claim
 said part singles = record { part = part; content = body_lines part.body; singles = map (booked_in part) singles }
-
--- a message is addressed to a room where its event names it
-pub addressed : (room : List ℕ) (message : Message) (event : Event) → StandsFor message event → list_any (component_names room) message.components.items ≡ names_room room event
-addressed room message event s =
-    ap (list_any (component_names room)) s.one ∙ or_false (component_names room s.component) ∙ ap (list_any (λ a. bytes_eq a.address room)) s.says.attendees
 
 -- the first claim of a list is one of it
 pub first_in : (claims : List Claim) (claim : Claim) → Some claim ≡ slice_get claims 0 → Contains claims claim
@@ -74,7 +65,7 @@ module _ (room : List ℕ) (message : Message) (event : Event) (s : StandsFor me
 
   body_is : part.body ≡ Set (canonical content)
   body_is =
-      ap (λ b. if b then Set component.canonical.items else Absent) (ap (list_any (λ a. bytes_eq a.address room)) s.says.attendees ∙ names) ∙ ap Set s.says.canonical.is
+      ap (λ b. if b then Set component.canonical.items else Absent) (names_said room message event s ∙ names) ∙ ap Set s.says.canonical.is
 
   lines_are : body_lines part.body ≡ content
   lines_are = ap body_lines body_is ∙ (body_of event content s.says.canonical.when (x.short event s.says)).read
