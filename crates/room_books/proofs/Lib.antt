@@ -33,3 +33,7 @@ pub mod Writing
 pub mod Slots
 pub mod Keeping
 pub mod PartLines
+pub mod Replying
+pub mod Claiming
+pub mod Bodies
+pub mod BySlot

@@ -2,11 +2,13 @@
 #![tactic(auto)]
 
 pub mod answer;
+mod claims;
 mod decide;
 mod laws;
 pub mod meeting;
 mod reply;
 pub mod room;
+mod slots;
 mod taking;
 mod texts;
 mod timeline;

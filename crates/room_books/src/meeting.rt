@@ -1,9 +1,8 @@
 //! What a room keeps of one meeting: the parts taken, and the answers to those in the view.
 
-ghost use Rattle.std.specs.Prelude.{◌≡◌, IfOk, IfSome, IfNone, Contains};
+ghost use Rattle.std.specs.Prelude.{◌≡◌, IfOk};
 ghost use Rattle.ical_values.specs.Octets.{address_octets, text_octets};
 ghost use Rattle.cal_events.specs.Calendars.{instance_of, owned_key_of};
-ghost use Rattle.itip_order.specs.Parts.{slot_of};
 ghost use Rattle.room_books.specs.Views.{all_singles, booked_of, IsKeyOf};
 
 use crate::answer::LimitKind;
@@ -118,12 +117,4 @@ pub(crate) fn singles_of(alloc: Global, answers: &[Given]) -> Result<Vec<Single>
         singles.extend_from_slice(&given.singles)?;
     }
     Ok(singles)
-}
-
-/// The answer to the part of a slot.
-pub(crate) fn answer_in(answers: &[Given], slot: Slot) -> Option<&Given>
-    ensures found { IfSome result (λ given. Contains answers.now given.now × (slot_of given.now.slot ≡ slot_of slot)) }
-    ensures none { IfNone result ((given : Given) → Contains answers.now given → slot_of given.slot ≡ slot_of slot → ⊥) }
-{
-    answers.iter().find(|given| given.slot == slot)
 }

@@ -27,7 +27,7 @@ pub struct Claim {
 
 impl Claim {
     /// Whether the part is to take place.
-    fn is_set(&self) -> bool
+    pub fn is_set(&self) -> bool
         ensures { result ≡ is_set (part_of self.now.part) }
     {
         matches!(self.part.body, Body::Set(_))
