@@ -25,7 +25,7 @@ use Rattle.room_books.proofs.Entries.{meeting_at}
 use Rattle.room_books.proofs.Loops.{zip_both}
 use Rattle.room_books.proofs.Meetings.{same_place_of, view_of}
 use Rattle.room_books.proofs.Pairs.{pairs_from}
-use Rattle.room_books.proofs.Slots.{accepted_from, accepted_at}
+use Rattle.room_books.proofs.AcceptedSlots.{accepted_from, accepted_at}
 
 -- ---- two lists side by side
 

@@ -30,10 +30,11 @@ pub mod Examples
 pub mod Arrivals
 pub mod Entries
 pub mod Writing
-pub mod Slots
+pub mod AcceptedSlots
 pub mod Keeping
 pub mod PartLines
 pub mod Replying
 pub mod Claiming
 pub mod Bodies
 pub mod BySlot
+pub mod RoomSteps

@@ -1,14 +1,18 @@
 //! A room takes messages one after another. A message is taken whole or not at all: everything is computed
 //! beside the room, and put into it by the last step.
 
-ghost use Rattle.std.specs.Prelude.{◌≡◌, ◌<◌, ◌≤◌, ◌++◌, Some, List, [], length, IfOk, OnOk, OnErr, IsTrue};
+ghost use Rattle.std.specs.Prelude.{◌≡◌, None, ◌<◌, ◌≤◌, ◌++◌, Some, List, [], length, IfOk, OnOk, OnErr, IsTrue};
 ghost use Rattle.std.specs.List.{IsDistinct};
 ghost use Rattle.std.specs.Map.{lookup};
 ghost use Rattle.indexmap.specs.IndexMap.{keys, insert_entry, IsUnchanged, Updates};
 ghost use Rattle.ical_values.specs.Octets.{address_octets};
 ghost use Rattle.itip_order.specs.Parts.{part_of};
 ghost use Rattle.profile.specs.checker.Instances.{IsClear};
-ghost use Rattle.profile.specs.rooms.Rooms.{Book, empty_book};
+ghost use Rattle.itip_messages.specs.Messages.{StandsFor};
+ghost use Rattle.profile.specs.events.Events.{Event};
+ghost use Rattle.profile.specs.streams.Streams.{AreClaims};
+ghost use Rattle.profile.specs.rooms.Rooms.{Claim, Book, empty_book};
+ghost use Rattle.profile.specs.rooms.Kept.{kept_certificate, IsKeptCalendar};
 ghost use Rattle.room_books.specs.Instants.{AreSeparate, IsPartOf};
 ghost use Rattle.room_books.specs.Views.{same_key, all_confirmed, all_singles, confirmed_at, confirmed_singles, singles_by, others, AreAllApart, IsKeyOf, MayJoin};
 ghost use Rattle.room_books.specs.Timelines.{IsTimelineOf};
@@ -16,13 +20,16 @@ ghost use Rattle.room_books.specs.Takings.{claims_said, kind_view, reply_octets,
 ghost use Rattle.room_books.specs.Standing.{Stands, StepsWith, AreFitting, IsMeetingAfter};
 
 use crate::answer::{Answer, Kind};
+use crate::claims::claims_of;
 use crate::decide::{Meetings, decide, keys_differ};
 use crate::meeting::{Given, Meeting, MeetingKey, Outcome, Single, singles_of};
 use crate::reply::reply_to;
-use crate::taking::{Claim, Views, candidates, decided, held_after};
+use crate::taking::{self, Views, candidates, decided, held_after};
+use crate::texts::{calendar_of, certificate_of};
 use crate::timeline::Timeline;
 use ical_values::{Address, Stamp};
 use indexmap::IndexMap;
+use itip_messages::Message;
 use itip_order::{Held, Part};
 use std::alloc::{AllocError, Global};
 
@@ -86,11 +93,37 @@ impl Room {
         &self.meetings
     }
 
-    /// How many instances the meetings have confirmed.
-    pub(crate) fn confirmed(&self) -> usize
-        ensures { result ≡ length (all_confirmed self.now.meetings.entries) }
+    /// Takes a message at a moment, and answers it. Where memory is refused nothing has changed.
+    /// So far a message has one part for a room, of the whole of its meeting, or isn't addressed to it.
+    pub fn take(&mut self, message: &Message, now: Stamp) -> Result<Answer, AllocError>
+        // From each book that the room stands for it makes a step of the room machine, with the claims of the message's event.
+        ensures steps { IfOk result (λ answer. (event : Event) → StandsFor message.now event → (book : Book) → Stands self.old.meetings.entries book
+            → (claims : List Claim) × AreClaims (address_octets self.old.address) event claims
+            × StepsWith (address_octets self.old.address) self.new.meetings.entries book claims now (kind_view answer.kind) (reply_octets answer)) }
+        ensures address { self.new.address ≡ self.old.address }
+        ensures refresh { IfOk result (λ answer. answer.refresh ≡ None) }
+        ensures err { OnErr result (IsUnchanged self.old.meetings self.new.meetings) }
     {
-        self.timeline.confirmed()
+        let claims = claims_of(self.alloc, message, &self.address)?;
+        let Some(first) = claims.first() else {
+            return Ok(Answer::silent(Kind::NotAddressed));
+        };
+        let answer = self.take_claims(&first.part, &claims, now)?;
+        Ok(answer)
+    }
+
+    /// The kept calendar: each accepted part in the view, the meetings in order of first arrival.
+    pub fn calendar_text(&self) -> Result<Vec<u8>, AllocError>
+        ensures { IfOk result (λ text. (book : Book) → Stands self.now.meetings.entries book → IsKeptCalendar (address_octets self.now.address) book text.items) }
+    {
+        calendar_of(self.alloc, &self.meetings, &self.address)
+    }
+
+    /// The certificate that stands for the kept calendar.
+    pub fn certificate_text(&self) -> Result<Vec<u8>, AllocError>
+        ensures { IfOk result (λ text. (book : Book) → Stands self.now.meetings.entries book → text.items ≡ kept_certificate book) }
+    {
+        certificate_of(self.alloc, &self.meetings, &self.timeline)
     }
 
     /// Takes the claims of a message, of one meeting; the part is the first one's.
@@ -99,7 +132,7 @@ impl Room {
     fn take_claims(
         &mut self,
         first: &Part,
-        claims: &[Claim],
+        claims: &[taking::Claim],
         now: Stamp,
     ) -> Result<Answer, AllocError>
         requires some { 0 < length claims.now }
@@ -138,7 +171,7 @@ impl Room {
         &self,
         key: &MeetingKey,
         first: &Part,
-        claims: &[Claim],
+        claims: &[taking::Claim],
         before: &[Single],
         now: Stamp,
     ) -> Result<Taken, AllocError>
@@ -173,7 +206,7 @@ impl Room {
         key: &MeetingKey,
         held: &Held,
         kept: Vec<Given>,
-        asked: &[&Claim],
+        asked: &[&taking::Claim],
         before: &[Single],
         now: Stamp,
     ) -> Result<Answered, AllocError>
@@ -182,6 +215,7 @@ impl Room {
         ensures answered { IfOk result (λ answered. IsAnswered (others key.now self.now.meetings.entries) key.now held.now now kept.items asked.now answered.answers.items answered.outcome) }
         ensures joins { IfOk result (λ answered. MayJoin (others key.now self.now.meetings.entries) key.now (all_singles answered.answers.items)) }
     {
+        keys_differ(&self.meetings);
         if asked.is_empty() {
             return Ok(Answered {
                 answers: kept,
