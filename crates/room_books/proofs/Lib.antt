@@ -38,3 +38,4 @@ pub mod Claiming
 pub mod Bodies
 pub mod BySlot
 pub mod RoomSteps
+pub mod KindLemmas
