@@ -224,11 +224,9 @@ impl Room {
         }
         let candidates = candidates(self.alloc, held, asked, now)?;
         let outcome = self.decide(key, &kept, &candidates, before)?;
-        let new = decided(self.alloc, candidates, &outcome)?;
+        let mut new = decided(self.alloc, candidates, &outcome)?;
         let mut answers = kept;
-        for given in new {
-            answers.push(given)?;
-        }
+        answers.append(&mut new)?;
         Ok(Answered {
             answers,
             outcome: Some(outcome),
