@@ -5,6 +5,7 @@ pub mod answer;
 mod decide;
 mod laws;
 pub mod meeting;
+pub mod room;
 mod taking;
 mod texts;
 mod timeline;
