@@ -73,13 +73,13 @@ def costs(given, lines, own):
     said += f"{whole / 60 / lines * 1000:.1f} processor minutes for 1,000 lines of code ({whole / 60 / own * 1000:.1f} where the lines of examples and tests aren't counted)."
     table = [row(("Kind", "Processor minutes", "Share")), "|---|---:|---:|"]
     table += [row((kind, f"{it / 60:.1f}", f"{100 * it / whole:.0f} %")) for kind, it in seconds.items()]
-    dear = "The dearest further edits, in processor seconds: " + ", ".join(f"`{name}` {it:.0f}" for it, name in edits[:5])
+    dear = "The dearest edits, in processor seconds: " + ", ".join(f"`{name}` {it:.0f}" for it, name in edits[:5])
     dear += f"; the median is {edits[len(edits) // 2][0]:.0f}." if edits else ""
-    shares = [row(("Crate", "Proof", "Tests", "First edit", "Further edits", "Program", "All")), "|---|" + "---:|" * 6]
+    shares = [row(("Crate", "Proof", "Tests", "Proof for edits", "Edits", "Program", "Compilers", "All")), "|---|" + "---:|" * 7]
     for crate in (it[1:] for it in rows if it[0] == "crate"):
         shares.append(row((f"`{crate[0]}`", *crate[1:], round(sum(map(float, crate[1:]))))))
-    by_crate = "By crate, in processor seconds; a crate's first edit is its proof from nothing once more, in a copy:"
-    return [paragraph(said), "", *table, "", by_crate, "", *shares, "", paragraph(dear)]
+    by_crate = "By crate, in processor seconds; the proof for edits is that of the crate from nothing once more, in a copy, with a check of it after the last edit:"
+    return [paragraph(said), "", *table, "", paragraph(by_crate), "", *shares, "", paragraph(dear)]
 
 
 def dearest(file):
@@ -104,7 +104,7 @@ def main():
     total = [sum(column) for column in zip(*table.values())]
     print((ROOT / "bench" / "gate_head.md").read_text(encoding="utf-8"))
     print("## What it costs\n")
-    own = sum(counts[0] for name, counts in table.items() if not re.search(r"_(examples|tests)$|^example_", name))
+    own = sum(counts[0] for name, counts in table.items() if not re.search(r"_(examples|tests)$", name))
     print(*costs(given, total[0], own), sep="\n")
     print("\n## What it proves\n")
     print("Code, definitions, specs and proofs are lines that aren't blank; code is without its tests. The crate `profile` holds the")
