@@ -68,7 +68,7 @@ event_written = joins folded
 
 -- ---- the VEVENTs of a reply
 
-more_lines : (f : List ℕ → List ℕ) (old mid new : List ℕ) (before : List (List (List ℕ))) (lines : List (List ℕ)) → mid ≡ old ++ flat_map f (flat_map (λ event. event) before) → new ≡ mid ++ flat_map f lines → new ≡ old ++ flat_map f (flat_map (λ event. event) (before ++ lines ∷ []))
+pub more_lines : (f : List ℕ → List ℕ) (old mid new : List ℕ) (before : List (List (List ℕ))) (lines : List (List ℕ)) → mid ≡ old ++ flat_map f (flat_map (λ event. event) before) → new ≡ mid ++ flat_map f lines → new ≡ old ++ flat_map f (flat_map (λ event. event) (before ++ lines ∷ []))
 more_lines f old mid new before lines e1 e2 =
     let grown : flat_map (λ event. event) (before ++ lines ∷ []) ≡ flat_map (λ event. event) before ++ lines =
     flat_map-append (λ event. event) before (lines ∷ []) ∙ ap (λ x. flat_map (λ event. event) before ++ x) (append-nil lines) in
@@ -79,7 +79,8 @@ pub events_more : (events : List ReplyEvent) (event : ReplyEvent) (old mid new :
 events_more events event old mid new before one =
     (before.0 ++ one.0 ∷ [], push_zip IsWrittenEvent events before.0 event one.0 before.1 one.1, more_lines folded old mid new before.0 one.0 before.2 one.2)
 
-whole : (f : List ℕ → List ℕ) (first lines : List (List ℕ)) (last empty opened mid closed : List ℕ) → empty ≡ [] → opened ≡ empty ++ flat_map f first → mid ≡ opened ++ flat_map f lines → closed ≡ mid ++ f last → closed ≡ flat_map f (first ++ lines ++ (last ∷ []))
+-- some lines between the first and the last
+pub whole : (f : List ℕ → List ℕ) (first lines : List (List ℕ)) (last empty opened mid closed : List ℕ) → empty ≡ [] → opened ≡ empty ++ flat_map f first → mid ≡ opened ++ flat_map f lines → closed ≡ mid ++ f last → closed ≡ flat_map f (first ++ lines ++ (last ∷ []))
 whole f first lines last empty opened mid closed e0 e1 e2 e3 = rw (e3, e2, e1, e0) (simp (flat_map-append f, append_assoc, append-nil))
 
 -- the whole reply

@@ -137,11 +137,11 @@ request_said object own vs event mine inner named read o = record {
 -- ---- parts
 
 -- the one component names the room where the event does
-names_said : (room : List ℕ) (message : Message) (event : Event) (s : StandsFor message event) → component_names room s.component ≡ names_room room event
+pub names_said : (room : List ℕ) (message : Message) (event : Event) (s : StandsFor message event) → component_names room s.component ≡ names_room room event
 names_said room message event s =
     ap (list_any (λ a. bytes_eq a.address room)) s.says.attendees
 
-addressed : (room : List ℕ) (message : Message) (event : Event) → StandsFor message event → list_any (component_names room) message.components.items ≡ names_room room event
+pub addressed : (room : List ℕ) (message : Message) (event : Event) → StandsFor message event → list_any (component_names room) message.components.items ≡ names_room room event
 addressed room message event s =
     ap (list_any (component_names room)) s.one ∙ or-false (component_names room s.component) ∙ names_said room message event s
 

@@ -39,8 +39,8 @@ impl Message {
         Ok(parts)
     }
 
-    /// The part that a component is for a room.
-    fn part(&self, component: &MessageComponent, room: &Address) -> Result<Part, AllocError>
+    /// The part that a component of the message is for a room: with an Absent body where it doesn't name it.
+    pub fn part(&self, component: &MessageComponent, room: &Address) -> Result<Part, AllocError>
         ensures { IfOk result (λ part. part_of part ≡ part_for (address_octets room.now) self.now component.now) }
     {
         let body = if component.names(room) {

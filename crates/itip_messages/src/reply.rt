@@ -107,7 +107,8 @@ fn write_events(object: &mut ObjectWriter, events: &[ReplyEvent<'_>]) -> Result<
     Ok(())
 }
 
-fn write_event(object: &mut ObjectWriter, event: &ReplyEvent<'_>) -> Result<(), AllocError>
+/// Writes the VEVENT of one event. On an error some of its lines may have been written.
+pub fn write_event(object: &mut ObjectWriter, event: &ReplyEvent<'_>) -> Result<(), AllocError>
     ensures { OnOk result (WritesLines object.old object.new (IsWrittenEvent event.now)) }
 {
     object.line("BEGIN:VEVENT")?;

@@ -78,7 +78,7 @@ is_eq_true Greater e = absurd (cc)
 octets_same : IsAntisymmetric octets_cmp
 octets_same = slice_cmp-IsAntisymmetric nat_cmp-IsAntisymmetric
 
-slot_same : IsAntisymmetric slot_cmp
+pub slot_same : IsAntisymmetric slot_cmp
 slot_same Whole Whole e = refl
 slot_same Whole (At b) e = absurd (cc)
 slot_same (At a) Whole e = absurd (cc)

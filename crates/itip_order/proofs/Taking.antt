@@ -16,7 +16,7 @@ use Rattle.itip_order.specs.Freshness.{IsFreshness}
 use Rattle.itip_order.specs.Registers.{is_ascending, is_allowed_by, is_known, StandsFor, IsAt, IsGap}
 use Rattle.itip_order.proofs.Lists.{all_at, all_from, any_at, any_from, in_head, in_tail, in_cons, none_in_nil}
 use Rattle.itip_order.proofs.Order.{place_total, part_total}
-use Rattle.itip_order.proofs.Registers.{Puts, stands_kept, stands_put, in_view_from, in_view_at, register_greatest, register_of, place_trans, greatest_unique, allows_same_place, eq_refl}
+use Rattle.itip_order.proofs.Registers.{Puts, stands_kept, stands_put, in_view_from, in_view_at, register_greatest, register_of, place_sym, place_trans, greatest_unique, allows_same_place, eq_refl}
 use Rattle.ical_values.proofs.Facts.{is_lt_true}
 
 pub is_gt_true : (o : Ordering) → is_gt o ≡ true → o ≡ Greater
@@ -211,3 +211,16 @@ pub missing_is : (R h : List Part) (p : Part) (at : ℕ) → StandsFor R h → I
 missing_is R h p at s gap = sym (false_from_ne_true _ (λ v.
     let taken = (register_greatest R h s p (in_view_at R h s p v).0).taken in
     true≢false (sym (any_from (λ taken. same_place taken p) h p taken (eq_refl p)) ∙ unknown_is R h p at s gap)))
+
+-- a register that isn't allowed is of a place of which nothing is in the view
+pub none_is : (R h : List Part) (p r : Part) → StandsFor R h → Contains R r → same_place r p ≡ true → is_allowed_by R r ≡ false → (x : Part) → in_view h x ≡ true → same_place x p ≡ true → ⊥
+none_is R h p r s c place out x v here =
+    let at = in_view_at R h s x v in
+    let same = greatest_unique h x r (register_greatest R h s x at.0) (register_greatest R h s r c) (place_trans x p r here (place_sym r p place)) in
+    true≢false (sym at.1 ∙ ap (is_allowed_by R) same ∙ out)
+
+-- nor is a part of a place without a register
+pub none_missing : (R h : List Part) (p : Part) (at : ℕ) → StandsFor R h → IsGap R p at → (x : Part) → in_view h x ≡ true → same_place x p ≡ true → ⊥
+none_missing R h p at s gap x v here =
+    let taken = (register_greatest R h s x (in_view_at R h s x v).0).taken in
+    true≢false (sym (any_from (λ taken. same_place taken p) h x taken here) ∙ unknown_is R h p at s gap)

@@ -55,3 +55,12 @@ pub record IsGap (registers : List Part) (part : Part) (at : ℕ) : Type 0 where
   pub in_range : at ≤ length registers
   pub below : IsTrue (list_all (λ register. is_lt (place_cmp register part)) (take at registers))
   pub above : IsTrue (list_all (λ register. is_gt (place_cmp register part)) (drop at registers))
+
+-- the part is in the view of each history that the registers stand for
+abbrev pub IsInView : List Part → Part → Type 0
+IsInView registers part = (history : List Part) → StandsFor registers history → IsTrue (in_view history part)
+
+-- no part of its place is in the view of one
+abbrev pub HasNone : List Part → Part → Type 0
+HasNone registers place =
+    (history : List Part) → StandsFor registers history → (part : Part) → IsTrue (in_view history part) → IsTrue (same_place part place) → ⊥

@@ -3,11 +3,11 @@
 //! One register for each slot, in the order of organiser, UID, slot, so a slot is found by halves.
 //! A tombstone stays for good, also one of a meeting that was never heard of.
 
-ghost use Rattle.std.specs.Prelude.{◌≡◌, ◌<◌, ◌^◌, true, false, Contains, List, [], ◌∷◌, ◌++◌, length, IsTrue, IfOk, IfErr, OnOk, OnErr, if◌then◌else◌};
+ghost use Rattle.std.specs.Prelude.{◌≡◌, ◌<◌, ◌^◌, true, false, Contains, List, [], ◌∷◌, ◌++◌, length, IsTrue, IfOk, IfErr, IfSome, IfNone, OnOk, OnErr, if◌then◌else◌};
 ghost use Rattle.std.specs.Iterator.{YieldsFirstBy, item_count};
 ghost use Rattle.std.specs.List.{insert};
 ghost use Rattle.itip_order.specs.Parts.{part_of, parts_of, slot_of};
-ghost use Rattle.itip_order.specs.Registers.{is_ascending, is_allowed_by, shown, at_slot, is_known, StandsFor, IsView, SameParts, IsAt, IsGap};
+ghost use Rattle.itip_order.specs.Registers.{is_ascending, is_allowed_by, shown, at_slot, is_known, StandsFor, IsView, SameParts, IsAt, IsGap, IsInView, HasNone};
 ghost use Rattle.profile.specs.rooms.Revisions as revisions;
 
 use crate::part::{Body, Part, Slot};
@@ -111,6 +111,21 @@ impl Held {
             }
             Err(_) => false,
         }
+    }
+
+    /// The part in the view of a slot of another part's meeting, None where there is none. Takes no memory.
+    pub fn part_in(&self, part: &Part, slot: Slot) -> Option<&Part>
+        ensures found { IfSome result (λ found. IsInView self.now (part_of found.now) × IsTrue (revisions.same_place (part_of found.now) (at_slot (part_of part.now) (slot_of slot)))) }
+        ensures none { IfNone result (HasNone self.now (at_slot (part_of part.now) (slot_of slot))) }
+    {
+        let Ok(at) = place_of(&self.registers, part, slot) else {
+            return None;
+        };
+        let found = &self.registers[at];
+        if !is_allowed(&self.registers, found) {
+            return None;
+        }
+        Some(found)
     }
 
     /// The parts in the view, in the order of organiser, UID, slot. Takes no memory.

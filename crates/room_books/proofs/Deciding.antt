@@ -1,33 +1,237 @@
--- Instants that two spans share.
-use Rattle.std.proofs.Common.{◌≡◌, ℤ, ◌≤ℤ◌, ◌<ℤ◌, inl, inr, sym, ◌∙◌, subst, arith}
+-- The decision: which two instances clash, and that none do.
+use Rattle.std.proofs.Common.{◌≡◌, ◌≢◌, ℕ, ◌+◌, ◌-◌, ◌<◌, ◌≤◌, ℤ, ◌≤ℤ◌, true, false, List, ◌++◌, inl, inr, ◌⊎◌, Some, refl, sym, ap, ◌∙◌, subst, length, get_or, arith, length-append}
+use Rattle.std.specs.Prelude.{slice_get}
+use Rattle.std.specs.declared.cmp.Ordering.{Ordering}
+use Rattle.std.specs.declared.cmp.Ordering.TheVariants.{Less, Equal, Greater}
+use Rattle.std.specs.Ordering.{int_cmp, ordering_then, is_lt}
+use Rattle.std.specs.List.{AllPairs, Contains}
+use Rattle.std.proofs.lemmas.Bool.{true≢false, cases_Bool, MatchBool-at_true, MatchBool-at_false}
+use Rattle.std.proofs.lemmas.Cmp.{int_ranked}
 use Rattle.std.proofs.lemmas.Int.{ints}
-use Rattle.profile.specs.checker.Instances.{horizon}
+use Rattle.std.proofs.lemmas.List.{get_or-map, get_or_default, length-map}
+use Rattle.std.proofs.lemmas.List.Elements.{Contains-append_left, Contains-append_right, Contains-append_cases}
+use Rattle.std.proofs.lemmas.Option.{slice_get-get_or, get_or_from_slice_get}
+use Rattle.clash_cert.specs.declared.making.Clash.{Clash}
+use Rattle.clash_cert.specs.Makings.{AreNamed, HasKeys}
+use Rattle.clash_cert.proofs.MakingLemmas.{less_from_before, less_from_not_before}
+use Rattle.cal_events.specs.Calendars.{owned_key_of}
+use Rattle.cal_events.specs.Sweep as sweep
 use Rattle.cal_events.specs.declared.sweep.Span.{Span}
-use Rattle.room_books.specs.Views.{HaveInstant, IsLater, Overlap}
+use Rattle.cal_events.specs.declared.sweep.Overlap.{Overlap as Found}
+use Rattle.profile.specs.checker.Instances.{Key, Booked, IsWithin, IsClear, key_cmp, booked_cmp}
+use Rattle.profile.specs.rooms.Rooms.{NamesClash}
+use Rattle.room_books.specs.declared.meeting.MeetingKey.{MeetingKey}
+use Rattle.room_books.specs.declared.meeting.Single.{Single}
+use Rattle.room_books.specs.Instants.{HaveInstant, IsLater, Overlap, AreSeparate}
+use Rattle.room_books.specs.Views.{booked_of, booked_list, slots_of, spans_of, span_of, IsFree}
+use Rattle.room_books.proofs.Places.{in_booked, booked_from, slots_at}
 
--- there is one later start
-later_same : (a b : Span) (s t : ℤ) → IsLater a b s → IsLater a b t → t ≡ s
-later_same a b s t p q = elim p.one [
-  | inl ps ↦ elim q.one [
-    | inl qs ↦ qs ∙ sym ps
-    | inr qs ↦ let x = p.second in let y = q.first in omega (arith, ints)
-  ]
-  | inr ps ↦ elim q.one [
-    | inl qs ↦ let x = p.first in let y = q.second in omega (arith, ints)
-    | inr qs ↦ qs ∙ sym ps
-  ]
-]
+-- ---- which of two comes first
 
-pub overlap_from : (a b : Span) (s : ℤ) → IsLater a b s → (s <ℤ a.end) × (s <ℤ b.end) × (s <ℤ horizon) → Overlap a b
-overlap_from a b s l h t m =
-    let P : ℤ → Type 0 = λ x. HaveInstant a b x in
-    subst P (sym (later_same a b s t l m)) (record { in_first = (l.first, h.0); in_second = (l.second, h.1); before = h.2 })
+starts_at : (o rest : Ordering) (a b : ℤ) → o ≡ int_cmp a b → is_lt (ordering_then o rest) ≡ true → a ≤ℤ b
+starts_at Less rest a b e h = let r = int_ranked a b Less e in omega (arith, ints)
+starts_at Equal rest a b e h = let r = int_ranked a b Equal e in omega (arith, ints)
+starts_at Greater rest a b e h = absurd (true≢false (sym h))
 
--- where the later start isn't before both ends and the horizon, no instant is shared
-pub none_from : (a b : Span) (s : ℤ) → IsLater a b s → ((s <ℤ a.end) × (s <ℤ b.end) × (s <ℤ horizon) → ⊥) → (t : ℤ) → HaveInstant a b t → ⊥
-none_from a b s l h t i =
-    let at_most : s ≤ℤ t = elim l.one [ inl e ↦ (let x = i.in_first in omega (arith, ints)) | inr e ↦ (let x = i.in_second in omega (arith, ints)) ] in
-    let first = i.in_first in
-    let second = i.in_second in
-    let before = i.before in
-    h (omega (arith, ints), omega (arith, ints), omega (arith, ints))
+starts_after : (o rest : Ordering) (a b : ℤ) → o ≡ int_cmp a b → is_lt (ordering_then o rest) ≡ false → b ≤ℤ a
+starts_after Less rest a b e h = absurd (true≢false h)
+starts_after Equal rest a b e h = let r = int_ranked a b Equal e in omega (arith, ints)
+starts_after Greater rest a b e h = let r = int_ranked a b Greater e in omega (arith, ints)
+
+later_is : (a b : Span) (t : ℤ) → IsLater a b t → a.start ≤ℤ b.start → t ≡ b.start
+later_is a b t l h = elim l.one [ inl e ↦ (let s = l.second in omega (arith, ints)) | inr e ↦ e ]
+
+later_is_first : (a b : Span) (t : ℤ) → IsLater a b t → b.start ≤ℤ a.start → t ≡ a.start
+later_is_first a b t l h = elim l.one [ inl e ↦ e | inr e ↦ (let s = l.first in omega (arith, ints)) ]
+
+-- two instances that share an instant are named as a decline does
+pub names_two : (all : List Booked) (x y : Booked) (clash : Clash) → Contains all x → Contains all y → x.key ≢ y.key → Overlap (span_of x) (span_of y)
+    → IsLater (span_of x) (span_of y) clash.instant → AreNamed x y clash.instant clash → NamesClash all (owned_key_of clash.first) (owned_key_of clash.second) clash.instant
+names_two all x y clash in_x in_y differ overlap later named =
+    let shared = overlap clash.instant later in
+    elim (cases_Bool (is_lt (booked_cmp y x))) [
+      | inl before ↦
+          let h = MatchBool-at_true (HasKeys y x clash.instant clash) (HasKeys x y clash.instant clash) before named in
+          let order = starts_at (int_cmp y.start x.start) (key_cmp y.key x.key) y.start x.start refl before in
+          record {
+            a = y;
+            b = x;
+            clash = record { first = in_y; second = in_x; differ = λ e. differ (sym e); before = shared.before; in_first = shared.in_second; in_second = shared.in_first };
+            first_is = sym h.first;
+            second_is = sym h.second;
+            ordered = less_from_before y x before;
+            later = later_is_first (span_of x) (span_of y) clash.instant later order;
+          }
+      | inr after ↦
+          let h = MatchBool-at_false (HasKeys y x clash.instant clash) (HasKeys x y clash.instant clash) after named in
+          let order = starts_after (int_cmp y.start x.start) (key_cmp y.key x.key) y.start x.start refl after in
+          record {
+            a = x;
+            b = y;
+            clash = record { first = in_x; second = in_y; differ = differ; before = shared.before; in_first = shared.in_first; in_second = shared.in_second };
+            first_is = sym h.first;
+            second_is = sym h.second;
+            ordered = less_from_not_before x y differ after;
+            later = later_is (span_of x) (span_of y) clash.instant later order;
+          }
+    ]
+
+-- ---- the own instances and the others
+
+module _ (all : List Booked) (k : MeetingKey) (kept wanted : List Single) (differ : (s : Single) (b : Booked) → Contains all b → b.key ≢ (booked_of k s).key) where
+  abbrev both : List Booked
+  both = all ++ booked_list k (kept ++ wanted)
+
+  own_in : (s : Single) → Contains (kept ++ wanted) s → Contains both (booked_of k s)
+  own_in s c = Contains-append_right all (booked_list k (kept ++ wanted)) (booked_of k s) (booked_from k (kept ++ wanted) s c)
+
+  pub length_is : length both ≡ length all + (length kept + length wanted)
+  length_is = length-append all (booked_list k (kept ++ wanted)) ∙ ap (λ n. length all + n) (length-map (kept ++ wanted) (booked_of k) ∙ length-append kept wanted)
+
+  pub few_all : (n : ℕ) → n ≡ length all → n + length kept ≤ 10_000 → length wanted ≤ 10_000 - n - length kept → length both ≤ 10_000
+  few_all n n_is few few_more = let l = length_is in omega (arith, n_is, few, few_more, l)
+
+  -- two own ones clash
+  pub own_named : (s r : Single) (clash : Clash) → Contains (kept ++ wanted) s → Contains (kept ++ wanted) r → s.slot ≢ r.slot → Overlap s.span r.span
+      → IsLater s.span r.span clash.instant → AreNamed (booked_of k s) (booked_of k r) clash.instant clash → NamesClash both (owned_key_of clash.first) (owned_key_of clash.second) clash.instant
+  own_named s r clash in_s in_r slots overlap later named =
+      names_two both (booked_of k s) (booked_of k r) clash (own_in s in_s) (own_in r in_r) (λ e. slots (ap (λ (z : Key). z.slot) e)) overlap later named
+
+  -- one that is asked for clashes with one of another meeting
+  pub other_named : (s : Single) (b : Booked) (clash : Clash) → Contains wanted s → Contains all b → Overlap s.span (span_of b)
+      → IsLater s.span (span_of b) clash.instant → AreNamed (booked_of k s) b clash.instant clash → NamesClash both (owned_key_of clash.first) (owned_key_of clash.second) clash.instant
+  other_named s b clash in_s in_b overlap later named =
+      names_two both (booked_of k s) b clash (own_in s (Contains-append_right kept wanted s in_s)) (Contains-append_left all (booked_list k (kept ++ wanted)) b in_b)
+      (λ e. differ s b in_b (sym e)) overlap later named
+
+  -- none do: those kept were clear beside the others, those that are asked for are free of them, and the own ones share no instant
+  module _ (clear : IsClear (all ++ booked_list k kept)) (free : (s : Single) → Contains wanted s → IsFree all s.span) (separate : AreSeparate (kept ++ wanted)) where
+    beside : (b : Booked) (s : Single) (t : ℤ) → Contains all b → Contains (kept ++ wanted) s → HaveInstant s.span (span_of b) t → ⊥
+    beside b s t in_b in_s h = elim (Contains-append_cases kept wanted s in_s) [
+      | inl old ↦ clear b (booked_of k s) t record {
+        first = Contains-append_left all (booked_list k kept) b in_b;
+        second = Contains-append_right all (booked_list k kept) (booked_of k s) (booked_from k kept s old);
+        differ = differ s b in_b;
+        before = h.before;
+        in_first = h.in_second;
+        in_second = h.in_first;
+      }
+      | inr new ↦ free s new b t in_b h
+    ]
+
+    own : (s r : Single) (t : ℤ) → Contains (kept ++ wanted) s → Contains (kept ++ wanted) r → s.slot ≢ r.slot → HaveInstant s.span r.span t → ⊥
+    own s r t in_s in_r slots h =
+        let at = get_or_default (kept ++ wanted) in_r.0 s r in_r.1 ∙ in_r.2 in
+        elim (order in_s.0 in_r.0) [
+          | inl less ↦ separate in_s.0 in_r.0 s less in_r.1 t (subst (λ (z : Single). HaveInstant z.span (get_or (kept ++ wanted) in_r.0 s).span t) (sym in_s.2) (subst (λ (z : Single). HaveInstant s.span z.span t) (sym at) h))
+          | inr rest ↦ elim rest [
+            | inl more ↦ separate in_r.0 in_s.0 s more in_s.1 t (subst (λ (z : Single). HaveInstant (get_or (kept ++ wanted) in_r.0 s).span z.span t) (sym in_s.2)
+                (subst (λ (z : Single). HaveInstant z.span s.span t) (sym at) (record { in_first = h.in_second; in_second = h.in_first; before = h.before })))
+            | inr same ↦ slots (ap (λ (z : Single). z.slot) (sym in_s.2 ∙ ap (λ n. get_or (kept ++ wanted) n s) same ∙ at))
+          ]
+        ]
+      where
+        order : (m n : ℕ) → (m < n) ⊎ ((n < m) ⊎ (m ≡ n))
+        order m n = grind arith
+
+    pub clear_all : IsClear both
+    clear_all a b t c = elim (Contains-append_cases all (booked_list k (kept ++ wanted)) a c.first) [
+      | inl a_other ↦ elim (Contains-append_cases all (booked_list k (kept ++ wanted)) b c.second) [
+        | inl b_other ↦ clear a b t record { first = Contains-append_left all (booked_list k kept) a a_other; second = Contains-append_left all (booked_list k kept) b b_other; differ = c.differ; before = c.before; in_first = c.in_first; in_second = c.in_second }
+        | inr b_own ↦ (
+            let s = in_booked k (kept ++ wanted) b b_own in
+            beside a s.0 t a_other s.1 (subst (λ (z : Booked). HaveInstant (span_of z) (span_of a) t) (sym s.2) (record { in_first = c.in_second; in_second = c.in_first; before = c.before })))
+      ]
+      | inr a_own ↦ (
+          let r = in_booked k (kept ++ wanted) a a_own in
+          elim (Contains-append_cases all (booked_list k (kept ++ wanted)) b c.second) [
+            | inl b_other ↦ beside b r.0 t b_other r.1 (subst (λ (z : Booked). HaveInstant (span_of z) (span_of b) t) (sym r.2) (record { in_first = c.in_first; in_second = c.in_second; before = c.before }))
+            | inr b_own ↦ (
+                let s = in_booked k (kept ++ wanted) b b_own in
+                own r.0 s.0 t r.1 s.1
+                (λ e. c.differ (sym (ap (λ (z : Booked). z.key) r.2) ∙ key_of_slot r.0 s.0 e ∙ ap (λ (z : Booked). z.key) s.2))
+                (subst (λ (z : Booked). HaveInstant (span_of z) s.0.span t) (sym r.2) (subst (λ (z : Booked). HaveInstant (span_of a) (span_of z) t) (sym s.2) (record { in_first = c.in_first; in_second = c.in_second; before = c.before }))))
+          ])
+    ]
+      where
+        key_of_slot : (s r : Single) → s.slot ≡ r.slot → (booked_of k s).key ≡ (booked_of k r).key
+        key_of_slot s r e = λ i. record { organiser = (booked_of k s).key.organiser; uid = (booked_of k s).key.uid; slot = e i }
+
+-- ---- what the sweep says of the own ones
+
+module _ (singles : List Single) (spans : List Span) (spans_are : spans ≡ spans_of singles) where
+  long : length spans ≡ length singles
+  long = ap length spans_are ∙ length-map singles (λ (s : Single). s.span)
+
+  span_at : (n : ℕ) (d : Single) → n < length singles → sweep.span_at spans n ≡ (get_or singles n d).span
+  span_at n d l = ap (λ (l : List Span). sweep.span_at l n) spans_are ∙ get_or-map (λ (s : Single). s.span) singles n d _ l
+
+  pub apart_separate : sweep.AreApart spans → AreSeparate singles
+  apart_separate apart i j d less within t h =
+      let first : i < length singles = omega (arith, less, within) in
+      let a = span_at i d first in
+      let b = span_at j d within in
+      apart i j t record {
+        first_in = omega (arith, first, long);
+        second_in = omega (arith, within, long);
+        differ = λ e. omega (arith, less, e);
+        before = h.before;
+        in_first = subst (λ (z : Span). IsWithin z.start z.end t) (sym a) h.in_first;
+        in_second = subst (λ (z : Span). IsWithin z.start z.end t) (sym b) h.in_second;
+      }
+
+  module _ (overlap : Found) (is : sweep.IsOverlap spans overlap) where
+    pub first_within : overlap.first < length singles
+    first_within = let l = is.shared.first_in in omega (arith, l, long)
+
+    pub second_within : overlap.second < length singles
+    second_within = let l = is.shared.second_in in omega (arith, l, long)
+
+    module _ (s r : Single) (s_at : slice_get singles overlap.first ≡ Some s) (r_at : slice_get singles overlap.second ≡ Some r) where
+      s_is : sweep.span_at spans overlap.first ≡ s.span
+      s_is = span_at overlap.first s first_within ∙ ap (λ (z : Single). z.span) (get_or_from_slice_get singles overlap.first s s s_at)
+
+      r_is : sweep.span_at spans overlap.second ≡ r.span
+      r_is = span_at overlap.second r second_within ∙ ap (λ (z : Single). z.span) (get_or_from_slice_get singles overlap.second r r r_at)
+
+      shared : HaveInstant s.span r.span overlap.instant
+      shared = record {
+        in_first = subst (λ (z : Span). IsWithin z.start z.end overlap.instant) s_is is.shared.in_first;
+        in_second = subst (λ (z : Span). IsWithin z.start z.end overlap.instant) r_is is.shared.in_second;
+        before = is.shared.before;
+      }
+
+      pub overlap_is : Overlap s.span r.span
+      overlap_is t later =
+          let at : overlap.instant ≡ r.span.start = is.later ∙ ap (λ (z : Span). z.start) r_is in
+          let first = shared.in_first.0 in
+          let same : t ≡ overlap.instant = later_is s.span r.span t later (subst (λ (u : ℤ). s.span.start ≤ℤ u) at first) ∙ sym at in
+          subst (λ (u : ℤ). HaveInstant s.span r.span u) (sym same) shared
+
+      pub slots_differ : AllPairs ◌≢◌ (slots_of singles) → s.slot ≢ r.slot
+      slots_differ distinct e = elim (order overlap.first overlap.second) [
+        | inl less ↦ slots_at singles overlap.first overlap.second s distinct less second_within (slot_at overlap.first s s_at ∙ e ∙ sym (slot_at overlap.second r r_at))
+        | inr rest ↦ elim rest [
+          | inl more ↦ slots_at singles overlap.second overlap.first s distinct more first_within (slot_at overlap.second r r_at ∙ sym e ∙ sym (slot_at overlap.first s s_at))
+          | inr same ↦ is.shared.differ same
+        ]
+      ]
+        where
+          order : (m n : ℕ) → (m < n) ⊎ ((n < m) ⊎ (m ≡ n))
+          order m n = grind arith
+
+          slot_at : (n : ℕ) (x : Single) → slice_get singles n ≡ Some x → (get_or singles n s).slot ≡ x.slot
+          slot_at n x h = ap (λ (z : Single). z.slot) (get_or_from_slice_get singles n x s h)
+
+      pub among : Contains singles s × Contains singles r
+      among = (
+        (overlap.first, first_within, get_or_from_slice_get singles overlap.first s s s_at),
+        (overlap.second, second_within, get_or_from_slice_get singles overlap.second r r r_at),
+      )
+
+-- one alone shares no instant
+pub one_alone : (singles : List Single) → length singles < 2 → AreSeparate singles
+one_alone singles few i j d less within t h = omega (arith, few, less, within)
+
+pub place_in : (all : List Single) (place : ℕ) (x d : Single) → place < length all → get_or all place d ≡ x → slice_get all place ≡ Some x
+place_in all place x d l e = slice_get-get_or all place d l ∙ ap Some e

@@ -22,7 +22,8 @@ use Rattle.room_books.proofs.Runs.{Good, IsWithin, within_good}
 use Rattle.itip_messages.proofs.ObjectTree.{Lines, vevent_lines, calendar_tree, calendar_vevents, object_spelled}
 use Rattle.itip_messages.proofs.ContentLines.{LinesBack, ReadsLines, no_method, object_content}
 use Rattle.room_books.proofs.KeptAnswers.{IsAsked, ReadsBack, reads_back}
-use Rattle.room_books.proofs.Pairs.{Pairwise, flat_at, flat_from}
+use Rattle.room_books.specs.Standing.{Pairwise}
+use Rattle.room_books.proofs.Pairs.{flat_at, flat_from}
 use Rattle.room_books.proofs.KeptMeetings.{meeting_of, AnswersApart, meetings_differ, kept_is, firsts_apart, firsts_cover, of_part, grouped, grouped_long, grouped_among, grouped_apart}
 use Rattle.room_books.proofs.KeptRuns.{KeepsAll, runs_keep}
 use Rattle.room_books.proofs.Views.{confirmed_all}

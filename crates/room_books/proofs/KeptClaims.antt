@@ -10,7 +10,8 @@ use Rattle.profile.specs.rooms.Revisions.{Part, Whole, slot_cmp, same_meeting}
 use Rattle.profile.specs.rooms.Rooms.{Claim, Answer, Book, is_confirmed}
 use Rattle.profile.specs.rooms.Kept.{first_parts, IsKept, AreKeptOf, AreKept}
 use Rattle.room_books.specs.Keeping.{kept_of, kept_parts, kept, claims_of}
-use Rattle.room_books.proofs.Pairs.{Pairwise, pairs_from, pairs_short, map_at, map_from, pairs_filter, filter_and}
+use Rattle.room_books.specs.Standing.{Pairwise}
+use Rattle.room_books.proofs.Pairs.{pairs_from, pairs_short, map_at, map_from, pairs_filter, filter_and}
 use Rattle.room_books.proofs.KeptMeetings.{AnswersApart, of_part, meeting_sym, meeting_trans}
 
 -- ---- a meeting of which at most one answer is kept

@@ -16,7 +16,8 @@ use Rattle.itip_order.proofs.Registers.{greatest_at, greatest_unique}
 use Rattle.room_books.proofs.Views.{AllWhole, view_back}
 use Rattle.room_books.proofs.Runs.{IsSound, step_sound}
 use Rattle.room_books.proofs.KeptAnswers.{IsAsked}
-use Rattle.room_books.proofs.Pairs.{Pairwise, pairs_append, pairs_short, pairs_stronger, map_at}
+use Rattle.room_books.specs.Standing.{Pairwise}
+use Rattle.room_books.proofs.Pairs.{pairs_append, pairs_short, pairs_stronger, map_at}
 use Rattle.room_books.proofs.KeptMeetings.{AnswersApart}
 
 -- ---- what a delivery claims

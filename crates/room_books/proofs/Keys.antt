@@ -10,7 +10,8 @@ use Rattle.std.proofs.lemmas.Slice.Eq.{bytes_eq-Decides}
 use Rattle.ical_values.specs.Octets.{address_octets, text_octets}
 use Rattle.room_books.specs.declared.meeting.MeetingKey.{MeetingKey}
 use Rattle.room_books.specs.contracts.meeting.MeetingKeyPartialEq.TheImpl.{eq-value}
-use Rattle.room_books.specs.Views.{same_key, is_place}
+use Rattle.room_books.specs.Views.{same_key}
+use Rattle.room_books.specs.Timelines.{is_place}
 
 -- the keys' own equality compares their octets
 pub key_eq_is : (a b : MeetingKey) → eq-value.it a b ≡ same_key a b

@@ -3,14 +3,10 @@ use Rattle.std.proofs.Common.{◌≡◌, ◌∙◌, zero, suc, ◌≤◌, Bool, 
 use Rattle.std.specs.List.{filter, flat_map, Contains, AllPairs}
 use Rattle.std.proofs.lemmas.Bool.{true≢false}
 use Rattle.std.proofs.lemmas.List.Elements.{Contains-get_or, Contains-append_left, Contains-append_right, Contains-append_cases}
+use Rattle.room_books.specs.Standing.{Pairwise}
 use Rattle.itip_order.proofs.Lists.{in_cons, in_head, in_tail, none_in_nil, filter_at}
 
 module _ {X : Type 0} where
-  -- each is so related to each later one
-  abbrev pub Pairwise : (X → X → Type 0) → List X → Type 0
-  Pairwise R [] = Unit {0}
-  Pairwise R (x ∷ xs) = ((y : X) → Contains xs y → R x y) × Pairwise R xs
-
   pub pairs_from : (R : X → X → Type 0) (xs : List X) → Pairwise R xs → AllPairs R xs
   pairs_from R [] p i j d lt l = absurd (omega arith)
   pairs_from R (x ∷ xs) p i zero d lt l = absurd (omega arith)

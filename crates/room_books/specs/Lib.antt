@@ -1,6 +1,9 @@
+pub mod Instants
 pub mod Views
-pub mod Timelines
 pub mod Takings
 pub mod Standing
-pub mod Replying
+pub mod Timelines
 pub mod Keeping
+pub mod Replying
+pub mod Claiming
+pub mod BySlot

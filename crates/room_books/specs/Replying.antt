@@ -1,38 +1,64 @@
--- What a reply tells of one part.
-use Rattle.std.specs.Prelude.{◌≡◌, ℕ, List, codes, Option, Some, None}
+-- What a reply tells of the parts of a message.
+use Rattle.std.specs.Prelude.{◌≡◌, ℕ, List, ◌++◌, map, codes, Contains, Some}
+use Rattle.std.specs.List.{flat_map, AllZip}
+use denote.Ref.{Bor}
 use Rattle.ical_values.specs.Octets.{address_octets}
 use Rattle.profile.specs.rooms.Revisions.{Part}
 use Rattle.profile.specs.rooms.Messages.{IsReplyEvent, object_lines}
+use Rattle.profile.specs.rooms.Rooms.{shown}
 use Rattle.profile.specs.text.Lines.{written}
-use Rattle.itip_messages.specs.Replies.{Answers, outcome_of}
+use Rattle.itip_messages.specs.Replies.{Answers, outcome_of as decision_outcome}
 use Rattle.itip_messages.specs.declared.reply.ReplyEvent.{ReplyEvent}
-use Rattle.itip_order.specs.declared.held.Freshness.{Freshness}
-use Rattle.itip_order.specs.declared.held.Freshness.TheVariants.{Fresh, Same, Stale}
-use Rattle.room_books.specs.declared.meeting.Decided.{Decided}
-use Rattle.room_books.specs.Takings.{Told, told, OutcomeDated}
+use Rattle.itip_order.specs.Parts.{part_of, slot_of}
+use Rattle.room_books.specs.declared.meeting.Given.{Given}
+use Rattle.room_books.specs.declared.taking.Claim.{Claim}
+use Rattle.room_books.specs.Views.{outcome_of}
+use Rattle.room_books.specs.Takings.{claim_said, claims_said, OutcomeDated}
+use Rattle.room_books.specs.Standing.{SlotDated}
 
--- the event answers the part so, for this room
-pub record IsEventFor (room : List ℕ) (part : Part) (answer : Told) (event : ReplyEvent) : Type 0 where
-  pub answers : Answers event part
+-- these are the claims that a reply shows
+abbrev pub AreShown : List Part → List Claim → List (Bor Claim) → Type 0
+AreShown history claims are = map (λ claim. claim_said claim.now) are ≡ shown history (claims_said claims)
+
+-- the part has an answer, and all instants can be written
+pub record CanTell (answers : List Given) (part : Part) : Type 0 where
+  pub slot : SlotDated part.slot
+  pub given : Given
+  pub kept : Contains answers given
+  pub same : slot_of given.slot ≡ part.slot
+  pub dated : (other : Given) → Contains answers other → OutcomeDated (outcome_of other.outcome)
+
+abbrev pub AllTell : List Given → List (Bor Claim) → Type 0
+AllTell answers are = (claim : Bor Claim) → Contains are claim → CanTell answers (part_of claim.now.part)
+
+-- the event tells for this room the answer to the part
+pub record IsEventIn (room : List ℕ) (answers : List Given) (part : Part) (event : ReplyEvent) : Type 0 where
+  pub given : Given
+  pub kept : Contains answers given
+  pub same : slot_of given.slot ≡ part.slot
+  pub answers_it : Answers event part
   pub room_is : address_octets event.room.now ≡ room
-  pub moment : event.moment ≡ answer.moment
-  pub outcome : outcome_of event.decision ≡ answer.outcome
+  pub moment : event.moment ≡ given.moment
+  pub outcome : decision_outcome event.decision ≡ outcome_of given.outcome
 
--- the octets are the REPLY that answers the part so
-pub record IsReplyOf (room : List ℕ) (part : Part) (answer : Told) (octets : List ℕ) : Type 0 where
-  pub lines : List (List ℕ)
-  pub event : IsReplyEvent room part answer.moment answer.outcome lines
-  pub is : octets ≡ written (object_lines (Some (codes "REPLY")) lines)
+-- the lines of a VEVENT that tells the answer to the part
+pub record ShowsGiven (room : List ℕ) (answers : List Given) (part : Part) (lines : List (List ℕ)) : Type 0 where
+  pub given : Given
+  pub kept : Contains answers given
+  pub same : slot_of given.slot ≡ part.slot
+  pub shows : IsReplyEvent room part given.moment (outcome_of given.outcome) lines
 
--- the answer to a part is told, unless it names an instant that no stamp can write
-abbrev pub Tells : List ℕ → Part → Told → Option (List ℕ) → Type 0
-Tells room part answer None = OutcomeDated answer.outcome → ⊥
-Tells room part answer (Some octets) = IsReplyOf room part answer octets
+-- the VEVENTs that tell the answers to the parts of these claims
+abbrev pub AreTold : List ℕ → List Given → List (Bor Claim) → List (List (List ℕ)) → Type 0
+AreTold room answers are events = AllZip (λ claim lines. ShowsGiven room answers (part_of claim.now.part) lines) are events
 
--- what was decided about a part that is in the view is told, and nothing of another
-abbrev pub TellsDecided : List ℕ → Part → Freshness → Option Decided → Option (List ℕ) → Type 0
-TellsDecided room part Fresh (Some decided) reply = Tells room part (told decided) reply
-TellsDecided room part Fresh None reply = reply ≡ None
-TellsDecided room part Same (Some decided) reply = Tells room part (told decided) reply
-TellsDecided room part Same None reply = reply ≡ None
-TellsDecided room part Stale decided reply = reply ≡ None
+-- new is old and those VEVENTs after it, written
+abbrev pub WritesAnswers : List ℕ → List Given → List (Bor Claim) → List ℕ → List ℕ → Type 0
+WritesAnswers room answers are old new =
+    (events : List (List (List ℕ))) × AreTold room answers are events × (new ≡ old ++ written (flat_map (λ lines. lines) events))
+
+-- the octets are the REPLY of those VEVENTs
+pub record IsReplyOf (room : List ℕ) (answers : List Given) (are : List (Bor Claim)) (octets : List ℕ) : Type 0 where
+  pub events : List (List (List ℕ))
+  pub each : AreTold room answers are events
+  pub is : octets ≡ written (object_lines (Some (codes "REPLY")) (flat_map (λ lines. lines) events))

@@ -1,29 +1,71 @@
 -- What the meetings of a room stand for: the parts that were taken, and the answers to them.
-use Rattle.std.specs.Prelude.{◌≡◌, ℕ, ℤ, ◌^◌, ◌<◌, ◌≤◌, Bool, true, ◌&&◌, List, [], ◌∷◌, length, filter, Contains, Option, Some, None, is_some}
-use Rattle.std.specs.Str.{bytes_eq}
-use Rattle.std.specs.Str.Lines.{lines}
+use Rattle.std.specs.Prelude.{◌≡◌, ◌≢◌, ℕ, ℤ, ◌≤◌, Bool, true, ◌&&◌, List, [], ◌∷◌, ◌++◌, length, map, filter, Contains, Option, Some, None}
+use Rattle.std.specs.Str.{bytes_eq, IsUtf8}
 use Rattle.std.specs.List.{AllZip}
 use Rattle.std.specs.Map.{lookup, keys_of}
 use Rattle.ical_values.specs.Octets.{address_octets, text_octets}
 use Rattle.itip_order.specs.Registers.{StandsFor}
-use Rattle.profile.specs.checker.Instances.{IsClear}
-use Rattle.profile.specs.rooms.Revisions.{Part, Body, Set, Absent, Cancelled, Whole, in_view}
-use Rattle.profile.specs.rooms.Messages.{Outcome, IsPart}
-use Rattle.profile.specs.events.Events.{Event, booked_by}
-use Rattle.profile.specs.events.Properties.{length_seconds}
-use Rattle.itip_order.specs.Parts.{part_of}
-use Rattle.itip_order.specs.declared.part.Part.{Part as HeldPart}
-use Rattle.profile.specs.rooms.Rooms.{Claim, Answer, Book, Kind, confirmed, confirmed_in, most_singles, IsStep, kind_of}
+use Rattle.itip_order.specs.Parts.{part_of, slot_of}
+use Rattle.profile.specs.checker.Instances.{Booked, IsClear}
+use Rattle.profile.specs.text.Values.{IsClockSeconds}
+use Rattle.profile.specs.rooms.Revisions.{Part, Slot, Whole, At, Body, Set, Absent, Cancelled, in_view, same_place}
+use Rattle.profile.specs.rooms.Messages.{Outcome}
+use Rattle.profile.specs.rooms.Rooms.{Claim, Answer, Book, Kind, is_set, parts_of, asked, answered, confirmed, confirmed_in, most_singles, IsStep, kind_of}
+use Rattle.profile.specs.rooms.Kept.{Replies, first_parts}
 use Rattle.room_books.specs.declared.meeting.MeetingKey.{MeetingKey}
 use Rattle.room_books.specs.declared.meeting.Meeting.{Meeting}
-use Rattle.cal_events.specs.declared.sweep.Span.{Span}
-use Rattle.room_books.specs.Takings.{Told, told_in, AreDated}
-use Rattle.profile.specs.rooms.Kept.{Replies, first_parts}
-use Rattle.room_books.specs.Views.{same_key, booked_list, confirmed_span}
+use Rattle.room_books.specs.declared.meeting.Single.{Single}
+use Rattle.room_books.specs.declared.meeting.Given.{Given}
+use Rattle.room_books.specs.declared.taking.Claim.{Claim as Asking}
+use Rattle.room_books.specs.Takings.{body_lines, claims_said, OutcomeDated}
+use Rattle.room_books.specs.Views.{same_key, booked_list, outcome_of}
+
+-- ---- claims
 
 -- the part is of the meeting
 abbrev pub is_of : MeetingKey → Part → Bool
 is_of key part = bytes_eq (address_octets key.organiser) part.organiser && bytes_eq (text_octets key.uid) part.uid
+
+-- each is so related to each later one
+abbrev pub Pairwise : {X : Type 0} → (X → X → Type 0) → List X → Type 0
+Pairwise R [] = Unit {0}
+Pairwise R (x ∷ xs) = ((y : _) → Contains xs y → R x y) × Pairwise R xs
+
+-- a body's octets are text
+abbrev pub IsText : Body → Type 0
+IsText (Set octets) = IsUtf8 octets
+IsText Absent = Unit {0}
+IsText Cancelled = Unit {0}
+
+-- an instance of a part: of its meeting, and where the part is one instance, that one
+abbrev pub IsOfSlot : Slot → ℤ → Type 0
+IsOfSlot Whole slot = Unit {0}
+IsOfSlot (At t) slot = slot ≡ t
+
+-- what a claim asks for is of its part: the content its body's, the instances of its meeting and slot, each once
+pub record IsFitting (claim : Claim) : Type 0 where
+  pub content : claim.content ≡ body_lines claim.part.body
+  pub text : IsText claim.part.body
+  pub organiser : (b : Booked) → Contains claim.singles b → b.key.organiser ≡ claim.part.organiser
+  pub uid : (b : Booked) → Contains claim.singles b → b.key.uid ≡ claim.part.uid
+  pub slot : (b : Booked) → Contains claim.singles b → IsOfSlot claim.part.slot b.key.slot
+  pub differ : Pairwise (λ a b. a.key.slot ≢ b.key.slot) claim.singles
+  pub starts : (b : Booked) → Contains claim.singles b → IsClockSeconds b.start
+  pub slots : (b : Booked) → Contains claim.singles b → IsClockSeconds b.key.slot
+
+-- the slot can be written as a stamp
+abbrev pub SlotDated : Slot → Type 0
+SlotDated Whole = Unit {0}
+SlotDated (At t) = IsClockSeconds t
+
+-- the claims are of one meeting, each of another slot
+pub record AreFitting (key : MeetingKey) (claims : List Claim) : Type 0 where
+  pub of_it : (claim : Claim) → Contains claims claim → is_of key claim.part ≡ true
+  pub fit : (claim : Claim) → Contains claims claim → IsFitting claim
+  pub dated : (claim : Claim) → Contains claims claim → SlotDated claim.part.slot
+  pub differ : Pairwise (λ a b. a.part ≢ b.part) claims
+
+-- ---- what a book says of one meeting
 
 abbrev pub of_meeting : MeetingKey → List Part → List Part
 of_meeting key parts = filter (is_of key) parts
@@ -31,27 +73,51 @@ of_meeting key parts = filter (is_of key) parts
 abbrev pub answers_of : MeetingKey → List Answer → List Answer
 answers_of key answers = filter (λ a. is_of key a.claim.part) answers
 
--- the book has such an answer to the part of the meeting that is in the view
-pub record HasTold (book : Book) (key : MeetingKey) (answer : Told) : Type 0 where
-  pub given : Answer
-  pub kept : Contains book.answers given
-  pub of_it : is_of key given.claim.part ≡ true
-  pub seen : in_view book.taken given.claim.part ≡ true
-  pub moment : given.moment ≡ answer.moment
-  pub outcome : given.outcome ≡ answer.outcome
+abbrev pub book_of : MeetingKey → Book → Book
+book_of key book = record { taken = of_meeting key book.taken; answers = answers_of key book.answers }
 
--- the meeting holds the parts taken of it, confirms what the answers to them do, and has the answer to the one in the view
-pub record Meets (book : Book) (key : MeetingKey) (meeting : Meeting) : Type 0 where
-  pub held : StandsFor meeting.held (of_meeting key book.taken)
-  pub confirmed : confirmed_in book.taken (answers_of key book.answers) ≡ booked_list key (confirmed_span meeting.decided)
-  pub answered : (answer : Told) → told_in meeting.decided ≡ Some answer → HasTold book key answer
-  pub some : is_some (told_in meeting.decided) ≡ true
-  pub dated : AreDated (told_in meeting.decided)
+-- all of it is of that meeting, and the answers are to parts that were taken
+pub record IsOwn (key : MeetingKey) (own : Book) : Type 0 where
+  pub taken : (part : Part) → Contains own.taken part → is_of key part ≡ true
+  pub known : (answer : Answer) → Contains own.answers answer → Contains own.taken answer.claim.part
+  pub fit : (answer : Answer) → Contains own.answers answer → IsFitting answer.claim
+
+-- the answers to parts in the view
+abbrev pub standing : List Part → List Answer → List Answer
+standing taken answers = filter (λ a. in_view taken a.claim.part) answers
+
+-- the meeting has this answer, and what it confirms
+pub record IsGiven (key : MeetingKey) (taken : List Part) (answer : Answer) (given : Given) : Type 0 where
+  pub slot : slot_of given.slot ≡ answer.claim.part.slot
+  pub moment : given.moment ≡ answer.moment
+  pub outcome : outcome_of given.outcome ≡ answer.outcome
+  pub confirms : booked_list key given.singles.items ≡ confirmed_in taken (answer ∷ [])
+
+-- all instants of an answer can be written as stamps
+pub record IsDated (given : Given) : Type 0 where
+  pub outcome : OutcomeDated (outcome_of given.outcome)
+  pub starts : (single : Single) → Contains given.singles.items single → IsClockSeconds single.span.start
+  pub slots : (single : Single) → Contains given.singles.items single → IsClockSeconds single.slot
+
+-- the meeting holds the parts taken of it, and the answers to those in the view; each that is to take place has one
+pub record Meets (own : Book) (key : MeetingKey) (meeting : Meeting) : Type 0 where
+  pub held : StandsFor meeting.held own.taken
+  pub answers : AllZip (IsGiven key own.taken) (standing own.taken own.answers) meeting.answers.items
+  pub answered : (part : Part) → is_set part ≡ true → in_view own.taken part ≡ true → (a : Answer) × Contains own.answers a × (a.claim.part ≡ part)
+  pub dated : (given : Given) → Contains meeting.answers.items given → IsDated given
 
 -- of a meeting that isn't there nothing was taken
 abbrev pub MeetsAt : Book → MeetingKey → Option Meeting → Type 0
-MeetsAt book key None = of_meeting key book.taken ≡ []
-MeetsAt book key (Some meeting) = Meets book key meeting
+MeetsAt own key None = own.taken ≡ []
+MeetsAt own key (Some meeting) = Meets own key meeting
+
+-- where the meeting was that of its own book, and more of its parts were taken, these are the answers that stay
+abbrev pub KeepsAll : Part → Option Meeting → List Part → List Given → Type 0
+KeepsAll part before held kept =
+    (own : Book) (key : MeetingKey) (more : List Part) → is_of key part ≡ true → IsOwn key own → MeetsAt own key before → StandsFor held (own.taken ++ more)
+    → AllZip (IsGiven key (own.taken ++ more)) (standing (own.taken ++ more) (standing own.taken own.answers)) kept
+
+-- ---- all meetings
 
 -- the meeting of the part is there
 pub record Covers (entries : List (MeetingKey × Meeting)) (part : Part) : Type 0 where
@@ -60,66 +126,43 @@ pub record Covers (entries : List (MeetingKey × Meeting)) (part : Part) : Type 
   pub found : lookup (same_key key) entries ≡ Some meeting
   pub is : is_of key part ≡ true
 
--- the part is that of some event, of no more seconds than 64 bits count
-abbrev pub IsOfEvent : Part → Type 0
-IsOfEvent part =
-    (event : Event) × (content : List (List ℕ)) × IsPart event content part × (length_seconds event.times.length < 2 ^ 64)
-
--- the lines of a body
-abbrev pub body_lines : Body → List (List ℕ)
-body_lines (Set octets) = lines octets
-body_lines Absent = []
-body_lines Cancelled = []
-
--- the claim is of one instance, and its content is what its part's body has
-pub record IsSingle (claim : Claim) : Type 0 where
-  pub content : claim.content ≡ body_lines claim.part.body
-  pub one : length claim.singles ≡ 1
-
 -- the keys are those of these parts' meetings, in order
 abbrev pub AreKeysOf : List MeetingKey → List Part → Type 0
 AreKeysOf keys parts = AllZip (λ key part. is_of key part ≡ true) keys parts
 
 -- the meetings, in order of first arrival, stand for the book, whose confirmed instances are clear and within the limit
 pub record Stands (entries : List (MeetingKey × Meeting)) (book : Book) : Type 0 where
-  pub whole : (part : Part) → Contains book.taken part → part.slot ≡ Whole
-  pub events : (part : Part) → Contains book.taken part → IsOfEvent part
   pub order : AreKeysOf (keys_of entries) (first_parts book.taken)
   pub covered : (part : Part) → Contains book.taken part → Covers entries part
   pub known : (answer : Answer) → Contains book.answers answer → Contains book.taken answer.claim.part
-  pub single : (answer : Answer) → Contains book.answers answer → IsSingle answer.claim
+  pub set : (answer : Answer) → Contains book.answers answer → is_set answer.claim.part ≡ true
+  pub fit : (answer : Answer) → Contains book.answers answer → IsFitting answer.claim
+  pub once : Pairwise (λ a b. a.claim.part ≢ b.claim.part) book.answers
   pub clear : IsClear (confirmed book)
   pub few : length (confirmed book) ≤ most_singles
-  pub meets : (key : MeetingKey) → MeetsAt book key (lookup (same_key key) entries)
+  pub meets : (key : MeetingKey) → MeetsAt (book_of key book) key (lookup (same_key key) entries)
 
--- what a part asks for: the lines of its body, and the instance of its meeting in that span
-abbrev pub claim_of : Part → Span → Claim
-claim_of part span = record {
-  part = part;
-  content = body_lines part.body;
-  singles = record {
-    key = record { organiser = part.organiser; uid = part.uid; slot = span.start };
-    start = span.start;
-    end = span.end;
-  } ∷ [];
+-- the book after these claims, where this was decided
+abbrev pub book_after : Book → List Claim → ℤ → Outcome → Book
+book_after book claims moment outcome = record {
+  taken = book.taken ++ parts_of claims;
+  answers = book.answers ++ answered moment outcome (asked book.taken (book.taken ++ parts_of claims) claims);
 }
 
--- from the book a step with these parts leads to a book that the meetings stand for
+-- a meeting after a message: by a step from the book before it
+pub record IsMeetingAfter (book : Book) (key : MeetingKey) (claims : List Claim) (moment : ℤ) (kind : Kind) (meeting : Meeting) : Type 0 where
+  pub outcome : Outcome
+  pub step : IsStep book claims moment outcome (book_after book claims moment outcome)
+  pub meets : Meets (book_of key (book_after book claims moment outcome)) key meeting
+  pub kind_is : kind ≡ kind_of book.taken (book.taken ++ parts_of claims) claims outcome
+
+-- from the book a step with these claims leads to a book that the meetings stand for
 pub record StepsTo (entries : List (MeetingKey × Meeting)) (book : Book) (claims : List Claim) (moment : ℤ) (kind : Kind) : Type 0 where
   pub outcome : Outcome
   pub after : Book
   pub step : IsStep book claims moment outcome after
   pub stands : Stands entries after
   pub kind_is : kind ≡ kind_of book.taken after.taken claims outcome
-
--- at most one part
-abbrev pub part_list : Option HeldPart → List Part
-part_list None = []
-part_list (Some part) = part_of part ∷ []
-
--- the span that an event books
-abbrev pub span_said : Event → Span
-span_said event = record { start = (booked_by event).start; end = (booked_by event).end }
 
 -- and a reply comes exactly where a part is shown: it shows the answers that the book after it has
 pub record StepsWith (room : List ℕ) (entries : List (MeetingKey × Meeting)) (book : Book) (claims : List Claim) (moment : ℤ) (kind : Kind) (reply : Option (List ℕ)) : Type 0 where

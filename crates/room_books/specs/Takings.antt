@@ -1,12 +1,12 @@
--- What a part does to its meeting.
-use Rattle.std.specs.Prelude.{◌≡◌, ℕ, ℤ, List, [], ◌∷◌, ◌++◌, Option, Some, None, option_map, Vec}
+-- What a message does to its meeting.
+use Rattle.std.specs.Prelude.{◌≡◌, ◌≢◌, ◌⊎◌, ◌++◌, ℕ, ℤ, true, false, not, nat_lt, IsTrue, if◌then◌else◌, List, [], length, map, filter, AllPairs, Option, Some, None, option_map, is_some, Vec}
+use Rattle.std.specs.List.{AllZip}
+use denote.Ref.{Bor}
 use Rattle.profile.specs.text.Values.{IsClockSeconds}
 use Rattle.cal_events.specs.Calendars.{owned_key_of}
-use Rattle.itip_order.specs.Registers.{StandsFor}
-use Rattle.itip_order.specs.Parts.{part_of}
-use Rattle.itip_order.specs.Freshness.{IsFreshness}
-use Rattle.itip_order.specs.declared.held.Freshness.{Freshness}
-use Rattle.itip_order.specs.declared.held.Freshness.TheVariants.{Fresh, Same, Stale}
+use Rattle.itip_order.specs.Registers.{StandsFor, IsInView, HasNone, at_slot}
+use Rattle.itip_order.specs.Parts.{part_of, slot_of}
+use Rattle.profile.specs.checker.Instances.{Booked}
 use Rattle.profile.specs.rooms.Revisions as revisions
 use Rattle.profile.specs.rooms.Messages as messages
 use Rattle.profile.specs.rooms.Rooms as rooms
@@ -14,62 +14,17 @@ use Rattle.room_books.specs.declared.answer.Answer.{Answer}
 use Rattle.room_books.specs.declared.answer.Kind.{Kind}
 use Rattle.room_books.specs.declared.answer.Kind.TheVariants as kind
 use Rattle.room_books.specs.declared.answer.LimitKind.TheVariants.{Series, Singles}
-use Rattle.room_books.specs.declared.meeting.MeetingKey.{MeetingKey}
 use Rattle.room_books.specs.declared.meeting.Meeting.{Meeting}
-use Rattle.room_books.specs.declared.meeting.Decided.{Decided}
-use Rattle.cal_events.specs.declared.sweep.Span.{Span}
-use Rattle.room_books.specs.declared.taking.Asked.{Asked}
-use Rattle.room_books.specs.declared.taking.Taken.{Taken}
-use Rattle.room_books.specs.Views.{booked_of, outcome_of, others, IsDecision}
+use Rattle.room_books.specs.declared.meeting.Single.{Single}
+use Rattle.room_books.specs.declared.meeting.Given.{Given}
+use Rattle.room_books.specs.declared.meeting.Outcome.{Outcome}
+use Rattle.room_books.specs.declared.taking.Claim.{Claim}
+use Rattle.room_books.specs.declared.meeting.MeetingKey.{MeetingKey}
+use Rattle.room_books.specs.Views.{outcome_of, all_singles, booked_list, slots_of, MayJoin}
+use Rattle.room_books.specs.Instants.{IsPartOf}
+use Rattle.std.specs.Str.Lines.{lines}
 
--- the parts that a meeting stands for; none where it was never heard of
-abbrev pub StandsAt : Option Meeting → List revisions.Part → Type 0
-StandsAt None history = history ≡ []
-StandsAt (Some meeting) history = StandsFor meeting.held history
-
--- an answer: when, how, and for which span
-pub record Told : Type 0 where
-  pub moment : ℤ
-  pub outcome : messages.Outcome
-  pub span : Span
-
-abbrev pub told : Decided → Told
-told decided = record { moment = decided.moment; outcome = outcome_of decided.outcome; span = decided.span }
-
-abbrev pub told_in : Option Decided → Option Told
-told_in None = None
-told_in (Some decided) = Some (told decided)
-
--- the instants that an outcome names can be written as stamps
-abbrev pub OutcomeDated : messages.Outcome → Type 0
-OutcomeDated messages.Accept = Unit {0}
-OutcomeDated (messages.Busy a b t) = IsClockSeconds t × IsClockSeconds a.slot × IsClockSeconds b.slot
-OutcomeDated messages.SeriesLimit = Unit {0}
-OutcomeDated messages.SinglesLimit = Unit {0}
-
--- and so can the start of what was asked for
-abbrev pub AreDated : Option Told → Type 0
-AreDated None = Unit {0}
-AreDated (Some answer) = IsClockSeconds answer.span.start × OutcomeDated answer.outcome
-
--- the answer that a meeting has
-abbrev pub told_by : Option Meeting → Option Told
-told_by None = None
-told_by (Some meeting) = told_in meeting.decided
-
--- the answer of a fresh part is decided now beside the other meetings; else the earlier one stays
-abbrev pub DecidedAfter : Option Meeting → List (MeetingKey × Meeting) → Asked → Freshness → Option Decided → Type 0
-DecidedAfter before entries asked Fresh None = ⊥
-DecidedAfter before entries asked Fresh (Some d) =
-    (d.moment ≡ asked.moment) × (d.span ≡ asked.span) × IsDecision (others asked.key.now entries) (booked_of asked.key.now asked.span) d.outcome
-DecidedAfter before entries asked Same decided = told_in decided ≡ told_by before
-DecidedAfter before entries asked Stale decided = told_in decided ≡ told_by before
-
--- the meeting with one part more, where this meeting stood before among these
-pub record IsMeetingAfter (before : Option Meeting) (entries : List (MeetingKey × Meeting)) (asked : Asked) (taken : Taken) : Type 0 where
-  pub held : (history : List revisions.Part) → StandsAt before history → StandsFor taken.meeting.held (history ++ part_of asked.part.now ∷ [])
-  pub fresh : (history : List revisions.Part) → StandsAt before history → IsFreshness taken.freshness history (part_of asked.part.now)
-  pub decided : DecidedAfter before entries asked taken.freshness taken.meeting.decided
+-- ---- what is told
 
 -- what a kind says
 abbrev pub kind_view : Kind → rooms.Kind
@@ -82,13 +37,6 @@ kind_view kind.Repeated = rooms.Repeated
 kind_view kind.Stale = rooms.Stale
 kind_view kind.NotAddressed = rooms.NotAddressed
 
--- the kind of a message of one part
-abbrev pub kind_after : Freshness → Option Decided → rooms.Kind
-kind_after Fresh None = rooms.Withdrawn
-kind_after Fresh (Some decided) = rooms.kind_of_outcome (outcome_of decided.outcome)
-kind_after Same decided = rooms.Repeated
-kind_after Stale decided = rooms.Stale
-
 -- the octets of a text, where there is one
 abbrev pub octets_in : {Z : Type 0} → Option (Vec ℕ Z) → Option (List ℕ)
 octets_in octets = option_map (λ octets. octets.items) octets
@@ -96,3 +44,123 @@ octets_in octets = option_map (λ octets. octets.items) octets
 -- the octets that an answer sends as its reply
 abbrev pub reply_octets : Answer → Option (List ℕ)
 reply_octets answer = octets_in answer.reply
+
+-- ---- what a message asks for
+
+-- the lines of a body
+abbrev pub body_lines : revisions.Body → List (List ℕ)
+body_lines (revisions.Set octets) = lines octets
+body_lines revisions.Absent = []
+body_lines revisions.Cancelled = []
+
+-- an instance of a part's meeting
+abbrev pub booked_in : revisions.Part → Single → Booked
+booked_in part single = record {
+  key = record { organiser = part.organiser; uid = part.uid; slot = single.slot };
+  start = single.span.start;
+  end = single.span.end;
+}
+
+abbrev pub claim_said : Claim → rooms.Claim
+claim_said claim = record {
+  part = part_of claim.part;
+  content = body_lines (part_of claim.part).body;
+  singles = map (booked_in (part_of claim.part)) claim.singles.items;
+}
+
+abbrev pub claims_said : List Claim → List rooms.Claim
+claims_said claims = map claim_said claims
+
+abbrev pub parts_said : List Claim → List revisions.Part
+parts_said claims = map (λ claim. part_of claim.part) claims
+
+-- ---- what was taken before
+
+-- the parts that a meeting stands for; none where it was never heard of
+abbrev pub StandsAt : Option Meeting → List revisions.Part → Type 0
+StandsAt None history = history ≡ []
+StandsAt (Some meeting) history = StandsFor meeting.held history
+
+abbrev pub answers_by : Option Meeting → List Given
+answers_by None = []
+answers_by (Some meeting) = meeting.answers.items
+
+-- these are the claims that get an answer now
+abbrev pub AreAsked : List revisions.Part → List revisions.Part → List Claim → List (Bor Claim) → Type 0
+AreAsked before after claims asked = map (λ claim. claim_said claim.now) asked ≡ rooms.asked before after (claims_said claims)
+
+-- ---- what answers confirm
+
+-- those that no part in the view of the history stands for
+abbrev pub left_in : List revisions.Part → revisions.Part → List Single → List Single
+left_in history part singles = filter (λ single. not (rooms.is_hidden history part (booked_in part single))) singles
+
+-- one answer is the other, with the instances that are left
+pub record IsLeftOf (held : List revisions.Part) (of : revisions.Part) (given left : Given) : Type 0 where
+  pub slot : left.slot ≡ given.slot
+  pub moment : left.moment ≡ given.moment
+  pub outcome : outcome_of left.outcome ≡ outcome_of given.outcome
+  pub singles : (history : List revisions.Part) → StandsFor held history → left.singles.items ≡ left_in history of given.singles.items
+  pub part : IsPartOf left.singles.items given.singles.items
+
+-- the answer to a claim at a moment, were it accepted
+pub record IsAccepted (held : List revisions.Part) (claim : Claim) (moment : ℤ) (given : Given) : Type 0 where
+  pub slot : given.slot ≡ claim.part.slot
+  pub moment_is : given.moment ≡ moment
+  pub outcome : outcome_of given.outcome ≡ messages.Accept
+  pub singles : (history : List revisions.Part) → StandsFor held history → given.singles.items ≡ left_in history (part_of claim.part) claim.singles.items
+  pub part : IsPartOf given.singles.items claim.singles.items
+
+-- a candidate with what was decided: it confirms something only where that is to accept it
+pub record IsDecided (candidate : Given) (outcome : Outcome) (given : Given) : Type 0 where
+  pub slot : given.slot ≡ candidate.slot
+  pub moment : given.moment ≡ candidate.moment
+  pub outcome_is : outcome_of given.outcome ≡ outcome_of outcome
+  pub singles : given.singles.items ≡ (if rooms.is_accept (outcome_of outcome) then candidate.singles.items else [])
+
+-- what is decided of candidates beside what a meeting keeps and all that the others have confirmed: where all its instances have
+-- different original starts, as the machine decides; and what is accepted may be confirmed
+pub record IsDecision (others : List Booked) (key : MeetingKey) (kept wanted : List Single) (outcome : Outcome) : Type 0 where
+  pub decides : AllPairs ◌≢◌ (slots_of (kept ++ wanted)) → rooms.Decides (others ++ booked_list key (kept ++ wanted)) (outcome_of outcome)
+  pub joins : outcome_of outcome ≡ messages.Accept → MayJoin others key (kept ++ wanted)
+
+-- the answers that stay, and behind them those to the claims that are asked, decided as one
+abbrev pub IsAnswered : List Booked → MeetingKey → List revisions.Part → ℤ → List Given → List (Bor Claim) → List Given → Option Outcome → Type 0
+IsAnswered others key held moment kept asked answers None = (asked ≡ []) × (answers ≡ kept)
+IsAnswered others key held moment kept asked answers (Some outcome) =
+    (asked ≢ []) × ((candidates : List Given) × (decided : List Given)
+    × AllZip (λ claim given. IsAccepted held claim.now moment given) asked candidates
+    × AllZip (λ candidate given. IsDecided candidate outcome given) candidates decided
+    × IsDecision others key (all_singles kept) (all_singles candidates) outcome
+    × (answers ≡ kept ++ decided))
+
+-- what was decided of a message; nothing hangs on it where nothing was
+abbrev pub outcome_said : Option Outcome → messages.Outcome
+outcome_said None = messages.Accept
+outcome_said (Some outcome) = outcome_of outcome
+
+-- what became of a message of some parts, where it was decided exactly where some are asked
+abbrev pub IsKindOf : List revisions.Part → List revisions.Part → List Claim → Option Outcome → Kind → Type 0
+IsKindOf before after claims outcome kind =
+    IsTrue (nat_lt 0 (length claims)) → nat_lt 0 (length (rooms.asked before after (claims_said claims))) ≡ is_some outcome
+    → kind_view kind ≡ rooms.kind_of before after (claims_said claims) (outcome_said outcome)
+
+-- the part in the view of these registers that is of that place
+pub record IsViewed (held : List revisions.Part) (place part : revisions.Part) : Type 0 where
+  pub seen : IsInView held part
+  pub same : revisions.same_place part place ≡ true
+
+-- an answer before, and what is left of it: nothing where its part isn't in the view after. The part is one of the meeting
+abbrev pub IsStill : List revisions.Part → List revisions.Part → revisions.Part → Given → Option Given → Type 0
+IsStill before after part given None =
+    HasNone before (at_slot part (slot_of given.slot))
+    ⊎ ((own : revisions.Part) × IsViewed before (at_slot part (slot_of given.slot)) own × ((history : List revisions.Part) → StandsFor after history → revisions.in_view history own ≡ false))
+IsStill before after part given (Some left) =
+    (own : revisions.Part) × IsViewed before (at_slot part (slot_of given.slot)) own × IsInView after own × IsLeftOf after own given left
+
+-- the instants that an outcome names can be written as stamps
+abbrev pub OutcomeDated : messages.Outcome → Type 0
+OutcomeDated messages.Accept = Unit {0}
+OutcomeDated (messages.Busy a b t) = IsClockSeconds t × IsClockSeconds a.slot × IsClockSeconds b.slot
+OutcomeDated messages.SeriesLimit = Unit {0}
+OutcomeDated messages.SinglesLimit = Unit {0}

@@ -1,15 +1,12 @@
--- What is confirmed in a room, in order of time.
-use Rattle.std.specs.Prelude.{◌≡◌, ◌≢◌, ◌⊎◌, ◌<◌, ◌≤◌, ℕ, ℤ, ◌<ℤ◌, ◌≤ℤ◌, int_lt, Bool, false, not, ◌==◌, ◌&&◌, if◌then◌else◌, List, [], ◌∷◌, length, take, drop, filter, Contains, AllPairs, Option, Some, None, slice_get}
+-- What is confirmed in a room, in order of time, by the places of meetings.
+use Rattle.std.specs.Prelude.{◌≡◌, ◌≢◌, ◌≤◌, ℕ, ℤ, ◌<ℤ◌, ◌≤ℤ◌, int_lt, Bool, false, not, ◌==◌, ◌&&◌, ◌||◌, List, length, take, drop, Contains, AllPairs, Option, Some, None}
+use Rattle.std.specs.Ordering.{int_eq}
+use Rattle.std.specs.List.{list_any}
 use Rattle.profile.specs.checker.Instances.{horizon}
-use Rattle.room_books.specs.declared.meeting.MeetingKey.{MeetingKey}
-use Rattle.room_books.specs.declared.meeting.Meeting.{Meeting}
 use Rattle.cal_events.specs.declared.sweep.Span.{Span}
+use Rattle.room_books.specs.declared.meeting.Single.{Single}
 use Rattle.room_books.specs.declared.timeline.Busy.{Busy}
-use Rattle.std.specs.Map.{lookup}
-use Rattle.itip_order.specs.declared.held.Freshness.{Freshness}
-use Rattle.itip_order.specs.declared.held.Freshness.TheVariants.{Fresh, Same, Stale}
-use Rattle.profile.specs.rooms.Rooms.{most_singles}
-use Rattle.room_books.specs.Views.{same_key, confirmed_span, all_confirmed, others, is_place, HaveInstant, IsFree}
+use Rattle.room_books.specs.Instants.{HaveInstant, Overlap}
 
 -- the span holds an instant before the horizon
 abbrev pub HoldsInstants : Span → Type 0
@@ -18,78 +15,81 @@ HoldsInstants span = (span.start <ℤ span.end) × (span.start <ℤ horizon)
 abbrev pub holds_instants : Span → Bool
 holds_instants span = int_lt span.start span.end && int_lt span.start horizon
 
+-- the same original start, and the same span
+abbrev pub same_single : Single → Single → Bool
+same_single a b = int_eq a.slot b.slot && (int_eq a.span.start b.span.start && int_eq a.span.end b.span.end)
+
+abbrev pub has_single : Single → List Single → Bool
+has_single single singles = list_any (same_single single) singles
+
+abbrev pub same_busy : Busy → Busy → Bool
+same_busy a b = same_single a.single b.single && (a.place == b.place)
+
+abbrev pub has_busy : Busy → List Busy → Bool
+has_busy busy items = list_any (same_busy busy) items
+
+-- an instance of the meeting in a place
+abbrev pub busy_in : ℕ → Single → Busy
+busy_in place single = record { single = single; place = place }
+
 -- all hold an instant, and each ends before the later ones start
 pub record AreBusy (items : List Busy) : Type 0 where
-  pub hold : (b : Busy) → Contains items b → HoldsInstants b.span
-  pub apart : AllPairs (λ b c. b.span.end ≤ℤ c.span.start) items
+  pub hold : (b : Busy) → Contains items b → HoldsInstants b.single.span
+  pub apart : AllPairs (λ b c. b.single.span.end ≤ℤ c.single.span.start) items
 
 -- those before the place end by the instant, the others after it
 pub record IsPlaceAfter (items : List Busy) (instant : ℤ) (place : ℕ) : Type 0 where
   pub within : place ≤ length items
-  pub before : (b : Busy) → Contains (take place items) b → b.span.end ≤ℤ instant
-  pub after : (b : Busy) → Contains (drop place items) b → instant <ℤ b.span.end
+  pub before : (b : Busy) → Contains (take place items) b → b.single.span.end ≤ℤ instant
+  pub after : (b : Busy) → Contains (drop place items) b → instant <ℤ b.single.span.end
+
+-- the place is the own one
+abbrev pub is_place : Option ℕ → ℕ → Bool
+is_place None place = false
+is_place (Some own) place = own == place
 
 -- it isn't of the meeting in the own place
 abbrev pub is_beside : Option ℕ → Busy → Bool
 is_beside own b = not (is_place own b.place)
 
--- the first that ends after the instant, the own one aside; all others end by the instant, or start when it has ended
-abbrev pub IsFirstAfter : Option ℕ → List Busy → ℤ → Option Busy → Type 0
-IsFirstAfter own items instant None = (b : Busy) → Contains items b → is_place own b.place ≡ false → b.span.end ≤ℤ instant
-IsFirstAfter own items instant (Some first) =
-    Contains items first × (is_place own first.place ≡ false) × (instant <ℤ first.span.end)
-    × ((b : Busy) → Contains items b → is_place own b.place ≡ false → (b.span.end ≤ℤ instant) ⊎ (b ≡ first) ⊎ (first.span.end ≤ℤ b.span.start))
+abbrev pub starts_before : ℤ → Busy → Bool
+starts_before end b = int_lt b.single.span.start end
 
--- none of these, those in the place aside, shares an instant with the span
+-- one that isn't of the own place shares an instant with the span, or none does
+abbrev pub IsSharedIn : Option ℕ → List Busy → Span → Option Busy → Type 0
+IsSharedIn own items span None = (b : Busy) (t : ℤ) → Contains items b → is_place own b.place ≡ false → HaveInstant span b.single.span t → ⊥
+IsSharedIn own items span (Some b) = Contains items b × (is_place own b.place ≡ false) × Overlap span b.single.span
+
+-- one that isn't of the own place shares an instant with one of these, or none does
+abbrev pub AreTaken : Option ℕ → List Busy → List Single → Option (Single × Busy) → Type 0
+AreTaken own items wanted None = (s : Single) → Contains wanted s → IsSharedIn own items s.span None
+AreTaken own items wanted (Some p) = Contains wanted p.0 × IsSharedIn own items p.0.span (Some p.1)
+
+-- none of these shares an instant with the span
+abbrev pub IsFreeAmong : List Busy → Span → Type 0
+IsFreeAmong items span = (b : Busy) (t : ℤ) → Contains items b → HaveInstant span b.single.span t → ⊥
+
+-- none of these, those in the place aside, does
 abbrev pub IsFreeBut : ℕ → List Busy → Span → Type 0
-IsFreeBut place items span = (b : Busy) (t : ℤ) → Contains items b → b.place ≢ place → HaveInstant span b.span t → ⊥
+IsFreeBut place items span = (b : Busy) (t : ℤ) → Contains items b → b.place ≢ place → HaveInstant span b.single.span t → ⊥
 
--- at most one
-abbrev pub size_of : Option Span → ℕ
-size_of None = 0
-size_of (Some span) = 1
+-- of the meeting in the place exactly those of these are there that hold an instant
+abbrev pub AreAt : ℕ → List Single → List Busy → Type 0
+AreAt place singles items = (x : Busy) → x.place ≡ place → has_busy x items ≡ (holds_instants x.single.span && has_single x.single singles)
 
--- what the meeting in the place confirms, where that holds an instant
-abbrev pub busy_list : ℕ → Option Span → List Busy
-busy_list place None = []
-busy_list place (Some span) = if holds_instants span then record { span = span; place = place } ∷ [] else []
+-- the meeting in the place confirms these now, and the others what they did
+pub record IsChanged (place : ℕ) (singles : List Single) (old new : List Busy) : Type 0 where
+  pub own : AreAt place singles new
+  pub others : (x : Busy) → x.place ≢ place → has_busy x new ≡ has_busy x old
 
--- those of the meeting in the place
-abbrev pub busy_at : ℕ → List Busy → List Busy
-busy_at place items = filter (λ b. b.place == place) items
+-- it is gone, and the others are there as before
+abbrev pub IsTaken : Busy → List Busy → List Busy → Type 0
+IsTaken x old new = (y : Busy) → has_busy y new ≡ (has_busy y old && not (same_busy y x))
 
--- the meeting in the place confirms this now, and the others what they did
-pub record IsChanged (place : ℕ) (span : Option Span) (old new : List Busy) : Type 0 where
-  pub own : busy_at place new ≡ busy_list place span
-  pub others : (q : ℕ) → q ≢ place → busy_at q new ≡ busy_at q old
+-- it is there where it holds an instant, and the others are as before
+abbrev pub IsPut : Busy → List Busy → List Busy → Type 0
+IsPut x old new = (y : Busy) → has_busy y new ≡ (has_busy y old || (holds_instants y.single.span && same_busy y x))
 
--- ---- with the meetings
-
--- what a meeting confirms, nothing where there is none
-abbrev pub span_by : Option Meeting → Option Span
-span_by None = None
-span_by (Some meeting) = confirmed_span meeting.decided
-
--- what the meeting in a place confirms
-abbrev pub span_in : Option (MeetingKey × Meeting) → Option Span
-span_in None = None
-span_in (Some entry) = confirmed_span entry.1.decided
-
-abbrev pub held_at : List (MeetingKey × Meeting) → ℕ → Option Span
-held_at entries place = span_in (slice_get entries place)
-
--- all that the meetings confirm is counted, and what of it holds an instant is there, and nothing else
-pub record IsTimelineOf (entries : List (MeetingKey × Meeting)) (items : List Busy) (confirmed : ℕ) : Type 0 where
-  pub count : confirmed ≡ length (all_confirmed entries)
-  pub held : (place : ℕ) → busy_at place items ≡ busy_list place (held_at entries place)
-
--- a span may be confirmed beside what the other meetings have confirmed
-abbrev pub MayConfirm : MeetingKey → List (MeetingKey × Meeting) → Option Span → Type 0
-MayConfirm key entries None = Unit {0}
-MayConfirm key entries (Some span) = (length (others key entries) < most_singles) × IsFree (others key entries) span
-
--- what a meeting confirms after a part: what was decided where that is fresh, else what it confirmed before
-abbrev pub ConfirmsAfter : Freshness → MeetingKey → List (MeetingKey × Meeting) → Option Span → Type 0
-ConfirmsAfter Fresh key entries span = MayConfirm key entries span
-ConfirmsAfter Same key entries span = span ≡ span_by (lookup (same_key key) entries)
-ConfirmsAfter Stale key entries span = span ≡ span_by (lookup (same_key key) entries)
+-- what the meeting in each place confirms is there, where it holds an instant, and nothing else
+pub record IsTimelineOf (at : ℕ → List Single) (items : List Busy) : Type 0 where
+  pub held : (x : Busy) → has_busy x items ≡ (holds_instants x.single.span && has_single x.single (at x.place))

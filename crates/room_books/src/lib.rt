@@ -2,14 +2,16 @@
 #![tactic(auto)]
 
 pub mod answer;
-pub mod decide;
+mod claims;
+mod decide;
 mod laws;
 pub mod meeting;
 mod reply;
 pub mod room;
+mod slots;
 mod taking;
 mod texts;
-pub mod timeline;
+mod timeline;
 
 pub use answer::{Answer, Kind, LimitKind};
 pub use laws::{

@@ -1,17 +1,16 @@
-//! What a room keeps of one meeting: the parts taken, and the answer to the part in the view.
-//! So far a meeting has one slot, the whole of it.
+//! What a room keeps of one meeting: the parts taken, and the answers to those in the view.
 
 ghost use Rattle.std.specs.Prelude.{◌≡◌, IfOk};
 ghost use Rattle.ical_values.specs.Octets.{address_octets, text_octets};
 ghost use Rattle.cal_events.specs.Calendars.{instance_of, owned_key_of};
-ghost use Rattle.room_books.specs.Views.{confirmed_span, booked_of, IsKeyOf};
+ghost use Rattle.room_books.specs.Views.{all_singles, booked_of, IsKeyOf};
 
 use crate::answer::LimitKind;
 use cal_events::{Instance, InstanceKey, OwnedKey, Span};
 use clash_cert::Clash;
 use ical_values::{Address, Stamp, Text};
-use itip_order::Held;
-use std::alloc::AllocError;
+use itip_order::{Held, Slot};
+use std::alloc::{AllocError, Global};
 
 /// A meeting's name: the UID of an ORGANIZER.
 #[derive(PartialEq, Eq, Hash, Drop)]
@@ -31,34 +30,42 @@ impl MeetingKey {
         Ok(MeetingKey { organiser, uid })
     }
 
-    /// The instance of this meeting that holds the room for a span: a single, its slot is its start.
-    pub fn instance(&self, span: Span) -> Instance<'_>
-        ensures { instance_of result ≡ booked_of self.now span }
+    /// An instance of this meeting, with the meeting's texts borrowed.
+    pub fn instance(&self, single: Single) -> Instance<'_>
+        ensures { instance_of result ≡ booked_of self.now single }
     {
         let key = InstanceKey {
             organiser: self.organiser.as_str(),
             uid: self.uid.as_str(),
-            slot: span.start,
+            slot: single.slot,
         };
         Instance {
             key,
-            start: span.start,
-            end: span.end,
+            start: single.span.start,
+            end: single.span.end,
         }
     }
 
     /// The key of that instance, with its own texts.
-    pub fn owned(&self, span: Span) -> Result<OwnedKey, AllocError>
-        ensures { IfOk result (λ key. owned_key_of key ≡ (booked_of self.now span).key) }
+    pub fn owned(&self, single: Single) -> Result<OwnedKey, AllocError>
+        ensures { IfOk result (λ key. owned_key_of key ≡ (booked_of self.now single).key) }
     {
         let organiser = self.organiser.clone()?;
         let uid = self.uid.clone()?;
         Ok(OwnedKey {
             organiser,
             uid,
-            slot: span.start,
+            slot: single.slot,
         })
     }
+}
+
+/// An instance of a meeting: its original start (RFC 5545 3.8.4.4), and when it holds the room. Seconds from
+/// 1970-01-01T00:00:00Z.
+#[derive(Clone, Copy, PartialEq, Eq)]
+pub struct Single {
+    pub slot: i64,
+    pub span: Span,
 }
 
 /// What was decided about a part.
@@ -69,46 +76,45 @@ pub enum Outcome {
     Limit(LimitKind),
 }
 
-/// The answer to a part: when and how it was decided, and the span that it books. It is kept as long as the part is
+/// The answer to a part: when and how it was decided, and the instances that it confirms. It is kept as long as the part is
 /// in the view, so that a repeat gets the same answer.
-#[derive(Clone, Drop)]
-pub struct Decided {
+#[derive(Drop)]
+pub struct Given {
+    /// The slot of the part.
+    pub slot: Slot,
     /// The moment of the decision.
     pub moment: Stamp,
     pub outcome: Outcome,
-    pub span: Span,
+    /// None unless the part was accepted, and none that another part in the view stands for.
+    pub singles: Vec<Single>,
 }
 
 /// A meeting of a room.
 #[derive(Drop)]
 pub struct Meeting {
     pub held: Held,
-    /// The answer to the part in the view, None where that isn't to take place.
-    pub decided: Option<Decided>,
+    /// The answers to those parts in the view that are to take place, in the order in which they were given.
+    pub answers: Vec<Given>,
 }
 
 impl Meeting {
-    /// The span for which the meeting holds the room: that of its part in the view, where it was accepted.
-    pub fn confirmed(&self) -> Option<Span>
-        ensures { result ≡ confirmed_span self.now.decided }
+    ghost use Rattle.room_books.specs.Views.{confirmed_singles};
+
+    /// The instances for which the meeting holds the room.
+    pub fn singles(&self, alloc: Global) -> Result<Vec<Single>, AllocError>
+        ensures { IfOk result (λ singles. singles.items ≡ confirmed_singles self.now) }
     {
-        match &self.decided {
-            Some(decided) => decided.confirmed(),
-            None => None,
-        }
+        singles_of(alloc, &self.answers)
     }
 }
 
-impl Decided {
-    ghost use Rattle.room_books.specs.Views.{accepted_span};
-
-    /// The span, where it was accepted.
-    pub fn confirmed(&self) -> Option<Span>
-        ensures { result ≡ accepted_span self.now }
-    {
-        match &self.outcome {
-            Outcome::Accepted => Some(self.span),
-            Outcome::Declined(_) | Outcome::Limit(_) => None,
-        }
+/// The instances that these answers confirm.
+pub(crate) fn singles_of(alloc: Global, answers: &[Given]) -> Result<Vec<Single>, AllocError>
+    ensures { IfOk result (λ singles. singles.items ≡ all_singles answers.now) }
+{
+    let mut singles = Vec::new(alloc);
+    for given in answers {
+        singles.extend_from_slice(&given.singles)?;
     }
+    Ok(singles)
 }

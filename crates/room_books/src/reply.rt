@@ -1,80 +1,155 @@
-//! The reply to a message: a VEVENT for its part, where that is to take place and is in the view.
+//! The reply to a message: a VEVENT for each part that is to take place and is in the view.
 
-ghost use Rattle.std.specs.Prelude.{◌≡◌, IfOk, IfSome, None};
+ghost use Rattle.std.specs.Prelude.{◌≡◌, IfOk, IfSome, IfNone, OnOk, List};
 ghost use Rattle.ical_values.specs.Octets.{address_octets};
-ghost use Rattle.itip_order.specs.Parts.{part_of};
-ghost use Rattle.itip_messages.specs.Replies.{outcome_of as decision_outcome};
+ghost use Rattle.itip_order.specs.Parts.{part_of, slot_of};
+ghost use Rattle.itip_order.specs.Registers.{StandsFor};
+ghost use Rattle.itip_messages.specs.Replies.{WritesLines, outcome_of as decision_outcome, slot_of as recurrence_slot};
 ghost use Rattle.profile.specs.rooms.Revisions as revisions;
+ghost use Rattle.profile.specs.rooms.Rooms.{Book};
+ghost use Rattle.profile.specs.rooms.Kept.{Replies};
+ghost use Rattle.room_books.specs.declared.meeting.MeetingKey.{MeetingKey};
 ghost use Rattle.room_books.specs.Views.{outcome_of};
-ghost use Rattle.room_books.specs.Takings.{told, octets_in, OutcomeDated};
-ghost use Rattle.room_books.specs.Replying.{IsEventFor, Tells, TellsDecided};
+ghost use Rattle.room_books.specs.Takings.{claims_said, octets_in, OutcomeDated};
+ghost use Rattle.room_books.specs.Standing.{AreFitting, IsOwn, Meets, SlotDated};
+ghost use Rattle.room_books.specs.BySlot.{AreBySlot, givens};
+ghost use Rattle.room_books.specs.Replying.{AreShown, CanTell, AllTell, IsEventIn, IsReplyOf, ShowsGiven, WritesAnswers};
 
 use crate::answer::LimitKind;
-use crate::meeting::{Decided, Outcome};
-use crate::taking::Taken;
+use crate::meeting::{Given, Meeting, Outcome};
+use crate::slots::{answer_of, by_slot};
+use crate::taking::Claim;
 use clash_cert::Clash;
-use ical_values::Address;
-use itip_messages::{Conflict, Decision, ReplyEvent, write_reply};
-use itip_order::{Freshness, Part};
+use ical_values::{Address, Stamp};
+use itip_messages::{Conflict, Decision, ObjectWriter, ReplyEvent, write_event};
+use itip_order::{Held, Part, Slot};
 use std::alloc::{AllocError, Global};
 
-/// The REPLY's octets, None where the part isn't in the view.
+/// The REPLY to a message with these claims, where this is the meeting after it: a VEVENT for each part that is to take place
+/// and is in the view, in their order; None where there is none.
+///
+/// A part is looked up in the view by halves, and so is its answer, for which the answers of the meeting are put in order once.
 pub fn reply_to(
     alloc: Global,
     room: &Address,
-    part: &Part,
-    taken: &Taken,
+    claims: &[Claim],
+    meeting: &Meeting,
 ) -> Result<Option<Vec<u8>>, AllocError>
-    requires { (part_of part.now).slot ≡ revisions.Whole }
-    ensures { IfOk result (λ reply. TellsDecided (address_octets room.now) (part_of part.now) taken.now.freshness taken.now.meeting.decided (octets_in reply)) }
+    ensures { IfOk result (λ reply. (key : MeetingKey) (own : Book) → AreFitting key (claims_said claims.now) → IsOwn key own → Meets own key meeting.now
+        → Replies (address_octets room.now) own (claims_said claims.now) (octets_in reply)) }
 {
-    match (&taken.meeting.decided, taken.freshness) {
-        (Some(decided), Freshness::Fresh | Freshness::Same) => reply_of(alloc, room, part, decided),
-        _ => Ok(None),
-    }
-}
-
-/// The REPLY that tells the answer to a part, None where a clash has an instant that no stamp can write.
-fn reply_of<'a>(
-    alloc: Global,
-    room: &'a Address,
-    part: &'a Part,
-    decided: &'a Decided,
-) -> Result<Option<Vec<u8>>, AllocError>
-    requires { (part_of part.now).slot ≡ revisions.Whole }
-    ensures { IfOk result (λ reply. Tells (address_octets room.now) (part_of part.now) (told decided.now) (octets_in reply)) }
-{
-    let Some(event) = event_of(room, part, decided) else {
+    let shown = shown_in(alloc, claims, &meeting.held)?;
+    if shown.is_empty() {
         return Ok(None);
-    };
-    let mut octets = Vec::new(alloc);
-    write_reply(&[event], &mut octets)?;
+    }
+    let octets = reply_of(alloc, room, &shown, &meeting.answers)?;
     Ok(Some(octets))
 }
 
-fn event_of<'a>(room: &'a Address, part: &'a Part, decided: &'a Decided) -> Option<ReplyEvent<'a>>
-    requires { (part_of part.now).slot ≡ revisions.Whole }
-    ensures event { IfSome result (IsEventFor (address_octets room.now) (part_of part.now) (told decided.now)) }
-    ensures none { result ≡ None → OutcomeDated (outcome_of decided.now.outcome) → ⊥ }
+/// The claims that a reply answers: their parts are to take place, and in the view.
+fn shown_in<'a>(
+    alloc: Global,
+    claims: &'a [Claim],
+    held: &Held,
+) -> Result<Vec<&'a Claim>, AllocError>
+    ensures { IfOk result (λ shown. (history : List revisions.Part) → StandsFor held.now history → AreShown history claims.now shown.items) }
 {
-    let Some(decision) = decision_of(&decided.outcome) else {
+    let mut shown = Vec::new(alloc);
+    for claim in claims {
+        if claim.is_set() && held.shows(&claim.part) {
+            shown.push(claim)?;
+        }
+    }
+    Ok(shown)
+}
+
+/// The REPLY that tells the answers to the parts of these claims.
+fn reply_of(
+    alloc: Global,
+    room: &Address,
+    shown: &[&Claim],
+    answers: &[Given],
+) -> Result<Vec<u8>, AllocError>
+    ensures { IfOk result (λ octets. AllTell answers.now shown.now → IsReplyOf (address_octets room.now) answers.now shown.now octets.items) }
+{
+    let mut object = ObjectWriter::new(alloc);
+    object.begin_calendar(Some("REPLY"))?;
+    let sorted = by_slot(alloc, answers)?;
+    write_answers(&mut object, room, shown, &sorted)?;
+    object.end_calendar()?;
+    Ok(object.finish())
+}
+
+fn write_answers(
+    object: &mut ObjectWriter,
+    room: &Address,
+    shown: &[&Claim],
+    answers: &[&Given],
+) -> Result<(), AllocError>
+    requires { AreBySlot answers.now }
+    ensures { OnOk result (AllTell (givens answers.now) shown.now → WritesAnswers (address_octets room.now) (givens answers.now) shown.now object.old object.new) }
+{
+    for claim in shown {
+        write_answer(object, room, &claim.part, answers)?;
+    }
+    Ok(())
+}
+
+/// The VEVENT that tells the answer to a part; nothing where it has none, or one with an instant that no stamp can write.
+fn write_answer(
+    object: &mut ObjectWriter,
+    room: &Address,
+    part: &Part,
+    answers: &[&Given],
+) -> Result<(), AllocError>
+    requires { AreBySlot answers.now }
+    ensures { OnOk result (CanTell (givens answers.now) (part_of part.now) → WritesLines object.old object.new (ShowsGiven (address_octets room.now) (givens answers.now) (part_of part.now))) }
+{
+    let Some(event) = event_of(room, part, answers) else {
+        return Ok(());
+    };
+    write_event(object, &event)?;
+    Ok(())
+}
+
+/// What that VEVENT says.
+fn event_of<'a>(room: &'a Address, part: &'a Part, answers: &[&'a Given]) -> Option<ReplyEvent<'a>>
+    requires { AreBySlot answers.now }
+    ensures event { IfSome result (IsEventIn (address_octets room.now) (givens answers.now) (part_of part.now)) }
+    ensures none { IfNone result (CanTell (givens answers.now) (part_of part.now) → ⊥) }
+{
+    let given = answer_of(answers, part.slot)?;
+    let recurrence = recurrence_of(part.slot)?;
+    // no `?`, nor in `busy`: Rattle's borrow checker doesn't follow stamps beside references through it
+    let Some(decision) = decision_of(&given.outcome) else {
         return None;
     };
     Some(ReplyEvent {
         uid: &part.uid,
-        recurrence: None,
+        recurrence,
         sequence: part.revision.sequence,
-        moment: decided.moment,
+        moment: given.moment,
         organiser: &part.organiser,
         room,
         decision,
     })
 }
 
+/// The RECURRENCE-ID of a slot, which the whole of a meeting has none of (RFC 5545 3.8.4.4); None where no stamp can write it.
+fn recurrence_of(slot: Slot) -> Option<Option<Stamp>>
+    ensures slot { IfSome result (λ recurrence. recurrence_slot recurrence ≡ slot_of slot) }
+    ensures none { IfNone result (SlotDated (slot_of slot) → ⊥) }
+{
+    match slot {
+        Slot::Whole => Some(None),
+        Slot::At(instant) => Some(Some(Stamp::of_instant(instant)?)),
+    }
+}
+
 /// The decision, None where a clash has an instant that no stamp can write.
 fn decision_of(outcome: &Outcome) -> Option<Decision<'_>>
     ensures decision { IfSome result (λ decision. decision_outcome decision ≡ outcome_of outcome.now) }
-    ensures none { result ≡ None → OutcomeDated (outcome_of outcome.now) → ⊥ }
+    ensures none { IfNone result (OutcomeDated (outcome_of outcome.now) → ⊥) }
 {
     match outcome {
         Outcome::Accepted => Some(Decision::Accepted),
@@ -86,7 +161,7 @@ fn decision_of(outcome: &Outcome) -> Option<Decision<'_>>
 
 fn busy(clash: &Clash) -> Option<Decision<'_>>
     ensures decision { IfSome result (λ decision. decision_outcome decision ≡ outcome_of (Outcome.Declined clash.now)) }
-    ensures none { result ≡ None → OutcomeDated (outcome_of (Outcome.Declined clash.now)) → ⊥ }
+    ensures none { IfNone result (OutcomeDated (outcome_of (Outcome.Declined clash.now)) → ⊥) }
 {
     let first = clash.first.lend();
     let second = clash.second.lend();

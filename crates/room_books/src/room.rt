@@ -1,35 +1,36 @@
 //! A room takes messages one after another. A message is taken whole or not at all: everything is computed
 //! beside the room, and put into it by the last step.
 
-ghost use Rattle.std.specs.Prelude.{◌≡◌, true, false, Some, List, [], ◌∷◌, ◌<◌, ◌^◌, None, IfOk, IfSome, OnOk, OnErr};
+ghost use Rattle.std.specs.Prelude.{◌≡◌, None, ◌<◌, ◌≤◌, ◌++◌, Some, List, [], length, IfOk, OnOk, OnErr, IsTrue};
 ghost use Rattle.std.specs.List.{IsDistinct};
+ghost use Rattle.std.specs.Map.{lookup};
 ghost use Rattle.indexmap.specs.IndexMap.{keys, insert_entry, IsUnchanged, Updates};
-ghost use Rattle.itip_order.specs.Parts.{part_of};
 ghost use Rattle.ical_values.specs.Octets.{address_octets};
+ghost use Rattle.itip_order.specs.Parts.{part_of};
+ghost use Rattle.profile.specs.checker.Instances.{IsClear};
 ghost use Rattle.itip_messages.specs.Messages.{StandsFor};
 ghost use Rattle.profile.specs.events.Events.{Event};
-ghost use Rattle.profile.specs.events.Properties.{length_seconds};
-ghost use Rattle.profile.specs.rooms.Messages.{AreParts};
-ghost use Rattle.profile.specs.rooms.Revisions as revisions;
-ghost use Rattle.profile.specs.text.Values.{IsClockSeconds};
-ghost use Rattle.profile.specs.rooms.Rooms.{Claim, Book, empty_book, is_set};
 ghost use Rattle.profile.specs.streams.Streams.{AreClaims};
-ghost use Rattle.room_books.specs.Views.{same_key, confirmed_span};
-ghost use Rattle.room_books.specs.Timelines.{IsTimelineOf, ConfirmsAfter, span_by};
-ghost use Rattle.room_books.specs.Takings.{kind_view, reply_octets};
-ghost use Rattle.room_books.specs.Standing.{Stands, StepsWith, IsOfEvent, claim_of, part_list, span_said};
+ghost use Rattle.profile.specs.rooms.Rooms.{Claim, Book, empty_book};
+ghost use Rattle.profile.specs.rooms.Kept.{kept_certificate, IsKeptCalendar};
+ghost use Rattle.room_books.specs.Instants.{AreSeparate, IsPartOf};
+ghost use Rattle.room_books.specs.Views.{same_key, all_confirmed, all_singles, confirmed_at, confirmed_singles, singles_by, others, AreAllApart, IsKeyOf, MayJoin};
+ghost use Rattle.room_books.specs.Timelines.{IsTimelineOf};
+ghost use Rattle.room_books.specs.Takings.{claims_said, kind_view, reply_octets, IsDecision, IsAnswered, IsKindOf};
+ghost use Rattle.room_books.specs.Standing.{Stands, StepsWith, AreFitting, IsMeetingAfter};
 
 use crate::answer::{Answer, Kind};
-use crate::decide::Meetings;
-use crate::meeting::{Meeting, MeetingKey};
+use crate::claims::claims_of;
+use crate::decide::{Meetings, decide, keys_differ};
+use crate::meeting::{Given, Meeting, MeetingKey, Outcome, Single, singles_of};
 use crate::reply::reply_to;
-use crate::taking::{Asked, Taken, kind_of, meeting_after};
+use crate::taking::{self, Views, candidates, decided, held_after};
+use crate::texts::{calendar_of, certificate_of};
 use crate::timeline::Timeline;
-use cal_events::Span;
 use ical_values::{Address, Stamp};
 use indexmap::IndexMap;
 use itip_messages::Message;
-use itip_order::{Body, Freshness, Part, Slot};
+use itip_order::{Held, Part};
 use std::alloc::{AllocError, Global};
 
 /// A room with all that it ever took.
@@ -39,7 +40,24 @@ pub struct Room {
     address: Address,
     meetings: Meetings,
     timeline: Timeline,
-    ghost timed: { IsTimelineOf meetings.entries timeline.busy.items timeline.confirmed },
+    ghost timed: { IsTimelineOf (confirmed_at meetings.entries) timeline.busy.items },
+    ghost counted: { timeline.confirmed ≡ length (all_confirmed meetings.entries) },
+    ghost clear: { IsClear (all_confirmed meetings.entries) },
+    ghost apart: { AreAllApart meetings.entries },
+}
+
+/// A meeting after a message, and what became of the message.
+#[derive(Drop)]
+struct Taken {
+    meeting: Meeting,
+    kind: Kind,
+}
+
+/// The answers that a meeting has after a message, and what was decided of those that are new; None where none is.
+#[derive(Drop)]
+struct Answered {
+    answers: Vec<Given>,
+    outcome: Option<Outcome>,
 }
 
 impl Room {
@@ -75,14 +93,6 @@ impl Room {
         &self.meetings
     }
 
-    /// What the meetings have confirmed, in order of time.
-    pub(crate) fn timeline(&self) -> &Timeline
-        ensures itself { result.now ≡ self.now.timeline }
-        ensures timed { IsTimelineOf self.now.meetings.entries self.now.timeline.busy.items self.now.timeline.confirmed }
-    {
-        &self.timeline
-    }
-
     /// Takes a message at a moment, and answers it. Where memory is refused nothing has changed.
     /// So far a message has one part for a room, of the whole of its meeting, or isn't addressed to it.
     pub fn take(&mut self, message: &Message, now: Stamp) -> Result<Answer, AllocError>
@@ -94,118 +104,181 @@ impl Room {
         ensures refresh { IfOk result (λ answer. answer.refresh ≡ None) }
         ensures err { OnErr result (IsUnchanged self.old.meetings self.new.meetings) }
     {
-        let found = self.part_for(message)?;
-        let Some(part) = found else {
+        let claims = claims_of(self.alloc, message, &self.address)?;
+        let Some(first) = claims.first() else {
             return Ok(Answer::silent(Kind::NotAddressed));
         };
-        let Some(span) = span_of(message) else {
-            return Ok(Answer::silent(Kind::NotAddressed));
-        };
-        if !is_request(&part) {
-            return Ok(Answer::silent(Kind::NotAddressed));
-        }
-        let answer = self.take_part(&part, span, now)?;
+        let answer = self.take_claims(&first.part, &claims, now)?;
         Ok(answer)
     }
 
-    /// The part of a message for this room, None where it isn't addressed to it.
-    fn part_for(&self, message: &Message) -> Result<Option<Part>, AllocError>
-        ensures { IfOk result (λ part. (event : Event) → StandsFor message.now event
-            → AreParts (address_octets self.now.address) event (part_list part)) }
+    /// The kept calendar: each accepted part in the view, the meetings in order of first arrival.
+    pub fn calendar_text(&self) -> Result<Vec<u8>, AllocError>
+        ensures { IfOk result (λ text. (book : Book) → Stands self.now.meetings.entries book → IsKeptCalendar (address_octets self.now.address) book text.items) }
     {
-        let mut parts = message.parts(self.alloc, &self.address)?;
-        let part = parts.pop();
-        Ok(part)
+        calendar_of(self.alloc, &self.meetings, &self.address)
     }
 
-    /// Takes a part that asks for this span.
+    /// The certificate that stands for the kept calendar.
+    pub fn certificate_text(&self) -> Result<Vec<u8>, AllocError>
+        ensures { IfOk result (λ text. (book : Book) → Stands self.now.meetings.entries book → text.items ≡ kept_certificate book) }
+    {
+        certificate_of(self.alloc, &self.meetings, &self.timeline)
+    }
+
+    /// Takes the claims of a message, of one meeting; the part is the first one's.
     // Apart from `take`, which pays for all its locals also where a message isn't addressed to the room.
     #[inline(never)]
-    fn take_part(&mut self, part: &Part, span: Span, now: Stamp) -> Result<Answer, AllocError>
-        requires whole { (part_of part.now).slot ≡ revisions.Whole }
-        requires set { is_set (part_of part.now) ≡ true }
-        requires dated { IsClockSeconds span.start }
-        ensures steps { IfOk result (λ answer. IsOfEvent (part_of part.now) → (book : Book) → Stands self.old.meetings.entries book
-            → StepsWith (address_octets self.old.address) self.new.meetings.entries book (claim_of (part_of part.now) span ∷ []) now (kind_view answer.kind) (reply_octets answer)) }
+    fn take_claims(
+        &mut self,
+        first: &Part,
+        claims: &[taking::Claim],
+        now: Stamp,
+    ) -> Result<Answer, AllocError>
+        requires some { 0 < length claims.now }
+        ensures steps { IfOk result (λ answer. ((key : MeetingKey) → IsKeyOf (part_of first.now).organiser (part_of first.now).uid key → AreFitting key (claims_said claims.now))
+            → (book : Book) → Stands self.old.meetings.entries book
+            → StepsWith (address_octets self.old.address) self.new.meetings.entries book (claims_said claims.now) now (kind_view answer.kind) (reply_octets answer)) }
         ensures address { self.new.address ≡ self.old.address }
         ensures refresh { IfOk result (λ answer. answer.refresh ≡ None) }
         ensures err { OnErr result (IsUnchanged self.old.meetings self.new.meetings) }
     {
         keys_differ(&self.meetings);
-        let key = MeetingKey::of(&part.organiser, &part.uid)?;
-        let asked = Asked {
-            key: &key,
-            part,
-            span,
-            moment: now,
-        };
-        let taken = meeting_after(self.alloc, &self.meetings, &self.timeline, &asked)?;
-        let reply = reply_to(self.alloc, &self.address, part, &taken)?;
-        let kind = kind_of(taken.freshness, &taken.meeting.decided)?;
-        self.put(key, taken)?;
+        let key = MeetingKey::of(&first.organiser, &first.uid)?;
+        let before = self.singles_before(&key)?;
+        let taken = self.meeting_after(&key, first, claims, &before, now)?;
+        let reply = reply_to(self.alloc, &self.address, claims, &taken.meeting)?;
+        self.put(key, taken.meeting, &before)?;
         Ok(Answer {
-            kind,
+            kind: taken.kind,
             reply,
             refresh: None,
         })
     }
 
-    /// Puts a meeting in its place, and what it confirms now into the timeline.
-    fn put(&mut self, key: MeetingKey, taken: Taken) -> Result<(), AllocError>
-        requires distinct { IsDistinct same_key (keys self.old.meetings) }
-        requires confirms { ConfirmsAfter taken.freshness key self.old.meetings.entries (confirmed_span taken.meeting.decided) }
-        ensures updates { OnOk result (Updates same_key self.old.meetings self.new.meetings key (Some taken.meeting)) }
-        ensures entries { OnOk result (self.new.meetings.entries ≡ insert_entry same_key self.old.meetings.entries key taken.meeting) }
+    /// What a meeting has confirmed; nothing where it was never heard of.
+    fn singles_before(&self, key: &MeetingKey) -> Result<Vec<Single>, AllocError>
+        ensures { IfOk result (λ singles. singles.items ≡ singles_by (lookup (same_key key.now) self.now.meetings.entries)) }
+    {
+        match self.meetings.get(key) {
+            Some(meeting) => meeting.singles(self.alloc),
+            None => Ok(Vec::new(self.alloc)),
+        }
+    }
+
+    /// The meeting after these claims, of which the part is the first one's.
+    fn meeting_after(
+        &self,
+        key: &MeetingKey,
+        first: &Part,
+        claims: &[taking::Claim],
+        before: &[Single],
+        now: Stamp,
+    ) -> Result<Taken, AllocError>
+        requires some { 0 < length claims.now }
+        requires before { before.now ≡ singles_by (lookup (same_key key.now) self.now.meetings.entries) }
+        ensures after { IfOk result (λ taken. IsKeyOf (part_of first.now).organiser (part_of first.now).uid key.now → AreFitting key.now (claims_said claims.now)
+            → (book : Book) → Stands self.now.meetings.entries book → IsMeetingAfter book key.now (claims_said claims.now) now (kind_view taken.kind) taken.meeting) }
+        ensures joins { IfOk result (λ taken. MayJoin (others key.now self.now.meetings.entries) key.now (confirmed_singles taken.meeting)) }
+    {
+        let old = self.meetings.get(key);
+        let held = held_after(self.alloc, old, claims)?;
+        let views = Views {
+            before: old,
+            after: &held,
+        };
+        let kept = views.kept(self.alloc, first)?;
+        let asked = views.asked(self.alloc, claims)?;
+        let answered = self.answers_after(key, &held, kept, &asked, before, now)?;
+        let kind = views.kind_of(claims, &answered.outcome)?;
+        Ok(Taken {
+            meeting: Meeting {
+                held,
+                answers: answered.answers,
+            },
+            kind,
+        })
+    }
+
+    /// The answers that stay, and those to the claims that are asked: one decision for all of them.
+    fn answers_after(
+        &self,
+        key: &MeetingKey,
+        held: &Held,
+        kept: Vec<Given>,
+        asked: &[&taking::Claim],
+        before: &[Single],
+        now: Stamp,
+    ) -> Result<Answered, AllocError>
+        requires before { before.now ≡ singles_by (lookup (same_key key.now) self.now.meetings.entries) }
+        requires part { IsPartOf (all_singles kept.items) before.now }
+        ensures answered { IfOk result (λ answered. IsAnswered (others key.now self.now.meetings.entries) key.now held.now now kept.items asked.now answered.answers.items answered.outcome) }
+        ensures joins { IfOk result (λ answered. MayJoin (others key.now self.now.meetings.entries) key.now (all_singles answered.answers.items)) }
+    {
+        keys_differ(&self.meetings);
+        if asked.is_empty() {
+            return Ok(Answered {
+                answers: kept,
+                outcome: None,
+            });
+        }
+        let candidates = candidates(self.alloc, held, asked, now)?;
+        let outcome = self.decide(key, &kept, &candidates, before)?;
+        let mut new = decided(self.alloc, candidates, &outcome)?;
+        let mut answers = kept;
+        answers.append(&mut new)?;
+        Ok(Answered {
+            answers,
+            outcome: Some(outcome),
+        })
+    }
+
+    /// What is decided of candidates beside what a meeting keeps of what it had confirmed, and all that the others have.
+    fn decide(
+        &self,
+        key: &MeetingKey,
+        kept: &[Given],
+        candidates: &[Given],
+        before: &[Single],
+    ) -> Result<Outcome, AllocError>
+        requires before { before.now ≡ singles_by (lookup (same_key key.now) self.now.meetings.entries) }
+        requires part { IsPartOf (all_singles kept.now) before.now }
+        ensures { IfOk result (IsDecision (others key.now self.now.meetings.entries) key.now (all_singles kept.now) (all_singles candidates.now)) }
+    {
+        keys_differ(&self.meetings);
+        let kept = singles_of(self.alloc, kept)?;
+        let wanted = singles_of(self.alloc, candidates)?;
+        let beside = self.timeline.confirmed() - before.len();
+        decide(
+            self.alloc,
+            &self.meetings,
+            &self.timeline,
+            key,
+            beside,
+            &kept,
+            &wanted,
+        )
+    }
+
+    /// Puts a meeting in its place, and what it confirms now into the timeline, where it confirmed something else before.
+    fn put(
+        &mut self,
+        key: MeetingKey,
+        meeting: Meeting,
+        before: &[Single],
+    ) -> Result<(), AllocError>
+        requires before { before.now ≡ singles_by (lookup (same_key key) self.old.meetings.entries) }
+        requires joins { MayJoin (others key self.old.meetings.entries) key (confirmed_singles meeting) }
+        ensures updates { OnOk result (Updates same_key self.old.meetings self.new.meetings key (Some meeting)) }
+        ensures entries { OnOk result (self.new.meetings.entries ≡ insert_entry same_key self.old.meetings.entries key meeting) }
         ensures address { self.new.address ≡ self.old.address }
         ensures err { OnErr result (IsUnchanged self.old.meetings self.new.meetings) }
     {
-        self.timeline.reserve()?;
-        let confirmed = taken.meeting.confirmed();
-        let (place, old) = self.meetings.insert_full(key, taken.meeting)?;
-        if let Freshness::Fresh = taken.freshness {
-            self.timeline.change(place, confirmed_by(&old), confirmed);
-        }
+        keys_differ(&self.meetings);
+        let after = meeting.singles(self.alloc)?;
+        self.timeline.reserve(after.len())?;
+        let (place, _) = self.meetings.insert_full(key, meeting)?;
+        self.timeline.change(place, before, &after);
         Ok(())
     }
-}
-
-/// What a meeting confirms, nothing where there is none.
-fn confirmed_by(meeting: &Option<Meeting>) -> Option<Span>
-    ensures { result ≡ span_by meeting.now }
-{
-    match meeting {
-        Some(meeting) => meeting.confirmed(),
-        None => None,
-    }
-}
-
-/// Whether a part says that the whole of its meeting is to take place.
-fn is_request(part: &Part) -> bool
-    ensures whole { result ≡ true → (part_of part.now).slot ≡ revisions.Whole }
-    ensures set { result ≡ true → is_set (part_of part.now) ≡ true }
-    ensures none { result ≡ false → (part_of part.now).slot ≡ revisions.Whole → is_set (part_of part.now) ≡ true → ⊥ }
-{
-    part.slot == Slot::Whole && matches!(part.body, Body::Set(_))
-}
-
-/// The span that a message asks for: that of its one component.
-fn span_of(message: &Message) -> Option<Span>
-    ensures said { (event : Event) → StandsFor message.now event → result ≡ Some (span_said event) }
-    ensures dated { IfSome result (λ span. IsClockSeconds span.start) }
-    ensures short { (event : Event) → StandsFor message.now event → length_seconds event.times.length < 2 ^ 64 }
-{
-    match message.components().first() {
-        Some(component) => Some(Span {
-            start: component.start.instant(),
-            end: component.end,
-        }),
-        None => None,
-    }
-}
-
-/// What a map says of its keys: no two are of one meeting.
-pub(crate) fn keys_differ(meetings: &Meetings)
-    ensures { IsDistinct same_key (keys meetings.now) }
-{
-    let _ = meetings.len();
 }

@@ -1,79 +1,61 @@
-//! What a part does to its meeting: computed beside the room, and put into it by the last step.
+//! What a message does to its meeting: computed beside the room, and put into it by the last step.
 
-ghost use Rattle.std.specs.Prelude.{◌≡◌, IfOk, List, option_copied};
-ghost use Rattle.indexmap.specs.IndexMap.{get_by};
+ghost use Rattle.std.specs.Prelude.{◌≡◌, ◌++◌, List, IfOk, IfSome, option_copied};
+ghost use Rattle.std.specs.List.{AllZip, list_any};
 ghost use Rattle.profile.specs.rooms.Revisions as revisions;
 ghost use Rattle.profile.specs.rooms.Rooms as rooms;
+ghost use Rattle.profile.specs.rooms.Rooms.{is_set};
+ghost use Rattle.itip_order.specs.Parts.{part_of};
 ghost use Rattle.itip_order.specs.Registers.{StandsFor};
-ghost use Rattle.room_books.specs.Views.{others, booked_of, same_key, outcome_of, IsDecision};
-ghost use Rattle.room_books.specs.Timelines.{IsTimelineOf};
-ghost use Rattle.room_books.specs.Takings.{StandsAt, told_in, told_by, kind_view, kind_after, IsMeetingAfter};
+ghost use Rattle.room_books.specs.Views.{outcome_of, all_singles, singles_by};
+ghost use Rattle.room_books.specs.Instants.{IsPartOf};
+ghost use Rattle.room_books.specs.Standing.{KeepsAll};
+ghost use Rattle.room_books.specs.Takings.{StandsAt, AreAsked, booked_in, left_in, IsLeftOf, IsAccepted, IsDecided, IsKindOf, IsStill, kind_view, parts_said};
 
 use crate::answer::Kind;
-use crate::decide::{Meetings, decide};
-use crate::meeting::{Decided, Meeting, MeetingKey, Outcome};
-use crate::timeline::Timeline;
-use cal_events::Span;
+use crate::meeting::{Given, Meeting, Outcome, Single};
 use ical_values::Stamp;
-use itip_order::{Freshness, Held, Part};
+use itip_order::{Body, Held, Part, Slot};
 use std::alloc::{AllocError, Global};
 
-/// A part that is to be taken at a moment: what it asks for, and its meeting.
-#[derive(Clone, Copy)]
-pub struct Asked<'a> {
-    pub key: &'a MeetingKey,
-    pub part: &'a Part,
-    pub span: Span,
-    pub moment: Stamp,
-}
-
-/// A meeting with one part more, and what that part did to the view.
+/// A part of a message, and the instances that it asks for: none where it isn't to take place.
 #[derive(Drop)]
-pub struct Taken {
-    pub meeting: Meeting,
-    pub freshness: Freshness,
+pub struct Claim {
+    pub part: Part,
+    pub singles: Vec<Single>,
 }
 
-/// The meeting after a part.
-pub fn meeting_after(
+impl Claim {
+    /// Whether the part is to take place.
+    pub fn is_set(&self) -> bool
+        ensures { result ≡ is_set (part_of self.now.part) }
+    {
+        matches!(self.part.body, Body::Set(_))
+    }
+}
+
+/// The parts of a meeting before a message and after it.
+#[derive(Clone, Copy)]
+pub struct Views<'a> {
+    /// What is kept of the meeting; None where it was never heard of.
+    pub before: Option<&'a Meeting>,
+    pub after: &'a Held,
+}
+
+/// The parts taken of a meeting, with those of these claims.
+pub fn held_after(
     alloc: Global,
-    meetings: &Meetings,
-    timeline: &Timeline,
-    asked: &Asked<'_>,
-) -> Result<Taken, AllocError>
-    requires { IsTimelineOf meetings.now.entries timeline.now.busy.items timeline.now.confirmed }
-    ensures { IfOk result (IsMeetingAfter (get_by (same_key asked.now.key.now) meetings.now) meetings.now.entries asked.now) }
+    before: Option<&Meeting>,
+    claims: &[Claim],
+) -> Result<Held, AllocError>
+    ensures { IfOk result (λ held. (history : List revisions.Part) → StandsAt (option_copied before.entry) history
+        → StandsFor held (history ++ parts_said claims.now)) }
 {
-    let before = meetings.get(asked.key);
     let mut held = held_of(alloc, before)?;
-    let freshness = held.take(asked.part.clone()?)?;
-    let decided = match freshness {
-        Freshness::Fresh => Some(decided_now(meetings, timeline, asked)?),
-        Freshness::Same | Freshness::Stale => decided_before(before)?,
-    };
-    Ok(Taken {
-        meeting: Meeting { held, decided },
-        freshness,
-    })
-}
-
-/// The answer to a part that is new.
-fn decided_now(
-    meetings: &Meetings,
-    timeline: &Timeline,
-    asked: &Asked<'_>,
-) -> Result<Decided, AllocError>
-    requires { IsTimelineOf meetings.now.entries timeline.now.busy.items timeline.now.confirmed }
-    ensures moment { IfOk result (λ d. d.moment ≡ asked.now.moment) }
-    ensures span { IfOk result (λ d. d.span ≡ asked.now.span) }
-    ensures outcome { IfOk result (λ d. IsDecision (others asked.now.key.now meetings.now.entries) (booked_of asked.now.key.now asked.now.span) d.outcome) }
-{
-    let outcome = decide(meetings, timeline, asked.key, asked.span)?;
-    Ok(Decided {
-        moment: asked.moment,
-        outcome,
-        span: asked.span,
-    })
+    for claim in claims {
+        held.take(claim.part.clone()?)?;
+    }
+    Ok(held)
 }
 
 /// The parts taken so far.
@@ -86,25 +68,115 @@ fn held_of(alloc: Global, before: Option<&Meeting>) -> Result<Held, AllocError>
     }
 }
 
-/// The answer that stands.
-fn decided_before(before: Option<&Meeting>) -> Result<Option<Decided>, AllocError>
-    ensures { IfOk result (λ decided. told_in decided ≡ told_by (option_copied before.entry)) }
-{
-    match before {
-        Some(meeting) => meeting.decided.clone(),
-        None => Ok(None),
+impl<'a> Views<'a> {
+    /// Whether a part is in the view after.
+    pub fn shows(&self, part: &Part) -> bool
+        ensures { (history : List revisions.Part) → StandsFor self.now.after.now history → result ≡ revisions.in_view history (part_of part.now) }
+    {
+        self.after.shows(part)
     }
-}
 
-/// What became of a message of one part: what was decided of it, or how new it is where nothing was.
-pub fn kind_of(freshness: Freshness, decided: &Option<Decided>) -> Result<Kind, AllocError>
-    ensures { IfOk result (λ kind. kind_view kind ≡ kind_after freshness decided.now) }
-{
-    match (freshness, decided) {
-        (Freshness::Fresh, Some(decided)) => kind_of_outcome(&decided.outcome),
-        (Freshness::Fresh, None) => Ok(Kind::Cancelled),
-        (Freshness::Same, _) => Ok(Kind::Repeated),
-        (Freshness::Stale, _) => Ok(Kind::Stale),
+    /// Whether a part is in the view before.
+    fn showed(&self, part: &Part) -> bool
+        ensures { (history : List revisions.Part) → StandsAt (option_copied self.now.before) history → result ≡ revisions.in_view history (part_of part.now) }
+    {
+        match self.before {
+            Some(meeting) => meeting.held.shows(part),
+            None => false,
+        }
+    }
+
+    /// Whether a part is in the view after, and wasn't before.
+    pub fn is_fresh(&self, part: &Part) -> bool
+        ensures { (before after : List revisions.Part) → StandsAt (option_copied self.now.before) before → StandsFor self.now.after.now after
+            → result ≡ rooms.is_fresh before after (part_of part.now) }
+    {
+        self.shows(part) && !self.showed(part)
+    }
+
+    /// Whether a part is in the view before and after.
+    pub fn is_same(&self, part: &Part) -> bool
+        ensures { (before after : List revisions.Part) → StandsAt (option_copied self.now.before) before → StandsFor self.now.after.now after
+            → result ≡ rooms.is_same before after (part_of part.now) }
+    {
+        self.shows(part) && self.showed(part)
+    }
+
+    /// The claims that get an answer now: their parts are fresh, and to take place.
+    pub fn asked<'b>(
+        &self,
+        alloc: Global,
+        claims: &'b [Claim],
+    ) -> Result<Vec<&'b Claim>, AllocError>
+        ensures { IfOk result (λ asked. (before after : List revisions.Part) → StandsAt (option_copied self.now.before) before → StandsFor self.now.after.now after
+            → AreAsked before after claims.now asked.items) }
+    {
+        let mut asked = Vec::new(alloc);
+        for claim in claims {
+            if claim.is_set() && self.is_fresh(&claim.part) {
+                asked.push(claim)?;
+            }
+        }
+        Ok(asked)
+    }
+
+    /// What became of a message with these claims, where this was decided of those that get an answer now.
+    pub fn kind_of(&self, claims: &[Claim], outcome: &Option<Outcome>) -> Result<Kind, AllocError>
+        ensures { IfOk result (λ kind. (before after : List revisions.Part) → StandsAt (option_copied self.now.before) before → StandsFor self.now.after.now after
+            → IsKindOf before after claims.now outcome.now kind) }
+    {
+        if let Some(outcome) = outcome {
+            return kind_of_outcome(outcome);
+        }
+        if self.any_fresh(claims) {
+            return Ok(Kind::Cancelled);
+        }
+        if self.any_same(claims) {
+            return Ok(Kind::Repeated);
+        }
+        Ok(Kind::Stale)
+    }
+
+    fn any_fresh(&self, claims: &[Claim]) -> bool
+        ensures { (before after : List revisions.Part) → StandsAt (option_copied self.now.before) before → StandsFor self.now.after.now after
+            → result ≡ list_any (rooms.is_fresh before after) (parts_said claims.now) }
+    {
+        for claim in claims {
+            if self.is_fresh(&claim.part) {
+                return true;
+            }
+        }
+        false
+    }
+
+    fn any_same(&self, claims: &[Claim]) -> bool
+        ensures { (before after : List revisions.Part) → StandsAt (option_copied self.now.before) before → StandsFor self.now.after.now after
+            → result ≡ list_any (rooms.is_same before after) (parts_said claims.now) }
+    {
+        for claim in claims {
+            if self.is_same(&claim.part) {
+                return true;
+            }
+        }
+        false
+    }
+
+    /// The answers to parts that stay in the view, each with the instances that it still confirms. The part is one of the meeting.
+    pub fn kept(&self, alloc: Global, part: &Part) -> Result<Vec<Given>, AllocError>
+        ensures kept { IfOk result (λ kept. KeepsAll (part_of part.now) (option_copied self.now.before) self.now.after.now kept.items) }
+        ensures part { IfOk result (λ kept. IsPartOf (all_singles kept.items) (singles_by (option_copied self.now.before))) }
+    {
+        let mut kept = Vec::new(alloc);
+        let Some(meeting) = self.before else {
+            return Ok(kept);
+        };
+        for given in &meeting.answers {
+            let Some(still) = still(alloc, &meeting.held, self.after, part, given)? else {
+                continue;
+            };
+            kept.push(still)?;
+        }
+        Ok(kept)
     }
 }
 
@@ -116,4 +188,137 @@ fn kind_of_outcome(outcome: &Outcome) -> Result<Kind, AllocError>
         Outcome::Declined(clash) => Ok(Kind::Declined(clash.clone()?)),
         Outcome::Limit(limit) => Ok(Kind::Limit(*limit)),
     }
+}
+
+/// An answer whose part stays in the view, with the instances that it still confirms. The part that is handed in is one of the meeting.
+fn still(
+    alloc: Global,
+    before: &Held,
+    after: &Held,
+    part: &Part,
+    given: &Given,
+) -> Result<Option<Given>, AllocError>
+    ensures still { IfOk result (IsStill before.now after.now (part_of part.now) given.now) }
+    ensures part { IfOk result (λ still. IfSome still (λ left. IsPartOf left.singles.items given.now.singles.items)) }
+{
+    let Some(own) = before.part_in(part, given.slot) else {
+        return Ok(None);
+    };
+    if !after.shows(own) {
+        return Ok(None);
+    }
+    Ok(Some(given.left(alloc, after, own)?))
+}
+
+impl Given {
+    /// The same answer to a part, with those of its instances that no part in the view stands for.
+    fn left(&self, alloc: Global, held: &Held, part: &Part) -> Result<Given, AllocError>
+        ensures { IfOk result (IsLeftOf held.now (part_of part.now) self.now) }
+    {
+        let outcome = self.outcome.clone()?;
+        let singles = left_of(alloc, held, part, &self.singles)?;
+        Ok(Given {
+            slot: self.slot,
+            moment: self.moment,
+            outcome,
+            singles,
+        })
+    }
+
+    /// The answer to a claim at a moment, were it accepted.
+    fn accepted(
+        alloc: Global,
+        held: &Held,
+        claim: &Claim,
+        moment: Stamp,
+    ) -> Result<Given, AllocError>
+        ensures { IfOk result (IsAccepted held.now claim.now moment) }
+    {
+        let singles = left_of(alloc, held, &claim.part, &claim.singles)?;
+        Ok(Given {
+            slot: claim.part.slot,
+            moment,
+            outcome: Outcome::Accepted,
+            singles,
+        })
+    }
+
+    /// The same answer with what was decided: it confirms something only where that is to accept it.
+    fn decided(mut self, alloc: Global, outcome: &Outcome) -> Result<Given, AllocError>
+        ensures { IfOk result (IsDecided self outcome.now) }
+    {
+        if !is_accept(outcome) {
+            self.singles = Vec::new(alloc);
+        }
+        self.outcome = outcome.clone()?;
+        Ok(self)
+    }
+}
+
+/// Whether a decision is to accept.
+pub fn is_accept(outcome: &Outcome) -> bool
+    ensures { result ≡ rooms.is_accept (outcome_of outcome.now) }
+{
+    matches!(outcome, Outcome::Accepted)
+}
+
+/// Those of a part's instances that no other part in the view stands for.
+fn left_of(
+    alloc: Global,
+    held: &Held,
+    part: &Part,
+    singles: &[Single],
+) -> Result<Vec<Single>, AllocError>
+    ensures left { IfOk result (λ left. (history : List revisions.Part) → StandsFor held.now history → left.items ≡ left_in history (part_of part.now) singles.now) }
+    ensures part { IfOk result (λ left. IsPartOf left.items singles.now) }
+{
+    let mut left = Vec::new(alloc);
+    for single in singles {
+        if is_hidden(held, part, *single) {
+            continue;
+        }
+        left.push(*single)?;
+    }
+    Ok(left)
+}
+
+/// Whether another part in the view stands for an instance of a part.
+fn is_hidden(held: &Held, part: &Part, single: Single) -> bool
+    ensures { (history : List revisions.Part) → StandsFor held.now history → result ≡ rooms.is_hidden history (part_of part.now) (booked_in (part_of part.now) single) }
+{
+    match part.slot {
+        Slot::Whole => held.part_in(part, Slot::At(single.slot)).is_some(),
+        Slot::At(_) => false,
+    }
+}
+
+/// The answers to claims at a moment, were they accepted.
+pub fn candidates(
+    alloc: Global,
+    held: &Held,
+    asked: &[&Claim],
+    moment: Stamp,
+) -> Result<Vec<Given>, AllocError>
+    ensures { IfOk result (λ given. AllZip (λ claim given. IsAccepted held.now claim.now moment given) asked.now given.items) }
+{
+    let mut given = Vec::new(alloc);
+    for claim in asked {
+        given.push(Given::accepted(alloc, held, claim, moment)?)?;
+    }
+    Ok(given)
+}
+
+/// The same answers with what was decided.
+pub fn decided(
+    alloc: Global,
+    candidates: Vec<Given>,
+    outcome: &Outcome,
+) -> Result<Vec<Given>, AllocError>
+    ensures { IfOk result (λ given. AllZip (λ candidate given. IsDecided candidate outcome.now given) candidates.items given.items) }
+{
+    let mut given = Vec::new(alloc);
+    for candidate in candidates {
+        given.push(candidate.decided(alloc, outcome)?)?;
+    }
+    Ok(given)
 }

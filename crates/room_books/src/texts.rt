@@ -1,94 +1,127 @@
 //! What a room keeps, as octets: its calendar, and the certificate for it.
 
-ghost use Rattle.std.specs.Prelude.{◌≡◌, ◌++◌, true, List, ℕ, take, IfOk, OnOk};
-ghost use Rattle.std.specs.List.{list_all};
-ghost use Rattle.std.specs.Str.{IsUtf8};
+ghost use Rattle.std.specs.Prelude.{◌≡◌, ◌++◌, length, IfOk, OnOk};
+ghost use Rattle.std.specs.List.Sorted.{IsPermutation, IsSortedByKey};
 ghost use Rattle.std.specs.Str.Lines.{lines};
+ghost use Rattle.indexmap.specs.IndexMap.{values};
 ghost use Rattle.ical_values.specs.Octets.{address_octets};
-ghost use Rattle.itip_order.specs.Parts.{part_of};
-ghost use Rattle.profile.specs.checker.Certificates.{text_of};
-ghost use Rattle.profile.specs.rooms.Kept.{first_parts, kept_certificate, IsKeptCalendar};
+ghost use Rattle.itip_order.specs.Parts.{part_of, slot_of};
+ghost use Rattle.profile.specs.rooms.Kept.{kept_certificate, IsKeptCalendar};
+ghost use Rattle.profile.specs.rooms.Revisions.{slot_cmp};
+ghost use Rattle.profile.specs.rooms.Rooms.{Book};
 ghost use Rattle.profile.specs.text.Lines.{written};
-ghost use Rattle.profile.specs.rooms.Revisions as revisions;
-ghost use Rattle.profile.specs.rooms.Rooms.{Answer, Book};
-ghost use Rattle.room_books.specs.Standing.{IsOfEvent, Meets, Stands, is_of};
-ghost use Rattle.room_books.specs.Keeping.{WritesAnswers, WritesEvent, kept_of, kept_parts};
+ghost use Rattle.room_books.specs.Views.{all_confirmed};
+ghost use Rattle.room_books.specs.Standing.{Stands};
+ghost use Rattle.room_books.specs.Keeping.{WritesBody, WritesEvent, WritesParts, accepted_slots, all_kept, has_slot, kept_in};
 
-use crate::decide::Meetings;
-use crate::meeting::{Meeting, MeetingKey};
-use crate::room::{Room, keys_differ};
+use crate::decide::{Meetings, keys_differ};
+use crate::meeting::{Given, Meeting};
+use crate::taking::is_accept;
+use crate::timeline::Timeline;
 use clash_cert::Certificate;
 use ical_values::Address;
 use itip_messages::ObjectWriter;
-use itip_order::{Body, Part};
+use itip_order::{Body, Part, Slot};
 use std::alloc::{AllocError, Global};
 use std::str;
 
-impl Room {
-    /// The kept calendar: each accepted part in the view, the meetings in order of first arrival.
-    pub fn calendar_text(&self) -> Result<Vec<u8>, AllocError>
-        ensures { IfOk result (λ text. (book : Book) → Stands self.now.meetings.entries book
-            → IsKeptCalendar (address_octets self.now.address) book text.items) }
-    {
-        let mut object = ObjectWriter::new(self.alloc());
-        object.begin_calendar(None)?;
-        write_meetings(&mut object, self.meetings(), self.address())?;
-        object.end_calendar()?;
-        Ok(object.finish())
-    }
-
-    /// The certificate that stands for the kept calendar.
-    pub fn certificate_text(&self) -> Result<Vec<u8>, AllocError>
-        ensures { IfOk result (λ text. (book : Book) → Stands self.now.meetings.entries book → text.items ≡ kept_certificate book) }
-    {
-        keys_differ(self.meetings());
-        let mut octets = Vec::new(self.alloc());
-        Certificate::of(self.timeline().confirmed() as u64).write(&mut octets)?;
-        Ok(octets)
-    }
+/// The kept calendar of a room: each accepted part in the view, the meetings in order of first arrival.
+pub(crate) fn calendar_of(
+    alloc: Global,
+    meetings: &Meetings,
+    room: &Address,
+) -> Result<Vec<u8>, AllocError>
+    ensures { IfOk result (λ text. (book : Book) → Stands meetings.now.entries book → IsKeptCalendar (address_octets room.now) book text.items) }
+{
+    keys_differ(meetings);
+    let mut object = ObjectWriter::new(alloc);
+    object.begin_calendar(None)?;
+    write_meetings(&mut object, meetings, room)?;
+    object.end_calendar()?;
+    Ok(object.finish())
 }
 
-/// The VEVENTs of all meetings, in order of first arrival.
+/// The certificate that stands for the kept calendar.
+pub(crate) fn certificate_of(
+    alloc: Global,
+    meetings: &Meetings,
+    timeline: &Timeline,
+) -> Result<Vec<u8>, AllocError>
+    requires { timeline.now.confirmed ≡ length (all_confirmed meetings.now.entries) }
+    ensures { IfOk result (λ text. (book : Book) → Stands meetings.now.entries book → text.items ≡ kept_certificate book) }
+{
+    keys_differ(meetings);
+    let mut octets = Vec::new(alloc);
+    Certificate::of(timeline.confirmed() as u64).write(&mut octets)?;
+    Ok(octets)
+}
+
+/// The VEVENTs of all meetings, in order of first arrival. Each meeting is gone through once.
 fn write_meetings(
     object: &mut ObjectWriter,
     meetings: &Meetings,
     room: &Address,
 ) -> Result<(), AllocError>
-    ensures { OnOk result ((book : Book) → Stands meetings.now.entries book
-        → WritesAnswers (address_octets room.now) (kept_parts book (first_parts book.taken)) object.old object.new) }
+    ensures { OnOk result (WritesParts (address_octets room.now) (all_kept (values meetings.now)) object.old object.new) }
 {
-    keys_differ(meetings);
-    for place in 0..meetings.len() {
-        if let Some((key, meeting)) = meetings.get_index(place) {
-            write_meeting(object, key, meeting, room)?;
+    for meeting in meetings.values() {
+        write_meeting(object, meeting, room)?;
+    }
+    Ok(())
+}
+
+/// The VEVENTs of a meeting's parts in the view that were accepted, by their slots. For each part it takes as many steps as the number
+/// of the meeting's parts has binary digits, and those for the octets that are written.
+fn write_meeting(
+    object: &mut ObjectWriter,
+    meeting: &Meeting,
+    room: &Address,
+) -> Result<(), AllocError>
+    ensures { OnOk result (WritesParts (address_octets room.now) (kept_in meeting.now) object.old object.new) }
+{
+    // sorted, since each part looks for its answer, and answers stand in the order in which they were given
+    let mut accepted = slots_accepted(object.alloc(), &meeting.answers)?;
+    sort_slots(&mut accepted);
+    for part in meeting.held.view() {
+        if is_among(&accepted, part.slot) {
+            write_part(object, part, room)?;
         }
     }
     Ok(())
 }
 
-/// The VEVENT of a meeting that holds the room, and nothing of another.
-fn write_meeting(
-    object: &mut ObjectWriter,
-    key: &MeetingKey,
-    meeting: &Meeting,
-    room: &Address,
-) -> Result<(), AllocError>
-    ensures { OnOk result ((entries : List (MeetingKey × Meeting)) (book : Book) (part : revisions.Part) → Stands entries book → Meets book key.now meeting.now
-        → is_of key.now part ≡ true → WritesAnswers (address_octets room.now) (kept_of book part) object.old object.new) }
+/// The slots of the answers that accept.
+fn slots_accepted(alloc: Global, answers: &[Given]) -> Result<Vec<Slot>, AllocError>
+    ensures { IfOk result (λ slots. slots.items ≡ accepted_slots answers.now) }
 {
-    let Some(_span) = meeting.confirmed() else {
-        return Ok(());
-    };
-    let Some(part) = meeting.held.view().next() else {
-        return Ok(());
-    };
-    write_part(object, part, room)?;
-    Ok(())
+    let mut slots = Vec::new(alloc);
+    for given in answers {
+        if is_accept(&given.outcome) {
+            slots.push(given.slot)?;
+        }
+    }
+    Ok(slots)
+}
+
+/// Puts slots in order.
+fn sort_slots(slots: &mut Vec<Slot>)
+    ensures same { IsPermutation slots.old.items slots.new.items }
+    ensures rises { IsSortedByKey slot_of slot_cmp slots.new.items }
+{
+    slots.sort_unstable();
+}
+
+/// Whether a slot is among others, which stand in order.
+fn is_among(sorted: &[Slot], slot: Slot) -> bool
+    requires { IsSortedByKey slot_of slot_cmp sorted.now }
+    ensures { result ≡ has_slot sorted.now (slot_of slot) }
+{
+    sorted.binary_search(&slot).is_ok()
 }
 
 /// The VEVENT of a part that is to take place: its own lines, and the room as the one attendee.
 fn write_part(object: &mut ObjectWriter, part: &Part, room: &Address) -> Result<(), AllocError>
-    ensures { OnOk result (IsOfEvent (part_of part.now) → WritesEvent (address_octets room.now) (part_of part.now) object.old object.new) }
+    ensures { OnOk result (WritesEvent (address_octets room.now) (part_of part.now) object.old object.new) }
 {
     let Body::Set(body) = &part.body else {
         return Ok(());
@@ -104,9 +137,9 @@ fn write_part(object: &mut ObjectWriter, part: &Part, room: &Address) -> Result<
     Ok(())
 }
 
-/// The lines of a canonical body, each folded as it is written.
+/// The lines of a canonical body, each folded as it is written. One that isn't UTF-8 has none.
 fn write_body(object: &mut ObjectWriter, body: &[u8]) -> Result<(), AllocError>
-    ensures { OnOk result (IsUtf8 body.now → object.new ≡ object.old ++ written (lines body.now)) }
+    ensures { OnOk result (WritesBody body.now object.old object.new) }
 {
     let Ok(text) = str::from_utf8(body) else {
         return Ok(());

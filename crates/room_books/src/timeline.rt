@@ -1,25 +1,28 @@
-//! When a room is taken: what is confirmed in it, in order of time.
+//! When a room is taken: what is confirmed in it, in order of time. It knows the places of meetings, and nothing else of them.
 
-ghost use Rattle.std.specs.Prelude.{◌≡◌, ◌<◌, ◌≤◌, ◌+◌, ◌↔◌, IsTrue, [], IfSome, OnOk, Some, None};
-ghost use Rattle.std.specs.List.{find};
-ghost use Rattle.room_books.specs.Timelines.{AreBusy, HoldsInstants, IsPlaceAfter, IsFirstAfter, IsFreeBut, IsChanged, IsTimelineOf, is_beside, size_of, busy_at, busy_list, holds_instants};
+ghost use Rattle.std.specs.Prelude.{◌≡◌, ◌<◌, ◌≤◌, ◌+◌, ◌↔◌, true, IsTrue, [], OnOk, length, Contains};
+ghost use Rattle.std.specs.List.{find, take_while};
+ghost use Rattle.room_books.specs.declared.meeting.Single.{Single};
+ghost use Rattle.room_books.specs.Timelines.{AreBusy, HoldsInstants, IsPlaceAfter, AreTaken, IsSharedIn, IsFreeBut, IsFreeAmong, AreAt, IsChanged, IsTaken, IsPut, IsTimelineOf, is_beside, starts_before, busy_in, has_busy};
+ghost use Rattle.room_books.specs.Instants.{AreSeparate};
 ghost use Rattle.std.specs.Vec.{vec_len, vec_capacity};
 
+use crate::meeting::Single;
 use cal_events::{HORIZON, Span};
 use std::alloc::{AllocError, Global};
 
 /// An instance that holds the room.
 #[derive(Clone, Copy)]
-pub struct Busy {
-    pub span: Span,
+pub(crate) struct Busy {
+    pub single: Single,
     /// The place of its meeting in the order of first arrival.
     pub place: usize,
 }
 
-/// What is confirmed in a room, in order of time. A look-up takes as many steps as the number of instances has binary digits, a
-/// change moves those that come after it.
+/// What is confirmed in a room, in order of time. A look-up takes as many steps as the number of instances has binary digits, and
+/// one for each own instance in the span; what is put in or taken out moves those that come after it.
 #[derive(Drop)]
-pub struct Timeline {
+pub(crate) struct Timeline {
     /// Those that hold an instant before year 10000: each ends before the next one starts.
     busy: Vec<Busy>,
     /// How many are confirmed, with those that hold none.
@@ -30,8 +33,9 @@ pub struct Timeline {
 
 impl Timeline {
     /// Nothing is confirmed.
-    pub fn new(alloc: Global) -> Timeline
-        ensures { IsTimelineOf [] result.busy.items result.confirmed }
+    pub(crate) fn new(alloc: Global) -> Timeline
+        ensures empty { IsTimelineOf (λ _. []) result.busy.items }
+        ensures confirmed { result.confirmed ≡ 0 }
     {
         Timeline {
             busy: Vec::new(alloc),
@@ -40,76 +44,127 @@ impl Timeline {
     }
 
     /// How many instances are confirmed.
-    pub fn confirmed(&self) -> usize
+    pub(crate) fn confirmed(&self) -> usize
         ensures { result ≡ self.now.confirmed }
     {
         self.confirmed
     }
 
-    /// The first instance that ends after an instant, the one of the meeting in this place aside.
-    pub fn first_after(&self, instant: i64, own: Option<usize>) -> Option<Busy>
-        ensures { IsFirstAfter own self.now.busy.items instant result }
+    /// One of these that shares an instant with an instance of another place than the own one, and that instance, None where there is
+    /// none.
+    pub(crate) fn first_taken(
+        &self,
+        wanted: &[Single],
+        own: Option<usize>,
+    ) -> Option<(Single, Busy)>
+        ensures { AreTaken own self.now.busy.items wanted.now result }
     {
-        let place = self.place_after(instant);
-        first_beside(&self.busy[place..], own)
+        for single in wanted {
+            if let Some(busy) = self.taken_in(single.span, own) {
+                return Some((*single, busy));
+            }
+        }
+        None
     }
 
-    /// Takes memory for one more.
-    pub fn reserve(&mut self) -> Result<(), AllocError>
+    /// An instance that shares an instant with a span, those of the meeting in the own place aside. It looks at those alone that
+    /// end after the span's start and start before its end.
+    fn taken_in(&self, span: Span, own: Option<usize>) -> Option<Busy>
+        ensures { IsSharedIn own self.now.busy.items span result }
+    {
+        if !holds_instants(span) {
+            return None;
+        }
+        let place = self.place_after(span.start);
+        first_beside(&self.busy[place..], span.end, own)
+    }
+
+    /// Takes memory for so many more.
+    pub(crate) fn reserve(&mut self, more: usize) -> Result<(), AllocError>
         ensures busy { self.new.busy.items ≡ self.old.busy.items }
         ensures confirmed { self.new.confirmed ≡ self.old.confirmed }
-        ensures room { OnOk result (vec_len self.new.busy < vec_capacity self.new.busy) }
+        ensures room { OnOk result (vec_len self.new.busy + more ≤ vec_capacity self.new.busy) }
     {
-        self.busy.reserve(1)
+        self.busy.reserve(more)
     }
 
-    /// Puts what the meeting in a place confirms where it confirmed something else or nothing before.
-    pub fn change(&mut self, place: usize, before: Option<Span>, after: Option<Span>)
-        requires held { busy_at place self.old.busy.items ≡ busy_list place before }
-        requires counted { size_of before ≤ self.old.confirmed }
-        requires free { IfSome after (IsFreeBut place self.old.busy.items) }
-        requires few { IfSome after (λ _. self.old.confirmed < 10_000 + size_of before) }
-        requires room { vec_len self.old.busy < vec_capacity self.old.busy }
-        ensures changed { IsChanged place after self.old.busy.items self.new.busy.items }
-        ensures confirmed { self.new.confirmed + size_of before ≡ self.old.confirmed + size_of after }
+    /// Puts what the meeting in a place confirms after a message where it confirmed something else before.
+    pub(crate) fn change(&mut self, place: usize, before: &[Single], after: &[Single])
+        requires held { AreAt place before.now self.old.busy.items }
+        requires apart { AreSeparate before.now }
+        requires counted { length before.now ≤ self.old.confirmed }
+        requires free { (s : Single) → Contains after.now s → IsFreeBut place self.old.busy.items s.span }
+        requires separate { AreSeparate after.now }
+        requires few { self.old.confirmed + length after.now ≤ 10_000 + length before.now }
+        requires room { vec_len self.old.busy + length after.now ≤ vec_capacity self.old.busy }
+        ensures changed { IsChanged place after.now self.old.busy.items self.new.busy.items }
+        ensures confirmed { self.new.confirmed + length before.now ≡ self.old.confirmed + length after.now }
     {
-        if let Some(span) = before {
-            self.take_out(place, span);
-        }
-        if let Some(span) = after {
-            self.put_in(place, span);
+        self.take_all(place, before);
+        self.put_all(place, after);
+    }
+
+    /// Takes out all that a meeting had confirmed.
+    fn take_all(&mut self, place: usize, singles: &[Single])
+        requires held { AreAt place singles.now self.old.busy.items }
+        requires apart { AreSeparate singles.now }
+        requires counted { length singles.now ≤ self.old.confirmed }
+        ensures changed { IsChanged place [] self.old.busy.items self.new.busy.items }
+        ensures confirmed { self.new.confirmed + length singles.now ≡ self.old.confirmed }
+        ensures len { vec_len self.new.busy ≤ vec_len self.old.busy }
+        ensures capacity { vec_capacity self.new.busy ≡ vec_capacity self.old.busy }
+    {
+        for single in singles {
+            self.take_out(place, *single);
         }
     }
 
-    /// Takes out what a meeting had confirmed.
-    fn take_out(&mut self, place: usize, span: Span)
-        requires held { busy_at place self.old.busy.items ≡ busy_list place (Some span) }
+    /// Puts in all that a meeting confirms.
+    fn put_all(&mut self, place: usize, singles: &[Single])
+        requires held { AreAt place [] self.old.busy.items }
+        requires free { (s : Single) → Contains singles.now s → IsFreeAmong self.old.busy.items s.span }
+        requires separate { AreSeparate singles.now }
+        requires few { self.old.confirmed + length singles.now ≤ 10_000 }
+        requires room { vec_len self.old.busy + length singles.now ≤ vec_capacity self.old.busy }
+        ensures changed { IsChanged place singles.now self.old.busy.items self.new.busy.items }
+        ensures confirmed { self.new.confirmed ≡ self.old.confirmed + length singles.now }
+    {
+        for single in singles {
+            self.put_in(place, *single);
+        }
+    }
+
+    /// Takes out an instance that a meeting had confirmed.
+    fn take_out(&mut self, place: usize, single: Single)
+        requires held { HoldsInstants single.span → has_busy (busy_in place single) self.old.busy.items ≡ true }
         requires counted { 1 ≤ self.old.confirmed }
-        ensures changed { IsChanged place None self.old.busy.items self.new.busy.items }
+        ensures taken { IsTaken (busy_in place single) self.old.busy.items self.new.busy.items }
         ensures confirmed { self.new.confirmed + 1 ≡ self.old.confirmed }
-        ensures room { vec_len self.old.busy < vec_capacity self.old.busy → vec_len self.new.busy < vec_capacity self.new.busy }
+        ensures len { vec_len self.new.busy ≤ vec_len self.old.busy }
+        ensures capacity { vec_capacity self.new.busy ≡ vec_capacity self.old.busy }
     {
         self.confirmed -= 1;
-        if holds_instants(span) {
-            let at = self.place_after(span.start);
+        if holds_instants(single.span) {
+            let at = self.place_after(single.span.start);
             self.busy.remove(at);
         }
     }
 
-    /// Puts in what a meeting confirms.
-    fn put_in(&mut self, place: usize, span: Span)
-        requires held { busy_at place self.old.busy.items ≡ [] }
-        requires free { IsFreeBut place self.old.busy.items span }
+    /// Puts in an instance that a meeting confirms.
+    fn put_in(&mut self, place: usize, single: Single)
+        requires free { IsFreeAmong self.old.busy.items single.span }
         requires few { self.old.confirmed < 10_000 }
         requires room { vec_len self.old.busy < vec_capacity self.old.busy }
-        ensures changed { IsChanged place (Some span) self.old.busy.items self.new.busy.items }
+        ensures put { IsPut (busy_in place single) self.old.busy.items self.new.busy.items }
         ensures confirmed { self.new.confirmed ≡ self.old.confirmed + 1 }
+        ensures len { vec_len self.new.busy ≤ vec_len self.old.busy + 1 }
+        ensures capacity { vec_capacity self.old.busy ≤ vec_capacity self.new.busy }
     {
         self.confirmed += 1;
-        if holds_instants(span) {
-            let at = self.place_after(span.start);
+        if holds_instants(single.span) {
+            let at = self.place_after(single.span.start);
             // there is room for it
-            let _ = self.busy.insert(at, Busy { span, place });
+            let _ = self.busy.insert(at, Busy { single, place });
         }
     }
 
@@ -117,15 +172,19 @@ impl Timeline {
     fn place_after(&self, instant: i64) -> usize
         ensures { IsPlaceAfter self.now.busy.items instant result }
     {
-        self.busy.partition_point(|busy| busy.span.end <= instant)
+        self.busy
+            .partition_point(|busy| busy.single.span.end <= instant)
     }
 }
 
-/// The first of these that isn't of the meeting in a place.
-fn first_beside(busy: &[Busy], own: Option<usize>) -> Option<Busy>
-    ensures { result ≡ find (is_beside own) busy.now }
+/// The first of these that isn't of the meeting in the own place, if it starts before the end.
+fn first_beside(busy: &[Busy], end: i64, own: Option<usize>) -> Option<Busy>
+    ensures { result ≡ find (is_beside own) (take_while (starts_before end) busy.now) }
 {
-    busy.iter().find(|busy| own != Some(busy.place)).copied()
+    busy.iter()
+        .take_while(|busy| busy.single.span.start < end)
+        .find(|busy| own != Some(busy.place))
+        .copied()
 }
 
 /// Whether a span holds an instant before year 10000.

@@ -1,28 +1,49 @@
--- A meeting that holds the room has one answer that is kept, to the part in its view.
-use Rattle.std.proofs.Common.{List, sym, ap, ◌∙◌, subst}
+-- One part more, and at the end all of them.
+use Rattle.std.proofs.Common.{◌≡◌, ◌++◌, ◌∷◌, [], true, false, List, sym, ap, ◌∙◌, subst, append-nil}
+use Rattle.std.specs.List.{filter}
+use Rattle.std.specs.Ordering.{is_eq}
+use Rattle.std.proofs.lemmas.List.Sorted.{list_any-IsPermutation}
 use Rattle.ical_values.specs.Octets.{address_octets}
-use Rattle.itip_order.specs.Parts.{part_of}
-use Rattle.itip_order.proofs.Lists.{none_in_nil}
+use Rattle.itip_order.specs.Parts.{part_of, slot_of}
+use Rattle.itip_order.specs.Registers.{shown}
 use Rattle.profile.specs.rooms.Revisions as revisions
-use Rattle.room_books.specs.Standing.{body_lines, of_meeting}
-use Rattle.std.specs.List.{Contains}
-use Rattle.room_books.proofs.Keeping.{none_kept, one_kept, is_shown, shown_is}
-use Rattle.room_books.proofs.Writing.{none_written, one_event}
+use Rattle.profile.specs.rooms.Revisions.{Part, slot_cmp}
+use Rattle.room_books.specs.Keeping.{WritesParts, accepted_slots, has_slot}
+use Rattle.room_books.proofs.Loops.{walked}
+use Rattle.room_books.proofs.Writing.{part_written, part_passed}
 use Rattle.room_books.proofs.texts.write_meeting.Goals as goal
 
-pub returns-in_default : goal.returns-in_default
-returns-in_default c = λ entries book part st meets of_key.
-    none_written (address_octets c.args.room.now) _ c.args.object.now (none_kept entries book c.args.key.now c.args.meeting.now part st meets of_key (sym c.confirmed.ensures ∙ c.in_default.is))
+pub loop-part-preserved-in-Continue-branch-2 : goal.loop-part-preserved-in-Continue-branch-2
+loop-part-preserved-in-Continue-branch-2 c =
+    let i = c.loop-part.invariant in
+    let part = part_of c.in-Some.part.now in
+    let slots = c.sort_slots.new.slots.items in
+    let among : has_slot slots part.slot ≡ true = ap (λ l. has_slot l part.slot) (sym c.deref-in-loop-part.ensures.value) ∙ sym c.is_among.ensures ∙ c.if-is_among.true in (
+      i.0 ++ part ∷ [],
+      walked i.0 c.loop-part.part-iterator c.next.new.self (shown c.args.meeting.now.held) part c.in-Some.ensures.steps i.1,
+      part_written (λ p. has_slot slots p.slot) (address_octets c.args.room.now) i.0 part c.args.object.now c.loop-part.object c.write_part.new.object among i.2 c.in_ok-write_part.ensures,
+    )
 
-pub returns-in_default-next : goal.returns-in_default-next
-returns-in_default-next c = λ entries book part st meets of_key.
-    let one = one_kept entries book c.args.key.now c.args.meeting.now part st meets of_key c.in-Some._span (sym c.confirmed.ensures ∙ c.in-Some.is) in
-    let shown = is_shown entries book c.args.key.now c.args.meeting.now part st meets of_key c.view.result (c.view.ensures.exact (of_meeting c.args.key.now book.taken) meets.held) one.0 one.2 in
-    absurd (none_in_nil one.0.claim.part (subst (λ (l : List revisions.Part). Contains l one.0.claim.part) c.in_default-next.ensures.steps.0 shown))
+pub loop-part-preserved : goal.loop-part-preserved
+loop-part-preserved c =
+    let i = c.loop-part.invariant in
+    let part = part_of c.in-Some.part.now in
+    let slots = c.sort_slots.new.slots.items in
+    let among : has_slot slots part.slot ≡ false = ap (λ l. has_slot l part.slot) (sym c.deref-in-loop-part.ensures.value) ∙ sym c.is_among.ensures ∙ c.if-is_among.false in (
+      i.0 ++ part ∷ [],
+      walked i.0 c.loop-part.part-iterator c.next.new.self (shown c.args.meeting.now.held) part c.in-Some.ensures.steps i.1,
+      part_passed (λ p. has_slot slots p.slot) (address_octets c.args.room.now) i.0 part c.args.object.now c.loop-part.object among i.2,
+    )
 
 pub returns : goal.returns
-returns c = λ entries book part st meets of_key.
-    let one = one_kept entries book c.args.key.now c.args.meeting.now part st meets of_key c.in-Some._span (sym c.confirmed.ensures ∙ c.in-Some.is) in
-    let shown = shown_is entries book c.args.key.now c.args.meeting.now part st meets of_key c.view.result (c.view.ensures.exact (of_meeting c.args.key.now book.taken) meets.held) one.0 one.2 (part_of c.in-Some-next.part.now) c.next.new.self c.in-Some-next.ensures.steps in
-    let wrote = c.in_ok-write_part.ensures (st.events (part_of c.in-Some-next.part.now) shown.1) in
-    one_event (address_octets c.args.room.now) _ one.0 wrote.lines c.args.object.now c.write_part.new.object one.1 (wrote.each one.0.claim shown.0 ((st.single one.0 one.2.given).content ∙ ap (λ (p : revisions.Part). body_lines p.body) shown.0)) wrote.is
+returns c =
+    let i = c.loop-part.invariant in
+    let held = c.args.meeting.now.held in
+    let slots = c.sort_slots.new.slots.items in
+    let accepted = accepted_slots c.args.meeting.now.answers.items in
+    let given = c.in_ok-accepted.ensures ∙ ap accepted_slots c.deref.ensures.value in
+    let same : (slot : revisions.Slot) → has_slot slots slot ≡ has_slot accepted slot = λ slot.
+    sym (list_any-IsPermutation (λ own. is_eq (slot_cmp (slot_of own) slot)) _ slots c.sort_slots.ensures.same) ∙ ap (λ l. has_slot l slot) given in
+    let all : i.0 ≡ shown held = sym (append-nil i.0) ∙ ap (λ l. i.0 ++ l) (sym c.in-None.ensures.steps.0) ∙ i.1 in
+    subst (λ (l : List Part). WritesParts (address_octets c.args.room.now) l c.args.object.now c.loop-part.object)
+    (ap (filter (λ p. has_slot slots p.slot)) all ∙ (λ j. filter (λ p. same p.slot j) (shown held))) i.2

@@ -1,11 +1,10 @@
 -- The meetings so far are written.
-use Rattle.std.proofs.Common.{take}
+use Rattle.std.proofs.Common.{◌≡◌, ◌++◌, List}
+use Rattle.indexmap.specs.IndexMap.{values}
 use Rattle.ical_values.specs.Octets.{address_octets}
-use Rattle.profile.specs.rooms.Kept.{first_parts}
-use Rattle.profile.specs.rooms.Rooms.{Book}
-use Rattle.room_books.specs.Keeping.{WritesAnswers, kept_parts}
-use Rattle.room_books.specs.Standing.{Stands}
+use Rattle.room_books.specs.declared.meeting.Meeting.{Meeting}
+use Rattle.room_books.specs.Keeping.{WritesParts, all_kept}
 use Rattle.room_books.proofs.texts.write_meetings.Given as goal
 
-abbrev pub invariant-loop-place : goal.invariant-loop-place
-invariant-loop-place l = (book : Book) → Stands l.meetings.entries book → WritesAnswers (address_octets l.room) (kept_parts book (take l.place (first_parts book.taken))) l.fn.object l.object
+abbrev pub invariant-loop-meeting : goal.invariant-loop-meeting
+invariant-loop-meeting l = (done : List Meeting) × (done ++ l.meeting-iterator ≡ values l.meetings) × WritesParts (address_octets l.room) (all_kept done) l.fn.object l.object

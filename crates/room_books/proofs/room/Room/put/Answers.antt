@@ -1,64 +1,62 @@
 -- The timeline follows the meetings.
-use Rattle.std.proofs.Common.{Some, refl, sym, subst}
-use Rattle.indexmap.specs.IndexMap.{Updates}
-use Rattle.itip_order.specs.declared.held.Freshness.{Freshness}
-use Rattle.room_books.specs.declared.room.Room.{Room}
-use Rattle.room_books.specs.Views.{same_key, confirmed_span}
-use Rattle.room_books.specs.Timelines.{span_by, MayConfirm, ConfirmsAfter}
-use Rattle.room_books.proofs.Places.{last_held, last_counted, last_free, last_few, last_timed, last_same, not_fresh}
-use Rattle.room_books.proofs.room.Room.put.Goals.{in-Fresh, in_default}
+use Rattle.std.proofs.Common.{◌≡◌, ◌∙◌, ℕ, List, sym, ap, subst, arith, length}
+use Rattle.std.specs.List.{Contains}
+use Rattle.room_books.specs.declared.meeting.Single.{Single}
+use Rattle.room_books.specs.declared.timeline.Busy.{Busy}
+use Rattle.room_books.specs.Instants.{AreSeparate}
+use Rattle.std.specs.Map.{lookup}
+use Rattle.room_books.specs.Views.{same_key, confirmed_at, confirmed_singles, singles_by, all_confirmed, AreAllApart}
+use Rattle.room_books.specs.Timelines.{AreAt, IsFreeBut, IsChanged, IsTimelineOf}
+use Rattle.profile.specs.checker.Instances.{IsClear}
+use Rattle.room_books.proofs.Places.{place_of, are_at, free_but_own, timeline_put, put_count}
+use Rattle.room_books.proofs.Putting.{own_counted, few_after, put_clear}
+use Rattle.room_books.proofs.RoomSteps.{found_apart, put_apart}
 use Rattle.room_books.proofs.room.Room.put.Goals as goal
 
 pub change-requires-clause-held : goal.change-requires-clause-held
 change-requires-clause-held c =
-    last_held c.args.key c.args.taken.meeting c.args.self.now.meetings.entries c.requires.distinct c.args.self.now.timeline.busy.items c.args.self.now.timeline.confirmed c.args.self.now.timed
-    c.in_ok-place.place c.in_ok-place.ensures.index c.in_ok-place.old c.in_ok-place.ensures.old c.confirmed_by.result c.confirmed_by.ensures
-    c.reserve.new.self.busy.items c.reserve.ensures.busy c.reserve.new.self.confirmed c.reserve.ensures.confirmed c.confirmed-confirmed.result c.confirmed-confirmed.ensures
+    let k = c.args.key in let es = c.args.self.now.meetings.entries in
+    subst (λ (n : ℕ). AreAt n c.args.before.now c.reserve.new.self.busy.items) (sym c.in_ok-place.ensures.index)
+    (subst (λ (l : List Single). AreAt (place_of k es) l c.reserve.new.self.busy.items) (sym c.requires.before)
+    (subst (λ (items : List Busy). AreAt (place_of k es) (singles_by (lookup (same_key k) es)) items) (sym c.reserve.ensures.busy) (are_at k es c.args.self.now.timeline.busy.items c.args.self.now.timed)))
+
+pub change-requires-clause-apart : goal.change-requires-clause-apart
+change-requires-clause-apart c = subst AreSeparate (sym c.requires.before) (found_apart c.args.key c.args.self.now.meetings.entries c.args.self.now.apart)
 
 pub change-requires-clause-counted : goal.change-requires-clause-counted
 change-requires-clause-counted c =
-    last_counted c.args.key c.args.taken.meeting c.args.self.now.meetings.entries c.requires.distinct c.args.self.now.timeline.busy.items c.args.self.now.timeline.confirmed c.args.self.now.timed
-    c.in_ok-place.place c.in_ok-place.ensures.index c.in_ok-place.old c.in_ok-place.ensures.old c.confirmed_by.result c.confirmed_by.ensures
-    c.reserve.new.self.busy.items c.reserve.ensures.busy c.reserve.new.self.confirmed c.reserve.ensures.confirmed c.confirmed-confirmed.result c.confirmed-confirmed.ensures
+    let n = own_counted c.args.key c.args.self.now.meetings.entries c.keys_differ.ensures c.args.self.now.timeline.confirmed c.args.self.now.counted in
+    let b = ap length c.requires.before in let r = c.reserve.ensures.confirmed in
+    omega (arith, n, b, r)
 
 pub change-requires-clause-free : goal.change-requires-clause-free
-change-requires-clause-free c =
-    let may : MayConfirm c.args.key c.args.self.now.meetings.entries (confirmed_span c.args.taken.meeting.decided) =
-    subst (λ (f : Freshness). ConfirmsAfter f c.args.key c.args.self.now.meetings.entries (confirmed_span c.args.taken.meeting.decided)) c.in-Fresh.is c.requires.confirms in
-    last_free c.args.key c.args.taken.meeting c.args.self.now.meetings.entries c.requires.distinct c.args.self.now.timeline.busy.items c.args.self.now.timeline.confirmed c.args.self.now.timed
-    c.in_ok-place.place c.in_ok-place.ensures.index c.in_ok-place.old c.in_ok-place.ensures.old c.confirmed_by.result c.confirmed_by.ensures
-    c.reserve.new.self.busy.items c.reserve.ensures.busy c.reserve.new.self.confirmed c.reserve.ensures.confirmed c.confirmed-confirmed.result c.confirmed-confirmed.ensures
-    may
+change-requires-clause-free c = λ s in_after.
+    let k = c.args.key in let es = c.args.self.now.meetings.entries in
+    subst (λ (n : ℕ). IsFreeBut n c.reserve.new.self.busy.items s.span) (sym c.in_ok-place.ensures.index)
+    (subst (λ (items : List Busy). IsFreeBut (place_of k es) items s.span) (sym c.reserve.ensures.busy)
+    (free_but_own k es c.keys_differ.ensures c.args.self.now.timeline.busy.items c.args.self.now.timed (confirmed_singles c.args.meeting) c.requires.joins.clear s
+    (subst (λ (l : List Single). Contains l s) (c.deref.ensures.value ∙ c.in_ok-after.ensures) in_after)))
 
 pub change-requires-clause-few : goal.change-requires-clause-few
 change-requires-clause-few c =
-    let may : MayConfirm c.args.key c.args.self.now.meetings.entries (confirmed_span c.args.taken.meeting.decided) =
-    subst (λ (f : Freshness). ConfirmsAfter f c.args.key c.args.self.now.meetings.entries (confirmed_span c.args.taken.meeting.decided)) c.in-Fresh.is c.requires.confirms in
-    last_few c.args.key c.args.taken.meeting c.args.self.now.meetings.entries c.requires.distinct c.args.self.now.timeline.busy.items c.args.self.now.timeline.confirmed c.args.self.now.timed
-    c.in_ok-place.place c.in_ok-place.ensures.index c.in_ok-place.old c.in_ok-place.ensures.old c.confirmed_by.result c.confirmed_by.ensures
-    c.reserve.new.self.busy.items c.reserve.ensures.busy c.reserve.new.self.confirmed c.reserve.ensures.confirmed c.confirmed-confirmed.result c.confirmed-confirmed.ensures
-    may
+    let n = few_after c.args.key c.args.self.now.meetings.entries c.keys_differ.ensures c.args.self.now.timeline.confirmed c.args.self.now.counted (confirmed_singles c.args.meeting) c.requires.joins.few in
+    let b = ap length c.requires.before in let r = c.reserve.ensures.confirmed in let a = ap length (c.deref.ensures.value ∙ c.in_ok-after.ensures) in
+    omega (arith, n, b, r, a)
 
-pub invariant_of-self-in-Fresh : goal.invariant_of-self-in-Fresh
-invariant_of-self-in-Fresh c = record {
-  timed = last_timed c.args.key c.args.taken.meeting c.args.self.now.meetings.entries c.requires.distinct c.args.self.now.timeline.busy.items c.args.self.now.timeline.confirmed c.args.self.now.timed
-      c.in_ok-place.place c.in_ok-place.ensures.index c.in_ok-place.old c.in_ok-place.ensures.old c.confirmed_by.result c.confirmed_by.ensures
-      c.reserve.new.self.busy.items c.reserve.ensures.busy c.reserve.new.self.confirmed c.reserve.ensures.confirmed c.confirmed-confirmed.result c.confirmed-confirmed.ensures
-      c.insert_full.new.self.entries c.change.new.self.busy.items c.change.new.self.confirmed c.in_ok-place.ensures.entries c.change.ensures.changed c.change.ensures.confirmed;
-}
-
-pub invariant_of-self-in_default : goal.invariant_of-self-in_default
-invariant_of-self-in_default c =
-    let es = c.args.self.now.meetings.entries in
+pub invariant_of-self-2 : goal.invariant_of-self-2
+invariant_of-self-2 c =
+    let k = c.args.key in let es = c.args.self.now.meetings.entries in let m = c.args.meeting in
+    let is = c.deref.ensures.value ∙ c.in_ok-after.ensures in
+    let entries = c.in_ok-place.ensures.entries in
+    let changed = subst (λ (items : List Busy). IsChanged (place_of k es) (confirmed_singles m) items c.change.new.self.busy.items) c.reserve.ensures.busy
+    (subst (λ (l : List Single). IsChanged (place_of k es) l c.reserve.new.self.busy.items c.change.new.self.busy.items) is
+    (subst (λ (n : ℕ). IsChanged n c.deref.result.now c.reserve.new.self.busy.items c.change.new.self.busy.items) c.in_ok-place.ensures.index c.change.ensures.changed)) in
     record {
-      timed = last_same c.args.key c.args.taken.meeting es c.requires.distinct c.args.self.now.timeline.busy.items c.args.self.now.timeline.confirmed c.args.self.now.timed
-          c.in_ok-place.place c.in_ok-place.ensures.index c.in_ok-place.old c.in_ok-place.ensures.old (span_by c.in_ok-place.old) refl
-          c.reserve.new.self.busy.items c.reserve.ensures.busy c.reserve.new.self.confirmed c.reserve.ensures.confirmed c.confirmed-confirmed.result c.confirmed-confirmed.ensures
-          c.insert_full.new.self.entries c.in_ok-place.ensures.entries (not_fresh c.args.taken.freshness c.args.key es (confirmed_span c.args.taken.meeting.decided) c.in_default.not-Fresh c.requires.confirms);
+      timed = subst (λ l. IsTimelineOf (confirmed_at l) c.change.new.self.busy.items) (sym entries) (timeline_put k m es c.args.self.now.timeline.busy.items c.change.new.self.busy.items c.args.self.now.timed changed);
+      counted =
+          (let n = put_count k m es in let b = ap length c.requires.before in let r = c.reserve.ensures.confirmed in let a = ap length is in let f = c.change.ensures.confirmed in let was = c.args.self.now.counted in
+          let now = ap (λ l. length (all_confirmed l)) entries in
+          omega (arith, n, b, r, a, f, was, now));
+      clear = subst (λ l. IsClear (all_confirmed l)) (sym entries) (put_clear k m es c.keys_differ.ensures c.requires.joins.clear);
+      apart = subst AreAllApart (sym entries) (put_apart k m es c.args.self.now.apart c.requires.joins.separate);
     }
-
-pub returns-clause-updates : goal.returns-clause-updates
-returns-clause-updates c = elim c.match-taken-3.branch [
-  | in-Fresh w ↦ subst (λ (r : Room). Updates same_key c.args.self.now.meetings r.meetings c.args.key (Some c.args.taken.meeting)) (sym w.self-is) c.in_ok-place.ensures.updates
-  | in_default w ↦ subst (λ (r : Room). Updates same_key c.args.self.now.meetings r.meetings c.args.key (Some c.args.taken.meeting)) (sym w.self-is) c.in_ok-place.ensures.updates
-]

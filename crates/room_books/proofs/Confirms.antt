@@ -1,0 +1,36 @@
+-- What a meeting's answers confirm is what the answers of its book do.
+use Rattle.std.proofs.Common.{◌≡◌, List, [], ◌∷◌, ◌++◌, refl, sym, ap, ◌∙◌}
+use Rattle.std.specs.List.{AllZip, filter, flat_map}
+use Rattle.std.proofs.lemmas.Bool.{and_parts}
+use Rattle.std.proofs.lemmas.Grind.{flat_map-append}
+use Rattle.std.proofs.lemmas.List.{map-append}
+use Rattle.std.proofs.lemmas.List.Elements.{filter-append}
+use Rattle.profile.specs.rooms.Revisions.{Part, in_view}
+use Rattle.profile.specs.rooms.Rooms.{Answer, is_accept, is_confirmed, left_of, confirmed_in}
+use Rattle.room_books.specs.declared.meeting.MeetingKey.{MeetingKey}
+use Rattle.room_books.specs.declared.meeting.Given.{Given}
+use Rattle.room_books.specs.Views.{booked_of, booked_list, all_singles}
+use Rattle.room_books.specs.Standing.{IsGiven, standing}
+use Rattle.room_books.proofs.Own.{filter_within}
+
+-- answers one behind another
+pub confirmed_append : (t : List Part) (xs ys : List Answer) → confirmed_in t (xs ++ ys) ≡ confirmed_in t xs ++ confirmed_in t ys
+confirmed_append t xs ys = ap (flat_map (left_of t)) (filter-append (is_confirmed t) xs ys) ∙ flat_map-append (left_of t) (filter (is_confirmed t) xs) (filter (is_confirmed t) ys)
+
+-- those to parts in the view confirm all that there is
+pub standing_confirms : (t : List Part) (xs : List Answer) → confirmed_in t (standing t xs) ≡ confirmed_in t xs
+standing_confirms t xs =
+    ap (flat_map (left_of t)) (filter_within (is_confirmed t) (λ a. in_view t a.claim.part) xs (λ a c h. (and_parts (is_accept a.outcome) (in_view t a.claim.part) h).1))
+
+-- answer by answer
+pub given_confirms : (key : MeetingKey) (t : List Part) (xs : List Answer) (given : List Given) → AllZip (IsGiven key t) xs given → confirmed_in t xs ≡ booked_list key (all_singles given)
+given_confirms key t [] [] z = refl
+given_confirms key t [] (g ∷ gs) z = absurd z
+given_confirms key t (a ∷ xs) [] z = absurd z
+given_confirms key t (a ∷ xs) (g ∷ gs) z =
+    let first = z.0.confirms in
+    let rest = given_confirms key t xs gs z.1 in
+    confirmed_append t (a ∷ []) xs ∙ (λ i. sym first i ++ rest i) ∙ sym (map-append (booked_of key) g.singles.items (all_singles gs))
+
+pub zip_confirms : (key : MeetingKey) (t : List Part) (answers : List Answer) (given : List Given) → AllZip (IsGiven key t) (standing t answers) given → confirmed_in t answers ≡ booked_list key (all_singles given)
+zip_confirms key t answers given z = sym (standing_confirms t answers) ∙ given_confirms key t (standing t answers) given z

@@ -1,0 +1,36 @@
+-- What a loop has done, one element more.
+use Rattle.std.proofs.Common.{◌≡◌, ◌∙◌, ℕ, ◌+◌, ◌<◌, Bool, true, false, not, cond, List, [], ◌∷◌, ◌++◌, take, length, get_or, map, refl, sym, ap, subst, arith, inl, inr, append-nil, append_assoc}
+use Rattle.std.specs.List.{flat_map, filter, Contains, AllZip}
+use Rattle.std.proofs.lemmas.List.{take_more, map-append}
+use Rattle.std.proofs.lemmas.Grind.{flat_map-append}
+use Rattle.std.proofs.lemmas.List.Elements.{filter-append, Contains-append_left, Contains-push_cases, Contains-push}
+
+pub zip_both : {X Y : Type 0} (R : X → Y → Type 0) (xs : List X) (ys : List Y) (us : List X) (vs : List Y) → AllZip R xs ys → AllZip R us vs → AllZip R (xs ++ us) (ys ++ vs)
+zip_both R [] [] us vs h k = k
+zip_both R [] (y ∷ ys) us vs h k = absurd h
+zip_both R (x ∷ xs) [] us vs h k = absurd h
+zip_both R (x ∷ xs) (y ∷ ys) us vs h k = (h.0, zip_both R xs ys us vs h.1 k)
+
+pub zip_push : {X Y : Type 0} (R : X → Y → Type 0) (xs : List X) (ys : List Y) (x : X) (y : Y) → AllZip R xs ys → R x y → AllZip R (xs ++ x ∷ []) (ys ++ y ∷ [])
+zip_push R xs ys x y h r = zip_both R xs ys (x ∷ []) (y ∷ []) h (r, tt)
+
+-- the elements up to a place, and the one there
+pub one_more : {X : Type 0} (xs : List X) (i : ℕ) (x : X) → i < length xs → x ≡ get_or xs i x → take (i + 1) xs ≡ take i xs ++ x ∷ []
+one_more xs i x h e = take_more xs i x h ∙ ap (λ z. take i xs ++ z ∷ []) (sym e)
+
+pub flat_push : {X Y : Type 0} (f : X → List Y) (xs : List X) (x : X) → flat_map f (xs ++ x ∷ []) ≡ flat_map f xs ++ f x
+flat_push f xs x = flat_map-append f xs (x ∷ []) ∙ ap (λ l. flat_map f xs ++ l) (append-nil (f x))
+
+pub filter_push : {X : Type 0} (f : X → Bool) (xs : List X) (x : X) → filter f (xs ++ x ∷ []) ≡ filter f xs ++ cond (f x) (x ∷ []) []
+filter_push f xs x = filter-append f xs (x ∷ [])
+
+-- one that passes the test is added to those that did, another isn't
+pub filter_yes : {X : Type 0} (f : X → Bool) (xs ys : List X) (x : X) → ys ≡ filter f xs → f x ≡ true → ys ++ x ∷ [] ≡ filter f (xs ++ x ∷ [])
+filter_yes f xs ys x h e = sym (filter_push f xs x ∙ ap (λ b. filter f xs ++ cond b (x ∷ []) []) e ∙ ap (λ l. l ++ x ∷ []) (sym h))
+
+pub filter_no : {X : Type 0} (f : X → Bool) (xs ys : List X) (x : X) → ys ≡ filter f xs → f x ≡ false → ys ≡ filter f (xs ++ x ∷ [])
+filter_no f xs ys x h e = h ∙ sym (filter_push f xs x ∙ ap (λ b. filter f xs ++ cond b (x ∷ []) []) e ∙ append-nil (filter f xs))
+
+-- one element more of what is gone through
+pub walked : {X : Type 0} (done left rest all : List X) (x : X) → left ≡ x ∷ rest → done ++ left ≡ all → (done ++ x ∷ []) ++ rest ≡ all
+walked done left rest all x e h = append_assoc done (x ∷ []) rest ∙ ap (λ l. done ++ l) (sym e) ∙ h

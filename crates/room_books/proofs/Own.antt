@@ -1,0 +1,198 @@
+-- A meeting by its own book: the answers that stay when more of its parts are taken, and what they confirm.
+use Rattle.std.proofs.Common.{◌≡◌, ◌∙◌, ℕ, ◌+◌, ◌<◌, take, get_or, Bool, true, false, not, ◌&&◌, cond, List, [], ◌∷◌, ◌++◌, map, length, inl, inr, Option, None, Some, refl, sym, ap, subst, append-nil}
+use Rattle.std.specs.List.{AllZip, filter, flat_map, Contains}
+use Rattle.std.proofs.lemmas.Bool.{true≢false, and_parts, and_from, cases_Bool, not-true, not_from_false, false_from_ne_true, both_ways}
+use Rattle.std.proofs.lemmas.List.Elements.{Contains-append_left, Contains-append_right, Contains-push, Contains-push_cases, Contains-append_cases, filter-append}
+use Rattle.std.proofs.lemmas.List.{take_more}
+use Rattle.itip_order.specs.Parts.{slot_of}
+use Rattle.itip_order.specs.Registers.{StandsFor, at_slot}
+use Rattle.itip_order.proofs.Lasting.{view_one, view_taken}
+use Rattle.itip_order.proofs.Lists.{in_head, in_tail, in_cons, none_in_nil, filter_at, filter_from}
+use Rattle.itip_order.proofs.Registers.{place_sym, place_trans}
+use Rattle.profile.specs.checker.Instances.{Booked}
+use Rattle.profile.specs.rooms.Revisions.{Part, in_view, same_place}
+use Rattle.profile.specs.rooms.Rooms.{Answer, Book, is_accept, is_confirmed, is_hidden, left_of, confirmed_in}
+use Rattle.room_books.specs.declared.meeting.MeetingKey.{MeetingKey}
+use Rattle.room_books.specs.declared.meeting.Meeting.{Meeting}
+use Rattle.room_books.specs.declared.meeting.Single.{Single}
+use Rattle.room_books.specs.declared.meeting.Given.{Given}
+use Rattle.room_books.specs.Takings.{IsStill, IsViewed, IsLeftOf, left_in, booked_in}
+use Rattle.room_books.specs.Views.{booked_of, booked_list, outcome_of, all_singles}
+use Rattle.room_books.specs.Standing.{is_of, IsOwn, IsGiven, standing, KeepsAll, Meets, MeetsAt}
+use Rattle.room_books.proofs.Loops.{zip_push, filter_push, filter_yes, filter_no, flat_push}
+use Rattle.room_books.proofs.Meetings.{is_of_parts, same_place_of}
+use Rattle.room_books.proofs.Views.{view_back, hidden_stays}
+
+-- ---- filters
+
+pub filter_within : {X : Type 0} (f g : X → Bool) (xs : List X) → ((x : X) → Contains xs x → f x ≡ true → g x ≡ true) → filter f (filter g xs) ≡ filter f xs
+filter_within f g [] h = refl
+filter_within f g (x ∷ xs) h = step (f x) (g x) refl (h x (in_head x xs)) (filter_within f g xs (λ y c. h y (in_tail x xs y c)))
+  where
+    step : (b c : Bool) → f x ≡ b → (b ≡ true → c ≡ true) → filter f (filter g xs) ≡ filter f xs → filter f (cond c (x ∷ filter g xs) (filter g xs)) ≡ cond b (x ∷ filter f xs) (filter f xs)
+    step true true e k r = ap (λ b. cond b (x ∷ filter f (filter g xs)) (filter f (filter g xs))) e ∙ ap (λ l. x ∷ l) r
+    step true false e k r = absurd (true≢false (sym (k refl)))
+    step false true e k r = ap (λ b. cond b (x ∷ filter f (filter g xs)) (filter f (filter g xs))) e ∙ r
+    step false false e k r = r
+
+pub filter_all : {X : Type 0} (f : X → Bool) (xs : List X) → ((x : X) → Contains xs x → f x ≡ true) → filter f xs ≡ xs
+filter_all f [] h = refl
+filter_all f (x ∷ xs) h = ap (λ b. cond b (x ∷ filter f xs) (filter f xs)) (h x (in_head x xs)) ∙ ap (λ l. x ∷ l) (filter_all f xs (λ y c. h y (in_tail x xs y c)))
+
+-- ---- what one answer confirms
+
+-- the part's instances are those of its meeting
+pub booked_is : (k : MeetingKey) (p : Part) (s : Single) → is_of k p ≡ true → booked_in p s ≡ booked_of k s
+booked_is k p s e =
+    let o = is_of_parts k p e in
+    λ i. record { key = record { organiser = sym o.0 i; uid = sym o.1 i; slot = s.slot }; start = s.span.start; end = s.span.end }
+
+pub booked_all : (k : MeetingKey) (p : Part) (xs : List Single) → is_of k p ≡ true → map (booked_in p) xs ≡ booked_list k xs
+booked_all k p [] e = refl
+booked_all k p (s ∷ xs) e = λ i. booked_is k p s e i ∷ booked_all k p xs e i
+
+pub left_booked : (k : MeetingKey) (t : List Part) (p : Part) (xs : List Single) → is_of k p ≡ true → booked_list k (left_in t p xs) ≡ filter (λ b. not (is_hidden t p b)) (booked_list k xs)
+left_booked k t p [] e = refl
+left_booked k t p (s ∷ xs) e =
+    at_test (not (is_hidden t p (booked_in p s))) (left_booked k t p xs e) ∙ ap (λ b. cond (not (is_hidden t p b)) (booked_of k s ∷ filter (λ b. not (is_hidden t p b)) (booked_list k xs)) (filter (λ b. not (is_hidden t p b)) (booked_list k xs))) (booked_is k p s e)
+  where
+    at_test : (b : Bool) → booked_list k (left_in t p xs) ≡ filter (λ b. not (is_hidden t p b)) (booked_list k xs)
+        → booked_list k (cond b (s ∷ left_in t p xs) (left_in t p xs)) ≡ cond b (booked_of k s ∷ filter (λ b. not (is_hidden t p b)) (booked_list k xs)) (filter (λ b. not (is_hidden t p b)) (booked_list k xs))
+    at_test true r = ap (λ l. booked_of k s ∷ l) r
+    at_test false r = r
+
+-- one answer whose part is in the view
+pub one_confirmed : (t : List Part) (a : Answer) → in_view t a.claim.part ≡ true → confirmed_in t (a ∷ []) ≡ cond (is_accept a.outcome) (left_of t a) []
+one_confirmed t a seen = at_test (is_accept a.outcome) (in_view t a.claim.part) seen
+  where
+    at_test : (b c : Bool) → c ≡ true → flat_map (left_of t) (cond (b && c) (a ∷ []) []) ≡ cond b (left_of t a) []
+    at_test true true e = append-nil (left_of t a)
+    at_test true false e = absurd (true≢false (sym e))
+    at_test false true e = refl
+    at_test false false e = refl
+
+filter_cond : (f : Booked → Bool) (b : Bool) (xs : List Booked) → filter f (cond b xs []) ≡ cond b (filter f xs) []
+filter_cond f true xs = refl
+filter_cond f false xs = refl
+
+-- ---- an answer, when more parts are taken
+
+module _ (key : MeetingKey) (own : Book) (more : List Part) (is_own : IsOwn key own) (before after : List Part) (part : Part) (of_key : is_of key part ≡ true)
+    (stood : StandsFor before own.taken) (stands : StandsFor after (own.taken ++ more))
+    (a : Answer) (known : Contains own.answers a) (seen : in_view own.taken a.claim.part ≡ true) (given : Given) (g : IsGiven key own.taken a given) where
+  abbrev place : Part
+  place = at_slot part (slot_of given.slot)
+
+  a_taken : Contains own.taken a.claim.part
+  a_taken = is_own.known a known
+
+  a_place : same_place a.claim.part place ≡ true
+  a_place = same_place_of key a.claim.part place (is_own.taken a.claim.part a_taken) of_key (sym g.slot)
+
+  is_part : (q : Part) → IsViewed before place q → q ≡ a.claim.part
+  is_part q v = view_one own.taken q a.claim.part (v.seen own.taken stood) seen (place_trans q place a.claim.part v.same (place_sym a.claim.part place a_place))
+
+  pub gone : IsStill before after part given None → in_view (own.taken ++ more) a.claim.part ≡ false
+  gone s = elim s [
+    | inl none ↦ absurd (none own.taken stood a.claim.part seen a_place)
+    | inr out ↦ subst (λ (p : Part). in_view (own.taken ++ more) p ≡ false) (is_part out.0 out.1) (out.2 (own.taken ++ more) stands)
+  ]
+
+  module _ (left : Given) (s : IsStill before after part given (Some left)) where
+    same : s.0 ≡ a.claim.part
+    same = is_part s.0 s.1
+
+    pub stays : in_view (own.taken ++ more) a.claim.part ≡ true
+    stays = subst (λ (p : Part). in_view (own.taken ++ more) p ≡ true) same (s.2 (own.taken ++ more) stands)
+
+    hidden_still : (b : Booked) → not (is_hidden (own.taken ++ more) a.claim.part b) ≡ true → not (is_hidden own.taken a.claim.part b) ≡ true
+    hidden_still b h = not_from_false _ (false_from_ne_true _ (λ hidden. both_ways _ (not-true _ h) (hidden_stays own.taken more a.claim.part b a_taken stays hidden)))
+
+    confirms : booked_list key left.singles.items ≡ confirmed_in (own.taken ++ more) (a ∷ [])
+    confirms =
+        let now = own.taken ++ more in
+        let f : Booked → Bool = λ b. not (is_hidden now a.claim.part b) in
+        ap (booked_list key) (s.3.singles now stands)
+        ∙ ap (λ (p : Part). booked_list key (left_in now p given.singles.items)) same
+        ∙ left_booked key now a.claim.part given.singles.items (is_own.taken a.claim.part a_taken)
+        ∙ ap (filter f) (g.confirms ∙ one_confirmed own.taken a seen)
+        ∙ filter_cond f (is_accept a.outcome) (left_of own.taken a)
+        ∙ ap (λ l. cond (is_accept a.outcome) l []) (filter_within f (λ b. not (is_hidden own.taken a.claim.part b)) a.claim.singles (λ b c h. hidden_still b h))
+        ∙ sym (one_confirmed now a stays)
+
+    pub still_given : IsGiven key (own.taken ++ more) a left
+    still_given = record {
+      slot = ap slot_of s.3.slot ∙ g.slot;
+      moment = s.3.moment ∙ g.moment;
+      outcome = s.3.outcome ∙ g.outcome;
+      confirms = confirms;
+    }
+
+-- ---- all answers
+
+-- those of some answers that stay
+abbrev pub KeepsSome : Part → List Part → List Part → List Given → List Given → Type 0
+KeepsSome part before after done kept =
+    (own : Book) (key : MeetingKey) (more : List Part) → is_of key part ≡ true → IsOwn key own → StandsFor before own.taken → StandsFor after (own.taken ++ more)
+    → (xs : List Answer) → ((a : Answer) → Contains xs a → Contains own.answers a × (in_view own.taken a.claim.part ≡ true)) → AllZip (IsGiven key own.taken) xs done
+    → AllZip (IsGiven key (own.taken ++ more)) (standing (own.taken ++ more) xs) kept
+
+pub keeps_none : (part : Part) (before after : List Part) → KeepsSome part before after [] []
+keeps_none part before after own key more e o b s [] h z = tt
+keeps_none part before after own key more e o b s (x ∷ xs) h z = absurd z
+
+zip_last : {X Y : Type 0} (R : X → Y → Type 0) (xs : List X) (ys : List Y) (y : Y) → AllZip R xs (ys ++ y ∷ []) → (us : List X) × (x : X) × (xs ≡ us ++ x ∷ []) × AllZip R us ys × R x y
+zip_last R [] [] y z = absurd z
+zip_last R [] (w ∷ ys) y z = absurd z
+zip_last R (x ∷ []) [] y z = ([], x, refl, tt, z.0)
+zip_last R (x ∷ u ∷ xs) [] y z = absurd z.1
+zip_last R (x ∷ xs) (w ∷ ys) y z = let r = zip_last R xs ys y z.1 in (x ∷ r.0, r.1, ap (λ l. x ∷ l) r.2, (z.0, r.3), r.4)
+
+pub keeps_more : (part : Part) (before after : List Part) (done kept kept' : List Given) (given : Given) (o : Option Given) → KeepsSome part before after done kept → IsStill before after part given o
+    → ((left : Given) → o ≡ Some left → kept' ≡ kept ++ left ∷ []) → (o ≡ None → kept' ≡ kept) → KeepsSome part before after (done ++ given ∷ []) kept'
+keeps_more part before after done kept kept' given None k s some none own key more e o b st xs h z =
+    let r = zip_last (IsGiven key own.taken) xs done given z in
+    let now = own.taken ++ more in
+    let a = r.1 in
+    let is = h a (subst (λ (l : List Answer). Contains l a) (sym r.2) (Contains-push r.0 a)) in
+    let old = k own key more e o b st r.0 (λ x c. h x (subst (λ (l : List Answer). Contains l x) (sym r.2) (Contains-append_left r.0 (a ∷ []) x c))) r.3 in
+    let out = gone key own more o before after part e b st a is.0 is.1 given r.4 s in
+    let same : standing now r.0 ≡ standing now xs = sym (ap (standing now) r.2 ∙ filter_push (λ x. in_view now x.claim.part) r.0 a ∙ ap (λ t. standing now r.0 ++ cond t (a ∷ []) []) out ∙ append-nil (standing now r.0)) in
+    subst (λ (l : List Given). AllZip (IsGiven key now) (standing now xs) l) (sym (none refl)) (subst (λ (l : List Answer). AllZip (IsGiven key now) l kept) same old)
+keeps_more part before after done kept kept' given (Some left) k s some none own key more e o b st xs h z =
+    let r = zip_last (IsGiven key own.taken) xs done given z in
+    let now = own.taken ++ more in
+    let a = r.1 in
+    let is = h a (subst (λ (l : List Answer). Contains l a) (sym r.2) (Contains-push r.0 a)) in
+    let old = k own key more e o b st r.0 (λ x c. h x (subst (λ (l : List Answer). Contains l x) (sym r.2) (Contains-append_left r.0 (a ∷ []) x c))) r.3 in
+    let seen = stays key own more o before after part e b st a is.0 is.1 given r.4 left s in
+    let new = still_given key own more o before after part e b st a is.0 is.1 given r.4 left s in
+    let same : standing now r.0 ++ a ∷ [] ≡ standing now xs = sym (ap (standing now) r.2 ∙ filter_push (λ x. in_view now x.claim.part) r.0 a ∙ ap (λ t. standing now r.0 ++ cond t (a ∷ []) []) seen) in
+    subst (λ (l : List Given). AllZip (IsGiven key now) (standing now xs) l) (sym (some left refl))
+    (subst (λ (l : List Answer). AllZip (IsGiven key now) l (kept ++ left ∷ [])) same (zip_push (IsGiven key now) (standing now r.0) kept a left old new))
+
+pub keeps_all : (part : Part) (meeting : Meeting) (after : List Part) (kept : List Given) → KeepsSome part meeting.held after meeting.answers.items kept → KeepsAll part (Some meeting) after kept
+keeps_all part meeting after kept k own key more e o m s =
+    k own key more e o m.held s (standing own.taken own.answers) (λ a c. filter_at (λ x. in_view own.taken x.claim.part) own.answers a c) m.answers
+
+-- of a meeting that was never heard of there are none
+pub keeps_new : (part : Part) (after : List Part) → KeepsAll part None after []
+keeps_new part after own key more e o m s = subst (λ (l : List Answer). AllZip (IsGiven key (own.taken ++ more)) l []) (sym (ap (standing (own.taken ++ more)) (none_stood own.answers (λ a c. o.known a c)))) tt
+  where
+    none_stood : (xs : List Answer) → ((a : Answer) → Contains xs a → Contains own.taken a.claim.part) → standing own.taken xs ≡ []
+    none_stood [] h = refl
+    none_stood (x ∷ xs) h = absurd (none_in_nil x.claim.part (subst (λ (l : List Part). Contains l x.claim.part) m (h x (in_head x xs))))
+
+-- ---- one element more of a loop
+
+pub left_push : (t : List Part) (p : Part) (singles left new : List Single) (i : ℕ) (d : Single) → i < length singles → new ≡ left ++ get_or singles i d ∷ [] → left ≡ left_in t p (take i singles)
+    → is_hidden t p (booked_in p (get_or singles i d)) ≡ false → new ≡ left_in t p (take (i + 1) singles)
+left_push t p singles left new i d h e same shown =
+    let f : Single → Bool = λ single. not (is_hidden t p (booked_in p single)) in
+    e ∙ filter_yes f (take i singles) left (get_or singles i d) same (ap not shown) ∙ ap (filter f) (sym (take_more singles i d h))
+
+pub left_pass : (t : List Part) (p : Part) (singles left : List Single) (i : ℕ) (d : Single) → i < length singles → left ≡ left_in t p (take i singles)
+    → is_hidden t p (booked_in p (get_or singles i d)) ≡ true → left ≡ left_in t p (take (i + 1) singles)
+left_pass t p singles left i d h same hidden =
+    let f : Single → Bool = λ single. not (is_hidden t p (booked_in p single)) in
+    filter_no f (take i singles) left (get_or singles i d) same (ap not hidden) ∙ ap (filter f) (sym (take_more singles i d h))

@@ -1,0 +1,15 @@
+use Rattle.std.proofs.Common.{refl, rules, subst, sym, ◌∙◌, ap, List}
+use Rattle.room_books.specs.declared.meeting.Single.{Single}
+use Rattle.room_books.specs.Instants.{IsPartOf}
+use Rattle.itip_order.specs.Parts.{part_of}
+use Rattle.room_books.specs.Takings.{left_in}
+use Rattle.room_books.proofs.meeting.Given.accepted.Goals as goal
+
+pub returns : goal.returns
+returns c = record {
+  slot = refl;
+  moment_is = refl;
+  outcome = refl;
+  singles = λ history s. c.in_ok-singles.ensures.left history s ∙ ap (left_in history (part_of c.args.claim.now.part)) c.deref.ensures.value;
+  part = subst (IsPartOf c.in_ok-singles.singles.items) c.deref.ensures.value c.in_ok-singles.ensures.part;
+}

@@ -1,0 +1,31 @@
+-- Instants that spans share.
+use Rattle.std.specs.Prelude.{◌≡◌, ◌≤◌, ℤ, ◌≤ℤ◌, ◌<ℤ◌, ◌⊎◌, List, length, Contains, AllPairs}
+use Rattle.profile.specs.checker.Instances.{IsWithin, horizon}
+use Rattle.cal_events.specs.declared.sweep.Span.{Span}
+use Rattle.room_books.specs.declared.meeting.Single.{Single}
+
+-- an instant of both, before the horizon
+pub record HaveInstant (a b : Span) (t : ℤ) : Type 0 where
+  pub in_first : IsWithin a.start a.end t
+  pub in_second : IsWithin b.start b.end t
+  pub before : t <ℤ horizon
+
+-- the later of the two starts
+pub record IsLater (a b : Span) (t : ℤ) : Type 0 where
+  pub first : a.start ≤ℤ t
+  pub second : b.start ≤ℤ t
+  pub one : (t ≡ a.start) ⊎ (t ≡ b.start)
+
+-- the later start is an instant of both
+abbrev pub Overlap : Span → Span → Type 0
+Overlap a b = (t : ℤ) → IsLater a b t → HaveInstant a b t
+
+-- no two of these share an instant
+abbrev pub AreSeparate : List Single → Type 0
+AreSeparate singles = AllPairs (λ a b. (t : ℤ) → HaveInstant a.span b.span t → ⊥) singles
+
+-- some are left of all: they are among them, no more, and apart where all are
+pub record IsPartOf (some all : List Single) : Type 0 where
+  pub within : (single : Single) → Contains some single → Contains all single
+  pub shorter : length some ≤ length all
+  pub separate : AreSeparate all → AreSeparate some
