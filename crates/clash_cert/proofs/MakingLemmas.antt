@@ -1,6 +1,6 @@
 -- Which of two clashing instances is named first.
 use Rattle.std.proofs.Common.{◌≡◌, ℕ, true, false, ◌<◌, ℤ, ◌≤ℤ◌, List, map, length, get_or, subst, sym, refl, ap, ◌∙◌, arith, Ordering}
-use Rattle.std.specs.Prelude.{◌↔◌, Result, Ok, Err, IfOk, MatchBool}
+use Rattle.std.specs.Prelude.{Result, Ok, Err, IfOk, MatchBool}
 use Rattle.std.specs.declared.cmp.Ordering.TheVariants.{Less, Equal, Greater}
 use Rattle.std.specs.Ordering.{is_lt, nat_cmp, int_cmp, ordering_then, ordering_reverse}
 use Rattle.std.specs.Cmp.{IsTotalOrder}
@@ -9,7 +9,7 @@ use Rattle.std.proofs.lemmas.Cmp.{on_total, then_total, nat_list_cmp_total, int_
 use Rattle.std.proofs.lemmas.Int.{ints}
 use Rattle.std.proofs.lemmas.List.{get_or-map}
 use Rattle.std.proofs.lemmas.Map.Lookups.{exact_pairs, exact_bytes, exact_signed}
-use Rattle.profile.specs.checker.Instances.{Key, Booked, IsClash, IsClear, booked_cmp, key_cmp}
+use Rattle.profile.specs.checker.Instances.{Key, Booked, IsClash, booked_cmp, key_cmp}
 use Rattle.cal_events.specs.declared.sweep.Overlap.{Overlap}
 use Rattle.cal_events.specs.declared.instance.OwnedInstance.{OwnedInstance}
 use Rattle.cal_events.specs.Calendars.{booked_of}
@@ -106,7 +106,3 @@ at_places bs o x y (Ok k) v w ex ey h = λ a b ea eb.
     let q = read_at bs o.second y b w ey eb in
     subst (λ (u : Booked). AreNamed u b o.instant k) p (subst (λ (u : Booked). AreNamed (booked_of x) u o.instant k) q h)
 at_places bs o x y (Err e) v w ex ey h = h
-
--- where a clash is named the instances aren't clear
-pub not_clear : (all : List Booked) (clash : Clash) → IsNamedClash all clash → ⊥ ↔ IsClear all
-not_clear all clash n = (λ e. absurd e, λ clear. clear n.a n.b clash.instant n.is)

@@ -1,5 +1,5 @@
 -- What making gives, and which clash a `Clash` names.
-use Rattle.std.specs.Prelude.{ℤ, List, MatchBool, ◌≡◌, slice_index_or}
+use Rattle.std.specs.Prelude.{ℕ, ℤ, List, MatchBool, ◌≡◌, slice_index_or}
 use Rattle.std.specs.Ordering.{is_lt}
 use Rattle.std.specs.declared.cmp.Ordering.TheVariants.{Less}
 use Rattle.profile.specs.checker.Instances.{Booked, IsClash, booked_cmp}
@@ -41,6 +41,11 @@ IsMadeFor all (made.Clash clash) = IsNamedClash all clash
 abbrev pub IsCertificate : Made → Type 0
 IsCertificate (made.Clear c) = Unit {0}
 IsCertificate (made.Clash clash) = ⊥
+
+-- a certificate has this count
+abbrev pub HasCount : ℕ → Made → Type 0
+HasCount n (made.Clear c) = c.singles ≡ n
+HasCount n (made.Clash clash) = Unit {0}
 
 -- it names the two, the lesser first
 abbrev pub AreNamed : Booked → Booked → ℤ → Clash → Type 0

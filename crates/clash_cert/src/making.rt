@@ -1,9 +1,9 @@
 //! Making: a certificate where the confirmed instances are clear, else a clash.
-ghost use Rattle.std.specs.Prelude.{◌≡◌, ◌<◌, ◌↔◌, map, length, IfOk};
+ghost use Rattle.std.specs.Prelude.{◌≡◌, ◌<◌, ◌↔◌, List, map, length, IfOk, IfSome, IfNone};
 ghost use Rattle.std.specs.Ordering.{is_lt};
-ghost use Rattle.profile.specs.checker.Instances.{IsClear, booked_cmp};
+ghost use Rattle.profile.specs.checker.Instances.{Booked, IsClear, booked_cmp};
 ghost use Rattle.cal_events.specs.Calendars.{booked_of, instance_of};
-ghost use Rattle.clash_cert.specs.Makings.{IsCertificate, IsMadeFor, AreNamed, AreNamedAt, HasKeys};
+ghost use Rattle.clash_cert.specs.Makings.{IsCertificate, IsMadeFor, IsNamedClash, HasCount, AreNamed, AreNamedAt, HasKeys};
 
 use crate::certificate::Certificate;
 use cal_events::{Calendar, Instance, Overlap, OwnedInstance, OwnedKey};
@@ -27,17 +27,48 @@ pub enum Made {
     Clash(Clash),
 }
 
+/// Confirmed instances that a certificate can be made for: a calendar's, or those of a room that keeps them clear.
+pub trait Confirmed {
+    // The instances.
+    ghost confirmed: { Self → List Booked };
+
+    /// How many they are.
+    fn count(&self) -> u64
+        ensures { result ≡ length (Self.confirmed self.now) };
+
+    /// Two of them that share an instant, None where they are clear. It fails only for memory.
+    fn clash(&self, alloc: Global) -> Result<Option<Clash>, AllocError>
+        ensures clash { IfOk result (λ found. IfSome found (IsNamedClash (Self.confirmed self.now))) }
+        ensures clear { IfOk result (λ found. IfNone found (IsClear (Self.confirmed self.now))) };
+}
+
+impl Confirmed for Calendar {
+    ghost confirmed = { λ calendar. calendar };
+
+    fn count(&self) -> u64 {
+        self.single_count()
+    }
+
+    fn clash(&self, alloc: Global) -> Result<Option<Clash>, AllocError> {
+        let Some(overlap) = self.first_overlap(alloc)? else {
+            return Ok(None);
+        };
+        let clash = clash_at(self.bookings(), overlap)?;
+        Ok(Some(clash))
+    }
+}
+
 /// A certificate that stands where the confirmed instances are clear, else a clash. Fails only
 /// for memory.
-pub fn make(alloc: Global, calendar: &Calendar) -> Result<Made, AllocError>
-    ensures made { IfOk result (IsMadeFor calendar.now) }
-    ensures clear { IfOk result (λ made. IsCertificate made ↔ IsClear calendar.now) }
+pub fn make<C: Confirmed>(alloc: Global, confirmed: &C) -> Result<Made, AllocError>
+    ensures made { IfOk result (IsMadeFor (C.confirmed confirmed.now)) }
+    ensures clear { IfOk result (λ made. IsCertificate made ↔ IsClear (C.confirmed confirmed.now)) }
+    ensures counted { IfOk result (HasCount (length (C.confirmed confirmed.now))) }
 {
-    let Some(overlap) = calendar.first_overlap(alloc)? else {
-        return Ok(Made::Clear(Certificate::of(calendar.single_count())));
-    };
-    let clash = clash_at(calendar.bookings(), overlap)?;
-    Ok(Made::Clash(clash))
+    if let Some(clash) = confirmed.clash(alloc)? {
+        return Ok(Made::Clash(clash));
+    }
+    Ok(Made::Clear(Certificate::of(confirmed.count())))
 }
 
 /// The clash of the bookings at two places.

@@ -1,4 +1,4 @@
-use Rattle.std.proofs.Common.{sym, ◌∙◌}
+use Rattle.std.proofs.Common.{sym}
 use Rattle.clash_cert.proofs.TextLemmas.{cut_from_end}
 use Rattle.clash_cert.proofs.certificate.cut_line.Goals as goal
 
