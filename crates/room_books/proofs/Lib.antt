@@ -39,3 +39,9 @@ pub mod Bodies
 pub mod BySlot
 pub mod RoomSteps
 pub mod KindLemmas
+pub mod Slots
+pub mod OwnBook
+pub mod OwnSteps
+pub mod Beside
+pub mod Afters
+pub mod MeetingSteps

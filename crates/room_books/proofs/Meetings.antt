@@ -134,12 +134,12 @@ of_more_other k h more other = filter-append (is_of k) h more ∙ ap (λ l. of_m
 
 -- ---- what answers confirm
 
-pub filter_same : (f g : Answer → Bool) (xs : List Answer) → ((a : Answer) → Contains xs a → f a ≡ g a) → filter f xs ≡ filter g xs
+pub filter_same : {X : Type 0} (f g : X → Bool) (xs : List X) → ((x : X) → Contains xs x → f x ≡ g x) → filter f xs ≡ filter g xs
 filter_same f g [] h = refl
 filter_same f g (x ∷ xs) h =
     ap (λ b. cond b (x ∷ filter f xs) (filter f xs)) (h x (in_head x xs)) ∙ ap (λ l. cond (g x) (x ∷ l) l) (filter_same f g xs (λ a c. h a (in_tail x xs a c)))
 
-pub filter_none : (f : Answer → Bool) (xs : List Answer) → ((a : Answer) → Contains xs a → f a ≡ false) → filter f xs ≡ []
+pub filter_none : {X : Type 0} (f : X → Bool) (xs : List X) → ((x : X) → Contains xs x → f x ≡ false) → filter f xs ≡ []
 filter_none f [] h = refl
 filter_none f (x ∷ xs) h = ap (λ b. cond b (x ∷ filter f xs) (filter f xs)) (h x (in_head x xs)) ∙ filter_none f xs (λ a c. h a (in_tail x xs a c))
 
