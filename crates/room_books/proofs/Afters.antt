@@ -18,7 +18,7 @@ use Rattle.room_books.specs.declared.meeting.Given.{Given}
 use Rattle.room_books.specs.Takings.{OutcomeDated, StandsAt}
 use Rattle.room_books.specs.Views.{booked_of, booked_list, outcome_of}
 use Rattle.room_books.specs.Standing.{IsFitting, AreFitting, IsOwn, IsGiven, IsDated, Meets, MeetsAt, standing, book_after}
-use Rattle.room_books.proofs.KeptRuns.{new_answer}
+use Rattle.room_books.proofs.Runs.{new_answer}
 use Rattle.room_books.proofs.OwnSteps.{answer_to, stayed, given_after}
 use Rattle.room_books.proofs.Pairs.{flat_at, map_at, map_from}
 use Rattle.room_books.proofs.Places.{booked_from}

@@ -16,7 +16,7 @@ use Rattle.room_books.specs.Views.{same_key, is_other, others, confirmed_of, all
 use Rattle.room_books.specs.Standing.{is_of, of_meeting, answers_of, book_of, AreFitting, Stands}
 use Rattle.room_books.proofs.Confirms.{zip_confirms}
 use Rattle.room_books.proofs.Entries.{found_entry, meeting_at}
-use Rattle.room_books.proofs.KeptRuns.{new_answer}
+use Rattle.room_books.proofs.Runs.{new_answer}
 use Rattle.room_books.proofs.Meetings.{is_of_same, one_meeting, of_more_other, confirmed_own, filter_none}
 use Rattle.room_books.proofs.OwnBook.{parts_own, taken_own, answers_own}
 use Rattle.room_books.proofs.Partition.{answers_apart, confirmed_split, partition}

@@ -26,7 +26,7 @@ use Rattle.room_books.specs.Views.{same_key, booked_list, all_singles, others, o
 use Rattle.room_books.specs.Standing.{is_of, book_of, book_after, AreFitting, IsGiven, IsMeetingAfter, KeepsAll, Meets, MeetsAt, Stands}
 use Rattle.room_books.proofs.Afters.{confirmed_asked, outcome_dated, meets_after}
 use Rattle.room_books.proofs.Beside.{beside_same}
-use Rattle.room_books.proofs.KeptRuns.{new_answer}
+use Rattle.room_books.proofs.Runs.{new_answer}
 use Rattle.room_books.proofs.OwnBook.{own_of, asked_own, book_own, kind_own}
 use Rattle.room_books.proofs.OwnSteps.{stayed, decided_itself, given_new, would_confirm, slots_differ}
 use Rattle.room_books.proofs.Pairs.{pairs_filter}

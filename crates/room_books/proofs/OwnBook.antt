@@ -10,7 +10,7 @@ use Rattle.profile.specs.rooms.Rooms.{Claim, Answer, Book, Kind, Withdrawn, Repe
 use Rattle.room_books.specs.declared.meeting.MeetingKey.{MeetingKey}
 use Rattle.room_books.specs.declared.meeting.Meeting.{Meeting}
 use Rattle.room_books.specs.Standing.{is_of, of_meeting, answers_of, book_of, book_after, AreFitting, IsOwn, Stands}
-use Rattle.room_books.proofs.KeptRuns.{new_answer}
+use Rattle.room_books.proofs.Runs.{new_answer}
 use Rattle.room_books.proofs.Meetings.{view_of, of_more_own, filter_same}
 use Rattle.room_books.proofs.Own.{filter_all}
 use Rattle.room_books.proofs.Pairs.{map_at}
@@ -62,7 +62,7 @@ module _ (k : MeetingKey) (book : Book) (claims : List Claim) (fit : AreFitting 
   asked_own = filter_same (λ c. is_set c.part && is_fresh own.taken now c.part) (λ c. is_set c.part && is_fresh book.taken all c.part) claims
       (λ c h. ap (λ b. is_set c.part && b) (fresh_own c.part (fit.of_it c h)))
 
-  answers_own : (moment : ℤ) (outcome : Outcome) → answers_of k (book.answers ++ answered moment outcome (asked book.taken all claims)) ≡ own.answers ++ answered moment outcome (asked own.taken now claims)
+  pub answers_own : (moment : ℤ) (outcome : Outcome) → answers_of k (book.answers ++ answered moment outcome (asked book.taken all claims)) ≡ own.answers ++ answered moment outcome (asked own.taken now claims)
   answers_own moment outcome =
       let f = λ (a : Answer). is_of k a.claim.part in
       let new = answered moment outcome (asked book.taken all claims) in

@@ -24,7 +24,7 @@ use Rattle.room_books.specs.Takings.{claim_said, left_in, booked_in, IsAccepted,
 use Rattle.room_books.specs.Views.{booked_list, all_singles, slots_of, outcome_of}
 use Rattle.room_books.specs.Standing.{is_of, IsFitting, AreFitting, IsOwn, IsGiven, Pairwise, standing}
 use Rattle.room_books.proofs.Confirms.{zip_confirms, standing_confirms}
-use Rattle.room_books.proofs.KeptRuns.{new_answer}
+use Rattle.room_books.proofs.Runs.{new_answer}
 use Rattle.room_books.proofs.Loops.{zip_both}
 use Rattle.room_books.proofs.Own.{filter_within, filter_all, booked_all, left_booked, one_confirmed}
 use Rattle.room_books.proofs.Pairs.{pairs_append, pairs_filter, pairs_map, map_from}
@@ -61,19 +61,19 @@ module _ (k : MeetingKey) (t held : List Part) (s : StandsFor held t) (moment : 
   given_each [] [] [] h z w = tt
   given_each [] [] (g ∷ gs) h z w = absurd w
   given_each [] (c ∷ cs) gs h z w = absurd z
-  given_each (a ∷ as) [] gs h z w = absurd z
-  given_each (a ∷ as) (c ∷ cs) [] h z w = absurd w
-  given_each (a ∷ as) (c ∷ cs) (g ∷ gs) h z w =
-      let first = h a (in_head a as) in
-      (given_one a.now c g first.0 first.1 z.0 w.0, given_each as cs gs (λ x k. h x (in_tail a as x k)) z.1 w.1)
+  given_each (a ∷ rest) [] gs h z w = absurd z
+  given_each (a ∷ rest) (c ∷ cs) [] h z w = absurd w
+  given_each (a ∷ rest) (c ∷ cs) (g ∷ gs) h z w =
+      let first = h a (in_head a rest) in
+      (given_one a.now c g first.0 first.1 z.0 w.0, given_each rest cs gs (λ x k. h x (in_tail a rest x k)) z.1 w.1)
 
 -- a candidate is what it would be, were it accepted
 pub decided_itself : (held : List Part) (moment : ℤ) (asking : List (Bor Asking)) (candidates : List Given) → AllZip (λ claim given. IsAccepted held claim.now moment given) asking candidates
     → AllZip (λ candidate given. IsDecided candidate Accepted given) candidates candidates
 decided_itself held moment [] [] z = tt
 decided_itself held moment [] (c ∷ cs) z = absurd z
-decided_itself held moment (a ∷ as) [] z = absurd z
-decided_itself held moment (a ∷ as) (c ∷ cs) z = (record { slot = refl; moment = refl; outcome_is = z.0.outcome; singles = refl }, decided_itself held moment as cs z.1)
+decided_itself held moment (a ∷ rest) [] z = absurd z
+decided_itself held moment (a ∷ rest) (c ∷ cs) z = (record { slot = refl; moment = refl; outcome_is = z.0.outcome; singles = refl }, decided_itself held moment rest cs z.1)
 
 -- ---- all answers of the meeting
 
@@ -84,7 +84,7 @@ module _ (k : MeetingKey) (own : Book) (is_own : IsOwn k own) (claims : List Cla
   abbrev asked_now : List Claim
   asked_now = asked own.taken t claims
 
-  abbrev stayed : List Answer
+  abbrev pub stayed : List Answer
   stayed = standing t (standing own.taken own.answers)
 
   asked_at : (claim : Claim) → Contains asked_now claim → Contains claims claim × (in_view t claim.part ≡ true)

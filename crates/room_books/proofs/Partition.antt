@@ -34,7 +34,7 @@ confirmed_cond : (t : List Part) (b : Bool) (a : Answer) (xs : List Answer) → 
 confirmed_cond t true a xs = confirmed_cons t a xs
 confirmed_cond t false a xs = refl
 
-confirmed_split : (t : List Part) (f : Answer → Bool) (xs : List Answer) → AreSame (confirmed_in t xs) (confirmed_in t (filter f xs) ++ confirmed_in t (filter (λ a. not (f a)) xs))
+pub confirmed_split : (t : List Part) (f : Answer → Bool) (xs : List Answer) → AreSame (confirmed_in t xs) (confirmed_in t (filter f xs) ++ confirmed_in t (filter (λ a. not (f a)) xs))
 confirmed_split t f [] = same_itself []
 confirmed_split t f (a ∷ xs) =
     let rest = confirmed_split t f xs in
