@@ -64,7 +64,7 @@ pub decided_singles : (outcome : Outcome) (candidates new : List Given) → AllZ
     → all_singles new ≡ (if is_accept (outcome_of outcome) then all_singles candidates else [])
 decided_singles outcome [] [] z = none (is_accept (outcome_of outcome))
   where
-    none : (b : Bool) → [] ≡ (if b then [] else [])
+    none : (b : Bool) → all_singles [] ≡ (if b then [] else [])
     none true = refl
     none false = refl
 decided_singles outcome (c ∷ cs) (n ∷ ns) z =
