@@ -12,10 +12,7 @@ use Rattle.room_books.specs.declared.meeting.Given.{Given}
 use Rattle.room_books.specs.Views.{booked_of, booked_list, all_singles}
 use Rattle.room_books.specs.Standing.{IsGiven, standing}
 use Rattle.room_books.proofs.Own.{filter_within}
-
--- answers one behind another
-pub confirmed_append : (t : List Part) (xs ys : List Answer) → confirmed_in t (xs ++ ys) ≡ confirmed_in t xs ++ confirmed_in t ys
-confirmed_append t xs ys = ap (flat_map (left_of t)) (filter-append (is_confirmed t) xs ys) ∙ flat_map-append (left_of t) (filter (is_confirmed t) xs) (filter (is_confirmed t) ys)
+use Rattle.room_books.proofs.Runs.{confirmed_split}
 
 -- those to parts in the view confirm all that there is
 pub standing_confirms : (t : List Part) (xs : List Answer) → confirmed_in t (standing t xs) ≡ confirmed_in t xs
@@ -30,7 +27,7 @@ given_confirms key t (a ∷ xs) [] z = absurd z
 given_confirms key t (a ∷ xs) (g ∷ gs) z =
     let first = z.0.confirms in
     let rest = given_confirms key t xs gs z.1 in
-    confirmed_append t (a ∷ []) xs ∙ (λ i. sym first i ++ rest i) ∙ sym (map-append (booked_of key) g.singles.items (all_singles gs))
+    confirmed_split t (a ∷ []) xs ∙ (λ i. sym first i ++ rest i) ∙ sym (map-append (booked_of key) g.singles.items (all_singles gs))
 
 pub zip_confirms : (key : MeetingKey) (t : List Part) (answers : List Answer) (given : List Given) → AllZip (IsGiven key t) (standing t answers) given → confirmed_in t answers ≡ booked_list key (all_singles given)
 zip_confirms key t answers given z = sym (standing_confirms t answers) ∙ given_confirms key t (standing t answers) given z

@@ -6,6 +6,7 @@ use Rattle.std.specs.Ordering.{is_lt, ordering_then}
 use Rattle.std.specs.List.{Contains, flat_map, AllZip, IsDistinct}
 use Rattle.std.specs.Map.{keys_of, values_of}
 use Rattle.std.proofs.lemmas.Bool.{and_parts, and_from, true≢false}
+use Rattle.ical_values.proofs.Facts.{is_lt_true}
 use Rattle.itip_order.specs.Registers.{is_ascending, shown, IsView}
 use Rattle.itip_order.proofs.Lasting.{view_one, view_taken}
 use Rattle.itip_order.proofs.Lists.{in_cons, in_head, in_tail, none_in_nil, all_at, filter_at, filter_from}
@@ -22,28 +23,12 @@ use Rattle.room_books.specs.Takings.{body_lines}
 use Rattle.room_books.specs.Keeping.{IsEventOf, is_accepted, kept_in, all_kept}
 use Rattle.room_books.proofs.Arrivals.{key_meeting}
 use Rattle.room_books.proofs.Entries.{meeting_at}
-use Rattle.room_books.proofs.Loops.{zip_both}
+use Rattle.room_books.proofs.Loops.{zip_both, zip_to, zip_from}
 use Rattle.room_books.proofs.Meetings.{same_place_of, view_of}
 use Rattle.room_books.proofs.Pairs.{pairs_from}
 use Rattle.room_books.proofs.AcceptedSlots.{accepted_from, accepted_at}
 
 -- ---- two lists side by side
-
-zip_left : {X Y : Type 0} (R : X → Y → Type 0) (xs : List X) (ys : List Y) (x : X) → AllZip R xs ys → Contains xs x → (y : Y) × Contains ys y × R x y
-zip_left R [] ys x z c = absurd (none_in_nil x c)
-zip_left R (w ∷ xs) [] x z c = absurd z
-zip_left R (w ∷ xs) (y ∷ ys) x z c = elim (in_cons w xs x c) [
-  | inl here ↦ (y, in_head y ys, subst (λ v. R v y) here z.0)
-  | inr there ↦ let r = zip_left R xs ys x z.1 there in (r.0, in_tail y ys r.0 r.1, r.2)
-]
-
-zip_right : {X Y : Type 0} (R : X → Y → Type 0) (xs : List X) (ys : List Y) (y : Y) → AllZip R xs ys → Contains ys y → (x : X) × Contains xs x × R x y
-zip_right R xs [] y z c = absurd (none_in_nil y c)
-zip_right R [] (v ∷ ys) y z c = absurd z
-zip_right R (x ∷ xs) (v ∷ ys) y z c = elim (in_cons v ys y c) [
-  | inl here ↦ (x, in_head x xs, subst (λ w. R x w) here z.0)
-  | inr there ↦ let r = zip_right R xs ys y z.1 there in (r.0, in_tail x xs r.0 r.1, r.2)
-]
 
 zip_then : {X Y Z : Type 0} (R : X → Y → Type 0) (S : Y → Z → Type 0) (T : X → Z → Type 0) (xs : List X) (ys : List Y) (zs : List Z) → ((x : X) (y : Y) (z : Z) → R x y → S y z → T x z) → AllZip R xs ys → AllZip S ys zs → AllZip T xs zs
 zip_then R S T [] [] zs f p q = q
@@ -85,15 +70,10 @@ claims_for book (p ∷ ps) h =
 
 -- ---- the order of slots
 
-less_is : (o : Ordering) → is_lt o ≡ true → o ≡ Less
-less_is Less e = refl
-less_is Equal e = absurd (true≢false (sym e))
-less_is Greater e = absurd (true≢false (sym e))
-
 place_less : (key : MeetingKey) (p q : Part) → is_of key p ≡ true → is_of key q ≡ true → is_lt (place_cmp p q) ≡ true → slot_cmp p.slot q.slot ≡ Less
 place_less key p q e f l =
     let equal : meeting_cmp p q ≡ Equal = is_eq_true _ (sym (key_meeting key p q e) ∙ f) in
-    less_is (slot_cmp p.slot q.slot) (sym (ap (λ o. is_lt (ordering_then o (slot_cmp p.slot q.slot))) equal) ∙ l)
+    is_lt_true (slot_cmp p.slot q.slot) (sym (ap (λ o. is_lt (ordering_then o (slot_cmp p.slot q.slot))) equal) ∙ l)
 
 abbrev Rises : Claim → Claim → Type 0
 Rises a b = slot_cmp a.part.slot b.part.slot ≡ Less
@@ -104,7 +84,7 @@ claims_rise book key (c ∷ cs) [] z up own = absurd z
 claims_rise book key (c ∷ cs) (p ∷ ps) z up own =
     let both = and_parts _ _ up in (
       λ d in_cs.
-          let other = zip_left (IsClaimOf book) cs ps d z.1 in_cs in
+          let other = zip_to (IsClaimOf book) cs ps d z.1 in_cs in
           let less = place_less key p other.0 (own p (in_head p ps)) (own other.0 (in_tail p ps other.0 other.1)) (all_at (λ later. is_lt (place_cmp p later)) ps other.0 both.0 other.1) in
           (λ i. slot_cmp (z.0.of_part i).slot (other.2.of_part i).slot) ∙ less,
       claims_rise book key cs ps z.1 both.1 (λ q k. own q (in_tail p ps q k)),
@@ -130,7 +110,7 @@ module _ (entries : List (MeetingKey × Meeting)) (book : Book) (key : MeetingKe
       let both = and_parts _ _ k in
       let seen : in_view own a.claim.part ≡ true = view_of key book.taken a.claim.part o ∙ both.1 in
       let stands = filter_from (λ x. in_view own x.claim.part) mine a (filter_from (λ x. is_of key x.claim.part) book.answers a c o) seen in
-      let g = zip_left (IsGiven key own) (standing own mine) meeting.answers.items a meets.answers stands in
+      let g = zip_to (IsGiven key own) (standing own mine) meeting.answers.items a meets.answers stands in
       filter_from (is_accepted meeting) (shown meeting.held) a.claim.part ((view.exact a.claim.part).1 seen)
       (accepted_from meeting.answers.items g.0 a.claim.part.slot g.1 g.2.slot (ap is_accept g.2.outcome ∙ both.0))
 
@@ -145,7 +125,7 @@ module _ (entries : List (MeetingKey × Meeting)) (book : Book) (key : MeetingKe
       let from = filter_at (is_accepted meeting) (shown meeting.held) p c in
       let seen : in_view own p ≡ true = (view.exact p).0 from.0 in
       let g = accepted_at meeting.answers.items p.slot from.1 in
-      let z = zip_right (IsGiven key own) (standing own mine) meeting.answers.items g.0 meets.answers g.1 in
+      let z = zip_from (IsGiven key own) (standing own mine) meeting.answers.items g.0 meets.answers g.1 in
       let a = z.0 in
       let stands = filter_at (λ x. in_view own x.claim.part) mine a z.1 in
       let of_it = filter_at (λ x. is_of key x.claim.part) book.answers a stands.0 in
@@ -160,7 +140,7 @@ module _ (entries : List (MeetingKey × Meeting)) (book : Book) (key : MeetingKe
   meeting_kept first of_first claims z = record {
     exact = λ claim. (
       λ c.
-          let p = zip_left (IsClaimOf book) claims (kept_in meeting) claim z c in
+          let p = zip_to (IsClaimOf book) claims (kept_in meeting) claim z c in
           record {
             of_meeting = sym (key_meeting key first claim.part of_first) ∙ subst (λ (q : Part). is_of key q ≡ true) (sym p.2.of_part) (kept_own p.0 p.1);
             answer = p.2.answer;
@@ -171,7 +151,7 @@ module _ (entries : List (MeetingKey × Meeting)) (book : Book) (key : MeetingKe
       λ k.
           let part = ap (λ (c : Claim). c.part) k.to in
           let of_it : is_of key k.answer.claim.part ≡ true = subst (λ (q : Part). is_of key q ≡ true) (sym part) (key_meeting key first claim.part of_first ∙ k.of_meeting) in
-          let p = zip_right (IsClaimOf book) claims (kept_in meeting) k.answer.claim.part z (kept_from k.answer k.given of_it k.confirms) in
+          let p = zip_from (IsClaimOf book) claims (kept_in meeting) k.answer.claim.part z (kept_from k.answer k.given of_it k.confirms) in
           let same = one_answer book.answers p.2.answer k.answer st.once p.2.given k.given (ap (λ (c : Claim). c.part) p.2.to ∙ p.2.of_part) in
           subst (Contains claims) (sym p.2.to ∙ ap (λ (a : Answer). a.claim) same ∙ k.to) p.1,
     );

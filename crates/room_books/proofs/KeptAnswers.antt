@@ -26,6 +26,7 @@ use Rattle.itip_messages.proofs.CleanUids.{clean_text, text_value}
 use Rattle.itip_messages.proofs.ObjectTree.{Lines, vevent_lines}
 use Rattle.room_books.proofs.KeptEvents.{kept_own, kept_event, Spell, kept_says, kept_read, kept_confirmed, kept_booked}
 use Rattle.room_books.proofs.KeptLines.{kept_content, kept_properties}
+use Rattle.room_books.proofs.Loops.{zip_from}
 use Rattle.room_books.proofs.KeptRequests.{clean_value, vevent_among}
 
 -- octets ask the room for the claim: the part is that of their event, and books its one instance
@@ -114,21 +115,11 @@ record IsRoom (room : List ℕ) : Type 0 where
   text : IsTextAddress room
   lower : lower_case room ≡ room
 
-zip_at : {A B : Type 0} (R : A → B → Type 0) (xs : List A) (ys : List B) (y : B) → AllZip R xs ys → Contains ys y → (x : A) × Contains xs x × R x y
-zip_at R [] [] y z c = absurd (none_in_nil y c)
-zip_at R [] (b ∷ ys) y z c = absurd z
-zip_at R (a ∷ xs) [] y z c = absurd z
-zip_at {A = A} R (a ∷ xs) (b ∷ ys) y z c =
-    elim (in_cons b ys y c) [
-      | inl here ↦ (a, in_head a xs, subst (R a) here z.0)
-      | inr there ↦ let rest = zip_at R xs ys y z.1 there in (rest.0, in_tail a xs rest.0 rest.1, rest.2)
-    ]
-
 asked_room : (room : List ℕ) (claim : Claim) → IsAsked room claim → IsRoom room
 asked_room room claim a =
     let m = message room claim a in
     let found = any_at (λ x. bytes_eq x.address room) a.event.attendees a.asks in
-    let line = zip_at IsAttendee (lines_named (codes "ATTENDEE") m.lines) a.event.attendees found.0 m.says.attendees found.1 in
+    let line = zip_from IsAttendee (lines_named (codes "ATTENDEE") m.lines) a.event.attendees found.0 m.says.attendees found.1 in
     let stands = (filter_at (is_of (codes "ATTENDEE")) m.lines line.0 line.1).0 in
     let value = line_value line.0 in
     let address : IsAddress value = line.2.0.0 in

@@ -30,28 +30,11 @@ use Rattle.room_books.specs.Takings.{claim_said, claims_said}
 use Rattle.room_books.specs.Standing.{AreFitting, IsOwn, IsGiven, Meets, standing}
 use Rattle.room_books.specs.BySlot.{AreSame}
 use Rattle.room_books.specs.Replying.{AreShown, CanTell, AllTell, IsEventIn, ShowsGiven, AreTold, WritesAnswers, IsReplyOf}
-use Rattle.room_books.proofs.Loops.{zip_push, one_more}
+use Rattle.room_books.proofs.Loops.{zip_push, zip_to, zip_from, one_more}
 use Rattle.room_books.proofs.Meetings.{same_place_of}
 use Rattle.room_books.proofs.BySlot.{in_mapped}
 
 -- ---- lists, place by place
-
--- each of the first has one of the second, and each of the second one of the first
-zip_to : {X Y : Type 0} (R : X → Y → Type 0) (xs : List X) (ys : List Y) (x : X) → AllZip R xs ys → Contains xs x → (y : Y) × Contains ys y × R x y
-zip_to R [] ys x z c = absurd (none_in_nil x c)
-zip_to R (w ∷ xs) [] x z c = absurd z
-zip_to {Y = Y} R (w ∷ xs) (y ∷ ys) x z c = elim (in_cons w xs x c) [
-  | inl here ↦ (y, in_head y ys, subst (λ v. R v y) here z.0)
-  | inr there ↦ let r = zip_to R xs ys x z.1 there in (r.0, in_tail y ys r.0 r.1, r.2)
-]
-
-zip_from : {X Y : Type 0} (R : X → Y → Type 0) (xs : List X) (ys : List Y) (y : Y) → AllZip R xs ys → Contains ys y → (x : X) × Contains xs x × R x y
-zip_from R xs [] y z c = absurd (none_in_nil y c)
-zip_from R [] (w ∷ ys) y z c = absurd z
-zip_from R (x ∷ xs) (w ∷ ys) y z c = elim (in_cons w ys y c) [
-  | inl here ↦ (x, in_head x xs, subst (R x) here z.0)
-  | inr there ↦ let r = zip_from R xs ys y z.1 there in (r.0, in_tail x xs r.0 r.1, r.2)
-]
 
 zip_mapped : {X Y Z : Type 0} (f : X → Y) (R : X → Z → Type 0) (Q : Y → Z → Type 0) (xs : List X) (zs : List Z) → ((x : X) (z : Z) → Contains xs x → R x z → Q (f x) z) → AllZip R xs zs → AllZip Q (map f xs) zs
 zip_mapped f R Q [] [] h z = tt

@@ -1,21 +1,27 @@
 -- What holds of all meetings of a room, when one of them is put in its place.
-use Rattle.std.proofs.Common.{◌≡◌, ◌≤◌, Bool, true, false, not, cond, List, [], ◌∷◌, ◌++◌, inl, inr, Some, refl, sym, ap, ◌∙◌, subst, length, arith, length-append}
-use Rattle.std.specs.List.{Contains, IsDistinct, AllPairs}
-use Rattle.std.specs.Prelude.{◌≢◌, IfOk, Result, Ok, Err}
+use Rattle.std.proofs.Common.{◌≡◌, ◌≤◌, ℕ, ℤ, Bool, true, false, not, cond, List, [], ◌∷◌, ◌++◌, inl, inr, Option, None, Some, refl, sym, ap, ap₂, ◌∙◌, subst, length, arith, length-append, append-nil}
+use Rattle.std.specs.List.{Contains, IsDistinct, AllPairs, AllZip}
+use Rattle.std.specs.Prelude.{◌≢◌, if◌then◌else◌, IfOk, Result, Ok, Err}
 use Rattle.std.specs.Map.{lookup, keys_of}
+use Rattle.std.proofs.lemmas.Bool.{true≢false}
+use Rattle.std.proofs.lemmas.Grind.{flat_map-append}
 use Rattle.std.proofs.lemmas.List.{length-map}
 use Rattle.indexmap.specs.IndexMap.{insert_entry}
 use Rattle.itip_order.proofs.Lists.{in_head, in_tail, in_cons, none_in_nil}
 use Rattle.profile.specs.checker.Instances.{Booked, IsClear}
-use Rattle.profile.specs.rooms.Messages.{Accept}
-use Rattle.profile.specs.rooms.Rooms.{Decides}
+use Rattle.profile.specs.rooms.Kept.{Replies}
+use Rattle.profile.specs.rooms.Messages as messages
+use Rattle.profile.specs.rooms.Messages.{Accept, Busy, SeriesLimit, SinglesLimit}
+use Rattle.profile.specs.rooms.Rooms.{Book, Decides, Kind, NotAddressed, is_accept}
 use Rattle.room_books.specs.declared.meeting.Outcome.{Outcome}
-use Rattle.room_books.specs.Takings.{IsDecision}
+use Rattle.room_books.specs.declared.meeting.Given.{Given}
+use Rattle.room_books.specs.Standing.{Stands, StepsWith}
+use Rattle.room_books.specs.Takings.{IsDecided, IsDecision}
 use Rattle.room_books.specs.declared.meeting.MeetingKey.{MeetingKey}
 use Rattle.room_books.specs.declared.meeting.Meeting.{Meeting}
 use Rattle.room_books.specs.declared.meeting.Single.{Single}
 use Rattle.room_books.specs.Instants.{AreSeparate, IsPartOf}
-use Rattle.room_books.specs.Views.{same_key, booked_of, booked_list, confirmed_singles, singles_by, slots_of, outcome_of, others, all_confirmed, AreAllApart, MayJoin}
+use Rattle.room_books.specs.Views.{same_key, booked_of, booked_list, all_singles, confirmed_singles, singles_by, slots_of, outcome_of, others, all_confirmed, AreAllApart, MayJoin}
 use Rattle.room_books.proofs.Places.{others_count}
 use Rattle.room_books.proofs.Putting.{clear_kept}
 
@@ -50,3 +56,55 @@ pub decision_from : {E : Type 0} (r : Result Outcome E) (all : List Booked) (k :
     → IfOk r (λ outcome. outcome_of outcome ≡ Accept → MayJoin all k (a ++ b)) → IfOk r (IsDecision all k a b)
 decision_from (Ok outcome) all k a b d j = record { decides = d; joins = j }
 decision_from (Err e) all k a b d j = tt
+
+-- ---- what new answers confirm
+
+-- candidates with what was decided confirm all that they ask for where that is to accept them, else nothing
+pub decided_singles : (outcome : Outcome) (candidates new : List Given) → AllZip (λ candidate given. IsDecided candidate outcome given) candidates new
+    → all_singles new ≡ (if is_accept (outcome_of outcome) then all_singles candidates else [])
+decided_singles outcome [] [] z = none (is_accept (outcome_of outcome))
+  where
+    none : (b : Bool) → all_singles [] ≡ (if b then [] else [])
+    none true = refl
+    none false = refl
+decided_singles outcome (c ∷ cs) (n ∷ ns) z =
+    ap₂ (λ (a b : List Single). a ++ b) z.0.singles (decided_singles outcome cs ns z.1) ∙ joined (is_accept (outcome_of outcome)) c.singles.items (all_singles cs)
+  where
+    joined : (b : Bool) (xs ys : List Single) → (if b then xs else []) ++ (if b then ys else []) ≡ (if b then xs ++ ys else [])
+    joined true xs ys = refl
+    joined false xs ys = refl
+decided_singles outcome [] (n ∷ ns) z = absurd z
+decided_singles outcome (c ∷ cs) [] z = absurd z
+
+-- with what was decided of candidates a meeting may be confirmed beside the others
+pub answers_join : (others : List Booked) (k : MeetingKey) (outcome : Outcome) (kept candidates new : List Given) → IsDecision others k (all_singles kept) (all_singles candidates) outcome
+    → AllZip (λ candidate given. IsDecided candidate outcome given) candidates new → MayJoin others k (all_singles kept) → MayJoin others k (all_singles (kept ++ new))
+answers_join others k outcome kept candidates new d z j =
+    subst (MayJoin others k) (sym (flat_map-append (λ (g : Given). g.singles.items) kept new))
+    (subst (λ (l : List Single). MayJoin others k (all_singles kept ++ l)) (sym (decided_singles outcome candidates new z)) (by_outcome (outcome_of outcome) d.joins))
+  where
+    by_outcome : (o : messages.Outcome) → (o ≡ Accept → MayJoin others k (all_singles kept ++ all_singles candidates)) → MayJoin others k (all_singles kept ++ (if is_accept o then all_singles candidates else []))
+    by_outcome Accept f = f refl
+    by_outcome (Busy a b t) f = subst (MayJoin others k) (sym (append-nil (all_singles kept))) j
+    by_outcome SeriesLimit f = subst (MayJoin others k) (sym (append-nil (all_singles kept))) j
+    by_outcome SinglesLimit f = subst (MayJoin others k) (sym (append-nil (all_singles kept))) j
+
+-- ---- a message that isn't addressed to the room
+
+-- it is a step that changes nothing
+pub none_steps : (room : List ℕ) (entries : List (MeetingKey × Meeting)) (book : Book) (moment : ℤ) (kind : Kind) (reply : Option (List ℕ)) → Stands entries book → kind ≡ NotAddressed → reply ≡ None
+    → StepsWith room entries book [] moment kind reply
+none_steps room entries book moment kind reply st kind_is reply_is = record {
+  steps = record {
+    outcome = Accept;
+    after = book;
+    step = record {
+      taken = sym (append-nil book.taken);
+      answers = sym (append-nil book.answers);
+      decided = λ some. absurd (true≢false (sym some));
+    };
+    stands = st;
+    kind_is = kind_is;
+  };
+  replies = subst (Replies room book []) (sym reply_is) refl;
+}

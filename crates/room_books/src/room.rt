@@ -25,8 +25,9 @@ use crate::decide::{Meetings, decide, keys_differ};
 use crate::meeting::{Given, Meeting, MeetingKey, Outcome, Single, singles_of};
 use crate::reply::reply_to;
 use crate::taking::{self, Views, candidates, decided, held_after};
-use crate::texts::{calendar_of, certificate_of};
+use crate::texts::{calendar_of, certificate_octets};
 use crate::timeline::Timeline;
+use clash_cert::{Clash, Confirmed, make};
 use ical_values::{Address, Stamp};
 use indexmap::IndexMap;
 use itip_messages::Message;
@@ -58,6 +59,21 @@ struct Taken {
 struct Answered {
     answers: Vec<Given>,
     outcome: Option<Outcome>,
+}
+
+/// What a room has confirmed is clear, whatever it takes.
+impl Confirmed for Room {
+    ghost use Rattle.room_books.specs.Views.{all_confirmed};
+
+    ghost confirmed = { λ room. all_confirmed room.meetings.entries };
+
+    fn count(&self) -> u64 {
+        self.timeline.confirmed() as u64
+    }
+
+    fn clash(&self, _alloc: Global) -> Result<Option<Clash>, AllocError> {
+        Ok(None)
+    }
 }
 
 impl Room {
@@ -123,7 +139,10 @@ impl Room {
     pub fn certificate_text(&self) -> Result<Vec<u8>, AllocError>
         ensures { IfOk result (λ text. (book : Book) → Stands self.now.meetings.entries book → text.items ≡ kept_certificate book) }
     {
-        certificate_of(self.alloc, &self.meetings, &self.timeline)
+        keys_differ(&self.meetings);
+        let made = make(self.alloc, self)?;
+        let octets = certificate_octets(self.alloc, &made)?;
+        Ok(octets)
     }
 
     /// Takes the claims of a message, of one meeting; the part is the first one's.

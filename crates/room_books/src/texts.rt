@@ -1,24 +1,24 @@
 //! What a room keeps, as octets: its calendar, and the certificate for it.
 
-ghost use Rattle.std.specs.Prelude.{◌≡◌, ◌++◌, length, IfOk, OnOk};
+ghost use Rattle.std.specs.Prelude.{◌≡◌, ◌++◌, ℕ, IfOk, OnOk};
 ghost use Rattle.std.specs.List.Sorted.{IsPermutation, IsSortedByKey};
 ghost use Rattle.std.specs.Str.Lines.{lines};
 ghost use Rattle.indexmap.specs.IndexMap.{values};
 ghost use Rattle.ical_values.specs.Octets.{address_octets};
 ghost use Rattle.itip_order.specs.Parts.{part_of, slot_of};
-ghost use Rattle.profile.specs.rooms.Kept.{kept_certificate, IsKeptCalendar};
+ghost use Rattle.clash_cert.specs.Makings.{HasCount, IsCertificate};
+ghost use Rattle.profile.specs.checker.Certificates.{text_of};
+ghost use Rattle.profile.specs.rooms.Kept.{IsKeptCalendar};
 ghost use Rattle.profile.specs.rooms.Revisions.{slot_cmp};
 ghost use Rattle.profile.specs.rooms.Rooms.{Book};
 ghost use Rattle.profile.specs.text.Lines.{written};
-ghost use Rattle.room_books.specs.Views.{all_confirmed};
 ghost use Rattle.room_books.specs.Standing.{Stands};
 ghost use Rattle.room_books.specs.Keeping.{WritesBody, WritesEvent, WritesParts, accepted_slots, all_kept, has_slot, kept_in};
 
 use crate::decide::{Meetings, keys_differ};
 use crate::meeting::{Given, Meeting};
 use crate::taking::is_accept;
-use crate::timeline::Timeline;
-use clash_cert::Certificate;
+use clash_cert::Made;
 use ical_values::Address;
 use itip_messages::ObjectWriter;
 use itip_order::{Body, Part, Slot};
@@ -41,18 +41,15 @@ pub(crate) fn calendar_of(
     Ok(object.finish())
 }
 
-/// The certificate that stands for the kept calendar.
-pub(crate) fn certificate_of(
-    alloc: Global,
-    meetings: &Meetings,
-    timeline: &Timeline,
-) -> Result<Vec<u8>, AllocError>
-    requires { timeline.now.confirmed ≡ length (all_confirmed meetings.now.entries) }
-    ensures { IfOk result (λ text. (book : Book) → Stands meetings.now.entries book → text.items ≡ kept_certificate book) }
+/// The octets of what was made, where it is a certificate.
+pub(crate) fn certificate_octets(alloc: Global, made: &Made) -> Result<Vec<u8>, AllocError>
+    ensures { IfOk result (λ octets. (count : ℕ) → IsCertificate made.now → HasCount count made.now → octets.items ≡ text_of (record { singles = count })) }
 {
-    keys_differ(meetings);
     let mut octets = Vec::new(alloc);
-    Certificate::of(timeline.confirmed() as u64).write(&mut octets)?;
+    let Made::Clear(certificate) = made else {
+        return Ok(octets);
+    };
+    certificate.write(&mut octets)?;
     Ok(octets)
 }
 
