@@ -39,3 +39,4 @@ pub mod Bodies
 pub mod BySlot
 pub mod RoomSteps
 pub mod KindLemmas
+pub mod Stands
