@@ -13,9 +13,8 @@ use Rattle.profile.specs.rooms.Rooms.{Claim, Answer, Book, Kind, is_fresh, is_se
 use Rattle.profile.specs.rooms.Kept.{Replies, ShowsAnswer, first_parts}
 use Rattle.room_books.specs.declared.meeting.MeetingKey.{MeetingKey}
 use Rattle.room_books.specs.declared.meeting.Meeting.{Meeting}
-use Rattle.room_books.specs.declared.meeting.Given.{Given}
-use Rattle.room_books.specs.Views.{same_key, booked_list}
-use Rattle.room_books.specs.Standing.{is_of, AreFitting, of_meeting, answers_of, book_of, IsOwn, IsGiven, Meets, MeetsAt, Covers, Pairwise, AreKeysOf, Stands, book_after, standing, IsMeetingAfter, StepsTo, StepsWith}
+use Rattle.room_books.specs.Views.{same_key}
+use Rattle.room_books.specs.Standing.{is_of, AreFitting, of_meeting, answers_of, book_of, IsOwn, IsGiven, Meets, MeetsAt, Covers, Pairwise, AreKeysOf, Stands, book_after, standing, IsMeetingAfter, StepsWith}
 use Rattle.room_books.proofs.Arrivals.{arrives}
 use Rattle.room_books.proofs.Meetings.{key_from, is_of_same, one_meeting, of_more_other, filter_none, view_of}
 use Rattle.room_books.proofs.Pairs.{pairs_append, pairs_filter, pairs_map, map_at}
