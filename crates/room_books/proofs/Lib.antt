@@ -45,3 +45,4 @@ pub mod OwnSteps
 pub mod Beside
 pub mod Afters
 pub mod MeetingSteps
+pub mod Stands

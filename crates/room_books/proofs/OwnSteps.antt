@@ -27,8 +27,8 @@ use Rattle.room_books.proofs.Confirms.{zip_confirms, standing_confirms}
 use Rattle.room_books.proofs.Runs.{new_answer}
 use Rattle.room_books.proofs.Loops.{zip_both}
 use Rattle.room_books.proofs.Own.{filter_within, filter_all, booked_all, left_booked, one_confirmed}
-use Rattle.room_books.proofs.Pairs.{pairs_append, pairs_filter, pairs_map, map_from}
-use Rattle.room_books.proofs.Slots.{OtherPart, OtherSlot, IsSeen, confirmed_apart, slots_apart}
+use Rattle.room_books.proofs.Pairs.{pairs_append, pairs_filter, map_from}
+use Rattle.room_books.proofs.Slots.{OtherPart, OtherSlot, IsSeen, confirmed_apart, new_once, slots_apart}
 use Rattle.room_books.proofs.Views.{view_back}
 
 -- ---- one answer
@@ -137,7 +137,7 @@ module _ (k : MeetingKey) (own : Book) (is_own : IsOwn k own) (claims : List Cla
   parts_differ once =
       pairs_append OtherPart stayed candidates_said
       (pairs_filter OtherPart (λ a. in_view t a.claim.part) (standing own.taken own.answers) (pairs_filter OtherPart (λ a. in_view own.taken a.claim.part) own.answers once))
-      (pairs_map OtherPart (λ (c : Claim). answer_to c moment Accept) asked_now (pairs_filter (λ a b. a.part ≢ b.part) (λ c. is_set c.part && is_fresh own.taken t c.part) claims fit.differ))
+      (new_once moment Accept own.taken t claims fit.differ)
       (λ a b c d e. both_ways _ (new_answer own.taken t moment Accept claims b d).gone (subst (λ (p : Part). in_view own.taken p ≡ true) e (stayed_at a c).1))
 
   -- what the meeting would confirm, were they accepted

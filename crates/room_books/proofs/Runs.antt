@@ -131,6 +131,7 @@ answered_part moment outcome (x ∷ xs) a c =
 -- a new answer is to one of the claims, whose part is fresh
 pub record IsNew (before after : List Part) (claims : List Claim) (a : Answer) : Type 0 where
   pub among : Contains claims a.claim
+  pub set : is_set a.claim.part ≡ true
   pub gone : in_view before a.claim.part ≡ false
   pub seen : in_view after a.claim.part ≡ true
 
@@ -139,9 +140,11 @@ new_answer before after moment outcome claims a c =
     let found = map_at _ (asked before after claims) a c in
     let is : found.0 ≡ a.claim = ap (λ (x : Answer). x.claim) found.2 in
     let from = filter_at (λ (x : Claim). is_set x.part && is_fresh before after x.part) claims found.0 found.1 in
-    let fresh = and_parts _ _ (and_parts _ _ from.1).1 in
+    let both = and_parts _ _ from.1 in
+    let fresh = and_parts _ _ both.1 in
     record {
       among = subst (λ (x : Claim). Contains claims x) is from.0;
+      set = subst (λ (x : Claim). is_set x.part ≡ true) is both.0;
       gone = subst (λ (x : Claim). in_view before x.part ≡ false) is (not-true _ fresh.1);
       seen = subst (λ (x : Claim). in_view after x.part ≡ true) is fresh.0;
     }

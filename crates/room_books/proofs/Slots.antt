@@ -7,7 +7,8 @@ use Rattle.itip_order.proofs.Lasting.{view_one, view_taken}
 use Rattle.itip_order.proofs.Lists.{in_head, in_tail, filter_at, any_from}
 use Rattle.profile.specs.checker.Instances.{Booked}
 use Rattle.profile.specs.rooms.Revisions.{Part, Slot, Whole, At, slot_cmp, same_place, in_view}
-use Rattle.profile.specs.rooms.Rooms.{Answer, is_confirmed, is_hidden, left_of, confirmed_in}
+use Rattle.profile.specs.rooms.Messages.{Outcome}
+use Rattle.profile.specs.rooms.Rooms.{Answer, Claim, is_confirmed, is_hidden, is_set, is_fresh, left_of, confirmed_in, asked, answered}
 use Rattle.room_books.specs.declared.meeting.MeetingKey.{MeetingKey}
 use Rattle.room_books.specs.declared.meeting.Single.{Single}
 use Rattle.room_books.specs.Standing.{is_of, IsOfSlot, IsFitting, Pairwise}
@@ -81,3 +82,9 @@ unmapped R f (x ∷ xs) p = (λ y c. p.0 (f y) (map_from f xs y c), unmapped R f
 pub slots_apart : (k : MeetingKey) (singles : List Single) → Pairwise OtherSlot (booked_list k singles) → AllPairs ◌≢◌ (slots_of singles)
 slots_apart k singles p =
     pairs_from ◌≢◌ (slots_of singles) (pairs_map ◌≢◌ (λ (s : Single). s.slot) singles (unmapped OtherSlot (booked_of k) singles p))
+
+-- no part is answered twice by a message
+pub new_once : (moment : ℤ) (outcome : Outcome) (before after : List Part) (claims : List Claim) → Pairwise (λ a b. a.part ≢ b.part) claims → Pairwise OtherPart (answered moment outcome (asked before after claims))
+new_once moment outcome before after claims differ =
+    pairs_map OtherPart (λ (c : Claim). record { claim = c; moment = moment; outcome = outcome }) (asked before after claims)
+    (pairs_filter (λ a b. a.part ≢ b.part) (λ (c : Claim). is_set c.part && is_fresh before after c.part) claims differ)
