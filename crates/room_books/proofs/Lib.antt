@@ -39,7 +39,7 @@ pub mod Bodies
 pub mod BySlot
 pub mod RoomSteps
 pub mod KindLemmas
-pub mod Slots
+pub mod SlotsApart
 pub mod OwnBook
 pub mod OwnSteps
 pub mod Beside

@@ -31,7 +31,7 @@ use Rattle.room_books.proofs.OwnBook.{own_of, asked_own, book_own, kind_own}
 use Rattle.room_books.proofs.OwnSteps.{stayed, decided_itself, given_new, would_confirm, slots_differ}
 use Rattle.room_books.proofs.Pairs.{pairs_filter}
 use Rattle.room_books.proofs.Same.{decides_same}
-use Rattle.room_books.proofs.Slots.{OtherPart}
+use Rattle.room_books.proofs.SlotsApart.{OtherPart}
 
 module _ (k : MeetingKey) (entries : List (MeetingKey × Meeting)) (distinct : IsDistinct same_key (keys_of entries)) (book : Book) (st : Stands entries book)
     (asking_all : List Asking) (fit : AreFitting k (claims_said asking_all)) (moment : ℤ) where

@@ -28,7 +28,7 @@ use Rattle.room_books.proofs.Runs.{new_answer}
 use Rattle.room_books.proofs.Loops.{zip_both}
 use Rattle.room_books.proofs.Own.{filter_within, filter_all, booked_all, left_booked, one_confirmed}
 use Rattle.room_books.proofs.Pairs.{pairs_append, pairs_filter, map_from}
-use Rattle.room_books.proofs.Slots.{OtherPart, OtherSlot, IsSeen, confirmed_apart, new_once, slots_apart}
+use Rattle.room_books.proofs.SlotsApart.{OtherPart, OtherSlot, IsSeen, confirmed_apart, new_once, slots_apart}
 use Rattle.room_books.proofs.Views.{view_back}
 
 -- ---- one answer

@@ -21,7 +21,7 @@ use Rattle.room_books.proofs.Pairs.{pairs_append, map_at}
 use Rattle.room_books.proofs.Putting.{booked_list_same}
 use Rattle.room_books.proofs.OwnBook.{own_of}
 use Rattle.room_books.proofs.Runs.{IsNew, new_answer, step_sound}
-use Rattle.room_books.proofs.Slots.{OtherPart, new_once}
+use Rattle.room_books.proofs.SlotsApart.{OtherPart, new_once}
 use Rattle.room_books.proofs.Views.{view_back}
 
 abbrev Entries : Type 0
