@@ -1,5 +1,5 @@
 -- The first claim says of which meeting all are.
-use Rattle.std.proofs.Common.{◌≡◌, List, [], sym, ap, subst}
+use Rattle.std.proofs.Common.{◌≡◌, [], rules, subst}
 use Rattle.ical_values.specs.Octets.{address_octets}
 use Rattle.profile.specs.streams.Streams.{AreClaims}
 use Rattle.room_books.specs.declared.taking.Claim.{Claim}
@@ -22,5 +22,5 @@ returns-clause-steps c = λ event says book st.
     let claimed = c.in_ok-claims.ensures event says in (
       claims_said c.in_ok-claims.claims.items,
       claimed.are,
-      c.in_ok-answer.ensures.steps (λ key k. claimed.fit key c.in_default.first (first_in c.in_ok-claims.claims.items c.in_default.first c.in_default.is) k) book st,
+      c.in_ok-answer.ensures.steps (λ key k. claimed.fit key c.in-Some.first (first_in c.in_ok-claims.claims.items c.in-Some.first c.in-Some.is) k) book st,
     )
