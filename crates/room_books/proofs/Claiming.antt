@@ -1,5 +1,5 @@
 -- The claims of a message: at most one, of the part and the instance of its event.
-use Rattle.std.proofs.Common.{◌≡◌, ◌∙◌, ℕ, ◌<◌, ◌+◌, true, List, [], ◌∷◌, ◌++◌, take, length, get_or, map, Result, Ok, Err, IfOk, inl, inr, Some, refl, sym, ap, subst}
+use Rattle.std.proofs.Common.{◌≡◌, ◌∙◌, ℕ, ◌<◌, ◌+◌, true, List, [], ◌∷◌, ◌++◌, take, length, get_or, map, Result, Ok, Err, IfOk, inl, inr, None, Some, refl, sym, ap, subst}
 use Rattle.std.specs.Prelude.{slice_get, if◌then◌else◌, unwrap_or}
 use Rattle.std.specs.List.{AllZip, Contains, list_any}
 use Rattle.std.proofs.lemmas.Option.{slice_get_within, unwrap_or-slice_get}
@@ -50,6 +50,11 @@ said part singles = record { part = part; content = body_lines part.body; single
 -- the first claim of a list is one of it
 pub first_in : (claims : List Claim) (claim : Claim) → Some claim ≡ slice_get claims 0 → Contains claims claim
 first_in claims claim e = (0, slice_get_within claims 0 claim (sym e), sym (unwrap_or-slice_get claims 0 claim) ∙ ap (λ o. unwrap_or o claim) (sym e))
+
+-- a list without a first claim has none
+pub none_first : (claims : List Claim) → None ≡ slice_get claims 0 → claims ≡ []
+none_first [] e = refl
+none_first (claim ∷ claims) e = absurd (cc)
 
 -- ---- the one claim
 

@@ -2,6 +2,7 @@ use Rattle.std.proofs.Common.{◌≡◌, ◌∙◌, List, sym, ap, subst, arith,
 use Rattle.room_books.specs.declared.meeting.Given.{Given}
 use Rattle.room_books.specs.declared.meeting.Single.{Single}
 use Rattle.room_books.specs.Instants.{IsPartOf}
+use Rattle.room_books.specs.Takings.{IsDecision}
 use Rattle.room_books.specs.Views.{others, all_singles, MayJoin}
 use Rattle.room_books.proofs.RoomSteps.{kept_joins, answers_join}
 use Rattle.room_books.proofs.room.Room.answers_after.Goals as goal
@@ -18,5 +19,8 @@ returns-clause-joins c =
     let few = c.args.self.now.timeline.few in let counted = c.args.self.now.counted in
     let joins = kept_joins k es (all_singles kept) c.keys_differ.ensures c.args.self.now.clear c.args.self.now.apart (omega (arith, few, counted))
     (subst (λ (l : List Single). IsPartOf (all_singles kept) l) c.requires.before c.requires.part) in
+    let candidates = c.in_ok-candidates.candidates.items in
+    let decision = subst (λ (l : List Given). IsDecision (others k es) k (all_singles kept) (all_singles l) c.in_ok-outcome.outcome) c.deref-2.ensures.value
+    (subst (λ (l : List Given). IsDecision (others k es) k (all_singles l) (all_singles c.deref-2.result.now) c.in_ok-outcome.outcome) c.deref.ensures.value c.in_ok-outcome.ensures) in
     subst (λ (l : List Given). MayJoin (others k es) k (all_singles l)) (sym c.in_ok-append.ensures.items)
-    (answers_join (others k es) k c.in_ok-outcome.outcome kept c.in_ok-candidates.candidates.items c.in_ok-new.new.items c.in_ok-outcome.ensures c.in_ok-new.ensures joins)
+    (answers_join (others k es) k c.in_ok-outcome.outcome kept candidates c.in_ok-new.new.items decision c.in_ok-new.ensures joins)

@@ -1,26 +1,33 @@
 -- The first claim says of which meeting all are.
-use Rattle.std.proofs.Common.{◌≡◌, List, [], sym, ap, subst}
+use Rattle.std.proofs.Common.{◌≡◌, ◌∙◌, List, [], None, Some, sym, ap, subst}
+use Rattle.std.specs.Prelude.{slice_get}
 use Rattle.ical_values.specs.Octets.{address_octets}
 use Rattle.profile.specs.streams.Streams.{AreClaims}
 use Rattle.room_books.specs.declared.taking.Claim.{Claim}
-use Rattle.room_books.specs.Takings.{claims_said}
-use Rattle.room_books.proofs.Claiming.{first_in}
+use Rattle.room_books.specs.Claiming.{AreClaimed}
+use Rattle.room_books.specs.Takings.{claims_said, kind_view}
+use Rattle.room_books.proofs.Claiming.{first_in, none_first}
 use Rattle.room_books.proofs.RoomSteps.{none_steps}
 use Rattle.room_books.proofs.room.Room.take.Goals as goal
 
 pub returns-in_default-clause-steps : goal.returns-in_default-clause-steps
 returns-in_default-clause-steps c = λ event says book st.
-    let claimed = c.in_ok-claims.ensures event says in
-    let none : claims_said c.in_ok-claims.claims.items ≡ [] = search rules in (
+    let room = address_octets c.args.self.now.address in
+    let claims = c.in_ok-claims.claims.items in
+    let none : claims ≡ [] = none_first claims (subst (λ (l : List Claim). None ≡ slice_get l 0) c.deref.ensures.value c.in_default.ensures.value) in (
       [],
-      subst (AreClaims (address_octets c.args.self.now.address) event) none claimed.are,
-      none_steps (address_octets c.args.self.now.address) c.args.self.now.meetings.entries book c.args.now _ _ st c.silent.ensures.kind c.silent.ensures.reply,
+      subst (λ (l : List Claim). AreClaims room event (claims_said l)) none (c.in_ok-claims.ensures event says).are,
+      none_steps room c.args.self.now.meetings.entries book c.args.now (kind_view c.silent.result.kind) _ st (ap kind_view c.silent.ensures.kind) c.silent.ensures.reply,
     )
 
 pub returns-clause-steps : goal.returns-clause-steps
 returns-clause-steps c = λ event says book st.
-    let claimed = c.in_ok-claims.ensures event says in (
-      claims_said c.in_ok-claims.claims.items,
+    let room = address_octets c.args.self.now.address in
+    let claims = c.deref-2.result.now in
+    let first = c.in-Some.first.now in
+    let claimed = subst (AreClaimed room event) (sym c.deref-2.ensures.value) (c.in_ok-claims.ensures event says) in
+    let is : Some first ≡ slice_get claims 0 = subst (λ (l : List Claim). Some first ≡ slice_get l 0) (c.deref.ensures.value ∙ sym c.deref-2.ensures.value) c.in-Some.ensures.value in (
+      claims_said claims,
       claimed.are,
-      c.in_ok-answer.ensures.steps (λ key k. claimed.fit key c.in_default.first (first_in c.in_ok-claims.claims.items c.in_default.first c.in_default.is) k) book st,
+      c.in_ok-answer.ensures.steps (λ key k. claimed.fit key first (first_in claims first is) k) book st,
     )
