@@ -1,5 +1,5 @@
 -- A meeting after a message, where it was the meeting of its own book before.
-use Rattle.std.proofs.Common.{◌≡◌, ◌∙◌, ℤ, Bool, true, false, not, ◌&&◌, List, [], ◌∷◌, ◌++◌, Option, None, Some, inl, inr, refl, sym, ap, subst}
+use Rattle.std.proofs.Common.{◌≡◌, ℤ, true, not, ◌&&◌, List, [], ◌∷◌, ◌++◌, Option, None, Some, inl, inr, sym, subst}
 use Rattle.std.specs.List.{AllZip, Contains, filter}
 use Rattle.std.proofs.lemmas.Bool.{and_from, both_ways, cases_Bool, not_from_false}
 use Rattle.std.proofs.lemmas.List.Elements.{Contains-append_left, Contains-append_right, Contains-append_cases}
@@ -16,7 +16,7 @@ use Rattle.room_books.specs.declared.meeting.Meeting.{Meeting}
 use Rattle.room_books.specs.declared.meeting.Single.{Single}
 use Rattle.room_books.specs.declared.meeting.Given.{Given}
 use Rattle.room_books.specs.Takings.{OutcomeDated, StandsAt}
-use Rattle.room_books.specs.Views.{booked_of, booked_list, outcome_of}
+use Rattle.room_books.specs.Views.{booked_of}
 use Rattle.room_books.specs.Standing.{IsFitting, AreFitting, IsOwn, IsGiven, IsDated, Meets, MeetsAt, standing, book_after}
 use Rattle.room_books.proofs.Runs.{new_answer}
 use Rattle.room_books.proofs.OwnSteps.{answer_to, stayed, given_after}

@@ -1,5 +1,5 @@
 -- What a room would have confirmed, were all that is asked accepted: what the other meetings have, and what its own would.
-use Rattle.std.proofs.Common.{◌≡◌, ◌∙◌, ℤ, Bool, true, false, not, ◌&&◌, List, [], ◌∷◌, ◌++◌, inl, inr, refl, sym, ap, subst, append-nil}
+use Rattle.std.proofs.Common.{◌≡◌, ◌∙◌, ℤ, Bool, true, false, not, List, [], ◌++◌, inl, inr, sym, ap, subst, append-nil}
 use Rattle.std.specs.List.{Contains, IsDistinct, filter}
 use Rattle.std.specs.Map.{keys_of}
 use Rattle.std.proofs.lemmas.Bool.{both_ways, not-true, not_from_false, false_from_ne_true}
@@ -12,7 +12,7 @@ use Rattle.profile.specs.rooms.Revisions.{Part}
 use Rattle.profile.specs.rooms.Rooms.{Answer, Book, Claim, is_confirmed, confirmed_in, confirmed, if_accepted, parts_of, asked, answered}
 use Rattle.room_books.specs.declared.meeting.MeetingKey.{MeetingKey}
 use Rattle.room_books.specs.declared.meeting.Meeting.{Meeting}
-use Rattle.room_books.specs.Views.{same_key, is_other, others, confirmed_of, all_confirmed}
+use Rattle.room_books.specs.Views.{same_key, is_other, others, confirmed_of}
 use Rattle.room_books.specs.Standing.{is_of, of_meeting, answers_of, book_of, AreFitting, Stands}
 use Rattle.room_books.proofs.Confirms.{zip_confirms}
 use Rattle.room_books.proofs.Entries.{found_entry, meeting_at}
@@ -48,8 +48,8 @@ module _ (k : MeetingKey) (entries : List (MeetingKey × Meeting)) (distinct : I
       let own = λ (a : Answer). is_of e.0 a.claim.part in
       let old = answers_of e.0 book.answers in
       let same : answers_of e.0 (filter not_own now) ≡ old =
-          answers_apart k e.0 now d ∙ filter-append own book.answers new
-          ∙ ap (λ l. old ++ l) (filter_none own new (λ a h. apart_from e.0 d a.claim.part (new_own a h))) ∙ append-nil old in
+      answers_apart k e.0 now d ∙ filter-append own book.answers new
+      ∙ ap (λ l. old ++ l) (filter_none own new (λ a h. apart_from e.0 d a.claim.part (new_own a h))) ∙ append-nil old in
       let parts : of_meeting e.0 all ≡ of_meeting e.0 book.taken = of_more_other e.0 book.taken (parts_of claims) (λ p h. apart_from e.0 d p (parts_own k claims fit p h)) in
       ap (confirmed_in all) same
       ∙ sym (confirmed_own e.0 all old (λ a h. (filter_at own book.answers a h).1))

@@ -1,7 +1,7 @@
 -- What becomes of a meeting is a step of the book that the room stands for.
-use Rattle.std.proofs.Common.{◌≡◌, ◌≢◌, ◌∙◌, ℕ, ℤ, ◌<◌, true, false, List, [], ◌∷◌, ◌++◌, map, length, Option, None, Some, inl, inr, refl, sym, ap, subst, arith, append-nil}
+use Rattle.std.proofs.Common.{◌≡◌, ◌≢◌, ◌∙◌, ℤ, ◌<◌, true, List, [], ◌∷◌, ◌++◌, map, length, Option, None, Some, inl, inr, refl, sym, ap, subst, arith, append-nil}
 use denote.Ref.{Bor}
-use Rattle.std.specs.Prelude.{nat_lt, is_some, IsTrue}
+use Rattle.std.specs.Prelude.{nat_lt}
 use Rattle.std.specs.List.{AllZip, Contains, IsDistinct}
 use Rattle.std.specs.Map.{keys_of, lookup}
 use Rattle.std.proofs.lemmas.Bool.{true≢false, lt-ltb}
@@ -13,7 +13,6 @@ use Rattle.profile.specs.text.Values.{IsClockSeconds}
 use Rattle.profile.specs.rooms.Messages.{Accept}
 use Rattle.profile.specs.rooms.Revisions.{Part}
 use Rattle.profile.specs.rooms.Rooms.{Answer, Book, Claim, Decides, confirmed, if_accepted, parts_of, asked, answered}
-use Rattle.profile.specs.rooms.Rooms as rooms
 use Rattle.room_books.specs.declared.answer.Kind.{Kind}
 use Rattle.room_books.specs.declared.meeting.MeetingKey.{MeetingKey}
 use Rattle.room_books.specs.declared.meeting.Meeting.{Meeting}
@@ -21,9 +20,9 @@ use Rattle.room_books.specs.declared.meeting.Outcome.{Outcome}
 use Rattle.room_books.specs.declared.meeting.Outcome.TheVariants.{Accepted}
 use Rattle.room_books.specs.declared.meeting.Given.{Given}
 use Rattle.room_books.specs.declared.taking.Claim.{Claim as Asking}
-use Rattle.room_books.specs.Takings.{claim_said, claims_said, kind_view, outcome_said, AreAsked, IsAnswered, IsKindOf, OutcomeDated}
+use Rattle.room_books.specs.Takings.{claim_said, claims_said, kind_view, AreAsked, IsAnswered, IsKindOf}
 use Rattle.room_books.specs.Views.{same_key, booked_list, all_singles, others, outcome_of}
-use Rattle.room_books.specs.Standing.{is_of, book_of, book_after, AreFitting, IsGiven, IsMeetingAfter, KeepsAll, Meets, MeetsAt, Stands}
+use Rattle.room_books.specs.Standing.{is_of, book_of, AreFitting, IsGiven, IsMeetingAfter, KeepsAll, Meets, Stands}
 use Rattle.room_books.proofs.Afters.{confirmed_asked, outcome_dated, meets_after}
 use Rattle.room_books.proofs.Beside.{beside_same}
 use Rattle.room_books.proofs.Runs.{new_answer}
@@ -94,9 +93,9 @@ module _ (k : MeetingKey) (entries : List (MeetingKey × Meeting)) (distinct : I
         let given = given_new k own is_own claims fit moment asking are meeting.held s outcome candidates decided accepted answered_now.1.3 in
         let once = pairs_filter OtherPart (λ (a : Answer). is_of k a.claim.part) book.answers st.once in
         let decides : Decides (confirmed (if_accepted book claims moment all)) (outcome_of outcome) =
-            decides_same _ _
-            (beside_same k entries distinct book st claims fit moment (booked_list k (all_singles kept ++ all_singles candidates)) (would_confirm k own is_own claims fit moment kept candidates kept_zip would))
-            (outcome_of outcome) (is_decision.decides (slots_differ k own is_own claims fit moment once kept candidates kept_zip would)) in
+        decides_same _ _
+        (beside_same k entries distinct book st claims fit moment (booked_list k (all_singles kept ++ all_singles candidates)) (would_confirm k own is_own claims fit moment kept candidates kept_zip would))
+        (outcome_of outcome) (is_decision.decides (slots_differ k own is_own claims fit moment once kept candidates kept_zip would)) in
         record {
           outcome = outcome_of outcome;
           step = record { taken = refl; answers = refl; decided = λ h. decides };

@@ -1,12 +1,12 @@
 -- A meeting's own book, when claims of it are taken: what is asked, and what is answered, is what the room's book says.
 use Rattle.std.proofs.Common.{◌≡◌, ◌∙◌, ℤ, Bool, true, not, ◌&&◌, ◌||◌, List, [], ◌∷◌, ◌++◌, length, refl, sym, ap, subst}
 use Rattle.std.specs.Prelude.{nat_lt, if◌then◌else◌}
-use Rattle.std.specs.List.{Contains, filter, list_any}
+use Rattle.std.specs.List.{Contains, list_any}
 use Rattle.std.proofs.lemmas.List.Elements.{filter-append}
 use Rattle.itip_order.proofs.Lists.{in_head, in_tail, filter_at, filter_from}
 use Rattle.profile.specs.rooms.Messages.{Outcome}
 use Rattle.profile.specs.rooms.Revisions.{Part, in_view}
-use Rattle.profile.specs.rooms.Rooms.{Claim, Answer, Book, Kind, Withdrawn, Repeated, Stale, kind_of, kind_of_outcome, is_fresh, is_same, is_set, parts_of, asked, answered}
+use Rattle.profile.specs.rooms.Rooms.{Claim, Answer, Book, Withdrawn, Repeated, Stale, kind_of, kind_of_outcome, is_fresh, is_same, is_set, parts_of, asked, answered}
 use Rattle.room_books.specs.declared.meeting.MeetingKey.{MeetingKey}
 use Rattle.room_books.specs.declared.meeting.Meeting.{Meeting}
 use Rattle.room_books.specs.Standing.{is_of, of_meeting, answers_of, book_of, book_after, AreFitting, IsOwn, Stands}

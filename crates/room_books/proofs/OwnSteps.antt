@@ -1,28 +1,28 @@
 -- The answers of a meeting after claims of it were taken are those of its own book.
-use Rattle.std.proofs.Common.{◌≡◌, ◌≢◌, ◌∙◌, ℤ, Bool, true, false, not, ◌&&◌, cond, List, [], ◌∷◌, ◌++◌, map, refl, sym, ap, subst, inl, inr}
+use Rattle.std.proofs.Common.{◌≡◌, ◌≢◌, ◌∙◌, ℤ, Bool, true, false, not, cond, List, [], ◌∷◌, ◌++◌, map, refl, sym, ap, subst, inl, inr}
 use denote.Ref.{Bor}
 use Rattle.std.specs.Prelude.{if◌then◌else◌}
-use Rattle.std.specs.List.{AllZip, Contains, filter, flat_map, AllPairs}
+use Rattle.std.specs.List.{AllZip, Contains, filter, AllPairs}
 use Rattle.std.proofs.lemmas.Bool.{both_ways}
 use Rattle.std.proofs.lemmas.Grind.{flat_map-append}
 use Rattle.std.proofs.lemmas.List.Elements.{filter-append, Contains-append_cases}
 use Rattle.itip_order.specs.Parts.{part_of, slot_of}
 use Rattle.itip_order.specs.Registers.{StandsFor}
-use Rattle.itip_order.proofs.Lists.{in_cons, in_head, in_tail, none_in_nil, filter_at}
+use Rattle.itip_order.proofs.Lists.{in_head, in_tail, filter_at}
 use Rattle.profile.specs.checker.Instances.{Booked}
 use Rattle.profile.specs.rooms.Messages.{Accept}
 use Rattle.profile.specs.rooms.Messages as messages
 use Rattle.profile.specs.rooms.Revisions.{Part, in_view}
-use Rattle.profile.specs.rooms.Rooms.{Answer, Book, Claim, is_accept, is_hidden, is_fresh, is_set, left_of, confirmed_in, parts_of, asked, answered}
+use Rattle.profile.specs.rooms.Rooms.{Answer, Book, Claim, is_accept, is_hidden, confirmed_in, parts_of, asked, answered}
 use Rattle.room_books.specs.declared.meeting.MeetingKey.{MeetingKey}
 use Rattle.room_books.specs.declared.meeting.Outcome.{Outcome}
 use Rattle.room_books.specs.declared.meeting.Outcome.TheVariants.{Accepted}
 use Rattle.room_books.specs.declared.meeting.Single.{Single}
 use Rattle.room_books.specs.declared.meeting.Given.{Given}
 use Rattle.room_books.specs.declared.taking.Claim.{Claim as Asking}
-use Rattle.room_books.specs.Takings.{claim_said, left_in, booked_in, IsAccepted, IsDecided}
+use Rattle.room_books.specs.Takings.{claim_said, booked_in, IsAccepted, IsDecided}
 use Rattle.room_books.specs.Views.{booked_list, all_singles, slots_of, outcome_of}
-use Rattle.room_books.specs.Standing.{is_of, IsFitting, AreFitting, IsOwn, IsGiven, Pairwise, standing}
+use Rattle.room_books.specs.Standing.{is_of, AreFitting, IsOwn, IsGiven, Pairwise, standing}
 use Rattle.room_books.proofs.Confirms.{zip_confirms, standing_confirms}
 use Rattle.room_books.proofs.Runs.{new_answer}
 use Rattle.room_books.proofs.Loops.{zip_both}

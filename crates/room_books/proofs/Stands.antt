@@ -3,18 +3,17 @@ use Rattle.std.proofs.Common.{◌≡◌, ◌≢◌, ℕ, ℤ, ◌<◌, Bool, tru
 use Rattle.std.specs.Prelude.{◌==◌, IsTrue}
 use Rattle.std.specs.List.{AllZip, Contains, filter}
 use Rattle.std.specs.Map.{keys_of, lookup}
-use Rattle.std.proofs.lemmas.Bool.{and_parts, both_ways, cases_Bool, false_from_ne_true, not-true}
+use Rattle.std.proofs.lemmas.Bool.{both_ways, cases_Bool, false_from_ne_true}
 use Rattle.std.proofs.lemmas.List.Elements.{filter-append, Contains-append_cases}
 use Rattle.indexmap.specs.IndexMap.{insert_entry}
-use Rattle.itip_order.proofs.Lists.{in_head, in_tail, filter_at, filter_from}
+use Rattle.itip_order.proofs.Lists.{in_head, in_tail, filter_at}
 use Rattle.profile.specs.rooms.Revisions.{Part, in_view}
-use Rattle.profile.specs.rooms.Messages.{Outcome}
-use Rattle.profile.specs.rooms.Rooms.{Claim, Answer, Book, Kind, is_fresh, is_set, parts_of, asked, answered, shown}
+use Rattle.profile.specs.rooms.Rooms.{Claim, Answer, Book, Kind, is_set, parts_of, asked, answered, shown}
 use Rattle.profile.specs.rooms.Kept.{Replies, ShowsAnswer, first_parts}
 use Rattle.room_books.specs.declared.meeting.MeetingKey.{MeetingKey}
 use Rattle.room_books.specs.declared.meeting.Meeting.{Meeting}
 use Rattle.room_books.specs.Views.{same_key}
-use Rattle.room_books.specs.Standing.{is_of, AreFitting, of_meeting, answers_of, book_of, IsOwn, IsGiven, Meets, MeetsAt, Covers, Pairwise, AreKeysOf, Stands, book_after, standing, IsMeetingAfter, StepsWith}
+use Rattle.room_books.specs.Standing.{is_of, AreFitting, of_meeting, answers_of, book_of, IsOwn, IsGiven, Meets, MeetsAt, Covers, AreKeysOf, Stands, book_after, standing, IsMeetingAfter, StepsWith}
 use Rattle.room_books.proofs.Arrivals.{arrives}
 use Rattle.room_books.proofs.Meetings.{key_from, is_of_same, one_meeting, of_more_other, filter_none, view_of}
 use Rattle.room_books.proofs.Pairs.{pairs_append, map_at}

@@ -1,5 +1,5 @@
 -- What becomes of the meeting is a step of the book that the room stands for.
-use Rattle.std.proofs.Common.{◌≡◌, ◌∙◌, List, ◌++◌, Option, sym, ap, subst}
+use Rattle.std.proofs.Common.{◌≡◌, List, ◌++◌, Option, sym, subst}
 use Rattle.std.specs.Prelude.{option_copied}
 use Rattle.std.specs.Map.{lookup}
 use Rattle.itip_order.specs.Parts.{part_of}
