@@ -98,12 +98,18 @@ pub record TakenSofar (moment : ℤ) (message : Message) (olds news : List Room)
 pub taken_none : (moment : ℤ) (message : Message) (rooms : List Room) (octets : List ℕ) → TakenSofar moment message rooms rooms 0 octets octets
 taken_none moment message rooms octets = record { octets = []; is = sym (append-nil octets); takes = refl; rest = refl; long = refl }
 
+-- apart, as nothing else is needed for them
+within_olds : (i m n : ℕ) → i < n → n ≡ m → i < m
+within_olds i m n l e = omega arith
+
+before_next : (i : ℕ) → i < i + 1
+before_next i = omega arith
+
 pub taken_more : (moment : ℤ) (message : Message) (olds news : List Room) (i : ℕ) (before mid after : List ℕ) (d new : Room) (first : List ℕ)
     → TakenSofar moment message olds news i before mid → i < length news → new.address ≡ (get_or news i d).address
     → RoomTakes moment message (get_or news i d) new first → after ≡ mid ++ first → TakenSofar moment message olds (set news i new) (i + 1) before after
 taken_more moment message olds news i before mid after d new first so l same takes is =
-    let long = so.long in
-    let l' : i < length olds = omega arith in
+    let l' : i < length olds = within_olds i (length olds) (length news) l so.long in
     let old = get_or news i d in
     let both : old ∷ drop (i + 1) news ≡ get_or olds i d ∷ drop (i + 1) olds = sym (drop_more news i d l) ∙ so.rest ∙ drop_more olds i d l' in
     let head : get_or olds i d ≡ old = cc in
@@ -116,8 +122,8 @@ taken_more moment message olds news i before mid after d new first so l same tak
       takes =
           subst (λ a. P a (take (i + 1) (set news i new))) (sym olds_is)
           (subst (P (take i olds ++ old ∷ [])) (sym (take_more_set news i new l)) (rooms_push moment message (take i olds) (take i news) old new so.octets first so.takes same takes));
-      rest = drop-set-lt (i + 1) news i new (omega arith) ∙ tail;
-      long = length-set news i new ∙ long;
+      rest = drop-set-lt (i + 1) news i new (before_next i) ∙ tail;
+      long = length-set news i new ∙ so.long;
     }
 
 pub taken_all : (moment : ℤ) (message : Message) (olds news : List Room) (i : ℕ) (before after : List ℕ) → TakenSofar moment message olds news i before after
