@@ -13,7 +13,8 @@ use Rattle.room_books.specs.Standing.{is_of, answers_of, book_of, Meets, MeetsAt
 use Rattle.room_books.proofs.Confirms.{zip_confirms}
 use Rattle.room_books.proofs.Keys.{key_congr}
 use Rattle.room_books.proofs.Meetings.{key_parts, key_from, is_of_same, confirmed_own}
-use Rattle.room_books.proofs.Partition.{AreSame, partition}
+use Rattle.room_books.proofs.Partition.{partition}
+use Rattle.room_books.proofs.Same.{AreSame}
 
 pub key_laws : IsEquivalence same_key
 key_laws = record {

@@ -1,9 +1,9 @@
 -- What a look-up in the view says of a hidden instance.
-use Rattle.std.proofs.Common.{◌≡◌, ◌∙◌, ℤ, Bool, true, false, ◌&&◌, Option, None, Some, refl, sym, ap, subst, IsTrue}
+use Rattle.std.proofs.Common.{◌≡◌, ℤ, Bool, true, false, ◌&&◌, Option, None, Some, sym, ap, subst, IsTrue}
 use Rattle.std.specs.Prelude.{IfSome, IfNone, is_some}
 use denote.Ref.{Bor}
 use Rattle.std.specs.Ordering.{is_eq}
-use Rattle.std.specs.List.{list_any, Contains}
+use Rattle.std.specs.List.{list_any}
 use Rattle.std.proofs.lemmas.Bool.{and_parts, and_from, false_from_ne_true}
 use Rattle.itip_order.specs.Parts.{part_of}
 use Rattle.itip_order.specs.Registers.{StandsFor, IsInView, HasNone, at_slot}
@@ -11,7 +11,7 @@ use Rattle.itip_order.specs.declared.part.Part.{Part as HeldPart}
 use Rattle.itip_order.proofs.Lists.{any_at, any_from}
 use Rattle.itip_order.proofs.Lasting.{view_taken}
 use Rattle.profile.specs.checker.Instances.{Booked}
-use Rattle.profile.specs.rooms.Revisions.{Part, Slot, Whole, At, slot_cmp, in_view, same_place, is_whole}
+use Rattle.profile.specs.rooms.Revisions.{Part, Slot, Whole, At, slot_cmp, in_view, same_place}
 use Rattle.profile.specs.rooms.Rooms.{is_hidden}
 use Rattle.std.proofs.Common.{List}
 

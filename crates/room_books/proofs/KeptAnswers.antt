@@ -1,6 +1,6 @@
 -- What a room keeps of an answer reads back as a confirmed event, of the same instance.
-use Rattle.std.proofs.Common.{◌≡◌, ◌∙◌, ℕ, ◌<◌, ◌^◌, Bool, true, false, List, [], ◌∷◌, ◌++◌, codes, decimal, Option, Some, None, sym, ap, subst, arith, inl, inr}
-use Rattle.std.specs.List.{list_all, Contains, AllZip}
+use Rattle.std.proofs.Common.{◌≡◌, ◌∙◌, ℕ, ◌<◌, ◌^◌, Bool, true, false, List, [], ◌∷◌, ◌++◌, codes, decimal, Option, Some, None, sym, ap, subst, arith}
+use Rattle.std.specs.List.{list_all, Contains}
 use Rattle.std.specs.Str.{bytes_eq}
 use Rattle.std.proofs.lemmas.Slice.Eq.{bytes_eq-Decides}
 use Rattle.profile.specs.text.Lines.{is_content, line_value, logical_lines}
@@ -13,7 +13,7 @@ use Rattle.profile.specs.events.Properties.{Says, BothOrNeither, StandsAtMostOnc
 use Rattle.profile.specs.rooms.Messages.{SpellsRequest, IsPart, names_room}
 use Rattle.profile.specs.rooms.Rooms.{Claim, Answer}
 use Rattle.profile.specs.rooms.Kept.{IsKeptEvent}
-use Rattle.itip_order.proofs.Lists.{in_cons, in_head, in_tail, none_in_nil, filter_at, any_at}
+use Rattle.itip_order.proofs.Lists.{in_head, filter_at, any_at}
 use Rattle.ical_values.proofs.Addresses.{lower_twice}
 use Rattle.ical_values.proofs.Escapes.{read_back}
 use Rattle.ical_values.proofs.Readings.{stamp_written, sequence_written}

@@ -1,8 +1,8 @@
 -- Over every run each answer was asked for by some octets, and no two confirmed answers are of one meeting.
-use Rattle.std.proofs.Common.{◌≡◌, ◌∙◌, ℕ, ℤ, ◌≤◌, Bool, true, false, ◌&&◌, List, [], ◌∷◌, length, sym, ap, ap₂, subst, arith, inl, inr}
+use Rattle.std.proofs.Common.{◌≡◌, ◌∙◌, ℕ, ℤ, ◌≤◌, Bool, true, ◌&&◌, List, [], ◌∷◌, length, sym, ap, ap₂, subst, arith, inl, inr}
 use Rattle.std.specs.Ordering.{is_eq, ordering_then}
 use Rattle.std.specs.List.{filter, Contains}
-use Rattle.std.proofs.lemmas.Bool.{and_parts, and_from, not-true, both_ways, false_from_ne_true}
+use Rattle.std.proofs.lemmas.Bool.{and_parts, and_from, both_ways, false_from_ne_true}
 use Rattle.std.proofs.lemmas.List.{length-map}
 use Rattle.std.proofs.lemmas.List.Elements.{Contains-append_cases, filter-append}
 use Rattle.profile.specs.events.Events.{Event}
@@ -14,7 +14,7 @@ use Rattle.itip_order.proofs.Lists.{in_cons, in_head, in_tail, none_in_nil, filt
 use Rattle.itip_order.proofs.Order.{is_eq_true}
 use Rattle.itip_order.proofs.Registers.{greatest_at, greatest_unique}
 use Rattle.room_books.proofs.Views.{AllWhole, view_back}
-use Rattle.room_books.proofs.Runs.{IsSound, step_sound}
+use Rattle.room_books.proofs.Runs.{IsSound, step_sound, new_answer}
 use Rattle.room_books.proofs.KeptAnswers.{IsAsked}
 use Rattle.room_books.specs.Standing.{Pairwise}
 use Rattle.room_books.proofs.Pairs.{pairs_append, pairs_short, pairs_stronger, map_at}
@@ -59,24 +59,6 @@ pub record KeepsAll (room : List ℕ) (book : Book) : Type 0 where
   pub whole : AllWhole book.taken
   pub each : (a : Answer) → Contains book.answers a → IsAsked room a.claim
   pub apart : Pairwise AnswersApart (filter (is_confirmed book.taken) book.answers)
-
--- a new answer is to one of the claims, whose part is fresh
-pub record IsNew (before after : List Part) (claims : List Claim) (a : Answer) : Type 0 where
-  pub among : Contains claims a.claim
-  pub gone : in_view before a.claim.part ≡ false
-  pub seen : in_view after a.claim.part ≡ true
-
-pub new_answer : (before after : List Part) (moment : ℤ) (outcome : Outcome) (claims : List Claim) (a : Answer) → Contains (answered moment outcome (asked before after claims)) a → IsNew before after claims a
-new_answer before after moment outcome claims a c =
-    let found = map_at _ (asked before after claims) a c in
-    let is : found.0 ≡ a.claim = ap (λ (x : Answer). x.claim) found.2 in
-    let from = filter_at (λ (x : Claim). is_set x.part && is_fresh before after x.part) claims found.0 found.1 in
-    let fresh = and_parts _ _ (and_parts _ _ from.1).1 in
-    record {
-      among = subst (λ (x : Claim). Contains claims x) is from.0;
-      gone = subst (λ (x : Claim). in_view before x.part ≡ false) is (not-true _ fresh.1);
-      seen = subst (λ (x : Claim). in_view after x.part ≡ true) is fresh.0;
-    }
 
 -- a step with claims that octets ask for
 pub keeps_step : (room : List ℕ) (before : Book) (claims : List Claim) (moment : ℤ) (outcome : Outcome) (after : Book) → OneAsked room claims → IsStep before claims moment outcome after → KeepsAll room before → KeepsAll room after

@@ -1,5 +1,5 @@
 -- What became of a message, by what was asked and how new its parts are.
-use Rattle.std.proofs.Common.{◌≡◌, ◌∙◌, Bool, true, false, cond, List, [], ◌∷◌, length, refl, sym, ap, subst}
+use Rattle.std.proofs.Common.{◌≡◌, Bool, List, [], ◌∷◌, length, refl, sym, ap}
 use Rattle.std.specs.Prelude.{nat_lt, IsTrue, if◌then◌else◌}
 use Rattle.std.specs.List.{list_any}
 use Rattle.std.proofs.lemmas.Bool.{true≢false}
@@ -8,7 +8,7 @@ use Rattle.room_books.specs.declared.taking.Claim.{Claim as Asking}
 use Rattle.room_books.specs.Takings.{claims_said, parts_said}
 use Rattle.profile.specs.rooms.Messages.{Outcome}
 use Rattle.profile.specs.rooms.Revisions.{Part}
-use Rattle.profile.specs.rooms.Rooms.{Claim, Kind, Withdrawn, Repeated, Stale, kind_of, kind_of_outcome, is_fresh, is_same, parts_of, asked}
+use Rattle.profile.specs.rooms.Rooms.{Claim, Withdrawn, Repeated, Stale, kind_of, kind_of_outcome, is_fresh, is_same, parts_of, asked}
 
 module _ (before after : List Part) (outcome : Outcome) where
   pub kind_by : (claims : List Claim) (a f s : Bool) → IsTrue (nat_lt 0 (length claims)) → nat_lt 0 (length (asked before after claims)) ≡ a → list_any (is_fresh before after) (parts_of claims) ≡ f

@@ -39,3 +39,10 @@ pub mod Bodies
 pub mod BySlot
 pub mod RoomSteps
 pub mod KindLemmas
+pub mod SlotsApart
+pub mod OwnBook
+pub mod OwnSteps
+pub mod Beside
+pub mod Afters
+pub mod MeetingSteps
+pub mod Stands

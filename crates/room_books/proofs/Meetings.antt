@@ -1,15 +1,14 @@
 -- Parts of one meeting, and what one part more does to the view of them.
-use Rattle.std.proofs.Common.{◌≡◌, Bool, true, false, not, ◌&&◌, cond, List, [], ◌∷◌, ◌++◌, inl, inr, refl, sym, ap, ◌∙◌, subst}
+use Rattle.std.proofs.Common.{◌≡◌, Bool, true, false, not, ◌&&◌, cond, List, [], ◌∷◌, ◌++◌, inl, inr, refl, sym, ap, ◌∙◌}
 use Rattle.std.specs.Ordering.{is_eq, ordering_then}
 use Rattle.std.specs.declared.cmp.Ordering.TheVariants.{Equal}
 use Rattle.std.specs.Str.{bytes_eq}
-use Rattle.std.specs.List.{Contains, filter, flat_map, list_all}
+use Rattle.std.specs.List.{Contains, filter, flat_map}
 use Rattle.std.specs.Cmp.{both_ways as same_tests}
 use Rattle.std.specs.FinMap.{nat_cmp-IsAntisymmetric, slice_cmp-IsAntisymmetric}
 use Rattle.std.proofs.lemmas.Bool.{and_parts, and_from, cases_Bool, or_left, or_right, or_cases, true≢false}
-use Rattle.std.proofs.Math.Bool.{and-true}
 use Rattle.std.proofs.lemmas.List.{append-nil}
-use Rattle.std.proofs.lemmas.List.Elements.{filter-append, Contains-append_left, Contains-push, Contains-push_cases}
+use Rattle.std.proofs.lemmas.List.Elements.{filter-append}
 use Rattle.std.proofs.lemmas.Slice.Eq.{bytes_eq-Decides}
 use Rattle.ical_values.specs.Octets.{address_octets, text_octets}
 use Rattle.profile.specs.checker.Instances.{Booked}
@@ -134,12 +133,12 @@ of_more_other k h more other = filter-append (is_of k) h more ∙ ap (λ l. of_m
 
 -- ---- what answers confirm
 
-pub filter_same : (f g : Answer → Bool) (xs : List Answer) → ((a : Answer) → Contains xs a → f a ≡ g a) → filter f xs ≡ filter g xs
+pub filter_same : {X : Type 0} (f g : X → Bool) (xs : List X) → ((x : X) → Contains xs x → f x ≡ g x) → filter f xs ≡ filter g xs
 filter_same f g [] h = refl
 filter_same f g (x ∷ xs) h =
     ap (λ b. cond b (x ∷ filter f xs) (filter f xs)) (h x (in_head x xs)) ∙ ap (λ l. cond (g x) (x ∷ l) l) (filter_same f g xs (λ a c. h a (in_tail x xs a c)))
 
-pub filter_none : (f : Answer → Bool) (xs : List Answer) → ((a : Answer) → Contains xs a → f a ≡ false) → filter f xs ≡ []
+pub filter_none : {X : Type 0} (f : X → Bool) (xs : List X) → ((x : X) → Contains xs x → f x ≡ false) → filter f xs ≡ []
 filter_none f [] h = refl
 filter_none f (x ∷ xs) h = ap (λ b. cond b (x ∷ filter f xs) (filter f xs)) (h x (in_head x xs)) ∙ filter_none f xs (λ a c. h a (in_tail x xs a c))
 

@@ -10,7 +10,8 @@ use Rattle.profile.specs.rooms.Rooms.{Claim, Answer, Book, empty_book, is_fresh,
 use Rattle.profile.specs.streams.Streams.{IsDelivered}
 use Rattle.itip_order.proofs.Lists.{in_cons, in_head, in_tail, none_in_nil, filter_no_longer}
 use Rattle.room_books.proofs.Views.{view_back}
-use Rattle.room_books.proofs.KeptRuns.{OneAsked, delivered_asked, KeepsAll, keeps_step, keeps_none, new_answer}
+use Rattle.room_books.proofs.KeptRuns.{OneAsked, delivered_asked, KeepsAll, keeps_step, keeps_none}
+use Rattle.room_books.proofs.Runs.{new_answer}
 
 -- ---- they stay
 

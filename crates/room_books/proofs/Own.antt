@@ -1,27 +1,27 @@
 -- A meeting by its own book: the answers that stay when more of its parts are taken, and what they confirm.
 use Rattle.std.proofs.Common.{◌≡◌, ◌∙◌, ℕ, ◌+◌, ◌<◌, take, get_or, Bool, true, false, not, ◌&&◌, cond, List, [], ◌∷◌, ◌++◌, map, length, inl, inr, Option, None, Some, refl, sym, ap, subst, append-nil}
 use Rattle.std.specs.List.{AllZip, filter, flat_map, Contains}
-use Rattle.std.proofs.lemmas.Bool.{true≢false, and_parts, and_from, cases_Bool, not-true, not_from_false, false_from_ne_true, both_ways}
-use Rattle.std.proofs.lemmas.List.Elements.{Contains-append_left, Contains-append_right, Contains-push, Contains-push_cases, Contains-append_cases, filter-append}
+use Rattle.std.proofs.lemmas.Bool.{true≢false, not-true, not_from_false, false_from_ne_true, both_ways}
+use Rattle.std.proofs.lemmas.List.Elements.{Contains-append_left, Contains-push}
 use Rattle.std.proofs.lemmas.List.{take_more}
 use Rattle.itip_order.specs.Parts.{slot_of}
 use Rattle.itip_order.specs.Registers.{StandsFor, at_slot}
-use Rattle.itip_order.proofs.Lasting.{view_one, view_taken}
-use Rattle.itip_order.proofs.Lists.{in_head, in_tail, in_cons, none_in_nil, filter_at, filter_from}
+use Rattle.itip_order.proofs.Lasting.{view_one}
+use Rattle.itip_order.proofs.Lists.{in_head, in_tail, none_in_nil, filter_at}
 use Rattle.itip_order.proofs.Registers.{place_sym, place_trans}
 use Rattle.profile.specs.checker.Instances.{Booked}
 use Rattle.profile.specs.rooms.Revisions.{Part, in_view, same_place}
-use Rattle.profile.specs.rooms.Rooms.{Answer, Book, is_accept, is_confirmed, is_hidden, left_of, confirmed_in}
+use Rattle.profile.specs.rooms.Rooms.{Answer, Book, is_accept, is_hidden, left_of, confirmed_in}
 use Rattle.room_books.specs.declared.meeting.MeetingKey.{MeetingKey}
 use Rattle.room_books.specs.declared.meeting.Meeting.{Meeting}
 use Rattle.room_books.specs.declared.meeting.Single.{Single}
 use Rattle.room_books.specs.declared.meeting.Given.{Given}
-use Rattle.room_books.specs.Takings.{IsStill, IsViewed, IsLeftOf, left_in, booked_in}
-use Rattle.room_books.specs.Views.{booked_of, booked_list, outcome_of, all_singles}
-use Rattle.room_books.specs.Standing.{is_of, IsOwn, IsGiven, standing, KeepsAll, Meets, MeetsAt}
-use Rattle.room_books.proofs.Loops.{zip_push, filter_push, filter_yes, filter_no, flat_push}
+use Rattle.room_books.specs.Takings.{IsStill, IsViewed, left_in, booked_in}
+use Rattle.room_books.specs.Views.{booked_of, booked_list}
+use Rattle.room_books.specs.Standing.{is_of, IsOwn, IsGiven, standing, KeepsAll}
+use Rattle.room_books.proofs.Loops.{zip_push, filter_push, filter_yes, filter_no}
 use Rattle.room_books.proofs.Meetings.{is_of_parts, same_place_of}
-use Rattle.room_books.proofs.Views.{view_back, hidden_stays}
+use Rattle.room_books.proofs.Views.{hidden_stays}
 
 -- ---- filters
 

@@ -1,9 +1,8 @@
 -- What is confirmed, meeting by meeting: the same instances, and as many.
-use Rattle.std.proofs.Common.{◌≡◌, Bool, true, false, not, cond, List, [], ◌∷◌, ◌++◌, inl, inr, refl, sym, ap, ◌∙◌, subst, length, arith, length-append, append_assoc}
+use Rattle.std.proofs.Common.{◌≡◌, Bool, true, false, not, cond, List, [], ◌∷◌, ◌++◌, inl, inr, refl, sym, ap, ◌∙◌, subst, append_assoc}
 use Rattle.std.specs.List.{Contains, filter, flat_map, IsDistinct, AllByRecursion}
 use Rattle.std.specs.Map.{keys_of}
 use Rattle.std.proofs.lemmas.Bool.{both_ways, not-true, false_from_ne_true}
-use Rattle.std.proofs.lemmas.List.Elements.{Contains-append_left, Contains-append_right, Contains-append_cases}
 use Rattle.std.proofs.lemmas.Map.Keys.{IsDistinct-head, IsDistinct-tail}
 use Rattle.profile.specs.checker.Instances.{Booked}
 use Rattle.profile.specs.rooms.Revisions.{Part}
@@ -14,42 +13,7 @@ use Rattle.room_books.specs.declared.meeting.Meeting.{Meeting}
 use Rattle.room_books.specs.Views.{same_key, confirmed_of, all_confirmed}
 use Rattle.room_books.specs.Standing.{is_of, answers_of}
 use Rattle.room_books.proofs.Meetings.{one_meeting, filter_none}
-
--- the same elements, and as many
-pub record AreSame (xs ys : List Booked) : Type 0 where
-  pub to : (x : Booked) → Contains xs x → Contains ys x
-  pub from : (x : Booked) → Contains ys x → Contains xs x
-  pub long : length xs ≡ length ys
-
-pub same_itself : (xs : List Booked) → AreSame xs xs
-same_itself xs = record { to = λ x c. c; from = λ x c. c; long = refl }
-
-pub same_then : (xs ys zs : List Booked) → AreSame xs ys → AreSame ys zs → AreSame xs zs
-same_then xs ys zs p q = record { to = λ x c. q.to x (p.to x c); from = λ x c. p.from x (q.from x c); long = p.long ∙ q.long }
-
-pub same_append : (a b c d : List Booked) → AreSame a b → AreSame c d → AreSame (a ++ c) (b ++ d)
-same_append a b c d p q = record {
-  to = λ x h. elim (Contains-append_cases a c x h) [ inl l ↦ Contains-append_left b d x (p.to x l) | inr r ↦ Contains-append_right b d x (q.to x r) ];
-  from = λ x h. elim (Contains-append_cases b d x h) [ inl l ↦ Contains-append_left a c x (p.from x l) | inr r ↦ Contains-append_right a c x (q.from x r) ];
-  long = let s = p.long in let t = q.long in omega (arith, length-append a c, length-append b d);
-}
-
--- the first goes behind the second
-same_swap : (a b c : List Booked) → AreSame (a ++ (b ++ c)) (b ++ (a ++ c))
-same_swap a b c = record {
-  to = λ x h. swapped a b c x h;
-  from = λ x h. swapped b a c x h;
-  long = omega (arith, length-append a (b ++ c), length-append b (a ++ c), length-append a c, length-append b c);
-}
-  where
-    swapped : (a b c : List Booked) (x : Booked) → Contains (a ++ (b ++ c)) x → Contains (b ++ (a ++ c)) x
-    swapped a b c x h = elim (Contains-append_cases a (b ++ c) x h) [
-      | inl l ↦ Contains-append_right b (a ++ c) x (Contains-append_left a c x l)
-      | inr r ↦ elim (Contains-append_cases b c x r) [
-        | inl m ↦ Contains-append_left b (a ++ c) x m
-        | inr n ↦ Contains-append_right b (a ++ c) x (Contains-append_right a c x n)
-      ]
-    ]
+use Rattle.room_books.proofs.Same.{AreSame, same_itself, same_then, same_append, same_swap}
 
 -- one answer more, which is confirmed or not, and is of the first kind or of the second
 split_step : (c p : Bool) (own all yes no : List Booked) → AreSame all (yes ++ no)
@@ -70,7 +34,7 @@ confirmed_cond : (t : List Part) (b : Bool) (a : Answer) (xs : List Answer) → 
 confirmed_cond t true a xs = confirmed_cons t a xs
 confirmed_cond t false a xs = refl
 
-confirmed_split : (t : List Part) (f : Answer → Bool) (xs : List Answer) → AreSame (confirmed_in t xs) (confirmed_in t (filter f xs) ++ confirmed_in t (filter (λ a. not (f a)) xs))
+pub confirmed_split : (t : List Part) (f : Answer → Bool) (xs : List Answer) → AreSame (confirmed_in t xs) (confirmed_in t (filter f xs) ++ confirmed_in t (filter (λ a. not (f a)) xs))
 confirmed_split t f [] = same_itself []
 confirmed_split t f (a ∷ xs) =
     let rest = confirmed_split t f xs in

@@ -1,12 +1,12 @@
 -- Some instances of all: among them, no more, and apart where all are.
-use Rattle.std.proofs.Common.{◌≡◌, ◌∙◌, ℕ, ◌+◌, ◌<◌, ◌≤◌, suc, zero, Bool, List, [], ◌∷◌, ◌++◌, take, length, get_or, map, inl, inr, refl, sym, ap, subst, arith, length-append, append-nil}
+use Rattle.std.proofs.Common.{◌≡◌, ◌∙◌, ℕ, ◌+◌, ◌<◌, suc, List, [], ◌∷◌, ◌++◌, take, length, get_or, inl, inr, sym, ap, subst, arith, length-append, append-nil}
 use Rattle.std.specs.List.{Contains, AllPairs}
 use Rattle.std.proofs.lemmas.List.{take_more}
 use Rattle.std.proofs.lemmas.List.Elements.{Contains-append_left, Contains-append_right, Contains-append_cases}
 use Rattle.itip_order.proofs.Lists.{in_cons, none_in_nil}
 use Rattle.room_books.specs.declared.meeting.Single.{Single}
 use Rattle.room_books.specs.declared.meeting.Given.{Given}
-use Rattle.room_books.specs.Instants.{HaveInstant, AreSeparate, IsPartOf}
+use Rattle.room_books.specs.Instants.{HaveInstant, IsPartOf}
 use Rattle.room_books.specs.Standing.{Pairwise}
 use Rattle.room_books.specs.Views.{all_singles}
 use Rattle.room_books.proofs.Loops.{flat_push}

@@ -1,5 +1,5 @@
 -- What holds of all meetings of a room, when one of them is put in its place.
-use Rattle.std.proofs.Common.{◌≡◌, ◌≤◌, ℕ, ℤ, Bool, true, false, not, cond, List, [], ◌∷◌, ◌++◌, inl, inr, Option, None, Some, refl, sym, ap, ap₂, ◌∙◌, subst, length, arith, length-append, append-nil}
+use Rattle.std.proofs.Common.{◌≡◌, ◌≤◌, ℕ, ℤ, Bool, true, false, cond, List, [], ◌∷◌, ◌++◌, inl, inr, Option, None, Some, refl, sym, ap₂, ◌∙◌, subst, length, arith, length-append, append-nil}
 use Rattle.std.specs.List.{Contains, IsDistinct, AllPairs, AllZip}
 use Rattle.std.specs.Prelude.{◌≢◌, if◌then◌else◌, IfOk, Result, Ok, Err}
 use Rattle.std.specs.Map.{lookup, keys_of}

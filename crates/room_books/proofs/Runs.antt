@@ -10,7 +10,7 @@ use Rattle.profile.specs.rooms.Revisions.{Part, in_view}
 use Rattle.profile.specs.rooms.Messages.{Outcome, Accept, Busy, SeriesLimit, SinglesLimit}
 use Rattle.profile.specs.rooms.Rooms.{Claim, Answer, Book, empty_book, is_accept, is_confirmed, is_hidden, left_of, confirmed_in, confirmed, is_fresh, is_set, parts_of, asked, most_singles, Decides, answered, IsStep, Delivery, Runs}
 use Rattle.itip_order.proofs.Lists.{in_cons, in_head, in_tail, none_in_nil, filter_at}
-use Rattle.room_books.proofs.Pairs.{map_from}
+use Rattle.room_books.proofs.Pairs.{map_at, map_from}
 use Rattle.room_books.proofs.Views.{view_back, hidden_stays}
 
 -- clear, and no more than the limit
@@ -127,6 +127,27 @@ answered_part moment outcome (x ∷ xs) a c =
       | inl here ↦ (x, in_head x xs, sym (ap (λ y. y.claim) here))
       | inr there ↦ let rest = answered_part moment outcome xs a there in (rest.0, in_tail x xs rest.0 rest.1, rest.2)
     ]
+
+-- a new answer is to one of the claims, whose part is fresh
+pub record IsNew (before after : List Part) (claims : List Claim) (a : Answer) : Type 0 where
+  pub among : Contains claims a.claim
+  pub set : is_set a.claim.part ≡ true
+  pub gone : in_view before a.claim.part ≡ false
+  pub seen : in_view after a.claim.part ≡ true
+
+pub new_answer : (before after : List Part) (moment : ℤ) (outcome : Outcome) (claims : List Claim) (a : Answer) → Contains (answered moment outcome (asked before after claims)) a → IsNew before after claims a
+new_answer before after moment outcome claims a c =
+    let found = map_at _ (asked before after claims) a c in
+    let is : found.0 ≡ a.claim = ap (λ (x : Answer). x.claim) found.2 in
+    let from = filter_at (λ (x : Claim). is_set x.part && is_fresh before after x.part) claims found.0 found.1 in
+    let both = and_parts _ _ from.1 in
+    let fresh = and_parts _ _ both.1 in
+    record {
+      among = subst (λ (x : Claim). Contains claims x) is from.0;
+      set = subst (λ (x : Claim). is_set x.part ≡ true) is both.0;
+      gone = subst (λ (x : Claim). in_view before x.part ≡ false) is (not-true _ fresh.1);
+      seen = subst (λ (x : Claim). in_view after x.part ≡ true) is fresh.0;
+    }
 
 -- a step from a sound book leads to a sound book
 pub step_sound : (before : Book) (claims : List Claim) (moment : ℤ) (outcome : Outcome) (after : Book) → IsStep before claims moment outcome after → IsSound before → IsSound after

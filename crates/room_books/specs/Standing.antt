@@ -1,14 +1,14 @@
 -- What the meetings of a room stand for: the parts that were taken, and the answers to them.
-use Rattle.std.specs.Prelude.{◌≡◌, ◌≢◌, ℕ, ℤ, ◌≤◌, Bool, true, ◌&&◌, List, [], ◌∷◌, ◌++◌, length, map, filter, Contains, Option, Some, None}
+use Rattle.std.specs.Prelude.{◌≡◌, ◌≢◌, ℕ, ℤ, ◌≤◌, Bool, true, ◌&&◌, List, [], ◌∷◌, ◌++◌, length, filter, Contains, Option, Some, None}
 use Rattle.std.specs.Str.{bytes_eq, IsUtf8}
 use Rattle.std.specs.List.{AllZip}
 use Rattle.std.specs.Map.{lookup, keys_of}
 use Rattle.ical_values.specs.Octets.{address_octets, text_octets}
 use Rattle.itip_order.specs.Registers.{StandsFor}
-use Rattle.itip_order.specs.Parts.{part_of, slot_of}
+use Rattle.itip_order.specs.Parts.{slot_of}
 use Rattle.profile.specs.checker.Instances.{Booked, IsClear}
 use Rattle.profile.specs.text.Values.{IsClockSeconds}
-use Rattle.profile.specs.rooms.Revisions.{Part, Slot, Whole, At, Body, Set, Absent, Cancelled, in_view, same_place}
+use Rattle.profile.specs.rooms.Revisions.{Part, Slot, Whole, At, Body, Set, Absent, Cancelled, in_view}
 use Rattle.profile.specs.rooms.Messages.{Outcome}
 use Rattle.profile.specs.rooms.Rooms.{Claim, Answer, Book, Kind, is_set, parts_of, asked, answered, confirmed, confirmed_in, most_singles, IsStep, kind_of}
 use Rattle.profile.specs.rooms.Kept.{Replies, first_parts}
@@ -16,8 +16,7 @@ use Rattle.room_books.specs.declared.meeting.MeetingKey.{MeetingKey}
 use Rattle.room_books.specs.declared.meeting.Meeting.{Meeting}
 use Rattle.room_books.specs.declared.meeting.Single.{Single}
 use Rattle.room_books.specs.declared.meeting.Given.{Given}
-use Rattle.room_books.specs.declared.taking.Claim.{Claim as Asking}
-use Rattle.room_books.specs.Takings.{body_lines, claims_said, OutcomeDated}
+use Rattle.room_books.specs.Takings.{body_lines, OutcomeDated}
 use Rattle.room_books.specs.Views.{same_key, booked_list, outcome_of}
 
 -- ---- claims

@@ -200,6 +200,7 @@ impl Room {
             → (book : Book) → Stands self.now.meetings.entries book → IsMeetingAfter book key.now (claims_said claims.now) now (kind_view taken.kind) taken.meeting) }
         ensures joins { IfOk result (λ taken. MayJoin (others key.now self.now.meetings.entries) key.now (confirmed_singles taken.meeting)) }
     {
+        keys_differ(&self.meetings);
         let old = self.meetings.get(key);
         let held = held_after(self.alloc, old, claims)?;
         let views = Views {

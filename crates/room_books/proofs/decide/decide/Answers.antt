@@ -1,6 +1,6 @@
 -- What is decided of the own instances and the others together.
-use Rattle.std.proofs.Common.{◌≡◌, ◌++◌, subst}
-use Rattle.room_books.specs.Views.{others, HaveOverlap, MayJoin}
+use Rattle.std.proofs.Common.{◌++◌, subst}
+use Rattle.room_books.specs.Views.{others, HaveOverlap}
 use Rattle.room_books.proofs.Places.{others_differ}
 use Rattle.room_books.proofs.Deciding.{few_all, own_named, other_named, clear_all}
 use Rattle.room_books.proofs.decide.decide.Goals as goal

@@ -1,4 +1,4 @@
-use Rattle.std.proofs.Common.{◌≡◌, ◌∙◌, ◌++◌, ◌+◌, ◌∷◌, [], sym, subst, List, take, arith}
+use Rattle.std.proofs.Common.{◌++◌, ◌∷◌, [], sym, subst, List, take, arith}
 use Rattle.std.specs.List.{AllZip}
 use denote.Ref.{Bor}
 use Rattle.room_books.specs.declared.meeting.Given.{Given}

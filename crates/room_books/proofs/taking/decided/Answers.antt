@@ -1,4 +1,4 @@
-use Rattle.std.proofs.Common.{◌≡◌, ◌∙◌, ◌++◌, ◌∷◌, [], sym, subst, List}
+use Rattle.std.proofs.Common.{◌++◌, ◌∷◌, [], sym, subst, List}
 use Rattle.std.specs.List.{AllZip}
 use Rattle.room_books.specs.declared.meeting.Given.{Given}
 use Rattle.room_books.specs.Takings.{IsDecided}

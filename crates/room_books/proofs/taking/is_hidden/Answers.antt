@@ -1,11 +1,6 @@
-use Rattle.std.proofs.Common.{◌≡◌, ◌∙◌, sym, ap, refl, subst, ℤ, FitsSigned, to_z, of_z, w64, rules, arith}
-use Rattle.std.specs.Prelude.{IfSome, IfNone, IsTrue}
-use denote.Ref.{Bor}
+use Rattle.std.proofs.Common.{◌≡◌, ◌∙◌, ap, FitsSigned, to_z, of_z, w64, rules, arith}
 use Rattle.std.proofs.lemmas.Int.{ints}
 use Rattle.itip_order.specs.Parts.{part_of, slot_of}
-use Rattle.itip_order.specs.Registers.{IsInView, HasNone, at_slot}
-use Rattle.itip_order.specs.declared.part.Part.{Part as HeldPart}
-use Rattle.profile.specs.rooms.Revisions.{At, same_place}
 use Rattle.room_books.specs.Takings.{booked_in}
 use Rattle.room_books.proofs.Hiding.{hidden_whole}
 use Rattle.room_books.proofs.taking.is_hidden.Goals as goal

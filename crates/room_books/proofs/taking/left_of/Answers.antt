@@ -1,13 +1,6 @@
-use Rattle.std.proofs.Common.{◌≡◌, ◌∙◌, ◌++◌, ◌+◌, ◌∷◌, [], true, false, not, sym, ap, subst, List, take, arith, inl, inr, refl, pos}
-use Rattle.std.specs.Prelude.{Contains}
-use Rattle.std.proofs.lemmas.List.Elements.{Contains-append_left, Contains-push, Contains-push_cases}
+use Rattle.std.proofs.Common.{◌∙◌, sym, subst, arith, pos}
 use Rattle.std.proofs.lemmas.List.{take_all}
-use Rattle.itip_order.specs.Registers.{StandsFor}
 use Rattle.itip_order.specs.Parts.{part_of}
-use Rattle.profile.specs.rooms.Revisions.{Part}
-use Rattle.profile.specs.rooms.Rooms as rooms
-use Rattle.room_books.specs.declared.meeting.Single.{Single}
-use Rattle.room_books.specs.Takings.{booked_in, left_in}
 use Rattle.room_books.specs.Instants.{IsPartOf}
 use Rattle.room_books.proofs.Own.{left_push, left_pass}
 use Rattle.room_books.proofs.Parts.{part_push, part_pass}

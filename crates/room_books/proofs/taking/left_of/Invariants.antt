@@ -3,7 +3,6 @@ use Rattle.room_books.specs.Instants.{IsPartOf}
 use Rattle.itip_order.specs.Registers.{StandsFor}
 use Rattle.itip_order.specs.Parts.{part_of}
 use Rattle.profile.specs.rooms.Revisions.{Part}
-use Rattle.room_books.specs.declared.meeting.Single.{Single}
 use Rattle.room_books.specs.Takings.{left_in}
 use Rattle.room_books.proofs.taking.left_of.Given as goal
 

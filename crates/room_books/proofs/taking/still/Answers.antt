@@ -1,4 +1,4 @@
-use Rattle.std.proofs.Common.{◌≡◌, ◌∙◌, sym, inl, inr, rules}
+use Rattle.std.proofs.Common.{◌∙◌, sym, inr}
 use Rattle.itip_order.specs.Parts.{part_of}
 use Rattle.room_books.proofs.taking.still.Goals as goal
 

@@ -1,5 +1,4 @@
-use Rattle.std.proofs.Common.{refl, rules, subst, sym, ◌∙◌, ap, List}
-use Rattle.room_books.specs.declared.meeting.Single.{Single}
+use Rattle.std.proofs.Common.{refl, subst, ◌∙◌, ap}
 use Rattle.room_books.specs.Instants.{IsPartOf}
 use Rattle.itip_order.specs.Parts.{part_of}
 use Rattle.room_books.specs.Takings.{left_in}

@@ -1,5 +1,5 @@
 -- What is kept is part of what the meeting had confirmed.
-use Rattle.std.proofs.Common.{◌≡◌, ◌∙◌, ◌++◌, List, sym, ap, subst, arith, length}
+use Rattle.std.proofs.Common.{◌∙◌, ◌++◌, List, sym, ap, subst, arith, length}
 use Rattle.std.specs.List.{Contains}
 use Rattle.profile.specs.checker.Instances.{IsClear}
 use Rattle.room_books.specs.declared.meeting.Single.{Single}

@@ -4,7 +4,6 @@ use Rattle.std.proofs.lemmas.List.{take_all}
 use Rattle.itip_order.specs.Parts.{part_of}
 use Rattle.room_books.specs.declared.meeting.Given.{Given}
 use Rattle.room_books.specs.declared.meeting.Meeting.{Meeting}
-use Rattle.room_books.specs.declared.meeting.Single.{Single}
 use Rattle.room_books.specs.Views.{all_singles}
 use Rattle.room_books.specs.Standing.{KeepsAll}
 use Rattle.room_books.specs.Views.{singles_by}

@@ -1,0 +1,152 @@
+-- A meeting after a message, where it was the meeting of its own book before.
+use Rattle.std.proofs.Common.{◌≡◌, ℤ, true, not, ◌&&◌, List, [], ◌∷◌, ◌++◌, Option, None, Some, inl, inr, sym, subst}
+use Rattle.std.specs.List.{AllZip, Contains, filter}
+use Rattle.std.proofs.lemmas.Bool.{and_from, both_ways, cases_Bool, not_from_false}
+use Rattle.std.proofs.lemmas.List.Elements.{Contains-append_left, Contains-append_right, Contains-append_cases}
+use Rattle.itip_order.specs.Registers.{StandsFor}
+use Rattle.itip_order.proofs.Lasting.{view_taken}
+use Rattle.itip_order.proofs.Lists.{in_cons, in_head, in_tail, none_in_nil, filter_at, filter_from}
+use Rattle.profile.specs.checker.Instances.{Booked, Key}
+use Rattle.profile.specs.text.Values.{IsClockSeconds}
+use Rattle.profile.specs.rooms.Messages.{Outcome, Accept, Busy, SeriesLimit, SinglesLimit}
+use Rattle.profile.specs.rooms.Revisions.{Part, in_view}
+use Rattle.profile.specs.rooms.Rooms.{Answer, Book, Claim, Decides, is_confirmed, is_hidden, is_fresh, is_set, left_of, confirmed_in, parts_of, asked, answered}
+use Rattle.room_books.specs.declared.meeting.MeetingKey.{MeetingKey}
+use Rattle.room_books.specs.declared.meeting.Meeting.{Meeting}
+use Rattle.room_books.specs.declared.meeting.Single.{Single}
+use Rattle.room_books.specs.declared.meeting.Given.{Given}
+use Rattle.room_books.specs.Takings.{OutcomeDated, StandsAt}
+use Rattle.room_books.specs.Views.{booked_of}
+use Rattle.room_books.specs.Standing.{IsFitting, AreFitting, IsOwn, IsGiven, IsDated, Meets, MeetsAt, standing, book_after}
+use Rattle.room_books.proofs.Runs.{new_answer}
+use Rattle.room_books.proofs.OwnSteps.{answer_to, stayed, given_after}
+use Rattle.room_books.proofs.Pairs.{flat_at, map_at, map_from}
+use Rattle.room_books.proofs.Places.{booked_from}
+use Rattle.room_books.proofs.Views.{view_back}
+
+-- ---- elements of two lists that belong together
+
+pub zip_back : {X Y : Type 0} (R : X → Y → Type 0) (xs : List X) (ys : List Y) → AllZip R xs ys → (y : Y) → Contains ys y → (x : X) × Contains xs x × R x y
+zip_back R [] [] z y c = absurd (none_in_nil y c)
+zip_back R [] (w ∷ ys) z y c = absurd z
+zip_back R (x ∷ xs) [] z y c = absurd z
+zip_back R (x ∷ xs) (w ∷ ys) z y c = elim (in_cons w ys y c) [
+  | inl here ↦ (x, in_head x xs, subst (R x) here z.0)
+  | inr there ↦ let r = zip_back R xs ys z.1 y there in (r.0, in_tail x xs r.0 r.1, r.2)
+]
+
+pub zip_to : {X Y : Type 0} (R : X → Y → Type 0) (xs : List X) (ys : List Y) → AllZip R xs ys → (x : X) → Contains xs x → (y : Y) × Contains ys y × R x y
+zip_to R [] [] z x c = absurd (none_in_nil x c)
+zip_to R [] (y ∷ ys) z x c = absurd z
+zip_to R (w ∷ xs) [] z x c = absurd z
+zip_to R (w ∷ xs) (y ∷ ys) z x c = elim (in_cons w xs x c) [
+  | inl here ↦ (y, in_head y ys, subst (λ (v : _). R v y) here z.0)
+  | inr there ↦ let r = zip_to R xs ys z.1 x there in (r.0, in_tail y ys r.0 r.1, r.2)
+]
+
+-- ---- instants that can be written
+
+-- what is confirmed was asked for
+pub confirmed_asked : (t : List Part) (xs : List Answer) (b : Booked) → Contains (confirmed_in t xs) b → (a : Answer) × Contains xs a × Contains a.claim.singles b
+confirmed_asked t xs b c =
+    let found = flat_at (left_of t) (filter (is_confirmed t) xs) b c in
+    (found.0, (filter_at (is_confirmed t) xs found.0 found.1).0, (filter_at (λ z. not (is_hidden t found.0.claim.part z)) found.0.claim.singles b found.2).0)
+
+pub outcome_dated : (all : List Booked) (outcome : Outcome) → ((b : Booked) → Contains all b → IsClockSeconds b.start × IsClockSeconds b.key.slot) → Decides all outcome → OutcomeDated outcome
+outcome_dated all Accept h d = tt
+outcome_dated all (Busy a b t) h d =
+    let n = d.1 in (
+      subst IsClockSeconds (sym n.later) (h n.b n.clash.second).0,
+      subst (λ (key : Key). IsClockSeconds key.slot) n.first_is (h n.a n.clash.first).1,
+      subst (λ (key : Key). IsClockSeconds key.slot) n.second_is (h n.b n.clash.second).1,
+    )
+outcome_dated all SeriesLimit h d = tt
+outcome_dated all SinglesLimit h d = tt
+
+given_dated : (k : MeetingKey) (t : List Part) (a : Answer) (given : Given) → IsGiven k t a given → IsFitting a.claim → OutcomeDated a.outcome → IsDated given
+given_dated k t a given g fit dated =
+    let asked_for : (single : Single) → Contains given.singles.items single → Contains a.claim.singles (booked_of k single) = λ single c.
+    let found = confirmed_asked t (a ∷ []) (booked_of k single) (subst (λ (l : List Booked). Contains l (booked_of k single)) g.confirms (booked_from k given.singles.items single c)) in
+    elim (in_cons a [] found.0 found.1) [
+      | inl here ↦ subst (λ (x : Answer). Contains x.claim.singles (booked_of k single)) (sym here) found.2
+      | inr none ↦ absurd (none_in_nil found.0 none)
+    ] in
+    record {
+      outcome = subst OutcomeDated (sym g.outcome) dated;
+      starts = λ single c. fit.starts (booked_of k single) (asked_for single c);
+      slots = λ single c. fit.slots (booked_of k single) (asked_for single c);
+    }
+
+-- ---- the meeting before
+
+module _ (k : MeetingKey) (own : Book) where
+  pub stands_at : (before : Option Meeting) → MeetsAt own k before → StandsAt before own.taken
+  stands_at None m = m
+  stands_at (Some meeting) m = m.held
+
+  none_seen : own.taken ≡ [] → (part : Part) → in_view own.taken part ≡ true → ⊥
+  none_seen e part v = none_in_nil part (subst (λ (l : List Part). Contains l part) e (view_taken own.taken part v))
+
+  old_answered : (before : Option Meeting) → MeetsAt own k before → (part : Part) → is_set part ≡ true → in_view own.taken part ≡ true → (a : Answer) × Contains own.answers a × (a.claim.part ≡ part)
+  old_answered None m part s v = absurd (none_seen m part v)
+  old_answered (Some meeting) m part s v = m.answered part s v
+
+  old_dated : (before : Option Meeting) → MeetsAt own k before → (a : Answer) → Contains own.answers a → in_view own.taken a.claim.part ≡ true → OutcomeDated a.outcome
+  old_dated None m a c v = absurd (none_seen m a.claim.part v)
+  old_dated (Some meeting) m a c v =
+      let found = zip_to (IsGiven k own.taken) (standing own.taken own.answers) meeting.answers.items m.answers a (filter_from (λ (x : Answer). in_view own.taken x.claim.part) own.answers a c v) in
+      subst OutcomeDated found.2.outcome (m.dated found.0 found.1).outcome
+
+-- ---- and after
+
+module _ (k : MeetingKey) (own : Book) (is_own : IsOwn k own) (claims : List Claim) (fit : AreFitting k claims) (moment : ℤ) (outcome : Outcome)
+    (before : Option Meeting) (m : MeetsAt own k before) where
+  abbrev t : List Part
+  t = own.taken ++ parts_of claims
+
+  abbrev asked_now : List Claim
+  asked_now = asked own.taken t claims
+
+  abbrev new : List Answer
+  new = answered moment outcome asked_now
+
+  answered_after : (part : Part) → is_set part ≡ true → in_view t part ≡ true → (a : Answer) × Contains (own.answers ++ new) a × (a.claim.part ≡ part)
+  answered_after part s v =
+      let Q : Type 0 = (a : Answer) × Contains (own.answers ++ new) a × (a.claim.part ≡ part) in
+      let q : Q = elim (cases_Bool (in_view own.taken part)) [
+        | inl seen ↦ let old = old_answered k own before m part s seen in (old.0, Contains-append_left own.answers new old.0 old.1, old.2)
+        | inr gone ↦ elim (Contains-append_cases own.taken (parts_of claims) part (view_taken t part v)) [
+          | inl taken ↦ absurd (both_ways _ gone (view_back own.taken (parts_of claims) part taken v))
+          | inr fresh ↦
+              let found = map_at (λ (c : Claim). c.part) claims part fresh in
+              let is_asked = subst (λ (p : Part). (is_set p && is_fresh own.taken t p) ≡ true) (sym found.2) (and_from _ _ s (and_from _ _ v (not_from_false _ gone))) in
+              let among = filter_from (λ (c : Claim). is_set c.part && is_fresh own.taken t c.part) claims found.0 found.1 is_asked in
+              (answer_to found.0 moment outcome, Contains-append_right own.answers new (answer_to found.0 moment outcome) (map_from (λ (c : Claim). answer_to c moment outcome) asked_now found.0 among), found.2)
+        ]
+      ] in q
+
+  answer_dated : ((claim : Claim) → Contains asked_now claim → OutcomeDated outcome) → (a : Answer) → Contains (standing t (own.answers ++ new)) a → IsFitting a.claim × OutcomeDated a.outcome
+  answer_dated dated a c =
+      let at = filter_at (λ (x : Answer). in_view t x.claim.part) (own.answers ++ new) a c in
+      elim (Contains-append_cases own.answers new a at.0) [
+        | inl old ↦ (is_own.fit a old, old_dated k own before m a old (view_back own.taken (parts_of claims) a.claim.part (is_own.known a old) at.1))
+        | inr fresh ↦
+            let found = map_at (λ (c : Claim). answer_to c moment outcome) asked_now a fresh in (
+              fit.fit a.claim (new_answer own.taken t moment outcome claims a fresh).among,
+              subst (λ (x : Answer). OutcomeDated x.outcome) found.2 (dated found.0 found.1),
+            )
+      ]
+
+  pub meets_after : (meeting : Meeting) (kept given : List Given) → StandsFor meeting.held t → AllZip (IsGiven k t) (stayed k own is_own claims fit moment) kept → AllZip (IsGiven k t) new given
+      → meeting.answers.items ≡ kept ++ given → ((claim : Claim) → Contains asked_now claim → OutcomeDated outcome) → Meets (book_after own claims moment outcome) k meeting
+  meets_after meeting kept given s z w e dated =
+      let answers = subst (AllZip (IsGiven k t) (standing t (own.answers ++ new))) (sym e) (given_after k own is_own claims fit moment outcome kept given z w) in
+      record {
+        held = s;
+        answers = answers;
+        answered = answered_after;
+        dated = λ given c.
+            let found = zip_back (IsGiven k t) (standing t (own.answers ++ new)) meeting.answers.items answers given c in
+            let both = answer_dated dated found.0 found.1 in
+            given_dated k t found.0 given found.2 both.0 both.1;
+      }

@@ -1,0 +1,81 @@
+-- A meeting's own book, when claims of it are taken: what is asked, and what is answered, is what the room's book says.
+use Rattle.std.proofs.Common.{◌≡◌, ◌∙◌, ℤ, Bool, true, not, ◌&&◌, ◌||◌, List, [], ◌∷◌, ◌++◌, length, refl, sym, ap, subst}
+use Rattle.std.specs.Prelude.{nat_lt, if◌then◌else◌}
+use Rattle.std.specs.List.{Contains, list_any}
+use Rattle.std.proofs.lemmas.List.Elements.{filter-append}
+use Rattle.itip_order.proofs.Lists.{in_head, in_tail, filter_at, filter_from}
+use Rattle.profile.specs.rooms.Messages.{Outcome}
+use Rattle.profile.specs.rooms.Revisions.{Part, in_view}
+use Rattle.profile.specs.rooms.Rooms.{Claim, Answer, Book, Withdrawn, Repeated, Stale, kind_of, kind_of_outcome, is_fresh, is_same, is_set, parts_of, asked, answered}
+use Rattle.room_books.specs.declared.meeting.MeetingKey.{MeetingKey}
+use Rattle.room_books.specs.declared.meeting.Meeting.{Meeting}
+use Rattle.room_books.specs.Standing.{is_of, of_meeting, answers_of, book_of, book_after, AreFitting, IsOwn, Stands}
+use Rattle.room_books.proofs.Runs.{new_answer}
+use Rattle.room_books.proofs.Meetings.{view_of, of_more_own, filter_same}
+use Rattle.room_books.proofs.Own.{filter_all}
+use Rattle.room_books.proofs.Pairs.{map_at}
+
+pub own_of : (k : MeetingKey) (entries : List (MeetingKey × Meeting)) (book : Book) → Stands entries book → IsOwn k (book_of k book)
+own_of k entries book st = record {
+  taken = λ p c. (filter_at (is_of k) book.taken p c).1;
+  known = λ a c. let from = filter_at (λ x. is_of k x.claim.part) book.answers a c in filter_from (is_of k) book.taken a.claim.part (st.known a from.0) from.1;
+  fit = λ a c. st.fit a (filter_at (λ x. is_of k x.claim.part) book.answers a c).0;
+}
+
+pub parts_own : (k : MeetingKey) (claims : List Claim) → AreFitting k claims → (p : Part) → Contains (parts_of claims) p → is_of k p ≡ true
+parts_own k claims fit p c = let found = map_at (λ (x : Claim). x.part) claims p c in subst (λ (q : Part). is_of k q ≡ true) found.2 (fit.of_it found.0 found.1)
+
+any_of : (f g : Part → Bool) (xs : List Part) → ((p : Part) → Contains xs p → f p ≡ g p) → list_any f xs ≡ list_any g xs
+any_of f g [] h = refl
+any_of f g (x ∷ xs) h = λ i. h x (in_head x xs) i || any_of f g xs (λ p c. h p (in_tail x xs p c)) i
+
+kind_same : (before after before' after' : List Part) (claims : List Claim) (outcome : Outcome) → asked before after claims ≡ asked before' after' claims
+    → list_any (is_fresh before after) (parts_of claims) ≡ list_any (is_fresh before' after') (parts_of claims)
+    → list_any (is_same before after) (parts_of claims) ≡ list_any (is_same before' after') (parts_of claims) → kind_of before after claims outcome ≡ kind_of before' after' claims outcome
+kind_same before after before' after' [] outcome a f s = refl
+kind_same before after before' after' (c ∷ cs) outcome a f s =
+    λ i. if nat_lt 0 (length (a i)) then kind_of_outcome outcome else (if f i then Withdrawn else (if s i then Repeated else Stale))
+
+module _ (k : MeetingKey) (book : Book) (claims : List Claim) (fit : AreFitting k claims) where
+  abbrev own : Book
+  own = book_of k book
+
+  abbrev all : List Part
+  all = book.taken ++ parts_of claims
+
+  abbrev now : List Part
+  now = own.taken ++ parts_of claims
+
+  pub taken_own : of_meeting k all ≡ now
+  taken_own = of_more_own k book.taken (parts_of claims) (parts_own k claims fit)
+
+  pub view_after : (p : Part) → is_of k p ≡ true → in_view now p ≡ in_view all p
+  view_after p e = ap (λ t. in_view t p) (sym taken_own) ∙ view_of k all p e
+
+  pub fresh_own : (p : Part) → is_of k p ≡ true → is_fresh own.taken now p ≡ is_fresh book.taken all p
+  fresh_own p e = λ i. view_after p e i && not (view_of k book.taken p e i)
+
+  same_own : (p : Part) → is_of k p ≡ true → is_same own.taken now p ≡ is_same book.taken all p
+  same_own p e = λ i. view_after p e i && view_of k book.taken p e i
+
+  pub asked_own : asked own.taken now claims ≡ asked book.taken all claims
+  asked_own = filter_same (λ c. is_set c.part && is_fresh own.taken now c.part) (λ c. is_set c.part && is_fresh book.taken all c.part) claims
+      (λ c h. ap (λ b. is_set c.part && b) (fresh_own c.part (fit.of_it c h)))
+
+  pub answers_own : (moment : ℤ) (outcome : Outcome) → answers_of k (book.answers ++ answered moment outcome (asked book.taken all claims)) ≡ own.answers ++ answered moment outcome (asked own.taken now claims)
+  answers_own moment outcome =
+      let f = λ (a : Answer). is_of k a.claim.part in
+      let new = answered moment outcome (asked book.taken all claims) in
+      filter-append f book.answers new
+      ∙ ap (λ l. own.answers ++ l) (filter_all f new (λ a c. fit.of_it a.claim (new_answer book.taken all moment outcome claims a c).among))
+      ∙ ap (λ l. own.answers ++ answered moment outcome l) (sym asked_own)
+
+  pub book_own : (moment : ℤ) (outcome : Outcome) → book_of k (book_after book claims moment outcome) ≡ book_after own claims moment outcome
+  book_own moment outcome = λ i. record { taken = taken_own i; answers = answers_own moment outcome i }
+
+  pub kind_own : (outcome : Outcome) → kind_of own.taken now claims outcome ≡ kind_of book.taken all claims outcome
+  kind_own outcome =
+      let each = parts_own k claims fit in
+      kind_same own.taken now book.taken all claims outcome asked_own
+      (any_of (is_fresh own.taken now) (is_fresh book.taken all) (parts_of claims) (λ p c. fresh_own p (each p c)))
+      (any_of (is_same own.taken now) (is_same book.taken all) (parts_of claims) (λ p c. same_own p (each p c)))

@@ -1,0 +1,155 @@
+-- The answers of a meeting after claims of it were taken are those of its own book.
+use Rattle.std.proofs.Common.{◌≡◌, ◌≢◌, ◌∙◌, ℤ, Bool, true, false, not, cond, List, [], ◌∷◌, ◌++◌, map, refl, sym, ap, subst, inl, inr}
+use denote.Ref.{Bor}
+use Rattle.std.specs.Prelude.{if◌then◌else◌}
+use Rattle.std.specs.List.{AllZip, Contains, filter, AllPairs}
+use Rattle.std.proofs.lemmas.Bool.{both_ways}
+use Rattle.std.proofs.lemmas.Grind.{flat_map-append}
+use Rattle.std.proofs.lemmas.List.Elements.{filter-append, Contains-append_cases}
+use Rattle.itip_order.specs.Parts.{part_of, slot_of}
+use Rattle.itip_order.specs.Registers.{StandsFor}
+use Rattle.itip_order.proofs.Lists.{in_head, in_tail, filter_at}
+use Rattle.profile.specs.checker.Instances.{Booked}
+use Rattle.profile.specs.rooms.Messages.{Accept}
+use Rattle.profile.specs.rooms.Messages as messages
+use Rattle.profile.specs.rooms.Revisions.{Part, in_view}
+use Rattle.profile.specs.rooms.Rooms.{Answer, Book, Claim, is_accept, is_hidden, confirmed_in, parts_of, asked, answered}
+use Rattle.room_books.specs.declared.meeting.MeetingKey.{MeetingKey}
+use Rattle.room_books.specs.declared.meeting.Outcome.{Outcome}
+use Rattle.room_books.specs.declared.meeting.Outcome.TheVariants.{Accepted}
+use Rattle.room_books.specs.declared.meeting.Single.{Single}
+use Rattle.room_books.specs.declared.meeting.Given.{Given}
+use Rattle.room_books.specs.declared.taking.Claim.{Claim as Asking}
+use Rattle.room_books.specs.Takings.{claim_said, booked_in, IsAccepted, IsDecided}
+use Rattle.room_books.specs.Views.{booked_list, all_singles, slots_of, outcome_of}
+use Rattle.room_books.specs.Standing.{is_of, AreFitting, IsOwn, IsGiven, Pairwise, standing}
+use Rattle.room_books.proofs.Confirms.{zip_confirms, standing_confirms}
+use Rattle.room_books.proofs.Runs.{new_answer}
+use Rattle.room_books.proofs.Loops.{zip_both}
+use Rattle.room_books.proofs.Own.{filter_within, filter_all, booked_all, left_booked, one_confirmed}
+use Rattle.room_books.proofs.Pairs.{pairs_append, pairs_filter, map_from}
+use Rattle.room_books.proofs.SlotsApart.{OtherPart, OtherSlot, IsSeen, confirmed_apart, new_once, slots_apart}
+use Rattle.room_books.proofs.Views.{view_back}
+
+-- ---- one answer
+
+abbrev pub answer_to : Claim → ℤ → messages.Outcome → Answer
+answer_to claim moment outcome = record { claim = claim; moment = moment; outcome = outcome }
+
+decided_booked : (k : MeetingKey) (b : Bool) (singles : List Single) → booked_list k (if b then singles else []) ≡ cond b (booked_list k singles) []
+decided_booked k true singles = refl
+decided_booked k false singles = refl
+
+module _ (k : MeetingKey) (t held : List Part) (s : StandsFor held t) (moment : ℤ) (outcome : Outcome) where
+  given_one : (claim : Asking) (candidate given : Given) → is_of k (part_of claim.part) ≡ true → in_view t (part_of claim.part) ≡ true → IsAccepted held claim moment candidate → IsDecided candidate outcome given
+      → IsGiven k t (answer_to (claim_said claim) moment (outcome_of outcome)) given
+  given_one claim candidate given own seen a d =
+      let part = part_of claim.part in
+      let f : Booked → Bool = λ b. not (is_hidden t part b) in
+      let left : booked_list k candidate.singles.items ≡ filter f (map (booked_in part) claim.singles.items) = ap (booked_list k) (a.singles t s) ∙ left_booked k t part claim.singles.items own ∙ ap (filter f) (sym (booked_all k part claim.singles.items own)) in
+      record {
+        slot = ap slot_of (d.slot ∙ a.slot);
+        moment = d.moment ∙ a.moment_is;
+        outcome = d.outcome_is;
+        confirms = ap (booked_list k) d.singles ∙ decided_booked k (is_accept (outcome_of outcome)) candidate.singles.items ∙ ap (λ l. cond (is_accept (outcome_of outcome)) l []) left
+            ∙ sym (one_confirmed t (answer_to (claim_said claim) moment (outcome_of outcome)) seen);
+      }
+
+  given_each : (asking : List (Bor Asking)) (candidates given : List Given) → ((claim : Bor Asking) → Contains asking claim → (is_of k (part_of claim.now.part) ≡ true) × (in_view t (part_of claim.now.part) ≡ true))
+      → AllZip (λ claim given. IsAccepted held claim.now moment given) asking candidates → AllZip (λ candidate given. IsDecided candidate outcome given) candidates given
+      → AllZip (IsGiven k t) (answered moment (outcome_of outcome) (map (λ claim. claim_said claim.now) asking)) given
+  given_each [] [] [] h z w = tt
+  given_each [] [] (g ∷ gs) h z w = absurd w
+  given_each [] (c ∷ cs) gs h z w = absurd z
+  given_each (a ∷ rest) [] gs h z w = absurd z
+  given_each (a ∷ rest) (c ∷ cs) [] h z w = absurd w
+  given_each (a ∷ rest) (c ∷ cs) (g ∷ gs) h z w =
+      let first = h a (in_head a rest) in
+      (given_one a.now c g first.0 first.1 z.0 w.0, given_each rest cs gs (λ x k. h x (in_tail a rest x k)) z.1 w.1)
+
+-- a candidate is what it would be, were it accepted
+pub decided_itself : (held : List Part) (moment : ℤ) (asking : List (Bor Asking)) (candidates : List Given) → AllZip (λ claim given. IsAccepted held claim.now moment given) asking candidates
+    → AllZip (λ candidate given. IsDecided candidate Accepted given) candidates candidates
+decided_itself held moment [] [] z = tt
+decided_itself held moment [] (c ∷ cs) z = absurd z
+decided_itself held moment (a ∷ rest) [] z = absurd z
+decided_itself held moment (a ∷ rest) (c ∷ cs) z = (record { slot = refl; moment = refl; outcome_is = z.0.outcome; singles = refl }, decided_itself held moment rest cs z.1)
+
+-- ---- all answers of the meeting
+
+module _ (k : MeetingKey) (own : Book) (is_own : IsOwn k own) (claims : List Claim) (fit : AreFitting k claims) (moment : ℤ) where
+  abbrev t : List Part
+  t = own.taken ++ parts_of claims
+
+  abbrev asked_now : List Claim
+  asked_now = asked own.taken t claims
+
+  abbrev pub stayed : List Answer
+  stayed = standing t (standing own.taken own.answers)
+
+  asked_at : (claim : Claim) → Contains asked_now claim → Contains claims claim × (in_view t claim.part ≡ true)
+  asked_at claim c =
+      let n = new_answer own.taken t moment Accept claims (answer_to claim moment Accept) (map_from (λ (x : Claim). answer_to x moment Accept) asked_now claim c) in
+      (n.among, n.seen)
+
+  pub given_new : (asking : List (Bor Asking)) → map (λ claim. claim_said claim.now) asking ≡ asked_now → (held : List Part) → StandsFor held t → (outcome : Outcome) (candidates given : List Given)
+      → AllZip (λ claim given. IsAccepted held claim.now moment given) asking candidates → AllZip (λ candidate given. IsDecided candidate outcome given) candidates given
+      → AllZip (IsGiven k t) (answered moment (outcome_of outcome) asked_now) given
+  given_new asking e held s outcome candidates given z w =
+      subst (λ (l : List Claim). AllZip (IsGiven k t) (answered moment (outcome_of outcome) l) given) e
+      (given_each k t held s moment outcome asking candidates given
+      (λ claim c.
+      let at = asked_at (claim_said claim.now) (subst (λ (l : List Claim). Contains l (claim_said claim.now)) e (map_from (λ (x : Bor Asking). claim_said x.now) asking claim c)) in
+      (fit.of_it (claim_said claim.now) at.0, at.1))
+      z w)
+
+  -- those that stay, and those to the claims that are asked
+  pub standing_after : (outcome : messages.Outcome) → standing t (own.answers ++ answered moment outcome asked_now) ≡ stayed ++ answered moment outcome asked_now
+  standing_after outcome =
+      let seen = λ (a : Answer). in_view t a.claim.part in
+      let new = answered moment outcome asked_now in
+      let old : standing t own.answers ≡ stayed = sym (filter_within seen (λ a. in_view own.taken a.claim.part) own.answers (λ a c v. view_back own.taken (parts_of claims) a.claim.part (is_own.known a c) v)) in
+      let all : standing t new ≡ new = filter_all seen new (λ a c. (new_answer own.taken t moment outcome claims a c).seen) in
+      filter-append seen own.answers new ∙ (λ i. old i ++ all i)
+
+  pub given_after : (outcome : messages.Outcome) (kept given : List Given) → AllZip (IsGiven k t) stayed kept → AllZip (IsGiven k t) (answered moment outcome asked_now) given
+      → AllZip (IsGiven k t) (standing t (own.answers ++ answered moment outcome asked_now)) (kept ++ given)
+  given_after outcome kept given z w =
+      subst (λ (l : List Answer). AllZip (IsGiven k t) l (kept ++ given)) (sym (standing_after outcome)) (zip_both (IsGiven k t) stayed kept (answered moment outcome asked_now) given z w)
+
+  -- each of them is to a part in the view, and no two to one part
+  stayed_at : (a : Answer) → Contains stayed a → Contains own.answers a × (in_view own.taken a.claim.part ≡ true) × (in_view t a.claim.part ≡ true)
+  stayed_at a c =
+      let outer = filter_at (λ (x : Answer). in_view t x.claim.part) (standing own.taken own.answers) a c in
+      let inner = filter_at (λ (x : Answer). in_view own.taken x.claim.part) own.answers a outer.0 in
+      (inner.0, inner.1, outer.1)
+
+  abbrev candidates_said : List Answer
+  candidates_said = answered moment Accept asked_now
+
+  each_seen : (a : Answer) → Contains (stayed ++ candidates_said) a → IsSeen k t a
+  each_seen a c = elim (Contains-append_cases stayed candidates_said a c) [
+    | inl old ↦ let at = stayed_at a old in record { own = is_own.taken a.claim.part (is_own.known a at.0); seen = at.2; fit = is_own.fit a at.0 }
+    | inr new ↦ let n = new_answer own.taken t moment Accept claims a new in record { own = fit.of_it a.claim n.among; seen = n.seen; fit = fit.fit a.claim n.among }
+  ]
+
+  parts_differ : Pairwise OtherPart own.answers → Pairwise OtherPart (stayed ++ candidates_said)
+  parts_differ once =
+      pairs_append OtherPart stayed candidates_said
+      (pairs_filter OtherPart (λ a. in_view t a.claim.part) (standing own.taken own.answers) (pairs_filter OtherPart (λ a. in_view own.taken a.claim.part) own.answers once))
+      (new_once moment Accept own.taken t claims fit.differ)
+      (λ a b c d e. both_ways _ (new_answer own.taken t moment Accept claims b d).gone (subst (λ (p : Part). in_view own.taken p ≡ true) e (stayed_at a c).1))
+
+  -- what the meeting would confirm, were they accepted
+  pub would_confirm : (kept candidates : List Given) → AllZip (IsGiven k t) stayed kept → AllZip (IsGiven k t) candidates_said candidates
+      → confirmed_in t (own.answers ++ candidates_said) ≡ booked_list k (all_singles kept ++ all_singles candidates)
+  would_confirm kept candidates z w =
+      zip_confirms k t (own.answers ++ candidates_said) (kept ++ candidates) (given_after Accept kept candidates z w)
+      ∙ ap (booked_list k) (flat_map-append (λ (g : Given). g.singles.items) kept candidates)
+
+  pub slots_differ : Pairwise OtherPart own.answers → (kept candidates : List Given) → AllZip (IsGiven k t) stayed kept → AllZip (IsGiven k t) candidates_said candidates
+      → AllPairs ◌≢◌ (slots_of (all_singles kept ++ all_singles candidates))
+  slots_differ once kept candidates z w =
+      slots_apart k (all_singles kept ++ all_singles candidates)
+      (subst (Pairwise OtherSlot) (ap (confirmed_in t) (sym (standing_after Accept)) ∙ standing_confirms t (own.answers ++ candidates_said) ∙ would_confirm kept candidates z w)
+      (confirmed_apart k t (stayed ++ candidates_said) each_seen (parts_differ once)))
