@@ -16,8 +16,7 @@ KeptTextsPass =
     → (book : Book) → Runs empty_book deliveries book
     → (calendar : List ℕ) → IsKeptCalendar room book calendar → CertificateHolds room calendar (kept_certificate book)
 
--- a yes of the checker, on any octets, means that no two confirmed instances, whichever two places of the list they stand in, share an
--- instant before year 10000;
+-- a yes of the checker, on any octets, means that no two confirmed instances (in two places of the list) share an instant before year 10000;
 abbrev pub YesMeansFree : Type 0
 YesMeansFree =
     (room calendar certificate : List ℕ) → CertificateHolds room calendar certificate
@@ -28,8 +27,7 @@ YesMeansFree =
 abbrev pub would_be : Book → List Claim → ℤ → Book → List Booked
 would_be before claims moment after = confirmed (if_accepted before claims moment after.taken)
 
--- and a new revision is accepted exactly where that stays true, within the limit, each decline naming two instances and an instant
--- in both.
+-- and a new revision is accepted exactly where that stays true, within the limit, each decline naming two instances and an instant in both.
 abbrev pub AcceptedWhereClear : Type 0
 AcceptedWhereClear =
     (before : Book) (claims : List Claim) (moment : ℤ) (outcome : Outcome) (after : Book) → IsStep before claims moment outcome after

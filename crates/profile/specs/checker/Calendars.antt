@@ -29,8 +29,7 @@ pub data CalendarTextFault (octets : List ℕ) : ℕ → Type 0 where
   -- in the VEVENTs of the calendar that stands there
   in_vevents : {n : ℕ} → (t : Tree) → IsCalendarText t octets → CalendarFault t n → CalendarTextFault octets n
 
--- the certificate's octets stand for the room's calendar: the calendar spells confirmed instances, the certificate
--- is one for them, and no two of them clash
+-- the certificate holds for the calendar: this spells confirmed instances, the certificate is one for them, and no two of them clash
 pub record CertificateHolds (room calendar text : List ℕ) : Type 0 where
   pub all : List Booked
   pub spells : SpellsCalendar room calendar all

@@ -33,8 +33,7 @@ AllowsNone zone second (Some (UntilInstant instant)) = NoneFrom zone second inst
 abbrev pub IsOnDay : ℤ → ℕ → ℕ → Type 0
 IsOnDay local day second = (second < 86_400) × (local ≡ local_time day second)
 
--- the rule that a text gives to an event that starts at a local time in a zone: from the start's day, which has to be one of its days
--- (RFC 5545 3.8.5.3 says that it should), to the last one that UNTIL allows
+-- the rule that a text gives to an event: from the start's day, one of its days (RFC 5545 3.8.5.3), to the last one that UNTIL allows
 pub record GivesRule (zone : Zone) (local : ℤ) (text : RuleText) (rule : Parts) : Type 0 where
   pub day : ℕ
   pub second : ℕ

@@ -136,8 +136,7 @@ confirmed room events = map booked_by (filter (is_confirmed room) events)
 abbrev pub meeting_said : Event → List ℕ × List ℕ
 meeting_said event = (unwrap_or event.organiser [], event.uid)
 
--- the VEVENTs of an object say events of which no two are of one meeting (RFC 5545 3.8.4.4), nothing in them isn't read
--- yet, and these instances of them are confirmed for the room
+-- the VEVENTs say events, no two of one meeting (RFC 5545 3.8.4.4), with nothing unread, and these instances of them are confirmed
 pub record SaysCalendar (room : List ℕ) (object : Tree) (all : List Booked) : Type 0 where
   pub events : List Event
   pub says : AllZip (SaysEvent object false) (vevents object) events

@@ -78,8 +78,7 @@ abbrev pub recurs_beside_recurrence : List (List ℕ) → Bool
 recurs_beside_recurrence lines =
     list_any (is_of (codes "RECURRENCE-ID")) lines && list_any (λ line. is_of (codes "RRULE") line || is_of (codes "RDATE") line) lines
 
--- the lines say which instance the VEVENT is, if it is one of a meeting, and what is added and taken away. What is taken away may lie in any
--- year that a date has, 1 to 9999
+-- the lines say which instance the VEVENT is, if one of a meeting, and what is added and taken away, the latter in any year from 1 to 9999
 pub record SaysOccurrences (object : Tree) (lines : List (List ℕ)) (recurrence : Option ℤ) (additions exceptions : List ℤ) : Type 0 where
   pub is : Says (codes "RECURRENCE-ID") false (IsRecurrenceLine object) lines recurrence
   pub adds : Lists object (codes "RDATE") (entries_named (codes "RDATE") lines) additions

@@ -17,8 +17,7 @@ use Rattle.profile.specs.events.Properties.{is_of, TimeKind, DateTime, Date, Per
 abbrev pub vtimezones : Tree → List Tree
 vtimezones object = filter (λ part. is_same_name (tree_name part) (codes "VTIMEZONE")) (tree_inside object)
 
--- the name that the own lines of a VTIMEZONE give it: its TZID as text (RFC 5545 3.8.3.1). Without a TZID it has none; of two
--- TZIDs the first counts, which is this profile's choice
+-- the name that a VTIMEZONE's own lines give it: its TZID as text (RFC 5545 3.8.3.1), of two the first: this profile's choice
 abbrev pub zone_name : List (List ℕ) → Option (List ℕ)
 zone_name lines = option_map (λ line. unescaped (line_value line)) (find (is_of (codes "TZID")) lines)
 
@@ -136,8 +135,7 @@ pub record EventTimes : Type 0 where
   pub start : ℤ
   pub length : Length
 
--- the length that DTEND gives, in exact seconds; DTEND isn't before DTSTART (RFC 5545 3.8.2.2 wants it later; that it may be
--- DTSTART itself is this profile's choice)
+-- the length that DTEND gives, in exact seconds. RFC 5545 3.8.2.2 wants DTEND later; that it may be DTSTART is this profile's choice
 abbrev pub LastsUntil : Tree → ℤ → List ℕ → Length → Type 0
 LastsUntil object start line length = (length.days ≡ 0) × SaysInDates object line (start +ℤ pos length.seconds)
 

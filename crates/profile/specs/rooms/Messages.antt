@@ -14,8 +14,7 @@ use Rattle.profile.specs.rooms.Revisions.{Part, Slot, Whole, At, Set}
 
 -- ---- what a message says
 
--- a VCALENDAR says that it is a REQUEST for this one event: METHOD stands once, nothing in its VEVENT is left unread
--- (RFC 5546 3.2.2)
+-- a VCALENDAR says that it is a REQUEST for this one event: METHOD stands once, nothing in its VEVENT is unread (RFC 5546 3.2.2)
 pub record SaysRequest (object : Tree) (event : Event) : Type 0 where
   pub method_line : List ℕ
   pub method : lines_named (codes "METHOD") (tree_own object) ≡ method_line ∷ []

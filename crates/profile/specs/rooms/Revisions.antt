@@ -6,8 +6,7 @@ use Rattle.std.specs.Ordering.{is_eq, is_gt, is_le, nat_cmp, int_cmp, ordering_t
 use Rattle.std.specs.Cmp.Lexicographic.{slice_cmp}
 use Rattle.std.specs.List.{list_any, list_all}
 
--- a slot of a meeting: the whole of it, or the instance whose RECURRENCE-ID is this instant,
--- in seconds from 1970-01-01T00:00:00Z (RFC 5545 3.8.4.4)
+-- a slot of a meeting: the whole, or the instance of this RECURRENCE-ID, in seconds from 1970-01-01T00:00:00Z (RFC 5545 3.8.4.4)
 pub data Slot : Type 0 where
   Whole : Slot
   At : ℤ → Slot
@@ -111,8 +110,7 @@ abbrev pub allows : Part → Part → Bool
 allows whole part =
     is_whole part || implies (is_whole whole && same_meeting whole part) (stands_beside whole part)
 
--- the part is in the view of all parts ever taken: the greatest of its place, and where it is
--- an At, allowed by the greatest Whole of its meeting; this profile's choice
+-- the part is in the view of all taken: the greatest of its place, and an At allowed by the greatest Whole; this profile's choice
 abbrev pub in_view : List Part → Part → Bool
 in_view history part =
     is_greatest history part

@@ -8,8 +8,7 @@ use Rattle.profile.specs.rooms.Messages.{Outcome, Accept, Busy, SeriesLimit, Sin
 
 -- ---- what a room keeps
 
--- a part of a message, and what it asks for if it is to take place: the lines that say when, without line ends, and the instances. So far
--- these are single instances: no series
+-- a part of a message, and what it asks for if it is to take place: the lines that say when, without line ends, and single instances so far
 pub record Claim : Type 0 where
   pub part : Part
   pub content : List (List ℕ)
@@ -40,8 +39,7 @@ is_accept SinglesLimit = false
 abbrev pub is_confirmed : List Part → Answer → Bool
 is_confirmed taken answer = is_accept answer.outcome && in_view taken answer.claim.part
 
--- the instance is one of a Whole, and a part of that meeting in the view is of its slot: the instance is as that part says, moved, cancelled
--- or of no concern to this room (RFC 5545 3.8.4.4)
+-- the instance is one of a Whole, and a part of that meeting in the view is of its slot: it is as that part says (RFC 5545 3.8.4.4)
 abbrev pub is_hidden : List Part → Part → Booked → Bool
 is_hidden taken part booked =
     is_whole part && list_any (λ other. in_view taken other && same_place other (record part { slot = At booked.key.slot })) taken
@@ -97,8 +95,7 @@ pub record NamesClash (all : List Booked) (first second : Key) (t : ℤ) : Type 
   pub ordered : booked_cmp a b ≡ Less
   pub later : t ≡ b.start
 
--- what is decided where these would be the confirmed instances: the limit is looked at first, then whether any
--- two of them share an instant; any clash may be named
+-- what is decided where these would be confirmed: the limit is looked at first, then whether any two clash; any clash may be named
 abbrev pub Decides : List Booked → Outcome → Type 0
 Decides all Accept = (length all ≤ most_singles) × IsClear all
 Decides all (Busy first second t) = (length all ≤ most_singles) × NamesClash all first second t

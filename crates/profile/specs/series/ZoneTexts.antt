@@ -37,8 +37,7 @@ IsLocalLine line local = (is_date_time line ≡ true) × (line_param (codes "TZI
 abbrev pub IsOffsetLine : List ℕ → ℤ → Type 0
 IsOffsetLine line offset = SpellsOffset (line_value line) offset
 
--- the lines of a part say the times of this observance, that second of that day being its DTSTART (RFC 5545 3.6.5). That RDATE
--- isn't read is this profile's choice
+-- the lines of a part say the times of this observance, whose DTSTART is local (RFC 5545 3.6.5). No RDATE: this profile's choice
 pub record SaysTimes (lines : List (List ℕ)) (o : Observance) : Type 0 where
   pub start : Says (codes "DTSTART") true IsLocalLine lines (Some (local_time o.day o.second))
   pub second : o.second < 86_400

@@ -28,9 +28,8 @@ pub data Zone : Type 0 where
 abbrev pub local_time : ℕ → ℕ → ℤ
 local_time day second = pos (86_400 * day + second) -ℤ pos 62_167_219_200
 
--- the observance begins on this day: on DTSTART's alone where it has no rule, else on each day that the rule's parts give, in every
--- year, but on none before DTSTART. A DTSTART that its own rule doesn't give sets the time of day and the first possible date;
--- this profile's choice
+-- the observance begins on this day: on DTSTART's alone where it has no rule, else on each that the rule's parts give, in every year, but none
+-- before DTSTART. A DTSTART that its rule doesn't give sets the time of day and the first possible date; this profile's choice
 abbrev pub begins_on : Observance → ℕ → Bool
 begins_on o day =
     elim o.rule [

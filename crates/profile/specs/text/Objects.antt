@@ -111,8 +111,7 @@ lines_have number lines =
     some_misplaced number [] false lines || (number == 21 && (all_fit [] false lines && not (is_none (opened lines)))) || (number == 23 && is_none lines)
 
 module _ {T : Type 0} (name : T → List ℕ) (own : T → List (List ℕ)) (inside : T → List T) where
-  -- `body` spells these properties and these components, each in their order, with components at most `depth` deep and none
-  -- of them a VCALENDAR
+  -- `body` spells these properties and components, each in their order, components at most `depth` deep and none a VCALENDAR
   pub data SpellsBody : ℕ → List (List ℕ) → List T → List (List ℕ) → Type 0 where
     nothing : {depth : ℕ} → SpellsBody depth [] [] []
     property : {depth : ℕ} {lines : List (List ℕ)} {parts : List T} {body : List (List ℕ)} (line : List ℕ) → is_property line ≡ true → SpellsBody depth lines parts body → SpellsBody depth (lines ++ line ∷ []) parts (body ++ line ∷ [])

@@ -34,8 +34,7 @@ pub record SpellsDate (text : List ℕ) (number : ℤ) : Type 0 where
   pub spelled : text ≡ four_digits year ++ two_digits month ++ two_digits day
   pub counted : number ≡ number_of_date year month day
 
--- `HHMMSS` is this second of the day (RFC 5545 3.3.12). Second 60 may stand where `limit` is 60; it
--- means 59, this profile's choice
+-- `HHMMSS` is this second of the day (RFC 5545 3.3.12). Second 60 may stand where `limit` is 60, and means 59: this profile's choice
 pub record SpellsTime (limit : ℕ) (text : List ℕ) (total : ℕ) : Type 0 where
   pub hour : ℕ
   pub minute : ℕ
@@ -148,8 +147,7 @@ abbrev pub SpellsPart : ℕ → List ℕ → ℕ → Type 0
 SpellsPart letter text n =
     ((text ≡ []) × (n ≡ 0)) ⊎ ((digits : List ℕ) × IsNumber digits n × (text ≡ digits ++ letter ∷ []))
 
--- `T` and hours, minutes, seconds in this order, at least one of them (RFC 5545 3.3.6). That minutes may be missing between
--- hours and seconds is this profile's choice
+-- `T` and hours, minutes, seconds in order, at least one (RFC 5545 3.3.6); minutes may be missing between them: this profile's choice
 pub record SpellsExact (text : List ℕ) (total : ℕ) : Type 0 where
   pub hour_part : List ℕ
   pub minute_part : List ℕ
