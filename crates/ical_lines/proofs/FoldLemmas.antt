@@ -1,9 +1,9 @@
 -- Folding, character by character.
-use Rattle.std.proofs.Common.{◌≡◌, ℕ, ◌+◌, ◌<◌, ◌≤◌, nat_lt, false, cond, Result, Ok, Err, OnOk, is_ok, List, [], ◌∷◌, ◌++◌, length, take, drop, get_or, refl, ap, sym, ◌∙◌, arith}
+use Rattle.std.proofs.Common.{◌≡◌, ℕ, ◌+◌, ◌<◌, ◌≤◌, nat_lt, Bool, true, false, cond, Result, Ok, Err, OnOk, is_ok, List, [], ◌∷◌, ◌++◌, length, take, drop, get_or, refl, ap, sym, ◌∙◌, arith}
 use Rattle.std.specs.Char.{encode_utf8}
 use Rattle.std.specs.Str.{IsUtf8, chars}
 use Rattle.std.proofs.lemmas.Bool.Decides.{nat_tests}
-use Rattle.std.proofs.lemmas.List.{append_assoc, append-nil, drop_more, drop_all, length-append, length_push, length-take, take-take}
+use Rattle.std.proofs.lemmas.List.{append_assoc, append-nil, drop_more, drop_all, length-append, length_push, take_all, length-take, take-append-le, take-take}
 use Rattle.std.proofs.lemmas.Str.{chars-append, encodes-chars}
 use lib.Utf8.{encodes}
 use Rattle.profile.specs.text.Lines.{fold_break, fold_from, next_column, column_after, folded}
@@ -34,6 +34,16 @@ pub keeps_on : (a y z : List ℕ) → take (length a) y ≡ a → take (length y
 keeps_on a y z e f =
     let l : length a ≤ length y = omega (arith, ap length e, length-take (length a) y) in
     sym (take-take (length a) (length y) z l) ∙ (ap (take (length a)) f ∙ e)
+
+pub keeps_itself : (a : List ℕ) → take (length a) a ≡ a
+keeps_itself a = take_all (length a) a (omega arith)
+
+-- what a call that may fail appended at the end
+pub keeps_appended : (a y z more : List ℕ) (b : Bool) → take (length a) y ≡ a → z ≡ cond b (y ++ more) y → take (length a) z ≡ a
+keeps_appended a y z more true e f =
+    let l : length a ≤ length y = omega (arith, ap length e, length-take (length a) y) in
+    ap (take (length a)) f ∙ (take-append-le (length a) y more l ∙ e)
+keeps_appended a y z more false e f = ap (take (length a)) f ∙ e
 
 chars_colon : (value : List ℕ) → chars (58 ∷ value) ≡ 58 ∷ chars value
 unfolding chars
