@@ -206,3 +206,30 @@ clock_pieces limit date time zone number seconds second on at_second e = (
 
 pub time_length : (limit : ℕ) (text : List ℕ) (total : ℕ) → SpellsTime limit text total → length text ≡ 6
 time_length limit text total s = ap length s.spelled
+
+-- the digits of a time as it stands in the text
+pub record TimeDigits (text : List ℕ) (hour minute second : ℕ) : Type 0 where
+  pub hours : two_digits hour ≡ get_or text 0 0 ∷ get_or text 1 0 ∷ []
+  pub minutes : two_digits minute ≡ get_or text 2 0 ∷ get_or text 3 0 ∷ []
+  pub seconds : two_digits second ≡ get_or text 4 0 ∷ get_or text 5 0 ∷ []
+
+time_digits : (limit : ℕ) (text : List ℕ) (total : ℕ) (s : SpellsTime limit text total) → TimeDigits text s.hour s.minute s.second
+time_digits limit text total s = record { hours = rw s.spelled refl; minutes = rw s.spelled refl; seconds = rw s.spelled refl }
+
+pub no_hour : (limit : ℕ) (text : List ℕ) → ((n : ℕ) → n < 100 → two_digits n ≡ get_or text 0 0 ∷ get_or text 1 0 ∷ [] → ⊥) → (total : ℕ) → SpellsTime limit text total → ⊥
+no_hour limit text h total s = h s.hour (omega (arith, s.hours)) (time_digits limit text total s).hours
+
+pub no_minute : (limit : ℕ) (text : List ℕ) → ((n : ℕ) → n < 100 → two_digits n ≡ get_or text 2 0 ∷ get_or text 3 0 ∷ [] → ⊥) → (total : ℕ) → SpellsTime limit text total → ⊥
+no_minute limit text h total s = h s.minute (omega (arith, s.minutes)) (time_digits limit text total s).minutes
+
+pub no_second : (limit : ℕ) (text : List ℕ) → limit ≤ 60 → ((n : ℕ) → n < 100 → two_digits n ≡ get_or text 4 0 ∷ get_or text 5 0 ∷ [] → ⊥) → (total : ℕ) → SpellsTime limit text total → ⊥
+no_second limit text l h total s = h s.second (omega (arith, s.seconds)) (time_digits limit text total s).seconds
+
+pub same_time : (limit : ℕ) (text : List ℕ) (hour minute second total : ℕ) → limit ≤ 60 → hour < 100 → minute < 100 → second < 100 → TimeDigits text hour minute second → (s : SpellsTime limit text total) → (s.hour ≡ hour) × (s.minute ≡ minute) × (s.second ≡ second)
+same_time limit text hour minute second total l h m n d s =
+    let g = time_digits limit text total s in
+    (
+      two_same s.hour hour _ (omega (arith, s.hours)) h g.hours d.hours,
+      two_same s.minute minute _ (omega (arith, s.minutes)) m g.minutes d.minutes,
+      two_same s.second second _ (omega (arith, s.seconds)) n g.seconds d.seconds,
+    )
