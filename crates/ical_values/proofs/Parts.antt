@@ -105,8 +105,7 @@ no_digits letter text count low digits last none n rest b = absurd (omega (arith
 pub part_taken : (letter : ℕ) (text : List ℕ) (count number : ℕ) → count ≢ 0 → count < length text → AllDigits 10 (take count text) → number ≡ capped (digits_value 10 (take count text)) → get_or text count 0 ≡ letter → Takes letter text number (take (length text - (count + 1)) (drop (count + 1) text))
 part_taken letter text count number some inside digits value at =
     let long : length (take count text) ≡ count = omega (arith, length-take count text) in
-    let rest : drop count text ≡ letter ∷ take (length text - (count + 1)) (drop (count + 1) text) = drop_more text count 0 inside ∙ (ap (λ z. z ∷ drop (count + 1) text) at ∙ ap (λ z. letter ∷ z) (sym (take_rest text (count + 1)))) in
-    (
+    let rest : drop count text ≡ letter ∷ take (length text - (count + 1)) (drop (count + 1) text) = drop_more text count 0 inside ∙ (ap (λ z. z ∷ drop (count + 1) text) at ∙ ap (λ z. letter ∷ z) (sym (take_rest text (count + 1)))) in (
       digits_value 10 (take count text),
       record {
         digits = take count text;

@@ -227,8 +227,7 @@ no_second limit text l h total s = h s.second (omega (arith, s.seconds)) (time_d
 
 pub same_time : (limit : ℕ) (text : List ℕ) (hour minute second total : ℕ) → limit ≤ 60 → hour < 100 → minute < 100 → second < 100 → TimeDigits text hour minute second → (s : SpellsTime limit text total) → (s.hour ≡ hour) × (s.minute ≡ minute) × (s.second ≡ second)
 same_time limit text hour minute second total l h m n d s =
-    let g = time_digits limit text total s in
-    (
+    let g = time_digits limit text total s in (
       two_same s.hour hour _ (omega (arith, s.hours)) h g.hours d.hours,
       two_same s.minute minute _ (omega (arith, s.minutes)) m g.minutes d.minutes,
       two_same s.second second _ (omega (arith, s.seconds)) n g.seconds d.seconds,
