@@ -1,9 +1,9 @@
 -- Folding, character by character.
-use Rattle.std.proofs.Common.{◌≡◌, ℕ, ◌+◌, ◌<◌, ◌≤◌, nat_lt, false, cond, Result, Ok, Err, OnOk, is_ok, List, [], ◌∷◌, ◌++◌, length, take, drop, get_or, refl, ap, sym, ◌∙◌, arith}
+use Rattle.std.proofs.Common.{◌≡◌, ℕ, ◌+◌, ◌<◌, ◌≤◌, nat_lt, Bool, true, false, cond, Result, Ok, Err, OnOk, is_ok, List, [], ◌∷◌, ◌++◌, length, take, drop, get_or, refl, ap, sym, ◌∙◌, arith}
 use Rattle.std.specs.Char.{encode_utf8}
 use Rattle.std.specs.Str.{IsUtf8, chars}
 use Rattle.std.proofs.lemmas.Bool.Decides.{nat_tests}
-use Rattle.std.proofs.lemmas.List.{append_assoc, append-nil, drop_more, drop_all, length-append, length_push, length-take, take-take}
+use Rattle.std.proofs.lemmas.List.{append_assoc, append-nil, drop_more, drop_all, length-append, length_push, take_all, length-take, take-append-le, take-take}
 use Rattle.std.proofs.lemmas.Str.{chars-append, encodes-chars}
 use lib.Utf8.{encodes}
 use Rattle.profile.specs.text.Lines.{fold_break, fold_from, next_column, column_after, folded}
@@ -11,6 +11,37 @@ use Rattle.profile.specs.text.Lines.{fold_break, fold_from, next_column, column_
 pub chars_left : (cs ys : List ℕ) (c : ℕ) → (length ys < length cs) × (c ≡ get_or cs (length ys) c) → drop (length ys) cs ≡ c ∷ drop (length (ys ++ c ∷ [])) cs
 chars_left cs ys c h =
     drop_more cs (length ys) c h.0 ∙ (ap (λ z. z ∷ drop (length ys + 1) cs) (sym h.1) ∙ ap (λ n. c ∷ drop n cs) (sym (length_push ys c)))
+
+-- one character that would pass the last column, and one that doesn't
+far : (column c : ℕ) (octets : List ℕ) → octets ≡ encode_utf8 c → 75 < column + length octets → nat_lt 75 (column + length (encode_utf8 c)) ≡ true
+far column c octets e l =
+    let n : length octets ≡ length (encode_utf8 c) = ap length e in
+    let over : 75 < column + length (encode_utf8 c) = omega (arith, n, l) in
+    grind (arith, nat_tests, over)
+
+near : (column c : ℕ) (octets : List ℕ) → octets ≡ encode_utf8 c → column + length octets ≤ 75 → nat_lt 75 (column + length (encode_utf8 c)) ≡ false
+near column c octets e l =
+    let n : length octets ≡ length (encode_utf8 c) = ap length e in
+    let within : column + length (encode_utf8 c) ≤ 75 = omega (arith, n, l) in
+    grind (arith, nat_tests, within)
+
+pub far_written : (out broken new octets : List ℕ) (column c : ℕ) → octets ≡ encode_utf8 c → 75 < column + length octets → broken ≡ out ++ 13 ∷ 10 ∷ 32 ∷ [] → new ≡ broken ++ octets → new ≡ out ++ (fold_break column c ++ encode_utf8 c)
+far_written out broken new octets column c e l f g =
+    let m : List ℕ = 13 ∷ 10 ∷ 32 ∷ [] in
+    let joined : broken ++ octets ≡ out ++ (m ++ encode_utf8 c) = ap (λ z. z ++ octets) f ∙ (append_assoc out m octets ∙ ap (λ z. out ++ (m ++ z)) e) in
+    g ∙ (joined ∙ ap (λ b. out ++ (cond b m [] ++ encode_utf8 c)) (sym (far column c octets e l)))
+
+pub far_column : (column c : ℕ) (octets : List ℕ) → octets ≡ encode_utf8 c → 75 < column + length octets → 1 + length octets ≡ next_column column c
+far_column column c octets e l =
+    ap (λ z. 1 + length z) e ∙ ap (λ b. cond b 1 column + length (encode_utf8 c)) (sym (far column c octets e l))
+
+pub near_written : (out new octets : List ℕ) (column c : ℕ) → octets ≡ encode_utf8 c → column + length octets ≤ 75 → new ≡ out ++ octets → new ≡ out ++ (fold_break column c ++ encode_utf8 c)
+near_written out new octets column c e l g =
+    g ∙ (ap (λ z. out ++ z) e ∙ ap (λ b. out ++ (cond b (13 ∷ 10 ∷ 32 ∷ []) [] ++ encode_utf8 c)) (sym (near column c octets e l)))
+
+pub near_column : (column c : ℕ) (octets : List ℕ) → octets ≡ encode_utf8 c → column + length octets ≤ 75 → column + length octets ≡ next_column column c
+near_column column c octets e l =
+    ap (λ z. column + length z) e ∙ ap (λ b. cond b 1 column + length (encode_utf8 c)) (sym (near column c octets e l))
 
 pub add_character : (out new all rest left : List ℕ) (at after c : ℕ) → new ≡ out ++ (fold_break at c ++ encode_utf8 c) → after ≡ next_column at c → left ≡ c ∷ rest → out ++ fold_from at left ≡ all → new ++ fold_from after rest ≡ all
 add_character out new all rest left at after c e f g h =
@@ -34,6 +65,16 @@ pub keeps_on : (a y z : List ℕ) → take (length a) y ≡ a → take (length y
 keeps_on a y z e f =
     let l : length a ≤ length y = omega (arith, ap length e, length-take (length a) y) in
     sym (take-take (length a) (length y) z l) ∙ (ap (take (length a)) f ∙ e)
+
+pub keeps_itself : (a : List ℕ) → take (length a) a ≡ a
+keeps_itself a = take_all (length a) a (omega arith)
+
+-- what a call that may fail appended at the end
+pub keeps_appended : (a y z more : List ℕ) (b : Bool) → take (length a) y ≡ a → z ≡ cond b (y ++ more) y → take (length a) z ≡ a
+keeps_appended a y z more true e f =
+    let l : length a ≤ length y = omega (arith, ap length e, length-take (length a) y) in
+    ap (take (length a)) f ∙ (take-append-le (length a) y more l ∙ e)
+keeps_appended a y z more false e f = ap (take (length a)) f ∙ e
 
 chars_colon : (value : List ℕ) → chars (58 ∷ value) ≡ 58 ∷ chars value
 unfolding chars

@@ -2,11 +2,11 @@
 ghost use Rattle.std.specs.Prelude.{◌≡◌, Option, None, Some, not, option_map, if◌then◌else◌};
 ghost use Rattle.std.specs.List.{list_any};
 ghost use Rattle.ical_lines.specs.Pieces.{pieces_left};
-ghost use Rattle.profile.specs.text.Lines.{front, unquoted, is_quoted, is_item, is_badly_quoted, lacks_name};
+ghost use Rattle.profile.specs.text.Lines.{front, unquoted, is_item, is_badly_quoted, lacks_name};
 
 use crate::fault::Refusal;
 use crate::name::is_name;
-use crate::pieces::{Pieces, front, split_outside};
+use crate::pieces::{Pieces, split_outside};
 
 /// One parameter of a line, as it is written.
 #[derive(Clone, Copy)]
@@ -37,7 +37,8 @@ impl<'a> Param<'a> {
     pub(crate) fn first_value(self) -> &'a str
         ensures { result.now ≡ unquoted (front 44 self.entry.value.now) }
     {
-        unquoted(front(self.value, b','))
+        let (first, _others) = split_outside(self.value, b',');
+        unquoted(first)
     }
 }
 
@@ -117,17 +118,8 @@ fn is_item(text: &str) -> bool
 fn unquoted(text: &str) -> &str
     ensures { result.now ≡ unquoted text.now }
 {
-    if !is_quoted(text.as_bytes()) {
-        return text;
+    match text.strip_prefix('"') {
+        Some(rest) => rest.strip_suffix('"').unwrap_or(text),
+        None => text,
     }
-    let (_open, rest) = text.split_at(1);
-    let (inside, _close) = rest.split_at(rest.len() - 1);
-    inside
-}
-
-/// Whether a text begins and ends with a quote each.
-fn is_quoted(text: &[u8]) -> bool
-    ensures { result ≡ is_quoted text.now }
-{
-    text.len() >= 2 && text[0] == b'"' && text[text.len() - 1] == b'"'
 }

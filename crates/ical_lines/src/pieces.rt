@@ -72,15 +72,6 @@ pub fn split_outside(text: &str, stop: u8) -> (&str, Option<&str>)
     (front, Some(after))
 }
 
-/// The text before the first `stop` outside quotes.
-pub fn front(text: &str, stop: u8) -> &str
-    requires { stop < 128 }
-    ensures { result.now ≡ front stop text.now }
-{
-    let (front, _after) = split_outside(text, stop);
-    front
-}
-
 /// The pieces of a text between the octets `stop` outside quotes, in order. It takes no memory.
 #[derive(Clone, Copy)]
 pub struct Pieces<'a> {

@@ -72,19 +72,12 @@ fn is_folded(octets: &[u8]) -> bool
     let (_first, mut left) = split_line(octets);
     while let Some(rest) = left {
         let (line, next) = split_line(rest);
-        if is_continuation(line) {
+        if matches!(line, [b' ' | b'\t', ..]) {
             return true;
         }
         left = next;
     }
     false
-}
-
-/// Whether a space or a tab stands first.
-fn is_continuation(line: &[u8]) -> bool
-    ensures { result ≡ is_continuation line.now }
-{
-    matches!(line, [b' ' | b'\t', ..])
 }
 
 /// The logical lines that aren't empty, in order, each ended by CRLF: a CR that ends a line itself stays so apart.

@@ -1,9 +1,9 @@
 -- A line that begins with another letter than BEGIN and END do is neither.
-use Rattle.std.proofs.Common.{◌≡◌, ℕ, zero, suc, true, false, ◌||◌, eqb, List, [], ◌∷◌, take, codes, refl, arith}
+use Rattle.std.proofs.Common.{◌≡◌, ℕ, zero, suc, true, false, ◌||◌, eqb, List, [], ◌∷◌, take, codes, refl, ap, sym, ◌∙◌, arith}
 use Rattle.std.specs.Char.{to_ascii_lowercase}
 use Rattle.std.proofs.lemmas.Bool.Decides.{nat_tests, eqb_tells}
 use Rattle.profile.specs.text.Lines.{is_same_name}
-use Rattle.profile.specs.text.Objects.{is_property}
+use Rattle.profile.specs.text.Objects.{is_begin, is_end, is_property}
 use Rattle.ical_tree.specs.Reading.{may_pair}
 use Rattle.ical_tree.proofs.BuiltLemmas.{plain}
 
@@ -27,3 +27,7 @@ other_e c h = grind (arith, nat_tests, eqb_tells)
 pub other_first : (line : List ℕ) → may_pair line ≡ false → is_property line ≡ true
 other_first [] h = refl
 other_first (c ∷ cs) h = plain (c ∷ cs) (not_begin _ _ c cs (other_b c h)) (not_end _ _ c cs (other_e c h))
+
+-- one that was asked for both names is neither
+pub neither : (text asked : List ℕ) → asked ≡ text → false ≡ is_begin asked → false ≡ is_end asked → is_property text ≡ true
+neither text asked e b h = plain text (ap is_begin (sym e) ∙ sym b) (ap is_end (sym e) ∙ sym h)

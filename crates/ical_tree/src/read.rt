@@ -111,15 +111,10 @@ impl<'a> Reader<'a> {
         ensures stands { IfErr result (RefusesOnly (λ n. misplaced n (names_of (open_view self.old)) (is_some self.old.closed) text.now)) }
         ensures refuses { IfErr result (RefusesOnly is_object_fault) }
     {
-        let Some(line) = paired_line(text) else {
-            return Ok(self.add()?);
-        };
-        if line.is_named("BEGIN") {
-            self.begin(alloc, line.value(), rest)
-        } else if line.is_named("END") {
-            self.end(line.value(), rest)
-        } else {
-            Ok(self.add()?)
+        match paired_line(text) {
+            Some(line) if line.is_named("BEGIN") => self.begin(alloc, line.value(), rest),
+            Some(line) if line.is_named("END") => self.end(line.value(), rest),
+            _ => Ok(self.add()?),
         }
     }
 

@@ -12,3 +12,4 @@ pub mod Exits
 pub mod Facts
 pub mod ShownValues
 pub mod EscapedText
+pub mod AllOrNone

@@ -1,6 +1,6 @@
 -- The parts of a duration: digits, then a letter.
 use Rattle.std.proofs.Common.{◌≡◌, ◌≢◌, ◌∙◌, ℕ, ◌+◌, ◌-◌, ◌*◌, ◌<◌, ◌≤◌, inl, inr, min, List, [], ◌∷◌, ◌++◌, length, get_or, take, drop, refl, sym, ap, arith, append_assoc, length-append}
-use Rattle.std.proofs.lemmas.List.{append-nil, nil_from_length, get_or_append_left, get_or-take}
+use Rattle.std.proofs.lemmas.List.{append-nil, drop_more, take-append-drop, take_rest, nil_from_length, get_or_append_left, get_or-take}
 use Rattle.std.proofs.Math.Seq.{get_or-append_seam}
 use Rattle.std.proofs.Common.{length-take}
 use Rattle.std.proofs.lemmas.Str.{digit_value_digit}
@@ -96,6 +96,24 @@ no_such_letter letter text count low digits last other n rest b =
     let count_is = front_count letter text count n rest low digits last b in
     let at_letter : get_or text (length b.digits) 0 ≡ letter = ap (λ t. get_or t (length b.digits) 0) b.spelled ∙ get_or-append_seam b.digits letter rest 0 in
     other (rw count_is at_letter)
+
+-- or where no digit stands at the front
+pub no_digits : (letter : ℕ) (text : List ℕ) (count : ℕ) → 57 < letter → AllDigits 10 (take count text) → (count < length text → IsInRange 48 57 (get_or text count 0) → ⊥) → count ≡ 0 → (n : ℕ) (rest : List ℕ) → Begins letter text n rest → ⊥
+no_digits letter text count low digits last none n rest b = absurd (omega (arith, none, b.number.0, front_count letter text count n rest low digits last b))
+
+-- the digits at the front, the letter and what follows it
+pub part_taken : (letter : ℕ) (text : List ℕ) (count number : ℕ) → count ≢ 0 → count < length text → AllDigits 10 (take count text) → number ≡ capped (digits_value 10 (take count text)) → get_or text count 0 ≡ letter → Takes letter text number (take (length text - (count + 1)) (drop (count + 1) text))
+part_taken letter text count number some inside digits value at =
+    let long : length (take count text) ≡ count = omega (arith, length-take count text) in
+    let rest : drop count text ≡ letter ∷ take (length text - (count + 1)) (drop (count + 1) text) = drop_more text count 0 inside ∙ (ap (λ z. z ∷ drop (count + 1) text) at ∙ ap (λ z. letter ∷ z) (sym (take_rest text (count + 1)))) in (
+      digits_value 10 (take count text),
+      record {
+        digits = take count text;
+        number = (omega (arith, some, long), digits, refl);
+        spelled = sym (take-append-drop count text) ∙ ap (λ z. take count text ++ z) rest;
+      },
+      value,
+    )
 
 -- one digit more
 pub number_more : (text : List ℕ) (i number product sum : ℕ) → i < length text → 48 ≤ get_or text i 0 → get_or text i 0 ≤ 57 → AllDigits 10 (take i text) → number ≡ capped (digits_value 10 (take i text)) → product ≡ min (number * 10) 18_446_744_073_709_551_615 → sum ≡ min (product + (get_or text i 0 - 48)) 18_446_744_073_709_551_615 → AllDigits 10 (take (i + 1) text) × (sum ≡ capped (digits_value 10 (take (i + 1) text)))

@@ -1,11 +1,12 @@
 -- Lists of a few octets, digits, dates and clocks as they are spelled.
-use Rattle.std.proofs.Common.{to_z, of_z, w32, w64, ◌≡◌, ◌∙◌, ℕ, ◌-◌, ◌<◌, List, [], ◌∷◌, ◌++◌, length, get_or, take, drop, codes, refl, sym, ap, arith, ℤ, pos, ◌+ℤ◌, ◌*ℤ◌, ◌≤ℤ◌, ◌↔◌, Option, Some, None}
-use Rattle.std.specs.Option.{IsSome, IfSome}
+use Rattle.std.proofs.Common.{to_z, of_z, w32, w64, ◌≡◌, ◌∙◌, ℕ, ◌-◌, ◌<◌, ◌≤◌, List, [], ◌∷◌, ◌++◌, length, get_or, take, drop, codes, refl, sym, ap, arith, ℤ, pos, ◌+ℤ◌, ◌*ℤ◌, ◌≤ℤ◌, ◌↔◌, Option, Some, None, true≢false}
+use Rattle.std.specs.Option.{IsSome, IfSome, IfNone}
 use Rattle.std.proofs.lemmas.Int.{ints}
 use Rattle.std.proofs.lemmas.List.{append-nil}
 use Rattle.std.proofs.Common.{append_assoc}
 use Rattle.cal_days.proofs.Bridge.{number_low}
-use Rattle.profile.specs.series.Days.{IsDayDate, day_index, number_of_day}
+use Rattle.cal_days.proofs.Dates.{month_length_max}
+use Rattle.profile.specs.series.Days.{IsDate, IsDayDate, day_index, days_in_month, number_of_day}
 use Rattle.profile.specs.series.Zones.{local_time}
 use Rattle.profile.specs.text.Values.{two_digits, four_digits, SpellsDate, SpellsTime, SpellsClock}
 
@@ -114,6 +115,35 @@ pub date_read : (text : List ℕ) (year month day : ℕ) (read : Option ℤ) →
 date_read text year month day None l y digits found value = tt
 date_read text year month day (Some d) l y digits found value = date_found text year month day d l y digits (found.0 refl) value
 
+-- and where there are no such digits, or no such date, the text is none
+pub no_year : (text : List ℕ) → ((n : ℕ) → n < 10_000 → four_digits n ≡ get_or text 0 0 ∷ get_or text 1 0 ∷ get_or text 2 0 ∷ get_or text 3 0 ∷ [] → ⊥) → (number : ℤ) → SpellsDate text number → ⊥
+no_year text h number s = h s.year (omega (arith, s.last)) (date_digits text number s).years
+
+pub no_month : (text : List ℕ) → ((n : ℕ) → n < 100 → two_digits n ≡ get_or text 4 0 ∷ get_or text 5 0 ∷ [] → ⊥) → (number : ℤ) → SpellsDate text number → ⊥
+no_month text h number s = h s.month (omega (arith, s.date.1)) (date_digits text number s).months
+
+day_small : (year month day : ℕ) → IsDate year month day → day < 100
+day_small year month day d = let l : days_in_month year month ≤ 31 = month_length_max year month in omega (arith, l, d.3)
+
+pub no_day : (text : List ℕ) → ((n : ℕ) → n < 100 → two_digits n ≡ get_or text 6 0 ∷ get_or text 7 0 ∷ [] → ⊥) → (number : ℤ) → SpellsDate text number → ⊥
+no_day text h number s = h s.day (day_small s.year s.month s.day s.date) (date_digits text number s).days
+
+same_date : (text : List ℕ) (year month day : ℕ) (number : ℤ) → year < 10_000 → month < 100 → day < 100 → DateDigits text year month day → SpellsDate text number → IsDayDate (pos year) month day
+same_date text year month day number y m d h s =
+    let g = date_digits text number s in
+    let years : s.year ≡ year = four_same s.year year _ (omega (arith, s.last)) y g.years h.years in
+    let months : s.month ≡ month = two_same s.month month _ (omega (arith, s.date.1)) m g.months h.months in
+    let days : s.day ≡ day = two_same s.day day _ (day_small s.year s.month s.day s.date) d g.days h.days in
+    (omega (arith, ints, years, s.first), omega (arith, ints, years, s.last), rw (sym years, sym months, sym days) s.date)
+
+pub date_none : (text : List ℕ) (year month day : ℕ) (read : Option ℤ) → year < 10_000 → month < 100 → day < 100 → DateDigits text year month day → IsSome read ↔ IsDayDate (pos year) month day → IfNone read ((number : ℤ) → SpellsDate text number → ⊥)
+date_none text year month day (Some x) y m d h found = tt
+date_none text year month day None y m d h found = λ number s. absurd (true≢false (sym (found.1 (same_date text year month day number y m d h s))))
+
+pub date_high : (year : ℕ) (read : Option ℤ) → year < 10_000 → IfSome read (λ d. pos year ≤ℤ pos 9999 → d ≤ℤ pos 2_932_896) → IfSome read (λ d. d ≤ℤ pos 2_932_896)
+date_high year (Some d) y h = h (omega (arith, ints, y))
+date_high year None y h = tt
+
 -- T between a date and a time
 pub record ClockParts (limit : ℕ) (text : List ℕ) (seconds : ℤ) : Type 0 where
   pub long : length text ≡ 15
@@ -176,3 +206,29 @@ clock_pieces limit date time zone number seconds second on at_second e = (
 
 pub time_length : (limit : ℕ) (text : List ℕ) (total : ℕ) → SpellsTime limit text total → length text ≡ 6
 time_length limit text total s = ap length s.spelled
+
+-- the digits of a time as it stands in the text
+pub record TimeDigits (text : List ℕ) (hour minute second : ℕ) : Type 0 where
+  pub hours : two_digits hour ≡ get_or text 0 0 ∷ get_or text 1 0 ∷ []
+  pub minutes : two_digits minute ≡ get_or text 2 0 ∷ get_or text 3 0 ∷ []
+  pub seconds : two_digits second ≡ get_or text 4 0 ∷ get_or text 5 0 ∷ []
+
+time_digits : (limit : ℕ) (text : List ℕ) (total : ℕ) (s : SpellsTime limit text total) → TimeDigits text s.hour s.minute s.second
+time_digits limit text total s = record { hours = rw s.spelled refl; minutes = rw s.spelled refl; seconds = rw s.spelled refl }
+
+pub no_hour : (limit : ℕ) (text : List ℕ) → ((n : ℕ) → n < 100 → two_digits n ≡ get_or text 0 0 ∷ get_or text 1 0 ∷ [] → ⊥) → (total : ℕ) → SpellsTime limit text total → ⊥
+no_hour limit text h total s = h s.hour (omega (arith, s.hours)) (time_digits limit text total s).hours
+
+pub no_minute : (limit : ℕ) (text : List ℕ) → ((n : ℕ) → n < 100 → two_digits n ≡ get_or text 2 0 ∷ get_or text 3 0 ∷ [] → ⊥) → (total : ℕ) → SpellsTime limit text total → ⊥
+no_minute limit text h total s = h s.minute (omega (arith, s.minutes)) (time_digits limit text total s).minutes
+
+pub no_second : (limit : ℕ) (text : List ℕ) → limit ≤ 60 → ((n : ℕ) → n < 100 → two_digits n ≡ get_or text 4 0 ∷ get_or text 5 0 ∷ [] → ⊥) → (total : ℕ) → SpellsTime limit text total → ⊥
+no_second limit text l h total s = h s.second (omega (arith, s.seconds)) (time_digits limit text total s).seconds
+
+pub same_time : (limit : ℕ) (text : List ℕ) (hour minute second total : ℕ) → limit ≤ 60 → hour < 100 → minute < 100 → second < 100 → TimeDigits text hour minute second → (s : SpellsTime limit text total) → (s.hour ≡ hour) × (s.minute ≡ minute) × (s.second ≡ second)
+same_time limit text hour minute second total l h m n d s =
+    let g = time_digits limit text total s in (
+      two_same s.hour hour _ (omega (arith, s.hours)) h g.hours d.hours,
+      two_same s.minute minute _ (omega (arith, s.minutes)) m g.minutes d.minutes,
+      two_same s.second second _ (omega (arith, s.seconds)) n g.seconds d.seconds,
+    )

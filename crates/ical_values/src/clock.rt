@@ -84,10 +84,9 @@ pub fn split(seconds: i64) -> (Day, u32)
     ensures second { result.1 < 86_400 }
     ensures sum { seconds ≡ (result.0 *ℤ pos 86_400) +ℤ pos result.1 }
 {
-    let since = (seconds - FIRST) as u64;
-    let number = (since / DAY_SECONDS as u64) as i64 + FIRST_NUMBER;
+    let number = seconds.div_euclid(DAY_SECONDS);
     let day = Day::of_number(number).unwrap();
-    (day, (since % DAY_SECONDS as u64) as u32)
+    (day, seconds.rem_euclid(DAY_SECONDS) as u32)
 }
 
 /// The digits `HHMMSS` of a second of the day.

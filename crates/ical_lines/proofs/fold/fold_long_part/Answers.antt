@@ -24,3 +24,6 @@ pub returns-clause-column : goal.returns-clause-column
 returns-clause-column c =
     let t = YieldsList-end (YieldsList-from_chars c.args.text.now c.utf8.text cc) c.loop-character.yielded _ c.loop-character.yielded_by _ _ c.in-None.is c.next.ensures.steps in
     column_ends _ (chars c.args.text.now) c.loop-character.at (length c.loop-character.yielded) (omega (arith, t.1)) c.loop-character.invariant.at_is
+
+pub returns-in_err-at-clause-keeps : goal.returns-in_err-at-clause-keeps
+returns-in_err-at-clause-keeps c = keeps_on _ c.loop-character.out.items _ c.loop-character.invariant.keeps c.fold_character.ensures.keeps

@@ -1,5 +1,5 @@
 use Rattle.std.proofs.Common.{◌∙◌, ◌++◌, ap, arith}
-use Rattle.ical_lines.proofs.FoldLemmas.{part_written, column_written}
+use Rattle.ical_lines.proofs.FoldLemmas.{column_written, keeps_appended, keeps_itself, part_written}
 use Rattle.ical_lines.proofs.fold.fold_part.Goals as goal
 
 pub returns-clause-written : goal.returns-clause-written
@@ -9,3 +9,6 @@ returns-clause-written c =
 
 pub returns-clause-column : goal.returns-clause-column
 returns-clause-column c = column_written c.args.text.now c.args.column c.utf8.text (omega (arith, c.requires, c.if-text-column.false))
+
+pub returns-clause-keeps : goal.returns-clause-keeps
+returns-clause-keeps c = keeps_appended _ _ _ _ _ (keeps_itself c.args.out.now.items) c.extend_from_slice.ensures.items

@@ -23,3 +23,10 @@ returns t c = record {
   written = all_written c.write_property-2.result c.loop-child.out.items c.write_property-2.new.out.items c.args.out.now.items c.args.component.now c.children-child-items.result.now c.loop-child.child-index c.children-child-items.ensures c.loop-child-test.false c.loop-child.invariant.written (subst (λ n. OnOk c.write_property-2.result (c.write_property-2.new.out.items ≡ c.loop-child.out.items ++ folded (codes "END" ++ 58 ∷ n))) c.name-2.ensures c.write_property-2.ensures.written);
   keeps = keeps_written c.write_property-2.result c.args.out.now.items _ c.write_property-2.new.out.items _ c.loop-child.invariant.keeps c.write_property-2.ensures.written c.write_property-2.ensures.unchanged;
 }
+
+pub returns-in_err-write_lines-clause-keeps : goal.returns-in_err-write_lines-clause-keeps
+returns-in_err-write_lines-clause-keeps t c =
+    keeps_on c.args.out.now.items c.write_property.new.out.items _ (keeps_after c.args.out.now.items _ _ c.in_ok-write_property.ensures.written) c.write_lines.ensures.keeps
+
+pub returns-in_err-write_component-clause-keeps : goal.returns-in_err-write_component-clause-keeps
+returns-in_err-write_component-clause-keeps t c = keeps_on c.args.out.now.items c.loop-child.out.items _ c.loop-child.invariant.keeps c.write_component.ensures.keeps
