@@ -18,7 +18,7 @@ mod zones;
 
 pub use calendar::{Calendar, Entry, Singles};
 pub use component::{Attendee, EventComponent, ParticipationStatus, Purpose, one_event};
-pub use event::{Event, one_meeting};
+pub use event::{Event, one_instance, one_meeting};
 pub use event_times::{EventTimes, refuse_nominal_length};
 pub use instance::{HORIZON, Instance, InstanceKey, OwnedInstance, OwnedKey};
 pub use instances::Instances;
