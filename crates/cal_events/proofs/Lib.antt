@@ -18,6 +18,7 @@ pub mod OneCalendar
 pub mod OneText
 pub mod OneSeries
 pub mod ObjectFaults
+pub mod OneInstance
 pub mod OneMeeting
 pub mod MeetingLemmas
 pub mod OneZoned

@@ -93,8 +93,7 @@ pub fn one_instance()
         → a.start ≡ b.start → a.key.slot ≡ b.key.slot → a ≡ b }
     ensures dates { (octets : List ℕ) (meeting : Meeting) (a : Booked) → SpellsMeeting octets meeting → IsInstance meeting a
         → IsNamed a.key.slot × IsNamed a.start × (a.start ≤ℤ a.end) }
-{
-}
+{}
 
 /// Refuses components that aren't those of one meeting.
 /// Refused: 66 where there is none, 62 for two UIDs or two ORGANIZERs.

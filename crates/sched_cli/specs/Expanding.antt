@@ -46,6 +46,7 @@ pub record PrintsFirst (meeting : Meeting) (limit : ℕ) (old new : Option (List
 
 -- so many were gone through, in order; the others are left
 pub record AreGoneThrough (meeting : Meeting) (left : Instances) (count : ℕ) (done : List Booked) : Type 0 where
+  pub its : (b : Booked) → IsLeft left b → IsInstance meeting b
   pub each : All (IsInstance meeting) done
   pub ordered : AllPairs ComesBefore done
   pub counted : length done ≡ count
