@@ -1,5 +1,5 @@
 -- What `expand` prints, put together.
-use Rattle.std.proofs.Common.{◌≡◌, ◌∙◌, ap, sym, refl, subst, inl, inr, ◌⊎◌, ℕ, ◌+◌, ◌<◌, ◌≤◌, List, [], ◌∷◌, ◌++◌, length, append_assoc, append-nil, length-append, arith, ℤ, pos, ◌<ℤ◌, ◌≤ℤ◌}
+use Rattle.std.proofs.Common.{◌≡◌, ◌∙◌, ap, sym, refl, subst, inl, inr, ◌⊎◌, ℕ, suc, ◌+◌, ◌<◌, ◌≤◌, List, [], ◌∷◌, ◌++◌, length, append_assoc, append-nil, length-append, decimal, arith, ℤ, pos, negsuc, ◌+ℤ◌, ◌-ℤ◌, ◌<ℤ◌, ◌≤ℤ◌, unsigned_abs}
 use Rattle.std.specs.Prelude.{Option, Some, None, All, Contains}
 use Rattle.std.specs.List.{AllZip, concat}
 use Rattle.std.specs.Io.KnownBytes.{Appends}
@@ -8,6 +8,7 @@ use Rattle.std.proofs.lemmas.List.Folds.{concat-append}
 use Rattle.std.proofs.lemmas.List.Elements.{All-nil, All-push, All-contains, Contains-push, Contains-append_left}
 use Rattle.std.proofs.lemmas.List.Quantifiers.{all_pairs_push}
 use Rattle.std.proofs.KnownBytes.{Appends-nil, Appends-trans}
+use Rattle.profile.specs.text.Values.{WritesStamp}
 use Rattle.profile.specs.checker.Instances.{Booked}
 use Rattle.profile.specs.events.Meetings.{Meeting, SpellsMeeting}
 use Rattle.profile.specs.events.Starts.{IsInstance, ComesBefore, AreFirst}
@@ -30,6 +31,39 @@ use Rattle.sched_cli.specs.Expanding.{HasLine, IsLineOf, IsHandedOver, HasPlaceI
 pub handed_on : (a b c : Option (List ℕ)) (text after piece octets : List ℕ) → IsHandedOver a b text octets → IsHandedOver b c after (text ++ piece) → IsHandedOver a c after (octets ++ piece)
 handed_on a b c text after piece octets (w, p, e) (v, q, f) =
     (w ++ v, Appends-trans a b c w v p q, append_assoc w v after ∙ ap (λ l. w ++ l) f ∙ sym (append_assoc w text piece) ∙ ap (λ l. l ++ piece) e)
+
+-- ---- one line
+
+joined : (before slot space start digits end : List ℕ) → ((before ++ (slot ++ space)) ++ (start ++ space)) ++ (digits ++ end) ≡ before ++ (slot ++ space ++ start ++ space ++ digits ++ end)
+joined before slot space start digits end = simp append_assoc
+
+-- how long it lasts
+lasts_so : (s e : ℤ) → s ≤ℤ e → e ≡ s +ℤ pos (unsigned_abs (e -ℤ s))
+lasts_so s e l = go (e -ℤ s) (omega (arith, ints))
+  where
+    go : (d : ℤ) → s +ℤ d ≡ e → e ≡ s +ℤ pos (unsigned_abs d)
+    go (pos n) h = sym h
+    go (negsuc n) h = absurd (omega (arith, ints, h, l))
+
+pub line_there : (b : Booked) (before a c after slot start : List ℕ) (seconds : ℕ) → WritesStamp slot b.key.slot → WritesStamp start b.start → seconds ≡ unsigned_abs (b.end -ℤ b.start)
+    → a ≡ before ++ (slot ++ 32 ∷ []) → c ≡ a ++ (start ++ 32 ∷ []) → after ≡ c ++ (decimal seconds ++ 10 ∷ []) → (line : List ℕ) × IsLineOf b line × (after ≡ before ++ line)
+line_there b before a c after slot start seconds p q is e f g = (
+  slot ++ 32 ∷ [] ++ start ++ 32 ∷ [] ++ decimal seconds ++ 10 ∷ [],
+  λ has. record {
+    slot = slot;
+    start = start;
+    seconds = seconds;
+    writes_slot = p;
+    writes_start = q;
+    lasts = lasts_so b.start b.end has.ends ∙ ap (λ n. b.start +ℤ pos n) (sym is);
+    is = refl;
+  },
+  g ∙ ap (λ l. l ++ (decimal seconds ++ 10 ∷ [])) (f ∙ ap (λ l. l ++ (start ++ 32 ∷ [])) e) ∙ joined before slot (32 ∷ []) start (decimal seconds) (10 ∷ []),
+)
+
+-- and one that it doesn't have
+pub no_line : (b : Booked) (before : List ℕ) → (HasLine b → ⊥) → (line : List ℕ) × IsLineOf b line × (before ≡ before ++ line)
+no_line b before none = ([], λ has. absurd (none has), sym (append-nil before))
 
 -- ---- the order of instances
 
@@ -142,12 +176,34 @@ one_more meeting old new i count a b c text after line given on moved so_far = r
       (handed_on a b c text after line (concat so_far.lines) so_far.written moved);
 }
 
+-- where none is left
+pub no_more : (meeting : Meeting) (old : Instances) (count limit : ℕ) (a b c : Option (List ℕ)) (text after : List ℕ) → count < limit → ((x : Booked) → IsLeft old x → ⊥) → IsHandedOver b c after text
+    → PrintsUpTo meeting old count a b text → PrintsFirst meeting limit a c after
+no_more meeting old count limit a b c text after w none moved so_far = record {
+  instances = so_far.done;
+  first = all_gone meeting old count limit so_far.done so_far.gone w none;
+  lines = so_far.lines;
+  each = so_far.each;
+  written = subst (IsHandedOver a c after) (append-nil (concat so_far.lines))
+      (handed_on a b c text after [] (concat so_far.lines) so_far.written (subst (IsHandedOver b c after) (sym (append-nil text)) moved));
+}
+
+-- and where they are as many as were asked for
+pub enough : (meeting : Meeting) (old : Instances) (count limit : ℕ) (a b : Option (List ℕ)) (text : List ℕ) → count ≡ limit → PrintsUpTo meeting old count a b text → PrintsFirst meeting limit a b text
+enough meeting old count limit a b text e so_far = record {
+  instances = so_far.done;
+  first = enough_gone meeting old count limit so_far.done so_far.gone e;
+  lines = so_far.lines;
+  each = so_far.each;
+  written = so_far.written;
+}
+
+-- no instance that has a line starts earlier than 64 bits count
+pub from_the_first : (b : Booked) → HasLine b → negsuc 9_223_372_036_854_775_807 ≤ℤ b.start
+from_the_first b line = omega (arith, ints, line.start.0)
+
 pub no_line_yet : (meeting : Meeting) (left : Instances) (a : Option (List ℕ)) → AreGoneThrough meeting left 0 [] → PrintsUpTo meeting left 0 a a []
 no_line_yet meeting left a g = record { done = []; gone = g; lines = []; each = tt; written = ([], Appends-nil a, refl) }
-
-pub first_printed : (meeting : Meeting) (left : Instances) (count limit : ℕ) (a b : Option (List ℕ)) (text : List ℕ) (so_far : PrintsUpTo meeting left count a b text) → AreFirstPlaces meeting limit so_far.done
-    → PrintsFirst meeting limit a b text
-first_printed meeting left count limit a b text so_far first = record { instances = so_far.done; first = first; lines = so_far.lines; each = so_far.each; written = so_far.written }
 
 -- and the text was written too
 pub finished : (meeting : Meeting) (limit : ℕ) (a b c : Option (List ℕ)) (text : List ℕ) → PrintsFirst meeting limit a b text → Appends b c text → PrintsFirst meeting limit a c []
@@ -168,7 +224,7 @@ lines_there [] [] has h = tt
 lines_there [] (l ∷ ls) has h = absurd h
 lines_there (b ∷ bs) [] has h = absurd h
 lines_there (b ∷ bs) (l ∷ ls) has h =
-    (h.0 (has b (0, omega arith, refl)), lines_there bs ls (λ a c. has a (c.0 + 1, omega (arith, c.1), c.2)) h.1)
+    (h.0 (has b (0, omega arith, refl)), lines_there bs ls (λ a c. has a (suc c.0, omega (arith, c.1), c.2)) h.1)
 
 pub expanded : OneInstance → AreDated → (octets : List ℕ) (meeting : Meeting) (limit : ℕ) (a b : Option (List ℕ)) → SpellsMeeting octets meeting → PrintsFirst meeting limit a b [] → ExpandsTo octets limit a b
 expanded one dated octets meeting limit a b spelled p = (written, record {

@@ -1,5 +1,5 @@
 -- What `expand` prints of the event that an object says, while it goes through its instances.
-use Rattle.std.specs.Prelude.{◌≡◌, ◌⊎◌, ◌≤◌, ℕ, ℤ, ◌≤ℤ◌, List, ◌++◌, All, AllPairs, Contains, length, Option}
+use Rattle.std.specs.Prelude.{◌≡◌, ◌⊎◌, ◌≤◌, ℕ, ℤ, ◌≤ℤ◌, List, ◌++◌, All, AllPairs, Contains, Bool, true, false, length, Option, Some}
 use Rattle.std.specs.List.{AllZip, concat}
 use Rattle.std.specs.Io.KnownBytes.{Appends}
 use Rattle.profile.specs.text.Values.{IsClockSeconds}
@@ -7,7 +7,9 @@ use Rattle.profile.specs.checker.Instances.{Booked}
 use Rattle.profile.specs.events.Meetings.{Meeting}
 use Rattle.profile.specs.events.Starts.{IsInstance, ComesBefore}
 use Rattle.profile.specs.events.Expanding.{IsInstanceLine, IsExpansion}
-use Rattle.cal_events.specs.Left.{IsLeft}
+use Rattle.cal_events.specs.Calendars.{instance_of}
+use Rattle.cal_events.specs.Left.{IsLeft, GivesFirst}
+use Rattle.cal_events.specs.declared.instance.Instance.{Instance}
 use Rattle.cal_events.specs.declared.instances.Instances.{Instances}
 
 -- an instance has a line: both its starts are in years that a stamp writes, and it doesn't end before it starts
@@ -60,6 +62,12 @@ pub record PrintsUpTo (meeting : Meeting) (left : Instances) (count : ℕ) (old 
   pub lines : List (List ℕ)
   pub each : AllZip IsLineOf done lines
   pub written : IsHandedOver old new text (concat lines)
+
+-- the line of the next was written, but for the text behind it; or none is left
+abbrev pub PrintsNext : Bool → Instances → Instances → Option (List ℕ) → Option (List ℕ) → List ℕ → List ℕ → Type 0
+PrintsNext true left rest old new text after =
+    (i : Instance) × GivesFirst left (Some i) rest × ((line : List ℕ) × IsLineOf (instance_of i) line × IsHandedOver old new after (text ++ line))
+PrintsNext false left rest old new text after = ((b : Booked) → IsLeft left b → ⊥) × IsHandedOver old new after text
 
 -- the lines of the first instances were written, whole
 abbrev pub ExpandsTo : List ℕ → ℕ → Option (List ℕ) → Option (List ℕ) → Type 0

@@ -1,16 +1,17 @@
 //! `expand`: the instances of one event, one line each: its original start, its start, and how many seconds it lasts.
 
-ghost use Rattle.std.specs.Prelude.{◌≡◌, ◌⊎◌, ◌++◌, ◌<◌, ℕ, List, [], false, OnOk, IfErr};
+ghost use Rattle.std.specs.Prelude.{◌≡◌, ◌⊎◌, ◌++◌, ◌∷◌, ℕ, List, [], decimal, false, OnOk, IfOk, IfErr};
 ghost use Rattle.std.specs.Io.KnownBytes.{Appends, Keeps};
+ghost use Rattle.profile.specs.text.Values.{WritesStamp};
 ghost use Rattle.profile.specs.events.Meetings.{MeetingTextFault};
 ghost use Rattle.cal_events.specs.Calendars.{instance_of};
 ghost use Rattle.cal_events.specs.SaidMeetings.{said_meeting};
 ghost use Rattle.sched_box.specs.Output.{KeepsButFailed, WriteStopsFor};
 ghost use Rattle.sched_cli.specs.Commands.{BlamesDevice, IsSaid, Says, TellsDevice, refused_text};
-ghost use Rattle.sched_cli.specs.Expanding.{IsLineOf, IsHandedOver, PrintsFirst, ExpandsTo};
+ghost use Rattle.sched_cli.specs.Expanding.{IsLineOf, IsHandedOver, PrintsFirst, PrintsNext, ExpandsTo};
 
 use crate::status::{DONE, report_read, report_write};
-use cal_events::{Event, Instance, one_instance};
+use cal_events::{Event, Instance, Instances, one_instance};
 use ical_values::Stamp;
 use itoa::Buffer;
 use sched_box::{Output, WriteFault};
@@ -83,12 +84,29 @@ fn print_first<W: Output>(
 {
     let mut instances = event.instances(i64::MIN);
     for count in 0..limit {
-        let Some(instance) = instances.next() else {
+        if !print_next(&mut instances, lines, writer)? {
             return Ok(());
-        };
-        print_instance(instance, lines, writer)?;
+        }
     }
     Ok(())
+}
+
+/// The line of the next instance. False where none is left.
+fn print_next<W: Output>(
+    instances: &mut Instances<'_>,
+    lines: &mut InstanceLines,
+    writer: &mut W,
+) -> Result<bool, WriteFault>
+    ensures cause { IfErr result (WriteStopsFor (W.has_failed writer.new)) }
+    ensures mark { OnOk result (W.has_failed writer.new ≡ W.has_failed writer.old) }
+    ensures told { IfErr result (KeepsButFailed (W.has_failed writer.old) (W.has_failed writer.new)) }
+    ensures prints { IfOk result (λ more. PrintsNext more instances.old instances.new (W.contents writer.old) (W.contents writer.new) lines.old.text.items lines.new.text.items) }
+{
+    let Some(instance) = instances.next() else {
+        return Ok(false);
+    };
+    print_instance(instance, lines, writer)?;
+    Ok(true)
 }
 
 /// The line of an instance.
@@ -100,7 +118,7 @@ fn print_instance<W: Output>(
     ensures cause { IfErr result (WriteStopsFor (W.has_failed writer.new)) }
     ensures mark { OnOk result (W.has_failed writer.new ≡ W.has_failed writer.old) }
     ensures told { IfErr result (KeepsButFailed (W.has_failed writer.old) (W.has_failed writer.new)) }
-    ensures line { OnOk result ((line : List ℕ) × IsLineOf (instance_of instance) line
+    ensures line { OnOk result ((line : List ℕ) × IsLineOf (instance_of instance.entry) line
         × IsHandedOver (W.contents writer.old) (W.contents writer.new) lines.new.text.items (lines.old.text.items ++ line)) }
 {
     lines.append(instance)?;
@@ -119,7 +137,7 @@ struct InstanceLines {
 impl InstanceLines {
     /// Adds the line of an instance. Those of an event that was read have one.
     fn append(&mut self, instance: Instance<'_>) -> Result<(), AllocError>
-        ensures { OnOk result ((line : List ℕ) × IsLineOf (instance_of instance) line
+        ensures { OnOk result ((line : List ℕ) × IsLineOf (instance_of instance.entry) line
             × (self.new.text.items ≡ self.old.text.items ++ line)) }
     {
         let Some(slot) = Stamp::of_instant(instance.key.slot) else {
@@ -128,15 +146,10 @@ impl InstanceLines {
         let Some(start) = Stamp::of_instant(instance.start) else {
             return Ok(());
         };
-        slot.write(&mut self.text)?;
-        self.text.push(b' ')?;
-        start.write(&mut self.text)?;
-        self.text.push(b' ')?;
-        let mut digits = Buffer::new();
+        append_start(&mut self.text, slot)?;
+        append_start(&mut self.text, start)?;
         let seconds = instance.end.abs_diff(instance.start);
-        self.text
-            .extend_from_slice(digits.format(seconds).as_bytes())?;
-        self.text.push(b'\n')?;
+        append_seconds(&mut self.text, seconds)?;
         Ok(())
     }
 
@@ -152,4 +165,23 @@ impl InstanceLines {
         self.text.clear();
         Ok(())
     }
+}
+
+/// A start, and what parts it from the next column.
+fn append_start(out: &mut Vec<u8>, start: Stamp) -> Result<(), AllocError>
+    ensures { OnOk result ((text : List ℕ) × WritesStamp text start × (out.new.items ≡ out.old.items ++ (text ++ 32 ∷ []))) }
+{
+    start.write(out)?;
+    out.push(b' ')?;
+    Ok(())
+}
+
+/// The last column, and the end of the line.
+fn append_seconds(out: &mut Vec<u8>, seconds: u64) -> Result<(), AllocError>
+    ensures { OnOk result (out.new.items ≡ out.old.items ++ (decimal seconds ++ 10 ∷ [])) }
+{
+    let mut digits = Buffer::new();
+    out.extend_from_slice(digits.format(seconds).as_bytes())?;
+    out.push(b'\n')?;
+    Ok(())
 }

@@ -1,5 +1,5 @@
 -- What `expand` prints of an event: a line for each of its first instances.
-use Rattle.std.specs.Prelude.{◌≡◌, ℕ, ℤ, pos, ◌+ℤ◌, List, [], ◌∷◌, ◌++◌, decimal}
+use Rattle.std.specs.Prelude.{◌≡◌, ℕ, ℤ, pos, ◌+ℤ◌, List, ◌++◌, codes, decimal}
 use Rattle.std.specs.List.{AllZip, concat}
 use Rattle.profile.specs.text.Values.{WritesStamp}
 use Rattle.profile.specs.checker.Instances.{Booked}
@@ -14,7 +14,7 @@ pub record IsInstanceLine (instance : Booked) (line : List ℕ) : Type 0 where
   pub writes_slot : WritesStamp slot instance.key.slot
   pub writes_start : WritesStamp start instance.start
   pub lasts : instance.end ≡ instance.start +ℤ pos seconds
-  pub is : line ≡ slot ++ 32 ∷ (start ++ 32 ∷ (decimal seconds ++ 10 ∷ []))
+  pub is : line ≡ slot ++ codes " " ++ start ++ codes " " ++ decimal seconds ++ codes "\n"
 
 -- the lines of the first instances of the event that octets spell, so many of them, or of all where there are fewer
 pub record IsExpansion (octets : List ℕ) (limit : ℕ) (text : List ℕ) : Type 0 where
