@@ -78,12 +78,12 @@ placed a b =
     elim (order a.start b.start) [
       | inl less ↦ inl (inl less)
       | inr o ↦ elim o [
-          | inl e ↦ elim (order a.key.slot b.key.slot) [
-              | inl less ↦ inl (inr (e, less))
-              | inr p ↦ elim p [ inl f ↦ inr (inl (e, f)) | inr more ↦ inr (inr (inr (sym e, more))) ]
-            ]
-          | inr more ↦ inr (inr (inl more))
+        | inl e ↦ elim (order a.key.slot b.key.slot) [
+          | inl less ↦ inl (inr (e, less))
+          | inr p ↦ elim p [ inl f ↦ inr (inl (e, f)) | inr more ↦ inr (inr (inr (sym e, more))) ]
         ]
+        | inr more ↦ inr (inr (inl more))
+      ]
     ]
 
 past : (last : Option ℤ) (a b : ℤ) → IsPastSlot last a → a <ℤ b → IsPastSlot last b
@@ -139,9 +139,9 @@ module _ (meeting : Meeting) (old new : Instances) (i : Instance) (given : Gives
         elim (g.others b is line) [
           | inl (a, c, p, q) ↦ inl (a, Contains-append_left done (it ∷ []) a c, p, q)
           | inr left ↦ elim (placed it b) [
-              | inl behind ↦ inr (goes_on b left behind)
-              | inr o ↦ elim o [ inl same ↦ inl (it, Contains-push done it, same.0, same.1) | inr before ↦ absurd (given.1.1 b left before) ]
-            ]
+            | inl behind ↦ inr (goes_on b left behind)
+            | inr o ↦ elim o [ inl same ↦ inl (it, Contains-push done it, same.0, same.1) | inr before ↦ absurd (given.1.1 b left before) ]
+          ]
         ];
   }
 
@@ -227,23 +227,27 @@ lines_there (b ∷ bs) (l ∷ ls) has h =
     (h.0 (has b (0, omega arith, refl)), lines_there bs ls (λ a c. has a (suc c.0, omega (arith, c.1), c.2)) h.1)
 
 pub expanded : OneInstance → AreDated → (octets : List ℕ) (meeting : Meeting) (limit : ℕ) (a b : Option (List ℕ)) → SpellsMeeting octets meeting → PrintsFirst meeting limit a b [] → ExpandsTo octets limit a b
-expanded one dated octets meeting limit a b spelled p = (written, record {
-  meeting = meeting;
-  spelled = spelled;
-  instances = p.instances;
-  first = record {
-    each = p.first.each;
-    ordered = p.first.ordered;
-    short = p.first.short;
-    others = λ x is. elim (p.first.others x is (has x is)) [
-      | inl (y, c, q, r) ↦ inl (subst (Contains p.instances) (one octets meeting y x spelled (its y c) is q r) c)
-      | inr h ↦ inr h
-    ];
-  };
-  lines = p.lines;
-  each = lines_there p.instances p.lines (λ x c. has x (its x c)) p.each;
-  is = sym (append-nil written) ∙ p.written.2;
-}, p.written.1)
+expanded one dated octets meeting limit a b spelled p = (
+  written,
+  record {
+    meeting = meeting;
+    spelled = spelled;
+    instances = p.instances;
+    first = record {
+      each = p.first.each;
+      ordered = p.first.ordered;
+      short = p.first.short;
+      others = λ x is. elim (p.first.others x is (has x is)) [
+        | inl (y, c, q, r) ↦ inl (subst (Contains p.instances) (one octets meeting y x spelled (its y c) is q r) c)
+        | inr h ↦ inr h
+      ];
+    };
+    lines = p.lines;
+    each = lines_there p.instances p.lines (λ x c. has x (its x c)) p.each;
+    is = sym (append-nil written) ∙ p.written.2;
+  },
+  p.written.1,
+)
   where
     written : List ℕ
     written = p.written.0
