@@ -2,7 +2,6 @@ mod EventExamples
 pub mod EventLemmas
 pub mod ReadingLemmas
 pub mod RuleLemmas
-pub mod SeriesLemmas
 pub mod TreeLemmas
 pub mod Meanings
 pub mod NumberLemmas
@@ -16,7 +15,6 @@ pub mod OneEventRule
 pub mod OneEvent
 pub mod OneCalendar
 pub mod OneText
-pub mod OneSeries
 pub mod ObjectFaults
 pub mod OneInstance
 pub mod OneMeeting

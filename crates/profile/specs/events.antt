@@ -7,4 +7,3 @@ pub mod Events
 pub mod Meetings
 pub mod Starts
 pub mod Expanding
-pub mod Series
