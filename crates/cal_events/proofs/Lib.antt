@@ -1,4 +1,5 @@
 mod EventExamples
+mod ExpandedExample
 pub mod EventLemmas
 pub mod ReadingLemmas
 pub mod RuleLemmas

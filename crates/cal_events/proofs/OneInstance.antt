@@ -177,7 +177,7 @@ same_override (o ∷ os) a b d (suc k, w, e) (suc j, v, f) same =
 
 -- ---- an event with its instances
 
-booked_same : (a b : Booked) → a.key ≡ b.key → a.start ≡ b.start → a.end ≡ b.end → a ≡ b
+pub booked_same : (a b : Booked) → a.key ≡ b.key → a.start ≡ b.start → a.end ≡ b.end → a ≡ b
 booked_same a b p q r = λ i. record { key = p i; start = q i; end = r i }
 
 module _ (object : Tree) (meeting : Meeting) (s : SaysMeeting object meeting) where
