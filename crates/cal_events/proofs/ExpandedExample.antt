@@ -1,8 +1,9 @@
--- What `expand` prints, worked by the definitions alone: an hour at 09:00Z on the first and the second of January 2025, of which the first
--- is moved to the time of the second.
-use Rattle.std.proofs.Common.{◌≡◌, ◌∙◌, ◌⊎◌, ℕ, zero, suc, false, List, [], ◌∷◌, codes, length, sym, ap, subst, refl, inl, inr, arith, ℤ, pos}
+-- What `expand` prints, worked by the definitions alone: nine seconds from 09:00Z on, on the first and the second of January 2025, of which
+-- the first is moved to the time of the second.
+use Rattle.std.proofs.Common.{◌≡◌, ◌∙◌, ◌⊎◌, ℕ, zero, suc, false, List, [], ◌∷◌, ◌++◌, codes, length, lit<, sym, ap, subst, refl, inl, inr, arith, ℤ, pos}
 use Rattle.std.specs.Prelude.{Some, None, All, Contains}
 use Rattle.std.proofs.lemmas.Int.{ints}
+use Rattle.std.proofs.lemmas.Fmt.{decimal_digit}
 use Rattle.std.proofs.lemmas.Option.{same_Some}
 use Rattle.std.proofs.lemmas.List.Elements.{All-nil, All-cons}
 use Rattle.profile.specs.series.Days.{days_before_year, days_of_months}
@@ -21,8 +22,8 @@ first = pos 1_735_722_000
 abbrev second : ℤ
 second = pos 1_735_808_400
 
-abbrev an_hour_at : ℤ → EventTimes
-an_hour_at start = record { zone = None; local = start; start = start; length = record { days = 0; seconds = 3_600 } }
+abbrev nine_seconds_from : ℤ → EventTimes
+nine_seconds_from start = record { zone = None; local = start; start = start; length = record { days = 0; seconds = 9 } }
 
 abbrev master : Event
 master = record {
@@ -32,7 +33,7 @@ master = record {
   sequence = 0;
   cancelled = false;
   recurrence = None;
-  times = an_hour_at first;
+  times = nine_seconds_from first;
   rule = None;
   additions = second ∷ [];
   exceptions = [];
@@ -47,7 +48,7 @@ moved = record {
   sequence = 0;
   cancelled = false;
   recurrence = Some first;
-  times = an_hour_at second;
+  times = nine_seconds_from second;
   rule = None;
   additions = [];
   exceptions = [];
@@ -58,7 +59,7 @@ abbrev meeting : Meeting
 meeting = record { master = Some master; overrides = moved ∷ [] }
 
 abbrev instance : Booked
-instance = record { key = record { organiser = []; uid = codes "a"; slot = first }; start = second; end = pos 1_735_812_000 }
+instance = record { key = record { organiser = []; uid = codes "a"; slot = first }; start = second; end = pos 1_735_808_409 }
 
 it_is : IsInstance meeting instance
 it_is = inr (record { override = moved; is = (0, omega arith, refl); recurrence = refl; key = refl; starts = refl; ends = (second, inl (refl, refl), refl) })
@@ -74,7 +75,7 @@ other_later b h =
     go slot starts (inr (zero, w, e)) = inr (e, omega (arith, ints, e, slot))
     go slot starts (inr (suc k, w, e)) = absurd (omega (arith, w))
 
-ends_so : (b : Booked) → b.start ≡ second → EndsAt (an_hour_at second) b.start b.end → pos 1_735_812_000 ≡ b.end
+ends_so : (b : Booked) → b.start ≡ second → EndsAt (nine_seconds_from second) b.start b.end → pos 1_735_808_409 ≡ b.end
 ends_so b e (later, inl (z, f), g) = omega (arith, ints, e, f, g)
 ends_so b e (later, inr (some, f), g) = absurd (omega (arith, some))
 
@@ -140,13 +141,13 @@ second_written = (
   refl,
 )
 
-its_line : IsInstanceLine instance (codes "20250101T090000Z 20250102T090000Z 3600\n")
+its_line : IsInstanceLine instance (codes "20250101T090000Z 20250102T090000Z 9\n")
 its_line = record {
   slot = codes "20250101T090000Z";
   start = codes "20250102T090000Z";
-  seconds = 3_600;
+  seconds = 9;
   writes_slot = first_written;
   writes_start = second_written;
   lasts = refl;
-  is = refl;
+  is = sym (ap (λ (d : List ℕ). codes "20250101T090000Z" ++ codes " " ++ codes "20250102T090000Z" ++ codes " " ++ d ++ codes "\n") (decimal_digit 9 (lit< tt)));
 }
