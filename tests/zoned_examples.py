@@ -1,5 +1,5 @@
 #!/usr/bin/env python3
-"""Makes the cases of crates/worked_examples whose DTSTART or DTEND has TZID: files `zone-*` and `zoned-*` of its `data`
+"""Makes the cases of crates/worked_examples of times with TZID, nominal days, RDATE, EXDATE and RECURRENCE-ID: files `zone-*` and `zoned-*` of its `data`
 (those without an ending), the lines of `commands.txt` after the line `# times in zones`, and the lines of `stdout` for all
 of `commands.txt`, which are its last ones. It is run by hand, in the top folder: `python3 tests/zoned_examples.py`.
 
@@ -151,8 +151,9 @@ CASES = [
     ("TZID beside VALUE=TEXT", NY, ["DTSTART;VALUE=TEXT;" + IN + "20250310T090000", HOUR], 11),
     ("the text is judged before the zone", [], ["DTSTART;" + IN + "20250310", HOUR], 55),
     ("the zone of a start before the text of an end", [], ["DTSTART;" + IN + "20250310T090000", "DTEND:2025"], 43),
-    ("days in a DURATION beside TZID", NY, ["DTSTART;" + IN + "20250308T120000", "DURATION:P1D"], 99),
-    ("a week in a DURATION beside TZID before any other fault", [], ["DTSTART;" + IN + "2025", "DURATION:P1W"], 99),
+    ("a nominal day over a gap", NY, ["DTSTART;" + IN + "20250308T120000", "DURATION:P1D"],
+     at("20250308T170000Z", length=82800)),
+    ("a week beside a start that is no time", [], ["DTSTART;" + IN + "2025", "DURATION:P1W"], 11),
     ("24 hours beside TZID", NY, ["DTSTART;" + IN + "20250308T120000", "DURATION:PT24H"],
      at("20250308T170000Z", length=86400)),
     ("a day beside UTC", [], ["DTSTART:20250308T170000Z", "DURATION:P1D"], at("20250308T170000Z", length=86400)),
@@ -181,6 +182,143 @@ CASES = [
      ["DTSTART:20250310T090000Z", "DTEND:20250309T090000Z", "RRULE:FREQ=WEEKLY;BYDAY=SU"], 50),
     ("UID is judged before RRULE", [], ["UID:b", "DTSTART:20250310T090000Z", "RRULE:FREQ=HOURLY"], 61),
     ("DTSTART is judged before RRULE", [], ["DTSTART:20250310", "RRULE:FREQ=HOURLY"], 55),
+]
+
+NINE = ["DTSTART:20250101T090000Z", HOUR]
+DAILY = NINE + ["RRULE:FREQ=DAILY;COUNT=3"]
+# 02:30 in New York: at -0500, then in the gap and read at -0500, then at -0400
+GAP = ["DTSTART;" + IN + "20250308T023000", HOUR, "RRULE:FREQ=DAILY;COUNT=3"]
+GAPS = ["20250308T073000Z", "20250309T073000Z", "20250310T063000Z"]
+# 01:30: at -0400, then the first of two, then at -0500
+FOLD = ["DTSTART;" + IN + "20251101T013000", HOUR, "RRULE:FREQ=DAILY;COUNT=3"]
+FOLDS = ["20251101T053000Z", "20251102T053000Z", "20251103T063000Z"]
+
+
+def january(*days):
+    return at(*["202501%02dT090000Z" % day for day in days])
+
+
+def override(instance, *lines):
+    """Another VEVENT of the same event, for one of its instances."""
+    return ["END:VEVENT", "BEGIN:VEVENT", "UID:a", "RECURRENCE-ID" + instance] + list(lines)
+
+
+def listed(name, count):
+    """A property with so many times, a day apart from 2025-01-02 on, fifty on a line."""
+    days = [dt.datetime(2025, 1, 2, 9) + dt.timedelta(days=k) for k in range(count)]
+    times = [day.strftime("%Y%m%dT%H%M%SZ") for day in days]
+    return [name + ":" + ",".join(times[k:k + 50]) for k in range(0, count, 50)]
+
+
+def first_days(count):
+    return at(*[(dt.datetime(2025, 1, 1, 9) + dt.timedelta(days=k)).strftime("%Y%m%dT%H%M%SZ") for k in range(count)])
+
+
+CASES += [
+    # nominal days
+    ("a nominal day of each instance, over a gap and after it", NY,
+     ["DTSTART;" + IN + "20250308T120000", "DURATION:P1D", "RRULE:FREQ=DAILY;COUNT=2"],
+     at("20250308T170000Z", length=82800) + at("20250309T160000Z", length=86400)),
+    ("an end in exact seconds stays as long after a gap", NY,
+     ["DTSTART;" + IN + "20250308T120000", "DTEND;" + IN + "20250309T120000", "RRULE:FREQ=DAILY;COUNT=2"],
+     at("20250308T170000Z", "20250309T160000Z", length=82800)),
+    ("a nominal day over a fold", NY, ["DTSTART;" + IN + "20251101T120000", "DURATION:P1D"],
+     at("20251101T160000Z", length=90000)),
+    ("a nominal day that ends in a gap", NY, ["DTSTART;" + IN + "20250308T023000", "DURATION:P1D"],
+     at("20250308T073000Z", length=86400)),
+    ("a nominal day that ends in a fold, at the first of two", NY, ["DTSTART;" + IN + "20251101T013000", "DURATION:P1D"],
+     at("20251101T053000Z", length=86400)),
+    ("a nominal week over a gap", NY, ["DTSTART;" + IN + "20250302T120000", "DURATION:P1W"],
+     at("20250302T170000Z", length=601200)),
+    ("the seconds of a length come after its days", NY, ["DTSTART;" + IN + "20250308T120000", "DURATION:P1DT1S"],
+     at("20250308T170000Z", length=82801)),
+    ("a length of 0 days", NY, ["DTSTART;" + IN + "20250308T120000", "DURATION:P0D"], at("20250308T170000Z", length=0)),
+    ("a day back", NY, ["DTSTART;" + IN + "20250308T120000", "DURATION:-P1D"], 51),
+    ("days past 32 bits", NY, ["DTSTART;" + IN + "20250308T120000", "DURATION:P5000000000D"], 51),
+    ("a DURATION that is none", NY, ["DTSTART;" + IN + "20250308T120000", "DURATION;" + IN[:-1] + ":P"], 12),
+    ("two DURATIONs of a day", NY, ["DTSTART;" + IN + "20250308T120000", "DURATION:P1D", "DURATION:P1D"], 61),
+    ("a DTEND that is a day", NY, ["DTSTART;" + IN + "20250308T120000", "DTEND:P1D"], 11),
+    ("a day whose own TZID means nothing", NY, ["DTSTART:20250308T170000Z", "DURATION;" + IN[:-1] + ":P1D"],
+     at("20250308T170000Z", length=86400)),
+    ("a day without DTSTART", [], ["DURATION:P1D"], 61),
+    ("367 days are too long", NY, ["DTSTART;" + IN + "20250308T120000", "DURATION:P367D"], 51),
+    # 2025-11-02T06:30:00Z is the second 01:30
+    ("an instance without days that starts at the second of two", NY,
+     ["DTSTART;" + IN + "20251101T120000", HOUR, "RDATE:20251102T063000Z"], at("20251101T160000Z", "20251102T063000Z")),
+    ("a nominal day from the second of two", NY,
+     ["DTSTART;" + IN + "20251101T120000", "DURATION:P1D", "RDATE:20251102T063000Z"],
+     at("20251101T160000Z", length=90000) + at("20251102T063000Z", length=86400)),
+    # RDATE
+    ("an added start that is a start of the rule is one instance", [], DAILY + ["RDATE:20250102T090000Z"], january(1, 2, 3)),
+    ("an added start given twice is one instance", [], NINE + ["RDATE:20250105T090000Z,20250105T090000Z"], january(1, 5)),
+    ("an added start between those of the rule", [], DAILY + ["RDATE:20250102T100000Z"],
+     january(1, 2) + at("20250102T100000Z") + january(3)),
+    ("an added start before DTSTART comes first", [], NINE + ["RDATE:20241231T090000Z"], at("20241231T090000Z") + january(1)),
+    ("an added start in a gap", NY, NINE + ["RDATE;" + IN + "20250309T023000"], january(1) + at("20250309T073000Z")),
+    ("366 added starts", [], NINE + listed("RDATE", 366), first_days(100)),
+    ("367 added starts", [], NINE + listed("RDATE", 367), 56),
+    ("an added period", [], NINE + ["RDATE;VALUE=PERIOD:20250105T090000Z/PT1H"], 56),
+    ("an added start in the year 10000", NY, NINE + ["RDATE;" + IN + "99991231T190000"], 52),
+    ("an added start a second before it", NY, NINE + ["RDATE;" + IN + "99991231T185959"],
+     january(1) + at("99991231T235959Z")),
+    # EXDATE
+    ("a date of exception in UTC against a start in a fold", NY, FOLD + ["EXDATE:20251102T053000Z"], at(FOLDS[0], FOLDS[2])),
+    ("the second of two is no start, and no exception", NY, FOLD + ["EXDATE:20251102T063000Z"], at(*FOLDS)),
+    ("a local date of exception in a fold", NY, FOLD + ["EXDATE;" + IN + "20251102T013000"], at(FOLDS[0], FOLDS[2])),
+    ("03:30 names the start at 02:30 in a gap", NY, GAP + ["EXDATE;" + IN + "20250309T033000"], at(GAPS[0], GAPS[2])),
+    ("a date of exception before an added start of its instant", [], NINE + ["RDATE:20250105T090000Z", "EXDATE:20250105T090000Z"],
+     january(1)),
+    ("DTSTART alone is taken away", [], NINE + ["EXDATE:20250101T090000Z"], []),
+    ("366 dates of exception", [], NINE + ["RRULE:FREQ=DAILY;COUNT=368"] + listed("EXDATE", 366),
+     at("20250101T090000Z", "20260103T090000Z")),
+    ("367 dates of exception", [], NINE + ["RRULE:FREQ=DAILY;COUNT=368"] + listed("EXDATE", 367), 56),
+    ("a date of exception in the year 1", [], NINE + ["EXDATE:00010101T000000Z"], january(1)),
+    # overrides
+    ("an override in a gap", NY, GAP + override(";" + IN + "20250309T023000", "DTSTART;" + IN + "20250309T023000", "DURATION:PT2H"),
+     at(GAPS[0]) + at(GAPS[1], length=7200) + at(GAPS[2])),
+    ("an override that names 03:30 stands for the start at 02:30 in a gap", NY,
+     GAP + override(";" + IN + "20250309T033000", "DTSTART:20250309T080000Z", HOUR),
+     at(GAPS[0]) + ["20250309T073000Z 20250309T080000Z 3600"] + at(GAPS[2])),
+    ("an override that names a date of exception", [],
+     DAILY + ["EXDATE:20250102T090000Z"] + override(":20250102T090000Z", "DTSTART:20250102T120000Z", HOUR),
+     january(1) + ["20250102T090000Z 20250102T120000Z 3600"] + january(3)),
+    ("an override that names no start", [], DAILY + override(":20250102T100000Z", "DTSTART:20250105T090000Z", HOUR),
+     january(1, 2, 3) + ["20250102T100000Z 20250105T090000Z 3600"]),
+    ("two overrides that swap places", [],
+     DAILY + override(":20250101T090000Z", "DTSTART:20250102T090000Z", HOUR)
+     + override(":20250102T090000Z", "DTSTART:20250101T090000Z", HOUR),
+     ["20250102T090000Z 20250101T090000Z 3600", "20250101T090000Z 20250102T090000Z 3600"] + january(3)),
+    ("two instances at one start are in the order of their slots", [],
+     DAILY + override(":20250101T090000Z", "DTSTART:20250102T090000Z", HOUR),
+     ["20250101T090000Z 20250102T090000Z 3600"] + january(2, 3)),
+    ("the greater slot comes second", [], DAILY + override(":20250103T090000Z", "DTSTART:20250102T090000Z", HOUR),
+     january(1, 2) + ["20250103T090000Z 20250102T090000Z 3600"]),
+    ("an override before the first start of its master", [],
+     DAILY + override(":20250102T090000Z", "DTSTART:20241231T090000Z", HOUR),
+     ["20250102T090000Z 20241231T090000Z 3600"] + january(1, 3)),
+    ("an override of another length, in the days of its own zone", NY,
+     DAILY + override(":20250102T090000Z", "DTSTART;" + IN + "20250308T120000", "DURATION:P1D"),
+     january(1, 3) + ["20250102T090000Z 20250308T170000Z 82800"]),
+    ("a cancelled override hides its start and is an instance", [],
+     DAILY + override(":20250102T090000Z", "DTSTART:20250102T120000Z", HOUR, "STATUS:CANCELLED"),
+     january(1) + ["20250102T090000Z 20250102T120000Z 3600"] + january(3)),
+    ("an override without a master", [], ["RECURRENCE-ID:20250102T090000Z", "DTSTART:20250102T120000Z", HOUR],
+     ["20250102T090000Z 20250102T120000Z 3600"]),
+    ("an override stands before its master", [],
+     ["RECURRENCE-ID:20250102T090000Z", "DTSTART:20250102T120000Z", HOUR, "END:VEVENT", "BEGIN:VEVENT", "UID:a"] + DAILY,
+     january(1) + ["20250102T090000Z 20250102T120000Z 3600"] + january(3)),
+    ("two masters", [], NINE + ["END:VEVENT", "BEGIN:VEVENT", "UID:a"] + NINE, 53),
+    ("two overrides of one instant", NY,
+     GAP + override(";" + IN + "20250309T023000", *NINE) + override(":20250309T073000Z", *NINE), 54),
+    ("an override of another event", [],
+     NINE + ["END:VEVENT", "BEGIN:VEVENT", "UID:b", "RECURRENCE-ID:20250101T090000Z"] + NINE, 62),
+    ("an override of this and all later instances", [], DAILY + override(";RANGE=THISANDFUTURE:20250102T090000Z", *NINE), 65),
+    ("an override that recurs", [], DAILY + override(":20250102T090000Z", *DAILY), 67),
+    ("an override that names the year 10000", NY, DAILY + override(";" + IN + "99991231T190000", *NINE), 52),
+    # the last second
+    ("a start at the last second of the year 9999", [], ["DTSTART:99991231T235959Z", HOUR], at("99991231T235959Z")),
+    ("a daily start at the last seconds of the year 9999", [], ["DTSTART:99991229T235959Z", HOUR, "RRULE:FREQ=DAILY"],
+     at("99991229T235959Z", "99991230T235959Z", "99991231T235959Z")),
 ]
 
 

@@ -22,11 +22,11 @@ Lines = List (List ℕ)
 
 -- ---- a local time is read with one of two offsets
 
-abbrev ReadsWith : ℤ → ℤ → ℤ → ℤ → Type 0
+abbrev pub ReadsWith : ℤ → ℤ → ℤ → ℤ → Type 0
 ReadsWith x y local t = (t +ℤ x ≡ local) ⊎ (t +ℤ y ≡ local)
 
 -- two numbers whose difference is small
-near : (x y : ℤ) → unsigned_abs (x -ℤ y) ≤ 43_200 → (x ≤ℤ (y +ℤ pos 43_200)) × (y ≤ℤ (x +ℤ pos 43_200))
+pub near : (x y : ℤ) → unsigned_abs (x -ℤ y) ≤ 43_200 → (x ≤ℤ (y +ℤ pos 43_200)) × (y ≤ℤ (x +ℤ pos 43_200))
 near x y h = go (x -ℤ y) h (omega (arith, ints))
   where
     go : (d : ℤ) → unsigned_abs d ≤ 43_200 → y +ℤ d ≡ x → (x ≤ℤ (y +ℤ pos 43_200)) × (y ≤ℤ (x +ℤ pos 43_200))
@@ -39,11 +39,11 @@ later x y a b t u n (inl p) (inr q) w = omega (arith, ints, n.0, n.1, p, q, w)
 later x y a b t u n (inr p) (inl q) w = omega (arith, ints, n.0, n.1, p, q, w)
 later x y a b t u n (inr p) (inr q) w = omega (arith, ints, p, q, w)
 
-single_in_force : (a : Observance) (t o : ℤ) → InForce (IsZoneOnset (Single a)) t o → (o ≡ a.offset_from) ⊎ (o ≡ a.offset_to)
+pub single_in_force : (a : Observance) (t o : ℤ) → InForce (IsZoneOnset (Single a)) t o → (o ≡ a.offset_from) ⊎ (o ≡ a.offset_to)
 single_in_force a t o (Since x h e) = inr (e ∙ h.listed.after)
 single_in_force a t o (Until x h e) = inl (e ∙ h.listed.before)
 
-pair_in_force : (a b : Observance) (t o : ℤ) → AreMatched (Pair a b) → InForce (IsZoneOnset (Pair a b)) t o → (o ≡ a.offset_from) ⊎ (o ≡ a.offset_to)
+pub pair_in_force : (a b : Observance) (t o : ℤ) → AreMatched (Pair a b) → InForce (IsZoneOnset (Pair a b)) t o → (o ≡ a.offset_from) ⊎ (o ≡ a.offset_to)
 pair_in_force a b t o m (Since x h e) = elim h.listed [ inl p ↦ inr (e ∙ p.after) | inr q ↦ inl (e ∙ (q.after ∙ m.1)) ]
 pair_in_force a b t o m (Until x h e) = elim h.listed [ inl p ↦ inl (e ∙ p.before) | inr q ↦ inr (e ∙ (q.before ∙ sym m.0)) ]
 
@@ -51,16 +51,16 @@ shown : (x y t o local : ℤ) → (o ≡ x) ⊎ (o ≡ y) → t +ℤ o ≡ local
 shown x y t o local (inl e) s = inl (omega (arith, ints, e, s))
 shown x y t o local (inr e) s = inr (omega (arith, ints, e, s))
 
-single_reads : (a : Observance) (local t : ℤ) → Means (Single a) local t → ReadsWith a.offset_from a.offset_to local t
+pub single_reads : (a : Observance) (local t : ℤ) → Means (Single a) local t → ReadsWith a.offset_from a.offset_to local t
 single_reads a local t (inl h) = shown a.offset_from a.offset_to t h.shown.0 local (single_in_force a t h.shown.0 h.shown.1) h.shown.2
 single_reads a local t (inr h) = shown a.offset_from a.offset_to t h.onset.before local (inl h.listed.before) h.read
 
-pair_reads : (a b : Observance) (local t : ℤ) → AreMatched (Pair a b) → Means (Pair a b) local t → ReadsWith a.offset_from a.offset_to local t
+pub pair_reads : (a b : Observance) (local t : ℤ) → AreMatched (Pair a b) → Means (Pair a b) local t → ReadsWith a.offset_from a.offset_to local t
 pair_reads a b local t m (inl h) = shown a.offset_from a.offset_to t h.shown.0 local (pair_in_force a b t h.shown.0 m h.shown.1) h.shown.2
 pair_reads a b local t m (inr h) =
     shown a.offset_from a.offset_to t h.onset.before local (elim h.listed [ inl p ↦ inl p.before | inr q ↦ inr (q.before ∙ sym m.0) ]) h.read
 
-constant_reads : (k local t : ℤ) → Means (Constant k) local t → t +ℤ k ≡ local
+pub constant_reads : (k local t : ℤ) → Means (Constant k) local t → t +ℤ k ≡ local
 constant_reads k local t (inl h) = omega (arith, ints, h.shown.1, h.shown.2)
 constant_reads k local t (inr h) = absurd h.listed
 

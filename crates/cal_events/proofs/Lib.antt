@@ -1,8 +1,8 @@
 mod EventExamples
+mod ExpandedExample
 pub mod EventLemmas
 pub mod ReadingLemmas
 pub mod RuleLemmas
-pub mod SeriesLemmas
 pub mod TreeLemmas
 pub mod Meanings
 pub mod NumberLemmas
@@ -16,8 +16,8 @@ pub mod OneEventRule
 pub mod OneEvent
 pub mod OneCalendar
 pub mod OneText
-pub mod OneSeries
 pub mod ObjectFaults
+pub mod OneInstance
 pub mod OneMeeting
 pub mod MeetingLemmas
 pub mod OneZoned

@@ -19,7 +19,7 @@ use Rattle.profile.specs.events.EventRules.{EventRuleFault, bad_rule, starts_out
 use Rattle.profile.specs.events.Occurrences.{recurs_beside_recurrence, Entry, EntryFault, entries_of, entries_named, EntriesFault, in_entry, too_many, OccurrenceFault, bad_recurrence, bad_additions, bad_exceptions, recurrence_out, additions_out, two_recurrences, ranged, recurs}
 use Rattle.profile.specs.events.Meetings.{is_meeting_event_fault}
 use Rattle.cal_events.specs.declared.component.Purpose.{Purpose}
-use Rattle.cal_events.specs.declared.component.Purpose.TheVariants.{Request, Calendar, Series, Meeting}
+use Rattle.cal_events.specs.declared.component.Purpose.TheVariants.{Request, Calendar, Meeting}
 use Rattle.cal_events.specs.Events.{is_message, has_unread_for, is_fault_for}
 use Rattle.profile.specs.events.Events.{is_recurrence, is_of_instances, names_instances, is_end_of_event, is_unread_line, has_unread, EventFault, in_times, in_rule, in_occurrences, bad_stamp, bad_uid, bad_organiser, bad_attendee, bad_sequence, no_uid, no_stamp_given, twice, no_organiser}
 
@@ -307,28 +307,11 @@ component_number object m lines n (no_stamp_given t x) = refl
 component_number object m lines n (twice name c x) = refl
 component_number object m lines n (no_organiser t x) = refl
 
--- ---- a series, where no line names an instance
-
-event_number : (object : Tree) (m : Bool) (lines : Lines) (n : ℕ) → names_instances lines ≡ false → EventFault object m lines n → is_series_event_fault n ≡ true
-event_number object m lines n h (in_times f) = series_wider n (times_number object lines n f)
-event_number object m lines n h (in_rule f) = rule_number object lines n f
-event_number object m lines n h (in_occurrences f) = absurd (no_occurrences object lines n h f)
-event_number object m lines n h (bad_stamp l) = refl
-event_number object m lines n h (bad_uid l) = refl
-event_number object m lines n h (bad_organiser l) = refl
-event_number object m lines n h (bad_attendee l) = refl
-event_number object m lines n h (bad_sequence l) = refl
-event_number object m lines n h (no_uid x) = refl
-event_number object m lines n h (no_stamp_given t x) = refl
-event_number object m lines n h (twice name c x) = refl
-event_number object m lines n h (no_organiser t x) = refl
-
 -- ---- what a VEVENT in which nothing is left unread is refused for
 
 pub number_for : (object : Tree) (purpose : Purpose) (lines : Lines) (n : ℕ) → has_unread_for purpose lines ≡ false → EventFault object (is_message purpose) lines n → is_fault_for purpose n ≡ true
 number_for object Request lines n h f = ap (λ b. b || is_unread n) (read_event object true lines n h f)
 number_for object Calendar lines n h f = ap (λ b. b || is_unread n) (read_event object false lines n h f)
-number_for object Series lines n h f = event_number object false lines n h f
 number_for object Meeting lines n h f = component_number object false lines n f
 
 pub refused_for : (object : Tree) (purpose : Purpose) (lines : Lines) → has_unread_for purpose lines ≡ false → (f : Fault) → RefusesBy (EventFault object (is_message purpose) lines) f
@@ -339,5 +322,4 @@ refused_for object purpose lines h (Refused r) s = number_for object purpose lin
 pub unread_for : (purpose : Purpose) (n : ℕ) → n ≡ 99 → is_fault_for purpose n ≡ true
 unread_for Request n e = ap (is_fault_for Request) e
 unread_for Calendar n e = ap (is_fault_for Calendar) e
-unread_for Series n e = ap (is_fault_for Series) e
 unread_for Meeting n e = ap (is_fault_for Meeting) e

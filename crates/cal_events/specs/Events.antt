@@ -5,7 +5,7 @@ use Rattle.ical_values.specs.declared.duration.Duration.{Duration}
 use Rattle.std.specs.List.{AllZip, list_any}
 use Rattle.cal_events.specs.Calendars.{booked_of}
 use Rattle.cal_events.specs.declared.calendar.Entry.{Entry}
-use Rattle.profile.specs.faults.Faults.{is_event_fault, is_series_event_fault, is_unread}
+use Rattle.profile.specs.faults.Faults.{is_event_fault, is_unread}
 use Rattle.profile.specs.checker.Instances.{Booked}
 use Rattle.profile.specs.events.Meetings.{is_meeting_event_fault}
 use Rattle.profile.specs.events.Events as profile
@@ -30,20 +30,18 @@ use Rattle.cal_events.specs.declared.component.EventComponent.{EventComponent}
 use Rattle.cal_events.specs.declared.component.ParticipationStatus.{ParticipationStatus}
 use Rattle.cal_events.specs.declared.component.ParticipationStatus.TheVariants.{NeedsAction, Tentative, Accepted, Delegated, Declined}
 use Rattle.cal_events.specs.declared.component.Purpose.{Purpose}
-use Rattle.cal_events.specs.declared.component.Purpose.TheVariants.{Request, Calendar, Series, Meeting}
+use Rattle.cal_events.specs.declared.component.Purpose.TheVariants.{Request, Calendar, Meeting}
 
 -- a message needs ORGANIZER and DTSTAMP, a calendar doesn't
 abbrev pub is_message : Purpose → Bool
 is_message Request = true
 is_message Calendar = false
-is_message Series = false
 is_message Meeting = false
 
 -- what isn't read yet for a purpose
 abbrev pub is_unread_for : Purpose → List ℕ → Bool
 is_unread_for Request = profile.is_unread_line
 is_unread_for Calendar = profile.is_unread_line
-is_unread_for Series = profile.is_of_instances
 is_unread_for Meeting = λ _. false
 
 abbrev pub has_unread_for : Purpose → List (List ℕ) → Bool
@@ -53,7 +51,6 @@ has_unread_for purpose lines = list_any (is_unread_for purpose) lines
 abbrev pub is_fault_for : Purpose → ℕ → Bool
 is_fault_for Request n = is_event_fault n || is_unread n
 is_fault_for Calendar n = is_event_fault n || is_unread n
-is_fault_for Series n = is_series_event_fault n
 is_fault_for Meeting n = is_meeting_event_fault n
 
 abbrev pub participation_of : ParticipationStatus → profile.Participation
@@ -129,10 +126,6 @@ IsUnreadOrFault object purpose lines n =
 -- one of these VEVENTs has
 abbrev pub IsUnreadOrFaultAmong : Tree → Purpose → List (List (List ℕ)) → ℕ → Type 0
 IsUnreadOrFaultAmong object purpose vevents n = (lines : List (List ℕ)) × Contains vevents lines × IsUnreadOrFault object purpose lines n
-
--- an object hasn't one VEVENT: it has none, or several, which aren't read yet
-abbrev pub IsNotOneEvent : List (List (List ℕ)) → ℕ → Type 0
-IsNotOneEvent vevents n = ((n ≡ 66) × (vevents ≡ [])) ⊎ ((n ≡ 99) × (1 < length vevents))
 
 -- what an entry of a calendar shows: its instance, and whether it is confirmed
 abbrev pub entry_view : Entry → Booked × Bool

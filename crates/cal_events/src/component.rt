@@ -40,8 +40,6 @@ pub enum Purpose {
     Request,
     /// A kept calendar: UID and DTSTART have to stand. The same isn't read yet.
     Calendar,
-    /// A series: UID and DTSTART have to stand. RDATE, EXDATE and RECURRENCE-ID aren't read yet.
-    Series,
     /// An event with its instances: UID and DTSTART have to stand.
     Meeting,
 }
@@ -243,7 +241,7 @@ fn read_organiser(
     match (optional(properties, "ORGANIZER")?, purpose) {
         (Some(line), _) => Ok(Some(Address::read(alloc, line.value())?)),
         (None, Purpose::Request) => Err(Fault::Refused(Refusal::NO_ORGANIZER)),
-        (None, Purpose::Calendar | Purpose::Series | Purpose::Meeting) => Ok(None),
+        (None, Purpose::Calendar | Purpose::Meeting) => Ok(None),
     }
 }
 
@@ -255,7 +253,7 @@ fn read_stamp(properties: &Properties<'_>, purpose: Purpose) -> Result<Option<St
     match (optional(properties, "DTSTAMP")?, purpose) {
         (Some(line), _) => Ok(Some(Stamp::read(line.value())?)),
         (None, Purpose::Request) => Err(Refusal::BAD_PROPERTY),
-        (None, Purpose::Calendar | Purpose::Series | Purpose::Meeting) => Ok(None),
+        (None, Purpose::Calendar | Purpose::Meeting) => Ok(None),
     }
 }
 

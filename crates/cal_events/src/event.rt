@@ -9,7 +9,8 @@ ghost use Rattle.profile.specs.checker.Instances.{Booked};
 ghost use Rattle.profile.specs.rooms.Messages.{is_same_meeting};
 ghost use Rattle.profile.specs.events.Meetings.{Meeting, is_master, is_override, AreOfOne, SaysMeeting, SpellsMeeting, MeetingFault, MeetingTextFault, is_meeting_fault};
 ghost use Rattle.cal_events.specs.Events.{event_of};
-ghost use Rattle.cal_events.specs.Meetings.{instants_said, IsNotOne};
+ghost use Rattle.cal_events.specs.Meetings.{instants_said, IsNotOne, IsNamed};
+ghost use Rattle.profile.specs.events.Starts.{IsInstance};
 ghost use Rattle.cal_events.specs.Instances.{HasGoodClock};
 ghost use Rattle.cal_events.specs.declared.component.EventComponent.{EventComponent};
 
@@ -84,6 +85,15 @@ pub fn one_meeting()
     one_tree();
     one_event();
 }
+
+/// The instances of an event that octets spell differ in their places, by start and slot, which lie in the dates that an event may name.
+/// None ends before it starts.
+pub fn one_instance()
+    ensures one { (octets : List ℕ) (meeting : Meeting) (a b : Booked) → SpellsMeeting octets meeting → IsInstance meeting a → IsInstance meeting b
+        → a.start ≡ b.start → a.key.slot ≡ b.key.slot → a ≡ b }
+    ensures dates { (octets : List ℕ) (meeting : Meeting) (a : Booked) → SpellsMeeting octets meeting → IsInstance meeting a
+        → IsNamed a.key.slot × IsNamed a.start × (a.start ≤ℤ a.end) }
+{}
 
 /// Refuses components that aren't those of one meeting.
 /// Refused: 66 where there is none, 62 for two UIDs or two ORGANIZERs.

@@ -1,7 +1,7 @@
 //! When an event starts and how long it lasts (RFC 5545 3.6.1): first its three properties as they are said, in UTC or
 //! where TZID names a zone, then all of them together.
 
-ghost use Rattle.std.specs.Prelude.{◌≡◌, ◌↔◌, ◌≤◌, ◌^◌, ℕ, List, Some, pos, ◌+ℤ◌, ◌-ℤ◌, ◌<ℤ◌, ◌≤ℤ◌, IfOk, IfErr, OnOk, OnErr, IsTrue};
+ghost use Rattle.std.specs.Prelude.{◌≡◌, ◌↔◌, ◌≤◌, ◌^◌, ℕ, List, Some, pos, ◌+ℤ◌, ◌-ℤ◌, ◌<ℤ◌, ◌≤ℤ◌, IfOk, IfErr, IsTrue};
 ghost use Rattle.ical_lines.specs.Text.{line_text};
 ghost use Rattle.profile.specs.text.Trees.{Tree};
 ghost use Rattle.profile.specs.series.Zones.{IsNearEpoch, Means};
@@ -9,7 +9,7 @@ ghost use Rattle.profile.specs.events.Starts.{IsDaysLater, EndsAt};
 ghost use Rattle.cal_zones.specs.Kinds.{zone_of};
 ghost use Rattle.profile.specs.faults.Faults.{is_event_fault};
 ghost use Rattle.profile.specs.events.Properties.{length_seconds};
-ghost use Rattle.profile.specs.events.ZonedTimes.{is_in_zone, IsInDates, ZonedTimeFault, HasCountedDays, HasNominalLength, SaysEventTimes, EventTimesFault};
+ghost use Rattle.profile.specs.events.ZonedTimes.{is_in_zone, IsInDates, ZonedTimeFault, SaysEventTimes, EventTimesFault};
 ghost use Rattle.cal_events.specs.Events.{times_of, length_of, GivesLength, ExtentFault};
 ghost use Rattle.cal_events.specs.Zones.{object_of, AreRead};
 ghost use Rattle.cal_events.specs.Zoned.{EndsSo, IsExtentIn, AreSaid, IsInYears};
@@ -21,7 +21,6 @@ use crate::zones::Zones;
 use cal_zones::Zone;
 use ical_lines::{Line, Refusal};
 use ical_tree::Properties;
-use ical_values::duration::one_duration;
 use ical_values::{DAY_SECONDS, Duration, LocalTime, Stamp};
 
 /// The longest event, 366 days in seconds; this profile's choice.
@@ -162,43 +161,11 @@ impl SaidTimes {
     }
 }
 
-/// Refuses a VEVENT with days in its DURATION beside a DTSTART with TZID: by such days a later instance may last longer
-/// or shorter than the first. Where one of the two stands twice nothing is refused here, nor for a DURATION past 32 bits,
-/// which is refused when it is read (51).
-/// Refused: 99.
-pub fn refuse_nominal_length(properties: &Properties<'_>) -> Result<(), Refusal>
-    ensures passes { OnOk result (HasNominalLength properties.now → ⊥) }
-    ensures refuses { OnErr result (HasNominalLength properties.now) }
-    ensures number { IfErr result (λ e. e.number ≡ 99) }
-{
-    let Ok(start) = required(properties, "DTSTART") else {
-        return Ok(());
-    };
-    let Ok(duration) = required(properties, "DURATION") else {
-        return Ok(());
-    };
-    if is_in_zone(start) && has_days(duration) {
-        return Err(Refusal::NOT_YET);
-    }
-    Ok(())
-}
-
 /// Whether TZID stands on a line.
 pub(crate) fn is_in_zone(line: Line<'_>) -> bool
     ensures { result ≡ is_in_zone (line_text line.entry) }
 {
     line.param("TZID").is_some()
-}
-
-/// Whether a line is a duration with days that 32 bits count.
-fn has_days(line: Line<'_>) -> bool
-    ensures { IsTrue result ↔ HasCountedDays (line_text line.entry) }
-{
-    one_duration();
-    match Duration::read(line.value()) {
-        Ok(duration) => duration.days > 0,
-        Err(_) => false,
-    }
 }
 
 /// Whether an event may name a time, by its local time and the instant that it means.

@@ -62,7 +62,6 @@ fn is_unread(line: Line<'_>, purpose: Purpose) -> bool
 {
     match purpose {
         Purpose::Request | Purpose::Calendar => is_unread_line(line),
-        Purpose::Series => is_instance_line(line),
         Purpose::Meeting => false,
     }
 }

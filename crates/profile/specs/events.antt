@@ -6,4 +6,4 @@ pub mod Occurrences
 pub mod Events
 pub mod Meetings
 pub mod Starts
-pub mod Series
+pub mod Expanding

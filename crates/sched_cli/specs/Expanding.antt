@@ -1,71 +1,74 @@
--- What `expand` prints of the event that an object says.
-use Rattle.std.specs.Prelude.{◌≡◌, ◌⊎◌, ℕ, ◌<◌, ℤ, pos, ◌+ℤ◌, ◌*ℤ◌, List, [], ◌∷◌, ◌++◌, length, take, decimal, Option, Some, None}
+-- What `expand` prints of the event that an object says, while it goes through its instances.
+use Rattle.std.specs.Prelude.{◌≡◌, ◌⊎◌, ◌≤◌, ℕ, ℤ, ◌≤ℤ◌, List, ◌++◌, All, AllPairs, Contains, Bool, true, false, length, Option, Some}
 use Rattle.std.specs.List.{AllZip, concat}
 use Rattle.std.specs.Io.KnownBytes.{Appends}
-use Rattle.profile.specs.text.Values.{WritesStamp, IsClockSeconds}
-use Rattle.profile.specs.series.Rules.{Parts, rule_days_from}
-use Rattle.profile.specs.events.Properties.{length_seconds}
-use Rattle.profile.specs.events.ZonedTimes.{clock_of}
-use Rattle.profile.specs.events.Events.{Event}
-use Rattle.profile.specs.events.Series.{SpellsSeries}
-use Rattle.profile.specs.series.Zones.{Zone, Means, local_time}
+use Rattle.profile.specs.text.Values.{IsClockSeconds}
+use Rattle.profile.specs.checker.Instances.{Booked}
+use Rattle.profile.specs.events.Meetings.{Meeting}
+use Rattle.profile.specs.events.Starts.{IsInstance, ComesBefore}
+use Rattle.profile.specs.events.Expanding.{IsInstanceLine, IsExpansion}
+use Rattle.cal_events.specs.Calendars.{instance_of}
+use Rattle.cal_events.specs.Left.{IsLeft, GivesFirst}
+use Rattle.cal_events.specs.declared.instance.Instance.{Instance}
+use Rattle.cal_events.specs.declared.instances.Instances.{Instances}
 
--- the line of an instance that starts at an instant: its original start, its start, and how many seconds it lasts
-abbrev pub IsInstanceLine : ℕ → ℤ → List ℕ → Type 0
-IsInstanceLine seconds instant line =
-    (start : List ℕ) × WritesStamp start instant × (line ≡ (start ++ 32 ∷ []) ++ (start ++ 32 ∷ []) ++ (decimal seconds ++ 10 ∷ []))
+-- an instance has a line: both its starts are in years that a stamp writes, and it doesn't end before it starts
+pub record HasLine (instance : Booked) : Type 0 where
+  pub slot : IsClockSeconds instance.key.slot
+  pub start : IsClockSeconds instance.start
+  pub ends : instance.start ≤ℤ instance.end
 
--- that line, or nothing for an instant that no stamp writes
-abbrev pub IsPrinted : ℕ → ℤ → List ℕ → Type 0
-IsPrinted seconds instant line =
-    IsInstanceLine seconds instant line ⊎ ((IsClockSeconds instant → ⊥) × (line ≡ []))
-
--- the instance of a day: it starts at that second of the day on the clock of the zone
-abbrev pub IsPrintedOn : Zone → ℕ → ℕ → ℕ → List ℕ → Type 0
-IsPrintedOn zone second seconds day line =
-    ((instant : ℤ) × Means zone (local_time day second) instant × IsPrinted seconds instant line)
-    ⊎ ((IsClockSeconds (local_time day second) → ⊥) × (line ≡ []))
+-- that is its line, if it has one
+abbrev pub IsLineOf : Booked → List ℕ → Type 0
+IsLineOf instance line = HasLine instance → IsInstanceLine instance line
 
 -- of these octets all but the text were written
 abbrev pub IsHandedOver : Option (List ℕ) → Option (List ℕ) → List ℕ → List ℕ → Type 0
 IsHandedOver old new text octets = (written : List ℕ) × Appends old new written × (written ++ text ≡ octets)
 
--- that second of the day is shown by the local time
-abbrev pub IsSecondOf : ℤ → ℕ → Type 0
-IsSecondOf local second = (second < 86_400) × ((day : ℤ) × (local ≡ day *ℤ pos 86_400 +ℤ pos second))
+-- one of them has the start and the slot of an instance
+abbrev pub HasPlaceIn : List Booked → Booked → Type 0
+HasPlaceIn instances b = (a : Booked) × Contains instances a × (a.start ≡ b.start) × (a.key.slot ≡ b.key.slot)
 
--- the lines of the first of these days; all but the text were written
-abbrev pub PrintsFirst : Zone → ℕ → ℕ → ℕ → List ℕ → Option (List ℕ) → Option (List ℕ) → List ℕ → Type 0
-PrintsFirst zone second seconds limit days old new text =
-    (lines : List (List ℕ)) × AllZip (IsPrintedOn zone second seconds) (take limit days) lines × IsHandedOver old new text (concat lines)
+-- the first instances of a meeting, so many of them, or all where there are fewer, as far as they have different places and lines
+pub record AreFirstPlaces (meeting : Meeting) (limit : ℕ) (instances : List Booked) : Type 0 where
+  pub each : All (IsInstance meeting) instances
+  pub ordered : AllPairs ComesBefore instances
+  pub short : length instances ≤ limit
+  pub others : (b : Booked) → IsInstance meeting b → HasLine b
+      → HasPlaceIn instances b ⊎ ((length instances ≡ limit) × All (λ a. ComesBefore a b) instances)
 
--- the lines of so many of them, the others are left
-pub record PrintsUpTo (zone : Zone) (second seconds count : ℕ) (days left : List ℕ) (old new : Option (List ℕ)) (text : List ℕ) : Type 0 where
-  pub done : List ℕ
+-- their lines; all but the text were written
+pub record PrintsFirst (meeting : Meeting) (limit : ℕ) (old new : Option (List ℕ)) (text : List ℕ) : Type 0 where
+  pub instances : List Booked
+  pub first : AreFirstPlaces meeting limit instances
   pub lines : List (List ℕ)
-  pub listed : days ≡ done ++ left
-  pub counted : length done ≡ count
-  pub printed : AllZip (IsPrintedOn zone second seconds) done lines
+  pub each : AllZip IsLineOf instances lines
   pub written : IsHandedOver old new text (concat lines)
 
--- the lines of the first instances that a rule gives, of an event that starts at a local time in a zone, were written, whole
-abbrev pub PrintsRule : Zone → ℤ → ℕ → ℕ → Parts → Option (List ℕ) → Option (List ℕ) → Type 0
-PrintsRule zone local seconds limit rule old new =
-    (second : ℕ) × IsSecondOf local second × PrintsFirst zone second seconds limit (rule_days_from rule rule.pattern.start) old new []
+-- so many were gone through, in order; the others are left
+pub record AreGoneThrough (meeting : Meeting) (left : Instances) (count : ℕ) (done : List Booked) : Type 0 where
+  pub its : (b : Booked) → IsLeft left b → IsInstance meeting b
+  pub each : All (IsInstance meeting) done
+  pub ordered : AllPairs ComesBefore done
+  pub counted : length done ≡ count
+  pub later : (b : Booked) → IsLeft left b → All (λ a. ComesBefore a b) done
+  pub others : (b : Booked) → IsInstance meeting b → HasLine b → HasPlaceIn done b ⊎ IsLeft left b
 
--- the line of the one instance was
-abbrev pub PrintsOne : Zone → ℤ → ℕ → Option (List ℕ) → Option (List ℕ) → Type 0
-PrintsOne zone local seconds old new =
-    (instant : ℤ) × Means zone local instant × ((line : List ℕ) × IsPrinted seconds instant line × Appends old new line)
+-- and their lines written, but for the text
+pub record PrintsUpTo (meeting : Meeting) (left : Instances) (count : ℕ) (old new : Option (List ℕ)) (text : List ℕ) : Type 0 where
+  pub done : List Booked
+  pub gone : AreGoneThrough meeting left count done
+  pub lines : List (List ℕ)
+  pub each : AllZip IsLineOf done lines
+  pub written : IsHandedOver old new text (concat lines)
 
--- the lines of the first instances of an event were: of those that its rule gives, or of the one where it has no rule
-abbrev pub PrintsStarts : Option Parts → Zone → ℤ → ℕ → ℕ → Option (List ℕ) → Option (List ℕ) → Type 0
-PrintsStarts None zone local seconds limit old new = PrintsOne zone local seconds old new
-PrintsStarts (Some rule) zone local seconds limit old new = PrintsRule zone local seconds limit rule old new
+-- the line of the next was written, but for the text behind it; or none is left
+abbrev pub PrintsNext : Bool → Instances → Instances → Option (List ℕ) → Option (List ℕ) → List ℕ → List ℕ → Type 0
+PrintsNext true left rest old new text after =
+    (i : Instance) × GivesFirst left (Some i) rest × ((line : List ℕ) × IsLineOf (instance_of i) line × IsHandedOver old new after (text ++ line))
+PrintsNext false left rest old new text after = ((b : Booked) → IsLeft left b → ⊥) × IsHandedOver old new after text
 
-abbrev pub PrintsSeries : Event → ℕ → Option (List ℕ) → Option (List ℕ) → Type 0
-PrintsSeries event limit old new = PrintsStarts event.rule (clock_of event.times.zone) event.times.local (length_seconds event.times.length) limit old new
-
--- the octets spell one event, and the lines of its first instances were written
+-- the lines of the first instances were written, whole
 abbrev pub ExpandsTo : List ℕ → ℕ → Option (List ℕ) → Option (List ℕ) → Type 0
-ExpandsTo octets limit old new = (event : Event) × SpellsSeries octets event × PrintsSeries event limit old new
+ExpandsTo octets limit old new = (text : List ℕ) × IsExpansion octets limit text × Appends old new text

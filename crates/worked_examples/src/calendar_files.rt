@@ -1,15 +1,13 @@
 //! What is answered about an object as a calendar.
 
 use crate::certificates::verdict_text;
-use cal_events::{
-    Calendar, ParticipationStatus, Purpose, read_events, read_series, refuse_nominal_length,
-};
+use cal_events::{Calendar, Event, ParticipationStatus, Purpose, read_events};
 use clash_check::check;
 use example_cases::NoAnswer;
 use example_cases::answers::append;
 use example_cases::spelled::octets_of;
 use ical_lines::{Limits, Unfolded};
-use ical_tree::{Properties, read_object};
+use ical_tree::read_object;
 use ical_values::Address;
 use std::alloc::Global;
 
@@ -57,7 +55,7 @@ pub fn times(alloc: Global, octets: &[u8]) -> Result<String, NoAnswer> {
     let text = Unfolded::read(alloc, octets, Limits::Open)?;
     let object = read_object(alloc, &text, Limits::Open)?;
     let mut list = String::new(alloc);
-    for event in &read_events(alloc, &object, Purpose::Series)? {
+    for event in &read_events(alloc, &object, Purpose::Meeting)? {
         let times = event.times;
         let item = format!(in alloc; "from {} for {}", times.instant.instant(), times.seconds())?;
         append(&mut list, ", ", item.as_str())?;
@@ -69,25 +67,16 @@ pub fn ends(alloc: Global, octets: &[u8]) -> Result<String, NoAnswer> {
     let text = Unfolded::read(alloc, octets, Limits::Open)?;
     let object = read_object(alloc, &text, Limits::Open)?;
     let mut list = String::new(alloc);
-    for event in &read_events(alloc, &object, Purpose::Series)? {
+    for event in &read_events(alloc, &object, Purpose::Meeting)? {
         let item = event.end().to_string(alloc)?;
         append(&mut list, ", ", item.as_str())?;
     }
     Ok(list)
 }
 
-pub fn nominal(alloc: Global, octets: &[u8]) -> Result<String, NoAnswer> {
-    let text = Unfolded::read(alloc, octets, Limits::Open)?;
-    let object = read_object(alloc, &text, Limits::Open)?;
-    for component in object.children() {
-        refuse_nominal_length(&Properties::of(alloc, component)?)?;
-    }
-    Ok(String::from_str(alloc, "not refused")?)
-}
-
-pub fn series(alloc: Global, octets: &[u8]) -> Result<String, NoAnswer> {
-    read_series(alloc, octets)?;
-    Ok(String::from_str(alloc, "a series")?)
+pub fn event(alloc: Global, octets: &[u8]) -> Result<String, NoAnswer> {
+    Event::read(alloc, octets)?;
+    Ok(String::from_str(alloc, "an event")?)
 }
 
 pub fn checked(

@@ -6,15 +6,14 @@
 //!     answers ROOM            when each event ends, and what the room answered
 //!     times                   the start and the length of each VEVENT, in seconds
 //!     ends                    the instant at which each VEVENT ends
-//!     nominal                 nothing, or that days in a length aren't read yet
-//!     series                  whether the object is a series
+//!     event                   whether the object is an event with its instances
 //!     check ROOM TEXT         whether the text is a certificate of the room's calendar
 //!     message                 what the message says
 //!     components              how many components the message has, where the object was read before
 //!     parts ROOM              the parts for a room
 //!     addressed ROOM          whether the message names the room
 
-use crate::calendar_files::{answered, checked, counted, ends, kept, nominal, series, times};
+use crate::calendar_files::{answered, checked, counted, ends, event, kept, times};
 use crate::message_files::{addressed, components, message, parts};
 use example_cases::answers::Answers;
 use example_cases::spelled::octets_of;
@@ -61,8 +60,7 @@ fn plain_answer(alloc: Global, octets: &[u8], call: &str) -> Result<String, NoAn
     match call {
         "times" => times(alloc, octets),
         "ends" => ends(alloc, octets),
-        "nominal" => nominal(alloc, octets),
-        "series" => series(alloc, octets),
+        "event" => event(alloc, octets),
         "message" => message(alloc, octets),
         "components" => components(alloc, octets),
         _ => Err(NoAnswer::Unreadable),

@@ -1,13 +1,20 @@
-use Rattle.profile.specs.events.Series.{SeriesTextFault}
+use Rattle.profile.specs.events.Meetings.{MeetingTextFault}
+use Rattle.cal_events.specs.SaidMeetings.{said_meeting}
+use Rattle.sched_cli.proofs.Printing.{expanded}
 use Rattle.sched_cli.proofs.Saying.{refused_at_3, said_read, said_write}
 use Rattle.sched_cli.proofs.expand.run_expand.Goals as goal
 
 pub returns-in-Err-clause-refused : goal.returns-in-Err-clause-refused
 returns-in-Err-clause-refused g c =
-    refused_at_3 (SeriesTextFault c.args.octets.now) c.report_read.result _ _ _ _ c.report_read.ensures.status c.in-Err.ensures.stands c.report_read.ensures.says
+    refused_at_3 (MeetingTextFault c.args.octets.now) c.report_read.result _ _ _ _ c.report_read.ensures.status c.in-Err.ensures.stands c.report_read.ensures.says
 
 pub returns-in-Err-clause-said : goal.returns-in-Err-clause-said
 returns-in-Err-clause-said g c = said_read _ _ _ _ _ c.report_read.ensures.status c.report_read.ensures.says
 
 pub returns-clause-said : goal.returns-clause-said
 returns-clause-said g c = said_write _ _ _ _ _ c.report_write.ensures.status c.report_write.ensures.says
+
+pub returns-in-Ok-print_event-clause-expands : goal.returns-in-Ok-print_event-clause-expands
+returns-in-Ok-print_event-clause-expands g c _ =
+    expanded c.one_instance.ensures.one c.one_instance.ensures.dates c.args.octets.now (said_meeting c.in-Ok.event) c.args.limit
+    (g.W.Output.contents c.args.writer.now) (g.W.Output.contents c.print_event.new.writer) c.in-Ok.ensures.spells c.in-Ok-print_event.ensures.prints
