@@ -1,5 +1,5 @@
 -- Only Accepted is to accept.
-use Rattle.std.proofs.Common.{◌≡◌, true, false, refl, sym, ap}
+use Rattle.std.proofs.Common.{◌≡◌, false, refl, sym, ap}
 use Rattle.profile.specs.rooms.Rooms.{is_accept}
 use Rattle.room_books.specs.declared.meeting.Outcome.{Outcome}
 use Rattle.room_books.specs.declared.meeting.Outcome.TheVariants.{Accepted, Declined, Limit}
