@@ -5,7 +5,7 @@ use Rattle.std.proofs.lemmas.Bool.{and_from, both_ways, cases_Bool, not_from_fal
 use Rattle.std.proofs.lemmas.List.Elements.{Contains-append_left, Contains-append_right, Contains-append_cases}
 use Rattle.itip_order.specs.Registers.{StandsFor}
 use Rattle.itip_order.proofs.Lasting.{view_taken}
-use Rattle.itip_order.proofs.Lists.{in_cons, in_head, in_tail, none_in_nil, filter_at, filter_from}
+use Rattle.itip_order.proofs.Lists.{in_cons, none_in_nil, filter_at, filter_from}
 use Rattle.profile.specs.checker.Instances.{Booked, Key}
 use Rattle.profile.specs.text.Values.{IsClockSeconds}
 use Rattle.profile.specs.rooms.Messages.{Outcome, Accept, Busy, SeriesLimit, SinglesLimit}
@@ -19,30 +19,11 @@ use Rattle.room_books.specs.Takings.{OutcomeDated, StandsAt}
 use Rattle.room_books.specs.Views.{booked_of}
 use Rattle.room_books.specs.Standing.{IsFitting, AreFitting, IsOwn, IsGiven, IsDated, Meets, MeetsAt, standing, book_after}
 use Rattle.room_books.proofs.Runs.{new_answer}
+use Rattle.room_books.proofs.Loops.{zip_from, zip_to}
 use Rattle.room_books.proofs.OwnSteps.{answer_to, stayed, given_after}
 use Rattle.room_books.proofs.Pairs.{flat_at, map_at, map_from}
 use Rattle.room_books.proofs.Places.{booked_from}
 use Rattle.room_books.proofs.Views.{view_back}
-
--- ---- elements of two lists that belong together
-
-pub zip_back : {X Y : Type 0} (R : X → Y → Type 0) (xs : List X) (ys : List Y) → AllZip R xs ys → (y : Y) → Contains ys y → (x : X) × Contains xs x × R x y
-zip_back R [] [] z y c = absurd (none_in_nil y c)
-zip_back R [] (w ∷ ys) z y c = absurd z
-zip_back R (x ∷ xs) [] z y c = absurd z
-zip_back R (x ∷ xs) (w ∷ ys) z y c = elim (in_cons w ys y c) [
-  | inl here ↦ (x, in_head x xs, subst (R x) here z.0)
-  | inr there ↦ let r = zip_back R xs ys z.1 y there in (r.0, in_tail x xs r.0 r.1, r.2)
-]
-
-pub zip_to : {X Y : Type 0} (R : X → Y → Type 0) (xs : List X) (ys : List Y) → AllZip R xs ys → (x : X) → Contains xs x → (y : Y) × Contains ys y × R x y
-zip_to R [] [] z x c = absurd (none_in_nil x c)
-zip_to R [] (y ∷ ys) z x c = absurd z
-zip_to R (w ∷ xs) [] z x c = absurd z
-zip_to R (w ∷ xs) (y ∷ ys) z x c = elim (in_cons w xs x c) [
-  | inl here ↦ (y, in_head y ys, subst (λ (v : _). R v y) here z.0)
-  | inr there ↦ let r = zip_to R xs ys z.1 x there in (r.0, in_tail y ys r.0 r.1, r.2)
-]
 
 -- ---- instants that can be written
 
@@ -94,7 +75,7 @@ module _ (k : MeetingKey) (own : Book) where
   old_dated : (before : Option Meeting) → MeetsAt own k before → (a : Answer) → Contains own.answers a → in_view own.taken a.claim.part ≡ true → OutcomeDated a.outcome
   old_dated None m a c v = absurd (none_seen m a.claim.part v)
   old_dated (Some meeting) m a c v =
-      let found = zip_to (IsGiven k own.taken) (standing own.taken own.answers) meeting.answers.items m.answers a (filter_from (λ (x : Answer). in_view own.taken x.claim.part) own.answers a c v) in
+      let found = zip_to (IsGiven k own.taken) (standing own.taken own.answers) meeting.answers.items a m.answers (filter_from (λ (x : Answer). in_view own.taken x.claim.part) own.answers a c v) in
       subst OutcomeDated found.2.outcome (m.dated found.0 found.1).outcome
 
 -- ---- and after
@@ -146,7 +127,7 @@ module _ (k : MeetingKey) (own : Book) (is_own : IsOwn k own) (claims : List Cla
         answers = answers;
         answered = answered_after;
         dated = λ given c.
-            let found = zip_back (IsGiven k t) (standing t (own.answers ++ new)) meeting.answers.items answers given c in
+            let found = zip_from (IsGiven k t) (standing t (own.answers ++ new)) meeting.answers.items given answers c in
             let both = answer_dated dated found.0 found.1 in
             given_dated k t found.0 given found.2 both.0 both.1;
       }
