@@ -1,9 +1,7 @@
 -- Starts, instances and their ends, worked by the definitions alone.
-use Rattle.std.proofs.Common.{◌≡◌, ℕ, zero, suc, ◌<◌, true, false, List, [], ◌∷◌, codes, refl, inl, inr, arith, ℤ, pos}
+use Rattle.std.proofs.Common.{zero, suc, true, List, [], ◌∷◌, codes, refl, inl, inr, arith, ℤ, pos}
 use Rattle.std.specs.Prelude.{Option, Some, None, Contains}
 use Rattle.std.proofs.lemmas.Int.{ints}
-use Rattle.profile.specs.checker.Instances.{Booked}
-use Rattle.profile.specs.events.ZonedTimes.{EventTimes}
 use Rattle.profile.specs.events.Events.{Event}
 use Rattle.profile.specs.events.Meetings.{Meeting}
 use Rattle.profile.specs.events.Starts.{EndsAt, IsStart, IsInstance, key_at}

@@ -1,5 +1,5 @@
 -- What `expand` prints of an event: a line for each of its first instances.
-use Rattle.std.specs.Prelude.{◌≡◌, ℕ, ℤ, pos, ◌+ℤ◌, List, ◌++◌, codes, decimal}
+use Rattle.std.specs.Prelude.{◌≡◌, ℕ, pos, ◌+ℤ◌, List, ◌++◌, codes, decimal}
 use Rattle.std.specs.List.{AllZip, concat}
 use Rattle.profile.specs.text.Values.{WritesStamp}
 use Rattle.profile.specs.checker.Instances.{Booked}

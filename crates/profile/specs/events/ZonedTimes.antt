@@ -1,6 +1,6 @@
 -- Times: what a start or an end says, in UTC or where TZID names a VTIMEZONE of its object (RFC 5545 3.2.19, 3.3.5, 3.6.5), and what
 -- DTSTART, DTEND and DURATION of a VEVENT say together. A line is its octets here; its object, the VCALENDAR that it stands in, is a tree.
-use Rattle.std.specs.Prelude.{◌≡◌, ℕ, ◌^◌, ◌<◌, ◌≤◌, ◌⊎◌, Bool, true, false, if◌then◌else◌, List, [], ◌∷◌, filter, Contains, codes, Option, Some, None, is_some, option_map, unwrap_or, ℤ, pos, ◌+ℤ◌, ◌≤ℤ◌, ◌<ℤ◌}
+use Rattle.std.specs.Prelude.{◌≡◌, ℕ, ◌≤◌, ◌⊎◌, Bool, false, if◌then◌else◌, List, [], ◌∷◌, filter, Contains, codes, Option, Some, None, is_some, option_map, unwrap_or, ℤ, pos, ◌+ℤ◌, ◌≤ℤ◌, ◌<ℤ◌}
 use Rattle.std.specs.List.{find}
 use Rattle.std.specs.Str.{bytes_eq}
 use Rattle.profile.specs.text.Lines.{line_value, line_param, is_same_name}
@@ -165,19 +165,6 @@ abbrev pub StartAndEndLie : Tree → (ℤ → ℤ → Type 0) → List (List ℕ
 StartAndEndLie object R lines =
     (start : ℤ) × (end : ℤ) × SomeLine (codes "DTSTART") (λ line. SaysInstant object line start) lines
     × SomeLine (codes "DTEND") (λ line. SaysInstant object line end) lines × R start end
-
--- a duration with days, of no more days and seconds than 32 bits count
-abbrev pub HasCountedDays : List ℕ → Type 0
-HasCountedDays line = (length : Length) × LastsFor line length × (0 < length.days) × (length.days < 2 ^ 32) × (length.seconds < 2 ^ 32)
-
--- DTSTART stands once, with TZID, and DURATION stands once, with days; one past 32 bits isn't meant, it is 51
-pub record HasNominalLength (lines : List (List ℕ)) : Type 0 where
-  pub start : List ℕ
-  pub duration : List ℕ
-  pub starts : StandsAtMostOnce (codes "DTSTART") lines (Some start)
-  pub lasts : StandsAtMostOnce (codes "DURATION") lines (Some duration)
-  pub in_zone : is_in_zone start ≡ true
-  pub days : HasCountedDays duration
 
 abbrev pub names_of_times : List (List ℕ)
 names_of_times = codes "DTSTART" ∷ codes "DTEND" ∷ codes "DURATION" ∷ []

@@ -50,10 +50,6 @@ is_rule_fault = is_between 30 34
 abbrev pub is_series_event_fault : ℕ → Bool
 is_series_event_fault n = is_zoned_event_fault n || is_rule_fault n
 
--- a fault of a series: an object, its VEVENT, the want of one, or what isn't read yet
-abbrev pub is_series_fault : ℕ → Bool
-is_series_fault n = is_object_fault n || is_series_event_fault n || n == 66
-
 -- a fault of a calendar: an object, its VEVENTs, two masters or two overrides of one start, or what isn't read yet
 abbrev pub is_calendar_fault : ℕ → Bool
 is_calendar_fault n = is_object_fault n || is_event_fault n || is_between 53 54 n || is_unread n
