@@ -1,0 +1,187 @@
+"""Tries the statements of docs/PROFILE.md with the program.
+
+    python3 tests/guide.py bin/roombox
+
+Each case says what the guide says, what goes in, and what has to come out; what is expected was written from the guide and from the RFCs, never from
+the program's output. It prints each case that fails, and ends with 1 where one did.
+"""
+
+import subprocess
+import sys
+import tempfile
+from pathlib import Path
+
+NOW = "now 20250102T000000Z\n"
+ROOM = "room mailto:r1@example.com\n"
+PREAMBLE = NOW + ROOM + "\n"
+R1 = "mailto:r1@example.com"
+
+
+def request(uid="a", sequence=0, start="20250310T090000Z", lines=("DTEND:20250310T100000Z",), method="REQUEST", room=R1, stamp="20250101T000000Z"):
+    own = [f"METHOD:{method}"] if method else []
+    event = [f"UID:{uid}", f"SEQUENCE:{sequence}", f"DTSTAMP:{stamp}", "ORGANIZER:mailto:ann@example.com", f"ATTENDEE:{room}", f"DTSTART:{start}", *lines]
+    return "\r\n".join(["BEGIN:VCALENDAR", "VERSION:2.0", "PRODID:-//test//EN", *own, "BEGIN:VEVENT", *event, "END:VEVENT", "END:VCALENDAR"]) + "\r\n"
+
+
+def run(program, *words, given=b""):
+    given = given if isinstance(given, bytes) else given.encode()
+    ended = subprocess.run([program, *words], input=given, capture_output=True, timeout=60)
+    return ended.returncode, ended.stdout.decode(), ended.stderr.decode()
+
+
+def unfolded(text):
+    return text.replace("\r\n ", "")
+
+
+def answers(program, *objects, preamble=PREAMBLE):
+    """The words of what is answered: ACCEPTED, DECLINED, or a REFUSED line."""
+    status, out, said = run(program, given=preamble + "".join(objects))
+    words = []
+    for line in unfolded(out).splitlines():
+        if line.startswith("ATTENDEE;PARTSTAT="):
+            words.append(line.split("=")[1].split(":")[0])
+        elif line.startswith("REFUSED"):
+            words.append(line)
+    return words
+
+
+class Cases:
+    def __init__(self):
+        self.count, self.failed = 0, 0
+
+    def holds(self, what, found, wanted):
+        self.count += 1
+        if found != wanted:
+            self.failed += 1
+            print(f"{what}: found {found!r}, wanted {wanted!r}")
+
+
+def preambles(cases, program):
+    for what, text in [
+        ("no now", ROOM + "\n"), ("two of now", NOW + NOW + ROOM + "\n"), ("no room", NOW + "\n"), ("one room twice", NOW + ROOM + ROOM + "\n"),
+        ("the room twice in another case", NOW + ROOM + "room MAILTO:R1@EXAMPLE.COM\n\n"), ("two spaces", NOW + "room  mailto:r1@example.com\n\n"),
+        ("a space behind", NOW + "room mailto:r1@example.com \n\n"), ("upper case", "NOW 20250102T000000Z\n" + ROOM + "\n"),
+        ("a comment", "# rooms\n" + NOW + ROOM + "\n"), ("a byte order mark", "\ufeff" + NOW + ROOM + "\n"), ("an empty line first", "\n" + NOW + ROOM + "\n"),
+        ("no empty line", NOW + ROOM), ("an organiser", NOW + ROOM + "organiser mailto:ann@example.com\n\n"), ("nothing", ""),
+        ("65 rooms", NOW + "".join(f"room mailto:r{n}@example.com\n" for n in range(65)) + "\n"),
+    ]:
+        # where the preamble has no end, the object is taken as part of it
+        found = run(program, given=text + request())
+        cases.holds(f"preamble with {what}", (found[0], found[1], found[2]), (3, "", "roombox: refused 90\n"))
+    cases.holds("64 rooms", answers(program, request(room="mailto:r63@example.com"), preamble=NOW + "".join(f"room mailto:r{n}@example.com\n" for n in range(64)) + "\n"), ["ACCEPTED"])
+    cases.holds("CRLF in the preamble", answers(program, request(), preamble=PREAMBLE.replace("\n", "\r\n")), ["ACCEPTED"])
+    cases.holds("empty lines between objects", answers(program, request(), "\r\n\r\n", request("b", start="20250310T100000Z", lines=("DURATION:PT1H",))), ["ACCEPTED", "ACCEPTED"])
+
+
+def decisions(cases, program):
+    a, busy = request(), request("b", start="20250310T093000Z", lines=("DURATION:PT1H",))
+    cases.holds("touching ends", answers(program, a, request("b", start="20250310T100000Z", lines=("DURATION:PT1H",))), ["ACCEPTED", "ACCEPTED"])
+    cases.holds("no length", answers(program, a, request("b", start="20250310T093000Z", lines=())), ["ACCEPTED", "ACCEPTED"])
+    cases.holds("a repeat", answers(program, a, busy, busy, a), ["ACCEPTED", "DECLINED", "DECLINED", "ACCEPTED"])
+    away = request(sequence=1, start="20250311T090000Z", lines=("DURATION:PT1H",))
+    cases.holds("a decline stays", answers(program, a, busy, away, busy), ["ACCEPTED", "DECLINED", "ACCEPTED", "DECLINED"])
+    cases.holds("a greater SEQUENCE asks again", answers(program, a, busy, away, request("b", 1, "20250310T093000Z", ("DURATION:PT1H",))), ["ACCEPTED", "DECLINED", "ACCEPTED", "ACCEPTED"])
+    cases.holds("a later DTSTAMP asks again", answers(program, a, busy, away, request("b", 0, "20250310T093000Z", ("DURATION:PT1H",), stamp="20250101T000001Z")), ["ACCEPTED", "DECLINED", "ACCEPTED", "ACCEPTED"])
+    cases.holds("it may overlap its own old time", answers(program, a, request(sequence=1, start="20250310T093000Z", lines=("DURATION:PT1H",))), ["ACCEPTED", "ACCEPTED"])
+    cases.holds("an older one gets no reply", answers(program, away, a), ["ACCEPTED"])
+    b = request("b", start="20250310T120000Z", lines=("DURATION:PT1H",))
+    moved = request("b", 1, "20250310T093000Z", ("DURATION:PT1H",))
+    again = request("c", start="20250310T120000Z", lines=("DURATION:PT1H",))
+    cases.holds("a declined change gives the old time up", answers(program, a, b, moved, again), ["ACCEPTED", "ACCEPTED", "DECLINED", "ACCEPTED"])
+    given_back = request(sequence=1, lines=("DURATION:PT0S",))
+    cases.holds("PT0S gives the time back", answers(program, a, given_back, busy), ["ACCEPTED", "ACCEPTED", "ACCEPTED"])
+    dropped = request(sequence=1, room="mailto:other@example.com")
+    cases.holds("a room that isn't named any more keeps its booking", answers(program, a, dropped, busy), ["ACCEPTED", "DECLINED"])
+    cases.holds("a meeting in the past", answers(program, request(start="20200310T090000Z", lines=("DURATION:PT1H",))), ["ACCEPTED"])
+    cases.holds("a room that isn't hosted", answers(program, request(room="mailto:r2@example.com")), [])
+
+
+def replies(cases, program):
+    lines = unfolded(run(program, given=PREAMBLE + request())[1]).split("\r\n")
+    cases.holds("an accepted reply", lines, [
+        "BEGIN:VCALENDAR", "VERSION:2.0", "PRODID:-//iTIP room box//EN", "METHOD:REPLY", "BEGIN:VEVENT", "UID:a", "SEQUENCE:0", "DTSTAMP:20250102T000000Z",
+        "ORGANIZER:mailto:ann@example.com", "ATTENDEE;PARTSTAT=ACCEPTED:mailto:r1@example.com", "REQUEST-STATUS:2.0;Success", "END:VEVENT", "END:VCALENDAR", ""])
+    busy = request("\u00dcber a", start="20250310T093000Z", lines=("DURATION:PT1H",))
+    text = unfolded(run(program, given=PREAMBLE + request() + busy)[1])
+    status = [line for line in text.split("\r\n") if line.startswith("REQUEST-STATUS:4.1")]
+    cases.holds("seven words", status, ["REQUEST-STATUS:4.1;Event conflict.  Date-time is busy.;20250310T093000Z 20250310T090000Z mailto:ann@example.com a "
+                                        "20250310T093000Z mailto:ann@example.com %C3%9Cber%20a"])
+    two = PREAMBLE[:-1] + "room mailto:r2@example.com\n\n"
+    both = request(lines=("DURATION:PT1H", "ATTENDEE:mailto:r2@example.com"), room=R1)
+    named = [line.split(":", 1)[1] for line in unfolded(run(program, given=two + both)[1]).split("\r\n") if line.startswith("ATTENDEE")]
+    cases.holds("two rooms, in the order of the preamble", named, [R1, "mailto:r2@example.com"])
+    status, out, said = run(program, given=PREAMBLE + request(method="PUBLISH"))
+    cases.holds("a refused object", (status, out, said), (0, "REFUSED;OBJECT=1:60\n", ""))
+
+
+def refusals(cases, program):
+    def one(text):
+        return answers(program, text)
+
+    def number(text):
+        found = one(text)
+        return found[0].rpartition(":")[2] if found and found[0].startswith("REFUSED") else found
+
+    for method in ("CANCEL", "ADD", "REPLY", "REFRESH", None):
+        cases.holds(f"METHOD {method}", number(request(method=method)), "99")
+    for method in ("PUBLISH", "COUNTER", "DECLINECOUNTER", "FOO"):
+        cases.holds(f"METHOD {method}", number(request(method=method)), "60")
+    cases.holds("STATUS:CANCELLED", number(request(lines=("DURATION:PT1H", "STATUS:CANCELLED"))), "99")
+    cases.holds("TZID", number(request().replace("DTSTART:20250310T090000Z", "DTSTART;TZID=Europe/Berlin:20250310T090000")), "99")
+    cases.holds("a whole day", number(request().replace("DTSTART:20250310T090000Z", "DTSTART;VALUE=DATE:20250310")), "55")
+    cases.holds("a parameter without =", number(request().replace("ATTENDEE:", "ATTENDEE;X-FOO:")), "2")
+    cases.holds("a mail before it", number("Content-Type: text/calendar\r\n\r\n" + request()), "23")
+    cases.holds("a mail's text before it", number("Hello\r\n" + request()), "1")
+    cases.holds("no address", number(request().replace("ORGANIZER:mailto:ann@example.com", "ORGANIZER:ann@example.com")), "15")
+    cases.holds("unknown lines", one(request(lines=("DURATION:PT1H", "X-FOO:bar", "GEO:1;2"))), ["ACCEPTED"])
+
+
+def kept(cases, program):
+    stream = PREAMBLE + request()
+    with tempfile.TemporaryDirectory() as folder:
+        calendar, certificate = Path(folder, "r1.ics"), Path(folder, "r1.cert")
+        text = run(program, "keep", R1, given=stream)[1]
+        calendar.write_text(text, newline="")
+        cases.holds("the kept calendar", text.split("\r\n"), [
+            "BEGIN:VCALENDAR", "VERSION:2.0", "PRODID:-//iTIP room box//EN", "BEGIN:VEVENT", "UID:a", "SEQUENCE:0", "DTSTAMP:20250101T000000Z", "DTSTART:20250310T090000Z",
+            "DURATION:PT3600S", "ORGANIZER:mailto:ann@example.com", "ATTENDEE;PARTSTAT=ACCEPTED:mailto:r1@example.com", "END:VEVENT", "END:VCALENDAR", ""])
+        text = run(program, "keep", "--certificate", R1, given=stream)[1]
+        certificate.write_text(text, newline="")
+        cases.holds("its certificate", text, "ROOMCERT 1\nSINGLES 1\nSERIES 0\nDONE\n")
+        cases.holds("yes", run(program, "check", calendar, certificate, R1)[:2], (0, "yes\n"))
+        cases.holds("a mistyped room", run(program, "check", calendar, certificate, "mailto:typo@example.com")[:2], (1, "no 82\n"))
+        certificate.write_text("ROOMCERT 1\nSINGLES 0\nSERIES 0\nDONE\n", newline="")
+        cases.holds("a calendar that doesn't name the room", run(program, "check", calendar, certificate, "mailto:typo@example.com")[:2], (0, "yes\n"))
+        certificate.write_text("ROOMCERT 1\r\nSINGLES 1\r\nSERIES 0\r\nDONE\r\n", newline="")
+        cases.holds("CRLF in a certificate", run(program, "check", calendar, certificate, R1)[:2], (1, "no 81 1\n"))
+        calendar.write_text("no calendar", newline="")
+        cases.holds("no calendar", run(program, "check", calendar, certificate, R1)[:2], (1, "no 80\n"))
+        cases.holds("keep of a room that isn't hosted", run(program, "keep", "mailto:r2@example.com", given=stream), (3, "", "roombox: refused 90\n"))
+
+
+def zones(cases, program):
+    def zone(rule):
+        return "\r\n".join(["BEGIN:VTIMEZONE", "TZID:Z", "BEGIN:STANDARD", "DTSTART:16010101T030000", "TZOFFSETFROM:+0200", "TZOFFSETTO:+0100", f"RRULE:FREQ=YEARLY;{rule}BYDAY=-1SU;BYMONTH=10",
+                            "END:STANDARD", "BEGIN:DAYLIGHT", "DTSTART:16010101T020000", "TZOFFSETFROM:+0100", "TZOFFSETTO:+0200", f"RRULE:FREQ=YEARLY;{rule}BYDAY=-1SU;BYMONTH=3",
+                            "END:DAYLIGHT", "END:VTIMEZONE"])
+
+    def expanded(rule, event="DTSTART;TZID=Z:20250310T100000\r\nDURATION:PT1H"):
+        text = "\r\n".join(["BEGIN:VCALENDAR", "VERSION:2.0", zone(rule), "BEGIN:VEVENT", "UID:a", event, "END:VEVENT", "END:VCALENDAR", ""])
+        return run(program, "expand", given=text)
+
+    cases.holds("INTERVAL=1 in a zone", expanded("INTERVAL=1;")[:2], (0, "20250310T090000Z 20250310T090000Z 3600\n"))
+    cases.holds("INTERVAL=2 in a zone", expanded("INTERVAL=2;"), (3, "", "roombox: refused 40\n"))
+    cases.holds("nominal days", expanded("", "DTSTART;TZID=Z:20250329T120000\r\nDURATION:P1D")[:2], (0, "20250329T110000Z 20250329T110000Z 82800\n"))
+    cases.holds("a cancelled event", expanded("", "DTSTART:20250310T090000Z\r\nDURATION:PT1H\r\nSTATUS:CANCELLED")[:2], (0, "20250310T090000Z 20250310T090000Z 3600\n"))
+
+
+def main():
+    program, cases = str(Path(sys.argv[1]).resolve()), Cases()
+    for part in (preambles, decisions, replies, refusals, kept, zones):
+        part(cases, program)
+    print(f"{cases.count} cases, {cases.failed} failed")
+    return 1 if cases.failed else 0
+
+
+if __name__ == "__main__":
+    sys.exit(main())
