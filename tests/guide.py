@@ -111,7 +111,7 @@ def replies(cases, program):
     named = [line.split(":", 1)[1] for line in unfolded(run(program, given=two + both)[1]).split("\r\n") if line.startswith("ATTENDEE")]
     cases.holds("two rooms, in the order of the preamble", named, [R1, "mailto:r2@example.com"])
     status, out, said = run(program, given=PREAMBLE + request(method="PUBLISH"))
-    cases.holds("a refused object", (status, out, said), (0, "REFUSED;OBJECT=1:60\n", ""))
+    cases.holds("a refused object", (status, out, said), (0, "REFUSED;OBJECT=1:60\r\n", ""))
 
 
 def refusals(cases, program):
