@@ -41,6 +41,28 @@ ORGANIZER:mailto:ann@example.com
 ATTENDEE;PARTSTAT=ACCEPTED:{room}
 END:VEVENT
 """
+ZONE = """BEGIN:VTIMEZONE
+TZID:Z{number}
+BEGIN:STANDARD
+DTSTART:16010101T030000
+TZOFFSETFROM:+0200
+TZOFFSETTO:+0100
+RRULE:FREQ=YEARLY;BYMONTH=10;BYDAY=-1SU
+END:STANDARD
+BEGIN:DAYLIGHT
+DTSTART:16010101T020000
+TZOFFSETFROM:+0100
+TZOFFSETTO:+0200
+RRULE:FREQ=YEARLY;BYMONTH=3;BYDAY=-1SU
+END:DAYLIGHT
+END:VTIMEZONE
+"""
+ZONED = """BEGIN:VEVENT
+UID:zoned@example.com
+{recurrence}DTSTART;TZID=Z{number}:20250610T090000
+DURATION:PT1H
+END:VEVENT
+"""
 SERIES = """BEGIN:VCALENDAR
 VERSION:2.0
 PRODID:-//bench//EN
@@ -221,6 +243,22 @@ def expand(program, start, rule, count):
     return seconds, peak
 
 
+def zoned(program, count):
+    """All instances of an event of so many VEVENTs, each of which names a zone of its own, run a few times: each zone is read once."""
+    zones = "".join(ZONE.format(number=number) for number in range(count))
+    events = "".join(ZONED.format(number=number, recurrence=f"RECURRENCE-ID:{stamp(number)}\n" if number else "") for number in range(count))
+    seconds, peak = 0.0, 0
+    with tempfile.TemporaryFile() as stream:
+        stream.write(crlf(f"BEGIN:VCALENDAR\nVERSION:2.0\n{zones}{events}END:VCALENDAR\n"))
+        for _ in range(HOSTILE):
+            stream.seek(0)
+            taken, most, status, output = run([program, "expand", "--limit", str(count + 1)], stream)
+            if status != 0 or output.count(b"\n") != count:
+                sys.exit(f"expand in zones: status {status}, {output[:60]}")
+            seconds, peak = seconds + taken, max(peak, most)
+    return seconds, peak
+
+
 def seek(program, start, rule, target):
     """The seconds of many jumps from a rule's first day to a day, without those of the program itself."""
     with tempfile.TemporaryFile() as stream:
@@ -293,6 +331,7 @@ def main():
     grown("singles checked", (100_000, 1_000_000), lambda count: check(program, calendar(count), count), "octets")
     for work, start, rule in RULES:
         grown(work, (9_500, 95_000), lambda count: expand(program, start, rule, count), None)
+    grown("VEVENTs of an event, a zone each", (20, 200), lambda count: zoned(program, count), None)
     seeks(sys.argv[2])
     hostile(program)
     empty = b"BEGIN:VCALENDAR\r\nVERSION:2.0\r\nEND:VCALENDAR\r\n"
