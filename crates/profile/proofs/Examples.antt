@@ -11,7 +11,7 @@ use Rattle.profile.specs.text.Trees.{Tree, tree, none, more, vevents}
 use Rattle.profile.specs.events.Events.{Event, Participation, Accepted, Declined, NeedsAction, is_unread_line, has_unread, answer_named, booked_by, confirmed}
 use Rattle.profile.specs.events.Properties.{lines_named}
 use Rattle.profile.specs.rooms.Revisions.{Part, Whole, Set, same_meeting}
-use Rattle.profile.specs.rooms.Messages.{Accept, SinglesLimit, MethodFault, no_method, object_lines, word}
+use Rattle.profile.specs.rooms.Messages.{Accept, SinglesLimit, Request, Cancel, MethodFault, no_method, has_unread_in, cancels, is_addressed, object_lines, word}
 use Rattle.profile.specs.rooms.Rooms.{Answer, Book, Claim, empty_book, is_confirmed}
 use Rattle.profile.specs.rooms.Kept.{IsKept, kept_certificate, first_parts}
 use Rattle.profile.specs.streams.Streams.{Now, Room, moments, rooms, refused_line, AreObjects}
@@ -108,6 +108,45 @@ the_first_line_declines = refl
 
 another_room_has_nothing : confirmed (codes "r:2") (event_with Accepted Accepted ∷ []) ≡ []
 another_room_has_nothing = refl
+
+-- ---- messages
+
+an_event_of_one_line_is_read : has_unread_in Request (codes "DTSTART:20250310T090000Z" ∷ []) ≡ false
+an_event_of_one_line_is_read = refl
+
+a_cancelled_status_is_read : has_unread_in Request (codes "STATUS:CANCELLED" ∷ codes "DTSTART:20250310T090000Z" ∷ []) ≡ false
+a_cancelled_status_is_read = refl
+
+an_instance_is_unread : has_unread_in Cancel (codes "DTSTART:20250310T090000Z" ∷ codes "RECURRENCE-ID:20250310T090000Z" ∷ []) ≡ true
+an_instance_is_unread = refl
+
+-- a REQUEST has to have DTSTART, which is another fault
+a_cancel_without_start_is_unread : has_unread_in Cancel (codes "UID:a" ∷ []) ≡ true
+a_cancel_without_start_is_unread = refl
+
+a_request_without_start_is_not : has_unread_in Request (codes "UID:a" ∷ []) ≡ false
+a_request_without_start_is_not = refl
+
+abbrev cancelled_event : Event
+cancelled_event = record (event_with NeedsAction NeedsAction) { cancelled = true }
+
+a_cancelled_request_cancels : cancels (record { method = Request; event = cancelled_event }) ≡ true
+a_cancelled_request_cancels = refl
+
+another_request_does_not : cancels (record { method = Request; event = event_with NeedsAction NeedsAction }) ≡ false
+another_request_does_not = refl
+
+abbrev event_of_nobody : Event
+event_of_nobody = record (event_with NeedsAction NeedsAction) { attendees = [] }
+
+a_cancel_to_nobody_is_for_each_room : is_addressed (codes "r:2") (record { method = Cancel; event = event_of_nobody }) ≡ true
+a_cancel_to_nobody_is_for_each_room = refl
+
+a_request_to_nobody_is_for_none : is_addressed (codes "r:2") (record { method = Request; event = event_of_nobody }) ≡ false
+a_request_to_nobody_is_for_none = refl
+
+a_cancel_to_another_is_not_for_it : is_addressed (codes "r:2") (record { method = Cancel; event = event_with NeedsAction NeedsAction }) ≡ false
+a_cancel_to_another_is_not_for_it = refl
 
 -- ---- what a room writes
 

@@ -1,6 +1,6 @@
 -- VEVENTs: what their lines say (RFC 5545 3.6.1), and what a room books of them, so far of single events in UTC. A VEVENT is its
 -- content lines here, beside the object that it stands in: its times may name a VTIMEZONE of that.
-use Rattle.std.specs.Prelude.{◌≡◌, ◌≢◌, ℕ, Contains, AllPairs, Bool, true, false, if◌then◌else◌, ◌&&◌, ◌||◌, List, [], ◌∷◌, map, filter, codes, Option, Some, option_map, unwrap_or, ℤ, pos, ◌+ℤ◌}
+use Rattle.std.specs.Prelude.{◌≡◌, ◌≢◌, ℕ, Contains, AllPairs, Bool, true, false, not, if◌then◌else◌, ◌&&◌, ◌||◌, List, [], ◌∷◌, map, filter, codes, Option, Some, option_map, unwrap_or, ℤ, pos, ◌+ℤ◌}
 use Rattle.std.specs.List.{find, list_any, AllZip}
 use Rattle.std.specs.Str.{bytes_eq}
 use Rattle.profile.specs.text.Lines.{line_value, line_param, is_same_name}
@@ -97,9 +97,17 @@ is_unread_line line =
     is_recurrence line || (is_of (codes "STATUS") line && is_same_name (line_value line) (codes "CANCELLED"))
     || (is_end_of_event line && is_in_zone line)
 
--- something in the lines isn't read yet, in a message or a calendar
+-- something in the lines isn't read yet, in a calendar
 abbrev pub has_unread : List (List ℕ) → Bool
 has_unread lines = list_any is_unread_line lines
+
+-- the same without the cancelled status, which a message may have
+abbrev pub is_unread_in_message : List ℕ → Bool
+is_unread_in_message line = is_recurrence line || (is_end_of_event line && is_in_zone line)
+
+-- DTSTART doesn't stand in the lines
+abbrev pub lacks_start : List (List ℕ) → Bool
+lacks_start lines = not (list_any (is_of (codes "DTSTART")) lines)
 
 -- ---- what an event books
 

@@ -1,4 +1,4 @@
--- Messages: their meeting, the parts that they have for a room, and replies (RFC 5546 1.4, 3.2). So far a REQUEST of one VEVENT.
+-- Messages: their meeting, the parts that they have for a room, and replies (RFC 5546 1.4, 3.2). So far a REQUEST or a CANCEL of one VEVENT.
 use Rattle.std.specs.Prelude.{◌≡◌, ℕ, ◌/◌, ◌%◌, ◌+◌, ◌<◌, Bool, true, false, ◌&&◌, ◌||◌, ◌==◌, if◌then◌else◌, nat_lt, List, [], ◌∷◌, ◌++◌, length, codes, decimal, Contains, Option, Some, None, unwrap_or, ℤ}
 use Rattle.std.specs.List.{flat_map, list_any, list_all, AllZip}
 use Rattle.std.specs.Str.{bytes_eq}
@@ -7,40 +7,63 @@ use Rattle.profile.specs.text.Lines.{line_value, is_same_name, logical_lines, re
 use Rattle.profile.specs.text.Objects.{IsObject}
 use Rattle.profile.specs.text.Trees.{Tree, tree_name, tree_own, tree_inside, vevents}
 use Rattle.profile.specs.text.Values.{WritesStamp, duration_text, escaped}
-use Rattle.profile.specs.events.Events.{Event, SaysEvent, EventFault, has_unread}
+use Rattle.profile.specs.events.Events.{Event, SaysEvent, EventFault, is_unread_in_message, lacks_start}
 use Rattle.profile.specs.events.Properties.{SomeLine, StandsTwice, IsMissing, lines_named}
 use Rattle.profile.specs.checker.Instances.{Key}
-use Rattle.profile.specs.rooms.Revisions.{Part, Slot, Whole, At, Set}
+use Rattle.profile.specs.rooms.Revisions.{Part, Slot, Whole, At, Set, Cancelled}
 
 -- ---- what a message says
 
--- a VCALENDAR says that it is a REQUEST for this one event: METHOD stands once, nothing in its VEVENT is unread (RFC 5546 3.2.2)
-pub record SaysRequest (object : Tree) (event : Event) : Type 0 where
-  pub method_line : List ℕ
-  pub method : lines_named (codes "METHOD") (tree_own object) ≡ method_line ∷ []
-  pub request : is_same_name (line_value method_line) (codes "REQUEST") ≡ true
+-- what a message asks for: that an event take place, or that it be cancelled (RFC 5546 1.4)
+pub data Method : Type 0 where
+  Request : Method
+  Cancel : Method
+
+-- the word of METHOD for it
+abbrev pub method_word : Method → List ℕ
+method_word Request = codes "REQUEST"
+method_word Cancel = codes "CANCEL"
+
+-- what a message asks for, and what its one VEVENT says
+pub record Message : Type 0 where
+  pub method : Method
+  pub event : Event
+
+-- METHOD stands once among the lines of a VCALENDAR, and names this one
+pub record NamesMethod (own : List (List ℕ)) (method : Method) : Type 0 where
+  pub line : List ℕ
+  pub once : lines_named (codes "METHOD") own ≡ line ∷ []
+  pub named : is_same_name (line_value line) (method_word method) ≡ true
+
+-- something in the lines of a VEVENT isn't read yet. A CANCEL without DTSTART, as RFC 5546 3.2.5 allows it, isn't
+abbrev pub has_unread_in : Method → List (List ℕ) → Bool
+has_unread_in Request lines = list_any is_unread_in_message lines
+has_unread_in Cancel lines = list_any is_unread_in_message lines || lacks_start lines
+
+-- a VCALENDAR says this message: of its one VEVENT nothing is unread (RFC 5546 3.2.2, 3.2.5)
+pub record SaysMessage (object : Tree) (message : Message) : Type 0 where
+  pub method : NamesMethod (tree_own object) message.method
   pub lines : List (List ℕ)
   pub one : vevents object ≡ lines ∷ []
-  pub read : has_unread lines ≡ false
-  pub says : SaysEvent object true lines event
+  pub read : has_unread_in message.method lines ≡ false
+  pub says : SaysEvent object true lines message.event
 
--- the octets are one VCALENDAR, within the limits of a message, and say a REQUEST for this event
-pub record SpellsRequest (octets : List ℕ) (event : Event) : Type 0 where
+-- the octets are one VCALENDAR, within the limits of a message, and say this message
+pub record SpellsMessage (octets : List ℕ) (message : Message) : Type 0 where
   pub lines : reads_as_lines true octets ≡ true
   pub tree : Tree
   pub object : IsObject tree_name tree_own tree_inside true tree (logical_lines octets)
-  pub says : SaysRequest tree event
+  pub says : SaysMessage tree message
 
 -- ---- what can be wrong with a message
 
 -- the words of METHOD that aren't read yet
 abbrev pub is_unread_method : List ℕ → Bool
-is_unread_method word =
-    is_same_name word (codes "CANCEL") || is_same_name word (codes "ADD") || is_same_name word (codes "REPLY") || is_same_name word (codes "REFRESH")
+is_unread_method word = is_same_name word (codes "ADD") || is_same_name word (codes "REPLY") || is_same_name word (codes "REFRESH")
 
 -- the words of METHOD that are taken here (RFC 5546 1.4); that PUBLISH, COUNTER and DECLINECOUNTER aren't is this profile's choice
 abbrev pub is_method : List ℕ → Bool
-is_method word = is_same_name word (codes "REQUEST") || is_unread_method word
+is_method word = is_same_name word (codes "REQUEST") || is_same_name word (codes "CANCEL") || is_unread_method word
 
 -- the fault of this number stands in the VCALENDAR's lines
 pub data MethodFault (own : List (List ℕ)) : ℕ → Type 0 where
@@ -62,14 +85,14 @@ are_one_meeting (event ∷ events) = list_all (is_same_meeting event) events
 pub data MessageFault (object : Tree) : ℕ → Type 0 where
   in_method : {n : ℕ} → MethodFault (tree_own object) n → MessageFault object n
   in_event : {n : ℕ} → (lines : List (List ℕ)) → Contains (vevents object) lines → EventFault object true lines n → MessageFault object n
-  not_yet : list_any has_unread (vevents object) ≡ true → MessageFault object 99
+  not_yet : (method : Method) → NamesMethod (tree_own object) method → list_any (has_unread_in method) (vevents object) ≡ true → MessageFault object 99
   no_event : vevents object ≡ [] → MessageFault object 66
   two_meetings : (events : List Event) → AllZip (SaysEvent object true) (vevents object) events → are_one_meeting events ≡ false → MessageFault object 62
   -- without RECURRENCE-ID each VEVENT is the whole meeting
   two_wholes : (events : List Event) → AllZip (SaysEvent object true) (vevents object) events → are_one_meeting events ≡ true → 1 < length events → MessageFault object 53
 
 -- the octets are one VCALENDAR, within the limits of a message, and the fault of this number stands in it
-pub record RequestFault (octets : List ℕ) (n : ℕ) : Type 0 where
+pub record MessageTextFault (octets : List ℕ) (n : ℕ) : Type 0 where
   pub tree : Tree
   pub object : IsObject tree_name tree_own tree_inside true tree (logical_lines octets)
   pub fault : MessageFault tree n
@@ -90,21 +113,34 @@ canonical content = flat_map (λ line. line ++ codes "\r\n") content
 abbrev pub names_room : List ℕ → Event → Bool
 names_room room event = list_any (λ a. bytes_eq a.address room) event.attendees
 
--- the part that the event of a REQUEST is, with this content: of the whole meeting, and to take place
-pub record IsPart (event : Event) (content : List (List ℕ)) (part : Part) : Type 0 where
-  pub organiser : event.organiser ≡ Some part.organiser
-  pub uid : part.uid ≡ event.uid
-  pub slot : part.slot ≡ Whole
-  pub sequence : part.revision.sequence ≡ event.sequence
-  pub stamp : event.stamp ≡ Some part.revision.stamp
-  pub when : IsContent content event
-  pub body : part.body ≡ Set (canonical content)
+abbrev pub is_cancel : Method → Bool
+is_cancel Request = false
+is_cancel Cancel = true
 
--- the parts that a REQUEST has for a room: one where it names the room, else none, as it isn't addressed to it
-abbrev pub AreParts : List ℕ → Event → List Part → Type 0
-AreParts room event [] = names_room room event ≡ false
-AreParts room event (part ∷ []) = (names_room room event ≡ true) × ((content : List (List ℕ)) × IsPart event content part)
-AreParts room event (part ∷ other ∷ parts) = ⊥
+-- the event isn't to take place: METHOD is CANCEL, or STATUS is CANCELLED (RFC 5546 3.2.5, RFC 5545 3.8.1.11)
+abbrev pub cancels : Message → Bool
+cancels message = is_cancel message.method || message.event.cancelled
+
+-- the message is addressed to the room: its event names it as ATTENDEE. That a CANCEL without ATTENDEE is addressed to each room is this
+-- profile's choice
+abbrev pub is_addressed : List ℕ → Message → Bool
+is_addressed room message = names_room room message.event || (is_cancel message.method && (length message.event.attendees == 0))
+
+-- the part that the event of a message is, with this content: of the whole meeting
+pub record IsPart (message : Message) (content : List (List ℕ)) (part : Part) : Type 0 where
+  pub organiser : message.event.organiser ≡ Some part.organiser
+  pub uid : part.uid ≡ message.event.uid
+  pub slot : part.slot ≡ Whole
+  pub sequence : part.revision.sequence ≡ message.event.sequence
+  pub stamp : message.event.stamp ≡ Some part.revision.stamp
+  pub when : IsContent content message.event
+  pub body : part.body ≡ (if cancels message then Cancelled else Set (canonical content))
+
+-- the parts that a message has for a room: one where it is addressed to it, else none
+abbrev pub AreParts : List ℕ → Message → List Part → Type 0
+AreParts room message [] = is_addressed room message ≡ false
+AreParts room message (part ∷ []) = (is_addressed room message ≡ true) × ((content : List (List ℕ)) × IsPart message content part)
+AreParts room message (part ∷ other ∷ parts) = ⊥
 
 -- ---- replies
 

@@ -1,13 +1,13 @@
--- A stream: its preamble, its objects, and what is answered to them. So far each object is a REQUEST or is refused.
-use Rattle.std.specs.Prelude.{◌≡◌, ◌≢◌, ℕ, ◌+◌, ◌<◌, ◌≤◌, ◌⊎◌, Bool, true, false, IsTrue, List, [], ◌∷◌, ◌++◌, length, map, codes, decimal, Option, ℤ, AllPairs}
+-- A stream: its preamble, its objects, and what is answered to them. Each object is a message or is refused.
+use Rattle.std.specs.Prelude.{◌≡◌, ◌≢◌, ℕ, ◌+◌, ◌<◌, ◌≤◌, ◌⊎◌, Bool, true, false, IsTrue, List, [], ◌∷◌, ◌++◌, length, map, codes, decimal, Option, if◌then◌else◌, ℤ, AllPairs}
 use Rattle.std.specs.Option.{option_to_list}
 use Rattle.std.specs.List.{flat_map}
 use Rattle.std.specs.Str.{is_utf8}
 use Rattle.profile.specs.text.Lines.{logical_lines, text_has}
 use Rattle.profile.specs.text.Objects.{SpellsTree, most_events, count_inside, has_version, lines_have, is_begun, after_object}
 use Rattle.profile.specs.text.Trees.{Tree, tree_name, tree_own, tree_inside}
-use Rattle.profile.specs.events.Events.{Event, booked_by}
-use Rattle.profile.specs.rooms.Messages.{SpellsRequest, RequestFault, IsPart, names_room, Outcome}
+use Rattle.profile.specs.events.Events.{booked_by}
+use Rattle.profile.specs.rooms.Messages.{Message, SpellsMessage, MessageTextFault, IsPart, is_addressed, cancels, Outcome}
 use Rattle.profile.specs.rooms.Rooms.{Claim, Book, Delivery, IsStep, empty_book}
 use Rattle.profile.specs.rooms.Kept.{Replies}
 use Rattle.profile.specs.text.Values.{SpellsStamp, IsAddress, lower_case}
@@ -110,38 +110,38 @@ ObjectFault n octets =
     IsTrue (text_has true n octets)
     ⊎ (IsTrue (lines_have n (logical_lines octets))
     ⊎ (TreeFault n (logical_lines octets)
-    ⊎ RequestFault octets n))
+    ⊎ MessageTextFault octets n))
 
 -- ---- the answers
 
--- what the event of a REQUEST claims: the part that it is, and its one instance
-pub record IsClaim (event : Event) (claim : Claim) : Type 0 where
-  pub part : IsPart event claim.content claim.part
-  pub singles : claim.singles ≡ booked_by event ∷ []
+-- what the event of a message claims: the part that it is, and its one instance, if that is to take place
+pub record IsClaim (message : Message) (claim : Claim) : Type 0 where
+  pub part : IsPart message claim.content claim.part
+  pub singles : claim.singles ≡ (if cancels message then [] else booked_by message.event ∷ [])
 
--- what it claims of a room: that where it names the room, else nothing, as it isn't addressed to it
-abbrev pub AreClaims : List ℕ → Event → List Claim → Type 0
-AreClaims room event [] = names_room room event ≡ false
-AreClaims room event (claim ∷ []) = (names_room room event ≡ true) × IsClaim event claim
-AreClaims room event (claim ∷ other ∷ claims) = ⊥
+-- what it claims of a room: that where it is addressed to it, else nothing
+abbrev pub AreClaims : List ℕ → Message → List Claim → Type 0
+AreClaims room message [] = is_addressed room message ≡ false
+AreClaims room message (claim ∷ []) = (is_addressed room message ≡ true) × IsClaim message claim
+AreClaims room message (claim ∷ other ∷ claims) = ⊥
 
--- the delivery hands to a room what octets that spell a REQUEST claim of it
+-- the delivery hands to a room what octets that spell a message claim of it
 pub record IsDelivered (room : List ℕ) (delivery : Delivery) : Type 0 where
   pub octets : List ℕ
-  pub event : Event
-  pub spells : SpellsRequest octets event
-  pub are : AreClaims room event delivery.claims
+  pub message : Message
+  pub spells : SpellsMessage octets message
+  pub are : AreClaims room message delivery.claims
 
 -- what a box keeps of a room that it hosts
 pub record Hosted : Type 0 where
   pub address : List ℕ
   pub book : Book
 
--- a room takes the event, and answers these octets
-pub record Takes (moment : ℤ) (event : Event) (before after : Hosted) (octets : List ℕ) : Type 0 where
+-- a room takes the message, and answers these octets
+pub record Takes (moment : ℤ) (message : Message) (before after : Hosted) (octets : List ℕ) : Type 0 where
   pub same : after.address ≡ before.address
   pub claims : List Claim
-  pub are : AreClaims before.address event claims
+  pub are : AreClaims before.address message claims
   pub outcome : Outcome
   pub step : IsStep before.book claims moment outcome after.book
   pub reply : Option (List ℕ)
@@ -149,11 +149,11 @@ pub record Takes (moment : ℤ) (event : Event) (before after : Hosted) (octets 
   pub is : octets ≡ flat_map (λ x. x) (option_to_list reply)
 
 -- all rooms take it, one after another; their answers stand in the same order
-abbrev pub AllTake : ℤ → Event → List Hosted → List Hosted → List ℕ → Type 0
-AllTake moment event [] [] octets = octets ≡ []
-AllTake moment event (before ∷ befores) (after ∷ afters) octets =
-    (first : List ℕ) × (rest : List ℕ) × (octets ≡ first ++ rest) × Takes moment event before after first × AllTake moment event befores afters rest
-AllTake moment event _ _ octets = ⊥
+abbrev pub AllTake : ℤ → Message → List Hosted → List Hosted → List ℕ → Type 0
+AllTake moment message [] [] octets = octets ≡ []
+AllTake moment message (before ∷ befores) (after ∷ afters) octets =
+    (first : List ℕ) × (rest : List ℕ) × (octets ≡ first ++ rest) × Takes moment message before after first × AllTake moment message befores afters rest
+AllTake moment message _ _ octets = ⊥
 
 -- the line for a refused object, by its place in the stream from 1
 abbrev pub refused_line : ℕ → ℕ → List ℕ
@@ -163,7 +163,7 @@ refused_line k n = codes "REFUSED;OBJECT=" ++ decimal k ++ codes ":" ++ decimal 
 -- which changes no room; so many refusals it is
 abbrev pub Answers : ℤ → ℕ → List ℕ → List Hosted → List Hosted → List ℕ → ℕ → Type 0
 Answers moment k object before after octets refused =
-    ((event : Event) × SpellsRequest object event × AllTake moment event before after octets × (refused ≡ 0))
+    ((message : Message) × SpellsMessage object message × AllTake moment message before after octets × (refused ≡ 0))
     ⊎ ((n : ℕ) × ObjectFault n object × (after ≡ before) × (octets ≡ refused_line k n) × (refused ≡ 1))
 
 -- step by step the answers to objects from number k on, one behind another, and how many objects are refused
