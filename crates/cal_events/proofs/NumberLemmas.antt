@@ -2,7 +2,7 @@
 use Rattle.std.proofs.Common.{eqb, ◌≡◌, ◌∙◌, ap, sym, refl, inl, inr, ℕ, Bool, true, false, cond, ◌&&◌, ◌||◌, ◌<◌, List, [], ◌∷◌, length, subst, codes, arith}
 use Rattle.std.specs.Prelude.{Option, Some, None, Contains, is_some, ◌⊎◌}
 use Rattle.std.specs.List.{list_any, flat_map}
-use Rattle.std.proofs.lemmas.Bool.{true≢false, or_parts, or_right}
+use Rattle.std.proofs.lemmas.Bool.{true≢false, or_parts, or_from, or_right}
 use Rattle.std.proofs.lemmas.List.Folds.{list_any_at}
 use Rattle.std.proofs.lemmas.List.Elements.{All-contains, All-filter, All-contains_itself, filter_passes}
 use Rattle.ical_lines.specs.Fault.{RefusesOnly, RefusesBy}
@@ -19,9 +19,9 @@ use Rattle.profile.specs.events.EventRules.{EventRuleFault, bad_rule, starts_out
 use Rattle.profile.specs.events.Occurrences.{recurs_beside_recurrence, Entry, EntryFault, entries_of, entries_named, EntriesFault, in_entry, too_many, OccurrenceFault, bad_recurrence, bad_additions, bad_exceptions, recurrence_out, additions_out, two_recurrences, ranged, recurs}
 use Rattle.profile.specs.events.Meetings.{is_meeting_event_fault}
 use Rattle.cal_events.specs.declared.component.Purpose.{Purpose}
-use Rattle.cal_events.specs.declared.component.Purpose.TheVariants.{Request, Calendar, Meeting}
+use Rattle.cal_events.specs.declared.component.Purpose.TheVariants.{Request, Cancel, Calendar, Meeting}
 use Rattle.cal_events.specs.Events.{is_message, has_unread_for, is_fault_for}
-use Rattle.profile.specs.events.Events.{is_recurrence, is_of_instances, names_instances, is_end_of_event, is_unread_line, has_unread, EventFault, in_times, in_rule, in_occurrences, bad_stamp, bad_uid, bad_organiser, bad_attendee, bad_sequence, no_uid, no_stamp_given, twice, no_organiser}
+use Rattle.profile.specs.events.Events.{is_recurrence, is_of_instances, names_instances, is_end_of_event, is_unread_line, is_unread_in_message, lacks_start, has_unread, EventFault, in_times, in_rule, in_occurrences, bad_stamp, bad_uid, bad_organiser, bad_attendee, bad_sequence, no_uid, no_stamp_given, twice, no_organiser}
 
 abbrev Lines : Type 0
 Lines = List (List ℕ)
@@ -106,18 +106,22 @@ times_refused object lines (Refused r) h = times_number object lines r.number h
 
 -- ---- where nothing is left unread: no time names a zone
 
+-- of the lines of a message
+abbrev is_read : Lines → Type 0
+is_read lines = list_any is_unread_in_message lines ≡ false
+
 -- none of the lines is one that isn't read yet
-read_line : (lines : Lines) (line : List ℕ) → Contains lines line → has_unread lines ≡ false → is_unread_line line ≡ false
-read_line lines line (k, w, e) h = go (is_unread_line line) refl
+read_line : (lines : Lines) (line : List ℕ) → Contains lines line → is_read lines → is_unread_in_message line ≡ false
+read_line lines line (k, w, e) h = go (is_unread_in_message line) refl
   where
-    go : (b : Bool) → is_unread_line line ≡ b → is_unread_line line ≡ false
+    go : (b : Bool) → is_unread_in_message line ≡ b → is_unread_in_message line ≡ false
     go false is = is
-    go true is = absurd (true≢false (sym (list_any_at is_unread_line lines k line w (ap is_unread_line e ∙ is)) ∙ h))
+    go true is = absurd (true≢false (sym (list_any_at is_unread_in_message lines k line w (ap is_unread_in_message e ∙ is)) ∙ h))
 
 -- a start or an end that is read names no zone
-read_end : (lines : Lines) (line : List ℕ) → Contains lines line → is_end_of_event line ≡ true → has_unread lines ≡ false → is_in_zone line ≡ false
+read_end : (lines : Lines) (line : List ℕ) → Contains lines line → is_end_of_event line ≡ true → is_read lines → is_in_zone line ≡ false
 read_end lines line c end h =
-    let parts = or_parts (is_recurrence line || (is_of (codes "STATUS") line && is_same_name (line_value line) (codes "CANCELLED"))) (is_end_of_event line && is_in_zone line) (read_line lines line c h) in
+    let parts = or_parts (is_recurrence line) (is_end_of_event line && is_in_zone line) (read_line lines line c h) in
     sym (ap (λ b. b && is_in_zone line) end) ∙ parts.1
 
 -- a line of a name is one of the lines
@@ -127,7 +131,7 @@ stands name lines line c = (
   All-contains (λ l. is_of name l ≡ true) (lines_named name lines) line (filter_passes (is_of name) lines) c,
 )
 
-read_start : (lines : Lines) (line : List ℕ) → Contains (lines_named (codes "DTSTART") lines) line → has_unread lines ≡ false → is_in_zone line ≡ false
+read_start : (lines : Lines) (line : List ℕ) → Contains (lines_named (codes "DTSTART") lines) line → is_read lines → is_in_zone line ≡ false
 read_start lines line c h =
     let s = stands (codes "DTSTART") lines line c in
     read_end lines line s.0 (ap (λ b. b || is_of (codes "DTEND") line) s.1) h
@@ -139,7 +143,7 @@ utc_number object (Some name) kind text n none f = absurd (true≢false none)
 utc_line : (object : Tree) (line : List ℕ) (n : ℕ) → is_in_zone line ≡ false → ZonedTimeFault object line n → is_event_fault n ≡ true
 utc_line object line n none f = utc_number object (line_param (codes "TZID") line) (time_kind line) (line_value line) n none f
 
-read_times : (object : Tree) (lines : Lines) (n : ℕ) → has_unread lines ≡ false → EventTimesFault object lines n → is_event_fault n ≡ true
+read_times : (object : Tree) (lines : Lines) (n : ℕ) → is_read lines → EventTimesFault object lines n → is_event_fault n ≡ true
 read_times object lines n h (bad_start l) = utc_line object l.0 n (read_start lines l.0 l.1 h) l.2
 read_times object lines n h (bad_end l) =
     let s = stands (codes "DTEND") lines l.0 l.1 in
@@ -155,13 +159,13 @@ read_times object lines n h (times_twice name c x) = refl
 read_times object lines n h (end_and_duration e d) = refl
 
 -- a rule that is read stands on no line
-read_rule : (lines : Lines) (line : List ℕ) → Contains (lines_named (codes "RRULE") lines) line → has_unread lines ≡ false → ⊥
+read_rule : (lines : Lines) (line : List ℕ) → Contains (lines_named (codes "RRULE") lines) line → is_read lines → ⊥
 read_rule lines line c h =
     let s = stands (codes "RRULE") lines line c in
-    let part = or_parts (is_recurrence line) (is_of (codes "STATUS") line && is_same_name (line_value line) (codes "CANCELLED")) (or_parts _ (is_end_of_event line && is_in_zone line) (read_line lines line s.0 h)).0 in
+    let part = or_parts (is_recurrence line) (is_end_of_event line && is_in_zone line) (read_line lines line s.0 h) in
     true≢false (sym s.1 ∙ (or_parts (is_of (codes "RRULE") line) (is_of_instances line) part.0).0)
 
-read_event_rule : (object : Tree) (lines : Lines) (n : ℕ) → has_unread lines ≡ false → EventRuleFault object lines n → is_event_fault n ≡ true
+read_event_rule : (object : Tree) (lines : Lines) (n : ℕ) → is_read lines → EventRuleFault object lines n → is_event_fault n ≡ true
 read_event_rule object lines n h (bad_rule l) = absurd (read_rule lines l.0 l.1 h)
 read_event_rule object lines n h (starts_outside (start, c, l)) = absurd (read_rule lines l.0 l.1 h)
 read_event_rule object lines n h (two_rules x) = refl
@@ -230,14 +234,13 @@ pub no_occurrences : (object : Tree) (lines : Lines) (n : ℕ) → names_instanc
 no_occurrences object lines n h f = unnamed_fault object lines n (unnamed lines h) f
 
 -- neither has one in which nothing is left unread
-read_instances : (lines : Lines) → has_unread lines ≡ false → names_instances lines ≡ false
+read_instances : (lines : Lines) → is_read lines → names_instances lines ≡ false
 read_instances lines h =
-    none_so is_of_instances is_unread_line (λ line k.
+    none_so is_of_instances is_unread_in_message (λ line k.
     (or_parts (is_of (codes "RRULE") line) (is_of_instances line)
-    (or_parts (is_recurrence line) (is_of (codes "STATUS") line && is_same_name (line_value line) (codes "CANCELLED"))
-    (or_parts _ (is_end_of_event line && is_in_zone line) k).0).0).1) lines h
+    (or_parts (is_recurrence line) (is_end_of_event line && is_in_zone line) k).0).1) lines h
 
-read_event : (object : Tree) (m : Bool) (lines : Lines) (n : ℕ) → has_unread lines ≡ false → EventFault object m lines n → is_event_fault n ≡ true
+read_event : (object : Tree) (m : Bool) (lines : Lines) (n : ℕ) → is_read lines → EventFault object m lines n → is_event_fault n ≡ true
 read_event object m lines n h (in_times f) = read_times object lines n h f
 read_event object m lines n h (in_rule f) = read_event_rule object lines n h f
 read_event object m lines n h (in_occurrences f) = absurd (no_occurrences object lines n (read_instances lines h) f)
@@ -250,6 +253,14 @@ read_event object m lines n h (no_uid x) = refl
 read_event object m lines n h (no_stamp_given t x) = refl
 read_event object m lines n h (twice name c x) = refl
 read_event object m lines n h (no_organiser t x) = refl
+
+-- what a calendar has read, a message has
+calendar_read : (lines : Lines) → has_unread lines ≡ false → is_read lines
+calendar_read lines h =
+    none_so is_unread_in_message is_unread_line (λ line k.
+    let ends = or_parts (is_recurrence line || (is_of (codes "STATUS") line && is_same_name (line_value line) (codes "CANCELLED"))) (is_end_of_event line && is_in_zone line) k in
+    let first = or_parts (is_recurrence line) (is_of (codes "STATUS") line && is_same_name (line_value line) (codes "CANCELLED")) ends.0 in
+    or_from (is_recurrence line) (is_end_of_event line && is_in_zone line) first.0 ends.1) lines h
 
 -- ---- a series
 
@@ -311,7 +322,8 @@ component_number object m lines n (no_organiser t x) = refl
 
 pub number_for : (object : Tree) (purpose : Purpose) (lines : Lines) (n : ℕ) → has_unread_for purpose lines ≡ false → EventFault object (is_message purpose) lines n → is_fault_for purpose n ≡ true
 number_for object Request lines n h f = ap (λ b. b || is_unread n) (read_event object true lines n h f)
-number_for object Calendar lines n h f = ap (λ b. b || is_unread n) (read_event object false lines n h f)
+number_for object Cancel lines n h f = ap (λ b. b || is_unread n) (read_event object true lines n (or_parts (lacks_start lines) (list_any is_unread_in_message lines) h).1 f)
+number_for object Calendar lines n h f = ap (λ b. b || is_unread n) (read_event object false lines n (calendar_read lines h) f)
 number_for object Meeting lines n h f = component_number object false lines n f
 
 pub refused_for : (object : Tree) (purpose : Purpose) (lines : Lines) → has_unread_for purpose lines ≡ false → (f : Fault) → RefusesBy (EventFault object (is_message purpose) lines) f
@@ -321,5 +333,6 @@ refused_for object purpose lines h (Refused r) s = number_for object purpose lin
 
 pub unread_for : (purpose : Purpose) (n : ℕ) → n ≡ 99 → is_fault_for purpose n ≡ true
 unread_for Request n e = ap (is_fault_for Request) e
+unread_for Cancel n e = ap (is_fault_for Cancel) e
 unread_for Calendar n e = ap (is_fault_for Calendar) e
 unread_for Meeting n e = ap (is_fault_for Meeting) e

@@ -66,13 +66,11 @@ is_among cs i c w e h =
     (Contains-append_right (events_in (take i cs)) (component_lines c ∷ events_in (drop (i + 1) cs)) (component_lines c) (zero, omega arith, refl))
 
 -- what is left decides whether something isn't read yet
-pub unread_first : (lines : Lines) (rest : List Lines) (all : List Lines) → list_any has_unread all ≡ list_any has_unread (lines ∷ rest) → has_unread lines ≡ true
-    → list_any has_unread all ≡ true
-unread_first lines rest all e h = e ∙ ap (λ b. b || list_any has_unread rest) h
+pub unread_first : (U : Lines → Bool) (lines : Lines) (rest : List Lines) (all : List Lines) → list_any U all ≡ list_any U (lines ∷ rest) → U lines ≡ true → list_any U all ≡ true
+unread_first U lines rest all e h = e ∙ ap (λ b. b || list_any U rest) h
 
-pub unread_next : (lines : Lines) (rest : List Lines) (all : List Lines) → list_any has_unread all ≡ list_any has_unread (lines ∷ rest) → has_unread lines ≡ false
-    → list_any has_unread all ≡ list_any has_unread rest
-unread_next lines rest all e h = e ∙ ap (λ b. b || list_any has_unread rest) h
+pub unread_next : (U : Lines → Bool) (lines : Lines) (rest : List Lines) (all : List Lines) → list_any U all ≡ list_any U (lines ∷ rest) → U lines ≡ false → list_any U all ≡ list_any U rest
+unread_next U lines rest all e h = e ∙ ap (λ b. b || list_any U rest) h
 
 -- one VEVENT more that is read
 pub read_event : (U : Lines → Bool) (cs : List Component) (i : ℕ) (c : Component) → i < length cs → c ≡ get_or cs i c → is_vevent c ≡ true
@@ -88,8 +86,8 @@ unread_stands object vs Memory e s = tt
 unread_stands object vs (Refused r) e s = subst (CalendarFault object) (sym s.0) (not_yet (ap (list_any has_unread) e ∙ s.1))
 
 -- one of the VEVENTs that isn't read
-pub unread_among : (vs : List Lines) (lines : Lines) → Contains vs lines → has_unread lines ≡ true → list_any has_unread vs ≡ true
-unread_among vs lines (k, w, e) h = list_any_at has_unread vs k lines w (ap has_unread e ∙ h)
+pub unread_among : (U : Lines → Bool) (vs : List Lines) (lines : Lines) → Contains vs lines → U lines ≡ true → list_any U vs ≡ true
+unread_among U vs lines (k, w, e) h = list_any_at U vs k lines w (ap U e ∙ h)
 
 -- ---- events, and entries
 
@@ -162,5 +160,5 @@ twins_stand (Err (Refused x)) room object vs es same (events, zip, are) (n, (i, 
 pub event_stands : (object : Tree) (vs : List Lines) (lines : Lines) (f : Fault) → vevents object ≡ vs → Contains vs lines → RefusesBy (IsUnreadOrFault object Calendar lines) f
     → RefusesBy (CalendarFault object) f
 event_stands object vs lines Memory e h s = tt
-event_stands object vs lines (Refused r) e h (inl u) = subst (CalendarFault object) (sym u.0) (not_yet (ap (list_any has_unread) e ∙ unread_among vs lines h u.1))
+event_stands object vs lines (Refused r) e h (inl u) = subst (CalendarFault object) (sym u.0) (not_yet (ap (list_any has_unread) e ∙ unread_among has_unread vs lines h u.1))
 event_stands object vs lines (Refused r) e h (inr s) = in_event lines (subst (λ (xs : List Lines). Contains xs lines) (sym e) h) s

@@ -30,26 +30,36 @@ use Rattle.cal_events.specs.declared.component.EventComponent.{EventComponent}
 use Rattle.cal_events.specs.declared.component.ParticipationStatus.{ParticipationStatus}
 use Rattle.cal_events.specs.declared.component.ParticipationStatus.TheVariants.{NeedsAction, Tentative, Accepted, Delegated, Declined}
 use Rattle.cal_events.specs.declared.component.Purpose.{Purpose}
-use Rattle.cal_events.specs.declared.component.Purpose.TheVariants.{Request, Calendar, Meeting}
+use Rattle.cal_events.specs.declared.component.Purpose.TheVariants.{Request, Cancel, Calendar, Meeting}
 
 -- a message needs ORGANIZER and DTSTAMP, a calendar doesn't
 abbrev pub is_message : Purpose → Bool
 is_message Request = true
+is_message Cancel = true
 is_message Calendar = false
 is_message Meeting = false
 
 -- what isn't read yet for a purpose
 abbrev pub is_unread_for : Purpose → List ℕ → Bool
-is_unread_for Request = profile.is_unread_line
+is_unread_for Request = profile.is_unread_in_message
+is_unread_for Cancel = profile.is_unread_in_message
 is_unread_for Calendar = profile.is_unread_line
 is_unread_for Meeting = λ _. false
 
+-- DTSTART is missing, where that isn't read yet
+abbrev pub lacks_start_for : Purpose → List (List ℕ) → Bool
+lacks_start_for Request lines = false
+lacks_start_for Cancel lines = profile.lacks_start lines
+lacks_start_for Calendar lines = false
+lacks_start_for Meeting lines = false
+
 abbrev pub has_unread_for : Purpose → List (List ℕ) → Bool
-has_unread_for purpose lines = list_any (is_unread_for purpose) lines
+has_unread_for purpose lines = lacks_start_for purpose lines || list_any (is_unread_for purpose) lines
 
 -- the numbers of its refusals
 abbrev pub is_fault_for : Purpose → ℕ → Bool
 is_fault_for Request n = is_event_fault n || is_unread n
+is_fault_for Cancel n = is_event_fault n || is_unread n
 is_fault_for Calendar n = is_event_fault n || is_unread n
 is_fault_for Meeting n = is_meeting_event_fault n
 

@@ -1,5 +1,5 @@
 //! One VEVENT, read: its values, judged one property after another in a fixed order, and then
-//! together (RFC 5545 3.6.1). Events that recur are read for a series alone.
+//! together (RFC 5545 3.6.1).
 ghost use Rattle.std.specs.Prelude.{ℕ, List, [], unwrap_or, ◌≡◌, ◌⊎◌, ◌↔◌, Bool, Some, map, codes, pos, ◌+ℤ◌, option_map, true, false, IfOk, IfErr, OnOk, IsTrue};
 ghost use Rattle.std.specs.List.{AllZip};
 ghost use Rattle.ical_lines.specs.Fault.{RefusesOnly, RefusesBy};
@@ -35,10 +35,12 @@ use std::alloc::Global;
 /// What a VEVENT is read for: this says which properties have to stand, and which aren't read yet.
 #[derive(Clone, Copy, PartialEq, Eq)]
 pub enum Purpose {
-    /// A message: UID, DTSTAMP, DTSTART and ORGANIZER have to stand. RRULE, RDATE, EXDATE, RECURRENCE-ID,
-    /// STATUS:CANCELLED, and TZID on DTSTART or DTEND aren't read yet.
+    /// A message for an event that is to take place: UID, DTSTAMP, DTSTART and ORGANIZER have to stand. RRULE, RDATE,
+    /// EXDATE, RECURRENCE-ID, and TZID on DTSTART or DTEND aren't read yet.
     Request,
-    /// A kept calendar: UID and DTSTART have to stand. The same isn't read yet.
+    /// A message that cancels an event: the same isn't read yet, nor one without DTSTART.
+    Cancel,
+    /// A kept calendar: UID and DTSTART have to stand. The same isn't read yet as in a request, nor is STATUS:CANCELLED.
     Calendar,
     /// An event with its instances: UID and DTSTART have to stand.
     Meeting,
@@ -240,7 +242,9 @@ fn read_organiser(
 {
     match (optional(properties, "ORGANIZER")?, purpose) {
         (Some(line), _) => Ok(Some(Address::read(alloc, line.value())?)),
-        (None, Purpose::Request) => Err(Fault::Refused(Refusal::NO_ORGANIZER)),
+        (None, Purpose::Request | Purpose::Cancel) => {
+            Err(Fault::Refused(Refusal::NO_ORGANIZER))
+        }
         (None, Purpose::Calendar | Purpose::Meeting) => Ok(None),
     }
 }
@@ -252,7 +256,7 @@ fn read_stamp(properties: &Properties<'_>, purpose: Purpose) -> Result<Option<St
 {
     match (optional(properties, "DTSTAMP")?, purpose) {
         (Some(line), _) => Ok(Some(Stamp::read(line.value())?)),
-        (None, Purpose::Request) => Err(Refusal::BAD_PROPERTY),
+        (None, Purpose::Request | Purpose::Cancel) => Err(Refusal::BAD_PROPERTY),
         (None, Purpose::Calendar | Purpose::Meeting) => Ok(None),
     }
 }

@@ -1,9 +1,10 @@
 //! The properties of one VEVENT by their names (RFC 5545 3.6.1, 3.8), and what isn't read yet.
 ghost use Rattle.std.specs.Prelude.{◌≡◌, ◌⊎◌, Some, true, false, option_map, IfOk, IfErr, OnOk, OnErr};
 ghost use Rattle.ical_lines.specs.Text.{line_text};
-ghost use Rattle.profile.specs.events.Events.{is_unread_line, is_of_instances, is_end_of_event};
+ghost use Rattle.std.specs.List.{list_any};
+ghost use Rattle.profile.specs.events.Events.{is_unread_line, is_unread_in_message, is_recurrence, is_of_instances, is_end_of_event};
 ghost use Rattle.profile.specs.events.Properties.{IsMissing, StandsAtMostOnce, StandsTwice};
-ghost use Rattle.cal_events.specs.Events.{is_unread_for, has_unread_for};
+ghost use Rattle.cal_events.specs.Events.{is_unread_for, lacks_start_for, has_unread_for};
 
 use crate::component::Purpose;
 use ical_lines::{Line, Refusal};
@@ -32,22 +33,32 @@ pub(crate) fn required<'a>(properties: &Properties<'a>, name: &str) -> Result<Li
     properties.required(name, Refusal::BAD_PROPERTY)
 }
 
-/// Refuses a VEVENT with a line that isn't read yet for a purpose.
+/// Refuses a VEVENT that isn't read yet for a purpose, for one of its lines or for want of DTSTART.
 /// Refused: 99.
 pub(crate) fn refuse_unread(event: &Properties<'_>, purpose: Purpose) -> Result<(), Refusal>
     ensures read { OnOk result (has_unread_for purpose event.now ≡ false) }
     ensures refuses { IfErr result (λ e. e.number ≡ 99) }
     ensures unread { OnErr result (has_unread_for purpose event.now ≡ true) }
 {
-    if has_unread_line(event, purpose) {
+    if lacks_start_for(event, purpose) || has_unread_line(event, purpose) {
         return Err(Refusal::NOT_YET);
     }
     Ok(())
 }
 
+/// Whether DTSTART is missing where that isn't read yet: in a message that cancels.
+fn lacks_start_for(event: &Properties<'_>, purpose: Purpose) -> bool
+    ensures { result ≡ lacks_start_for purpose event.now }
+{
+    match purpose {
+        Purpose::Cancel => !event.lines().iter().any(|line| line.is_named("DTSTART")),
+        Purpose::Request | Purpose::Calendar | Purpose::Meeting => false,
+    }
+}
+
 /// Whether a VEVENT has a line that isn't read yet for a purpose.
 fn has_unread_line(event: &Properties<'_>, purpose: Purpose) -> bool
-    ensures { result ≡ has_unread_for purpose event.now }
+    ensures { result ≡ list_any (is_unread_for purpose) event.now }
 {
     for line in event.lines() {
         if is_unread(*line, purpose) {
@@ -61,20 +72,33 @@ fn is_unread(line: Line<'_>, purpose: Purpose) -> bool
     ensures { result ≡ is_unread_for purpose (line_text line.entry) }
 {
     match purpose {
-        Purpose::Request | Purpose::Calendar => is_unread_line(line),
+        Purpose::Request | Purpose::Cancel => is_unread_in_message(line),
+        Purpose::Calendar => is_unread_line(line),
         Purpose::Meeting => false,
     }
 }
 
-/// Whether a line of a message or a calendar isn't read yet: one of a recurrence, a cancelled status, or a start or an end
-/// in a zone.
+/// Whether a line of a calendar isn't read yet: one of a recurrence, a cancelled status, or a start or an end in a zone.
 fn is_unread_line(line: Line<'_>) -> bool
     ensures { result ≡ is_unread_line (line_text line.entry) }
 {
-    line.is_named("RRULE")
-        || is_instance_line(line)
+    is_recurrence(line)
         || (line.is_named("STATUS") && line.value().eq_ignore_ascii_case("CANCELLED"))
         || (is_end_line(line) && line.param("TZID").is_some())
+}
+
+/// Whether a line of a message isn't read yet: one of a recurrence, or a start or an end in a zone.
+fn is_unread_in_message(line: Line<'_>) -> bool
+    ensures { result ≡ is_unread_in_message (line_text line.entry) }
+{
+    is_recurrence(line) || (is_end_line(line) && line.param("TZID").is_some())
+}
+
+/// Whether a line says how an event recurs, or names single instances of it.
+fn is_recurrence(line: Line<'_>) -> bool
+    ensures { result ≡ is_recurrence (line_text line.entry) }
+{
+    line.is_named("RRULE") || is_instance_line(line)
 }
 
 /// Whether a line names single instances of an event that recurs.

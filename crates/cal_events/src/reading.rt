@@ -48,7 +48,7 @@ impl Calendar {
             Ok(entries) => entries,
             Err(fault) => {
                 // what isn't read yet goes before any other fault
-                refuse_unread_events(alloc, object)?;
+                refuse_unread_events(alloc, object, Purpose::Calendar)?;
                 return Err(fault);
             }
         };
@@ -77,17 +77,21 @@ pub fn one_calendar_text()
     one_calendar();
 }
 
-/// Refuses an object with a VEVENT that has something that roombox doesn't read yet.
+/// Refuses an object with a VEVENT that has something that roombox doesn't read yet for a purpose.
 /// Refused: 99.
-pub fn refuse_unread_events(alloc: Global, object: &Component) -> Result<(), Fault>
-    ensures read { OnOk result (list_any has_unread (vevents_of object.now) ≡ false) }
+pub fn refuse_unread_events(
+    alloc: Global,
+    object: &Component,
+    purpose: Purpose,
+) -> Result<(), Fault>
+    ensures read { OnOk result (list_any (has_unread_for purpose) (vevents_of object.now) ≡ false) }
     ensures refuses { IfErr result (RefusesOnly is_unread) }
-    ensures stands { IfErr result (RefusesBy (λ n. (n ≡ 99) × (list_any has_unread (vevents_of object.now) ≡ true))) }
+    ensures stands { IfErr result (RefusesBy (λ n. (n ≡ 99) × (list_any (has_unread_for purpose) (vevents_of object.now) ≡ true))) }
 {
     for component in object.children() {
         if component.is_named("VEVENT") {
             let properties = Properties::of(alloc, component)?;
-            refuse_unread(&properties, Purpose::Calendar)?;
+            refuse_unread(&properties, purpose)?;
         }
     }
     Ok(())

@@ -6,7 +6,7 @@ pub mod WordText
 pub mod ReplyLines
 pub mod ReplyReads
 pub mod AnswerReads
-pub mod OneRequest
+pub mod OneMessage
 pub mod LineLemmas
 pub mod MessageLemmas
 pub mod TreeLemmas

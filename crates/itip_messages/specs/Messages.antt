@@ -1,13 +1,12 @@
 -- What a message that was read stands for, and the parts of it.
-use Rattle.std.specs.Prelude.{◌≡◌, ℕ, ◌<◌, ◌⊎◌, Bool, true, false, List, [], ◌∷◌, length, map, codes, Some, if◌then◌else◌}
+use Rattle.std.specs.Prelude.{◌≡◌, ℕ, ◌<◌, ◌⊎◌, ◌||◌, ◌&&◌, ◌==◌, Bool, true, false, List, [], ◌∷◌, length, map, filter, codes, Some, if◌then◌else◌}
 use Rattle.ical_lines.specs.Fault.{RefusesBy}
 use Rattle.std.specs.List.{list_any}
 use Rattle.std.specs.Str.{bytes_eq}
-use Rattle.profile.specs.text.Lines.{line_value, is_same_name}
 use Rattle.profile.specs.text.Trees.{Tree}
 use Rattle.profile.specs.events.Events.{Event, booked_by}
-use Rattle.profile.specs.events.Properties.{lines_named}
-use Rattle.profile.specs.rooms.Messages.{IsContent, canonical, SaysRequest, SpellsRequest, RequestFault, is_method, is_unread_method, are_one_meeting}
+use Rattle.profile.specs.rooms.Messages as profile
+use Rattle.profile.specs.rooms.Messages.{IsContent, canonical, cancels, is_cancel, SaysMessage, SpellsMessage, MessageTextFault, is_method, is_unread_method, are_one_meeting}
 use Rattle.profile.specs.rooms.Revisions as revisions
 use Rattle.ical_values.specs.Octets.{text_octets, address_octets}
 use Rattle.ical_lines.specs.declared.fault.Fault.{Fault}
@@ -15,7 +14,27 @@ use Rattle.ical_tree.specs.Reading.{Stands}
 use Rattle.itip_order.specs.declared.part.Slot.TheVariants.{Whole}
 use Rattle.itip_order.specs.Parts.{slot_of, revision_of}
 use Rattle.itip_messages.specs.declared.message.MessageComponent.{MessageComponent}
+use Rattle.cal_events.specs.declared.component.EventComponent.{EventComponent}
+use Rattle.cal_events.specs.declared.component.Purpose as purposes
+use Rattle.cal_events.specs.declared.component.Purpose.TheVariants as purposes
+use Rattle.cal_events.specs.Events.{event_of}
+use Rattle.itip_messages.specs.declared.message.Method.{Method}
+use Rattle.itip_messages.specs.declared.message.Method.TheVariants.{Request, Cancel}
 use Rattle.itip_messages.specs.declared.message.Message.{Message}
+
+-- what a method stands for
+abbrev pub method_said : Method → profile.Method
+method_said Request = profile.Request
+method_said Cancel = profile.Cancel
+
+-- what its VEVENTs are read for
+abbrev pub purpose_of : Method → purposes.Purpose
+purpose_of Request = purposes.Request
+purpose_of Cancel = purposes.Cancel
+
+-- the message of that method that a VEVENT says
+abbrev pub said_by : Method → EventComponent → profile.Message
+said_by method event = record { method = method_said method; event = event_of event }
 
 -- the octets are the event's content, in its one form
 pub record IsCanonical (octets : List ℕ) (event : Event) : Type 0 where
@@ -23,40 +42,37 @@ pub record IsCanonical (octets : List ℕ) (event : Event) : Type 0 where
   pub when : IsContent content event
   pub is : octets ≡ canonical content
 
--- the component is the whole of this event
-pub record SaysComponent (component : MessageComponent) (event : Event) : Type 0 where
+-- the component is the whole of the event of this message
+pub record SaysComponent (component : MessageComponent) (said : profile.Message) : Type 0 where
   pub slot : component.slot ≡ Whole
-  pub sequence : component.revision.sequence ≡ event.sequence
-  pub stamp : event.stamp ≡ Some component.revision.stamp
-  pub start : component.start ≡ event.times.start
-  pub end : component.end ≡ (booked_by event).end
-  pub canonical : IsCanonical component.canonical.items event
-  pub attendees : component.attendees ≡ event.attendees
+  pub sequence : component.revision.sequence ≡ said.event.sequence
+  pub stamp : said.event.stamp ≡ Some component.revision.stamp
+  pub start : component.start ≡ said.event.times.start
+  pub end : component.end ≡ (booked_by said.event).end
+  pub cancelled : component.cancelled ≡ cancels said
+  pub canonical : IsCanonical component.canonical.items said.event
+  pub attendees : component.attendees ≡ said.event.attendees
 
--- the message is the REQUEST of this event
-pub record StandsFor (message : Message) (event : Event) : Type 0 where
+-- it is that message
+pub record StandsFor (message : Message) (said : profile.Message) : Type 0 where
   pub component : MessageComponent
-  pub organiser : event.organiser ≡ Some (address_octets message.organiser)
-  pub uid : text_octets message.uid ≡ event.uid
+  pub method : method_said message.method ≡ said.method
+  pub organiser : said.event.organiser ≡ Some (address_octets message.organiser)
+  pub uid : text_octets message.uid ≡ said.event.uid
   pub one : message.components.items ≡ component ∷ []
-  pub says : SaysComponent component event
+  pub says : SaysComponent component said
 
--- the object says a REQUEST, and the message is that
+-- the object says a message, and it is that
 abbrev pub IsMessageOf : Tree → Message → Type 0
-IsMessageOf object message = (event : Event) × SaysRequest object event × StandsFor message event
+IsMessageOf object message = (said : profile.Message) × SaysMessage object said × StandsFor message said
 
--- the octets spell a REQUEST, and the message is that
+-- the octets spell a message, and it is that
 abbrev pub IsSpelled : List ℕ → Message → Type 0
-IsSpelled octets message = (event : Event) × SpellsRequest octets event × StandsFor message event
+IsSpelled octets message = (said : profile.Message) × SpellsMessage octets said × StandsFor message said
 
 -- out of memory, or a fault of the object or of what it says stands in the octets
 abbrev pub ReadFault : List ℕ → Fault → Type 0
-ReadFault octets fault = Stands true octets fault ⊎ RefusesBy (RequestFault octets) fault
-
--- METHOD stands once, and is REQUEST
-abbrev pub NamesRequest : List (List ℕ) → Type 0
-NamesRequest own =
-    (line : List ℕ) × (lines_named (codes "METHOD") own ≡ line ∷ []) × (is_same_name (line_value line) (codes "REQUEST") ≡ true)
+ReadFault octets fault = Stands true octets fault ⊎ RefusesBy (MessageTextFault octets) fault
 
 -- what is wrong with the word of a METHOD
 abbrev pub WordFault : List ℕ → ℕ → Type 0
@@ -71,6 +87,22 @@ MeetingFault events n =
 abbrev pub component_names : List ℕ → MessageComponent → Bool
 component_names room component = list_any (λ a. bytes_eq a.address room) component.attendees
 
+-- the message cancels, and the component has no ATTENDEE line
+abbrev pub cancels_for_all : Message → MessageComponent → Bool
+cancels_for_all message component = is_cancel (method_said message.method) && (length component.attendees == 0)
+
+-- the component addresses the message to a room
+abbrev pub is_for : List ℕ → Message → MessageComponent → Bool
+is_for room message component = component_names room component || cancels_for_all message component
+
+-- where it is addressed to the room, the component is a part for it: each of a REQUEST, of a CANCEL one that addresses it
+abbrev pub is_part_of : Method → Bool → Bool
+is_part_of Request addresses = true
+is_part_of Cancel addresses = addresses
+
+abbrev pub has_part : List ℕ → Message → MessageComponent → Bool
+has_part room message component = is_part_of message.method (component_names room component || (length component.attendees == 0))
+
 -- the part that a component is for a room
 abbrev pub part_for : List ℕ → Message → MessageComponent → revisions.Part
 part_for room message component = record {
@@ -78,10 +110,10 @@ part_for room message component = record {
   uid = text_octets message.uid;
   slot = slot_of component.slot;
   revision = revision_of component.revision;
-  body = if component_names room component then revisions.Set component.canonical.items else revisions.Absent;
+  body = if component.cancelled then revisions.Cancelled else (if component_names room component then revisions.Set component.canonical.items else revisions.Absent);
 }
 
--- the parts that its components are, where one of them names the room
+-- the parts that its components are, where one of them addresses the room
 abbrev pub parts_for : List ℕ → Message → List revisions.Part
 parts_for room message =
-    if list_any (component_names room) message.components.items then map (part_for room message) message.components.items else []
+    if list_any (is_for room message) message.components.items then map (part_for room message) (filter (has_part room message) message.components.items) else []

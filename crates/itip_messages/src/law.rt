@@ -1,8 +1,7 @@
-//! What octets say as a REQUEST, and what a reply that was written reads back as.
+//! What octets say as a message, and what a reply that was written reads back as.
 ghost use Rattle.std.specs.Prelude.{◌≡◌, ◌<◌, ◌^◌, ℕ, ℤ, List, Contains, Some, codes};
 ghost use Rattle.std.specs.List.{flat_map};
-ghost use Rattle.profile.specs.events.Events.{Event};
-ghost use Rattle.profile.specs.rooms.Messages.{IsReplyEvent, Outcome, SpellsRequest, object_lines};
+ghost use Rattle.profile.specs.rooms.Messages.{IsReplyEvent, Message, Outcome, SpellsMessage, object_lines};
 ghost use Rattle.profile.specs.rooms.Revisions.{Part};
 ghost use Rattle.profile.specs.text.Values.{IsUid};
 ghost use Rattle.profile.specs.text.Lines.{written};
@@ -12,12 +11,12 @@ ghost use Rattle.itip_messages.specs.ReadBack.{IsTextAddress, IsReadAddress, IsA
 use cal_events::one_event;
 use ical_tree::one_tree;
 
-/// Octets spell a REQUEST for at most one event, and none where a fault stands in them. With the contract of
-/// `Message::read`: what is taken is the one REQUEST that the octets spell, and what is refused spells none
-/// (RFC 5545 3.4, RFC 5546 3.2.2).
-pub fn one_request()
-    ensures one { (octets : List ℕ) (a b : Event) → SpellsRequest octets a → SpellsRequest octets b → a ≡ b }
-    ensures or_a_fault { (octets : List ℕ) (a : Event) (n : ℕ) → SpellsRequest octets a → ObjectFault n octets → ⊥ }
+/// Octets spell at most one message, and none where a fault stands in them. With the contract of `Message::read`: what
+/// is taken is the one message that the octets spell, and what is refused spells none (RFC 5545 3.4, RFC 5546 3.2.2,
+/// 3.2.5).
+pub fn one_message()
+    ensures one { (octets : List ℕ) (a b : Message) → SpellsMessage octets a → SpellsMessage octets b → a ≡ b }
+    ensures or_a_fault { (octets : List ℕ) (a : Message) (n : ℕ) → SpellsMessage octets a → ObjectFault n octets → ⊥ }
 {
     one_tree();
     one_event();

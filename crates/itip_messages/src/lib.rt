@@ -9,7 +9,7 @@ pub mod reply;
 pub mod writer;
 
 pub use attendees::Attendees;
-pub use law::{answers_read_back, one_request, replies_read_back};
+pub use law::{answers_read_back, one_message, replies_read_back};
 pub use message::{Message, MessageComponent, Method};
 pub use reply::{Conflict, ConflictKey, Decision, ReplyEvent, write_event, write_reply};
 pub use writer::ObjectWriter;

@@ -1,6 +1,6 @@
 //! A message, read: its method, its meeting, and what each VEVENT says (RFC 5546 1.4, 3.2).
-//! Only REQUEST is read so far.
-ghost use Rattle.std.specs.Prelude.{◌≡◌, ◌++◌, [], List, true, codes, length, map, unwrap_or, IsTrue, IsSome, IfOk, IfErr, OnOk};
+//! Only REQUEST and CANCEL are read so far.
+ghost use Rattle.std.specs.Prelude.{◌≡◌, ◌++◌, ◌||◌, ◌&&◌, ◌==◌, [], List, true, codes, length, map, unwrap_or, IsTrue, IsSome, IfOk, IfErr, OnOk};
 ghost use Rattle.std.specs.List.{list_all};
 ghost use Rattle.ical_lines.specs.Fault.{RefusesOnly, RefusesBy};
 ghost use Rattle.ical_lines.specs.Text.{line_text};
@@ -9,9 +9,9 @@ ghost use Rattle.ical_values.specs.Octets.{address_octets};
 ghost use Rattle.profile.specs.faults.Faults.{is_message_fault};
 ghost use Rattle.profile.specs.text.Lines.{line_value, is_same_name};
 ghost use Rattle.profile.specs.text.Values.{duration_text};
-ghost use Rattle.profile.specs.rooms.Messages.{MethodFault, MessageFault, is_same_meeting, is_unread_method};
+ghost use Rattle.profile.specs.rooms.Messages.{NamesMethod, MethodFault, MessageFault, method_word, is_cancel, is_same_meeting, is_unread_method};
 ghost use Rattle.cal_events.specs.Events.{event_of};
-ghost use Rattle.itip_messages.specs.Messages.{IsCanonical, IsMessageOf, IsSpelled, MeetingFault, NamesRequest, ReadFault, StandsFor, WordFault, component_names};
+ghost use Rattle.itip_messages.specs.Messages.{IsCanonical, IsMessageOf, IsSpelled, MeetingFault, ReadFault, StandsFor, WordFault, component_names, method_said, purpose_of, said_by};
 
 use crate::attendees::Attendees;
 use cal_events::{EventComponent, Purpose, read_events, refuse_unread_events};
@@ -22,9 +22,62 @@ use itip_order::{Revision, Slot};
 use std::alloc::{AllocError, Global};
 
 /// What a message asks for (RFC 5546 1.4). Those that aren't read yet aren't named yet.
-#[derive(Clone, Copy)]
+#[derive(Clone, Copy, PartialEq, Eq)]
 pub enum Method {
+    /// That an event take place (RFC 5546 3.2.2).
     Request,
+    /// That it be cancelled (RFC 5546 3.2.5).
+    Cancel,
+}
+
+impl Method {
+    /// The METHOD among the properties of an object.
+    /// Refused: 60 for a word that names no method taken here, or two lines; 99 for one that isn't read yet, or none.
+    fn of(properties: &Properties<'_>) -> Result<Method, Refusal>
+        ensures named { OnOk result (λ method. NamesMethod properties.now (method_said method)) }
+        ensures refuses { IfErr result (λ e. IsTrue (is_message_fault e.number)) }
+        ensures stands { IfErr result (λ e. MethodFault properties.now e.number) }
+    {
+        match properties.optional("METHOD", Refusal::BAD_METHOD)? {
+            Some(line) => Method::named(line),
+            None => Err(Refusal::NOT_YET),
+        }
+    }
+
+    fn named(line: Line<'_>) -> Result<Method, Refusal>
+        ensures named { OnOk result (λ method. is_same_name (line_value (line_text line.entry)) (method_word (method_said method)) ≡ true) }
+        ensures refuses { IfErr result (λ e. IsTrue (is_message_fault e.number)) }
+        ensures stands { IfErr result (λ e. WordFault (line_value (line_text line.entry)) e.number) }
+    {
+        let word = line.value();
+        if word.eq_ignore_ascii_case("REQUEST") {
+            return Ok(Method::Request);
+        }
+        if word.eq_ignore_ascii_case("CANCEL") {
+            return Ok(Method::Cancel);
+        }
+        if is_unread_method(word) {
+            return Err(Refusal::NOT_YET);
+        }
+        Err(Refusal::BAD_METHOD)
+    }
+
+    /// What a VEVENT of such a message is read for.
+    fn purpose(self) -> Purpose
+        ensures { result ≡ purpose_of self }
+    {
+        match self {
+            Method::Request => Purpose::Request,
+            Method::Cancel => Purpose::Cancel,
+        }
+    }
+
+    /// Whether it is CANCEL.
+    fn is_cancel(self) -> bool
+        ensures { result ≡ is_cancel (method_said self) }
+    {
+        matches!(self, Method::Cancel)
+    }
 }
 
 /// What one VEVENT of a message says.
@@ -38,6 +91,8 @@ pub struct MessageComponent {
     pub start: Stamp,
     /// The first second after it, in seconds from 1970-01-01T00:00:00Z.
     pub end: i64,
+    /// Whether it isn't to take place: METHOD is CANCEL, or its STATUS is CANCELLED (RFC 5545 3.8.1.11).
+    pub cancelled: bool,
     /// The body's lines in their one form, unfolded, each ended by CRLF: two bodies are the same where
     /// these octets are.
     pub canonical: Vec<u8>,
@@ -51,6 +106,13 @@ impl MessageComponent {
         ensures { result ≡ component_names (address_octets address.now) self.now }
     {
         self.attendees.contains(address)
+    }
+
+    /// Whether it has no ATTENDEE line.
+    pub fn names_nobody(&self) -> bool
+        ensures { result ≡ (length self.now.attendees == 0) }
+    {
+        self.attendees.lines().is_empty()
     }
 }
 
@@ -89,7 +151,7 @@ impl Message {
             Ok(message) => Ok(message),
             Err(fault) => {
                 // what isn't read yet goes before any other fault
-                refuse_unread_events(alloc, object)?;
+                refuse_unread_events(alloc, object, Purpose::Request)?;
                 Err(fault)
             }
         }
@@ -102,8 +164,8 @@ impl Message {
         ensures stands { IfErr result (RefusesBy (MessageFault (tree_of object.now))) }
     {
         let properties = Properties::of(alloc, object)?;
-        let method = method_of(&properties)?;
-        let mut events = read_events(alloc, object, Purpose::Request)?;
+        let method = Method::of(&properties)?;
+        let mut events = read_events(alloc, object, method.purpose())?;
         judge_meeting(events.as_slice())?;
         let event = events.remove(0);
         Ok(Message::of(alloc, method, event)?)
@@ -112,10 +174,11 @@ impl Message {
     fn of(alloc: Global, method: Method, event: EventComponent) -> Result<Message, AllocError>
         requires organiser { IsSome event.organiser }
         requires stamp { IsSome event.stamp }
-        ensures { IfOk result (λ message. StandsFor message (event_of event)) }
+        ensures { IfOk result (λ message. StandsFor message (said_by method event)) }
     {
         let canonical = canonical_body(alloc, &event)?;
         let end = event.end();
+        let cancelled = method.is_cancel() || event.cancelled;
         let attendees = Attendees::of(alloc, event.attendees)?;
         let (Some(organiser), Some(stamp)) = (event.organiser, event.stamp) else {
             unreachable!()
@@ -128,6 +191,7 @@ impl Message {
             },
             start: event.times.instant,
             end,
+            cancelled,
             canonical,
             attendees,
         };
@@ -170,40 +234,11 @@ impl Message {
     }
 }
 
-/// The METHOD among the properties of an object.
-/// Refused: 60 for a word that names no method taken here, or two lines; 99 for one that isn't read yet, or none.
-fn method_of(properties: &Properties<'_>) -> Result<Method, Refusal>
-    ensures named { OnOk result (NamesRequest properties.now) }
-    ensures refuses { IfErr result (λ e. IsTrue (is_message_fault e.number)) }
-    ensures stands { IfErr result (λ e. MethodFault properties.now e.number) }
-{
-    match properties.optional("METHOD", Refusal::BAD_METHOD)? {
-        Some(line) => method_named(line),
-        None => Err(Refusal::NOT_YET),
-    }
-}
-
-fn method_named(line: Line<'_>) -> Result<Method, Refusal>
-    ensures named { OnOk result (is_same_name (line_value (line_text line.entry)) (codes "REQUEST") ≡ true) }
-    ensures refuses { IfErr result (λ e. IsTrue (is_message_fault e.number)) }
-    ensures stands { IfErr result (λ e. WordFault (line_value (line_text line.entry)) e.number) }
-{
-    let word = line.value();
-    if word.eq_ignore_ascii_case("REQUEST") {
-        return Ok(Method::Request);
-    }
-    if is_unread_method(word) {
-        return Err(Refusal::NOT_YET);
-    }
-    Err(Refusal::BAD_METHOD)
-}
-
 /// Whether a word of METHOD isn't read yet.
 fn is_unread_method(word: &str) -> bool
     ensures { result ≡ is_unread_method word.now }
 {
-    word.eq_ignore_ascii_case("CANCEL")
-        || word.eq_ignore_ascii_case("ADD")
+    word.eq_ignore_ascii_case("ADD")
         || word.eq_ignore_ascii_case("REPLY")
         || word.eq_ignore_ascii_case("REFRESH")
 }

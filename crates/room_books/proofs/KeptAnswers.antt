@@ -1,5 +1,7 @@
 -- What a room keeps of an answer reads back as a confirmed event, of the same instance.
-use Rattle.std.proofs.Common.{◌≡◌, ◌∙◌, ℕ, ◌<◌, ◌^◌, Bool, true, false, List, [], ◌∷◌, ◌++◌, codes, decimal, Option, Some, None, sym, ap, subst, arith}
+use Rattle.std.proofs.Common.{◌≡◌, ◌∙◌, ℕ, ◌<◌, ◌^◌, Bool, true, false, List, [], ◌∷◌, ◌++◌, codes, decimal, Option, Some, None, sym, ap, subst, arith, length}
+use Rattle.std.specs.Prelude.{◌==◌}
+use Rattle.std.proofs.lemmas.Bool.{true≢false}
 use Rattle.std.specs.List.{list_all, Contains}
 use Rattle.std.specs.Str.{bytes_eq}
 use Rattle.std.proofs.lemmas.Slice.Eq.{bytes_eq-Decides}
@@ -10,7 +12,10 @@ use Rattle.profile.specs.text.Values.{IsAddress, SpellsSequence, escaped, lower_
 use Rattle.profile.specs.checker.Instances.{Booked}
 use Rattle.profile.specs.events.Events.{Event, SaysEvent, SaysSequence, IsAttendee, has_unread, is_confirmed, booked_by, meeting_said}
 use Rattle.profile.specs.events.Properties.{Says, BothOrNeither, StandsAtMostOnce, IsAddressLine, IsUidLine, IsSequenceLine, is_of, lines_named}
-use Rattle.profile.specs.rooms.Messages.{SpellsRequest, IsPart, names_room}
+use Rattle.profile.specs.rooms.Messages as messages
+use Rattle.profile.specs.rooms.Messages.{SpellsMessage, IsPart, IsBody, IsContent, cancels, is_cancel, is_addressed, names_room}
+use Rattle.profile.specs.rooms.Revisions.{Body, Set, Absent, Cancelled}
+use Rattle.itip_messages.proofs.MessageLemmas.{named_if_set}
 use Rattle.profile.specs.rooms.Rooms.{Claim, Answer}
 use Rattle.profile.specs.rooms.Kept.{IsKeptEvent}
 use Rattle.itip_order.proofs.Lists.{in_head, filter_at, any_at}
@@ -29,14 +34,21 @@ use Rattle.room_books.proofs.KeptLines.{kept_content, kept_properties}
 use Rattle.room_books.proofs.Loops.{zip_from}
 use Rattle.room_books.proofs.KeptRequests.{clean_value, vevent_among}
 
--- octets ask the room for the claim: the part is that of their event, and books its one instance
+-- octets ask the room for the claim: the part is that of their event, which isn't cancelled, and books its one instance
 pub record IsAsked (room : List ℕ) (claim : Claim) : Type 0 where
   pub octets : List ℕ
-  pub event : Event
-  pub spells : SpellsRequest octets event
-  pub asks : names_room room event ≡ true
-  pub part : IsPart event claim.content claim.part
-  pub books : claim.singles ≡ booked_by event ∷ []
+  pub given : messages.Message
+  pub spells : SpellsMessage octets given
+  pub asks : is_addressed room given ≡ true
+  pub part : IsPart given claim.content claim.part
+  pub set : cancels given ≡ false
+  pub books : claim.singles ≡ booked_by given.event ∷ []
+
+-- the body says when it is
+content_is : (given : messages.Message) (content : Lines) (body : Body) → cancels given ≡ false → IsBody given content body → IsContent content given.event
+content_is given content (Set octets) set b = b.1
+content_is given content Absent set b = absurd b
+content_is given content Cancelled set b = absurd (true≢false (sym b.0 ∙ set))
 
 -- the lines are a VEVENT that says a confirmed event: the instance and the meeting of the answer
 pub record ReadsBack (room : List ℕ) (answer : Answer) (lines : Lines) : Type 0 where
@@ -81,7 +93,7 @@ record Message (event : Event) : Type 0 where
   says : SaysEvent object true lines event
   clean : (line : List ℕ) → Contains lines line → IsClean (line_value line)
 
-message : (room : List ℕ) (claim : Claim) (a : IsAsked room claim) → Message a.event
+message : (room : List ℕ) (claim : Claim) (a : IsAsked room claim) → Message a.given.event
 message room claim a =
     let s = a.spells.says in
     let here : Contains (vevents a.spells.tree) s.lines = subst (λ (l : List Lines). Contains l s.lines) (sym s.one) (in_head s.lines []) in
@@ -102,7 +114,7 @@ named : (room : List ℕ) (claim : Claim) → IsAsked room claim → Named claim
 named room claim a =
     let m = message room claim a in
     let o = given (codes "ORGANIZER") true IsAddressLine m.lines claim.part.organiser (subst (λ (x : Option (List ℕ)). Says (codes "ORGANIZER") true IsAddressLine m.lines x) a.part.organiser m.says.organiser) in
-    let u = given (codes "UID") true IsUidLine m.lines a.event.uid m.says.uid in
+    let u = given (codes "UID") true IsUidLine m.lines a.given.event.uid m.says.uid in
     let is : claim.part.organiser ≡ lower_case (line_value o.line) = o.is.1 in
     record {
       organiser = subst IsTextAddress (sym is) (text_address (line_value o.line) o.is.0 (m.clean o.line o.stands).utf8);
@@ -118,8 +130,10 @@ record IsRoom (room : List ℕ) : Type 0 where
 asked_room : (room : List ℕ) (claim : Claim) → IsAsked room claim → IsRoom room
 asked_room room claim a =
     let m = message room claim a in
-    let found = any_at (λ x. bytes_eq x.address room) a.event.attendees a.asks in
-    let line = zip_from IsAttendee (lines_named (codes "ATTENDEE") m.lines) a.event.attendees found.0 m.says.attendees found.1 in
+    let event = a.given.event in
+    let named : names_room room event ≡ true = named_if_set (names_room room event) (is_cancel a.given.method) (length event.attendees == 0) event.cancelled a.set a.asks in
+    let found = any_at (λ x. bytes_eq x.address room) event.attendees named in
+    let line = zip_from IsAttendee (lines_named (codes "ATTENDEE") m.lines) event.attendees found.0 m.says.attendees found.1 in
     let stands = (filter_at (is_of (codes "ATTENDEE")) m.lines line.0 line.1).0 in
     let value = line_value line.0 in
     let address : IsAddress value = line.2.0.0 in
@@ -135,11 +149,11 @@ asked_room room claim a =
 pub reads_back : (room : List ℕ) (answer : Answer) (lines : Lines) → IsAsked room answer.claim → IsKeptEvent room answer.claim lines → ReadsBack room answer lines
 reads_back room answer lines a k =
     let part = answer.claim.part in
-    let event = a.event in
+    let event = a.given.event in
     let m = message room answer.claim a in
     let n = named room answer.claim a in
     let r = asked_room room answer.claim a in
-    let c = a.part.when in
+    let c = content_is a.given answer.claim.content part.body a.set a.part.body in
     let most = m.says.times.most in
     let duration = duration_text event.times.length.days event.times.length.seconds in
     let shown_start = shown_stamp c.start event.times.start c.written in

@@ -12,7 +12,8 @@ use Rattle.profile.specs.text.Trees.{Tree, tree, none, more, tree_name, tree_own
 use Rattle.profile.specs.text.Objects.{IsObject}
 use Rattle.profile.specs.checker.Instances.{Booked, IsClear}
 use Rattle.profile.specs.events.Events.{Event, NeedsAction, SaysEvent, booked_by}
-use Rattle.profile.specs.rooms.Messages.{SpellsRequest, IsPart, Accept, canonical, object_lines}
+use Rattle.profile.specs.rooms.Messages as messages
+use Rattle.profile.specs.rooms.Messages.{SpellsMessage, IsPart, Request, Accept, canonical, object_lines}
 use Rattle.profile.specs.rooms.Revisions.{Part, Whole, Set}
 use Rattle.profile.specs.rooms.Rooms.{Book, Claim, Delivery, Runs, empty_book, confirmed, answered}
 use Rattle.profile.specs.streams.Streams.{IsDelivered}
@@ -124,8 +125,8 @@ says object = record {
   attendees = (((the_room, refl), refl), tt);
 }
 
-abbrev message : Tree
-message = tree (codes "VCALENDAR") head_lines (more (tree (codes "VEVENT") own_lines none) none)
+abbrev object_tree : Tree
+object_tree = tree (codes "VCALENDAR") head_lines (more (tree (codes "VEVENT") own_lines none) none)
 
 are_lines : logical_lines octets ≡ lines
 are_lines = refl
@@ -134,7 +135,7 @@ read : reads_as_lines true octets ≡ true
 unfolding is_utf8 chars encode
 read = refl
 
-object : IsObject tree_name tree_own tree_inside true message lines
+object : IsObject tree_name tree_own tree_inside true object_tree lines
 object = record {
   spelled = record {
     begin = codes "BEGIN:VCALENDAR";
@@ -150,12 +151,21 @@ object = record {
   events = refl;
 }
 
-spells : SpellsRequest octets event
+abbrev message : messages.Message
+message = record { method = Request; event = event }
+
+spells : SpellsMessage octets message
 spells = record {
   lines = read;
-  tree = message;
-  object = subst (λ (l : Lines). IsObject tree_name tree_own tree_inside true message l) (sym are_lines) object;
-  says = record { method_line = codes "METHOD:REQUEST"; method = refl; request = refl; lines = own_lines; one = refl; read = refl; says = says message };
+  tree = object_tree;
+  object = subst (λ (l : Lines). IsObject tree_name tree_own tree_inside true object_tree l) (sym are_lines) object;
+  says = record {
+    method = record { line = codes "METHOD:REQUEST"; once = refl; named = refl };
+    lines = own_lines;
+    one = refl;
+    read = refl;
+    says = says object_tree;
+  };
 }
 
 -- ---- the run: the message comes, and comes again
@@ -172,9 +182,9 @@ part = record {
   body = Set (codes "DTSTART:20250310T090000Z\r\nDURATION:PT3600S\r\n");
 }
 
-is_part : IsPart event content part
+is_part : IsPart message content part
 unfolding digits
-is_part = record { organiser = refl; uid = refl; slot = refl; sequence = refl; stamp = refl; when = record { start = codes "20250310T090000Z"; written = start; is = refl }; body = refl }
+is_part = record { organiser = refl; uid = refl; slot = refl; sequence = refl; stamp = refl; body = (refl, record { start = codes "20250310T090000Z"; written = start; is = refl }, refl) }
 
 abbrev claim : Claim
 claim = record { part = part; content = content; singles = booked_by event ∷ [] }
@@ -183,7 +193,7 @@ abbrev delivery : Delivery
 delivery = record { claims = claim ∷ []; moment = pos 1_740_830_500 }
 
 delivered : IsDelivered room delivery
-delivered = record { octets = octets; event = event; spells = spells; are = (refl, record { part = is_part; singles = refl }) }
+delivered = record { octets = octets; message = message; spells = spells; are = (refl, record { part = is_part; singles = refl }) }
 
 abbrev once_taken : Book
 once_taken = record { taken = part ∷ []; answers = answered (pos 1_740_830_500) Accept (claim ∷ []) }

@@ -1,14 +1,14 @@
 -- Over every run each answer was asked for by some octets, and no two confirmed answers are of one meeting.
-use Rattle.std.proofs.Common.{◌≡◌, ◌∙◌, ℕ, ℤ, ◌≤◌, Bool, true, ◌&&◌, List, [], ◌∷◌, length, sym, ap, ap₂, subst, arith, inl, inr}
+use Rattle.std.proofs.Common.{◌≡◌, ◌∙◌, ℕ, ℤ, ◌≤◌, Bool, true, false, cond, ◌&&◌, List, [], ◌∷◌, length, sym, ap, ap₂, subst, arith, inl, inr}
 use Rattle.std.specs.Ordering.{is_eq, ordering_then}
 use Rattle.std.specs.List.{filter, Contains}
-use Rattle.std.proofs.lemmas.Bool.{and_parts, and_from, both_ways, false_from_ne_true}
+use Rattle.std.proofs.lemmas.Bool.{and_parts, and_from, both_ways, false_from_ne_true, true≢false}
 use Rattle.std.proofs.lemmas.List.{length-map}
 use Rattle.std.proofs.lemmas.List.Elements.{Contains-append_cases, filter-append}
-use Rattle.profile.specs.events.Events.{Event}
-use Rattle.profile.specs.rooms.Messages.{Outcome, SpellsRequest}
-use Rattle.profile.specs.rooms.Revisions.{Part, Whole, slot_cmp, same_meeting, same_place, in_view}
-use Rattle.profile.specs.rooms.Rooms.{Claim, Answer, Book, empty_book, is_accept, is_confirmed, is_fresh, is_set, parts_of, asked, answered, IsStep, Delivery, Runs}
+use Rattle.profile.specs.rooms.Messages.{Message, Outcome, SpellsMessage, IsPart, IsBody, cancels, canonical}
+use Rattle.profile.specs.events.Events.{booked_by}
+use Rattle.profile.specs.rooms.Revisions.{Part, Body, Set, Absent, Cancelled, Whole, slot_cmp, same_meeting, same_place, in_view}
+use Rattle.profile.specs.rooms.Rooms.{Claim, Answer, Book, empty_book, is_accept, is_confirmed, is_fresh, is_set, is_set_body, parts_of, asked, answered, IsStep, Delivery, Runs}
 use Rattle.profile.specs.streams.Streams.{IsDelivered, AreClaims}
 use Rattle.itip_order.proofs.Lists.{in_cons, in_head, in_tail, none_in_nil, filter_at, filter_no_longer}
 use Rattle.itip_order.proofs.Order.{is_eq_true}
@@ -22,25 +22,47 @@ use Rattle.room_books.proofs.KeptMeetings.{AnswersApart}
 
 -- ---- what a delivery claims
 
--- a delivery's claims: at most one, which its octets ask for
+-- a delivery's claims: at most one, of the whole of a meeting, which its octets ask for if it is to take place
 pub record OneAsked (room : List ℕ) (claims : List Claim) : Type 0 where
   pub few : length claims ≤ 1
-  each : (c : Claim) → Contains claims c → IsAsked room c
+  whole : (c : Claim) → Contains claims c → c.part.slot ≡ Whole
+  each : (c : Claim) → Contains claims c → is_set c.part ≡ true → IsAsked room c
 
-pub one_asked : (room octets : List ℕ) (event : Event) (claims : List Claim) → SpellsRequest octets event → AreClaims room event claims → OneAsked room claims
-one_asked room octets event [] s h = record { few = omega arith; each = λ c k. absurd (none_in_nil c k) }
-one_asked room octets event (claim ∷ []) s h = record {
+-- a body that is set isn't a cancelled one
+not_cancelled : (given : Message) (content : List (List ℕ)) (body : Body) → is_set_body body ≡ true → IsBody given content body → cancels given ≡ false
+not_cancelled given content (Set octets) set b = b.0
+not_cancelled given content Absent set b = absurd b
+not_cancelled given content Cancelled set b = absurd (true≢false (sym set))
+
+pub one_asked : (room octets : List ℕ) (given : Message) (claims : List Claim) → SpellsMessage octets given → AreClaims room given claims → OneAsked room claims
+one_asked room octets given [] s h = record { few = omega arith; whole = λ c k. absurd (none_in_nil c k); each = λ c k. absurd (none_in_nil c k) }
+one_asked room octets given (claim ∷ []) s h = record {
   few = omega arith;
+  whole = λ c k.
+      elim (in_cons claim [] c k) [
+        | inl here ↦ subst (λ (x : Claim). x.part.slot ≡ Whole) here h.1.part.slot
+        | inr there ↦ absurd (none_in_nil c there)
+      ];
   each = λ c k.
       elim (in_cons claim [] c k) [
-        | inl here ↦ subst (IsAsked room) here (record { octets = octets; event = event; spells = s; asks = h.0; part = h.1.part; books = h.1.singles })
+        | inl here ↦ subst (λ (x : Claim). is_set x.part ≡ true → IsAsked room x) here (λ set.
+        let live = not_cancelled given claim.content claim.part.body set h.1.part.body in
+        record {
+          octets = octets;
+          given = given;
+          spells = s;
+          asks = h.0;
+          part = h.1.part;
+          set = live;
+          books = h.1.singles ∙ ap (λ b. cond b [] (booked_by given.event ∷ [])) live;
+        })
         | inr there ↦ absurd (none_in_nil c there)
       ];
 }
-one_asked room octets event (claim ∷ other ∷ claims) s h = absurd h
+one_asked room octets given (claim ∷ other ∷ claims) s h = absurd h
 
 pub delivered_asked : (room : List ℕ) (d : Delivery) → IsDelivered room d → OneAsked room d.claims
-delivered_asked room d h = one_asked room h.octets h.event d.claims h.spells h.are
+delivered_asked room d h = one_asked room h.octets h.message d.claims h.spells h.are
 
 -- ---- the view
 
@@ -81,7 +103,7 @@ keeps_step room before claims moment outcome after one s k =
     let w = (and_parts (is_accept y.outcome) (in_view after.taken y.claim.part) fresh.1).1 in
     let n = is_new y fresh.0 in
     let a = k.each x old.0 in
-    let b = one.each y.claim n.among in
+    let b = one.each y.claim n.among n.set in
     false_from_ne_true _ (λ e.
     let same = one_whole after.taken x.claim.part y.claim.part a.part.slot b.part.slot e v w in
     both_ways _ n.gone (subst (λ (p : Part). in_view before.taken p ≡ true) same (known x old.0 v))) in
@@ -89,12 +111,12 @@ keeps_step room before claims moment outcome after one s k =
       sound = sound;
       whole = subst AllWhole (sym s.taken) (λ p c. elim (Contains-append_cases before.taken (parts_of claims) p c) [
         | inl old ↦ k.whole p old
-        | inr fresh ↦ let found = map_at (λ (x : Claim). x.part) claims p fresh in subst (λ (x : Part). x.slot ≡ Whole) found.2 (one.each found.0 found.1).part.slot
+        | inr fresh ↦ let found = map_at (λ (x : Claim). x.part) claims p fresh in subst (λ (x : Part). x.slot ≡ Whole) found.2 (one.whole found.0 found.1)
       ]);
       each = λ a c.
           elim (Contains-append_cases before.answers new a (subst (λ (l : List Answer). Contains l a) s.answers c)) [
             | inl old ↦ k.each a old
-            | inr fresh ↦ one.each a.claim (is_new a fresh).among
+            | inr fresh ↦ let n = is_new a fresh in one.each a.claim n.among n.set
           ];
       apart = subst (Pairwise AnswersApart) (sym (ap (filter test) s.answers ∙ filter-append test before.answers new)) (pairs_append AnswersApart (filter test before.answers) (filter test new) old_apart (pairs_short AnswersApart (filter test new) few) cross);
     }

@@ -1,8 +1,7 @@
 -- Over a stream: each room's book is one that octets asked for, step by step.
 use Rattle.std.proofs.Common.{◌+◌, ℕ, ℤ, List, [], ◌∷◌, inl, inr, sym, subst}
 use Rattle.std.specs.List.{Contains}
-use Rattle.profile.specs.events.Events.{Event}
-use Rattle.profile.specs.rooms.Messages.{SpellsRequest}
+use Rattle.profile.specs.rooms.Messages.{Message, SpellsMessage}
 use Rattle.profile.specs.streams.Streams.{Hosted, Takes, AllTake, Answers, AllAnswers, new_box}
 use Rattle.itip_order.proofs.Lists.{in_cons, none_in_nil}
 use Rattle.room_books.proofs.KeptRuns.{KeepsAll, keeps_none, keeps_step, one_asked}
@@ -12,18 +11,18 @@ AllKeep : List Hosted → Type 0
 AllKeep [] = Unit {0}
 AllKeep (room ∷ rooms) = KeepsAll room.address room.book × AllKeep rooms
 
-take_keeps : (moment : ℤ) (event : Event) (object octets : List ℕ) (before after : Hosted) → SpellsRequest object event → Takes moment event before after octets → KeepsAll before.address before.book → KeepsAll after.address after.book
-take_keeps moment event object octets before after s t k =
+take_keeps : (moment : ℤ) (message : Message) (object octets : List ℕ) (before after : Hosted) → SpellsMessage object message → Takes moment message before after octets → KeepsAll before.address before.book → KeepsAll after.address after.book
+take_keeps moment message object octets before after s t k =
     subst (λ (a : List ℕ). KeepsAll a after.book) (sym t.same)
-    (keeps_step before.address before.book t.claims moment t.outcome after.book (one_asked before.address object event t.claims s t.are) t.step k)
+    (keeps_step before.address before.book t.claims moment t.outcome after.book (one_asked before.address object message t.claims s t.are) t.step k)
 
-all_take_keep : (moment : ℤ) (event : Event) (object octets : List ℕ) (befores afters : List Hosted) → SpellsRequest object event → AllTake moment event befores afters octets → AllKeep befores → AllKeep afters
+all_take_keep : (moment : ℤ) (message : Message) (object octets : List ℕ) (befores afters : List Hosted) → SpellsMessage object message → AllTake moment message befores afters octets → AllKeep befores → AllKeep afters
 unfolding AllKeep
-all_take_keep moment event object octets [] [] s t k = tt
-all_take_keep moment event object octets [] (after ∷ afters) s t k = absurd t
-all_take_keep moment event object octets (before ∷ befores) [] s t k = absurd t
-all_take_keep moment event object octets (before ∷ befores) (after ∷ afters) s t k =
-    (take_keeps moment event object t.0 before after s t.3 k.0, all_take_keep moment event object t.1 befores afters s t.4 k.1)
+all_take_keep moment message object octets [] [] s t k = tt
+all_take_keep moment message object octets [] (after ∷ afters) s t k = absurd t
+all_take_keep moment message object octets (before ∷ befores) [] s t k = absurd t
+all_take_keep moment message object octets (before ∷ befores) (after ∷ afters) s t k =
+    (take_keeps moment message object t.0 before after s t.3 k.0, all_take_keep moment message object t.1 befores afters s t.4 k.1)
 
 answers_keep : (moment : ℤ) (n : ℕ) (object octets : List ℕ) (before after : List Hosted) (refused : ℕ) → Answers moment n object before after octets refused → AllKeep before → AllKeep after
 answers_keep moment n object octets before after refused a k =

@@ -7,7 +7,7 @@ use Rattle.itip_order.specs.Parts.{part_of}
 use Rattle.itip_order.specs.declared.part.Part.{Part}
 use Rattle.itip_order.specs.declared.part.Slot.{Slot}
 use Rattle.itip_order.specs.declared.part.Slot.TheVariants.{Whole, At}
-use Rattle.profile.specs.events.Events.{Event}
+use Rattle.profile.specs.rooms.Messages as profile
 use Rattle.profile.specs.events.Properties.{length_seconds}
 use Rattle.profile.specs.rooms.Rooms.{is_set}
 use Rattle.profile.specs.streams.Streams.{AreClaims}
@@ -44,9 +44,9 @@ pub record IsClaimIn (room : List ℕ) (message : Message) (component : MessageC
   pub part_is : part_of claim.part ≡ part_for room message component
   pub singles : claim.singles.items ≡ (if is_set (part_for room message component) then single_in component ∷ [] else [])
   pub start : IsClockSeconds component.start
-  pub short : (event : Event) → SaysComponent component event → length_seconds event.times.length < 2 ^ 64
+  pub short : (said : profile.Message) → SaysComponent component said → length_seconds said.event.times.length < 2 ^ 64
 
--- these are the claims of the event, of the meeting of any of them
-pub record AreClaimed (room : List ℕ) (event : Event) (claims : List Claim) : Type 0 where
-  pub are : AreClaims room event (claims_said claims)
+-- these are the claims of the message, of the meeting of any of them
+pub record AreClaimed (room : List ℕ) (said : profile.Message) (claims : List Claim) : Type 0 where
+  pub are : AreClaims room said (claims_said claims)
   pub fit : (key : MeetingKey) (claim : Claim) → Contains claims claim → IsKeyOf (part_of claim.part).organiser (part_of claim.part).uid key → AreFitting key (claims_said claims)

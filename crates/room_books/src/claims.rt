@@ -1,11 +1,11 @@
 //! What a message asks of a room: a claim for each of its parts.
 
-ghost use Rattle.std.specs.Prelude.{◌≡◌, ◌<◌, ◌^◌, [], ◌∷◌, IfOk, if◌then◌else◌};
+ghost use Rattle.std.specs.Prelude.{◌≡◌, ◌<◌, ◌^◌, [], ◌∷◌, filter, IfOk, if◌then◌else◌};
 ghost use Rattle.std.specs.List.{AllZip, list_any};
 ghost use Rattle.ical_values.specs.Octets.{address_octets};
-ghost use Rattle.itip_messages.specs.Messages.{StandsFor, SaysComponent, component_names};
+ghost use Rattle.itip_messages.specs.Messages.{StandsFor, SaysComponent, has_part};
 ghost use Rattle.itip_order.specs.Parts.{part_of};
-ghost use Rattle.profile.specs.events.Events.{Event};
+ghost use Rattle.profile.specs.rooms.Messages as profile;
 ghost use Rattle.profile.specs.events.Properties.{length_seconds};
 ghost use Rattle.profile.specs.rooms.Rooms.{is_set};
 ghost use Rattle.profile.specs.text.Values.{IsClockSeconds};
@@ -23,7 +23,7 @@ use std::alloc::{AllocError, Global};
 /// The claims that a message has for a room, in the order of its text; none where it isn't addressed to it.
 pub fn claims_of(alloc: Global, message: &Message, room: &Address) -> Result<Vec<Claim>, AllocError>
     // So far a message stands for one event.
-    ensures { IfOk result (λ claims. (event : Event) → StandsFor message.now event → AreClaimed (address_octets room.now) event claims.items) }
+    ensures { IfOk result (λ claims. (said : profile.Message) → StandsFor message.now said → AreClaimed (address_octets room.now) said claims.items) }
 {
     if !message.is_addressed_to(room) {
         return Ok(Vec::new(alloc));
@@ -31,15 +31,17 @@ pub fn claims_of(alloc: Global, message: &Message, room: &Address) -> Result<Vec
     all_claims(alloc, message, room)
 }
 
-/// A claim for each component.
+/// A claim for each component that is a part for the room.
 // Apart from `claims_of`, which most rooms leave at its first line.
 #[inline(never)]
 fn all_claims(alloc: Global, message: &Message, room: &Address) -> Result<Vec<Claim>, AllocError>
-    ensures { IfOk result (λ claims. AllZip (IsClaimIn (address_octets room.now) message.now) message.now.components.items claims.items) }
+    ensures { IfOk result (λ claims. AllZip (IsClaimIn (address_octets room.now) message.now) (filter (has_part (address_octets room.now) message.now) message.now.components.items) claims.items) }
 {
     let mut claims = Vec::new(alloc);
     for component in message.components() {
-        claims.push(claim_in(alloc, message, component, room)?)?;
+        if message.has_part(component, room) {
+            claims.push(claim_in(alloc, message, component, room)?)?;
+        }
     }
     Ok(claims)
 }
@@ -76,7 +78,7 @@ fn claim_for(alloc: Global, part: Part, single: Single) -> Result<Claim, AllocEr
 fn single_in(component: &MessageComponent) -> Single
     ensures value { result ≡ single_in component.now }
     ensures start { IsClockSeconds result.span.start }
-    ensures short { (event : Event) → SaysComponent component.now event → length_seconds event.times.length < 2 ^ 64 }
+    ensures short { (said : profile.Message) → SaysComponent component.now said → length_seconds said.event.times.length < 2 ^ 64 }
 {
     Single {
         slot: original_start(component),

@@ -9,7 +9,7 @@ ghost use Rattle.ical_values.specs.Octets.{address_octets};
 ghost use Rattle.itip_order.specs.Parts.{part_of};
 ghost use Rattle.profile.specs.checker.Instances.{IsClear};
 ghost use Rattle.itip_messages.specs.Messages.{StandsFor};
-ghost use Rattle.profile.specs.events.Events.{Event};
+ghost use Rattle.profile.specs.rooms.Messages as profile;
 ghost use Rattle.profile.specs.streams.Streams.{AreClaims};
 ghost use Rattle.profile.specs.rooms.Rooms.{Claim, Book, empty_book};
 ghost use Rattle.profile.specs.rooms.Kept.{kept_certificate, IsKeptCalendar};
@@ -112,9 +112,9 @@ impl Room {
     /// Takes a message at a moment, and answers it. Where memory is refused nothing has changed.
     /// So far a message has one part for a room, of the whole of its meeting, or isn't addressed to it.
     pub fn take(&mut self, message: &Message, now: Stamp) -> Result<Answer, AllocError>
-        // From each book that the room stands for it makes a step of the room machine, with the claims of the message's event.
-        ensures steps { IfOk result (λ answer. (event : Event) → StandsFor message.now event → (book : Book) → Stands self.old.meetings.entries book
-            → (claims : List Claim) × AreClaims (address_octets self.old.address) event claims
+        // From each book that the room stands for it makes a step of the room machine, with the claims of the message.
+        ensures steps { IfOk result (λ answer. (said : profile.Message) → StandsFor message.now said → (book : Book) → Stands self.old.meetings.entries book
+            → (claims : List Claim) × AreClaims (address_octets self.old.address) said claims
             × StepsWith (address_octets self.old.address) self.new.meetings.entries book claims now (kind_view answer.kind) (reply_octets answer)) }
         ensures address { self.new.address ≡ self.old.address }
         ensures refresh { IfOk result (λ answer. answer.refresh ≡ None) }

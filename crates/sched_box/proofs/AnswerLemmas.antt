@@ -6,7 +6,7 @@ use Rattle.std.proofs.lemmas.List.{append_assoc, append-nil, take_more, take_mor
 use Rattle.ical_values.specs.Octets.{address_octets}
 use Rattle.itip_messages.specs.Messages.{StandsFor, IsSpelled}
 use Rattle.itip_messages.specs.declared.message.Message.{Message}
-use Rattle.profile.specs.events.Events.{Event}
+use Rattle.profile.specs.rooms.Messages as profile
 use Rattle.profile.specs.rooms.Rooms as machine
 use Rattle.profile.specs.rooms.Rooms.{Book, Claim, IsStep}
 use Rattle.profile.specs.rooms.Kept.{Replies}
@@ -23,13 +23,13 @@ sent_is None = refl
 sent_is (Some x) = sym (append-nil x)
 
 pub room_takes : (moment : ℤ) (message : Message) (old new : Room) (kind : machine.Kind) (reply : Option (List ℕ))
-    → ((event : Event) → StandsFor message event → (book : Book) → Stands old.meetings.entries book
-    → (claims : List Claim) × AreClaims (address_octets old.address) event claims × StepsWith (address_octets old.address) new.meetings.entries book claims moment kind reply)
+    → ((said : profile.Message) → StandsFor message said → (book : Book) → Stands old.meetings.entries book
+    → (claims : List Claim) × AreClaims (address_octets old.address) said claims × StepsWith (address_octets old.address) new.meetings.entries book claims moment kind reply)
     → new.address ≡ old.address → RoomTakes moment message old new (sent_octets reply)
-room_takes moment message old new kind reply steps same event stands before has =
+room_takes moment message old new kind reply steps same said stands before has =
     let room = address_octets old.address in
-    let (claims, are, with') = steps event stands before.book has.stands in
-    let P : List ℕ → Type 0 = λ a. AreClaims a event claims in
+    let (claims, are, with') = steps said stands before.book has.stands in
+    let P : List ℕ → Type 0 = λ a. AreClaims a said claims in
     let Q : List ℕ → Type 0 = λ a. Replies a with'.steps.after claims reply in (
       record { address = before.address; book = with'.steps.after },
       record { at = has.at ∙ ap address_octets (sym same); stands = with'.steps.stands },
@@ -62,24 +62,24 @@ same_addresses moment message (o ∷ os) [] octets r = absurd r
 same_addresses moment message (o ∷ os) (n ∷ ns) octets (one, rest, is, here, takes, others) =
     ap (λ a. address_octets a ∷ room_addresses ns) here ∙ ap (λ z. address_octets o.address ∷ z) (same_addresses moment message os ns rest others)
 
-all_take : (moment : ℤ) (message : Message) (event : Event) → StandsFor message event → (olds news : List Room) (octets : List ℕ) → RoomsTake moment message olds news octets
-    → (before : List Hosted) → AreHosted olds before → (after : List Hosted) × AreHosted news after × AllTake moment event before after octets
-all_take moment message event stands [] [] octets r [] h = ([], tt, r)
-all_take moment message event stands [] [] octets r (b ∷ bs) h = absurd h
-all_take moment message event stands [] (n ∷ ns) octets r before h = absurd r
-all_take moment message event stands (o ∷ os) [] octets r before h = absurd r
-all_take moment message event stands (o ∷ os) (n ∷ ns) octets r [] h = absurd h
-all_take moment message event stands (o ∷ os) (n ∷ ns) octets (one, rest, is, here, takes, others) (b ∷ bs) h =
-    let (after, has, first) = takes event stands b h.0 in
-    let (afters, have, more) = all_take moment message event stands os ns rest others bs h.1 in
+all_take : (moment : ℤ) (message : Message) (said : profile.Message) → StandsFor message said → (olds news : List Room) (octets : List ℕ) → RoomsTake moment message olds news octets
+    → (before : List Hosted) → AreHosted olds before → (after : List Hosted) × AreHosted news after × AllTake moment said before after octets
+all_take moment message said stands [] [] octets r [] h = ([], tt, r)
+all_take moment message said stands [] [] octets r (b ∷ bs) h = absurd h
+all_take moment message said stands [] (n ∷ ns) octets r before h = absurd r
+all_take moment message said stands (o ∷ os) [] octets r before h = absurd r
+all_take moment message said stands (o ∷ os) (n ∷ ns) octets r [] h = absurd h
+all_take moment message said stands (o ∷ os) (n ∷ ns) octets (one, rest, is, here, takes, others) (b ∷ bs) h =
+    let (after, has, first) = takes said stands b h.0 in
+    let (afters, have, more) = all_take moment message said stands os ns rest others bs h.1 in
     (after ∷ afters, (has, have), (one, rest, is, first, more))
 
 pub answers_taken : (moment : ℤ) (k : ℕ) (kept : List ℕ) (message : Message) (olds news : List Room) (octets : List ℕ)
     → ((object : List ℕ) → kept ≡ kept_of object → IsSpelled object message) → RoomsTake moment message olds news octets → AnswersKept moment k kept olds news octets 0
 answers_taken moment k kept message olds news octets spelled takes object is before h =
-    let (event, spells, stands) = spelled object is in
-    let (after, have, all) = all_take moment message event stands olds news octets takes before h in
-    (after, have, inl (event, spells, all, refl))
+    let (said, spells, stands) = spelled object is in
+    let (after, have, all) = all_take moment message said stands olds news octets takes before h in
+    (after, have, inl (said, spells, all, refl))
 
 pub answers_refused : (moment : ℤ) (k : ℕ) (kept : List ℕ) (n : ℕ) (rooms : List Room) (octets : List ℕ)
     → ((object : List ℕ) → kept ≡ kept_of object → ObjectFault n object) → octets ≡ refused_line k n → AnswersKept moment k kept rooms rooms octets 1

@@ -4,7 +4,7 @@ use Rattle.std.specs.List.{AllZip}
 use Rattle.ical_values.specs.Octets.{address_octets}
 use Rattle.itip_messages.specs.Messages.{StandsFor}
 use Rattle.itip_messages.specs.declared.message.Message.{Message}
-use Rattle.profile.specs.events.Events.{Event}
+use Rattle.profile.specs.rooms.Messages as profile
 use Rattle.profile.specs.streams.Streams.{Hosted, Takes, Answers}
 use Rattle.room_books.specs.Standing.{Stands}
 use Rattle.room_books.specs.declared.room.Room.{Room}
@@ -26,8 +26,8 @@ AreHosted rooms box = AllZip IsHosted rooms box
 -- a room takes the message and answers these octets, from whatever it stands for
 abbrev pub RoomTakes : ℤ → Message → Room → Room → List ℕ → Type 0
 RoomTakes moment message old new octets =
-    (event : Event) → StandsFor message event → (before : Hosted) → IsHosted old before
-    → (after : Hosted) × IsHosted new after × Takes moment event before after octets
+    (said : profile.Message) → StandsFor message said → (before : Hosted) → IsHosted old before
+    → (after : Hosted) × IsHosted new after × Takes moment said before after octets
 
 -- each room takes it in turn; their answers stand one behind another
 abbrev pub RoomsTake : ℤ → Message → List Room → List Room → List ℕ → Type 0

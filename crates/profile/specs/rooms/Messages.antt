@@ -10,7 +10,7 @@ use Rattle.profile.specs.text.Values.{WritesStamp, duration_text, escaped}
 use Rattle.profile.specs.events.Events.{Event, SaysEvent, EventFault, is_unread_in_message, lacks_start}
 use Rattle.profile.specs.events.Properties.{SomeLine, StandsTwice, IsMissing, lines_named}
 use Rattle.profile.specs.checker.Instances.{Key}
-use Rattle.profile.specs.rooms.Revisions.{Part, Slot, Whole, At, Set, Cancelled}
+use Rattle.profile.specs.rooms.Revisions.{Part, Slot, Whole, At, Body, Set, Absent, Cancelled}
 
 -- ---- what a message says
 
@@ -38,7 +38,7 @@ pub record NamesMethod (own : List (List ℕ)) (method : Method) : Type 0 where
 -- something in the lines of a VEVENT isn't read yet. A CANCEL without DTSTART, as RFC 5546 3.2.5 allows it, isn't
 abbrev pub has_unread_in : Method → List (List ℕ) → Bool
 has_unread_in Request lines = list_any is_unread_in_message lines
-has_unread_in Cancel lines = list_any is_unread_in_message lines || lacks_start lines
+has_unread_in Cancel lines = lacks_start lines || list_any is_unread_in_message lines
 
 -- a VCALENDAR says this message: of its one VEVENT nothing is unread (RFC 5546 3.2.2, 3.2.5)
 pub record SaysMessage (object : Tree) (message : Message) : Type 0 where
@@ -85,7 +85,10 @@ are_one_meeting (event ∷ events) = list_all (is_same_meeting event) events
 pub data MessageFault (object : Tree) : ℕ → Type 0 where
   in_method : {n : ℕ} → MethodFault (tree_own object) n → MessageFault object n
   in_event : {n : ℕ} → (lines : List (List ℕ)) → Contains (vevents object) lines → EventFault object true lines n → MessageFault object n
-  not_yet : (method : Method) → NamesMethod (tree_own object) method → list_any (has_unread_in method) (vevents object) ≡ true → MessageFault object 99
+  -- a line of a VEVENT isn't read yet
+  not_yet : list_any (list_any is_unread_in_message) (vevents object) ≡ true → MessageFault object 99
+  -- neither is a CANCEL without DTSTART
+  no_start_yet : NamesMethod (tree_own object) Cancel → list_any lacks_start (vevents object) ≡ true → MessageFault object 99
   no_event : vevents object ≡ [] → MessageFault object 66
   two_meetings : (events : List Event) → AllZip (SaysEvent object true) (vevents object) events → are_one_meeting events ≡ false → MessageFault object 62
   -- without RECURRENCE-ID each VEVENT is the whole meeting
@@ -126,6 +129,12 @@ cancels message = is_cancel message.method || message.event.cancelled
 abbrev pub is_addressed : List ℕ → Message → Bool
 is_addressed room message = names_room room message.event || (is_cancel message.method && (length message.event.attendees == 0))
 
+-- what the message makes of its slot: it cancels it, or sets it to these lines, which say when its event is
+abbrev pub IsBody : Message → List (List ℕ) → Body → Type 0
+IsBody message content (Set octets) = (cancels message ≡ false) × IsContent content message.event × (octets ≡ canonical content)
+IsBody message content Absent = ⊥
+IsBody message content Cancelled = (cancels message ≡ true) × (content ≡ [])
+
 -- the part that the event of a message is, with this content: of the whole meeting
 pub record IsPart (message : Message) (content : List (List ℕ)) (part : Part) : Type 0 where
   pub organiser : message.event.organiser ≡ Some part.organiser
@@ -133,8 +142,7 @@ pub record IsPart (message : Message) (content : List (List ℕ)) (part : Part) 
   pub slot : part.slot ≡ Whole
   pub sequence : part.revision.sequence ≡ message.event.sequence
   pub stamp : message.event.stamp ≡ Some part.revision.stamp
-  pub when : IsContent content message.event
-  pub body : part.body ≡ (if cancels message then Cancelled else Set (canonical content))
+  pub body : IsBody message content part.body
 
 -- the parts that a message has for a room: one where it is addressed to it, else none
 abbrev pub AreParts : List ℕ → Message → List Part → Type 0

@@ -5,7 +5,7 @@ use Rattle.ical_tree.proofs.TreeOfLemmas.{tree_of-own}
 use Rattle.profile.specs.rooms.Messages.{MethodFault, MessageFault, in_method}
 use Rattle.cal_events.specs.Events.{event_of, vevents_of}
 use Rattle.cal_events.proofs.TreeLemmas.{vevents_tree}
-use Rattle.itip_messages.proofs.MessageLemmas.{events_stand, meeting_stands, one_said, organiser_given, stamp_given, request_said}
+use Rattle.itip_messages.proofs.MessageLemmas.{events_stand, meeting_stands, one_said, organiser_given, stamp_given, message_said}
 use Rattle.ical_values.proofs.Exits.{err_exit}
 use Rattle.itip_messages.proofs.message.Message.of_readable.Goals as goal
 
@@ -19,7 +19,7 @@ pub returns-in_err-events-clause-stands : goal.returns-in_err-events-clause-stan
 returns-in_err-events-clause-stands c =
     let object = c.args.object.now in
     err_exit _ (RefusesBy (MessageFault (tree_of object))) _ c.from_residual-in_err-events.ensures.1
-    (events_stand (tree_of object) (vevents_of object) _ (vevents_tree object) c.in_err-events.ensures.stands)
+    (events_stand (tree_of object) c.in_ok-method.method (vevents_of object) _ (names_own object c.in_ok-method.method (rw c.in_ok-properties.ensures at c.in_ok-method.ensures.named)) (vevents_tree object) (rw c.purpose.ensures at c.in_err-events.ensures.stands))
 
 pub returns-in_err-judge_meeting-clause-stands : goal.returns-in_err-judge_meeting-clause-stands
 returns-in_err-judge_meeting-clause-stands c =
@@ -45,8 +45,8 @@ returns-clause-says c =
     let object = c.args.object.now in
     let vevents = vevents_of object in
     let one = rw c.as_slice.ensures.value at c.in_ok-judge_meeting.ensures.one in (
-      event_of c.remove-event.result,
-      request_said (tree_of object) (component_lines object) vevents c.remove-event.result (tree_of-own object) (vevents_tree object) (rw c.in_ok-properties.ensures at c.in_ok-method.ensures.named) c.in_ok-events.ensures.read
+      said_by c.in_ok-method.method c.remove-event.result,
+      message_said (tree_of object) (component_lines object) vevents c.in_ok-method.method c.remove-event.result (tree_of-own object) (vevents_tree object) (rw c.in_ok-properties.ensures at c.in_ok-method.ensures.named) (rw c.purpose.ensures at c.in_ok-events.ensures.read)
           (one_said (tree_of object) vevents c.in_ok-events.events.items c.remove-event.result one c.remove-event.ensures.value c.in_ok-events.ensures.says),
       c.in_ok-of.ensures,
     )

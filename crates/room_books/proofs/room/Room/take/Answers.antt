@@ -11,21 +11,21 @@ use Rattle.room_books.proofs.RoomSteps.{none_steps}
 use Rattle.room_books.proofs.room.Room.take.Goals as goal
 
 pub returns-in_default-clause-steps : goal.returns-in_default-clause-steps
-returns-in_default-clause-steps c = λ event says book st.
+returns-in_default-clause-steps c = λ message says book st.
     let room = address_octets c.args.self.now.address in
     let claims = c.in_ok-claims.claims.items in
     let none : claims ≡ [] = none_first claims (subst (λ (l : List Claim). None ≡ slice_get l 0) c.deref.ensures.value c.in_default.ensures.value) in (
       [],
-      subst (λ (l : List Claim). AreClaims room event (claims_said l)) none (c.in_ok-claims.ensures event says).are,
+      subst (λ (l : List Claim). AreClaims room message (claims_said l)) none (c.in_ok-claims.ensures message says).are,
       none_steps room c.args.self.now.meetings.entries book c.args.now (kind_view c.silent.result.kind) _ st (ap kind_view c.silent.ensures.kind) c.silent.ensures.reply,
     )
 
 pub returns-clause-steps : goal.returns-clause-steps
-returns-clause-steps c = λ event says book st.
+returns-clause-steps c = λ message says book st.
     let room = address_octets c.args.self.now.address in
     let claims = c.deref-2.result.now in
     let first = c.in-Some.first.now in
-    let claimed = subst (AreClaimed room event) (sym c.deref-2.ensures.value) (c.in_ok-claims.ensures event says) in
+    let claimed = subst (AreClaimed room message) (sym c.deref-2.ensures.value) (c.in_ok-claims.ensures message says) in
     let is : Some first ≡ slice_get claims 0 = subst (λ (l : List Claim). Some first ≡ slice_get l 0) (c.deref.ensures.value ∙ sym c.deref-2.ensures.value) c.in-Some.ensures.value in (
       claims_said claims,
       claimed.are,

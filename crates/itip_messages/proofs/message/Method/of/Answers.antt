@@ -3,7 +3,7 @@ use Rattle.ical_lines.specs.Text.{line_text}
 use Rattle.profile.specs.rooms.Messages.{MethodFault, two_methods, no_method}
 use Rattle.itip_messages.proofs.MessageLemmas.{word_stands}
 use Rattle.ical_values.proofs.Exits.{refusal_exit}
-use Rattle.itip_messages.proofs.message.method_of.Goals as goal
+use Rattle.itip_messages.proofs.message.Method.of.Goals as goal
 
 pub returns-in_err-line-clause-stands : goal.returns-in_err-line-clause-stands
 returns-in_err-line-clause-stands c =
@@ -13,7 +13,7 @@ returns-in_err-line-clause-stands c =
 pub returns-in-Some-clause-stands : goal.returns-in-Some-clause-stands
 returns-in-Some-clause-stands c =
     let once = rw c.in-Some.is at c.in_ok-line.ensures.found in
-    word_stands _ c.args.properties.now (line_text c.in-Some.line) once c.method_named.ensures.stands
+    word_stands _ c.args.properties.now (line_text c.in-Some.line) once c.named.ensures.stands
 
 pub returns-in-None-clause-stands : goal.returns-in-None-clause-stands
 returns-in-None-clause-stands c = no_method (rw c.in-None.is at c.in_ok-line.ensures.found)

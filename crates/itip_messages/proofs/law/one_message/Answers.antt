@@ -1,5 +1,5 @@
-use Rattle.itip_messages.proofs.OneRequest.{one_spelled, no_fault}
-use Rattle.itip_messages.proofs.law.one_request.Goals as goal
+use Rattle.itip_messages.proofs.OneMessage.{one_spelled, no_fault}
+use Rattle.itip_messages.proofs.law.one_message.Goals as goal
 
 pub returns-clause-one : goal.returns-clause-one
 returns-clause-one c = one_spelled c.one_tree.ensures.one c.one_event.ensures.one

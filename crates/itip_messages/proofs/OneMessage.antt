@@ -1,0 +1,156 @@
+-- Octets spell at most one message, and none where a fault stands in them.
+use Rattle.std.proofs.Common.{◌≡◌, ◌∙◌, ℕ, ◌<◌, Bool, true, false, ◌||◌, List, [], ◌∷◌, length, get_or, refl, sym, ap, subst, arith, inl, inr}
+use Rattle.std.specs.Prelude.{Contains, codes, nat_lt}
+use Rattle.std.specs.List.{AllZip, list_any}
+use Rattle.std.specs.Str.{bytes_eq, str_to_ascii_lowercase}
+use Rattle.std.proofs.lemmas.Bool.{true≢false, or_parts}
+use Rattle.std.proofs.lemmas.Bool.Decides.{nat_tests}
+use Rattle.std.proofs.lemmas.Slice.Eq.{bytes_eq-Decides}
+use Rattle.ical_lines.proofs.ContentLemmas.{read_fine}
+use Rattle.ical_tree.proofs.OneLine.{at_one}
+use Rattle.profile.specs.text.Lines.{logical_lines, line_value, is_same_name}
+use Rattle.profile.specs.text.Objects.{SpellsTree, IsObject, has_version, lines_have, count_inside, most_events}
+use Rattle.profile.specs.text.Trees.{Tree, tree_name, tree_own, tree_inside, vevents}
+use Rattle.profile.specs.events.Events.{Event, SaysEvent, EventFault, is_unread_in_message, lacks_start}
+use Rattle.profile.specs.rooms.Messages.{Method, Request, Cancel, Message, method_word, NamesMethod, SaysMessage, SpellsMessage, has_unread_in, MethodFault, two_methods, bad_method, unread_method, no_method, MessageFault, in_method, in_event, not_yet, no_start_yet, no_event, two_meetings, two_wholes, is_unread_method, is_method, are_one_meeting}
+use Rattle.profile.specs.streams.Streams.{ObjectFault}
+
+abbrev Lines : Type 0
+Lines = List (List ℕ)
+
+abbrev OneTree : Type 0
+OneTree = (d e : ℕ) (lines : Lines) (a b : Tree) → SpellsTree tree_name tree_own tree_inside d a lines → SpellsTree tree_name tree_own tree_inside e b lines → a ≡ b
+
+abbrev PairsUp : Type 0
+PairsUp = (bounded : Bool) (t : Tree) (lines : Lines) (n : ℕ) → IsObject tree_name tree_own tree_inside bounded t lines → lines_have n lines ≡ true → ⊥
+
+abbrev OneEvent : Type 0
+OneEvent = (object : Tree) (m : Bool) (lines : Lines) (a b : Event) → SaysEvent object m lines a → SaysEvent object m lines b → a ≡ b
+
+abbrev NoFault : Type 0
+NoFault = (object : Tree) (m : Bool) (lines : Lines) (a : Event) (n : ℕ) → SaysEvent object m lines a → EventFault object m lines n → ⊥
+
+-- ---- lists of one
+
+one_line : (x y : Lines) → x ∷ [] ≡ y ∷ [] → x ≡ y
+one_line x y e = ap (λ xs. get_or xs 0 []) e
+
+one_zip : (object : Tree) (x : Lines) (events : List Event) → AllZip (SaysEvent object true) (x ∷ []) events → length events ≡ 1
+one_zip object x [] h = absurd h
+one_zip object x (y ∷ []) h = refl
+one_zip object x (y ∷ z ∷ zs) h = absurd h.1
+
+one_of_one : (events : List Event) → length events ≡ 1 → are_one_meeting events ≡ true
+one_of_one [] e = refl
+one_of_one (x ∷ []) e = refl
+one_of_one (x ∷ y ∷ events) e = absurd (omega (arith, e))
+
+-- ---- METHOD
+
+-- what holds of the word of a method holds of each word that is the same name
+by_word : (P : List ℕ → Bool) (word name : List ℕ) (b : Bool) → is_same_name word name ≡ true → ((x : List ℕ) → str_to_ascii_lowercase x ≡ str_to_ascii_lowercase name → P x ≡ b) → P word ≡ b
+by_word P word name b h f = f word ((bytes_eq-Decides (str_to_ascii_lowercase word) (str_to_ascii_lowercase name)).0 h)
+
+-- its word is no other one
+not_unread : (method : Method) (word : List ℕ) → is_same_name word (method_word method) ≡ true → is_unread_method word ≡ false
+not_unread Request word h = by_word is_unread_method word (codes "REQUEST") false h (λ x e. rw e refl)
+not_unread Cancel word h = by_word is_unread_method word (codes "CANCEL") false h (λ x e. rw e refl)
+
+is_taken : (method : Method) (word : List ℕ) → is_same_name word (method_word method) ≡ true → is_method word ≡ true
+is_taken Request word h = by_word is_method word (codes "REQUEST") true h (λ x e. rw e refl)
+is_taken Cancel word h = by_word is_method word (codes "CANCEL") true h (λ x e. rw e refl)
+
+-- a word names one method
+other_word : (word : List ℕ) → is_same_name word (codes "REQUEST") ≡ true → is_same_name word (codes "CANCEL") ≡ true → ⊥
+other_word word r c = true≢false (sym c ∙ by_word (λ x. is_same_name x (codes "CANCEL")) word (codes "REQUEST") false r (λ x e. rw e refl))
+
+same_method : (word : List ℕ) (a b : Method) → is_same_name word (method_word a) ≡ true → is_same_name word (method_word b) ≡ true → a ≡ b
+same_method word Request Request h k = refl
+same_method word Request Cancel h k = absurd (other_word word h k)
+same_method word Cancel Request h k = absurd (other_word word k h)
+same_method word Cancel Cancel h k = refl
+
+one_method : (own : Lines) (a b : Method) → NamesMethod own a → NamesMethod own b → a ≡ b
+one_method own a b s t =
+    let same : s.line ≡ t.line = line_of s.line t.line (sym s.once ∙ t.once) in
+    same_method (line_value t.line) a b (subst (λ (x : List ℕ). is_same_name (line_value x) (method_word a) ≡ true) same s.named) t.named
+  where
+    line_of : (x y : List ℕ) → x ∷ [] ≡ y ∷ [] → x ≡ y
+    line_of x y e = ap (λ xs. get_or xs 0 []) e
+
+no_method_fault : (own : Lines) (method : Method) (n : ℕ) → NamesMethod own method → MethodFault own n → ⊥
+no_method_fault own method n s (two_methods h) =
+    let k = ap length s.once in absurd (omega (arith, h, k))
+no_method_fault own method n s (bad_method (line, at, h)) =
+    let e = at_one s.line line (subst (λ (xs : Lines). Contains xs line) s.once at) in
+    true≢false (sym (is_taken method (line_value line) (subst (λ (x : List ℕ). is_same_name (line_value x) (method_word method) ≡ true) e s.named)) ∙ h)
+no_method_fault own method n s (unread_method (line, at, h)) =
+    let e = at_one s.line line (subst (λ (xs : Lines). Contains xs line) s.once at) in
+    true≢false (sym h ∙ not_unread method (line_value line) (subst (λ (x : List ℕ). is_same_name (line_value x) (method_word method) ≡ true) e s.named))
+no_method_fault own method n s (no_method h) =
+    let k : 0 ≡ 1 = sym (ap length h) ∙ ap length s.once in absurd (omega (arith, k))
+
+-- ---- a VCALENDAR
+
+one_said : OneEvent → (object : Tree) (a b : Message) → SaysMessage object a → SaysMessage object b → a ≡ b
+one_said one object a b s t =
+    let same : s.lines ≡ t.lines = one_line s.lines t.lines (sym s.one ∙ t.one) in
+    let method = one_method (tree_own object) a.method b.method s.method t.method in
+    let event = one object true t.lines a.event b.event (subst (λ (x : Lines). SaysEvent object true x a.event) same s.says) t.says in
+    λ i. record { method = method i; event = event i }
+
+-- in what a message has read no line is left unread
+all_read : (method : Method) (lines : Lines) → has_unread_in method lines ≡ false → list_any is_unread_in_message lines ≡ false
+all_read Request lines h = h
+all_read Cancel lines h = (or_parts (lacks_start lines) (list_any is_unread_in_message lines) h).1
+
+-- and a CANCEL has its start
+has_start : (method : Method) (lines : Lines) → method ≡ Cancel → has_unread_in method lines ≡ false → lacks_start lines ≡ false
+has_start method lines e h = (or_parts (lacks_start lines) (list_any is_unread_in_message lines) (sym (ap (λ m. has_unread_in m lines) e) ∙ h)).0
+
+-- of one VEVENT that has nothing so
+none_of_one : (U : Lines → Bool) (lines : Lines) (all : List Lines) → all ≡ lines ∷ [] → U lines ≡ false → list_any U all ≡ true → ⊥
+none_of_one U lines all one none some =
+    let k : (U lines || false) ≡ true = sym (ap (list_any U) one) ∙ some in
+    true≢false (sym (rw none at k))
+
+no_message_fault : NoFault → (object : Tree) (a : Message) (n : ℕ) → SaysMessage object a → MessageFault object n → ⊥
+no_message_fault sound object a n s (in_method h) = no_method_fault (tree_own object) a.method n s.method h
+no_message_fault sound object a n s (in_event lines at fault) =
+    let e = at_one s.lines lines (subst (λ (xs : List Lines). Contains xs lines) s.one at) in
+    sound object true lines a.event n (subst (λ (x : Lines). SaysEvent object true x a.event) e s.says) fault
+no_message_fault sound object a n s (not_yet h) =
+    none_of_one (list_any is_unread_in_message) s.lines (vevents object) s.one (all_read a.method s.lines s.read) h
+no_message_fault sound object a n s (no_start_yet named h) =
+    let cancel = one_method (tree_own object) a.method Cancel s.method named in
+    none_of_one lacks_start s.lines (vevents object) s.one (has_start a.method s.lines cancel s.read) h
+no_message_fault sound object a n s (no_event h) =
+    let k : 0 ≡ 1 = sym (ap length h) ∙ ap length s.one in absurd (omega (arith, k))
+no_message_fault sound object a n s (two_meetings events zip h) =
+    let one = one_zip object s.lines events (subst (λ (xs : List Lines). AllZip (SaysEvent object true) xs events) s.one zip) in
+    true≢false (sym (one_of_one events one) ∙ h)
+no_message_fault sound object a n s (two_wholes events zip h more) =
+    let one = one_zip object s.lines events (subst (λ (xs : List Lines). AllZip (SaysEvent object true) xs events) s.one zip) in
+    absurd (omega (arith, one, more))
+
+-- ---- octets
+
+pub one_spelled : OneTree → OneEvent → (octets : List ℕ) (a b : Message) → SpellsMessage octets a → SpellsMessage octets b → a ≡ b
+one_spelled tree one octets a b s t =
+    let same : s.tree ≡ t.tree = tree 7 7 (logical_lines octets) s.tree t.tree s.object.spelled t.object.spelled in
+    one_said one t.tree a b (subst (λ (x : Tree). SaysMessage x a) same s.says) t.says
+
+pub no_fault : OneTree → PairsUp → NoFault → (octets : List ℕ) (a : Message) (n : ℕ) → SpellsMessage octets a → ObjectFault n octets → ⊥
+no_fault one pairs sound octets a n s (inl h) = true≢false (sym h ∙ read_fine true octets n s.lines)
+no_fault one pairs sound octets a n s (inr (inl h)) = pairs true s.tree (logical_lines octets) n s.object h
+no_fault one pairs sound octets a n s (inr (inr (inl (t, spelled, inl (e, h))))) =
+    let same : s.tree ≡ t = one 7 7 (logical_lines octets) s.tree t s.object.spelled spelled in
+    true≢false (sym s.object.version ∙ (ap (λ (x : Tree). has_version (tree_own x)) same ∙ h))
+no_fault one pairs sound octets a n s (inr (inr (inl (t, spelled, inr (e, h))))) =
+    let same : t ≡ s.tree = sym (one 7 7 (logical_lines octets) s.tree t s.object.spelled spelled) in
+    let many : most_events < count_inside tree_name tree_own tree_inside (codes "VEVENT") s.tree = subst (λ (x : Tree). most_events < count_inside tree_name tree_own tree_inside (codes "VEVENT") x) same h in
+    let over : nat_lt most_events (count_inside tree_name tree_own tree_inside (codes "VEVENT") s.tree) ≡ true = grind (arith, nat_tests) in
+    true≢false (sym over ∙ s.object.events)
+no_fault one pairs sound octets a n s (inr (inr (inr r))) =
+    let same : s.tree ≡ r.tree = one 7 7 (logical_lines octets) s.tree r.tree s.object.spelled r.object.spelled in
+    no_message_fault sound r.tree a n (subst (λ (x : Tree). SaysMessage x a) same s.says) r.fault
