@@ -92,6 +92,15 @@ def decisions(cases, program):
     cases.holds("PT0S gives the time back", answers(program, a, given_back, busy), ["ACCEPTED", "ACCEPTED", "ACCEPTED"])
     dropped = request(sequence=1, room="mailto:other@example.com")
     cases.holds("a room that isn't named any more keeps its booking", answers(program, a, dropped, busy), ["ACCEPTED", "DECLINED"])
+    cancel = request(method="CANCEL")
+    cases.holds("a CANCEL gives the room back", answers(program, a, cancel, busy), ["ACCEPTED", "ACCEPTED"])
+    cases.holds("so does a cancelled status", answers(program, a, request(sequence=1, lines=("DURATION:PT1H", "STATUS:CANCELLED")), busy), ["ACCEPTED", "ACCEPTED"])
+    cases.holds("a CANCEL stays", answers(program, cancel, a, busy), ["ACCEPTED"])
+    cases.holds("a greater SEQUENCE is decided after a CANCEL", answers(program, a, cancel, request(sequence=1)), ["ACCEPTED", "ACCEPTED"])
+    cases.holds("an older CANCEL changes nothing", answers(program, request(sequence=1), cancel, busy), ["ACCEPTED", "DECLINED"])
+    nobody = cancel.replace("ATTENDEE:mailto:r1@example.com\r\n", "")
+    cases.holds("a CANCEL that names nobody", answers(program, a, nobody, busy), ["ACCEPTED", "ACCEPTED"])
+    cases.holds("a CANCEL for another room", answers(program, a, request(method="CANCEL", room="mailto:r2@example.com"), busy), ["ACCEPTED", "DECLINED"])
     cases.holds("a meeting in the past", answers(program, request(start="20200310T090000Z", lines=("DURATION:PT1H",))), ["ACCEPTED"])
     cases.holds("a room that isn't hosted", answers(program, request(room="mailto:r2@example.com")), [])
 
@@ -122,11 +131,12 @@ def refusals(cases, program):
         found = one(text)
         return found[0].rpartition(":")[2] if found and found[0].startswith("REFUSED") else found
 
-    for method in ("CANCEL", "ADD", "REPLY", "REFRESH", None):
+    for method in ("ADD", "REPLY", "REFRESH", None):
         cases.holds(f"METHOD {method}", number(request(method=method)), "99")
     for method in ("PUBLISH", "COUNTER", "DECLINECOUNTER", "FOO"):
         cases.holds(f"METHOD {method}", number(request(method=method)), "60")
-    cases.holds("STATUS:CANCELLED", number(request(lines=("DURATION:PT1H", "STATUS:CANCELLED"))), "99")
+    cases.holds("a CANCEL without DTSTART", number(request(method="CANCEL", lines=()).replace("DTSTART:20250310T090000Z\r\n", "")), "99")
+    cases.holds("a CANCEL without ORGANIZER", number(request(method="CANCEL").replace("ORGANIZER:mailto:ann@example.com\r\n", "")), "63")
     cases.holds("TZID", number(request().replace("DTSTART:20250310T090000Z", "DTSTART;TZID=Europe/Berlin:20250310T090000")), "99")
     cases.holds("a whole day", number(request().replace("DTSTART:20250310T090000Z", "DTSTART;VALUE=DATE:20250310")), "55")
     cases.holds("a parameter without =", number(request().replace("ATTENDEE:", "ATTENDEE;X-FOO:")), "2")

@@ -46,6 +46,15 @@ pub enum Purpose {
     Meeting,
 }
 
+impl Purpose {
+    /// Whether it is a message, in which ORGANIZER and DTSTAMP have to stand.
+    fn is_message(self) -> bool
+        ensures { result ≡ is_message self }
+    {
+        matches!(self, Purpose::Request | Purpose::Cancel)
+    }
+}
+
 /// What an attendee answered (RFC 5545 3.2.12, for VEVENT).
 #[derive(Clone, Copy, PartialEq, Eq)]
 pub enum ParticipationStatus {
@@ -240,12 +249,10 @@ fn read_organiser(
     ensures refuses { IfErr result (RefusesOnly is_event_fault) }
     ensures stands { (object : Tree) → IfErr result (RefusesBy (EventFault object (is_message purpose) properties.now)) }
 {
-    match (optional(properties, "ORGANIZER")?, purpose) {
-        (Some(line), _) => Ok(Some(Address::read(alloc, line.value())?)),
-        (None, Purpose::Request | Purpose::Cancel) => {
-            Err(Fault::Refused(Refusal::NO_ORGANIZER))
-        }
-        (None, Purpose::Calendar | Purpose::Meeting) => Ok(None),
+    match optional(properties, "ORGANIZER")? {
+        Some(line) => Ok(Some(Address::read(alloc, line.value())?)),
+        None if purpose.is_message() => Err(Fault::Refused(Refusal::NO_ORGANIZER)),
+        None => Ok(None),
     }
 }
 
@@ -254,10 +261,10 @@ fn read_stamp(properties: &Properties<'_>, purpose: Purpose) -> Result<Option<St
     ensures refuses { IfErr result (λ e. IsTrue (is_event_fault e.number)) }
     ensures stands { (object : Tree) → IfErr result (λ e. EventFault object (is_message purpose) properties.now e.number) }
 {
-    match (optional(properties, "DTSTAMP")?, purpose) {
-        (Some(line), _) => Ok(Some(Stamp::read(line.value())?)),
-        (None, Purpose::Request | Purpose::Cancel) => Err(Refusal::BAD_PROPERTY),
-        (None, Purpose::Calendar | Purpose::Meeting) => Ok(None),
+    match optional(properties, "DTSTAMP")? {
+        Some(line) => Ok(Some(Stamp::read(line.value())?)),
+        None if purpose.is_message() => Err(Refusal::BAD_PROPERTY),
+        None => Ok(None),
     }
 }
 
