@@ -148,6 +148,19 @@ def revisions(count):
         yield crlf(request.format(number=meeting, room=ROOM.format(0), start=stamp(hour), extra=""))
 
 
+def changes(count):
+    """So many messages for MEETINGS meetings of one room, after these: in turn one that cancels a meeting, a revision that asks for its hour
+    again, and the same once more."""
+    yield from requests(MEETINGS)
+    for number in range(count):
+        turn, meeting = divmod(number // 3, MEETINGS)
+        cancels = number % 3 == 0
+        message = REQUEST.replace("SEQUENCE:0", f"SEQUENCE:{2 * turn + (1 if cancels else 2)}")
+        if cancels:
+            message = message.replace("METHOD:REQUEST", "METHOD:CANCEL")
+        yield crlf(message.format(number=meeting, room=ROOM.format(0), start=stamp(meeting), extra=""))
+
+
 def large_objects(count):
     """A stream of requests of about 1 MB each, most of it in folded lines."""
     folded = "DESCRIPTION:" + "\n ".join("x" * 74 for _ in range(13_000)) + "\n"
@@ -327,6 +340,8 @@ def main():
     grown("requests onto one busy time", (6_000, 60_000), lambda count: serve(program, declines(count), 1), None)
     revised = lambda count: serve(program, revisions(count), MEETINGS + count // 2)
     grown(f"revisions of {MEETINGS:,} meetings", (10_000, 100_000), revised, None)
+    changed = lambda count: serve(program, changes(count), MEETINGS + (count + 1) // 3 + count // 3)
+    grown("a third cancels, a third revisions, a third repeats", (10_000, 100_000), changed, None)
     grown("objects of 1 MB with folded lines", (20,), lambda count: serve(program, large_objects(count), count), "octets")
     grown("singles checked", (100_000, 1_000_000), lambda count: check(program, calendar(count), count), "octets")
     for work, start, rule in RULES:

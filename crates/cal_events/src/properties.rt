@@ -1,9 +1,9 @@
 //! The properties of one VEVENT by their names (RFC 5545 3.6.1, 3.8), and what isn't read yet.
-ghost use Rattle.std.specs.Prelude.{◌≡◌, ◌⊎◌, Some, true, false, option_map, IfOk, IfErr, OnOk, OnErr};
+ghost use Rattle.std.specs.Prelude.{◌≡◌, ◌⊎◌, Some, true, false, codes, option_map, IfOk, IfErr, OnOk, OnErr};
 ghost use Rattle.ical_lines.specs.Text.{line_text};
 ghost use Rattle.std.specs.List.{list_any};
 ghost use Rattle.profile.specs.events.Events.{is_unread_line, is_unread_in_message, is_recurrence, is_of_instances, is_end_of_event};
-ghost use Rattle.profile.specs.events.Properties.{IsMissing, StandsAtMostOnce, StandsTwice};
+ghost use Rattle.profile.specs.events.Properties.{is_of, IsMissing, StandsAtMostOnce, StandsTwice};
 ghost use Rattle.cal_events.specs.Events.{is_unread_for, lacks_start_for, has_unread_for};
 
 use crate::component::Purpose;
@@ -51,9 +51,21 @@ fn lacks_start_for(event: &Properties<'_>, purpose: Purpose) -> bool
     ensures { result ≡ lacks_start_for purpose event.now }
 {
     match purpose {
-        Purpose::Cancel => !event.lines().iter().any(|line| line.is_named("DTSTART")),
+        Purpose::Cancel => !has_start(event),
         Purpose::Request | Purpose::Calendar | Purpose::Meeting => false,
     }
+}
+
+/// Whether a VEVENT has a DTSTART line.
+fn has_start(event: &Properties<'_>) -> bool
+    ensures { result ≡ list_any (is_of (codes "DTSTART")) event.now }
+{
+    for line in event.lines() {
+        if line.is_named("DTSTART") {
+            return true;
+        }
+    }
+    false
 }
 
 /// Whether a VEVENT has a line that isn't read yet for a purpose.

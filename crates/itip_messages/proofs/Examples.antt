@@ -35,8 +35,14 @@ a_word_of_method_is_caseless = refl
 a_request_is_read : is_unread_method (codes "REQUEST") ≡ false
 a_request_is_read = refl
 
-a_cancel_is_not_read_yet : is_unread_method (codes "CANCEL") ≡ true
-a_cancel_is_not_read_yet = refl
+a_cancel_is_read : is_unread_method (codes "CANCEL") ≡ false
+a_cancel_is_read = refl
+
+a_cancel_is_a_method : is_method (codes "Cancel") ≡ true
+a_cancel_is_a_method = refl
+
+an_addition_is_not_read_yet : is_unread_method (codes "ADD") ≡ true
+an_addition_is_not_read_yet = refl
 
 publish_asks_for_nothing : is_method (codes "PUBLISH") ≡ false
 publish_asks_for_nothing = refl

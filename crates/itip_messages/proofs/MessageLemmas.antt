@@ -5,7 +5,7 @@ use Rattle.std.specs.Prelude.{Result, Ok, Err, IfErr, Contains, codes}
 use Rattle.std.specs.List.{list_all, list_any, AllZip}
 use Rattle.std.specs.Str.{bytes_eq}
 use Rattle.std.proofs.Math.Bool.{or-false}
-use Rattle.std.proofs.lemmas.Bool.{or_parts, true≢false}
+use Rattle.std.proofs.lemmas.Bool.{or_parts, or_cases, true≢false}
 use Rattle.std.proofs.lemmas.List.{map-append, append-nil}
 use Rattle.std.proofs.lemmas.List.Elements.{filter_more}
 use Rattle.ical_lines.specs.declared.fault.Fault.{Fault}
@@ -13,13 +13,14 @@ use Rattle.ical_lines.specs.declared.fault.Fault.TheVariants.{Refused, Memory}
 use Rattle.ical_lines.specs.declared.fault.Refusal.{Refusal}
 use Rattle.profile.specs.text.Lines.{line_value}
 use Rattle.profile.specs.text.Trees.{Tree, tree_own, vevents}
-use Rattle.profile.specs.events.Events.{Event, SaysEvent, is_unread_in_message, lacks_start}
+use Rattle.profile.specs.events.Events.{Event, SaysEvent, EventFault, is_unread_in_message, lacks_start}
 use Rattle.profile.specs.rooms.Messages as profile
 use Rattle.profile.specs.rooms.Messages.{SaysMessage, NamesMethod, has_unread_in, MethodFault, bad_method, unread_method, MessageFault, in_event, not_yet, no_start_yet, no_event, two_meetings, two_wholes, is_same_meeting, are_one_meeting, is_unread_method, is_method}
 use Rattle.profile.specs.events.Properties.{lines_named, BothOrNeither, StandsAtMostOnce}
 use Rattle.cal_events.specs.declared.component.EventComponent.{EventComponent}
+use Rattle.cal_events.specs.declared.component.Purpose.{Purpose}
 use Rattle.cal_events.specs.declared.component.Purpose.TheVariants as purposes
-use Rattle.cal_events.specs.Events.{event_of, has_unread_for, IsUnreadOrFault, IsUnreadOrFaultAmong}
+use Rattle.cal_events.specs.Events.{event_of, is_message, has_unread_for, IsUnreadOrFault, IsUnreadOrFaultAmong}
 use Rattle.cal_events.proofs.EventLemmas.{some_line}
 use Rattle.cal_events.proofs.ReadingLemmas.{unread_among}
 use Rattle.profile.specs.rooms.Revisions as revisions
@@ -72,6 +73,15 @@ meeting_stands object vs events n e zip w =
     ]
 
 -- ---- VEVENTs
+
+-- of a method they are a message's
+all_messages : (method : Method) → is_message (purpose_of method) ≡ true
+all_messages Request = refl
+all_messages Cancel = refl
+
+pub in_message : (object : Tree) (method : Method) (purpose : Purpose) (vs : List Lines) (events : List Event) → purpose ≡ purpose_of method → AllZip (SaysEvent object (is_message purpose)) vs events
+    → AllZip (SaysEvent object true) vs events
+in_message object method purpose vs events e zip = subst (λ (b : Bool). AllZip (SaysEvent object b) vs events) (ap is_message e ∙ all_messages method) zip
 
 event_stands : (object : Tree) (method : Method) (vs : List Lines) (lines : Lines) (f : Fault) → NamesMethod (tree_own object) (method_said method) → vevents object ≡ vs → Contains vs lines
     → RefusesBy (IsUnreadOrFault object (purpose_of method) lines) f → RefusesBy (MessageFault object) f

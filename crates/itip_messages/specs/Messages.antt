@@ -15,7 +15,7 @@ use Rattle.itip_order.specs.declared.part.Slot.TheVariants.{Whole}
 use Rattle.itip_order.specs.Parts.{slot_of, revision_of}
 use Rattle.itip_messages.specs.declared.message.MessageComponent.{MessageComponent}
 use Rattle.cal_events.specs.declared.component.EventComponent.{EventComponent}
-use Rattle.cal_events.specs.declared.component.Purpose as purposes
+use Rattle.cal_events.specs.declared.component.Purpose.{Purpose}
 use Rattle.cal_events.specs.declared.component.Purpose.TheVariants as purposes
 use Rattle.cal_events.specs.Events.{event_of}
 use Rattle.itip_messages.specs.declared.message.Method.{Method}
@@ -28,7 +28,7 @@ method_said Request = profile.Request
 method_said Cancel = profile.Cancel
 
 -- what its VEVENTs are read for
-abbrev pub purpose_of : Method → purposes.Purpose
+abbrev pub purpose_of : Method → Purpose
 purpose_of Request = purposes.Request
 purpose_of Cancel = purposes.Cancel
 

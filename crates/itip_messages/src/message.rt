@@ -9,7 +9,7 @@ ghost use Rattle.ical_values.specs.Octets.{address_octets};
 ghost use Rattle.profile.specs.faults.Faults.{is_message_fault};
 ghost use Rattle.profile.specs.text.Lines.{line_value, is_same_name};
 ghost use Rattle.profile.specs.text.Values.{duration_text};
-ghost use Rattle.profile.specs.rooms.Messages.{NamesMethod, MethodFault, MessageFault, method_word, is_cancel, is_same_meeting, is_unread_method};
+ghost use Rattle.profile.specs.rooms.Messages.{NamesMethod, MethodFault, MessageFault, cancels, method_word, is_cancel, is_same_meeting, is_unread_method};
 ghost use Rattle.cal_events.specs.Events.{event_of};
 ghost use Rattle.itip_messages.specs.Messages.{IsCanonical, IsMessageOf, IsSpelled, MeetingFault, ReadFault, StandsFor, WordFault, component_names, method_said, purpose_of, said_by};
 
@@ -34,7 +34,7 @@ impl Method {
     /// The METHOD among the properties of an object.
     /// Refused: 60 for a word that names no method taken here, or two lines; 99 for one that isn't read yet, or none.
     fn of(properties: &Properties<'_>) -> Result<Method, Refusal>
-        ensures named { OnOk result (λ method. NamesMethod properties.now (method_said method)) }
+        ensures named { IfOk result (λ method. NamesMethod properties.now (method_said method)) }
         ensures refuses { IfErr result (λ e. IsTrue (is_message_fault e.number)) }
         ensures stands { IfErr result (λ e. MethodFault properties.now e.number) }
     {
@@ -45,7 +45,7 @@ impl Method {
     }
 
     fn named(line: Line<'_>) -> Result<Method, Refusal>
-        ensures named { OnOk result (λ method. is_same_name (line_value (line_text line.entry)) (method_word (method_said method)) ≡ true) }
+        ensures named { IfOk result (λ method. is_same_name (line_value (line_text line.entry)) (method_word (method_said method)) ≡ true) }
         ensures refuses { IfErr result (λ e. IsTrue (is_message_fault e.number)) }
         ensures stands { IfErr result (λ e. WordFault (line_value (line_text line.entry)) e.number) }
     {
@@ -73,10 +73,17 @@ impl Method {
     }
 
     /// Whether it is CANCEL.
-    fn is_cancel(self) -> bool
+    pub(crate) fn is_cancel(self) -> bool
         ensures { result ≡ is_cancel (method_said self) }
     {
         matches!(self, Method::Cancel)
+    }
+
+    /// Whether such a message cancels what a VEVENT of it says: by METHOD, or by STATUS.
+    fn cancels(self, event: &EventComponent) -> bool
+        ensures { result ≡ cancels (said_by self event.now) }
+    {
+        self.is_cancel() || event.cancelled
     }
 }
 
@@ -178,7 +185,7 @@ impl Message {
     {
         let canonical = canonical_body(alloc, &event)?;
         let end = event.end();
-        let cancelled = method.is_cancel() || event.cancelled;
+        let cancelled = method.cancels(&event);
         let attendees = Attendees::of(alloc, event.attendees)?;
         let (Some(organiser), Some(stamp)) = (event.organiser, event.stamp) else {
             unreachable!()

@@ -18,15 +18,15 @@ returns-in_err-line-clause-stands c object =
     (subst (EventFault object (is_message c.args.purpose) c.args.properties.now) (sym c.in_err-line.ensures.refuses)
     (twice (codes "ORGANIZER") (1, omega arith, refl) c.in_err-line.ensures.twice))
 
-pub returns-in_err-read-in-Some-default-clause-stands : goal.returns-in_err-read-in-Some-default-clause-stands
-returns-in_err-read-in-Some-default-clause-stands c object =
+pub returns-in_err-read-in-Some-clause-stands : goal.returns-in_err-read-in-Some-clause-stands
+returns-in_err-read-in-Some-clause-stands c object =
     let P = EventFault object (is_message c.args.purpose) c.args.properties.now in
-    let once = c.in_ok-line.ensures.found ∙ ap (λ l. option_to_list (option_map line_text l)) c.in-Some-default.is-0 in
-    err_exit _ (RefusesBy P) _ c.from_residual-in_err-read-in-Some-default.ensures.1
+    let once = c.in_ok-line.ensures.found ∙ ap (λ l. option_to_list (option_map line_text l)) c.in-Some.is in
+    err_exit _ (RefusesBy P) _ c.from_residual-in_err-read-in-Some.ensures.1
     (by_number _ P _ 15
-    (λ no. bad_organiser (some_line (codes "ORGANIZER") IsNoAddress c.args.properties.now (line_text c.in-Some-default.line) once (λ h. no (subst IsAddress (sym c.value.ensures) h))))
-    c.in_err-read-in-Some-default.ensures.refuses c.in_err-read-in-Some-default.ensures.none)
+    (λ no. bad_organiser (some_line (codes "ORGANIZER") IsNoAddress c.args.properties.now (line_text c.in-Some.line) once (λ h. no (subst IsAddress (sym c.value.ensures) h))))
+    c.in_err-read-in-Some.ensures.refuses c.in_err-read-in-Some.ensures.none)
 
-pub returns-in-None-Request-clause-stands : goal.returns-in-None-Request-clause-stands
-returns-in-None-Request-clause-stands c object =
-    no_organiser (ap is_message c.in-None-Request.is-1) (c.in_ok-line.ensures.found ∙ ap (λ l. option_to_list (option_map line_text l)) c.in-None-Request.is-0)
+pub returns-in-None-clause-stands : goal.returns-in-None-clause-stands
+returns-in-None-clause-stands c object =
+    no_organiser (sym c.if-is_message.ensures) (c.in_ok-line.ensures.found ∙ ap (λ l. option_to_list (option_map line_text l)) c.in-None.is)

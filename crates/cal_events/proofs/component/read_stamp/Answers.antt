@@ -17,15 +17,15 @@ returns-in_err-line-clause-stands c object =
     refusal_exit _ P _ c.from_residual.ensures.1
     (subst P (sym c.in_err-line.ensures.refuses) (twice (codes "DTSTAMP") (2, omega arith, refl) c.in_err-line.ensures.twice))
 
-pub returns-in_err-read-in-Some-default-clause-stands : goal.returns-in_err-read-in-Some-default-clause-stands
-returns-in_err-read-in-Some-default-clause-stands c object =
+pub returns-in_err-read-in-Some-clause-stands : goal.returns-in_err-read-in-Some-clause-stands
+returns-in_err-read-in-Some-clause-stands c object =
     let P = EventFault object (is_message c.args.purpose) c.args.properties.now in
-    let once = c.in_ok-line.ensures.found ∙ ap (λ l. option_to_list (option_map line_text l)) c.in-Some-default.is-0 in
-    refusal_exit _ P _ c.from_residual-in_err-read-in-Some-default.ensures.1
-    (subst P (sym c.in_err-read-in-Some-default.ensures.refuses)
-    (bad_stamp (some_line (codes "DTSTAMP") (λ line. IsNoStamp (line_value line)) c.args.properties.now (line_text c.in-Some-default.line) once
-    (subst IsNoStamp c.value.ensures c.in_err-read-in-Some-default.ensures.none))))
+    let once = c.in_ok-line.ensures.found ∙ ap (λ l. option_to_list (option_map line_text l)) c.in-Some.is in
+    refusal_exit _ P _ c.from_residual-in_err-read-in-Some.ensures.1
+    (subst P (sym c.in_err-read-in-Some.ensures.refuses)
+    (bad_stamp (some_line (codes "DTSTAMP") (λ line. IsNoStamp (line_value line)) c.args.properties.now (line_text c.in-Some.line) once
+    (subst IsNoStamp c.value.ensures c.in_err-read-in-Some.ensures.none))))
 
-pub returns-in-None-Request-clause-stands : goal.returns-in-None-Request-clause-stands
-returns-in-None-Request-clause-stands c object =
-    no_stamp_given (ap is_message c.in-None-Request.is-1) (c.in_ok-line.ensures.found ∙ ap (λ l. option_to_list (option_map line_text l)) c.in-None-Request.is-0)
+pub returns-in-None-clause-stands : goal.returns-in-None-clause-stands
+returns-in-None-clause-stands c object =
+    no_stamp_given (sym c.if-is_message.ensures) (c.in_ok-line.ensures.found ∙ ap (λ l. option_to_list (option_map line_text l)) c.in-None.is)

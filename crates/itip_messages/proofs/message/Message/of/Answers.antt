@@ -14,12 +14,14 @@ returns c =
       revision = record { sequence = event.sequence; stamp = c.in-Some-Some.stamp };
       start = event.times.instant;
       end = to_z w64 (of_z w64 c.end-end.result);
+      cancelled = c.cancels-cancelled.result;
       canonical = c.in_ok-canonical.canonical;
       attendees = c.in_ok-attendees.attendees;
     } in
     let one : c.push.new.self.items ≡ component ∷ [] = rw (c.in_ok-push.ensures.items, c.new-components.ensures.items) refl in
     record {
       component = component;
+      method = refl;
       organiser = ap (option_map address_octets) c.in-Some-Some.is-0;
       uid = refl;
       one = one;
@@ -29,6 +31,7 @@ returns c =
         stamp = c.in-Some-Some.is-1;
         start = refl;
         end = same ∙ c.end-end.ensures;
+        cancelled = c.cancels-cancelled.ensures;
         canonical = c.in_ok-canonical.ensures;
         attendees = c.in_ok-attendees.ensures;
       };

@@ -1,0 +1,10 @@
+use Rattle.std.proofs.Common.{◌≡◌, map, drop, codes}
+use Rattle.std.specs.List.{list_any}
+use Rattle.ical_lines.specs.Text.{line_text}
+use Rattle.profile.specs.events.Properties.{is_of}
+use Rattle.cal_events.proofs.properties.has_start.Given as goal
+
+-- the lines that are left decide it
+abbrev pub invariant-loop-line : goal.invariant-loop-line
+invariant-loop-line l =
+    list_any (is_of (codes "DTSTART")) l.event ≡ list_any (is_of (codes "DTSTART")) (map line_text (drop l.line-index l.line-items))
