@@ -19,9 +19,10 @@ use Rattle.cal_events.specs.Events.{event_of}
 use Rattle.cal_events.specs.SaidMeetings.{said_meeting}
 use Rattle.cal_events.specs.declared.event.Event as declared
 use Rattle.cal_events.specs.declared.component.EventComponent.{EventComponent}
+use Rattle.cal_events.specs.declared.rule_days.RuleDays.{RuleDays}
 use Rattle.cal_events.specs.declared.instances.Bound.{Bound}
 use Rattle.cal_events.specs.declared.instances.Place.{Place}
-use Rattle.cal_events.specs.Instances.{IsAfter, IsBefore, IsAscending, IsWanted, NoneBefore, IsLeast, lesser, IsMovedTo, IsSoonest, IsSooner, IsPastSlot, HasPassed, IsHeldAt, IsHeld, IsAt, own_place}
+use Rattle.cal_events.specs.Instances.{IsAfter, IsBefore, IsAscending, IsWanted, NoneBefore, AreWalked, IsLeast, lesser, IsMovedTo, IsSoonest, IsSooner, IsPastSlot, HasPassed, IsHeldAt, IsHeld, IsAt, own_place}
 
 -- ---- overrides
 
@@ -310,11 +311,17 @@ admitted bound p start slot (inr a) (inr b) = inr (a.0 ∙ b.0, past bound.slot 
     past None h = tt
     past (Some x) h = omega (arith, ints, h, b.1)
 
-pub passed_more : (master : Option EventComponent) (os : List EventComponent) (bound : Bound) (p : Place) (day : ℕ) → IsAfter bound p.start p.slot → HasPassed master os bound day
-    → HasPassed master os (record { start = p.start; slot = Some p.slot }) day
-passed_more master os bound p day a h c is rule e first second n on lt holds t means w =
-    h c is rule e first second n on lt holds t means
+none_more : (master : Event) (overrides : List Event) (bound : Bound) (p : Place) (day : ℕ) → IsAfter bound p.start p.slot → NoneBefore master overrides bound day
+    → NoneBefore master overrides (record { start = p.start; slot = Some p.slot }) day
+none_more master overrides bound p day a h rule e first second n on lt holds t means w =
+    h rule e first second n on lt holds t means
     (record { after = admitted bound p t t a w.after; in_dates = w.in_dates; not_excepted = w.not_excepted; not_overridden = w.not_overridden })
+
+pub passed_more : (master : Option EventComponent) (os : List EventComponent) (bound : Bound) (p : Place) (days : RuleDays) → IsAfter bound p.start p.slot → HasPassed master os bound days
+    → HasPassed master os (record { start = p.start; slot = Some p.slot }) days
+passed_more master os bound p days a h c is =
+    let w = h c is in
+    record { listed = w.listed; none = none_more (event_of c) (map event_of os) bound p days.from a w.none; kept = w.kept }
 
 -- ---- instances and their places
 
@@ -447,7 +454,7 @@ module _ (event : declared.Event) (bound : Bound) (r : Option Place) (h : IsSoon
 pub bound_same : (a b start slot : ℤ) → a ≡ start → b ≡ slot → bound_at a b ≡ bound_at start slot
 bound_same a b start slot e f = λ i. record { start = e i; slot = Some (f i) }
 
-pub passed_at : (master : Option EventComponent) (os : List EventComponent) (bound : Bound) (p : Place) (a b : ℤ) (day : ℕ) → a ≡ p.start → b ≡ p.slot → IsAfter bound p.start p.slot
-    → HasPassed master os bound day → HasPassed master os (bound_at a b) day
-passed_at master os bound p a b day e f after h =
-    subst (λ (x : Bound). HasPassed master os x day) (sym (bound_same a b p.start p.slot e f)) (passed_more master os bound p day after h)
+pub passed_at : (master : Option EventComponent) (os : List EventComponent) (bound : Bound) (p : Place) (a b : ℤ) (days : RuleDays) → a ≡ p.start → b ≡ p.slot → IsAfter bound p.start p.slot
+    → HasPassed master os bound days → HasPassed master os (bound_at a b) days
+passed_at master os bound p a b days e f after h =
+    subst (λ (x : Bound). HasPassed master os x days) (sym (bound_same a b p.start p.slot e f)) (passed_more master os bound p days after h)

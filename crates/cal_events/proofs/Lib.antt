@@ -31,3 +31,5 @@ pub mod SweepLemmas
 mod Worked
 mod InstanceLemmas
 mod Clocks
+mod RuleDayLemmas
+mod Walks

@@ -7,5 +7,6 @@ pub mod Zoned
 pub mod Occurrences
 pub mod Meetings
 pub mod SaidMeetings
+pub mod RuleDaysLeft
 pub mod Instances
 pub mod Left

@@ -11,6 +11,7 @@ mod instances;
 mod occurrences;
 mod properties;
 mod reading;
+mod rule_days;
 pub mod sweep;
 mod zoned;
 mod zones;
