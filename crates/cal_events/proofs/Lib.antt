@@ -33,3 +33,5 @@ mod InstanceLemmas
 mod Clocks
 mod RuleDayLemmas
 mod Walks
+mod InOrder
+mod HiddenLemmas

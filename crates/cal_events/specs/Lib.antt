@@ -7,6 +7,7 @@ pub mod Zoned
 pub mod Occurrences
 pub mod Meetings
 pub mod SaidMeetings
+pub mod Ordered
 pub mod RuleDaysLeft
 pub mod Instances
 pub mod Left

@@ -1,15 +1,16 @@
 //! The instances of an event (RFC 5545 3.8.5.3, 3.8.5.2, 3.8.5.1, 3.8.4.4), by start and then by slot. None is kept: each is looked for from
 //! the place of the one before it, and on the days of the rule that are still to be looked at.
 
-ghost use Rattle.std.specs.Prelude.{◌≡◌, ◌↔◌, ◌<◌, ◌≤ℤ◌, pos, IsTrue, Some, None, map, option_map, Contains, IfSome, IfNone};
+ghost use Rattle.std.specs.Prelude.{◌≡◌, ◌↔◌, ◌<◌, ◌≤ℤ◌, ◌<ℤ◌, ℤ, pos, IsTrue, Some, None, map, option_map, Contains, IfSome, IfNone};
 ghost use Rattle.profile.specs.series.Days.{day_index};
 ghost use Rattle.profile.specs.series.Zones.{IsOneMeaning, IsNearEpoch, Means, local_time};
 ghost use Rattle.profile.specs.events.ZonedTimes.{clock_of};
-ghost use Rattle.profile.specs.checker.Instances.{Booked};
+ghost use Rattle.profile.specs.checker.Instances.{Booked, horizon};
 ghost use Rattle.profile.specs.events.Starts.{IsGiven, IsOverridden, IsStart, IsInstance, EndsAt, key_at};
 ghost use Rattle.cal_events.specs.Calendars.{key_of, instance_of};
 ghost use Rattle.cal_events.specs.SaidMeetings.{said_meeting};
 ghost use Rattle.cal_events.specs.Events.{event_of, zone_said};
+ghost use Rattle.cal_events.specs.Meetings.{IsNamed};
 ghost use Rattle.cal_events.specs.Instances.{IsAfter, IsPastSlot, IsBefore, IsAscending, IsWanted, NoneBefore, AreWalked, StayWalked, IsLeast, lesser, IsAt, IsMovedTo, IsSoonest, IsSooner, HasGoodClock, HasPassed, IsHeldAt, IsHeld, own_place};
 ghost use Rattle.cal_events.specs.declared.component.EventComponent.{EventComponent};
 
@@ -17,6 +18,7 @@ use crate::component::EventComponent;
 use crate::event::Event;
 use crate::event_times::FIRST_SECOND;
 use crate::instance::{HORIZON, Instance, InstanceKey};
+use crate::instants::Instants;
 use crate::rule_days::RuleDays;
 use crate::zoned::ZonedTime;
 use cal_days::Day;
@@ -59,6 +61,16 @@ impl Bound {
             return self.admits_slot(slot);
         }
         self.start < start
+    }
+
+    /// The first start that is to come where an instance's slot is its start.
+    fn first_own_start(self) -> i64
+        ensures { (t : ℤ) → t <ℤ horizon → IsAfter self t t ↔ (result ≤ℤ t) }
+    {
+        if self.admits(self.start, self.start) {
+            return self.start;
+        }
+        self.start.saturating_add(1)
     }
 
     /// Whether an instance of its start and of that slot is.
@@ -123,36 +135,23 @@ impl<'a> Iterator for Instances<'a> {
 }
 
 /// Whether an instant that the master's rule or an RDATE gives is one of its starts, and is to come.
-fn is_wanted(
-    master: &EventComponent,
-    overrides: &[EventComponent],
-    after: Bound,
-    instant: i64,
-) -> bool
-    ensures { IsTrue result ↔ IsWanted (event_of master.now) (map event_of overrides.now) after instant }
+fn is_wanted(event: &Event, after: Bound, instant: i64) -> bool
+    ensures { (master : EventComponent) → event.now.master ≡ Some master → IsTrue result ↔ IsWanted (event_of master) (map event_of event.now.overrides.items) after instant }
 {
     if !after.admits(instant, instant) {
         return false;
     }
+    is_start(instant, &event.hidden)
+}
+
+/// Whether an instant that is given is a start: it lies in the dates that an event may name, and none hides it.
+pub(crate) fn is_start(instant: i64, hidden: &Instants) -> bool
+    ensures { IsTrue result ↔ (IsNamed instant × (Contains hidden.now instant → ⊥)) }
+{
     if instant < FIRST_SECOND || instant >= HORIZON {
         return false;
     }
-    if master.exceptions.contains(&instant) {
-        return false;
-    }
-    !is_overridden(overrides, instant)
-}
-
-/// Whether one of these overrides stands for an instant.
-fn is_overridden(overrides: &[EventComponent], instant: i64) -> bool
-    ensures { IsTrue result ↔ IsOverridden (map event_of overrides.now) instant }
-{
-    for component in overrides {
-        if stands_for(component, instant) {
-            return true;
-        }
-    }
-    false
+    !hidden.has(instant)
 }
 
 /// Whether an override stands for an instant.
@@ -166,14 +165,10 @@ fn stands_for(component: &EventComponent, instant: i64) -> bool
 }
 
 /// The first start after a bound that RDATE adds.
-fn first_added(master: &EventComponent, overrides: &[EventComponent], after: Bound) -> Option<i64>
-    ensures { IsLeast (λ t. Contains (event_of master.now).additions t × IsWanted (event_of master.now) (map event_of overrides.now) after t) result }
+fn first_added(event: &Event, after: Bound) -> Option<i64>
+    ensures { (master : EventComponent) → event.now.master ≡ Some master → IsLeast (λ t. Contains (event_of master).additions t × IsWanted (event_of master) (map event_of event.now.overrides.items) after t) result }
 {
-    let mut first = None;
-    for instant in &master.additions {
-        first = lesser(first, wanted_at(master, overrides, after, *instant));
-    }
-    first
+    event.added.first_from(after.first_own_start())
 }
 
 /// The lesser of two instants, where there are any.
@@ -190,36 +185,32 @@ fn lesser(a: Option<i64>, b: Option<i64>) -> Option<i64>
 
 /// The first start after a bound that DTSTART or the rule gives.
 fn first_given(
+    event: &Event,
     master: &EventComponent,
-    overrides: &[EventComponent],
     after: Bound,
     days: &mut RuleDays<'_>,
 ) -> Option<i64>
+    requires master { event.now.master ≡ Some master.now }
     requires meaning { IsOneMeaning (clock_of (event_of master.now).times.zone) }
     requires ascending { IsAscending (clock_of (event_of master.now).times.zone) }
-    requires walked { AreWalked (event_of master.now) (map event_of overrides.now) after days.old }
-    ensures first { IsLeast (λ t. IsGiven (event_of master.now).times (event_of master.now).rule t × IsWanted (event_of master.now) (map event_of overrides.now) after t) result }
-    ensures walked { AreWalked (event_of master.now) (map event_of overrides.now) after days.new }
+    requires walked { AreWalked (event_of master.now) (map event_of event.now.overrides.items) after days.old }
+    ensures first { IsLeast (λ t. IsGiven (event_of master.now).times (event_of master.now).rule t × IsWanted (event_of master.now) (map event_of event.now.overrides.items) after t) result }
+    ensures walked { AreWalked (event_of master.now) (map event_of event.now.overrides.items) after days.new }
 {
     match &master.rule {
-        Some(rule) => first_on_rule(master, rule, overrides, after, days),
+        Some(rule) => first_on_rule(event, master, rule, after, days),
         None => {
             let start = master.times.instant.instant();
-            wanted_at(master, overrides, after, start)
+            wanted_at(event, after, start)
         }
     }
 }
 
 /// An instant that the master's rule or an RDATE gives, if it is one of its starts and is to come.
-fn wanted_at(
-    master: &EventComponent,
-    overrides: &[EventComponent],
-    after: Bound,
-    instant: i64,
-) -> Option<i64>
-    ensures { IsLeast (λ t. (t ≡ instant) × IsWanted (event_of master.now) (map event_of overrides.now) after t) result }
+fn wanted_at(event: &Event, after: Bound, instant: i64) -> Option<i64>
+    ensures { (master : EventComponent) → event.now.master ≡ Some master → IsLeast (λ t. (t ≡ instant) × IsWanted (event_of master) (map event_of event.now.overrides.items) after t) result }
 {
-    if is_wanted(master, overrides, after, instant) {
+    if is_wanted(event, after, instant) {
         return Some(instant);
     }
     None
@@ -227,24 +218,25 @@ fn wanted_at(
 
 /// The first start after a bound that the rule gives.
 fn first_on_rule(
+    event: &Event,
     master: &EventComponent,
     _rule: &Rule,
-    overrides: &[EventComponent],
     after: Bound,
     days: &mut RuleDays<'_>,
 ) -> Option<i64>
     requires rule { master.now.rule ≡ Some _rule.now }
+    requires master { event.now.master ≡ Some master.now }
     requires meaning { IsOneMeaning (clock_of (event_of master.now).times.zone) }
     requires ascending { IsAscending (clock_of (event_of master.now).times.zone) }
-    requires walked { AreWalked (event_of master.now) (map event_of overrides.now) after days.old }
-    ensures first { IsLeast (λ t. IsGiven (event_of master.now).times (event_of master.now).rule t × IsWanted (event_of master.now) (map event_of overrides.now) after t) result }
-    ensures walked { AreWalked (event_of master.now) (map event_of overrides.now) after days.new }
+    requires walked { AreWalked (event_of master.now) (map event_of event.now.overrides.items) after days.old }
+    ensures first { IsLeast (λ t. IsGiven (event_of master.now).times (event_of master.now).rule t × IsWanted (event_of master.now) (map event_of event.now.overrides.items) after t) result }
+    ensures walked { AreWalked (event_of master.now) (map event_of event.now.overrides.items) after days.new }
 {
     let (_, second) = master.times.start.local.day_and_second();
     pass_given(after, days);
     while let Some(found) = days.next() {
         let start = start_on(&master.times.start, found, second);
-        if is_wanted(master, overrides, after, start) {
+        if is_wanted(event, after, start) {
             days.put_back(found, start);
             return Some(start);
         }
@@ -364,7 +356,7 @@ fn first_place(event: &Event, after: Bound, days: &mut RuleDays<'_>) -> Option<P
     let moved = first_moved(event.overrides.as_slice(), after);
     match &event.master {
         Some(master) => {
-            let start = first_start(master, event.overrides.as_slice(), after, days);
+            let start = first_start(event, master, after, days);
             sooner(own_place(start), moved)
         }
         None => moved,
@@ -373,18 +365,19 @@ fn first_place(event: &Event, after: Bound, days: &mut RuleDays<'_>) -> Option<P
 
 /// The first start of the master that is to come.
 fn first_start(
+    event: &Event,
     master: &EventComponent,
-    overrides: &[EventComponent],
     after: Bound,
     days: &mut RuleDays<'_>,
 ) -> Option<i64>
+    requires master { event.now.master ≡ Some master.now }
     requires clock { HasGoodClock (event_of master.now) }
-    requires walked { AreWalked (event_of master.now) (map event_of overrides.now) after days.old }
-    ensures first { IsLeast (λ t. IsStart (event_of master.now) (map event_of overrides.now) t × IsAfter after t t) result }
-    ensures walked { AreWalked (event_of master.now) (map event_of overrides.now) after days.new }
+    requires walked { AreWalked (event_of master.now) (map event_of event.now.overrides.items) after days.old }
+    ensures first { IsLeast (λ t. IsStart (event_of master.now) (map event_of event.now.overrides.items) t × IsAfter after t t) result }
+    ensures walked { AreWalked (event_of master.now) (map event_of event.now.overrides.items) after days.new }
 {
-    let given = first_given(master, overrides, after, days);
-    let added = first_added(master, overrides, after);
+    let given = first_given(event, master, after, days);
+    let added = first_added(event, after);
     lesser(given, added)
 }
 

@@ -8,6 +8,7 @@ mod event_rule;
 mod event_times;
 pub mod instance;
 mod instances;
+mod instants;
 mod occurrences;
 mod properties;
 mod reading;

@@ -9,7 +9,7 @@ use Rattle.cal_events.proofs.Walks.{walked_on, walked_out, walked_back}
 use Rattle.cal_events.proofs.instances.first_on_rule.Goals as goal
 
 pub loop-found-init : goal.loop-found-init
-loop-found-init c = c.pass_given.ensures (event_of c.args.master.now) (map event_of c.args.overrides.now) c.requires.walked
+loop-found-init c = c.pass_given.ensures (event_of c.args.master.now) (map event_of c.args.event.now.overrides.items) c.requires.walked
 
 pub start_on-start-requires-clause-day : goal.start_on-start-requires-clause-day
 start_on-start-requires-clause-day c =
@@ -31,8 +31,8 @@ returns-then-is_wanted-clause-first c =
     let rule = c.args._rule.now in
     let walked = c.loop-found.invariant in
     let step = c.in-Some.ensures rule (walked.listed rule c.requires.rule) in
-    rw same (first_of_rule (event_of c.args.master.now) (map event_of c.args.overrides.now) c.args.after rule c.requires.rule c.requires.meaning (day_index d.0) d.1 on c.loop-found.days.from walked.none
-    c.requires.ascending (day_index c.in-Some.found) step.2.0 c.start_on-start.result c.start_on-start.ensures.meaning (rw same at (c.if-is_wanted.ensures.0 refl)))
+    rw same (first_of_rule (event_of c.args.master.now) (map event_of c.args.event.now.overrides.items) c.args.after rule c.requires.rule c.requires.meaning (day_index d.0) d.1 on c.loop-found.days.from walked.none
+    c.requires.ascending (day_index c.in-Some.found) step.2.0 c.start_on-start.result c.start_on-start.ensures.meaning (rw same at ((c.if-is_wanted.ensures c.args.master.now c.requires.master).0 refl)))
 
 pub returns-then-is_wanted-clause-walked : goal.returns-then-is_wanted-clause-walked
 returns-then-is_wanted-clause-walked c =
@@ -42,7 +42,7 @@ returns-then-is_wanted-clause-walked c =
     let rule = c.args._rule.now in
     let walked = c.loop-found.invariant in
     let step = c.in-Some.ensures rule (walked.listed rule c.requires.rule) in
-    walked_back (event_of c.args.master.now) (map event_of c.args.overrides.now) c.args.after rule c.requires.rule c.requires.meaning (day_index d.0) d.1 on c.loop-found.days c.next.new.self walked
+    walked_back (event_of c.args.master.now) (map event_of c.args.event.now.overrides.items) c.args.after rule c.requires.rule c.requires.meaning (day_index d.0) d.1 on c.loop-found.days c.next.new.self walked
     c.in-Some.found c.start_on-start.result c.put_back.new.self step c.start_on-start.ensures.meaning
     (c.put_back.ensures.days rule c.loop-found.days.from step.0 step.2.0 step.2.1) c.put_back.ensures.from c.put_back.ensures.first (c.put_back.ensures.start ∙ same)
 
@@ -54,8 +54,8 @@ loop-found-preserved c =
     let rule = c.args._rule.now in
     let walked = c.loop-found.invariant in
     let step = c.in-Some.ensures rule (walked.listed rule c.requires.rule) in
-    walked_on (event_of c.args.master.now) (map event_of c.args.overrides.now) c.args.after rule c.requires.rule c.requires.meaning (day_index d.0) d.1 on c.loop-found.days c.next.new.self walked
-    c.in-Some.found c.start_on-start.result step c.start_on-start.ensures.meaning (λ w. false≢true (c.if-is_wanted.ensures.1 (rw same w)))
+    walked_on (event_of c.args.master.now) (map event_of c.args.event.now.overrides.items) c.args.after rule c.requires.rule c.requires.meaning (day_index d.0) d.1 on c.loop-found.days c.next.new.self walked
+    c.in-Some.found c.start_on-start.result step c.start_on-start.ensures.meaning (λ w. false≢true ((c.if-is_wanted.ensures c.args.master.now c.requires.master).1 (rw same w)))
 
 pub loop-found-smaller : goal.loop-found-smaller
 loop-found-smaller c =
@@ -71,7 +71,7 @@ returns-clause-first c =
     let rule = c.args._rule.now in
     let walked = c.loop-found.invariant in
     let step = c.in_default.ensures rule (walked.listed rule c.requires.rule) in
-    none_of_rule (event_of c.args.master.now) (map event_of c.args.overrides.now) c.args.after rule c.requires.rule c.requires.meaning (day_index d.0) d.1 on c.loop-found.days.from walked.none step.2.0
+    none_of_rule (event_of c.args.master.now) (map event_of c.args.event.now.overrides.items) c.args.after rule c.requires.rule c.requires.meaning (day_index d.0) d.1 on c.loop-found.days.from walked.none step.2.0
 
 pub returns-clause-walked : goal.returns-clause-walked
 returns-clause-walked c =
@@ -80,4 +80,4 @@ returns-clause-walked c =
     let rule = c.args._rule.now in
     let walked = c.loop-found.invariant in
     let step = c.in_default.ensures rule (walked.listed rule c.requires.rule) in
-    walked_out (event_of c.args.master.now) (map event_of c.args.overrides.now) c.args.after rule c.requires.rule c.requires.meaning (day_index d.0) d.1 on c.loop-found.days c.next.new.self walked step
+    walked_out (event_of c.args.master.now) (map event_of c.args.event.now.overrides.items) c.args.after rule c.requires.rule c.requires.meaning (day_index d.0) d.1 on c.loop-found.days c.next.new.self walked step

@@ -4,7 +4,7 @@ use Rattle.cal_events.specs.Instances.{AreWalked}
 use Rattle.cal_events.proofs.instances.first_on_rule.Given as goal
 
 abbrev pub invariant-loop-found : goal.invariant-loop-found
-invariant-loop-found l = AreWalked (event_of l.master) (map event_of l.overrides) l.after l.days
+invariant-loop-found l = AreWalked (event_of l.master) (map event_of l.event.overrides.items) l.after l.days
 
 abbrev pub decreases-loop-found : goal.decreases-loop-found
 decreases-loop-found l = 4_000_000 - l.days.from

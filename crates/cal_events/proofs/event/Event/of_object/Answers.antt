@@ -1,4 +1,4 @@
-use Rattle.std.proofs.Common.{◌≢◌, ◌<◌, subst, refl, List, map, length, ℤ}
+use Rattle.std.proofs.Common.{◌∙◌, ◌≢◌, ◌<◌, sym, ap, subst, List, map, length, ℤ}
 use Rattle.std.specs.Prelude.{AllPairs, option_map}
 use Rattle.ical_lines.specs.Fault.{RefusesBy}
 use Rattle.ical_tree.specs.Tree.{tree_of}
@@ -8,6 +8,8 @@ use Rattle.cal_events.specs.declared.component.EventComponent.{EventComponent}
 use Rattle.cal_events.specs.declared.component.Purpose.TheVariants.{Meeting}
 use Rattle.cal_events.specs.Events.{event_of, vevents_of, IsUnreadOrFaultAmong}
 use Rattle.cal_events.specs.Meetings.{IsNotOne}
+use Rattle.cal_events.specs.SaidMeetings.{said_meeting}
+use Rattle.std.specs.Option.{option_to_list}
 use Rattle.cal_events.proofs.TreeLemmas.{vevents_tree}
 use Rattle.cal_events.proofs.ZonedLemmas.{weaker_fault}
 use Rattle.cal_events.proofs.Clocks.{all_clocks, master_good}
@@ -45,18 +47,21 @@ returns-then-has_twins-clause-stands c =
     (map event_of d.overrides.items) d.instants.items c.in_ok-divided.ensures.overrides c.in_ok-divided.ensures.instants
     (subst (λ (l : List ℤ). AllPairs ◌≢◌ l → ⊥) c.deref-2.ensures.value c.if-has_twins.ensures)
 
+pub into_event-requires-clause-clock : goal.into_event-requires-clause-clock
+into_event-requires-clause-clock c =
+    let object = c.args.object.now in
+    let events = map event_of c.in_ok-components.components.items in
+    master_good events c.in_ok-divided.divided.master (all_clocks (tree_of object) (vevents_of object) events c.in_ok-components.ensures.says) c.in_ok-divided.ensures.master
+
 pub returns-clause-says : goal.returns-clause-says
 returns-clause-says c =
     let object = c.args.object.now in
     let d = c.in_ok-divided.divided in
+    let event = c.in_ok-into_event.field-0 in
+    let same = c.in_ok-into_event.ensures in
     meeting_there (tree_of object) (vevents_of object) (vevents_tree object) (map event_of c.in_ok-components.components.items) c.in_ok-components.ensures.says
-    (map event_of d.overrides.items) d.instants.items c.in_ok-divided.ensures.overrides c.in_ok-divided.ensures.instants (record { master = option_map event_of d.master; overrides = map event_of d.overrides.items })
+    (map event_of d.overrides.items) d.instants.items c.in_ok-divided.ensures.overrides c.in_ok-divided.ensures.instants (said_meeting event)
     (subst (λ (l : List EventComponent). 0 < length (map event_of l)) c.deref.ensures.value c.in_ok-judge_meeting.ensures.some)
-    (subst (λ (l : List EventComponent). AreOfOne (map event_of l)) c.deref.ensures.value c.in_ok-judge_meeting.ensures.one) c.in_ok-divided.ensures.master refl
+    (subst (λ (l : List EventComponent). AreOfOne (map event_of l)) c.deref.ensures.value c.in_ok-judge_meeting.ensures.one)
+    (c.in_ok-divided.ensures.master ∙ ap (λ m. option_to_list (option_map event_of m)) (sym same.0)) (ap (map event_of) same.1)
     (subst (λ (l : List ℤ). AllPairs ◌≢◌ l) c.deref-2.ensures.value c.if-has_twins.ensures)
-
-pub invariant_of-result : goal.invariant_of-result
-invariant_of-result c =
-    let object = c.args.object.now in
-    let events = map event_of c.in_ok-components.components.items in
-    record { clock = master_good events c.in_ok-divided.divided.master (all_clocks (tree_of object) (vevents_of object) events c.in_ok-components.ensures.says) c.in_ok-divided.ensures.master }
