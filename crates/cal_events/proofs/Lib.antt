@@ -35,3 +35,4 @@ mod RuleDayLemmas
 mod Walks
 mod InOrder
 mod HiddenLemmas
+mod WholeLists

@@ -11,3 +11,4 @@ pub mod Ordered
 pub mod RuleDaysLeft
 pub mod Instances
 pub mod Left
+pub mod GivenWhole

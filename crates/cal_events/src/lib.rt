@@ -14,6 +14,7 @@ mod properties;
 mod reading;
 mod rule_days;
 pub mod sweep;
+mod whole;
 mod zoned;
 mod zones;
 
@@ -25,4 +26,5 @@ pub use instance::{HORIZON, Instance, InstanceKey, OwnedInstance, OwnedKey};
 pub use instances::Instances;
 pub use reading::{one_calendar, one_calendar_text, read_events, refuse_unread_events};
 pub use sweep::{Overlap, Span, first_overlap};
+pub use whole::all_instances;
 pub use zoned::{ZonedTime, one_zoned_time};
