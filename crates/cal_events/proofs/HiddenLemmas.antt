@@ -1,11 +1,11 @@
 -- The instants that an event keeps in order, and its starts.
-use Rattle.std.proofs.Common.{◌≡◌, ◌∙◌, ℕ, zero, suc, ◌+◌, ◌<◌, ◌≤◌, Bool, true, false, List, [], ◌∷◌, ◌++◌, length, map, get_or, take, take_all, refl, sym, ap, subst, arith, inl, inr, ◌⊎◌, ℤ, ◌<ℤ◌, ◌≤ℤ◌}
+use Rattle.std.proofs.Common.{◌≡◌, ◌∙◌, ℕ, zero, suc, ◌+◌, ◌<◌, ◌≤◌, true, List, [], ◌∷◌, ◌++◌, length, map, get_or, take, take_all, refl, sym, ap, subst, arith, inl, inr, ◌⊎◌, ℤ, ◌<ℤ◌, ◌≤ℤ◌}
 use Rattle.std.specs.Prelude.{Contains, Option, Some, None, ◌↔◌, IfOk, Result, Ok, Err}
 use Rattle.std.specs.declared.cmp.Ordering.{Ordering}
 use Rattle.std.specs.declared.cmp.Ordering.TheVariants.{Less, Equal, Greater}
 use Rattle.std.specs.Ordering.{int_cmp, int_eq, is_eq}
 use Rattle.std.specs.List.Sorted.{IsPermutation}
-use Rattle.std.proofs.lemmas.Bool.{true≢false, false≢true}
+use Rattle.std.proofs.lemmas.Bool.{false≢true}
 use Rattle.std.proofs.lemmas.Option.{same_Some}
 use Rattle.std.proofs.lemmas.Cmp.{int_ranked, int_cmp_total, tied_itself}
 use Rattle.std.proofs.lemmas.List.{take_more}
@@ -14,7 +14,6 @@ use Rattle.std.proofs.lemmas.List.Folds.{Any-from_list_any, list_any-from_Any}
 use Rattle.std.proofs.lemmas.List.Sorted.{Contains-permutation, IsPermutation-sym}
 use Rattle.profile.specs.checker.Instances.{horizon}
 use Rattle.profile.specs.events.Events.{Event}
-use Rattle.profile.specs.events.Starts.{IsOverridden}
 use Rattle.cal_events.specs.Meetings.{IsNamed, instants_said}
 use Rattle.cal_events.specs.declared.component.EventComponent.{EventComponent}
 use Rattle.cal_events.specs.declared.instances.Bound.{Bound}

@@ -36,3 +36,4 @@ mod Walks
 mod InOrder
 mod HiddenLemmas
 mod WholeLists
+mod Overlaps

@@ -1,8 +1,7 @@
 -- The rule days from a day on, taken one by one.
 use Rattle.std.proofs.Common.{◌≡◌, ◌∙◌, sym, ap, subst, refl, ℕ, zero, suc, ◌+◌, ◌-◌, ◌<◌, ◌≤◌, Bool, true, false, List, [], ◌∷◌, filter, inl, inr, cond, arith}
 use Rattle.std.specs.List.{range_with_len}
-use Rattle.std.specs.Prelude.{MatchOption}
-use Rattle.std.proofs.lemmas.Bool.{true≢false, cases_order}
+use Rattle.std.proofs.lemmas.Bool.{cases_order}
 use Rattle.std.proofs.lemmas.Bool.Decides.{nat_tests}
 use Rattle.profile.specs.series.Rules.{Parts, is_rule_day, is_counted, rule_days_from, NoDayFrom, IsNextDay, last_rule_day}
 use Rattle.cal_rules.proofs.Lists.{days_after}

@@ -1,11 +1,11 @@
 -- How the days of a rule are looked at, one after another.
 use Rattle.std.proofs.Common.{◌≡◌, ◌∙◌, ℕ, ◌+◌, List, inl, inr, sym, ap, subst, arith, ℤ}
-use Rattle.std.specs.Prelude.{Option, Some, None}
+use Rattle.std.specs.Prelude.{Some, None}
 use Rattle.std.proofs.lemmas.Option.{same_Some}
 use Rattle.std.proofs.lemmas.Bool.{cases_order}
 use Rattle.profile.specs.series.Days.{day_index}
-use Rattle.profile.specs.series.Rules.{Parts, IsNextDay}
-use Rattle.profile.specs.series.Zones.{Zone, Means, IsOneMeaning, local_time}
+use Rattle.profile.specs.series.Rules.{Parts}
+use Rattle.profile.specs.series.Zones.{Means, IsOneMeaning, local_time}
 use Rattle.profile.specs.events.ZonedTimes.{clock_of}
 use Rattle.profile.specs.events.EventRules.{IsOnDay}
 use Rattle.profile.specs.events.Events.{Event}

@@ -1,5 +1,5 @@
 -- The instances that an iterator gives to its end are all that were left.
-use Rattle.std.proofs.Common.{◌≡◌, ◌∙◌, ap, sym, subst, inl, inr, ◌⊎◌, ℕ, zero, suc, ◌<◌, List, [], ◌∷◌, length, get_or, arith, ℤ, ◌<ℤ◌, ◌≤ℤ◌}
+use Rattle.std.proofs.Common.{◌≡◌, ◌∙◌, ap, sym, subst, inl, inr, ◌⊎◌, zero, suc, List, [], ◌∷◌, get_or, arith, ℤ, ◌<ℤ◌, ◌≤ℤ◌}
 use Rattle.std.specs.Prelude.{Option, Some, None, All, AllPairs, Contains, ◌↔◌}
 use Rattle.std.proofs.lemmas.Int.{ints, by_lt_z}
 use Rattle.profile.specs.checker.Instances.{Booked}
@@ -34,13 +34,13 @@ in_tail x y xs (k, w, e) = (suc k, omega (arith, w), e)
 
 -- ---- the order of instances
 
-order : (x y : ℤ) → (x <ℤ y) ⊎ ((x ≡ y) ⊎ (y <ℤ x))
+pub order : (x y : ℤ) → (x <ℤ y) ⊎ ((x ≡ y) ⊎ (y <ℤ x))
 order x y =
     by_lt_z x y (λ less. inl less)
     (λ most. by_lt_z y x (λ more. inr (inr more)) (λ least. inr (inl (omega (arith, ints, most, least)))))
 
 -- two have one place, or one of them comes first
-placed : (a b : Booked) → ComesBefore a b ⊎ (((a.start ≡ b.start) × (a.key.slot ≡ b.key.slot)) ⊎ ComesBefore b a)
+pub placed : (a b : Booked) → ComesBefore a b ⊎ (((a.start ≡ b.start) × (a.key.slot ≡ b.key.slot)) ⊎ ComesBefore b a)
 placed a b =
     elim (order a.start b.start) [
       | inl less ↦ inl (inl less)
@@ -58,7 +58,7 @@ past None a b h l = tt
 past (Some k) a b h l = omega (arith, ints, h, l)
 
 -- what comes after one that is to come is to come too
-after_later : (bound : Bound) (a b : Booked) → IsAfter bound a.start a.key.slot → ComesBefore a b → IsAfter bound b.start b.key.slot
+pub after_later : (bound : Bound) (a b : Booked) → IsAfter bound a.start a.key.slot → ComesBefore a b → IsAfter bound b.start b.key.slot
 after_later bound a b (inl l) (inl m) = inl (omega (arith, ints, l, m))
 after_later bound a b (inl l) (inr (e, m)) = inl (omega (arith, ints, l, e))
 after_later bound a b (inr (e, p)) (inl m) = inl (omega (arith, ints, e, m))

@@ -1,11 +1,11 @@
 -- The instances of an event that are left to come, and how the first of them is found.
 use Rattle.std.specs.Prelude.{◌≡◌, ◌⊎◌, ℕ, ◌<◌, true, Contains, List, Option, Some, None, MatchOption, map, int_lt, if◌then◌else◌, ℤ, ◌≤ℤ◌, ◌<ℤ◌, ◌+ℤ◌, pos}
-use Rattle.profile.specs.checker.Instances.{Booked, horizon}
+use Rattle.profile.specs.checker.Instances.{horizon}
 use Rattle.profile.specs.series.Days.{day_index}
 use Rattle.profile.specs.series.Rules.{Parts, is_rule_day}
 use Rattle.profile.specs.series.Zones.{Zone, Means, IsOneMeaning, local_time}
 use Rattle.profile.specs.events.Properties.{first_second}
-use Rattle.profile.specs.events.ZonedTimes.{EventTimes, clock_of}
+use Rattle.profile.specs.events.ZonedTimes.{clock_of}
 use Rattle.profile.specs.events.EventRules.{IsOnDay}
 use Rattle.profile.specs.events.Events as profile
 use Rattle.profile.specs.events.Starts.{IsOverridden, IsStart}

@@ -12,3 +12,4 @@ pub mod RuleDaysLeft
 pub mod Instances
 pub mod Left
 pub mod GivenWhole
+pub mod Overlapping

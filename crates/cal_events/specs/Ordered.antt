@@ -1,5 +1,5 @@
 -- The instants that an event keeps in order.
-use Rattle.std.specs.Prelude.{◌≡◌, ◌↔◌, true, Contains, List, Option, MatchOption, ℤ, ◌≤ℤ◌, ◌<ℤ◌}
+use Rattle.std.specs.Prelude.{◌≡◌, ◌↔◌, true, Contains, List, Option, MatchOption, ℤ, ◌≤ℤ◌}
 use Rattle.std.specs.List.{list_any}
 use Rattle.std.specs.Ordering.{int_eq}
 use Rattle.profile.specs.events.Events.{Event}

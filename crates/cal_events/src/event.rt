@@ -14,12 +14,16 @@ ghost use Rattle.cal_events.specs.Meetings.{instants_said, IsNotOne, IsNamed};
 ghost use Rattle.profile.specs.events.Starts.{IsInstance};
 ghost use Rattle.cal_events.specs.Instances.{HasGoodClock};
 ghost use Rattle.cal_events.specs.Ordered.{Hides, Adds, AreStartsOf};
+ghost use Rattle.cal_events.specs.Overlapping.{HaveOneEnd, AreDated, IsFirstOverlap};
 ghost use Rattle.cal_events.specs.declared.component.EventComponent.{EventComponent};
 
 use crate::component::{EventComponent, Purpose, one_event};
+use crate::instance::Instance;
 use crate::instances::{Instances, is_start};
 use crate::instants::Instants;
+use crate::overlapping::first_sharing;
 use crate::reading::read_events;
+use crate::sweep::Span;
 use ical_lines::{Fault, Limits, Refusal, Unfolded};
 use ical_tree::{Component, one_tree, read_object};
 use std::alloc::{AllocError, Global};
@@ -37,6 +41,8 @@ pub struct Event {
     pub(crate) added: Instants,
     ghost clock: { (component : EventComponent) → master ≡ Some component → HasGoodClock (event_of component) },
     ghost hides: { (component : EventComponent) → master ≡ Some component → Hides (event_of component) (map event_of overrides.items) hidden },
+    ghost ends: { HaveOneEnd (record { master = option_map event_of master; overrides = map event_of overrides.items }) },
+    ghost dated: { AreDated (record { master = option_map event_of master; overrides = map event_of overrides.items }) },
     ghost adds: { (component : EventComponent) → master ≡ Some component → Adds (event_of component) (map event_of overrides.items) added },
 }
 
@@ -44,6 +50,7 @@ impl Event {
     ghost use Rattle.profile.specs.events.Starts.{IsInstance};
     ghost use Rattle.cal_events.specs.SaidMeetings.{said_meeting};
     ghost use Rattle.cal_events.specs.Left.{IsLeft};
+    ghost use Rattle.cal_events.specs.Calendars.{instance_of};
 
     /// Its instances that start at an instant or later, in seconds from 1970-01-01T00:00:00Z: each once, by start and then by slot. Takes no
     /// memory, and looks at nothing that comes before.
@@ -51,6 +58,14 @@ impl Event {
         ensures { (b : Booked) → IsLeft result b ↔ IsInstance (said_meeting self.now) b × (from ≤ℤ b.start) }
     {
         Instances::from(self, from)
+    }
+
+    /// The first of its instances, by start and then by slot, that shares an instant before the horizon with a span; None where none does.
+    /// It begins to look where one that starts earlier would be over.
+    pub fn first_overlap(&self, span: Span) -> Option<Instance<'_>>
+        ensures { IsFirstOverlap (said_meeting self.now) span.start span.end (option_map instance_of result) }
+    {
+        first_sharing(self, span)
     }
 
     /// The event that octets spell: an object of one UID and one ORGANIZER, whose METHOD isn't looked at.
@@ -173,6 +188,8 @@ impl Divided {
     fn into_event(self, alloc: Global) -> Result<Event, AllocError>
         requires said { map Some self.instants.items ≡ instants_said (map event_of self.overrides.items) }
         requires clock { (component : EventComponent) → self.master ≡ Some component → HasGoodClock (event_of component) }
+        requires ends { HaveOneEnd (record { master = option_map event_of self.master; overrides = map event_of self.overrides.items }) }
+        requires dated { AreDated (record { master = option_map event_of self.master; overrides = map event_of self.overrides.items }) }
         ensures { IfOk result (λ event. (event.master ≡ self.master) × (event.overrides.items ≡ self.overrides.items)) }
     {
         let Divided {

@@ -10,6 +10,7 @@ pub mod instance;
 mod instances;
 mod instants;
 mod occurrences;
+mod overlapping;
 mod properties;
 mod reading;
 mod rule_days;

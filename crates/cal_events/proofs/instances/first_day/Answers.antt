@@ -3,7 +3,7 @@ use Rattle.profile.specs.series.Days.{day_index}
 use Rattle.profile.specs.series.Zones.{Zone, IsBounds, local_time}
 use Rattle.cal_events.specs.Events.{event_of}
 use Rattle.cal_zones.proofs.Lasts.{clock_day}
-use Rattle.cal_events.proofs.InstanceLemmas.{none_before_day, none_before_start, none_without_rule}
+use Rattle.cal_events.proofs.InstanceLemmas.{none_before_day, none_before_start}
 use Rattle.cal_events.proofs.instances.first_day.Goals as goal
 
 pub returns-in-Some : goal.returns-in-Some

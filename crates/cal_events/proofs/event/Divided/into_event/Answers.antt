@@ -10,6 +10,8 @@ invariant_of-result c =
     let hidden = c.in_ok-hidden.hidden in
     record {
       clock = c.requires.clock;
+      ends = c.requires.ends;
+      dated = c.requires.dated;
       hides = λ m is. hides_made (event_of m) overrides s.instants.items hidden c.requires.said (c.in_ok-hidden.ensures m is);
       adds = λ m is.
           adds_made (event_of m) overrides hidden c.in_ok-added.added (hides_made (event_of m) overrides s.instants.items hidden c.requires.said (c.in_ok-hidden.ensures m is))

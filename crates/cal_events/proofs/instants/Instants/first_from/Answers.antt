@@ -1,4 +1,4 @@
-use Rattle.std.proofs.Common.{◌≡◌, ◌∙◌, ◌≤◌, ℕ, sym, ap, subst, List, length, arith, rules, get_or, ℤ, FitsSigned, to_z, of_z, w64, to_z-of_z}
+use Rattle.std.proofs.Common.{◌≡◌, ◌∙◌, sym, ap, subst, List, arith, rules, get_or, ℤ, FitsSigned, to_z, of_z, w64, to_z-of_z}
 use Rattle.std.specs.Prelude.{None, Some, int_lt}
 use Rattle.std.specs.Ordering.{int_cmp}
 use Rattle.std.specs.List.Sorted.{IsSorted}

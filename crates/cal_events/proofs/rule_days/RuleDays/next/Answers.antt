@@ -1,6 +1,6 @@
-use Rattle.std.proofs.Common.{◌+◌, sym, ap, ◌∙◌}
+use Rattle.std.proofs.Common.{◌+◌, ap}
 use Rattle.profile.specs.series.Days.{day_index}
-use Rattle.cal_events.specs.RuleDaysLeft.{days_to_come, rest_to_come, with_first}
+use Rattle.cal_events.specs.RuleDaysLeft.{days_to_come}
 use Rattle.cal_events.proofs.RuleDayLemmas.{first_taken, none_taken}
 use Rattle.cal_events.proofs.rule_days.RuleDays.next.Goals as goal
 

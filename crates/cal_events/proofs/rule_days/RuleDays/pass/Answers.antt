@@ -1,4 +1,4 @@
-use Rattle.std.proofs.Common.{◌+◌, sym, ap, ◌∙◌}
+use Rattle.std.proofs.Common.{◌+◌, ap}
 use Rattle.profile.specs.series.Days.{day_index}
 use Rattle.cal_events.specs.RuleDaysLeft.{days_to_come, rest_to_come, with_first}
 use Rattle.cal_events.proofs.RuleDayLemmas.{first_taken}

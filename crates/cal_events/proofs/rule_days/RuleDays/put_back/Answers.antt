@@ -1,7 +1,7 @@
-use Rattle.std.proofs.Common.{◌≡◌, sym, ap, ◌∙◌, subst, List, ℕ}
+use Rattle.std.proofs.Common.{◌≡◌, sym, ap, ◌∙◌, subst}
 use Rattle.profile.specs.series.Days.{day_index}
 use Rattle.profile.specs.series.Rules.{rule_days_from}
-use Rattle.cal_events.specs.RuleDaysLeft.{days_to_come, rest_to_come, with_first}
+use Rattle.cal_events.specs.RuleDaysLeft.{rest_to_come, with_first}
 use Rattle.cal_events.proofs.RuleDayLemmas.{first_back}
 use Rattle.cal_events.proofs.rule_days.RuleDays.put_back.Goals as goal
 
