@@ -1,6 +1,6 @@
 -- The instances of an event: how the first that is left is found.
-use Rattle.std.proofs.Common.{◌≡◌, ◌∙◌, ℕ, zero, suc, ◌+◌, ◌<◌, ◌≤◌, Bool, true, false, ◌&&◌, List, [], ◌∷◌, ◌++◌, length, map, get_or, take, take_all, sym, ap, subst, refl, inl, inr, ◌⊎◌, arith, ℤ, pos, ◌+ℤ◌, ◌<ℤ◌, ◌≤ℤ◌}
-use Rattle.std.specs.Prelude.{Option, Some, None, Contains, MatchOption, int_lt, IsTrue, ◌↔◌, not, option_map}
+use Rattle.std.proofs.Common.{◌≡◌, ◌∙◌, ℕ, zero, suc, ◌+◌, ◌<◌, ◌≤◌, Bool, true, false, List, [], ◌∷◌, ◌++◌, length, map, get_or, take, take_all, sym, ap, subst, refl, inl, inr, ◌⊎◌, arith, ℤ, ◌+ℤ◌, ◌<ℤ◌, ◌≤ℤ◌}
+use Rattle.std.specs.Prelude.{Option, Some, None, Contains, int_lt, IsTrue, ◌↔◌, not, option_map}
 use Rattle.std.proofs.lemmas.Bool.{true≢false, false≢true, cases_order}
 use Rattle.std.proofs.lemmas.Option.{same_Some}
 use Rattle.std.proofs.lemmas.Int.{ints}
@@ -14,11 +14,12 @@ use Rattle.profile.specs.events.Properties.{first_second}
 use Rattle.profile.specs.events.ZonedTimes.{clock_of}
 use Rattle.profile.specs.events.EventRules.{IsOnDay}
 use Rattle.profile.specs.events.Events.{Event}
-use Rattle.profile.specs.events.Starts.{IsGiven, IsRuleStart, IsOverridden, IsStart, IsInstance, IsOfMaster, IsOfOverride, ComesBefore, EndsAt, key_at}
+use Rattle.profile.specs.events.Starts.{IsGiven, IsRuleStart, IsOverridden, IsStart, IsInstance, ComesBefore, EndsAt, key_at}
 use Rattle.cal_events.specs.Events.{event_of}
 use Rattle.cal_events.specs.SaidMeetings.{said_meeting}
 use Rattle.cal_events.specs.declared.event.Event as declared
 use Rattle.cal_events.specs.declared.component.EventComponent.{EventComponent}
+use Rattle.cal_events.specs.declared.rule_days.RuleDays.{RuleDays}
 use Rattle.cal_events.specs.declared.instances.Bound.{Bound}
 use Rattle.cal_events.specs.declared.instances.Place.{Place}
 use Rattle.cal_events.specs.Instances.{IsAfter, IsBefore, IsAscending, IsWanted, NoneBefore, IsLeast, lesser, IsMovedTo, IsSoonest, IsSooner, IsPastSlot, HasPassed, IsHeldAt, IsHeld, IsAt, own_place}
@@ -310,22 +311,28 @@ admitted bound p start slot (inr a) (inr b) = inr (a.0 ∙ b.0, past bound.slot 
     past None h = tt
     past (Some x) h = omega (arith, ints, h, b.1)
 
-pub passed_more : (master : Option EventComponent) (os : List EventComponent) (bound : Bound) (p : Place) (day : ℕ) → IsAfter bound p.start p.slot → HasPassed master os bound day
-    → HasPassed master os (record { start = p.start; slot = Some p.slot }) day
-passed_more master os bound p day a h c is rule e first second n on lt holds t means w =
-    h c is rule e first second n on lt holds t means
+none_more : (master : Event) (overrides : List Event) (bound : Bound) (p : Place) (day : ℕ) → IsAfter bound p.start p.slot → NoneBefore master overrides bound day
+    → NoneBefore master overrides (record { start = p.start; slot = Some p.slot }) day
+none_more master overrides bound p day a h rule e first second n on lt holds t means w =
+    h rule e first second n on lt holds t means
     (record { after = admitted bound p t t a w.after; in_dates = w.in_dates; not_excepted = w.not_excepted; not_overridden = w.not_overridden })
+
+pub passed_more : (master : Option EventComponent) (os : List EventComponent) (bound : Bound) (p : Place) (days : RuleDays) → IsAfter bound p.start p.slot → HasPassed master os bound days
+    → HasPassed master os (record { start = p.start; slot = Some p.slot }) days
+passed_more master os bound p days a h c is =
+    let w = h c is in
+    record { listed = w.listed; none = none_more (event_of c) (map event_of os) bound p days.from a w.none; kept = w.kept }
 
 -- ---- instances and their places
 
-of_option : (o : Option EventComponent) (m : Event) → option_map event_of o ≡ Some m → (c : EventComponent) × (o ≡ Some c) × (event_of c ≡ m)
+pub of_option : (o : Option EventComponent) (m : Event) → option_map event_of o ≡ Some m → (c : EventComponent) × (o ≡ Some c) × (event_of c ≡ m)
 of_option None m e = absurd (nothing e)
   where
     nothing : None ≡ Some m → ⊥
     nothing e = cc
 of_option (Some c) m e = (c, refl, same_Some (event_of c) m e)
 
-of_list : (os : List EventComponent) (m : Event) → Contains (map event_of os) m → (c : EventComponent) × Contains os c × (event_of c ≡ m)
+pub of_list : (os : List EventComponent) (m : Event) → Contains (map event_of os) m → (c : EventComponent) × Contains os c × (event_of c ≡ m)
 of_list [] m (k, w, e) = absurd (omega (arith, w))
 of_list (o ∷ os) m (zero, w, e) = (o, (0, omega arith, refl), e)
 of_list (o ∷ os) m (suc k, w, e) = let r = of_list os m (k, omega (arith, w), e) in (r.0, (suc r.1.0, omega (arith, r.1.1), r.1.2), r.2)
@@ -358,7 +365,7 @@ override_instance event c is b r s k e = inr (record { override = event_of c; is
 -- ---- where to begin
 
 -- a local time is read with the least offset or a greater one
-not_less : (z : Zone) (least greatest local t : ℤ) → IsBounds z least greatest → Means z local t → (t +ℤ least) ≤ℤ local
+pub not_less : (z : Zone) (least greatest local t : ℤ) → IsBounds z least greatest → Means z local t → (t +ℤ least) ≤ℤ local
 not_less z least greatest local t b (inl h) = elim (b.one t h.shown.0 h.shown.1) [ inl e ↦ omega (arith, ints, e, h.shown.2) | inr e ↦ omega (arith, ints, e, h.shown.2, b.ordered) ]
 not_less z least greatest local t b (inr h) = elim (b.sides h.onset h.listed) [ inl e ↦ omega (arith, ints, e.0, h.read) | inr e ↦ omega (arith, ints, e.0, h.read, b.ordered) ]
 
@@ -447,7 +454,7 @@ module _ (event : declared.Event) (bound : Bound) (r : Option Place) (h : IsSoon
 pub bound_same : (a b start slot : ℤ) → a ≡ start → b ≡ slot → bound_at a b ≡ bound_at start slot
 bound_same a b start slot e f = λ i. record { start = e i; slot = Some (f i) }
 
-pub passed_at : (master : Option EventComponent) (os : List EventComponent) (bound : Bound) (p : Place) (a b : ℤ) (day : ℕ) → a ≡ p.start → b ≡ p.slot → IsAfter bound p.start p.slot
-    → HasPassed master os bound day → HasPassed master os (bound_at a b) day
-passed_at master os bound p a b day e f after h =
-    subst (λ (x : Bound). HasPassed master os x day) (sym (bound_same a b p.start p.slot e f)) (passed_more master os bound p day after h)
+pub passed_at : (master : Option EventComponent) (os : List EventComponent) (bound : Bound) (p : Place) (a b : ℤ) (days : RuleDays) → a ≡ p.start → b ≡ p.slot → IsAfter bound p.start p.slot
+    → HasPassed master os bound days → HasPassed master os (bound_at a b) days
+passed_at master os bound p a b days e f after h =
+    subst (λ (x : Bound). HasPassed master os x days) (sym (bound_same a b p.start p.slot e f)) (passed_more master os bound p days after h)

@@ -31,3 +31,9 @@ pub mod SweepLemmas
 mod Worked
 mod InstanceLemmas
 mod Clocks
+mod RuleDayLemmas
+mod Walks
+mod InOrder
+mod HiddenLemmas
+mod WholeLists
+mod Overlaps

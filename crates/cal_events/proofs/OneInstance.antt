@@ -1,6 +1,6 @@
 -- The instances of an event that octets spell: one at each place, in the dates that an event may name. None ends before it starts.
-use Rattle.std.proofs.Common.{◌≡◌, ◌≢◌, ◌∙◌, ℕ, zero, suc, ◌*◌, ◌<◌, ◌≤◌, true, false, ◌&&◌, nat_le, List, [], ◌∷◌, codes, map, filter, get_or, length, sym, ap, subst, refl, inl, inr, ◌⊎◌, arith, ℤ, pos, ◌+ℤ◌, ◌-ℤ◌, ◌<ℤ◌, ◌≤ℤ◌, unsigned_abs}
-use Rattle.std.specs.Prelude.{Option, Some, None, All, AllPairs, Contains}
+use Rattle.std.proofs.Common.{◌≡◌, ◌∙◌, ℕ, zero, suc, ◌*◌, ◌<◌, ◌≤◌, true, false, ◌&&◌, nat_le, List, [], ◌∷◌, codes, map, filter, get_or, length, sym, ap, subst, refl, inl, inr, ◌⊎◌, arith, ℤ, pos, ◌+ℤ◌, ◌-ℤ◌, ◌≤ℤ◌, unsigned_abs}
+use Rattle.std.specs.Prelude.{Option, Some, None, All, Contains}
 use Rattle.std.specs.Option.{option_to_list}
 use Rattle.std.specs.List.{AllZip, AllByRecursion}
 use Rattle.std.proofs.lemmas.Int.{ints}
@@ -10,15 +10,15 @@ use Rattle.std.proofs.lemmas.List.Elements.{All-from_recursion, All-filter, All-
 use Rattle.profile.specs.text.Lines.{line_value, line_param}
 use Rattle.profile.specs.text.Trees.{Tree, vevents}
 use Rattle.profile.specs.series.Rules.{Pattern, is_base}
-use Rattle.profile.specs.series.Zones.{Zone, Constant, Single, Pair, Observance, Onset, IsOnset, begins_on, IsZoneOnset, IsOffsetAt, IsOneOffset, IsOneMeaning, Means}
-use Rattle.profile.specs.series.ZoneTexts.{AreMatched, AreSpaced, HasForm, constant, single, pair, IsRuleOnset, PartsSay, year_pattern}
+use Rattle.profile.specs.series.Zones.{Zone, Constant, Single, Pair, Observance, Onset, IsOnset, IsOffsetAt, IsOneOffset, IsOneMeaning, Means}
+use Rattle.profile.specs.series.ZoneTexts.{AreMatched, AreSpaced, HasForm, pair, IsRuleOnset, PartsSay, year_pattern}
 use Rattle.profile.specs.checker.Instances.{Key, Booked}
 use Rattle.profile.specs.events.Properties.{BothOrNeither}
 use Rattle.profile.specs.events.ZonedTimes.{zone_named, SaysZoneOf, SpellsZoned, SaysZonedText, clock_of, EventTimes}
 use Rattle.profile.specs.events.Occurrences.{IsRecurrenceLine}
 use Rattle.profile.specs.events.Events.{Event, SaysEvent}
-use Rattle.profile.specs.events.Meetings.{Meeting, is_master, is_override, InstancesDiffer, SaysMeeting, SpellsMeeting}
-use Rattle.profile.specs.events.Starts.{IsDaysLater, EndsAt, IsOverridden, IsStart, IsOfMaster, IsOfOverride, IsInstance, key_at}
+use Rattle.profile.specs.events.Meetings.{Meeting, is_master, is_override, InstancesDiffer, SaysMeeting}
+use Rattle.profile.specs.events.Starts.{IsDaysLater, EndsAt, IsOverridden, IsOfMaster, IsOfOverride, IsInstance, key_at}
 use Rattle.cal_events.specs.Meetings.{IsNamed}
 use Rattle.cal_zones.proofs.Zones.{unique, once_constant, once_single, once_pair}
 use Rattle.cal_events.proofs.Meanings.{one_meaning}

@@ -1,5 +1,5 @@
 -- What DTSTART, DTEND and DURATION say, put together.
-use Rattle.std.proofs.Common.{◌≡◌, ◌∙◌, ℕ, ◌<◌, ◌≤◌, ◌^◌, Bool, true, false, true≢false, List, codes, subst, sym, ap, inl, inr, arith, ℤ, pos, ◌+ℤ◌, ◌<ℤ◌}
+use Rattle.std.proofs.Common.{◌≡◌, ◌∙◌, ℕ, ◌<◌, ◌≤◌, ◌^◌, Bool, false, true≢false, List, codes, subst, sym, ap, inl, inr, arith, ℤ, pos, ◌+ℤ◌, ◌<ℤ◌}
 use Rattle.std.specs.Prelude.{Option, Some, None, ◌⊎◌, IsTrue}
 use Rattle.std.proofs.lemmas.Int.{ints}
 use Rattle.profile.specs.text.Trees.{Tree}

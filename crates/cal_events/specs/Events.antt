@@ -1,5 +1,5 @@
 -- What the types of a VEVENT that was read stand for.
-use Rattle.std.specs.Prelude.{ℕ, Bool, ◌||◌, true, false, List, [], length, map, filter, option_map, Option, codes, Contains, ◌≡◌, ◌⊎◌, ◌<◌, ℤ, pos, ◌<ℤ◌}
+use Rattle.std.specs.Prelude.{ℕ, Bool, ◌||◌, true, false, List, length, map, filter, option_map, Option, codes, Contains, ◌≡◌, ◌⊎◌, ◌<◌, ℤ, pos, ◌<ℤ◌}
 use Rattle.ical_values.specs.Octets.{address_octets, text_octets}
 use Rattle.ical_values.specs.declared.duration.Duration.{Duration}
 use Rattle.std.specs.List.{AllZip, list_any}

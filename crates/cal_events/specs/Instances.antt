@@ -1,16 +1,18 @@
 -- The instances of an event that are left to come, and how the first of them is found.
 use Rattle.std.specs.Prelude.{◌≡◌, ◌⊎◌, ℕ, ◌<◌, true, Contains, List, Option, Some, None, MatchOption, map, int_lt, if◌then◌else◌, ℤ, ◌≤ℤ◌, ◌<ℤ◌, ◌+ℤ◌, pos}
-use Rattle.profile.specs.checker.Instances.{Booked, horizon}
+use Rattle.profile.specs.checker.Instances.{horizon}
 use Rattle.profile.specs.series.Days.{day_index}
 use Rattle.profile.specs.series.Rules.{Parts, is_rule_day}
 use Rattle.profile.specs.series.Zones.{Zone, Means, IsOneMeaning, local_time}
 use Rattle.profile.specs.events.Properties.{first_second}
-use Rattle.profile.specs.events.ZonedTimes.{EventTimes, clock_of}
+use Rattle.profile.specs.events.ZonedTimes.{clock_of}
 use Rattle.profile.specs.events.EventRules.{IsOnDay}
 use Rattle.profile.specs.events.Events as profile
 use Rattle.profile.specs.events.Starts.{IsOverridden, IsStart}
 use Rattle.cal_events.specs.Events.{event_of}
 use Rattle.cal_events.specs.declared.component.EventComponent.{EventComponent}
+use Rattle.cal_events.specs.declared.rule_days.RuleDays.{RuleDays}
+use Rattle.cal_events.specs.RuleDaysLeft.{AreDaysOf}
 use Rattle.cal_events.specs.declared.instances.Bound.{Bound}
 use Rattle.cal_events.specs.declared.instances.Place.{Place}
 
@@ -53,6 +55,23 @@ NoneBefore master overrides bound day =
     → is_rule_day rule n ≡ true → (instant : ℤ) → Means (clock_of master.times.zone) (local_time n second) instant
     → IsWanted master overrides bound instant → ⊥
 
+-- the day that was put back is the first that is to come, and means no other instant than that
+abbrev pub IsKept : profile.Event → RuleDays → Type 0
+IsKept master days =
+    (day : ℤ) → days.first ≡ Some day
+    → (days.from ≡ day_index day)
+    × ((first second : ℕ) (instant : ℤ) → IsOnDay master.times.local first second → Means (clock_of master.times.zone) (local_time (day_index day) second) instant → instant ≡ days.start)
+
+-- on no day of the rule but those that are to come is a start that is wanted
+pub record AreWalked (master : profile.Event) (overrides : List profile.Event) (bound : Bound) (days : RuleDays) : Type 0 where
+  pub listed : (rule : Parts) → master.rule ≡ Some rule → AreDaysOf rule days
+  pub none : NoneBefore master overrides bound days.from
+  pub kept : IsKept master days
+
+-- what was so of the one is so of the other
+abbrev pub StayWalked : Bound → RuleDays → RuleDays → Type 0
+StayWalked bound old new = (master : profile.Event) (overrides : List profile.Event) → AreWalked master overrides bound old → AreWalked master overrides bound new
+
 -- the least instant that is so, if there is one
 abbrev pub IsLeast : (ℤ → Type 0) → Option ℤ → Type 0
 IsLeast P found = MatchOption found ((t : ℤ) → P t → ⊥) (λ t. P t × ((u : ℤ) → P u → t ≤ℤ u))
@@ -85,9 +104,9 @@ IsSooner (Some x) (Some y) r = ((r ≡ Some x) × (IsBefore y x → ⊥)) ⊎ ((
 
 -- ---- both
 
--- on no day of the master's rule before that one is a start to come
-abbrev pub HasPassed : Option EventComponent → List EventComponent → Bound → ℕ → Type 0
-HasPassed master overrides bound day = (c : EventComponent) → master ≡ Some c → NoneBefore (event_of c) (map event_of overrides) bound day
+-- on no other day of the master's rule is a start to come
+abbrev pub HasPassed : Option EventComponent → List EventComponent → Bound → RuleDays → Type 0
+HasPassed master overrides bound days = (c : EventComponent) → master ≡ Some c → AreWalked (event_of c) (map event_of overrides) bound days
 
 -- the place of the instance at a start
 abbrev pub own_place : ℤ → Place

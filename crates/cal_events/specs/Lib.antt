@@ -7,5 +7,9 @@ pub mod Zoned
 pub mod Occurrences
 pub mod Meetings
 pub mod SaidMeetings
+pub mod Ordered
+pub mod RuleDaysLeft
 pub mod Instances
 pub mod Left
+pub mod GivenWhole
+pub mod Overlapping

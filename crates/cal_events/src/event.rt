@@ -1,8 +1,9 @@
 //! An event with its instances: its master and its overrides (RFC 5545 3.8.4.4), read from one object whatever its METHOD.
 
-ghost use Rattle.std.specs.Prelude.{◌≡◌, ◌≢◌, ◌↔◌, ◌<◌, ◌≤ℤ◌, ◌⊎◌, ℕ, List, [], AllPairs, Some, length, get_or, map, filter, option_map, ℤ, IfOk, IfErr, OnOk, MatchBool};
+ghost use Rattle.std.specs.Prelude.{◌≡◌, ◌≢◌, ◌↔◌, ◌<◌, ◌≤ℤ◌, ◌⊎◌, ◌++◌, ℕ, List, [], AllPairs, Some, length, get_or, map, filter, option_map, ℤ, IfOk, IfErr, OnOk, MatchBool};
 ghost use Rattle.std.specs.Option.{option_to_list};
 ghost use Rattle.std.specs.List.{list_all};
+ghost use Rattle.std.specs.List.Sorted.{IsPermutation};
 ghost use Rattle.ical_lines.specs.Fault.{RefusesOnly, RefusesBy};
 ghost use Rattle.ical_tree.specs.Tree.{tree_of};
 ghost use Rattle.profile.specs.checker.Instances.{Booked};
@@ -12,14 +13,20 @@ ghost use Rattle.cal_events.specs.Events.{event_of};
 ghost use Rattle.cal_events.specs.Meetings.{instants_said, IsNotOne, IsNamed};
 ghost use Rattle.profile.specs.events.Starts.{IsInstance};
 ghost use Rattle.cal_events.specs.Instances.{HasGoodClock};
+ghost use Rattle.cal_events.specs.Ordered.{Hides, Adds, AreStartsOf};
+ghost use Rattle.cal_events.specs.Overlapping.{HaveOneEnd, AreDated, IsFirstOverlap};
 ghost use Rattle.cal_events.specs.declared.component.EventComponent.{EventComponent};
 
 use crate::component::{EventComponent, Purpose, one_event};
-use crate::instances::Instances;
+use crate::instance::Instance;
+use crate::instances::{Instances, is_start};
+use crate::instants::Instants;
+use crate::overlapping::first_sharing;
 use crate::reading::read_events;
+use crate::sweep::Span;
 use ical_lines::{Fault, Limits, Refusal, Unfolded};
 use ical_tree::{Component, one_tree, read_object};
-use std::alloc::Global;
+use std::alloc::{AllocError, Global};
 
 /// An event with its instances.
 #[derive(Drop)]
@@ -28,13 +35,22 @@ pub struct Event {
     pub master: Option<EventComponent>,
     /// Those with one, each for another instance, in the order of the text.
     pub overrides: Vec<EventComponent>,
+    /// The instants that EXDATE names, and those that an override stands for.
+    pub(crate) hidden: Instants,
+    /// The starts that RDATE gives.
+    pub(crate) added: Instants,
     ghost clock: { (component : EventComponent) → master ≡ Some component → HasGoodClock (event_of component) },
+    ghost hides: { (component : EventComponent) → master ≡ Some component → Hides (event_of component) (map event_of overrides.items) hidden },
+    ghost ends: { HaveOneEnd (record { master = option_map event_of master; overrides = map event_of overrides.items }) },
+    ghost dated: { AreDated (record { master = option_map event_of master; overrides = map event_of overrides.items }) },
+    ghost adds: { (component : EventComponent) → master ≡ Some component → Adds (event_of component) (map event_of overrides.items) added },
 }
 
 impl Event {
     ghost use Rattle.profile.specs.events.Starts.{IsInstance};
     ghost use Rattle.cal_events.specs.SaidMeetings.{said_meeting};
     ghost use Rattle.cal_events.specs.Left.{IsLeft};
+    ghost use Rattle.cal_events.specs.Calendars.{instance_of};
 
     /// Its instances that start at an instant or later, in seconds from 1970-01-01T00:00:00Z: each once, by start and then by slot. Takes no
     /// memory, and looks at nothing that comes before.
@@ -42,6 +58,14 @@ impl Event {
         ensures { (b : Booked) → IsLeft result b ↔ IsInstance (said_meeting self.now) b × (from ≤ℤ b.start) }
     {
         Instances::from(self, from)
+    }
+
+    /// The first of its instances, by start and then by slot, that shares an instant before the horizon with a span; None where none does.
+    /// It begins to look where one that starts earlier would be over.
+    pub fn first_overlap(&self, span: Span) -> Option<Instance<'_>>
+        ensures { IsFirstOverlap (said_meeting self.now) span.start span.end (option_map instance_of result) }
+    {
+        first_sharing(self, span)
     }
 
     /// The event that octets spell: an object of one UID and one ORGANIZER, whose METHOD isn't looked at.
@@ -70,10 +94,7 @@ impl Event {
         if has_twins(&divided.instants) {
             return Err(Fault::Refused(Refusal::TWO_OVERRIDES));
         }
-        Ok(Event {
-            master: divided.master,
-            overrides: divided.overrides,
-        })
+        Ok(divided.into_event(alloc)?)
     }
 }
 
@@ -162,6 +183,75 @@ impl Divided {
             instants,
         })
     }
+
+    /// The event that they are. It fails only for memory.
+    fn into_event(self, alloc: Global) -> Result<Event, AllocError>
+        requires said { map Some self.instants.items ≡ instants_said (map event_of self.overrides.items) }
+        requires clock { (component : EventComponent) → self.master ≡ Some component → HasGoodClock (event_of component) }
+        requires ends { HaveOneEnd (record { master = option_map event_of self.master; overrides = map event_of self.overrides.items }) }
+        requires dated { AreDated (record { master = option_map event_of self.master; overrides = map event_of self.overrides.items }) }
+        ensures { IfOk result (λ event. (event.master ≡ self.master) × (event.overrides.items ≡ self.overrides.items)) }
+    {
+        let Divided {
+            master,
+            overrides,
+            instants,
+        } = self;
+        let hidden = hidden_of(&master, instants)?;
+        let added = added_of(alloc, &master, &hidden)?;
+        Ok(Event {
+            master,
+            overrides,
+            hidden,
+            added,
+        })
+    }
+}
+
+/// The instants that EXDATE names and these, for which overrides stand.
+fn hidden_of(master: &Option<EventComponent>, instants: Vec<i64>) -> Result<Instants, AllocError>
+    ensures { IfOk result (λ hidden. (c : EventComponent) → master.now ≡ Some c → IsPermutation (instants.items ++ c.exceptions.items) hidden) }
+{
+    match master {
+        Some(master) => with_exceptions(instants, &master.exceptions),
+        None => Ok(Instants::of(instants)),
+    }
+}
+
+fn with_exceptions(instants: Vec<i64>, exceptions: &[i64]) -> Result<Instants, AllocError>
+    ensures { IfOk result (λ hidden. IsPermutation (instants.items ++ exceptions.now) hidden) }
+{
+    let mut hidden = instants;
+    hidden.extend_from_slice(exceptions)?;
+    Ok(Instants::of(hidden))
+}
+
+/// The starts that RDATE gives.
+fn added_of(
+    alloc: Global,
+    master: &Option<EventComponent>,
+    hidden: &Instants,
+) -> Result<Instants, AllocError>
+    ensures { IfOk result (λ added. (c : EventComponent) → master.now ≡ Some c → AreStartsOf c.additions.items hidden.now added) }
+{
+    match master {
+        Some(master) => starts_of(alloc, &master.additions, hidden),
+        None => Ok(Instants::of(Vec::new(alloc))),
+    }
+}
+
+/// Those of the instants that are starts.
+fn starts_of(alloc: Global, instants: &[i64], hidden: &Instants) -> Result<Instants, AllocError>
+    ensures { IfOk result (AreStartsOf instants.now hidden.now) }
+{
+    let mut starts = Vec::new(alloc);
+    for instant in instants {
+        if !is_start(*instant, hidden) {
+            continue;
+        }
+        starts.push(*instant)?;
+    }
+    Ok(Instants::of(starts))
 }
 
 /// Whether two of the instants are one.

@@ -12,6 +12,7 @@ ghost use Rattle.profile.specs.events.Properties.{length_seconds};
 ghost use Rattle.profile.specs.events.ZonedTimes.{is_in_zone, IsInDates, ZonedTimeFault, SaysEventTimes, EventTimesFault};
 ghost use Rattle.cal_events.specs.Events.{times_of, length_of, GivesLength, ExtentFault};
 ghost use Rattle.cal_events.specs.Zones.{object_of, AreRead};
+ghost use Rattle.cal_events.specs.Overlapping.{LastAtMost};
 ghost use Rattle.cal_events.specs.Zoned.{EndsSo, IsExtentIn, AreSaid, IsInYears};
 
 use crate::instance::HORIZON;
@@ -46,6 +47,15 @@ impl EventTimes {
         ensures { result ≡ length_seconds (length_of self.now.length) }
     {
         seconds_of(self.length) as u64
+    }
+
+    /// No instance lasts longer, in exact seconds: the days of its length may be longer by what the clocks are set by.
+    pub(crate) fn longest(&self) -> i64
+        ensures bound { LastAtMost (times_of self.now) result }
+        ensures range { (pos 0 ≤ℤ result) × (result <ℤ pos (2 ^ 50)) }
+    {
+        let (least, greatest) = self.start.clock().offsets();
+        seconds_of(self.length) + i64::from(greatest - least)
     }
 
     /// When an instance ends that starts at an instant: after the days of the length, in the zone of DTSTART, and its seconds (RFC 5545

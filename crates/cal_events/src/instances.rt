@@ -1,24 +1,27 @@
 //! The instances of an event (RFC 5545 3.8.5.3, 3.8.5.2, 3.8.5.1, 3.8.4.4), by start and then by slot. None is kept: each is looked for from
-//! the place of the one before it.
+//! the place of the one before it, and on the days of the rule that are still to be looked at.
 
-ghost use Rattle.std.specs.Prelude.{◌≡◌, ◌↔◌, ◌<◌, ◌≤ℤ◌, pos, IsTrue, Some, None, map, option_map, Contains, IfSome, IfNone};
+ghost use Rattle.std.specs.Prelude.{◌≡◌, ◌↔◌, ◌<◌, ◌≤ℤ◌, ◌<ℤ◌, ℤ, pos, IsTrue, Some, None, map, option_map, Contains, IfSome, IfNone};
 ghost use Rattle.profile.specs.series.Days.{day_index};
 ghost use Rattle.profile.specs.series.Zones.{IsOneMeaning, IsNearEpoch, Means, local_time};
 ghost use Rattle.profile.specs.events.ZonedTimes.{clock_of};
-ghost use Rattle.profile.specs.checker.Instances.{Booked};
+ghost use Rattle.profile.specs.checker.Instances.{Booked, horizon};
 ghost use Rattle.profile.specs.events.Starts.{IsGiven, IsOverridden, IsStart, IsInstance, EndsAt, key_at};
 ghost use Rattle.cal_events.specs.Calendars.{key_of, instance_of};
 ghost use Rattle.cal_events.specs.SaidMeetings.{said_meeting};
 ghost use Rattle.cal_events.specs.Events.{event_of, zone_said};
-ghost use Rattle.cal_events.specs.Instances.{IsAfter, IsPastSlot, IsBefore, IsAscending, IsWanted, NoneBefore, IsLeast, lesser, IsAt, IsMovedTo, IsSoonest, IsSooner, HasGoodClock, HasPassed, IsHeldAt, IsHeld, own_place};
+ghost use Rattle.cal_events.specs.Meetings.{IsNamed};
+ghost use Rattle.cal_events.specs.Instances.{IsAfter, IsPastSlot, IsBefore, IsAscending, IsWanted, NoneBefore, AreWalked, StayWalked, IsLeast, lesser, IsAt, IsMovedTo, IsSoonest, IsSooner, HasGoodClock, HasPassed, IsHeldAt, IsHeld, own_place};
 ghost use Rattle.cal_events.specs.declared.component.EventComponent.{EventComponent};
 
 use crate::component::EventComponent;
 use crate::event::Event;
 use crate::event_times::FIRST_SECOND;
 use crate::instance::{HORIZON, Instance, InstanceKey};
+use crate::instants::Instants;
+use crate::rule_days::RuleDays;
 use crate::zoned::ZonedTime;
-use cal_days::{Day, EPOCH_INDEX};
+use cal_days::Day;
 use cal_rules::Rule;
 use ical_values::LocalTime;
 
@@ -60,6 +63,16 @@ impl Bound {
         self.start < start
     }
 
+    /// The first start that is to come where an instance's slot is its start.
+    fn first_own_start(self) -> i64
+        ensures { (t : ℤ) → t <ℤ horizon → IsAfter self t t ↔ (result ≤ℤ t) }
+    {
+        if self.admits(self.start, self.start) {
+            return self.start;
+        }
+        self.start.saturating_add(1)
+    }
+
     /// Whether an instance of its start and of that slot is.
     fn admits_slot(self, slot: i64) -> bool
         ensures { IsTrue result ↔ IsPastSlot self.slot slot }
@@ -77,9 +90,9 @@ pub struct Instances<'a> {
     event: &'a Event,
     /// Those that it admits are.
     after: Bound,
-    /// On no day of the master's rule before it is one to come.
-    day: Day,
-    ghost passed: { HasPassed event.now.master event.now.overrides.items after (day_index day) },
+    /// On none of the master's other rule days is one to come.
+    days: RuleDays<'a>,
+    ghost passed: { HasPassed event.now.master event.now.overrides.items after days },
 }
 
 impl<'a> Instances<'a> {
@@ -96,7 +109,7 @@ impl<'a> Instances<'a> {
         Instances {
             event,
             after,
-            day: first_day(event, from),
+            days: days_from(event, from),
         }
     }
 }
@@ -112,48 +125,33 @@ impl<'a> Iterator for Instances<'a> {
     ghost remaining = { λ _. endless };
 
     fn next(&mut self) -> Option<Instance<'a>> {
-        let (first, day) = first_place(self.event, self.after, self.day);
-        let place = first?;
+        let place = first_place(self.event, self.after, &mut self.days)?;
         self.after = Bound {
             start: place.start,
             slot: Some(place.slot),
         };
-        self.day = day;
         Some(instance_at(self.event, place))
     }
 }
 
 /// Whether an instant that the master's rule or an RDATE gives is one of its starts, and is to come.
-fn is_wanted(
-    master: &EventComponent,
-    overrides: &[EventComponent],
-    after: Bound,
-    instant: i64,
-) -> bool
-    ensures { IsTrue result ↔ IsWanted (event_of master.now) (map event_of overrides.now) after instant }
+fn is_wanted(event: &Event, after: Bound, instant: i64) -> bool
+    ensures { (master : EventComponent) → event.now.master ≡ Some master → IsTrue result ↔ IsWanted (event_of master) (map event_of event.now.overrides.items) after instant }
 {
     if !after.admits(instant, instant) {
         return false;
     }
+    is_start(instant, &event.hidden)
+}
+
+/// Whether an instant that is given is a start: it lies in the dates that an event may name, and none hides it.
+pub(crate) fn is_start(instant: i64, hidden: &Instants) -> bool
+    ensures { IsTrue result ↔ (IsNamed instant × (Contains hidden.now instant → ⊥)) }
+{
     if instant < FIRST_SECOND || instant >= HORIZON {
         return false;
     }
-    if master.exceptions.contains(&instant) {
-        return false;
-    }
-    !is_overridden(overrides, instant)
-}
-
-/// Whether one of these overrides stands for an instant.
-fn is_overridden(overrides: &[EventComponent], instant: i64) -> bool
-    ensures { IsTrue result ↔ IsOverridden (map event_of overrides.now) instant }
-{
-    for component in overrides {
-        if stands_for(component, instant) {
-            return true;
-        }
-    }
-    false
+    !hidden.has(instant)
 }
 
 /// Whether an override stands for an instant.
@@ -167,14 +165,10 @@ fn stands_for(component: &EventComponent, instant: i64) -> bool
 }
 
 /// The first start after a bound that RDATE adds.
-fn first_added(master: &EventComponent, overrides: &[EventComponent], after: Bound) -> Option<i64>
-    ensures { IsLeast (λ t. Contains (event_of master.now).additions t × IsWanted (event_of master.now) (map event_of overrides.now) after t) result }
+fn first_added(event: &Event, after: Bound) -> Option<i64>
+    ensures { (master : EventComponent) → event.now.master ≡ Some master → IsLeast (λ t. Contains (event_of master).additions t × IsWanted (event_of master) (map event_of event.now.overrides.items) after t) result }
 {
-    let mut first = None;
-    for instant in &master.additions {
-        first = lesser(first, wanted_at(master, overrides, after, *instant));
-    }
-    first
+    event.added.first_from(after.first_own_start())
 }
 
 /// The lesser of two instants, where there are any.
@@ -189,68 +183,76 @@ fn lesser(a: Option<i64>, b: Option<i64>) -> Option<i64>
     }
 }
 
-/// The first start after a bound that DTSTART or the rule gives, and a day: no rule day before it has such a start.
+/// The first start after a bound that DTSTART or the rule gives.
 fn first_given(
+    event: &Event,
     master: &EventComponent,
-    overrides: &[EventComponent],
     after: Bound,
-    day: Day,
-) -> (Option<i64>, Day)
+    days: &mut RuleDays<'_>,
+) -> Option<i64>
+    requires master { event.now.master ≡ Some master.now }
     requires meaning { IsOneMeaning (clock_of (event_of master.now).times.zone) }
     requires ascending { IsAscending (clock_of (event_of master.now).times.zone) }
-    requires none { NoneBefore (event_of master.now) (map event_of overrides.now) after (day_index day) }
-    ensures first { IsLeast (λ t. IsGiven (event_of master.now).times (event_of master.now).rule t × IsWanted (event_of master.now) (map event_of overrides.now) after t) result.0 }
-    ensures none { NoneBefore (event_of master.now) (map event_of overrides.now) after (day_index result.1) }
+    requires walked { AreWalked (event_of master.now) (map event_of event.now.overrides.items) after days.old }
+    ensures first { IsLeast (λ t. IsGiven (event_of master.now).times (event_of master.now).rule t × IsWanted (event_of master.now) (map event_of event.now.overrides.items) after t) result }
+    ensures walked { AreWalked (event_of master.now) (map event_of event.now.overrides.items) after days.new }
 {
     match &master.rule {
-        Some(rule) => first_on_rule(master, rule, overrides, after, day),
+        Some(rule) => first_on_rule(event, master, rule, after, days),
         None => {
             let start = master.times.instant.instant();
-            (wanted_at(master, overrides, after, start), day)
+            wanted_at(event, after, start)
         }
     }
 }
 
 /// An instant that the master's rule or an RDATE gives, if it is one of its starts and is to come.
-fn wanted_at(
-    master: &EventComponent,
-    overrides: &[EventComponent],
-    after: Bound,
-    instant: i64,
-) -> Option<i64>
-    ensures { IsLeast (λ t. (t ≡ instant) × IsWanted (event_of master.now) (map event_of overrides.now) after t) result }
+fn wanted_at(event: &Event, after: Bound, instant: i64) -> Option<i64>
+    ensures { (master : EventComponent) → event.now.master ≡ Some master → IsLeast (λ t. (t ≡ instant) × IsWanted (event_of master) (map event_of event.now.overrides.items) after t) result }
 {
-    if is_wanted(master, overrides, after, instant) {
+    if is_wanted(event, after, instant) {
         return Some(instant);
     }
     None
 }
 
-/// The first start after a bound that the rule gives, and a day: no rule day before it has such a start.
+/// The first start after a bound that the rule gives.
 fn first_on_rule(
+    event: &Event,
     master: &EventComponent,
-    rule: &Rule,
-    overrides: &[EventComponent],
+    _rule: &Rule,
     after: Bound,
-    day: Day,
-) -> (Option<i64>, Day)
-    requires rule { master.now.rule ≡ Some rule.now }
+    days: &mut RuleDays<'_>,
+) -> Option<i64>
+    requires rule { master.now.rule ≡ Some _rule.now }
+    requires master { event.now.master ≡ Some master.now }
     requires meaning { IsOneMeaning (clock_of (event_of master.now).times.zone) }
     requires ascending { IsAscending (clock_of (event_of master.now).times.zone) }
-    requires none { NoneBefore (event_of master.now) (map event_of overrides.now) after (day_index day) }
-    ensures first { IsLeast (λ t. IsGiven (event_of master.now).times (event_of master.now).rule t × IsWanted (event_of master.now) (map event_of overrides.now) after t) result.0 }
-    ensures none { NoneBefore (event_of master.now) (map event_of overrides.now) after (day_index result.1) }
+    requires walked { AreWalked (event_of master.now) (map event_of event.now.overrides.items) after days.old }
+    ensures first { IsLeast (λ t. IsGiven (event_of master.now).times (event_of master.now).rule t × IsWanted (event_of master.now) (map event_of event.now.overrides.items) after t) result }
+    ensures walked { AreWalked (event_of master.now) (map event_of event.now.overrides.items) after days.new }
 {
     let (_, second) = master.times.start.local.day_and_second();
-    let mut from = day;
-    while let Some(found) = rule.seek(from) {
+    pass_given(after, days);
+    while let Some(found) = days.next() {
         let start = start_on(&master.times.start, found, second);
-        if is_wanted(master, overrides, after, start) {
-            return (Some(start), found);
+        if is_wanted(event, after, start) {
+            days.put_back(found, start);
+            return Some(start);
         }
-        from = Day::at_index(found.index() + 1).unwrap();
     }
-    (None, from)
+    None
+}
+
+/// Passes the day that was put back, unless its start is still to come.
+fn pass_given(after: Bound, days: &mut RuleDays<'_>)
+    ensures { StayWalked after days.old days.new }
+{
+    if let Some(day) = days.first {
+        if !after.admits(days.start, days.start) {
+            days.pass(day);
+        }
+    }
 }
 
 /// The instant that a second of a day means on the clocks of a time's zone.
@@ -312,62 +314,71 @@ fn override_at<'a>(overrides: &'a [EventComponent], place: Place) -> Option<&'a 
     None
 }
 
-/// A day before which no day of the master's rule starts at an instant or later.
-fn first_day(event: &Event, from: i64) -> Day
-    ensures { HasPassed event.now.master event.now.overrides.items (record { start = from; slot = None }) (day_index result) }
+/// The days of the master's rule that may start at an instant or later.
+fn days_from(event: &Event, from: i64) -> RuleDays<'_>
+    ensures { HasPassed event.now.master event.now.overrides.items (record { start = from; slot = None }) result }
 {
     match &event.master {
-        Some(master) => first_day_of(master, event.overrides.as_slice(), from),
-        None => Day::at_index(EPOCH_INDEX).unwrap(),
+        Some(master) => days_of(master, event.overrides.as_slice(), from),
+        None => RuleDays::none(),
     }
 }
 
-/// The same of a master. Where the clocks show more than the least offset it starts even earlier.
-fn first_day_of(master: &EventComponent, overrides: &[EventComponent], from: i64) -> Day
+/// The same of a master.
+fn days_of<'a>(master: &'a EventComponent, overrides: &[EventComponent], from: i64) -> RuleDays<'a>
+    ensures { AreWalked (event_of master.now) (map event_of overrides.now) (record { start = from; slot = None }) result }
+{
+    match &master.rule {
+        Some(rule) => RuleDays::of(rule, first_day(master, rule, overrides, from)),
+        None => RuleDays::none(),
+    }
+}
+
+/// A day before which no day of the master's rule starts at an instant or later. Where the clocks show more than the least offset it starts
+/// even earlier.
+fn first_day(master: &EventComponent, rule: &Rule, overrides: &[EventComponent], from: i64) -> Day
+    requires { master.now.rule ≡ Some rule.now }
     ensures { NoneBefore (event_of master.now) (map event_of overrides.now) (record { start = from; slot = None }) (day_index result) }
 {
     let (least, _) = master.times.start.clock().offsets();
-    match (
-        &master.rule,
-        LocalTime::of_seconds(from.saturating_add(least as i64)),
-    ) {
-        (Some(_), Some(local)) => local.day_and_second().0,
-        (Some(rule), None) => rule.start(),
-        (None, _) => Day::at_index(EPOCH_INDEX).unwrap(),
+    match LocalTime::of_seconds(from.saturating_add(least as i64)) {
+        Some(local) => local.day_and_second().0,
+        None => rule.start(),
     }
 }
 
-/// The first place that is to come, and a day: on no rule day before it is one.
-fn first_place(event: &Event, after: Bound, day: Day) -> (Option<Place>, Day)
-    requires { HasPassed event.now.master event.now.overrides.items after (day_index day) }
-    ensures first { IsSoonest (IsHeld event.now.master event.now.overrides.items after) result.0 }
-    ensures passed { HasPassed event.now.master event.now.overrides.items after (day_index result.1) }
+/// The first place that is to come.
+fn first_place(event: &Event, after: Bound, days: &mut RuleDays<'_>) -> Option<Place>
+    requires { HasPassed event.now.master event.now.overrides.items after days.old }
+    ensures first { IsSoonest (IsHeld event.now.master event.now.overrides.items after) result }
+    ensures passed { HasPassed event.now.master event.now.overrides.items after days.new }
 {
     let moved = first_moved(event.overrides.as_slice(), after);
     match &event.master {
         Some(master) => {
-            let (start, day) = first_start(master, event.overrides.as_slice(), after, day);
-            (sooner(own_place(start), moved), day)
+            let start = first_start(event, master, after, days);
+            sooner(own_place(start), moved)
         }
-        None => (moved, day),
+        None => moved,
     }
 }
 
-/// The first start of the master that is to come, and a day: no rule day before it has such a start.
+/// The first start of the master that is to come.
 fn first_start(
+    event: &Event,
     master: &EventComponent,
-    overrides: &[EventComponent],
     after: Bound,
-    day: Day,
-) -> (Option<i64>, Day)
+    days: &mut RuleDays<'_>,
+) -> Option<i64>
+    requires master { event.now.master ≡ Some master.now }
     requires clock { HasGoodClock (event_of master.now) }
-    requires none { NoneBefore (event_of master.now) (map event_of overrides.now) after (day_index day) }
-    ensures first { IsLeast (λ t. IsStart (event_of master.now) (map event_of overrides.now) t × IsAfter after t t) result.0 }
-    ensures none { NoneBefore (event_of master.now) (map event_of overrides.now) after (day_index result.1) }
+    requires walked { AreWalked (event_of master.now) (map event_of event.now.overrides.items) after days.old }
+    ensures first { IsLeast (λ t. IsStart (event_of master.now) (map event_of event.now.overrides.items) t × IsAfter after t t) result }
+    ensures walked { AreWalked (event_of master.now) (map event_of event.now.overrides.items) after days.new }
 {
-    let (given, day) = first_given(master, overrides, after, day);
-    let added = first_added(master, overrides, after);
-    (lesser(given, added), day)
+    let given = first_given(event, master, after, days);
+    let added = first_added(event, after);
+    lesser(given, added)
 }
 
 /// The place of the instance at a start: its slot is that start.

@@ -1,7 +1,5 @@
-use Rattle.std.proofs.Common.{◌≡◌, ◌*◌, ◌<◌, inr, arith, ℤ, pos, ◌+ℤ◌, ◌*ℤ◌, to_z, of_z, w32, w64, rules}
+use Rattle.std.proofs.Common.{◌≡◌, ◌*◌, ◌<◌, inr, arith, pos, ◌+ℤ◌, ◌*ℤ◌, to_z, of_z, w64, rules}
 use Rattle.std.proofs.lemmas.Int.{ints}
-use Rattle.profile.specs.series.Zones.{Means}
-use Rattle.cal_zones.specs.Kinds.{zone_of}
 use Rattle.cal_events.proofs.event_times.days_later.Goals as goal
 
 pub returns-clause-later : goal.returns-clause-later

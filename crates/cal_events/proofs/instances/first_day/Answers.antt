@@ -1,17 +1,20 @@
-use Rattle.std.proofs.Common.{◌≡◌, ◌∙◌, sym, subst, List, map, to_z, of_z, w64, to_z-of_z}
-use Rattle.std.proofs.lemmas.Option.{same_Some}
+use Rattle.std.proofs.Common.{◌≡◌, map, subst, refl, ◌+ℤ◌}
 use Rattle.profile.specs.series.Days.{day_index}
+use Rattle.profile.specs.series.Zones.{Zone, IsBounds, local_time}
 use Rattle.cal_events.specs.Events.{event_of}
-use Rattle.cal_events.specs.declared.component.EventComponent.{EventComponent}
-use Rattle.std.specs.Prelude.{None}
-use Rattle.cal_events.specs.declared.instances.Bound.{Bound}
-use Rattle.cal_events.specs.Instances.{NoneBefore}
+use Rattle.cal_zones.proofs.Lasts.{clock_day}
+use Rattle.cal_events.proofs.InstanceLemmas.{none_before_day, none_before_start}
 use Rattle.cal_events.proofs.instances.first_day.Goals as goal
 
 pub returns-in-Some : goal.returns-in-Some
-returns-in-Some c d is =
-    let day = day_index c.first_day_of.result in
-    let same : to_z w64 (of_z w64 c.args.from) ≡ c.args.from = to_z-of_z c.ranges.from in
-    let bound : Bound = record { start = c.args.from; slot = None } in
-    subst (λ (x : EventComponent). NoneBefore (event_of x) (map event_of c.args.event.now.overrides.items) bound day) (same_Some c.in-Some.master d (sym c.in-Some.is ∙ is))
-    (subst (λ (os : List EventComponent). NoneBefore (event_of c.in-Some.master) (map event_of os) bound day) c.as_slice.ensures.value (rw same at c.first_day_of.ensures))
+returns-in-Some c =
+    let d = c.day_and_second in
+    let bounds = c.offsets-least.result in
+    let on : c.args.from +ℤ bounds.0 ≡ local_time (day_index d.result.0) d.result.1 =
+    clock_day c.args.from bounds.0 c.saturating_add.result c.in-Some.local d.result.0 d.result.1 c.ranges.from (record { sfits = c.saturating_add.type_inv }) c.offsets-least.ensures.range.0 c.saturating_add.ensures
+    (c.in-Some.ensures.found.0 refl) c.in-Some.ensures.value d.ensures.sum d.ensures.second d.ensures.day in
+    none_before_day (event_of c.args.master.now) (map event_of c.args.overrides.now) c.args.from bounds.0 bounds.1 (day_index d.result.0) d.result.1
+    (subst (λ (z : Zone). IsBounds z bounds.0 bounds.1) c.clock.ensures c.offsets-least.ensures.bounds) on
+
+pub returns-in-None : goal.returns-in-None
+returns-in-None c = none_before_start (event_of c.args.master.now) (map event_of c.args.overrides.now) _ c.args.rule.now (day_index c.start.result) c.requires c.start.ensures

@@ -1,53 +1,83 @@
-use Rattle.std.proofs.Common.{◌≡◌, ◌∙◌, ◌+◌, map, refl, sym, ap, subst, arith, ℕ, to_z, of_z, w64}
+use Rattle.std.proofs.Common.{◌≡◌, ◌∙◌, map, refl, arith, to_z, of_z, w64}
 use Rattle.std.proofs.lemmas.Bool.{false≢true}
 use Rattle.std.proofs.lemmas.Int.{ints}
 use Rattle.profile.specs.series.Days.{day_index}
 use Rattle.profile.specs.events.EventRules.{IsOnDay}
 use Rattle.cal_events.specs.Events.{event_of}
-use Rattle.cal_events.specs.Instances.{NoneBefore}
-use Rattle.cal_events.proofs.InstanceLemmas.{last_of_rule, none_through, none_up_to, first_of_rule, none_of_rule}
+use Rattle.cal_events.proofs.InstanceLemmas.{last_of_rule, first_of_rule, none_of_rule}
+use Rattle.cal_events.proofs.Walks.{walked_on, walked_out, walked_back}
 use Rattle.cal_events.proofs.instances.first_on_rule.Goals as goal
+
+pub loop-found-init : goal.loop-found-init
+loop-found-init c = c.pass_given.ensures (event_of c.args.master.now) (map event_of c.args.event.now.overrides.items) c.requires.walked
 
 pub start_on-start-requires-clause-day : goal.start_on-start-requires-clause-day
 start_on-start-requires-clause-day c =
-    let last = last_of_rule c.args.rule.now (day_index c.in-Some.found) c.in-Some.ensures.holds in
+    let rule = c.args._rule.now in
+    let step = c.in-Some.ensures rule (c.loop-found.invariant.listed rule c.requires.rule) in
+    let last = last_of_rule rule (day_index c.in-Some.found) step.2.0.holds in
     omega (arith, ints, last)
+
+pub put_back-requires : goal.put_back-requires
+put_back-requires c =
+    let rule = c.args._rule.now in
+    (c.in-Some.ensures rule (c.loop-found.invariant.listed rule c.requires.rule)).1
 
 pub returns-then-is_wanted-clause-first : goal.returns-then-is_wanted-clause-first
 returns-then-is_wanted-clause-first c =
     let d = c.day_and_second-second.result in
     let on : IsOnDay c.args.master.now.times.start.local (day_index d.0) d.1 = (c.day_and_second-second.ensures.second, omega (arith, ints, c.day_and_second-second.ensures.sum, c.day_and_second-second.type_inv)) in
     let same : to_z w64 (of_z w64 c.start_on-start.result) ≡ c.start_on-start.result = omega (arith, ints, c.start_on-start.ensures.range) in
-    rw same (first_of_rule (event_of c.args.master.now) (map event_of c.args.overrides.now) c.args.after c.args.rule.now c.requires.rule c.requires.meaning (day_index d.0) d.1 on (day_index c.loop-found.from) c.loop-found.invariant
-    c.requires.ascending (day_index c.in-Some.found) c.in-Some.ensures c.start_on-start.result c.start_on-start.ensures.meaning (rw same at (c.if-is_wanted.ensures.0 refl)))
+    let rule = c.args._rule.now in
+    let walked = c.loop-found.invariant in
+    let step = c.in-Some.ensures rule (walked.listed rule c.requires.rule) in
+    rw same (first_of_rule (event_of c.args.master.now) (map event_of c.args.event.now.overrides.items) c.args.after rule c.requires.rule c.requires.meaning (day_index d.0) d.1 on c.loop-found.days.from walked.none
+    c.requires.ascending (day_index c.in-Some.found) step.2.0 c.start_on-start.result c.start_on-start.ensures.meaning (rw same at ((c.if-is_wanted.ensures c.args.master.now c.requires.master).0 refl)))
 
-pub returns-then-is_wanted-clause-none : goal.returns-then-is_wanted-clause-none
-returns-then-is_wanted-clause-none c =
+pub returns-then-is_wanted-clause-walked : goal.returns-then-is_wanted-clause-walked
+returns-then-is_wanted-clause-walked c =
     let d = c.day_and_second-second.result in
     let on : IsOnDay c.args.master.now.times.start.local (day_index d.0) d.1 = (c.day_and_second-second.ensures.second, omega (arith, ints, c.day_and_second-second.ensures.sum, c.day_and_second-second.type_inv)) in
-    none_up_to (event_of c.args.master.now) (map event_of c.args.overrides.now) c.args.after c.args.rule.now c.requires.rule c.requires.meaning (day_index d.0) d.1 on (day_index c.loop-found.from) c.loop-found.invariant
-    (day_index c.in-Some.found) c.in-Some.ensures
-
-pub unwrap-from-requires : goal.unwrap-from-requires
-unwrap-from-requires c =
-    let last = last_of_rule c.args.rule.now (day_index c.in-Some.found) c.in-Some.ensures.holds in
-    c.at_index.ensures.found.1 (omega (arith, c.index.ensures.value, c.index.ensures.range), omega (arith, c.index.ensures.value, last))
+    let same : to_z w64 (of_z w64 c.start_on-start.result) ≡ c.start_on-start.result = omega (arith, ints, c.start_on-start.ensures.range) in
+    let rule = c.args._rule.now in
+    let walked = c.loop-found.invariant in
+    let step = c.in-Some.ensures rule (walked.listed rule c.requires.rule) in
+    walked_back (event_of c.args.master.now) (map event_of c.args.event.now.overrides.items) c.args.after rule c.requires.rule c.requires.meaning (day_index d.0) d.1 on c.loop-found.days c.next.new.self walked
+    c.in-Some.found c.start_on-start.result c.put_back.new.self step c.start_on-start.ensures.meaning
+    (c.put_back.ensures.days rule c.loop-found.days.from step.0 step.2.0 step.2.1) c.put_back.ensures.from c.put_back.ensures.first (c.put_back.ensures.start ∙ same)
 
 pub loop-found-preserved : goal.loop-found-preserved
 loop-found-preserved c =
     let d = c.day_and_second-second.result in
     let on : IsOnDay c.args.master.now.times.start.local (day_index d.0) d.1 = (c.day_and_second-second.ensures.second, omega (arith, ints, c.day_and_second-second.ensures.sum, c.day_and_second-second.type_inv)) in
     let same : to_z w64 (of_z w64 c.start_on-start.result) ≡ c.start_on-start.result = omega (arith, ints, c.start_on-start.ensures.range) in
-    let value : day_index c.unwrap-from.result ≡ c.index.result + 1 = rw c.unwrap-from.ensures at c.at_index.ensures.value in
-    let master = event_of c.args.master.now in
-    let overrides = map event_of c.args.overrides.now in
-    subst (λ (n : ℕ). NoneBefore master overrides c.args.after n) (sym (value ∙ ap (λ n. n + 1) c.index.ensures.value))
-    (none_through master overrides c.args.after c.args.rule.now c.requires.rule c.requires.meaning (day_index d.0) d.1 on (day_index c.loop-found.from) c.loop-found.invariant
-    (day_index c.in-Some.found) c.in-Some.ensures c.start_on-start.result c.start_on-start.ensures.meaning (λ w. false≢true (c.if-is_wanted.ensures.1 (rw same w))))
+    let rule = c.args._rule.now in
+    let walked = c.loop-found.invariant in
+    let step = c.in-Some.ensures rule (walked.listed rule c.requires.rule) in
+    walked_on (event_of c.args.master.now) (map event_of c.args.event.now.overrides.items) c.args.after rule c.requires.rule c.requires.meaning (day_index d.0) d.1 on c.loop-found.days c.next.new.self walked
+    c.in-Some.found c.start_on-start.result step c.start_on-start.ensures.meaning (λ w. false≢true ((c.if-is_wanted.ensures c.args.master.now c.requires.master).1 (rw same w)))
+
+pub loop-found-smaller : goal.loop-found-smaller
+loop-found-smaller c =
+    let rule = c.args._rule.now in
+    let step = c.in-Some.ensures rule (c.loop-found.invariant.listed rule c.requires.rule) in
+    let last = last_of_rule rule (day_index c.in-Some.found) step.2.0.holds in
+    omega (arith, last, step.2.0.not_before, step.2.1)
 
 pub returns-clause-first : goal.returns-clause-first
 returns-clause-first c =
     let d = c.day_and_second-second.result in
     let on : IsOnDay c.args.master.now.times.start.local (day_index d.0) d.1 = (c.day_and_second-second.ensures.second, omega (arith, ints, c.day_and_second-second.ensures.sum, c.day_and_second-second.type_inv)) in
-    none_of_rule (event_of c.args.master.now) (map event_of c.args.overrides.now) c.args.after c.args.rule.now c.requires.rule c.requires.meaning (day_index d.0) d.1 on (day_index c.loop-found.from) c.loop-found.invariant
-    c.in_default.ensures
+    let rule = c.args._rule.now in
+    let walked = c.loop-found.invariant in
+    let step = c.in_default.ensures rule (walked.listed rule c.requires.rule) in
+    none_of_rule (event_of c.args.master.now) (map event_of c.args.event.now.overrides.items) c.args.after rule c.requires.rule c.requires.meaning (day_index d.0) d.1 on c.loop-found.days.from walked.none step.2.0
+
+pub returns-clause-walked : goal.returns-clause-walked
+returns-clause-walked c =
+    let d = c.day_and_second-second.result in
+    let on : IsOnDay c.args.master.now.times.start.local (day_index d.0) d.1 = (c.day_and_second-second.ensures.second, omega (arith, ints, c.day_and_second-second.ensures.sum, c.day_and_second-second.type_inv)) in
+    let rule = c.args._rule.now in
+    let walked = c.loop-found.invariant in
+    let step = c.in_default.ensures rule (walked.listed rule c.requires.rule) in
+    walked_out (event_of c.args.master.now) (map event_of c.args.event.now.overrides.items) c.args.after rule c.requires.rule c.requires.meaning (day_index d.0) d.1 on c.loop-found.days c.next.new.self walked step

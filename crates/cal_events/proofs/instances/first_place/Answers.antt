@@ -1,34 +1,26 @@
-use Rattle.std.proofs.Common.{◌≡◌, ◌∙◌, sym, subst, List, map, ℕ}
-use Rattle.std.specs.Prelude.{Option, Some, Contains}
+use Rattle.std.proofs.Common.{◌∙◌, sym, subst, List, map}
+use Rattle.std.specs.Prelude.{Contains}
 use Rattle.std.proofs.lemmas.Option.{same_Some}
-use Rattle.profile.specs.series.Days.{day_index}
-use Rattle.profile.specs.events.Starts.{IsStart}
 use Rattle.cal_events.specs.Events.{event_of}
 use Rattle.cal_events.specs.declared.component.EventComponent.{EventComponent}
-use Rattle.cal_events.specs.declared.instances.Place.{Place}
-use Rattle.cal_events.specs.Instances.{IsAfter, IsLeast, IsSoonest, IsMovedTo, NoneBefore}
+use Rattle.cal_events.specs.Instances.{IsSoonest, IsMovedTo, AreWalked}
 use Rattle.cal_events.proofs.InstanceLemmas.{first_with_master, first_without}
 use Rattle.cal_events.proofs.instances.first_place.Goals as goal
 
 pub first_start-start-requires-clause-clock : goal.first_start-start-requires-clause-clock
 first_start-start-requires-clause-clock c = c.args.event.now.clock c.in-Some.master c.in-Some.is
 
-pub first_start-start-requires-clause-none : goal.first_start-start-requires-clause-none
-first_start-start-requires-clause-none c =
-    subst (λ (os : List EventComponent). NoneBefore (event_of c.in-Some.master) (map event_of os) c.args.after (day_index c.args.day)) (sym c.as_slice-in-Some.ensures.value) (c.requires c.in-Some.master c.in-Some.is)
-
 pub returns-in-Some-clause-first : goal.returns-in-Some-clause-first
 returns-in-Some-clause-first c =
     let os = c.args.event.now.overrides.items in
-    let start = subst (λ (l : List EventComponent). IsLeast (λ t. IsStart (event_of c.in-Some.master) (map event_of l) t × IsAfter c.args.after t t) c.first_start-start.result.0) c.as_slice-in-Some.ensures.value c.first_start-start.ensures.first in
     let moved = subst (λ (l : List EventComponent). IsSoonest (λ p. (o : EventComponent) × Contains l o × IsMovedTo o c.args.after p) c.first_moved-moved.result) c.as_slice.ensures.value c.first_moved-moved.ensures in
-    first_with_master os c.args.after c.args.event.now.master c.in-Some.master c.in-Some.is c.first_start-start.result.0 c.own_place.result c.first_moved-moved.result c.sooner.result start c.own_place.ensures moved c.sooner.ensures
+    first_with_master os c.args.after c.args.event.now.master c.in-Some.master c.in-Some.is c.first_start-start.result c.own_place.result c.first_moved-moved.result c.sooner.result c.first_start-start.ensures.first c.own_place.ensures moved c.sooner.ensures
 
 pub returns-in-Some-clause-passed : goal.returns-in-Some-clause-passed
 returns-in-Some-clause-passed c d is =
     let same = same_Some c.in-Some.master d (sym c.in-Some.is ∙ is) in
-    let none = subst (λ (os : List EventComponent). NoneBefore (event_of c.in-Some.master) (map event_of os) c.args.after (day_index c.first_start-start.result.1)) c.as_slice-in-Some.ensures.value c.first_start-start.ensures.none in
-    subst (λ (x : EventComponent). NoneBefore (event_of x) (map event_of c.args.event.now.overrides.items) c.args.after (day_index c.first_start-start.result.1)) same none
+    let days = c.first_start-start.new.days in
+    subst (λ (x : EventComponent). AreWalked (event_of x) (map event_of c.args.event.now.overrides.items) c.args.after days) same c.first_start-start.ensures.walked
 
 pub returns-in-None-clause-first : goal.returns-in-None-clause-first
 returns-in-None-clause-first c =

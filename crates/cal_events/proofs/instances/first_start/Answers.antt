@@ -5,4 +5,4 @@ use Rattle.cal_events.proofs.instances.first_start.Goals as goal
 
 pub returns-clause-first : goal.returns-clause-first
 returns-clause-first c =
-    first_of_both (event_of c.args.master.now) (map event_of c.args.overrides.now) c.args.after _ _ _ c.first_given-given.ensures.first c.first_added-added.ensures c.lesser.ensures
+    first_of_both (event_of c.args.master.now) (map event_of c.args.event.now.overrides.items) c.args.after _ _ _ c.first_given-given.ensures.first (c.first_added-added.ensures c.args.master.now c.requires.master) c.lesser.ensures

@@ -1,0 +1,190 @@
+-- How the first instance that shares an instant with a span is found.
+use Rattle.std.proofs.Common.{◌≡◌, ◌∙◌, ap, sym, subst, inl, inr, ◌⊎◌, ℕ, suc, ◌+◌, ◌*◌, ◌<◌, ◌≤◌, List, [], ◌∷◌, ◌++◌, length, get_or, take, take_all, refl, arith, ℤ, pos, negsuc, ◌+ℤ◌, ◌-ℤ◌, ◌<ℤ◌, ◌≤ℤ◌, unsigned_abs, w64}
+use Rattle.std.specs.Prelude.{Option, Some, None, Contains, ◌↔◌, int_lt, IsTrue}
+use Rattle.std.specs.Int.{saturate_signed}
+use Rattle.std.proofs.lemmas.Bool.{cases_lt}
+use Rattle.std.proofs.lemmas.Int.{ints}
+use Rattle.std.proofs.lemmas.List.{take_more}
+use Rattle.std.proofs.lemmas.List.Elements.{Contains-push_cases}
+use Rattle.profile.specs.series.Zones.{IsBounds}
+use Rattle.profile.specs.checker.Instances.{Booked, horizon}
+use Rattle.profile.specs.events.Properties.{first_second, length_seconds}
+use Rattle.profile.specs.events.ZonedTimes.{EventTimes, clock_of}
+use Rattle.profile.specs.events.Meetings.{Meeting}
+use Rattle.profile.specs.events.Events.{Event}
+use Rattle.profile.specs.events.Starts.{IsInstance, ComesBefore, EndsAt}
+use Rattle.cal_events.specs.Calendars.{instance_of}
+use Rattle.cal_events.specs.Events.{times_of}
+use Rattle.cal_events.specs.Instances.{IsAfter, IsPastSlot}
+use Rattle.cal_events.specs.Left.{IsLeft, GivesFirst}
+use Rattle.cal_events.specs.Meetings.{IsNamed}
+use Rattle.cal_events.specs.SaidMeetings.{said_meeting}
+use Rattle.cal_events.specs.declared.event.Event as declared
+use Rattle.cal_events.specs.declared.component.EventComponent.{EventComponent}
+use Rattle.cal_events.specs.declared.instance.Instance.{Instance}
+use Rattle.cal_events.specs.declared.instances.Bound.{Bound}
+use Rattle.cal_events.specs.declared.instances.Instances.{Instances}
+use Rattle.cal_events.specs.Overlapping.{SharesInstant, IsFirstOverlap, HaveOneEnd, AreDated, LastAtMost, slots_left, places_left}
+use Rattle.cal_events.proofs.InstanceLemmas.{not_less, of_option, of_list}
+use Rattle.cal_events.proofs.WholeLists.{placed, after_later}
+
+-- ---- how long an instance lasts
+
+pub lasts : (times : EventTimes) (least greatest n : ℤ) → IsBounds (clock_of times.zone) least greatest → n ≡ pos (length_seconds times.length) +ℤ (greatest -ℤ least) → LastAtMost times n
+lasts times least greatest n b is start end (later, inl (none, same), e) = omega (arith, ints, b.ordered, is, same, e)
+lasts times least greatest n b is start end (later, inr (some, (offset, at, means)), e) =
+    let l = not_less (clock_of times.zone) least greatest ((start +ℤ offset) +ℤ pos (86_400 * times.length.days)) later b means in
+    elim (b.one start offset at) [
+      | inl o ↦ omega (arith, ints, b.ordered, is, l, e, o)
+      | inr o ↦ omega (arith, ints, b.ordered, is, l, e, o)
+    ]
+
+pub lasts_longer : (times : EventTimes) (m n : ℤ) → m ≤ℤ n → LastAtMost times m → LastAtMost times n
+lasts_longer times m n le h start end e = let l = h start end e in omega (arith, ints, l, le)
+
+abbrev pub AllLast : List EventComponent → ℤ → Type 0
+AllLast os n = (o : EventComponent) → Contains os o → LastAtMost (times_of o.times) n
+
+pub last_more : (os : List EventComponent) (k : ℕ) (x : EventComponent) (m n r : ℤ) → k < length os → x ≡ get_or os k x → AllLast (take k os) m → LastAtMost (times_of x.times) n → m ≤ℤ r → n ≤ℤ r → AllLast (take (k + 1) os) r
+last_more os k x m n r w e all one le le' o c =
+    elim (Contains-push_cases (take k os) x o (subst (λ (l : List EventComponent). Contains l o) (take_more os k x w ∙ ap (λ y. take k os ++ y ∷ []) (sym e)) c)) [
+      | inl old ↦ lasts_longer (times_of o.times) m r le (all o old)
+      | inr same ↦ subst (λ (y : EventComponent). LastAtMost (times_of y.times) r) same (lasts_longer (times_of x.times) n r le' one)
+    ]
+
+pub last_whole : (os : List EventComponent) (k : ℕ) (n : ℤ) → length os ≤ k → AllLast (take k os) n → AllLast os n
+last_whole os k n le h = subst (λ (l : List EventComponent). AllLast l n) (take_all k os le) h
+
+pub instance_lasts : (event : declared.Event) (n : ℤ) → ((c : EventComponent) → event.master ≡ Some c → LastAtMost (times_of c.times) n) → AllLast event.overrides.items n
+    → (b : Booked) → IsInstance (said_meeting event) b → b.end ≤ℤ (b.start +ℤ n)
+instance_lasts event n master overrides b (inl i) =
+    let m = of_option event.master i.master i.is in
+    master m.0 m.1 b.start b.end (subst (λ (e : Event). EndsAt e.times b.start b.end) (sym m.2) i.ends)
+instance_lasts event n master overrides b (inr i) =
+    let m = of_list event.overrides.items i.override i.is in
+    overrides m.0 m.1 b.start b.end (subst (λ (e : Event). EndsAt e.times b.start b.end) (sym m.2) i.ends)
+
+-- ---- one instance beside a span
+
+pub shares_where : (first start end from to : ℤ) → (start ≤ℤ first) × (from ≤ℤ first) → (first ≡ start) ⊎ (first ≡ from) → first <ℤ end → first <ℤ to → IsTrue (int_lt first horizon) ↔ SharesInstant start end from to
+shares_where first start end from to least one in_end in_to = (
+  (λ h. record { instant = first; before = grind (arith, ints); in_first = (least.0, in_end); in_second = (least.1, in_to) }),
+  λ s. elim one [
+    | inl e ↦ let l : first <ℤ horizon = omega (arith, ints, e, s.before, s.in_first) in grind (arith, ints)
+    | inr e ↦ let l : first <ℤ horizon = omega (arith, ints, e, s.before, s.in_second) in grind (arith, ints)
+  ],
+)
+
+-- ---- how many places are left
+
+abs_is : (d : ℤ) → pos 0 ≤ℤ d → pos (unsigned_abs d) ≡ d
+abs_is (pos n) h = refl
+abs_is (negsuc n) h = absurd (omega (arith, ints, h))
+
+less : (bound : Bound) (start slot : ℤ) → IsNamed slot → IsNamed start → IsAfter bound start slot → places_left (record { start = start; slot = Some slot }) < places_left bound
+less bound start slot s t (inl before) =
+    let a = abs_is (horizon -ℤ start) (omega (arith, ints, t)) in
+    let b = abs_is (horizon -ℤ bound.start) (omega (arith, ints, t, before)) in
+    let c = abs_is (horizon -ℤ slot) (omega (arith, ints, s)) in
+    omega (arith, ints, a, b, c, s, before)
+less bound start slot s t (inr (same, past)) =
+    let a = ap (λ (x : ℤ). unsigned_abs (horizon -ℤ x)) same in
+    let fewer = slots_fewer bound.slot slot s past in
+    omega (arith, a, fewer)
+  where
+    slots_fewer : (last : Option ℤ) (slot : ℤ) → IsNamed slot → IsPastSlot last slot → slots_left (Some slot) < slots_left last
+    slots_fewer None slot s h = let c = abs_is (horizon -ℤ slot) (omega (arith, ints, s)) in omega (arith, ints, c, s)
+    slots_fewer (Some last) slot s h =
+        let c = abs_is (horizon -ℤ slot) (omega (arith, ints, s)) in
+        let d = abs_is (horizon -ℤ last) (omega (arith, ints, s, h)) in
+        omega (arith, ints, c, d, h)
+
+-- ---- those that share one are still to come
+
+pub record StillLeft (meeting : Meeting) (from to : ℤ) (left : Instances) : Type 0 where
+  pub its : (b : Booked) → IsLeft left b → IsInstance meeting b
+  pub all : (b : Booked) → IsInstance meeting b → SharesInstant b.start b.end from to → IsLeft left b
+
+module _ (meeting : Meeting) (from to : ℤ) where
+  -- from so early on
+  pub left_first : (begin n : ℤ) (left : Instances) → ((b : Booked) → IsInstance meeting b → b.end ≤ℤ (b.start +ℤ n)) → AreDated meeting → (begin ≤ℤ (from -ℤ n)) ⊎ (begin ≤ℤ first_second)
+      → ((b : Booked) → IsLeft left b ↔ (IsInstance meeting b × (begin ≤ℤ b.start))) → StillLeft meeting from to left
+  left_first begin n left last dated early begins = record {
+    its = λ b l. ((begins b).0 l).0;
+    all = λ b is s.
+        let l = last b is in
+        let d = (dated b is).1 in
+        (begins b).1 (is, elim early [ inl x ↦ omega (arith, ints, x, l, s.in_first, s.in_second) | inr x ↦ omega (arith, ints, x, d) ]);
+  }
+
+  module _ (old new : Instances) (h : StillLeft meeting from to old) where
+    pub none_shares : GivesFirst old None new → (b : Booked) → IsInstance meeting b → SharesInstant b.start b.end from to → ⊥
+    none_shares given b is s = given.1 b (h.all b is s)
+
+    module _ (i : Instance) (given : GivesFirst old (Some i) new) where
+      abbrev it : Booked
+      it = instance_of i
+
+      first_of : (b : Booked) → IsInstance meeting b → SharesInstant b.start b.end from to → ComesBefore b it → ⊥
+      first_of b is s = given.1.1 b (h.all b is s)
+
+      pub found : SharesInstant it.start it.end from to → IsFirstOverlap meeting from to (Some it)
+      found s = (h.its it given.1.0, (s, first_of))
+
+      -- all others start as late
+      pub too_late : to ≤ℤ i.start → IsFirstOverlap meeting from to None
+      too_late late = λ b is s.
+          let l : b.start <ℤ to = omega (arith, ints, s.in_first, s.in_second) in first_of b is s (inl (omega (arith, ints, l, late)))
+
+      still : (b : Booked) → IsLeft new b → IsLeft old b
+      still b (is, after) =
+          (subst (λ e. IsInstance (said_meeting e.now) b) given.0 is, after_later old.after it b given.1.0.1 (subst (λ (x : Bound). IsAfter x b.start b.key.slot) given.1.2 after))
+
+      pub passed_on : HaveOneEnd meeting → (SharesInstant it.start it.end from to → ⊥) → StillLeft meeting from to new
+      passed_on ends not = record {
+        its = λ b l. h.its b (still b l);
+        all = λ b is s.
+            let l = h.all b is s in
+            elim (placed it b) [
+              | inl before ↦ (subst (λ e. IsInstance (said_meeting e.now) b) (sym given.0) l.0, subst (λ (x : Bound). IsAfter x b.start b.key.slot) (sym given.1.2) before)
+              | inr o ↦ elim o [
+                | inl same ↦ absurd (not (subst (λ (x : ℤ). SharesInstant x it.end from to) (sym same.0)
+                    (subst (λ (x : ℤ). SharesInstant b.start x from to) (sym (ends it b (h.its it given.1.0) is same.0 same.1)) s)))
+                | inr first ↦ absurd (first_of b is s first)
+              ]
+            ];
+      }
+
+      -- and fewer places are left
+      pub fewer : AreDated meeting → places_left new.after < places_left old.after
+      fewer dated =
+          let d = dated it (h.its it given.1.0) in
+          subst (λ (x : Bound). places_left x < places_left old.after) (sym given.1.2) (less old.after it.start it.key.slot d.0 d.1 given.1.0.1)
+
+-- ---- the walk
+
+-- the next was given, and is to be looked at
+pub record IsAhead (meeting : Meeting) (from to : ℤ) (next : Option Instance) (left : Instances) : Type 0 where
+  pub old : Instances
+  pub still : StillLeft meeting from to old
+  pub given : GivesFirst old next left
+
+-- so many steps are left at most
+abbrev pub steps_left : Option Instance → Instances → ℕ
+steps_left None left = 0
+steps_left (Some i) left = suc (places_left left.after)
+
+pub one_fewer : (meeting : Meeting) (from to : ℤ) (old new : Instances) (i : Instance) (next : Option Instance) → StillLeft meeting from to old → AreDated meeting → GivesFirst old next new → steps_left next new < suc (places_left old.after)
+one_fewer meeting from to old new i None h dated given = omega arith
+one_fewer meeting from to old new i (Some j) h dated given = let l = fewer meeting from to old new h j given dated in omega (arith, l)
+
+-- none is to be looked at
+pub ended : (meeting : Meeting) (from to : ℤ) (next : Option Instance) (left : Instances) → IsAhead meeting from to next left → ((i : Instance) → next ≡ Some i → ⊥) → IsFirstOverlap meeting from to None
+ended meeting from to None left h none = none_shares meeting from to h.old left h.still h.given
+ended meeting from to (Some i) left h none = absurd (none i refl)
+
+-- ---- where to begin
+
+pub at_most : (z : ℤ) → (saturate_signed w64 z ≤ℤ z) ⊎ (saturate_signed w64 z ≤ℤ first_second)
+at_most (pos n) = inl (omega (arith, ints))
+at_most (negsuc n) = elim (cases_lt n 9_223_372_036_854_775_808) [ inl below ↦ inl (omega (arith, ints, below)) | inr from ↦ inr (omega (arith, ints, from)) ]

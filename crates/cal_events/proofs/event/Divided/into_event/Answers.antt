@@ -1,0 +1,19 @@
+use Rattle.std.proofs.Common.{map}
+use Rattle.cal_events.specs.Events.{event_of}
+use Rattle.cal_events.proofs.HiddenLemmas.{hides_made, adds_made}
+use Rattle.cal_events.proofs.event.Divided.into_event.Goals as goal
+
+pub invariant_of-result : goal.invariant_of-result
+invariant_of-result c =
+    let s = c.args.self in
+    let overrides = map event_of s.overrides.items in
+    let hidden = c.in_ok-hidden.hidden in
+    record {
+      clock = c.requires.clock;
+      ends = c.requires.ends;
+      dated = c.requires.dated;
+      hides = λ m is. hides_made (event_of m) overrides s.instants.items hidden c.requires.said (c.in_ok-hidden.ensures m is);
+      adds = λ m is.
+          adds_made (event_of m) overrides hidden c.in_ok-added.added (hides_made (event_of m) overrides s.instants.items hidden c.requires.said (c.in_ok-hidden.ensures m is))
+          (c.in_ok-added.ensures m is);
+    }

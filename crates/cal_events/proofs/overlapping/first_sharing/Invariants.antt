@@ -1,0 +1,9 @@
+use Rattle.cal_events.specs.SaidMeetings.{said_meeting}
+use Rattle.cal_events.proofs.Overlaps.{IsAhead, steps_left}
+use Rattle.cal_events.proofs.overlapping.first_sharing.Given as goal
+
+abbrev pub invariant-loop-next : goal.invariant-loop-next
+invariant-loop-next l = IsAhead (said_meeting l.event) l.span.start l.span.end l.next l.instances
+
+abbrev pub decreases-loop-next : goal.decreases-loop-next
+decreases-loop-next l = steps_left l.next l.instances

@@ -1,0 +1,82 @@
+//! The first instance of an event that shares an instant with a span.
+
+ghost use Rattle.std.specs.Prelude.{◌≡◌, ◌⊎◌, ◌↔◌, ◌^◌, pos, ℤ, ◌+ℤ◌, ◌≤ℤ◌, ◌<ℤ◌, Contains, IsTrue, option_map};
+ghost use Rattle.profile.specs.checker.Instances.{Booked};
+ghost use Rattle.profile.specs.events.Starts.{IsInstance};
+ghost use Rattle.cal_events.specs.Calendars.{instance_of};
+ghost use Rattle.cal_events.specs.Events.{times_of};
+ghost use Rattle.cal_events.specs.Overlapping.{SharesInstant, IsFirstOverlap, LastAtMost};
+ghost use Rattle.cal_events.specs.SaidMeetings.{said_meeting};
+ghost use Rattle.cal_events.specs.declared.component.EventComponent.{EventComponent};
+
+use crate::component::EventComponent;
+use crate::event::Event;
+use crate::instance::{HORIZON, Instance};
+use crate::sweep::Span;
+
+/// The first instance, by start and then by slot, that shares an instant before the horizon with a span.
+pub(crate) fn first_sharing<'a>(event: &'a Event, span: Span) -> Option<Instance<'a>>
+    ensures { IsFirstOverlap (said_meeting event.now) span.start span.end (option_map instance_of result) }
+{
+    let mut instances = event.instances(span.start.saturating_sub(longest(event)));
+    let mut next = instances.next();
+    while let Some(instance) = next {
+        if instance.start >= span.end {
+            return None;
+        }
+        if shares(instance.start, instance.end, span) {
+            return Some(instance);
+        }
+        next = instances.next();
+    }
+    None
+}
+
+/// Whether what lasts from one instant to another shares one before the horizon with a span.
+fn shares(start: i64, end: i64, span: Span) -> bool
+    ensures { IsTrue result ↔ SharesInstant start end span.start span.end }
+{
+    let first = later(start, span.start);
+    if first >= end {
+        return false;
+    }
+    if first >= span.end {
+        return false;
+    }
+    first < HORIZON
+}
+
+/// The later of two instants.
+fn later(a: i64, b: i64) -> i64
+    ensures least { (a ≤ℤ result) × (b ≤ℤ result) }
+    ensures one { (result ≡ a) ⊎ (result ≡ b) }
+{
+    if a < b {
+        return b;
+    }
+    a
+}
+
+/// No instance of an event lasts longer, in exact seconds.
+fn longest(event: &Event) -> i64
+    ensures bound { (b : Booked) → IsInstance (said_meeting event.now) b → b.end ≤ℤ (b.start +ℤ result) }
+    ensures range { (pos 0 ≤ℤ result) × (result <ℤ pos (2 ^ 50)) }
+{
+    let of_overrides = longest_of(event.overrides.as_slice());
+    match &event.master {
+        Some(master) => later(master.times.longest(), of_overrides),
+        None => of_overrides,
+    }
+}
+
+/// No instance of overrides lasts longer.
+fn longest_of(overrides: &[EventComponent]) -> i64
+    ensures bound { (o : EventComponent) → Contains overrides.now o → LastAtMost (times_of o.times) result }
+    ensures range { (pos 0 ≤ℤ result) × (result <ℤ pos (2 ^ 50)) }
+{
+    let mut longest = 0;
+    for component in overrides {
+        longest = later(longest, component.times.longest());
+    }
+    longest
+}

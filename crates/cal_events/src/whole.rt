@@ -1,0 +1,22 @@
+//! What the instances of an event are when they are taken to their end.
+
+ghost use Rattle.std.specs.Prelude.{ℕ, List, ℤ, ◌↔◌, ◌≤ℤ◌};
+ghost use Rattle.profile.specs.checker.Instances.{Booked};
+ghost use Rattle.profile.specs.events.Meetings.{SpellsMeeting};
+ghost use Rattle.profile.specs.events.Starts.{IsInstance, AreInstancesFrom};
+ghost use Rattle.cal_events.specs.GivenWhole.{GivesAll};
+ghost use Rattle.cal_events.specs.Left.{IsLeft};
+ghost use Rattle.cal_events.specs.SaidMeetings.{said_meeting};
+ghost use Rattle.cal_events.specs.declared.instances.Instances.{Instances};
+
+use crate::event::one_instance;
+
+/// Of an event that octets spell, `Event::instances` gives all instances that start at an instant or later, by start and then by slot, each
+/// once, if it is taken to its end.
+pub fn all_instances()
+    ensures { (octets : List ℕ) (from : ℤ) (instances : Instances) (all : List Booked) → SpellsMeeting octets (said_meeting instances.event.now)
+        → ((b : Booked) → IsLeft instances b ↔ (IsInstance (said_meeting instances.event.now) b × (from ≤ℤ b.start)))
+        → GivesAll instances all → AreInstancesFrom (said_meeting instances.event.now) from all }
+{
+    one_instance();
+}
