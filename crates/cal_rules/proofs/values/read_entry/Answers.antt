@@ -43,4 +43,4 @@ pub returns-clause-reads : goal.returns-clause-reads
 returns-clause-reads c =
     let fits : FitsSigned w16 c.in_ok-number.number = search rules in
     rw (to_z-of_z fits) (entry_reads c.args.value.now c.in_ok-weekday.weekday c.in_ok-number.number (subst (λ letters. SpellsWeekday letters c.in_ok-weekday.weekday) c.split_at.ensures.back c.in_ok-weekday.ensures.reads)
-        (inr (subst (λ front. SpellsPlace 53 front c.in_ok-number.number) c.split_at.ensures.front c.in_ok-number.ensures.reads)))
+    (inr (subst (λ front. SpellsPlace 53 front c.in_ok-number.number) c.split_at.ensures.front c.in_ok-number.ensures.reads)))

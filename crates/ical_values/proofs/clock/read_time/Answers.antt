@@ -1,4 +1,4 @@
-use Rattle.std.proofs.Common.{◌≡◌, ◌+◌, ◌*◌, ◌<◌, ◌≤◌, ℕ, min, ap, arith}
+use Rattle.std.proofs.Common.{◌≡◌, ◌+◌, ◌*◌, ◌<◌, ◌≤◌, ℕ, min, arith}
 use Rattle.ical_values.proofs.Exits.{if_none}
 use Rattle.ical_values.proofs.Spelled.{no_hour, no_minute, no_second, same_time, time_spelled}
 use Rattle.ical_values.proofs.clock.read_time.Goals as goal
