@@ -1,7 +1,6 @@
 use Rattle.std.proofs.lemmas.Grind.{common_steps}
-use Rattle.std.proofs.Common.{rules}
 use Rattle.std.proofs.lemmas.Int.{ints}
-use Rattle.std.proofs.Common.{◌∙◌, pos, true, false, map}
+use Rattle.std.proofs.Common.{◌∙◌, pos, true, false, map, rules, arith}
 use Rattle.profile.specs.series.ZoneTexts.{is_weekday}
 use Rattle.cal_rules.specs.Views.{entry_of}
 use Rattle.ical_values.proofs.Exits.{if_none}
@@ -36,7 +35,6 @@ returns-clause-none c =
 
 pub returns-then-is_empty-clause-found : goal.returns-then-is_empty-clause-found
 returns-then-is_empty-clause-found c = grind (arith, common_steps)
-
 
 pub returns-then-is_empty-clause-none : goal.returns-then-is_empty-clause-none
 returns-then-is_empty-clause-none c = search (ints, rules)

@@ -1,12 +1,6 @@
-use Rattle.std.proofs.lemmas.Grind.{common_steps}
-use Rattle.std.proofs.Common.{arith}
 use Rattle.std.proofs.Common.{rules}
 use Rattle.std.proofs.lemmas.Int.{ints}
 use Rattle.cal_zones.proofs.read.keeps.Goals as goal
-
-pub returns-clause-yes : goal.returns-clause-yes
-returns-clause-yes c = grind (arith, common_steps)
-
 
 pub returns-clause-no : goal.returns-clause-no
 returns-clause-no c = search (ints, rules)
