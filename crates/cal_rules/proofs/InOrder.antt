@@ -190,7 +190,7 @@ pub months_short : (zs : List ℕ) → length (months_from 1 zs) ≤ length zs
 unfolding months_from
 months_short zs = kept_short nat_eq zs (range_with_len 1 12) (at_most_once nat_eq (λ x. x) nat_one (λ a b e. e) 1 12)
 
-month_bounds : (m : ℕ) → is_between 1 12 m ≡ true → (1 ≤ m) × (m ≤ 12)
+pub month_bounds : (m : ℕ) → is_between 1 12 m ≡ true → (1 ≤ m) × (m ≤ 12)
 month_bounds m e = (grind (arith, nat_tests), grind (arith, nat_tests))
 
 pub month_there : (m : ℕ) → is_between 1 12 m ≡ true → Contains (range_with_len 1 12) m

@@ -255,7 +255,7 @@ fn push_lead(text: &mut String, is_first: bool, name: &str) -> Result<(), AllocE
 fn push_number(text: &mut String, number: u32) -> Result<(), AllocError>
     ensures { OnOk result (string_bytes text.new ≡ string_bytes text.old ++ decimal number) }
 {
-    let digits = format!(in *text.allocator(); "{number}")?;
+    let digits = number.to_string(*text.allocator())?;
     text.push_str(digits.as_str())?;
     Ok(())
 }
@@ -264,7 +264,7 @@ fn push_number(text: &mut String, number: u32) -> Result<(), AllocError>
 fn push_signed(text: &mut String, number: i16) -> Result<(), AllocError>
     ensures { OnOk result (string_bytes text.new ≡ string_bytes text.old ++ signed_decimal number) }
 {
-    let digits = format!(in *text.allocator(); "{number}")?;
+    let digits = number.to_string(*text.allocator())?;
     text.push_str(digits.as_str())?;
     Ok(())
 }

@@ -156,7 +156,7 @@ fn week_text(alloc: Global, first: u8) -> Result<String, AllocError>
     requires { first ≤ 25 }
     ensures { IfOk result (λ text. string_bytes text ≡ week_text first) }
 {
-    let mut text = format!(in alloc; "{first}")?;
+    let mut text = first.to_string(alloc)?;
     push_day(&mut text, first + 1)?;
     push_day(&mut text, first + 2)?;
     push_day(&mut text, first + 3)?;
@@ -170,8 +170,9 @@ fn week_text(alloc: Global, first: u8) -> Result<String, AllocError>
 fn push_day(text: &mut String, day: u8) -> Result<(), AllocError>
     ensures { OnOk result (string_bytes text.new ≡ string_bytes text.old ++ (codes "," ++ decimal day)) }
 {
-    let next = format!(in *text.allocator(); ",{day}")?;
-    text.push_str(next.as_str())?;
+    let digits = day.to_string(*text.allocator())?;
+    text.push_str(",")?;
+    text.push_str(digits.as_str())?;
     Ok(())
 }
 

@@ -216,6 +216,12 @@ pub record TimeDigits (text : List ℕ) (hour minute second : ℕ) : Type 0 wher
 time_digits : (limit : ℕ) (text : List ℕ) (total : ℕ) (s : SpellsTime limit text total) → TimeDigits text s.hour s.minute s.second
 time_digits limit text total s = record { hours = rw s.spelled refl; minutes = rw s.spelled refl; seconds = rw s.spelled refl }
 
+-- six octets that are these digits
+pub time_spelled : (text : List ℕ) (hour minute second : ℕ) → length text ≡ 6 → TimeDigits text hour minute second → text ≡ two_digits hour ++ two_digits minute ++ two_digits second
+time_spelled text hour minute second six d =
+    list_of_6 text six ∙ sym (ap (λ s. s ++ two_digits minute ++ two_digits second) d.hours ∙ ap (λ s. (get_or text 0 0 ∷ get_or text 1 0 ∷ []) ++ s ++ two_digits second) d.minutes
+    ∙ ap (λ s. get_or text 0 0 ∷ get_or text 1 0 ∷ get_or text 2 0 ∷ get_or text 3 0 ∷ s) d.seconds)
+
 pub no_hour : (limit : ℕ) (text : List ℕ) → ((n : ℕ) → n < 100 → two_digits n ≡ get_or text 0 0 ∷ get_or text 1 0 ∷ [] → ⊥) → (total : ℕ) → SpellsTime limit text total → ⊥
 no_hour limit text h total s = h s.hour (omega (arith, s.hours)) (time_digits limit text total s).hours
 

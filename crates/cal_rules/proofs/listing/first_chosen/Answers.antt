@@ -1,3 +1,4 @@
+use Rattle.std.proofs.Common.{rules}
 use Rattle.std.proofs.Common.{arith}
 use Rattle.profile.specs.series.Days.{day_index}
 use Rattle.cal_rules.specs.Views.{pattern_of}
@@ -26,3 +27,15 @@ loop-index-preserved c =
       low = omega (arith, c.beyond-index.ensures);
       none = rw c.beyond-index.ensures none;
     }
+
+pub returns-then-is_past : goal.returns-then-is_past
+returns-then-is_past c = search rules
+
+pub returns-in-Some : goal.returns-in-Some
+returns-in-Some c = search rules
+
+pub loop-index-smaller : goal.loop-index-smaller
+loop-index-smaller c = search rules
+
+pub returns : goal.returns
+returns c = search rules

@@ -51,3 +51,9 @@ returns-clause-stands c =
     let some : is_missing c.args.written.now.positions.items ≡ false = search rules in
     let next = c.tomorrow-day.ensures in
     on_passed (pattern_of c.args.written.now c.args.start.index) c.args.cursor c.tomorrow-day.result c.requires.stands c.requires.inside next.index next.facts some (sym c.passes.ensures ∙ c.if-not-passes.false)
+
+pub returns-clause-index : goal.returns-clause-index
+returns-clause-index c = search rules
+
+pub returns-clause-span : goal.returns-clause-span
+returns-clause-span c = search rules

@@ -1,4 +1,6 @@
-use Rattle.std.proofs.Common.{◌∙◌, pos, true, false, map}
+use Rattle.std.proofs.lemmas.Grind.{common_steps}
+use Rattle.std.proofs.lemmas.Int.{ints}
+use Rattle.std.proofs.Common.{◌∙◌, pos, true, false, map, rules, arith}
 use Rattle.profile.specs.series.ZoneTexts.{is_weekday}
 use Rattle.cal_rules.specs.Views.{entry_of}
 use Rattle.ical_values.proofs.Exits.{if_none}
@@ -30,3 +32,9 @@ returns-clause-none c =
     let entries = c.args.entries.now in
     let entry = entry_of c.in_ok-entry.entry in
     none_alone c.weekday_named.result c.args.numbers.now entry (map entry_of entries) (only_map (is_weekday entry.number entry.weekday) entry_of entries true c.in_ok-entry.ensures.found) c.weekday_named.ensures.none
+
+pub returns-then-is_empty-clause-found : goal.returns-then-is_empty-clause-found
+returns-then-is_empty-clause-found c = grind (arith, common_steps)
+
+pub returns-then-is_empty-clause-none : goal.returns-then-is_empty-clause-none
+returns-then-is_empty-clause-none c = search (ints, rules)

@@ -1,3 +1,5 @@
+use Rattle.std.proofs.Common.{rules}
+use Rattle.std.proofs.lemmas.Int.{ints}
 use Rattle.std.proofs.Common.{◌≡◌, ◌∙◌, ap, sym, refl, ℕ, ℤ, ◌≤◌, pos, arith, Some, Bor, Ordering, Less, Equal, Greater, Result, nat_abs, w16, to_z, of_z}
 use Rattle.std.specs.List.{reduce}
 use Rattle.std.specs.Int.{FitsUnsignedBits}
@@ -38,3 +40,9 @@ returns-then-not-are_seven-clause-none c =
     reduce_by_from_yields_List (λ p z. min_by_ordering (int_cmp p.now z.now) p z) least c.iter.result c.min.result (λ p z. picked (int_cmp p.now z.now) p z) c.min.ensures.ran (YieldsList-from_slice numbers (cc)) in
     let least_is : Some c.in_ok-min.field-0.now ≡ reduce least numbers = ap (option_map (λ (x : Bor ℤ). x.now)) (sym c.in_ok-min.was) ∙ is in
     none_first c.in_ok-min.field-0.now numbers least_is (λ first e low h. let n = same c.try_from.result c.in_ok-min.field-0.now c.in_ok-first.first first c.try_from.ensures c.in_ok-first.ensures.value e low in true≢false (sym h ∙ rw (sym n) (sym c.if-not-are_seven.ensures)))
+
+pub returns-clause-found : goal.returns-clause-found
+returns-clause-found c = search (ints, rules)
+
+pub returns-clause-none : goal.returns-clause-none
+returns-clause-none c = search (ints, rules)

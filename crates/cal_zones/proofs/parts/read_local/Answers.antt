@@ -1,3 +1,4 @@
+use Rattle.std.proofs.Common.{rules}
 use Rattle.std.proofs.Common.{◌≡◌, sym, subst, inr, ℤ, List, ℕ}
 use Rattle.ical_lines.specs.Text.{line_text}
 use Rattle.ical_lines.specs.declared.fault.Refusal.{Refusal}
@@ -12,3 +13,9 @@ returns-clause-stands c =
     err_both _ (λ e. e.number ≡ 11) No (λ e. StartFault (line_text c.args.line) e.number)
     (λ e n none. inr (n, inr (λ t h. none t (subst (λ (s : List ℕ). SpellsLocal s t) (sym c.value-2.ensures) h))))
     c.read.ensures.refuses c.read.ensures.none
+
+pub returns-clause-says : goal.returns-clause-says
+returns-clause-says c = search rules
+
+pub returns-clause-fixed : goal.returns-clause-fixed
+returns-clause-fixed c = search rules

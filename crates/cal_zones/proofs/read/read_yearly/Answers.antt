@@ -1,3 +1,4 @@
+use Rattle.std.proofs.Common.{rules}
 use Rattle.std.proofs.Common.{◌≡◌, ap, codes, refl, subst, inl, inr, List, ℕ}
 use Rattle.ical_lines.specs.Fault.{RefusesBy}
 use Rattle.ical_lines.specs.Text.{line_text}
@@ -41,3 +42,12 @@ returns-clause-says c =
       rule = subst (λ (ls : List (List ℕ)). Says (codes "RRULE") true IsYearLine ls (Some (rule_named rule.month rule.days))) c.in_ok-properties.ensures (said IsYearLine (codes "RRULE") c.in_ok-properties.properties (line_text c.in_ok-line.line) (rule_named rule.month rule.days) c.in_ok-line.ensures.found (subst (λ (s : List ℕ). SpellsYear s (rule_named rule.month rule.days)) c.value.ensures c.in_ok-rule.ensures.says));
       is = refl;
     }
+
+pub invariant_of-observance : goal.invariant_of-observance
+invariant_of-observance c = search rules
+
+pub returns-clause-has_rule : goal.returns-clause-has_rule
+returns-clause-has_rule c = search rules
+
+pub returns-clause-stands : goal.returns-clause-stands
+returns-clause-stands c = search rules

@@ -1,6 +1,5 @@
-use Rattle.std.proofs.Common.{arith}
-use Rattle.std.proofs.lemmas.Grind.{common_steps}
+use Rattle.std.proofs.Common.{ap}
 use Rattle.ical_values.proofs.shown.text_of.Goals as goal
 
 pub returns : goal.returns
-returns c = grind (arith, common_steps)
+returns c = ap (λ octets. octets.items) c.in-Ok.ensures.ok

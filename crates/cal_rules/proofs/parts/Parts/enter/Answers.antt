@@ -1,4 +1,4 @@
-use Rattle.std.proofs.Common.{refl, map, None, Some}
+use Rattle.std.proofs.Common.{refl, map, None, Some, rules}
 use Rattle.std.proofs.lemmas.Result.{IfErr-weaker}
 use Rattle.profile.specs.series.RuleTexts.{Interval, Count, EndsAt, WeekStart, ByMonth, ByMonthDay, ByDay, BySetPosition}
 use Rattle.cal_days.specs.Views.{frequency_of}
@@ -105,3 +105,63 @@ returns-in_default-name-clause-refuses c = (
   unnamed c.args.part.now c.in-Some.name c.in-Some.value c.in-Some.ensures.cases (no_name c.in-Some.name.now c.in_default-name.not-FREQ c.in_default-name.not-INTERVAL c.in_default-name.not-COUNT c.in_default-name.not-UNTIL c.in_default-name.not-WKST
       c.in_default-name.not-BYMONTH c.in_default-name.not-BYMONTHDAY c.in_default-name.not-BYDAY c.in_default-name.not-BYSETPOS),
 )
+
+pub returns-in_default-clause-enters : goal.returns-in_default-clause-enters
+returns-in_default-clause-enters c = tt
+
+pub returns-in_default-clause-keeps : goal.returns-in_default-clause-keeps
+returns-in_default-clause-keeps c = tt
+
+pub returns-in_default-read_frequency-clause-enters : goal.returns-in_default-read_frequency-clause-enters
+returns-in_default-read_frequency-clause-enters c = tt
+
+pub returns-in_default-read_frequency-clause-keeps : goal.returns-in_default-read_frequency-clause-keeps
+returns-in_default-read_frequency-clause-keeps c = tt
+
+pub returns-in-Some-read_frequency-clause-keeps : goal.returns-in-Some-read_frequency-clause-keeps
+returns-in-Some-read_frequency-clause-keeps c = refl
+
+pub returns-in-Some-read_frequency-clause-refuses : goal.returns-in-Some-read_frequency-clause-refuses
+returns-in-Some-read_frequency-clause-refuses c = tt
+
+pub returns-in-INTERVAL-clause-keeps : goal.returns-in-INTERVAL-clause-keeps
+returns-in-INTERVAL-clause-keeps c = refl
+
+pub returns-in-INTERVAL-clause-refuses : goal.returns-in-INTERVAL-clause-refuses
+returns-in-INTERVAL-clause-refuses c = tt
+
+pub returns-in-COUNT-clause-keeps : goal.returns-in-COUNT-clause-keeps
+returns-in-COUNT-clause-keeps c = refl
+
+pub returns-in-COUNT-clause-refuses : goal.returns-in-COUNT-clause-refuses
+returns-in-COUNT-clause-refuses c = tt
+
+pub returns-in-UNTIL-clause-keeps : goal.returns-in-UNTIL-clause-keeps
+returns-in-UNTIL-clause-keeps c = refl
+
+pub returns-in-UNTIL-clause-refuses : goal.returns-in-UNTIL-clause-refuses
+returns-in-UNTIL-clause-refuses c = tt
+
+pub returns-in-WKST-clause-keeps : goal.returns-in-WKST-clause-keeps
+returns-in-WKST-clause-keeps c = refl
+
+pub returns-in-WKST-clause-refuses : goal.returns-in-WKST-clause-refuses
+returns-in-WKST-clause-refuses c = tt
+
+pub returns-in-BYMONTH-clause-keeps : goal.returns-in-BYMONTH-clause-keeps
+returns-in-BYMONTH-clause-keeps c = search rules
+
+pub returns-in-BYMONTHDAY-clause-keeps : goal.returns-in-BYMONTHDAY-clause-keeps
+returns-in-BYMONTHDAY-clause-keeps c = search rules
+
+pub returns-in-BYDAY-clause-keeps : goal.returns-in-BYDAY-clause-keeps
+returns-in-BYDAY-clause-keeps c = search rules
+
+pub returns-in-BYSETPOS-clause-keeps : goal.returns-in-BYSETPOS-clause-keeps
+returns-in-BYSETPOS-clause-keeps c = search rules
+
+pub returns-in_default-name-clause-enters : goal.returns-in_default-name-clause-enters
+returns-in_default-name-clause-enters c = tt
+
+pub returns-in_default-name-clause-keeps : goal.returns-in_default-name-clause-keeps
+returns-in_default-name-clause-keeps c = tt

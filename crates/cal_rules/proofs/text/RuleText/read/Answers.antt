@@ -1,3 +1,4 @@
+use Rattle.std.proofs.Common.{rules}
 use Rattle.std.proofs.Common.{◌++◌, [], ◌∷◌, refl, arith}
 use Rattle.ical_lines.specs.Fault.{RefusesBy}
 use Rattle.ical_lines.specs.declared.fault.Fault.TheVariants.{Refused}
@@ -46,3 +47,6 @@ returns-clause-reads c =
     let i = c.loop-part.invariant in
     let done = cut_done c.loop-part.part-iterator c.next.new.self i.0 i.1 c.in-None.ensures.steps in
     c.in_ok-written.ensures.says c.args.text.now (all_taken (rule_parts c.args.text.now) i.2 i.0 c.loop-part.parts i.3 done i.4)
+
+pub returns-clause-refuses : goal.returns-clause-refuses
+returns-clause-refuses c = search rules

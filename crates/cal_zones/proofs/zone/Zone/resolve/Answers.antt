@@ -1,3 +1,5 @@
+use Rattle.std.proofs.Common.{rules}
+use Rattle.std.proofs.lemmas.Int.{ints}
 use Rattle.std.proofs.Common.{◌≡◌, ap, arith, ◌+ℤ◌, ◌-ℤ◌, of_z, w32}
 use Rattle.jiff_core.proofs.SignedLemmas.{signed_arith}
 use Rattle.cal_zones.specs.Kinds.{zone_of}
@@ -33,3 +35,6 @@ returns-clause-meaning c =
     let sum : (s -ℤ greatest) +ℤ greatest ≡ c.args.local = omega (arith, signed_arith, c.seconds-seconds.ensures.value) in
     let sum_late : (s -ℤ least) +ℤ least ≡ c.args.local = omega (arith, signed_arith, c.seconds-seconds.ensures.value) in
     rw cast_late (means_late z least greatest c.args.local (s -ℤ greatest) (s -ℤ least) c.offset.result c.offset-2.result (once c.args.self.now) (sides_of z least greatest o.ends) sum sum_late shown (λ e. c.if-offset-greatest.false (ap (of_z w32) e)) shown_late)
+
+pub returns-clause-range : goal.returns-clause-range
+returns-clause-range c = search (ints, rules)
