@@ -12,7 +12,7 @@ use Rattle.profile.specs.events.Properties.{first_second, length_seconds}
 use Rattle.profile.specs.events.ZonedTimes.{EventTimes, clock_of}
 use Rattle.profile.specs.events.Meetings.{Meeting}
 use Rattle.profile.specs.events.Events.{Event}
-use Rattle.profile.specs.events.Starts.{IsInstance, ComesBefore, EndsAt}
+use Rattle.profile.specs.events.Starts.{IsInstance, ComesBefore, EndsAt, SharesInstant, IsFirstOverlap}
 use Rattle.cal_events.specs.Calendars.{instance_of}
 use Rattle.cal_events.specs.Events.{times_of}
 use Rattle.cal_events.specs.Instances.{IsAfter, IsPastSlot}
@@ -24,7 +24,7 @@ use Rattle.cal_events.specs.declared.component.EventComponent.{EventComponent}
 use Rattle.cal_events.specs.declared.instance.Instance.{Instance}
 use Rattle.cal_events.specs.declared.instances.Bound.{Bound}
 use Rattle.cal_events.specs.declared.instances.Instances.{Instances}
-use Rattle.cal_events.specs.Overlapping.{SharesInstant, IsFirstOverlap, HaveOneEnd, AreDated, LastAtMost, slots_left, places_left}
+use Rattle.cal_events.specs.Overlapping.{HaveOneEnd, AreDated, LastAtMost, slots_left, places_left}
 use Rattle.cal_events.proofs.InstanceLemmas.{not_less, of_option, of_list}
 use Rattle.cal_events.proofs.WholeLists.{placed, after_later}
 

@@ -11,10 +11,10 @@ ghost use Rattle.profile.specs.rooms.Messages.{is_same_meeting};
 ghost use Rattle.profile.specs.events.Meetings.{Meeting, is_master, is_override, AreOfOne, SaysMeeting, SpellsMeeting, MeetingFault, MeetingTextFault, is_meeting_fault};
 ghost use Rattle.cal_events.specs.Events.{event_of};
 ghost use Rattle.cal_events.specs.Meetings.{instants_said, IsNotOne, IsNamed};
-ghost use Rattle.profile.specs.events.Starts.{IsInstance};
+ghost use Rattle.profile.specs.events.Starts.{IsInstance, IsFirstOverlap};
 ghost use Rattle.cal_events.specs.Instances.{HasGoodClock};
 ghost use Rattle.cal_events.specs.Ordered.{Hides, Adds, AreStartsOf};
-ghost use Rattle.cal_events.specs.Overlapping.{HaveOneEnd, AreDated, IsFirstOverlap};
+ghost use Rattle.cal_events.specs.Overlapping.{HaveOneEnd, AreDated};
 ghost use Rattle.cal_events.specs.declared.component.EventComponent.{EventComponent};
 
 use crate::component::{EventComponent, Purpose, one_event};

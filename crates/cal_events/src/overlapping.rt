@@ -2,10 +2,10 @@
 
 ghost use Rattle.std.specs.Prelude.{◌≡◌, ◌⊎◌, ◌↔◌, ◌^◌, pos, ℤ, ◌+ℤ◌, ◌≤ℤ◌, ◌<ℤ◌, Contains, IsTrue, option_map};
 ghost use Rattle.profile.specs.checker.Instances.{Booked};
-ghost use Rattle.profile.specs.events.Starts.{IsInstance};
+ghost use Rattle.profile.specs.events.Starts.{IsInstance, SharesInstant, IsFirstOverlap};
 ghost use Rattle.cal_events.specs.Calendars.{instance_of};
 ghost use Rattle.cal_events.specs.Events.{times_of};
-ghost use Rattle.cal_events.specs.Overlapping.{SharesInstant, IsFirstOverlap, LastAtMost};
+ghost use Rattle.cal_events.specs.Overlapping.{LastAtMost};
 ghost use Rattle.cal_events.specs.SaidMeetings.{said_meeting};
 ghost use Rattle.cal_events.specs.declared.component.EventComponent.{EventComponent};
 

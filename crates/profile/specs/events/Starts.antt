@@ -1,7 +1,7 @@
 -- When a meeting takes place: its instances, from the master's rule, its RDATEs and EXDATEs, and the overrides (RFC 5545 3.8.5.3, 3.8.5.2,
 -- 3.8.5.1, 3.8.4.4). Instants are seconds from 1970-01-01T00:00:00Z. An instance is known by its start and its slot.
-use Rattle.std.specs.Prelude.{◌≡◌, ◌⊎◌, true, ℕ, ◌*◌, ◌<◌, ◌≤◌, Contains, AllPairs, All, List, [], length, map, Option, Some, None, unwrap_or, ℤ, pos, ◌+ℤ◌, ◌≤ℤ◌, ◌<ℤ◌}
-use Rattle.profile.specs.checker.Instances.{Key, Booked, horizon}
+use Rattle.std.specs.Prelude.{◌≡◌, ◌⊎◌, true, ℕ, ◌*◌, ◌<◌, ◌≤◌, Contains, AllPairs, All, List, [], length, map, MatchOption, Option, Some, None, unwrap_or, ℤ, pos, ◌+ℤ◌, ◌≤ℤ◌, ◌<ℤ◌}
+use Rattle.profile.specs.checker.Instances.{Key, Booked, IsWithin, horizon}
 use Rattle.profile.specs.series.Rules.{Parts, is_rule_day}
 use Rattle.profile.specs.series.Zones.{Zone, IsOffsetAt, Means, local_time}
 use Rattle.profile.specs.events.Properties.{first_second}
@@ -100,3 +100,19 @@ pub record AreFirst (meeting : Meeting) (limit : ℕ) (instances : List Booked) 
   pub short : length instances ≤ limit
   pub others : (instance : Booked) → IsInstance meeting instance
       → Contains instances instance ⊎ ((length instances ≡ limit) × All (λ first. ComesBefore first instance) instances)
+
+-- ---- which share an instant with a span
+
+-- what lasts from one instant to another shares one with what lasts from and to, before the horizon
+pub record SharesInstant (start end from to : ℤ) : Type 0 where
+  pub instant : ℤ
+  pub before : instant <ℤ horizon
+  pub in_first : IsWithin start end instant
+  pub in_second : IsWithin from to instant
+
+-- the first of the instances that does, by start and then by slot, if there is one
+abbrev pub IsFirstOverlap : Meeting → ℤ → ℤ → Option Booked → Type 0
+IsFirstOverlap meeting from to found =
+    MatchOption found ((b : Booked) → IsInstance meeting b → SharesInstant b.start b.end from to → ⊥)
+    (λ i. IsInstance meeting i
+    × (SharesInstant i.start i.end from to × ((b : Booked) → IsInstance meeting b → SharesInstant b.start b.end from to → ComesBefore b i → ⊥)))

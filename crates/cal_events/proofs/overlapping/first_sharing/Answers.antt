@@ -4,8 +4,8 @@ use Rattle.std.specs.Int.{saturate_signed}
 use Rattle.std.proofs.lemmas.Bool.{true≢false}
 use Rattle.std.proofs.lemmas.Int.{ints}
 use Rattle.profile.specs.events.Properties.{first_second}
+use Rattle.profile.specs.events.Starts.{SharesInstant}
 use Rattle.cal_events.specs.Left.{GivesFirst}
-use Rattle.cal_events.specs.Overlapping.{SharesInstant}
 use Rattle.cal_events.specs.SaidMeetings.{said_meeting}
 use Rattle.cal_events.specs.declared.instance.Instance.{Instance}
 use Rattle.cal_events.proofs.Overlaps.{left_first, found, too_late, passed_on, one_fewer, steps_left, ended, at_most}
