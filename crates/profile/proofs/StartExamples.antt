@@ -4,7 +4,7 @@ use Rattle.std.specs.Prelude.{Option, Some, None, Contains}
 use Rattle.std.proofs.lemmas.Int.{ints}
 use Rattle.profile.specs.events.Events.{Event}
 use Rattle.profile.specs.events.Meetings.{Meeting}
-use Rattle.profile.specs.events.Starts.{EndsAt, IsStart, IsInstance, key_at}
+use Rattle.profile.specs.events.Starts.{EndsAt, IsStart, IsInstance, SharesInstant, key_at}
 
 -- an event in UTC without a rule, of one second, with these times beside it
 abbrev event : Option ℤ → ℤ → List ℤ → List ℤ → Event
@@ -68,3 +68,13 @@ moved = inr (record { override = override; is = (0, omega arith, refl); recurren
 
 added : IsInstance meeting (record { key = key_at other (pos 50); start = pos 60; end = pos 61 })
 added = inr (record { override = other; is = (1, omega arith, refl); recurrence = refl; key = refl; starts = refl; ends = (pos 60, inl (refl, refl), refl) })
+
+-- one second of an hour is shared; an end is in no instance, and an instance of no length holds nothing
+last_second : SharesInstant (pos 0) (pos 3600) (pos 3599) (pos 7200)
+last_second = record { instant = pos 3599; before = omega (arith, ints); in_first = (omega (arith, ints), omega (arith, ints)); in_second = (omega (arith, ints), omega (arith, ints)) }
+
+touching : SharesInstant (pos 0) (pos 3600) (pos 3600) (pos 7200) → ⊥
+touching s = absurd (omega (arith, ints, s.in_first.1, s.in_second.0))
+
+empty_shares_nothing : SharesInstant (pos 100) (pos 100) (pos 0) (pos 3600) → ⊥
+empty_shares_nothing s = absurd (omega (arith, ints, s.in_first.0, s.in_first.1))
