@@ -13,10 +13,13 @@ use std::alloc::Global;
 /// The method, the organiser and the UID, and the start and the end of each component.
 pub fn message(alloc: Global, octets: &[u8]) -> Result<String, NoAnswer> {
     let message = Message::read(alloc, octets)?;
-    let Method::Request = message.method();
+    let method = match message.method() {
+        Method::Request => "request",
+        Method::Cancel => "cancel",
+    };
     let organiser = message.organiser().as_str();
     let uid = message.uid().as_str();
-    let mut list = format!(in alloc; "request, {organiser}, {uid}")?;
+    let mut list = format!(in alloc; "{method}, {organiser}, {uid}")?;
     for component in message.components() {
         let item = format!(in alloc; "{} to {}", component.start.instant(), component.end)?;
         append(&mut list, ", ", item.as_str())?;
