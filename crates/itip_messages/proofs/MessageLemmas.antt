@@ -16,7 +16,7 @@ use Rattle.profile.specs.text.Trees.{Tree, tree_own, vevents}
 use Rattle.profile.specs.events.Events.{Event, SaysEvent, EventFault, is_unread_in_message, lacks_start}
 use Rattle.profile.specs.rooms.Messages as profile
 use Rattle.profile.specs.rooms.Messages.{SaysMessage, NamesMethod, has_unread_in, MethodFault, bad_method, unread_method, MessageFault, in_event, not_yet, no_start_yet, no_event, two_meetings, two_wholes, is_same_meeting, are_one_meeting, is_unread_method, is_method}
-use Rattle.profile.specs.events.Properties.{lines_named, BothOrNeither, StandsAtMostOnce}
+use Rattle.profile.specs.events.Properties.{BothOrNeither, StandsAtMostOnce}
 use Rattle.cal_events.specs.declared.component.EventComponent.{EventComponent}
 use Rattle.cal_events.specs.declared.component.Purpose.{Purpose}
 use Rattle.cal_events.specs.declared.component.Purpose.TheVariants as purposes
@@ -30,7 +30,7 @@ use Rattle.itip_messages.specs.declared.message.Message.{Message}
 use Rattle.itip_messages.specs.declared.message.MessageComponent.{MessageComponent}
 use Rattle.itip_messages.specs.declared.message.Method.{Method}
 use Rattle.itip_messages.specs.declared.message.Method.TheVariants.{Request, Cancel}
-use Rattle.itip_messages.specs.Messages.{method_said, purpose_of, said_by, WordFault, MeetingFault, StandsFor, component_names, cancels_for_all, is_for, is_part_of, has_part, part_for}
+use Rattle.itip_messages.specs.Messages.{method_said, purpose_of, said_by, WordFault, MeetingFault, StandsFor, component_names, is_for, is_part_of, has_part, part_for}
 
 abbrev Lines : Type 0
 Lines = List (List ℕ)

@@ -172,6 +172,7 @@ all_claimed room message given claims z has s =
   where
     for_it : is_addressed room given ≡ true
     for_it = sym (addressed room message given s) ∙ has
+
     by_one : (claims : List Claim) → AllZip (IsClaimIn room message) (s.component ∷ []) claims → AreClaimed room given claims
     by_one [] z = absurd z
     by_one (claim ∷ []) z = one_claimed room message given s for_it claim z.0

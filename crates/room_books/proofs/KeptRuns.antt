@@ -46,16 +46,16 @@ one_asked room octets given (claim ∷ []) s h = record {
   each = λ c k.
       elim (in_cons claim [] c k) [
         | inl here ↦ subst (λ (x : Claim). is_set x.part ≡ true → IsAsked room x) here (λ set.
-        let live = not_cancelled given claim.content claim.part.body set h.1.part.body in
-        record {
-          octets = octets;
-          given = given;
-          spells = s;
-          asks = h.0;
-          part = h.1.part;
-          set = live;
-          books = h.1.singles ∙ ap (λ b. cond b [] (booked_by given.event ∷ [])) live;
-        })
+            let live = not_cancelled given claim.content claim.part.body set h.1.part.body in
+            record {
+              octets = octets;
+              given = given;
+              spells = s;
+              asks = h.0;
+              part = h.1.part;
+              set = live;
+              books = h.1.singles ∙ ap (λ b. cond b [] (booked_by given.event ∷ [])) live;
+            })
         | inr there ↦ absurd (none_in_nil c there)
       ];
 }

@@ -22,9 +22,9 @@ loop-component-preserved c =
     let new = c.if-has_part.claims.items in
     elim c.if-has_part.branch [
       | then-has_part+in_ok-claim_in+in_ok-push w ↦
-        zip_some R p items all i x old new w.in_ok-claim_in.field-0 c.components-component-items.ensures (omega arith) c.component-item.is (sym w.if-has_part.ensures)
-        (ap (λ v. v.items) w.claims-is ∙ w.in_ok-push.ensures.items) c.loop-component.invariant w.in_ok-claim_in.ensures
+          zip_some R p items all i x old new w.in_ok-claim_in.field-0 c.components-component-items.ensures (omega arith) c.component-item.is (sym w.if-has_part.ensures)
+          (ap (λ v. v.items) w.claims-is ∙ w.in_ok-push.ensures.items) c.loop-component.invariant w.in_ok-claim_in.ensures
       | else-has_part w ↦
-        subst (λ (l : List Claim). AllZip R (filter p (take (i + 1) all)) l) (sym (ap (λ v. v.items) w.claims-is))
-        (zip_skip R p items all i x old c.components-component-items.ensures (omega arith) c.component-item.is (sym w.if-has_part.ensures) c.loop-component.invariant)
+          subst (λ (l : List Claim). AllZip R (filter p (take (i + 1) all)) l) (sym (ap (λ v. v.items) w.claims-is))
+          (zip_skip R p items all i x old c.components-component-items.ensures (omega arith) c.component-item.is (sym w.if-has_part.ensures) c.loop-component.invariant)
     ]
