@@ -3,15 +3,21 @@ the lines. Half of them are in UTC, whose starts are those of dateutil's rrulese
 is read by zoneinfo, in gaps and folds too.
 
     python3 tests/events_by_dateutil.py bin/roombox [EVENTS [SEED]]
+    python3 tests/events_by_dateutil.py --rows EVENTS
+
+The second writes rows of short events for the crate worked_examples, `data/events.txt`, and on standard output the lines of its `stdout`: the
+first twelve instances of each in seconds, and which is the first that shares an instant with two spans.
 
 What dateutil can't list as RFC 5545 has it, or not soon, is left out as in rules_by_dateutil.py.
 """
 
+import calendar
 import random
 import signal
 import subprocess
 import sys
 from datetime import datetime, timedelta, timezone
+from pathlib import Path
 from zoneinfo import ZoneInfo
 
 from dateutil.rrule import rruleset, rrulestr
@@ -94,12 +100,14 @@ def length():
     return days, seconds, text
 
 
-def made():
-    """An object, and the lines that it has; None where none can be had."""
+def made(most=None):
+    """An object, and its instances in order, each start, slot and end; None where none can be had. With so many days of the rule at most."""
     found = case()
     if found is None:
         return None
-    rule, start, _ = found
+    rule, start, days = found
+    if most is not None:
+        rule = f"{rule.rpartition(';')[0]};COUNT={random.randint(1, min(most, len(days)))}"
     zone = NEW_YORK if 2008 <= start.year <= 2028 and random.random() < 0.7 else None
     hour, minute = random.choice(HOURS)
     start = start.replace(hour=hour, minute=minute)
@@ -121,28 +129,84 @@ def made():
         events.append(event(["RECURRENCE-ID:" + stamp(slot), "DTSTART:" + stamp(moved), "DURATION:PT2H"]))
         instances.append((moved, slot, moved + timedelta(hours=2)))
     random.shuffle(events)
-    object_text = "BEGIN:VCALENDAR\nVERSION:2.0\n" + ZONE + "".join(events) + "END:VCALENDAR\n"
-    wanted = [f"{stamp(slot)} {stamp(at)} {int((end - at).total_seconds())}" for at, slot, end in sorted(instances)]
-    return object_text, wanted
+    object_text = "BEGIN:VCALENDAR\nVERSION:2.0\n" + (ZONE if zone else "") + "".join(events) + "END:VCALENDAR\n"
+    return object_text, sorted(instances)
+
+
+def line(at, slot, end):
+    """What `roombox expand` prints of an instance."""
+    return f"{stamp(slot)} {stamp(at)} {int((end - at).total_seconds())}"
+
+
+def quickly(make):
+    """What is made, None where dateutil takes too long."""
+    signal.setitimer(signal.ITIMER_REAL, 0.5)
+    try:
+        return make()
+    except TooSlow:
+        return None
+    finally:
+        signal.setitimer(signal.ITIMER_REAL, 0)
+
+
+# ---- rows
+
+
+def seconds(instant):
+    return calendar.timegm(instant.timetuple())
+
+
+def in_seconds(at, slot, end):
+    return f"{seconds(slot)} {seconds(at)} {seconds(end)}"
+
+
+def span(instances):
+    """A span near one of the instances, and the first that shares an instant with it."""
+    at, _, _ = random.choice(instances)
+    start = at + timedelta(seconds=random.choice([-7200, -3600, -1800, 0, 1800, 3600, 80_000]))
+    stop = start + timedelta(seconds=random.choice([1, 1800, 3600, 90_000]))
+    for instance in instances:
+        if max(instance[0], start) < min(instance[2], stop):
+            return start, stop, in_seconds(*instance)
+    return start, stop, "none"
+
+
+def write_rows(count):
+    rows = []
+    while len(rows) < count:
+        one = quickly(lambda: made(8))
+        if one is None or not one[1]:
+            continue
+        text, instances = one
+        name = f"event {len(rows) + 1} by dateutil and zoneinfo"
+        spans = [span(instances) for _ in range(2)]
+        overlaps = "".join(f" | overlap {seconds(start)} {seconds(stop)}" for start, stop, _ in spans)
+        spelled = text.replace("\n", "\\r\\n")
+        rows.append(f"{name} | text | {spelled} | instances{overlaps}\n")
+        listed = ", ".join(in_seconds(*instance) for instance in instances[:12])
+        print(f"{name}: {listed} | " + " | ".join(found for _, _, found in spans))
+    table = Path(__file__).resolve().parent.parent / "crates" / "worked_examples" / "data" / "events.txt"
+    table.write_text("".join(rows), encoding="utf-8")
+
+
+# ---- by the program
 
 
 def main():
+    signal.signal(signal.SIGALRM, ring)
     program = sys.argv[1]
     wanted = int(sys.argv[2]) if len(sys.argv) > 2 else 300
     random.seed(int(sys.argv[3]) if len(sys.argv) > 3 else 1)
-    signal.signal(signal.SIGALRM, ring)
+    if program == "--rows":
+        write_rows(wanted)
+        return
     compared = different = instances = 0
     while compared < wanted:
-        signal.setitimer(signal.ITIMER_REAL, 0.5)
-        try:
-            one = made()
-        except TooSlow:
-            one = None
-        finally:
-            signal.setitimer(signal.ITIMER_REAL, 0)
+        one = quickly(made)
         if one is None:
             continue
-        text, lines = one
+        text, found = one
+        lines = [line(*instance) for instance in found]
         done = subprocess.run([program, "expand", "--limit", "100000"], input=text.replace("\n", "\r\n").encode(), capture_output=True, check=False)
         compared += 1
         instances += len(lines)

@@ -1,7 +1,7 @@
 //! What is answered about an object as a calendar.
 
 use crate::certificates::verdict_text;
-use cal_events::{Calendar, Event, ParticipationStatus, Purpose, read_events};
+use cal_events::{Calendar, ParticipationStatus, Purpose, read_events};
 use clash_check::check;
 use example_cases::NoAnswer;
 use example_cases::answers::append;
@@ -72,11 +72,6 @@ pub fn ends(alloc: Global, octets: &[u8]) -> Result<String, NoAnswer> {
         append(&mut list, ", ", item.as_str())?;
     }
     Ok(list)
-}
-
-pub fn event(alloc: Global, octets: &[u8]) -> Result<String, NoAnswer> {
-    Event::read(alloc, octets)?;
-    Ok(String::from_str(alloc, "an event")?)
 }
 
 pub fn checked(

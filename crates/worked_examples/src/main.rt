@@ -1,4 +1,4 @@
-//! Worked examples of messages, calendars, certificates, the order of parts, streams and commands, in two tables. Each line of a table
+//! Worked examples of messages, calendars, certificates, the order of parts, streams, commands and events, in three tables. Each line of a table
 //! names a call and gives its input, often as names of files. What is printed of each case is compared by `rt ci` with the file `stdout`,
 //! whose lines come from the RFCs, by hand or from another program.
 #![tactic(auto)]
@@ -7,6 +7,7 @@ mod calendar_files;
 mod calendars;
 mod certificates;
 mod commands;
+mod event_files;
 mod files;
 mod message_files;
 mod messages;
@@ -22,12 +23,14 @@ use std::rt::Files;
 use std::{fs, io};
 
 fn main(rt: HostRuntime) -> io::Result<()> {
-    print_messages(&rt)?;
-    print_commands(&rt)
+    print_answers(&rt, "messages.txt")?;
+    print_commands(&rt)?;
+    // made by tests/events_by_dateutil.py
+    print_answers(&rt, "events.txt")
 }
 
-fn print_messages<R: Files + Print + AllocGlobal>(rt: &R) -> io::Result<()> {
-    let table = fs::read_to_string(rt, "messages.txt")?;
+fn print_answers<R: Files + Print + AllocGlobal>(rt: &R, table: &str) -> io::Result<()> {
+    let table = fs::read_to_string(rt, table)?;
     for line in table.lines() {
         if let Some(case) = Case::of(line) {
             print_answer(rt, case, messages::answer(rt, case))?;

@@ -7,13 +7,16 @@
 //!     times                   the start and the length of each VEVENT, in seconds
 //!     ends                    the instant at which each VEVENT ends
 //!     event                   whether the object is an event with its instances
+//!     instances               its first instances
+//!     overlap START END       the first that shares an instant with this span
 //!     check ROOM TEXT         whether the text is a certificate of the room's calendar
 //!     message                 what the message says
 //!     components              how many components the message has, where the object was read before
 //!     parts ROOM              the parts for a room
 //!     addressed ROOM          whether the message names the room
 
-use crate::calendar_files::{answered, checked, counted, ends, event, kept, times};
+use crate::calendar_files::{answered, checked, counted, ends, kept, times};
+use crate::event_files::{event, instances, overlap};
 use crate::message_files::{addressed, components, message, parts};
 use example_cases::answers::Answers;
 use example_cases::spelled::octets_of;
@@ -45,10 +48,10 @@ pub fn answers(alloc: Global, octets: &[u8], case: Case<'_>) -> Result<String, N
     let mut answers = Answers::new(alloc);
     for step in case.steps(alloc)? {
         let (call, input) = first_word(step);
-        let answer = if input.is_empty() {
-            plain_answer(alloc, octets, call)?
-        } else {
-            room_answer(alloc, octets, call, input)?
+        let answer = match (call, input) {
+            ("overlap", _) => overlap(alloc, octets, input)?,
+            (_, "") => plain_answer(alloc, octets, call)?,
+            _ => room_answer(alloc, octets, call, input)?,
         };
         answers.add(answer.as_str())?;
     }
@@ -61,6 +64,7 @@ fn plain_answer(alloc: Global, octets: &[u8], call: &str) -> Result<String, NoAn
         "times" => times(alloc, octets),
         "ends" => ends(alloc, octets),
         "event" => event(alloc, octets),
+        "instances" => instances(alloc, octets),
         "message" => message(alloc, octets),
         "components" => components(alloc, octets),
         _ => Err(NoAnswer::Unreadable),
