@@ -1,7 +1,7 @@
 -- A room's confirmed instances in a calendar with recurrence and status read: by meeting, master and overrides together (RFC 5545 3.8.4.4,
 -- 3.8.1.11, 3.2.12). Draft: no contract cites it yet.
-use Rattle.std.specs.Prelude.{◌≡◌, ◌≢◌, ◌⊎◌, ◌×◌, true, false, ℕ, ◌≤◌, Contains, AllPairs, Bool, not, ◌&&◌, List, [], length, map, filter, unwrap_or}
-use Rattle.std.specs.Prelude.{bytes_eq}
+use Rattle.std.specs.Prelude.{◌≡◌, ◌≢◌, ◌⊎◌, true, false, ℕ, ◌≤◌, Contains, AllPairs, Bool, not, ◌&&◌, List, [], length, map, filter, is_some, unwrap_or}
+use Rattle.std.specs.Str.{bytes_eq}
 use Rattle.std.specs.Option.{option_to_list}
 use Rattle.profile.specs.checker.Instances.{Booked}
 use Rattle.profile.specs.events.Events.{Event, is_confirmed}
@@ -49,3 +49,7 @@ pub record AreConfirmed (room : List ℕ) (events : List Event) (all : List Book
   pub sound : (instance : Booked) → Contains all instance → IsConfirmedInstance room events instance
   pub complete : (instance : Booked) → IsConfirmedInstance room events instance → Contains all instance
   pub once : AllPairs ◌≢◌ all
+
+-- the series of a calendar, in its order: the masters with RRULE that the room keeps
+abbrev pub kept_series : List ℕ → List Event → List Event
+kept_series room events = filter (λ event. is_master event && is_some event.rule && is_kept room event) events
