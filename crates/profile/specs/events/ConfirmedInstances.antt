@@ -1,10 +1,13 @@
 -- A room's confirmed instances in a calendar with recurrence and status read: by meeting, master and overrides together (RFC 5545 3.8.4.4,
 -- 3.8.1.11, 3.2.12). Draft: no contract cites it yet.
-use Rattle.std.specs.Prelude.{◌≡◌, ◌≢◌, ◌⊎◌, true, false, ℕ, ◌≤◌, Contains, AllPairs, Bool, not, ◌&&◌, List, [], length, map, filter, is_some, unwrap_or}
+use Rattle.std.specs.Prelude.{◌≡◌, ◌≢◌, ◌⊎◌, true, false, ℕ, ◌≤◌, Contains, AllPairs, Bool, not, ◌&&◌, List, [], length, filter, is_some, unwrap_or}
 use Rattle.std.specs.Str.{bytes_eq}
 use Rattle.std.specs.Option.{option_to_list}
 use Rattle.profile.specs.checker.Instances.{Booked}
-use Rattle.profile.specs.events.Events.{Event, is_confirmed}
+use Rattle.std.specs.Prelude.{◌<◌}
+use Rattle.std.specs.List.{AllZip}
+use Rattle.profile.specs.text.Trees.{Tree, vevents}
+use Rattle.profile.specs.events.Events.{Event, SaysEvent, EventFault, is_confirmed}
 use Rattle.profile.specs.events.Meetings.{Meeting, is_master, is_override, InstancesDiffer}
 use Rattle.profile.specs.events.Starts.{IsOfMaster, IsOfOverride}
 
@@ -53,3 +56,18 @@ pub record AreConfirmed (room : List ℕ) (events : List Event) (all : List Book
 -- the series of a calendar, in its order: the masters with RRULE that the room keeps
 abbrev pub kept_series : List ℕ → List Event → List Event
 kept_series room events = filter (λ event. is_master event && is_some event.rule && is_kept room event) events
+
+-- the VEVENTs say events whose meetings hold, and these are the confirmed instances of them
+pub record SaysConfirmed (room : List ℕ) (object : Tree) (all : List Booked) : Type 0 where
+  pub events : List Event
+  pub says : AllZip (SaysEvent object false) (vevents object) events
+  pub hold : MeetingsHold events
+  pub are : AreConfirmed room events all
+
+-- the fault of this number stands in the VEVENTs of an object, as a calendar with everything read
+pub data ConfirmedFault (object : Tree) : ℕ → Type 0 where
+  of_event : {n : ℕ} → (lines : List (List ℕ)) → Contains (vevents object) lines → EventFault object false lines n → ConfirmedFault object n
+  masters_of_one : (events : List Event) → AllZip (SaysEvent object false) (vevents object) events → (organiser uid : List ℕ)
+      → 1 < length (filter is_master (events_of organiser uid events)) → ConfirmedFault object 53
+  overrides_of_one : (events : List Event) → AllZip (SaysEvent object false) (vevents object) events → (organiser uid : List ℕ)
+      → (InstancesDiffer (filter is_override (events_of organiser uid events)) → ⊥) → ConfirmedFault object 54
