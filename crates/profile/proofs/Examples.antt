@@ -1,14 +1,14 @@
 -- Worked examples of definitions, computed. Those of the other files stand beside the crates that meet them: Lines in ical_lines,
 -- Objects in ical_tree, Days and Values in cal_days and ical_values, Instances in cal_events, Certificates in clash_cert,
 -- Revisions in itip_order, Messages in itip_messages, Rooms in room_books.
-use Rattle.std.proofs.Common.{◌≡◌, ◌<◌, ◌∙◌, ℕ, zero, suc, pos, true, false, List, [], ◌∷◌, ◌++◌, None, refl, codes, ap, arith, get_or, lit<}
+use Rattle.std.proofs.Common.{◌≡◌, ◌<◌, ◌∙◌, ℕ, zero, suc, pos, true, false, List, [], ◌∷◌, ◌++◌, Some, None, refl, codes, ap, arith, get_or, lit<}
 use Rattle.std.proofs.lemmas.Bool.{false≢true}
 use Rattle.std.proofs.lemmas.Fmt.{decimal_digit}
 use Rattle.profile.specs.faults.Faults.{is_event_fault, is_calendar_fault, is_message_fault}
 use Rattle.profile.specs.text.Lines.{line_param}
 use Rattle.profile.specs.checker.Calendars.{CalendarTextFault, in_lines, in_tree}
 use Rattle.profile.specs.text.Trees.{Tree, tree, none, more, vevents}
-use Rattle.profile.specs.events.Events.{Event, Participation, Accepted, Declined, NeedsAction, is_unread_line, has_unread, answer_named, booked_by, confirmed}
+use Rattle.profile.specs.events.Events.{Event, Participation, Accepted, Declined, NeedsAction, is_unread_in_message, answer_named, booked_by, answer_of}
 use Rattle.profile.specs.events.Properties.{lines_named}
 use Rattle.profile.specs.rooms.Revisions.{Part, Whole, Set, same_meeting}
 use Rattle.profile.specs.rooms.Messages.{Accept, SinglesLimit, Request, Cancel, MethodFault, no_method, has_unread_in, cancels, is_addressed, object_lines, word}
@@ -64,14 +64,11 @@ no_octets_are_no_calendar = in_tree refl
 uids : lines_named (codes "UID") (codes "uid:a" ∷ codes "SUMMARY:UID:b" ∷ codes "UID;X=1:c" ∷ []) ≡ codes "uid:a" ∷ codes "UID;X=1:c" ∷ []
 uids = refl
 
-a_rule_is_unread : is_unread_line (codes "RRULE:FREQ=DAILY") ≡ true
+a_rule_is_unread : is_unread_in_message (codes "RRULE:FREQ=DAILY") ≡ true
 a_rule_is_unread = refl
 
-a_start_in_a_zone_is_unread : is_unread_line (codes "DTSTART;TZID=Z:20250310T090000") ≡ true
+a_start_in_a_zone_is_unread : is_unread_in_message (codes "DTSTART;TZID=Z:20250310T090000") ≡ true
 a_start_in_a_zone_is_unread = refl
-
-a_tentative_status_is_read : has_unread (codes "STATUS:TENTATIVE" ∷ codes "DTSTART:20250310T090000Z" ∷ []) ≡ false
-a_tentative_status_is_read = refl
 
 the_word_is_caseless : answer_named (line_param (codes "PARTSTAT") (codes "ATTENDEE;RSVP=TRUE;PARTSTAT=accepted:mailto:r1@example.com")) ≡ Accepted
 the_word_is_caseless = refl
@@ -100,13 +97,13 @@ what_it_books : booked_by (event_with Accepted Declined) ≡ record { key = reco
 what_it_books = refl
 
 -- of two lines of one address the first counts
-the_first_line_accepts : confirmed (codes "r:1") (event_with Accepted Declined ∷ []) ≡ booked_by (event_with Accepted Declined) ∷ []
+the_first_line_accepts : answer_of (codes "r:1") (event_with Accepted Declined) ≡ Some Accepted
 the_first_line_accepts = refl
 
-the_first_line_declines : confirmed (codes "r:1") (event_with Declined Accepted ∷ []) ≡ []
+the_first_line_declines : answer_of (codes "r:1") (event_with Declined Accepted) ≡ Some Declined
 the_first_line_declines = refl
 
-another_room_has_nothing : confirmed (codes "r:2") (event_with Accepted Accepted ∷ []) ≡ []
+another_room_has_nothing : answer_of (codes "r:2") (event_with Accepted Accepted) ≡ None
 another_room_has_nothing = refl
 
 -- ---- messages

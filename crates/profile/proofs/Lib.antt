@@ -7,3 +7,4 @@ mod WrittenZoneExamples
 mod EventRuleExamples
 mod OccurrenceExamples
 mod StartExamples
+mod ConfirmedExamples

@@ -1,9 +1,9 @@
 -- The headline, sentence by sentence. Each is the contract of a law: `kept_texts_pass` and `accepted_where_clear` of room_books,
 -- `yes_means_free` of clash_check. That the program does what is said here of runs and of the checker's yes is what the contracts of
 -- `Room::take`, `Room::calendar_text`, `Room::certificate_text` and `check` say.
-use Rattle.std.specs.Prelude.{◌≡◌, ◌↔◌, ◌≤◌, ℕ, ℤ, ◌<ℤ◌, List, Contains, AllPairs, IsTrue, length, nat_lt}
+use Rattle.std.specs.Prelude.{◌≡◌, ◌↔◌, ◌≤◌, ℕ, ℤ, ◌<ℤ◌, List, Contains, IsTrue, length, nat_lt}
 use Rattle.profile.specs.checker.Instances.{Key, Booked, IsWithin, IsClear, horizon}
-use Rattle.profile.specs.checker.Calendars.{CertificateHolds, SpellsCalendar}
+use Rattle.profile.specs.checker.Calendars.{CertificateHolds, IsConfirmedIn}
 use Rattle.profile.specs.rooms.Messages.{Outcome, Accept, Busy}
 use Rattle.profile.specs.rooms.Rooms.{Book, Claim, Delivery, Runs, IsStep, NamesClash, asked, confirmed, if_accepted, empty_book, most_singles}
 use Rattle.profile.specs.streams.Streams.{IsDelivered}
@@ -16,12 +16,12 @@ KeptTextsPass =
     → (book : Book) → Runs empty_book deliveries book
     → (calendar : List ℕ) → IsKeptCalendar room book calendar → CertificateHolds room calendar (kept_certificate book)
 
--- a yes of the checker, on any octets, means that no two confirmed instances (in two places of the list) share an instant before year 10000;
+-- a yes of the checker, on any octets, means that no two confirmed instances share an instant before year 10000;
 abbrev pub YesMeansFree : Type 0
 YesMeansFree =
     (room calendar certificate : List ℕ) → CertificateHolds room calendar certificate
-    → (all : List Booked) → SpellsCalendar room calendar all
-    → AllPairs (λ a b. (t : ℤ) → IsWithin a.start a.end t → IsWithin b.start b.end t → t <ℤ horizon → ⊥) all
+    → (a b : Booked) → IsConfirmedIn room calendar a → IsConfirmedIn room calendar b
+    → (t : ℤ) → IsWithin a.start a.end t → IsWithin b.start b.end t → t <ℤ horizon → a ≡ b
 
 -- the instances that would be confirmed after a message, were each of its parts that is asked accepted
 abbrev pub would_be : Book → List Claim → ℤ → Book → List Booked

@@ -6,4 +6,5 @@ pub mod Occurrences
 pub mod Events
 pub mod Meetings
 pub mod Starts
+pub mod Confirmed
 pub mod Expanding

@@ -1,22 +1,59 @@
--- The calendar of a room that a text is (RFC 5545 3.4), and what can be wrong with such a text.
-use Rattle.std.specs.Prelude.{◌≡◌, ℕ, true, false, List}
+-- The calendar of a room that a text is (RFC 5545 3.4), what it confirms, and what can be wrong with such a text.
+use Rattle.std.specs.Prelude.{◌≡◌, ℕ, true, false, List, Contains}
+use Rattle.std.specs.List.{AllZip}
 use Rattle.profile.specs.text.Lines.{logical_lines, text_has, reads_as_lines}
 use Rattle.profile.specs.text.Objects.{SpellsTree, IsObject, has_version, lines_have}
-use Rattle.profile.specs.text.Trees.{Tree, tree_name, tree_own, tree_inside}
+use Rattle.profile.specs.text.Trees.{Tree, tree_name, tree_own, tree_inside, vevents}
 use Rattle.profile.specs.checker.Instances.{Booked}
 use Rattle.profile.specs.checker.Certificates.{CertificateStands}
-use Rattle.profile.specs.events.Events.{SaysCalendar, CalendarFault}
+use Rattle.profile.specs.events.Events.{Event, SaysEvent, EventFault}
+use Rattle.profile.specs.events.Confirmed.{Confirmed, IsConfirmed, AreConfirmed, MastersDiffer, OverridesDiffer}
 
 -- the octets are this VCALENDAR, of any size
 abbrev pub IsCalendarText : Tree → List ℕ → Type 0
 IsCalendarText t octets = IsObject tree_name tree_own tree_inside false t (logical_lines octets)
 
--- the octets are one VCALENDAR, and these instances of its VEVENTs are confirmed for the room
-pub record SpellsCalendar (room octets : List ℕ) (all : List Booked) : Type 0 where
+-- the VEVENTs of an object say these events. METHOD isn't looked at
+abbrev pub SayEvents : Tree → List Event → Type 0
+SayEvents object events = AllZip (SaysEvent object false) (vevents object) events
+
+-- they do, and these are confirmed of them for the room
+pub record SaysCalendar (room : List ℕ) (object : Tree) (confirmed : Confirmed) : Type 0 where
+  pub events : List Event
+  pub says : SayEvents object events
+  pub masters : MastersDiffer events
+  pub overrides : OverridesDiffer events
+  pub are : AreConfirmed room events confirmed
+
+-- the octets are one VCALENDAR, which says so
+pub record SpellsCalendar (room octets : List ℕ) (confirmed : Confirmed) : Type 0 where
   pub lines : reads_as_lines false octets ≡ true
   pub tree : Tree
   pub object : IsCalendarText tree octets
-  pub says : SaysCalendar room tree all
+  pub says : SaysCalendar room tree confirmed
+
+-- the instance is confirmed for the room by the VCALENDAR that the octets are
+pub record IsConfirmedIn (room octets : List ℕ) (instance : Booked) : Type 0 where
+  pub tree : Tree
+  pub object : IsCalendarText tree octets
+  pub events : List Event
+  pub says : SayEvents tree events
+  pub is : IsConfirmed room events instance
+
+-- the certificate holds for the calendar: this spells what is confirmed, the certificate is one for that, and no two instances clash
+pub record CertificateHolds (room calendar text : List ℕ) : Type 0 where
+  pub confirmed : Confirmed
+  pub spells : SpellsCalendar room calendar confirmed
+  pub stands : CertificateStands confirmed text
+
+-- ---- what can be wrong, by the number of its refusal
+
+-- the fault of this number stands in the VEVENTs of an object, as a calendar
+pub data CalendarFault (object : Tree) : ℕ → Type 0 where
+  -- one of them has this fault
+  in_event : {n : ℕ} → (lines : List (List ℕ)) → Contains (vevents object) lines → EventFault object false lines n → CalendarFault object n
+  two_masters : (events : List Event) → SayEvents object events → (MastersDiffer events → ⊥) → CalendarFault object 53
+  two_overrides : (events : List Event) → SayEvents object events → (OverridesDiffer events → ⊥) → CalendarFault object 54
 
 -- the fault of this number stands in the octets
 pub data CalendarTextFault (octets : List ℕ) : ℕ → Type 0 where
@@ -28,9 +65,3 @@ pub data CalendarTextFault (octets : List ℕ) : ℕ → Type 0 where
   no_version : (t : Tree) → SpellsTree tree_name tree_own tree_inside 7 t (logical_lines octets) → has_version (tree_own t) ≡ false → CalendarTextFault octets 24
   -- in the VEVENTs of the calendar that stands there
   in_vevents : {n : ℕ} → (t : Tree) → IsCalendarText t octets → CalendarFault t n → CalendarTextFault octets n
-
--- the certificate holds for the calendar: this spells confirmed instances, the certificate is one for them, and no two of them clash
-pub record CertificateHolds (room calendar text : List ℕ) : Type 0 where
-  pub all : List Booked
-  pub spells : SpellsCalendar room calendar all
-  pub stands : CertificateStands all text

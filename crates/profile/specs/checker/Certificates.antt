@@ -1,6 +1,7 @@
 -- The text of a certificate, and when it stands. The format is this profile's own.
 use Rattle.std.specs.Prelude.{ℕ, ℤ, List, [], ◌∷◌, ◌++◌, ◌-◌, ◌^◌, ◌<◌, ◌≤◌, ◌≡◌, ◌≢◌, length, take, codes, decimal}
 use Rattle.profile.specs.checker.Instances.{Booked, IsClash, IsClear}
+use Rattle.profile.specs.events.Confirmed.{Confirmed}
 
 -- what a certificate says of its calendar: how many singles it has; no series yet
 pub record Claims : Type 0 where
@@ -43,34 +44,39 @@ pub record FirstWrong (text : List ℕ) (n : ℕ) : Type 0 where
   pub before : BeginsWell text (n - 1)
   pub here : BeginsWell text n → ⊥
 
--- the octets are a certificate for these confirmed instances: it has their count, and no two of them clash
-pub record CertificateStands (all : List Booked) (text : List ℕ) : Type 0 where
+-- the calendar has these counts: so many singles, and no series
+pub record HasCounts (confirmed : Confirmed) (c : Claims) : Type 0 where
+  pub singles : c.singles ≡ length confirmed.singles
+  pub series : confirmed.series ≡ []
+
+-- the octets are a certificate for what is confirmed: it has the counts of that, and no two singles clash
+pub record CertificateStands (confirmed : Confirmed) (text : List ℕ) : Type 0 where
   pub c : Claims
   pub spells : Spells text c
-  pub singles : c.singles ≡ length all
-  pub clear : IsClear all
+  pub counts : HasCounts confirmed c
+  pub clear : IsClear confirmed.singles
 
 -- the octets are no certificate: 81, with the first wrong line
 pub record IsWrongText (text : List ℕ) (number line : ℕ) : Type 0 where
   pub is : number ≡ 81
   pub wrong : FirstWrong text line
 
--- they are one, of another count of singles: 82
-pub record IsWrongCount (all : List Booked) (text : List ℕ) (number line : ℕ) : Type 0 where
+-- they are one, of other counts: 82
+pub record IsWrongCount (confirmed : Confirmed) (text : List ℕ) (number line : ℕ) : Type 0 where
   pub is : number ≡ 82
   pub no_line : line ≡ 0
   pub c : Claims
   pub spells : Spells text c
-  pub other : c.singles ≢ length all
+  pub other : HasCounts confirmed c → ⊥
 
--- they are one of the right count, and two singles clash: 84
-pub record HasClashes (all : List Booked) (text : List ℕ) (number line : ℕ) : Type 0 where
+-- they are one of the right counts, and two singles clash: 84
+pub record HasClashes (confirmed : Confirmed) (text : List ℕ) (number line : ℕ) : Type 0 where
   pub is : number ≡ 84
   pub no_line : line ≡ 0
   pub c : Claims
   pub spells : Spells text c
-  pub singles : c.singles ≡ length all
+  pub counts : HasCounts confirmed c
   pub a : Booked
   pub b : Booked
   pub t : ℤ
-  pub clash : IsClash all a b t
+  pub clash : IsClash confirmed.singles a b t

@@ -1,5 +1,5 @@
--- VEVENTs: what their lines say (RFC 5545 3.6.1), and what a room books of them, so far of single events in UTC. A VEVENT is its
--- content lines here, beside the object that it stands in: its times may name a VTIMEZONE of that.
+-- VEVENTs: what their lines say (RFC 5545 3.6.1), and what a message for a single event in UTC books. A VEVENT is its content lines here,
+-- beside the object that it stands in: its times may name a VTIMEZONE of that.
 use Rattle.std.specs.Prelude.{◌≡◌, ◌≢◌, ℕ, Contains, AllPairs, Bool, true, false, not, if◌then◌else◌, ◌&&◌, ◌||◌, List, [], ◌∷◌, map, filter, codes, Option, Some, option_map, unwrap_or, ℤ, pos, ◌+ℤ◌}
 use Rattle.std.specs.List.{find, list_any, AllZip}
 use Rattle.std.specs.Str.{bytes_eq}
@@ -76,14 +76,11 @@ pub record SaysEvent (object : Tree) (in_message : Bool) (lines : List (List ℕ
   pub occurrences : SaysOccurrences object lines event.recurrence event.additions event.exceptions
   pub attendees : AllZip IsAttendee (lines_named (codes "ATTENDEE") lines) event.attendees
 
--- ---- what isn't read yet
+-- ---- what a message may not have yet
 
 -- the line names single instances of an event that recurs: RDATE, EXDATE, RECURRENCE-ID
 abbrev pub is_of_instances : List ℕ → Bool
 is_of_instances line = is_of (codes "RDATE") line || is_of (codes "EXDATE") line || is_of (codes "RECURRENCE-ID") line
-
-abbrev pub names_instances : List (List ℕ) → Bool
-names_instances lines = list_any is_of_instances lines
 
 abbrev pub is_recurrence : List ℕ → Bool
 is_recurrence line = is_of (codes "RRULE") line || is_of_instances line
@@ -91,17 +88,7 @@ is_recurrence line = is_of (codes "RRULE") line || is_of_instances line
 abbrev pub is_end_of_event : List ℕ → Bool
 is_end_of_event line = is_of (codes "DTSTART") line || is_of (codes "DTEND") line
 
--- a recurrence, a cancelled status, or a start or an end in a zone
-abbrev pub is_unread_line : List ℕ → Bool
-is_unread_line line =
-    is_recurrence line || (is_of (codes "STATUS") line && is_same_name (line_value line) (codes "CANCELLED"))
-    || (is_end_of_event line && is_in_zone line)
-
--- something in the lines isn't read yet, in a calendar
-abbrev pub has_unread : List (List ℕ) → Bool
-has_unread lines = list_any is_unread_line lines
-
--- the same without the cancelled status, which a message may have
+-- a recurrence, or a start or an end in a zone
 abbrev pub is_unread_in_message : List ℕ → Bool
 is_unread_in_message line = is_recurrence line || (is_end_of_event line && is_in_zone line)
 
@@ -134,23 +121,9 @@ is_accepted Declined = false
 abbrev pub is_confirmed : List ℕ → Event → Bool
 is_confirmed room event = unwrap_or (option_map is_accepted (answer_of room event)) false
 
--- the confirmed instances of some events, in order
-abbrev pub confirmed : List ℕ → List Event → List Booked
-confirmed room events = map booked_by (filter (is_confirmed room) events)
-
--- ---- a calendar
-
 -- the meeting of an event: its organiser, the empty address where it is missing, and its UID
 abbrev pub meeting_said : Event → List ℕ × List ℕ
 meeting_said event = (unwrap_or event.organiser [], event.uid)
-
--- the VEVENTs say events, no two of one meeting (RFC 5545 3.8.4.4), with nothing unread, and these instances of them are confirmed
-pub record SaysCalendar (room : List ℕ) (object : Tree) (all : List Booked) : Type 0 where
-  pub events : List Event
-  pub says : AllZip (SaysEvent object false) (vevents object) events
-  pub read : list_any has_unread (vevents object) ≡ false
-  pub differ : AllPairs ◌≢◌ (map meeting_said events)
-  pub is : all ≡ confirmed room events
 
 -- ---- what can be wrong with a VEVENT, by the number of its refusal
 
@@ -172,13 +145,3 @@ pub data EventFault (object : Tree) (in_message : Bool) (lines : List (List ℕ)
   no_stamp_given : in_message ≡ true → IsMissing (codes "DTSTAMP") lines → EventFault object in_message lines 61
   twice : (name : List ℕ) → Contains single_names name → StandsTwice name lines → EventFault object in_message lines 61
   no_organiser : in_message ≡ true → IsMissing (codes "ORGANIZER") lines → EventFault object in_message lines 63
-
--- ---- what can be wrong with the VEVENTs of an object, as a calendar
-
-pub data CalendarFault (object : Tree) : ℕ → Type 0 where
-  -- one of them has this fault
-  in_event : {n : ℕ} → (lines : List (List ℕ)) → Contains (vevents object) lines → EventFault object false lines n → CalendarFault object n
-  -- two of them are of one meeting
-  one_meeting : (events : List Event) → AllZip (SaysEvent object false) (vevents object) events → (AllPairs ◌≢◌ (map meeting_said events) → ⊥) → CalendarFault object 53
-  -- something in them isn't read yet
-  not_yet : list_any has_unread (vevents object) ≡ true → CalendarFault object 99

@@ -2,7 +2,7 @@
 use Rattle.std.specs.Prelude.{◌≡◌, ◌≢◌, ℕ, ◌<◌, Contains, AllPairs, Bool, true, false, not, ◌||◌, ◌==◌, List, [], length, map, filter, codes, Option, is_some}
 use Rattle.std.specs.Option.{option_to_list}
 use Rattle.std.specs.List.{AllZip}
-use Rattle.profile.specs.faults.Faults.{is_between, is_object_fault, is_series_event_fault}
+use Rattle.profile.specs.faults.Faults.{is_between, is_object_fault, is_meeting_event_fault}
 use Rattle.profile.specs.text.Lines.{logical_lines, text_has, reads_as_lines}
 use Rattle.profile.specs.text.Objects.{SpellsTree, IsObject, has_version, lines_have, count_inside, most_events}
 use Rattle.profile.specs.text.Trees.{Tree, tree_name, tree_own, tree_inside, vevents}
@@ -47,10 +47,6 @@ pub record SpellsMeeting (octets : List ℕ) (meeting : Meeting) : Type 0 where
   pub says : SaysMeeting tree meeting
 
 -- ---- what can be wrong with it, by the number of its refusal
-
--- a fault of one VEVENT of it
-abbrev pub is_meeting_event_fault : ℕ → Bool
-is_meeting_event_fault n = is_series_event_fault n || n == 65 || n == 67
 
 -- a fault of an object, of its VEVENTs or between them, or the want of one
 abbrev pub is_meeting_fault : ℕ → Bool

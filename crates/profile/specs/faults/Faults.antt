@@ -40,7 +40,7 @@ is_unread n = n == 99
 
 -- a fault of one VEVENT whose times may name a VTIMEZONE of its object
 abbrev pub is_zoned_event_fault : ℕ → Bool
-is_zoned_event_fault n = is_event_fault n || is_zone_fault n || is_unread n
+is_zoned_event_fault n = is_event_fault n || is_zone_fault n
 
 -- a fault of the text of an RRULE, or of a start that isn't one of its days (RFC 5545 3.3.10, 3.8.5.3)
 abbrev pub is_rule_fault : ℕ → Bool
@@ -50,13 +50,17 @@ is_rule_fault = is_between 30 34
 abbrev pub is_series_event_fault : ℕ → Bool
 is_series_event_fault n = is_zoned_event_fault n || is_rule_fault n
 
--- a fault of a calendar: an object, its VEVENTs, two masters or two overrides of one start, or what isn't read yet
-abbrev pub is_calendar_fault : ℕ → Bool
-is_calendar_fault n = is_object_fault n || is_event_fault n || is_between 53 54 n || is_unread n
+-- a fault of one VEVENT, which may name a VTIMEZONE, recur, and stand for an instance of its meeting
+abbrev pub is_meeting_event_fault : ℕ → Bool
+is_meeting_event_fault n = is_series_event_fault n || n == 65 || n == 67
 
--- a fault of a message: of a calendar, or of its method, its meeting or the want of a VEVENT (RFC 5546 3.2)
+-- a fault of a calendar: an object, its VEVENTs, or two masters or two overrides of one start
+abbrev pub is_calendar_fault : ℕ → Bool
+is_calendar_fault n = is_object_fault n || is_meeting_event_fault n || is_between 53 54 n
+
+-- a fault of a message: an object, its VEVENTs, its method, its meeting or the want of a VEVENT (RFC 5546 3.2), or what isn't read yet
 abbrev pub is_message_fault : ℕ → Bool
-is_message_fault n = is_calendar_fault n || n == 60 || n == 62 || n == 66
+is_message_fault n = is_object_fault n || is_event_fault n || is_between 53 54 n || n == 60 || n == 62 || n == 66 || is_unread n
 
 -- a fault of a preamble or a configuration
 abbrev pub is_preamble_fault : ℕ → Bool

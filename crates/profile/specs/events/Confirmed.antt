@@ -1,0 +1,87 @@
+-- Which instances the VEVENTs of a calendar confirm in a room (RFC 5545 3.2.12, 3.8.1.11, 3.8.4.4), in series and singles.
+use Rattle.std.specs.Prelude.{◌≡◌, ◌≢◌, Contains, AllPairs, All, Bool, true, not, if◌then◌else◌, ◌&&◌, List, [], ◌∷◌, map, filter, Some, None, is_some, ℤ, ℕ}
+use Rattle.std.specs.List.{AllZip, flat_map}
+use Rattle.profile.specs.checker.Instances.{Booked}
+use Rattle.profile.specs.series.Rules.{Parts}
+use Rattle.profile.specs.events.Events.{Event, is_confirmed, meeting_said}
+use Rattle.profile.specs.events.Meetings.{Meeting, is_master, is_override}
+use Rattle.profile.specs.events.Starts.{IsInstance, IsRuleStart, ComesBefore}
+
+-- ---- the instances of the events of a calendar
+
+-- an event by itself, as a meeting
+abbrev pub alone : Event → Meeting
+alone event = if is_override event then record { master = None; overrides = event ∷ [] } else record { master = Some event; overrides = [] }
+
+-- an override of its meeting stands for this instant, whatever state it is in
+pub record IsReplaced (events : List Event) (event : Event) (instant : ℤ) : Type 0 where
+  pub override : Event
+  pub among : Contains events override
+  pub of : meeting_said override ≡ meeting_said event
+  pub is : override.recurrence ≡ Some instant
+
+-- an instance of one of the events: of a master none that an override stands for
+pub record IsInstanceAmong (events : List Event) (event : Event) (instance : Booked) : Type 0 where
+  pub is : IsInstance (alone event) instance
+  pub shown : is_master event ≡ true → IsReplaced events event instance.start → ⊥
+
+-- ---- which of them are confirmed
+
+-- the room has accepted the event, and it isn't cancelled
+abbrev pub is_kept : List ℕ → Event → Bool
+is_kept room event = is_confirmed room event && not event.cancelled
+
+-- the instance is one of a kept event
+pub record IsConfirmed (room : List ℕ) (events : List Event) (instance : Booked) : Type 0 where
+  pub event : Event
+  pub among : Contains events event
+  pub kept : is_kept room event ≡ true
+  pub is : IsInstanceAmong events event instance
+
+-- ---- in series and singles
+
+-- a master's rule gives the start of the instance: it is one of a series, also where RDATE names that start
+pub record IsOfSeries (event : Event) (instance : Booked) : Type 0 where
+  pub master : is_master event ≡ true
+  pub rule : Parts
+  pub has : event.rule ≡ Some rule
+  pub starts : IsRuleStart event.times rule instance.start
+
+-- all others are singles
+pub record IsSingle (room : List ℕ) (events : List Event) (event : Event) (instance : Booked) : Type 0 where
+  pub kept : is_kept room event ≡ true
+  pub is : IsInstanceAmong events event instance
+  pub apart : IsOfSeries event instance → ⊥
+
+-- all singles of an event, by start, each once
+pub record AreSingles (room : List ℕ) (events : List Event) (event : Event) (singles : List Booked) : Type 0 where
+  pub each : All (IsSingle room events event) singles
+  pub ordered : AllPairs ComesBefore singles
+  pub all : (instance : Booked) → IsSingle room events event instance → Contains singles instance
+
+-- a kept master with RRULE
+abbrev pub is_series : List ℕ → Event → Bool
+is_series room event = is_kept room event && is_master event && is_some event.rule
+
+-- what is confirmed in a room: series, each by its master, and singles
+pub record Confirmed : Type 0 where
+  pub series : List Event
+  pub singles : List Booked
+
+-- these are confirmed, of these events: both in the order of the events
+pub record AreConfirmed (room : List ℕ) (events : List Event) (confirmed : Confirmed) : Type 0 where
+  pub series : confirmed.series ≡ filter (is_series room) events
+  pub lists : List (List Booked)
+  pub each : AllZip (AreSingles room events) events lists
+  pub singles : confirmed.singles ≡ flat_map (λ own. own) lists
+
+-- ---- of one meeting there is one master, and one override for an instance
+
+-- no two of the events are masters of one meeting
+abbrev pub MastersDiffer : List Event → Type 0
+MastersDiffer events = AllPairs (λ a b. a.recurrence ≡ None → b.recurrence ≡ None → meeting_said a ≢ meeting_said b) events
+
+-- no two of them stand for one instance of one meeting
+abbrev pub OverridesDiffer : List Event → Type 0
+OverridesDiffer events =
+    AllPairs (λ a b. (slot : ℤ) → a.recurrence ≡ Some slot → b.recurrence ≡ Some slot → meeting_said a ≢ meeting_said b) events
