@@ -7,8 +7,9 @@ use Rattle.std.proofs.lemmas.Option.{IfSome_then}
 use Rattle.profile.specs.checker.Instances.{Booked, IsClear, IsWithin}
 use Rattle.cal_events.specs.declared.sweep.Span.{Span}
 use Rattle.cal_events.specs.declared.sweep.Overlap.{Overlap}
-use Rattle.cal_events.specs.declared.instance.OwnedInstance.{OwnedInstance}
-use Rattle.cal_events.specs.Calendars.{booked_of, span_of, HaveDifferentKeys}
+use Rattle.cal_events.specs.declared.calendar.Entry.{Entry}
+use Rattle.cal_events.specs.declared.calendar.Single.{Single}
+use Rattle.cal_events.specs.Calendars.{booked_in, span_of, HaveDifferentKeys}
 use Rattle.cal_events.specs.Clashes.{Names}
 use Rattle.cal_events.specs.Sweep.{span_at, AreApart, IsOverlap}
 
@@ -16,9 +17,9 @@ use Rattle.cal_events.specs.Sweep.{span_at, AreApart, IsOverlap}
 abbrev when : Booked → Span
 when b = record { start = b.start; end = b.end }
 
-spans_is : (bs : List OwnedInstance) → map span_of bs ≡ map when (map booked_of bs)
-spans_is [] = refl
-spans_is (b ∷ bs) = ap (λ (l : List Span). span_of b ∷ l) (spans_is bs)
+spans_is : (entries : List Entry) (ss : List Single) → map span_of ss ≡ map when (map (booked_in entries) ss)
+spans_is entries [] = refl
+spans_is entries (s ∷ ss) = ap (λ (l : List Span). span_of s ∷ l) (spans_is entries ss)
 
 -- any instance: a default past the end
 abbrev some_booked : Booked
@@ -80,25 +81,25 @@ clear all apart a b t h =
       in_second = subst (λ (s : Span). IsWithin s.start s.end t) (sym eb) h.in_second;
     })
 
--- what the sweep over the spans of the bookings tells of the calendar's instances
-pub clash_from_overlap : (all : List Booked) (bs : List OwnedInstance) (spans seen : List Span) (r : Option Overlap) → HaveDifferentKeys (map booked_of bs) → map booked_of bs ≡ all
+-- what the sweep over the spans of the singles tells of the calendar's instances
+pub clash_from_overlap : (all : List Booked) (entries : List Entry) (bs : List Single) (spans seen : List Span) (r : Option Overlap) → HaveDifferentKeys (map (booked_in entries) bs) → map (booked_in entries) bs ≡ all
     → spans ≡ map span_of bs → seen ≡ spans → IfSome r (IsOverlap seen) → IfSome r (Names all)
-clash_from_overlap all bs spans seen r keys view e f h =
-    IfSome_then r (subst (λ (l : List Span). IfSome r (IsOverlap l)) (f ∙ e ∙ spans_is bs ∙ ap (map when) view) h)
+clash_from_overlap all entries bs spans seen r keys view e f h =
+    IfSome_then r (subst (λ (l : List Span). IfSome r (IsOverlap l)) (f ∙ e ∙ spans_is entries bs ∙ ap (map when) view) h)
     (λ found o. names all (subst HaveDifferentKeys view keys) found o)
 
-pub clear_from_none : (all : List Booked) (bs : List OwnedInstance) (spans seen : List Span) (r : Option Overlap) → map booked_of bs ≡ all
+pub clear_from_none : (all : List Booked) (entries : List Entry) (bs : List Single) (spans seen : List Span) (r : Option Overlap) → map (booked_in entries) bs ≡ all
     → spans ≡ map span_of bs → seen ≡ spans → IfNone r (AreApart seen) → IfNone r (IsClear all)
-clear_from_none all bs spans seen None view e f h =
-    clear all (subst AreApart (f ∙ e ∙ spans_is bs ∙ ap (map when) view) h)
-clear_from_none all bs spans seen (Some found) view e f h = h
+clear_from_none all entries bs spans seen None view e f h =
+    clear all (subst AreApart (f ∙ e ∙ spans_is entries bs ∙ ap (map when) view) h)
+clear_from_none all entries bs spans seen (Some found) view e f h = h
 
-pub clash_from_sweep : (all : List Booked) (bs : List OwnedInstance) (spans seen : List Span) {E : Type 0} (r : Result (Option Overlap) E) → HaveDifferentKeys (map booked_of bs) → map booked_of bs ≡ all
+pub clash_from_sweep : (all : List Booked) (entries : List Entry) (bs : List Single) (spans seen : List Span) {E : Type 0} (r : Result (Option Overlap) E) → HaveDifferentKeys (map (booked_in entries) bs) → map (booked_in entries) bs ≡ all
     → spans ≡ map span_of bs → seen ≡ spans → IfOk r (λ o. IfSome o (IsOverlap seen)) → IfOk r (λ o. IfSome o (Names all))
-clash_from_sweep all bs spans seen (Ok o) keys view e f h = clash_from_overlap all bs spans seen o keys view e f h
-clash_from_sweep all bs spans seen (Err x) keys view e f h = h
+clash_from_sweep all entries bs spans seen (Ok o) keys view e f h = clash_from_overlap all entries bs spans seen o keys view e f h
+clash_from_sweep all entries bs spans seen (Err x) keys view e f h = h
 
-pub clear_from_sweep : (all : List Booked) (bs : List OwnedInstance) (spans seen : List Span) {E : Type 0} (r : Result (Option Overlap) E) → map booked_of bs ≡ all
+pub clear_from_sweep : (all : List Booked) (entries : List Entry) (bs : List Single) (spans seen : List Span) {E : Type 0} (r : Result (Option Overlap) E) → map (booked_in entries) bs ≡ all
     → spans ≡ map span_of bs → seen ≡ spans → IfOk r (λ o. IfNone o (AreApart seen)) → IfOk r (λ o. IfNone o (IsClear all))
-clear_from_sweep all bs spans seen (Ok o) view e f h = clear_from_none all bs spans seen o view e f h
-clear_from_sweep all bs spans seen (Err x) view e f h = h
+clear_from_sweep all entries bs spans seen (Ok o) view e f h = clear_from_none all entries bs spans seen o view e f h
+clear_from_sweep all entries bs spans seen (Err x) view e f h = h

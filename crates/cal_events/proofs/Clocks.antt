@@ -83,7 +83,7 @@ clock_ascends object line text (Some zone) local h = spelled (line_param (codes 
     spelled None says = absurd says
     spelled (Some name) says = named (zone_named name object) says.1
 
-clock_good : (object : Tree) (lines : Lines) (event : Event) → SaysEvent object false lines event → HasGoodClock event
+pub clock_good : (object : Tree) (lines : Lines) (event : Event) → SaysEvent object false lines event → HasGoodClock event
 clock_good object lines event s =
     let t = s.times in
     (clock_one object t.line (line_value t.line) event.times.zone event.times.local t.says, clock_ascends object t.line (line_value t.line) event.times.zone event.times.local t.says)

@@ -1,12 +1,13 @@
 -- What the lines of a VEVENT say, worked by the definitions alone.
 use Rattle.std.proofs.Common.{◌≡◌, true, false, List, [], ◌∷◌, ◌<◌, length, codes, inl, inr, refl, ap, arith, ℕ, pos, sym}
 use Rattle.std.specs.Prelude.{Some, None}
+use Rattle.std.specs.List.{list_any}
 use Rattle.std.proofs.lemmas.Bool.{true≢false}
 use Rattle.std.proofs.lemmas.Int.{ints}
 use Rattle.profile.specs.series.Days.{days_before_year, days_of_months}
 use Rattle.profile.specs.text.Values.{SpellsStamp, SpellsDuration, unescaped}
 use Rattle.profile.specs.text.Trees.{Tree}
-use Rattle.profile.specs.events.Events.{Event, Accepted, Declined, SaysEvent, EventFault, confirmed, has_unread, no_organiser}
+use Rattle.profile.specs.events.Events.{Event, Accepted, Declined, SaysEvent, EventFault, booked_by, is_confirmed, is_unread_in_message, no_organiser}
 use Rattle.profile.specs.events.Properties.{IsDateText, TimeFault}
 use Rattle.cal_events.proofs.Meanings.{utc_means}
 
@@ -113,7 +114,11 @@ say object = record {
 }
 
 -- the first answer counts: the room has accepted, and the event holds it for ninety minutes
-books : confirmed (codes "mailto:room@example.com") (said ∷ []) ≡ record { key = record { organiser = []; uid = codes "a"; slot = pos 1_741_597_200 }; start = pos 1_741_597_200; end = pos 1_741_602_600 } ∷ []
+accepts : is_confirmed (codes "mailto:room@example.com") said ≡ true
+unfolding said
+accepts = refl
+
+books : booked_by said ≡ record { key = record { organiser = []; uid = codes "a"; slot = pos 1_741_597_200 }; start = pos 1_741_597_200; end = pos 1_741_602_600 }
 unfolding said
 books = refl
 
@@ -145,7 +150,7 @@ a_utc_time_as_a_date = inr (no_date (codes "20250310T090000Z") (omega arith), re
 a_floating_time_as_a_date : TimeFault (codes "DTSTART;VALUE=DATE:20250310T090000") 11
 a_floating_time_as_a_date = inr (no_date (codes "20250310T090000") (omega arith), refl)
 
--- what isn't read yet
-unread : (has_unread (codes "DTSTART;TZID=Europe/Paris:20250310T090000" ∷ []) ≡ true) × (has_unread (codes "Rrule:FREQ=DAILY" ∷ []) ≡ true) × (has_unread lines ≡ false)
+-- what isn't read yet in a message
+unread : (is_unread_in_message (codes "DTSTART;TZID=Europe/Paris:20250310T090000") ≡ true) × (is_unread_in_message (codes "Rrule:FREQ=DAILY") ≡ true) × (list_any is_unread_in_message lines ≡ false)
 unfolding lines
 unread = (refl, refl, refl)

@@ -34,7 +34,7 @@ module _ (xs : List ℤ) (up : IsSorted int_cmp xs) where
           ]
 
   -- an element isn't less than one before it
-  far : (i j : ℕ) (d : ℤ) → i ≤ j → j < length xs → get_or xs i d ≤ℤ get_or xs j d
+  pub far : (i j : ℕ) (d : ℤ) → i ≤ j → j < length xs → get_or xs i d ≤ℤ get_or xs j d
   far i j d a b = go (int_cmp (get_or xs j d) (get_or xs i d)) refl (sorted_far (λ x y. is_lt (int_cmp x y)) (ranks_by int_cmp_total (λ y. y)) xs up i j d a b)
     where
       go : (r : Ordering) → r ≡ int_cmp (get_or xs j d) (get_or xs i d) → is_lt (int_cmp (get_or xs j d) (get_or xs i d)) ≡ false → get_or xs i d ≤ℤ get_or xs j d

@@ -24,7 +24,10 @@ pub mod OneZoned
 pub mod TimesLemmas
 pub mod ZoneTables
 pub mod ZonedLemmas
-pub mod CalendarLemmas
+pub mod KeyLemmas
+pub mod InOneOrder
+pub mod DraftKeys
+pub mod DraftLemmas
 pub mod ClashLemmas
 pub mod Distinct
 pub mod SweepLemmas
@@ -37,3 +40,4 @@ mod InOrder
 mod HiddenLemmas
 mod WholeLists
 mod Overlaps
+mod SingleStartLemmas

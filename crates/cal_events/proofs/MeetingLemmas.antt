@@ -12,7 +12,7 @@ use Rattle.std.proofs.lemmas.List.{get_or-map, length-map, map-append}
 use Rattle.std.proofs.lemmas.List.Elements.{filter-append}
 use Rattle.std.proofs.lemmas.Slice.Eq.{bytes_eq-Decides}
 use Rattle.ical_lines.specs.Fault.{RefusesBy, RefusesOnly}
-use Rattle.profile.specs.faults.Faults.{is_object_fault}
+use Rattle.profile.specs.faults.Faults.{is_object_fault, is_meeting_event_fault}
 use Rattle.ical_lines.specs.declared.fault.Fault.{Fault}
 use Rattle.ical_lines.specs.declared.fault.Fault.TheVariants.{Refused, Memory}
 use Rattle.ical_tree.specs.Tree.{IsObjectOf, tree_of}
@@ -24,7 +24,8 @@ use Rattle.profile.specs.text.Lines.{logical_lines, reads_as_lines}
 use Rattle.profile.specs.text.Trees.{Tree, vevents}
 use Rattle.profile.specs.events.Events.{Event, SaysEvent, meeting_said}
 use Rattle.profile.specs.rooms.Messages.{is_same_meeting}
-use Rattle.profile.specs.events.Meetings.{Meeting, is_master, is_override, is_meeting_fault, is_meeting_event_fault, AreOfOne, InstancesDiffer, SaysMeeting, SpellsMeeting, MeetingFault, in_event, two_masters, two_overrides, no_event, two_meetings, MeetingTextFault, in_lines, in_tree, no_version, many_events, in_vevents}
+use Rattle.profile.specs.events.Meetings.{Meeting, is_master, is_override, is_meeting_fault, AreOfOne, InstancesDiffer, SaysMeeting, SpellsMeeting, MeetingFault, in_event, two_masters, two_overrides, no_event, two_meetings, MeetingTextFault, in_lines, in_tree, no_version, many_events, in_vevents}
+use Rattle.cal_events.proofs.ReadingLemmas.{never}
 use Rattle.cal_events.specs.Events.{event_of, IsUnreadOrFaultAmong}
 use Rattle.cal_events.specs.declared.component.EventComponent.{EventComponent}
 use Rattle.cal_events.specs.Meetings.{instants_said, IsNotOne}
@@ -121,10 +122,6 @@ instant_pushed ts more os new t x r e m n =
     ∙ map-append (λ (event : Event). event.recurrence) (map event_of os) (event_of x ∷ []))
 
 -- ---- an object
-
-never : (lines : List (List ℕ)) → list_any (λ _. false) lines ≡ false
-never [] = refl
-never (line ∷ lines) = never lines
 
 none_said : (object : Tree) (vs : List (List (List ℕ))) → AllZip (SaysEvent object false) vs [] → vs ≡ []
 none_said object [] z = refl

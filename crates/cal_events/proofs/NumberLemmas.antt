@@ -8,7 +8,7 @@ use Rattle.std.proofs.lemmas.List.Elements.{All-contains, All-filter, All-contai
 use Rattle.ical_lines.specs.Fault.{RefusesOnly, RefusesBy}
 use Rattle.ical_lines.specs.declared.fault.Fault.{Fault}
 use Rattle.ical_lines.specs.declared.fault.Fault.TheVariants.{Refused, Memory}
-use Rattle.profile.specs.faults.Faults.{is_event_fault, is_zoned_event_fault, is_zone_fault, is_unread, is_rule_fault, is_series_event_fault}
+use Rattle.profile.specs.faults.Faults.{is_event_fault, is_zoned_event_fault, is_zone_fault, is_unread, is_rule_fault, is_series_event_fault, is_meeting_event_fault}
 use Rattle.profile.specs.text.Lines.{line_param, line_value, is_same_name}
 use Rattle.profile.specs.text.Trees.{Tree}
 use Rattle.profile.specs.series.ZoneTexts.{PartsFault, no_part, in_part, ruled, other_parts, unruled, unmatched, close, TimesFault, dates, missing, twice as part_twice, fixed, bad_start as bad_part, bad_from, bad_to}
@@ -17,11 +17,10 @@ use Rattle.profile.specs.events.ZonedTimes.{is_in_zone, zone_named, DateOrMalfor
 use Rattle.profile.specs.series.RuleTexts.{RuleFault, unknown, bad_value, no_frequency, two_frequencies, twice as rule_twice, apart, two_ends}
 use Rattle.profile.specs.events.EventRules.{EventRuleFault, bad_rule, starts_outside, two_rules}
 use Rattle.profile.specs.events.Occurrences.{recurs_beside_recurrence, Entry, EntryFault, entries_of, entries_named, EntriesFault, in_entry, too_many, OccurrenceFault, bad_recurrence, bad_additions, bad_exceptions, recurrence_out, additions_out, two_recurrences, ranged, recurs}
-use Rattle.profile.specs.events.Meetings.{is_meeting_event_fault}
 use Rattle.cal_events.specs.declared.component.Purpose.{Purpose}
-use Rattle.cal_events.specs.declared.component.Purpose.TheVariants.{Request, Cancel, Calendar, Meeting}
+use Rattle.cal_events.specs.declared.component.Purpose.TheVariants.{Request, Cancel, Meeting}
 use Rattle.cal_events.specs.Events.{is_message, has_unread_for, is_fault_for}
-use Rattle.profile.specs.events.Events.{is_recurrence, is_of_instances, names_instances, is_end_of_event, is_unread_line, is_unread_in_message, lacks_start, has_unread, EventFault, in_times, in_rule, in_occurrences, bad_stamp, bad_uid, bad_organiser, bad_attendee, bad_sequence, no_uid, no_stamp_given, twice, no_organiser}
+use Rattle.profile.specs.events.Events.{is_recurrence, is_of_instances, is_end_of_event, is_unread_in_message, lacks_start, EventFault, in_times, in_rule, in_occurrences, bad_stamp, bad_uid, bad_organiser, bad_attendee, bad_sequence, no_uid, no_stamp_given, twice, no_organiser}
 
 abbrev Lines : Type 0
 Lines = List (List ℕ)
@@ -53,7 +52,7 @@ local_number Period text n f = ap is_event_fault f
 local_number Other text n f = ap is_event_fault f
 
 wider : (n : ℕ) → is_event_fault n ≡ true → is_zoned_event_fault n ≡ true
-wider n h = ap (λ b. b || is_zone_fault n || is_unread n) h
+wider n h = ap (λ b. b || is_zone_fault n) h
 
 part_number : (lines : Lines) (n : ℕ) → TimesFault lines n → is_zoned_event_fault n ≡ true
 part_number lines n (dates h) = refl
@@ -209,6 +208,9 @@ record Unnamed (lines : Lines) : Type 0 where
   named : lines_named (codes "RECURRENCE-ID") lines ≡ []
   alone : recurs_beside_recurrence lines ≡ false
 
+abbrev names_instances : Lines → Bool
+names_instances lines = list_any is_of_instances lines
+
 unnamed : (lines : Lines) → names_instances lines ≡ false → Unnamed lines
 unnamed lines h =
     let none : list_any (is_of (codes "RECURRENCE-ID")) lines ≡ false = none_so (is_of (codes "RECURRENCE-ID")) is_of_instances (λ line k. (instance_parts line k).2) lines h in
@@ -253,14 +255,6 @@ read_event object m lines n h (no_uid x) = refl
 read_event object m lines n h (no_stamp_given t x) = refl
 read_event object m lines n h (twice name c x) = refl
 read_event object m lines n h (no_organiser t x) = refl
-
--- what a calendar has read, a message has
-calendar_read : (lines : Lines) → has_unread lines ≡ false → is_read lines
-calendar_read lines h =
-    none_so is_unread_in_message is_unread_line (λ line k.
-    let ends = or_parts (is_recurrence line || (is_of (codes "STATUS") line && is_same_name (line_value line) (codes "CANCELLED"))) (is_end_of_event line && is_in_zone line) k in
-    let first = or_parts (is_recurrence line) (is_of (codes "STATUS") line && is_same_name (line_value line) (codes "CANCELLED")) ends.0 in
-    or_from (is_recurrence line) (is_end_of_event line && is_in_zone line) first.0 ends.1) lines h
 
 -- ---- a series
 
@@ -323,7 +317,6 @@ component_number object m lines n (no_organiser t x) = refl
 pub number_for : (object : Tree) (purpose : Purpose) (lines : Lines) (n : ℕ) → has_unread_for purpose lines ≡ false → EventFault object (is_message purpose) lines n → is_fault_for purpose n ≡ true
 number_for object Request lines n h f = ap (λ b. b || is_unread n) (read_event object true lines n h f)
 number_for object Cancel lines n h f = ap (λ b. b || is_unread n) (read_event object true lines n (or_parts (lacks_start lines) (list_any is_unread_in_message lines) h).1 f)
-number_for object Calendar lines n h f = ap (λ b. b || is_unread n) (read_event object false lines n (calendar_read lines h) f)
 number_for object Meeting lines n h f = component_number object false lines n f
 
 pub refused_for : (object : Tree) (purpose : Purpose) (lines : Lines) → has_unread_for purpose lines ≡ false → (f : Fault) → RefusesBy (EventFault object (is_message purpose) lines) f
@@ -331,8 +324,11 @@ pub refused_for : (object : Tree) (purpose : Purpose) (lines : Lines) → has_un
 refused_for object purpose lines h Memory s = tt
 refused_for object purpose lines h (Refused r) s = number_for object purpose lines r.number h s
 
-pub unread_for : (purpose : Purpose) (n : ℕ) → n ≡ 99 → is_fault_for purpose n ≡ true
-unread_for Request n e = ap (is_fault_for Request) e
-unread_for Cancel n e = ap (is_fault_for Cancel) e
-unread_for Calendar n e = ap (is_fault_for Calendar) e
-unread_for Meeting n e = ap (is_fault_for Meeting) e
+pub unread_for : (purpose : Purpose) (lines : Lines) (n : ℕ) → n ≡ 99 → has_unread_for purpose lines ≡ true → is_fault_for purpose n ≡ true
+unread_for Request lines n e h = ap (is_fault_for Request) e
+unread_for Cancel lines n e h = ap (is_fault_for Cancel) e
+unread_for Meeting lines n e h = absurd (true≢false (sym h ∙ none lines))
+  where
+    none : (lines : Lines) → list_any (λ _. false) lines ≡ false
+    none [] = refl
+    none (line ∷ lines) = none lines

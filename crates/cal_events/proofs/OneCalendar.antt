@@ -1,40 +1,54 @@
 -- The VEVENTs of an object say at most one calendar for a room, and none where a fault stands in them.
-use Rattle.std.proofs.Common.{◌≡◌, ◌≢◌, ℕ, zero, suc, Bool, false, List, [], ◌∷◌, map, subst, sym, refl, ap, ◌∙◌, arith}
-use Rattle.std.specs.Prelude.{Contains, AllPairs}
-use Rattle.std.specs.List.{AllZip}
-use Rattle.std.proofs.lemmas.Bool.{true≢false}
+use Rattle.std.proofs.Common.{◌≡◌, ◌∙◌, ℕ, Bool, false, List, filter, subst, sym, ap, inl, inr, arith}
+use Rattle.std.specs.List.{AllZip, flat_map}
 use Rattle.profile.specs.text.Trees.{Tree, vevents}
 use Rattle.profile.specs.checker.Instances.{Booked}
-use Rattle.profile.specs.events.Events.{Event, SaysEvent, EventFault, SaysCalendar, CalendarFault, in_event, one_meeting, not_yet, confirmed, meeting_said}
-
-abbrev Lines : Type 0
-Lines = List (List ℕ)
+use Rattle.profile.specs.events.Events.{Event, SaysEvent, EventFault}
+use Rattle.profile.specs.events.Confirmed.{Confirmed, IsSingle, AreSingles, is_series, MastersDiffer, OverridesDiffer}
+use Rattle.profile.specs.checker.Calendars.{SaysCalendar, CalendarFault, in_event, two_masters, two_overrides}
+use Rattle.std.proofs.lemmas.Int.{ints}
+use Rattle.std.proofs.lemmas.List.Elements.{All-contains}
+use Rattle.profile.specs.events.Starts.{ComesBefore}
+use Rattle.cal_events.proofs.InOneOrder.{one_order}
+use Rattle.cal_events.proofs.Zips.{zip_one, zip_at}
 
 abbrev pub OneEvent : Type 0
-OneEvent = (object : Tree) (m : Bool) (lines : Lines) (a b : Event) → SaysEvent object m lines a → SaysEvent object m lines b → a ≡ b
+OneEvent = (object : Tree) (m : Bool) (lines : List (List ℕ)) (a b : Event) → SaysEvent object m lines a → SaysEvent object m lines b → a ≡ b
 
 abbrev pub NoFault : Type 0
-NoFault = (object : Tree) (m : Bool) (lines : Lines) (a : Event) (n : ℕ) → SaysEvent object m lines a → EventFault object m lines n → ⊥
+NoFault = (object : Tree) (m : Bool) (lines : List (List ℕ)) (a : Event) (n : ℕ) → SaysEvent object m lines a → EventFault object m lines n → ⊥
 
-same_events : OneEvent → (object : Tree) (vs : List Lines) (a b : List Event) → AllZip (SaysEvent object false) vs a → AllZip (SaysEvent object false) vs b → a ≡ b
-same_events one object [] [] [] h k = refl
-same_events one object [] [] (y ∷ b) h k = absurd k
-same_events one object [] (x ∷ a) b h k = absurd h
-same_events one object (v ∷ vs) [] b h k = absurd h
-same_events one object (v ∷ vs) (x ∷ a) [] h k = absurd k
-same_events one object (v ∷ vs) (x ∷ a) (y ∷ b) h k = let e = one object false v x y h.0 k.0 in let t = same_events one object vs a b h.1 k.1 in λ i. e i ∷ t i
+pub same_events : OneEvent → (object : Tree) (a b : List Event) → AllZip (SaysEvent object false) (vevents object) a → AllZip (SaysEvent object false) (vevents object) b → a ≡ b
+same_events one object a b s t = zip_one (SaysEvent object false) (λ lines x y h k. one object false lines x y h k) (vevents object) a b s t
 
-event_at : (object : Tree) (vs : List Lines) (es : List Event) (v : Lines) → AllZip (SaysEvent object false) vs es → Contains vs v → (e : Event) × SaysEvent object false v e
-event_at object [] es v h (k, w, e) = absurd (omega arith)
-event_at object (x ∷ vs) [] v h c = absurd h
-event_at object (x ∷ vs) (y ∷ es) v h (zero, w, e) = (y, subst (λ (z : Lines). SaysEvent object false z y) e h.0)
-event_at object (x ∷ vs) (y ∷ es) v h (suc k, w, e) = event_at object vs es v h.1 (k, omega arith, e)
+never_first : (x : Booked) → ComesBefore x x → ⊥
+never_first x (inl l) = absurd (omega (arith, ints, l))
+never_first x (inr (e, l)) = absurd (omega (arith, ints, l))
 
-pub one_calendar : OneEvent → (room : List ℕ) (object : Tree) (a b : List Booked) → SaysCalendar room object a → SaysCalendar room object b → a ≡ b
-one_calendar one room object a b s t = s.is ∙ ap (confirmed room) (same_events one object (vevents object) s.events t.events s.says t.says) ∙ sym t.is
+first_of_three : (x y z : Booked) → ComesBefore x y → ComesBefore y z → ComesBefore x z
+first_of_three x y z (inl l) (inl m) = inl (omega (arith, ints, l, m))
+first_of_three x y z (inl l) (inr (e, m)) = inl (omega (arith, ints, l, e))
+first_of_three x y z (inr (e, l)) (inl m) = inl (omega (arith, ints, e, m))
+first_of_three x y z (inr (e, l)) (inr (f, m)) = inr (e ∙ f, omega (arith, ints, l, m))
 
-pub no_fault : OneEvent → NoFault → (room : List ℕ) (object : Tree) (a : List Booked) (n : ℕ) → SaysCalendar room object a → CalendarFault object n → ⊥
-no_fault one sound room object a n s (in_event lines at fault) = let e = event_at object (vevents object) s.events lines s.says at in sound object false lines e.0 n e.1 fault
-no_fault one sound room object a n s (one_meeting events zip twins) =
-    twins (subst (λ (es : List Event). AllPairs ◌≢◌ (map meeting_said es)) (same_events one object (vevents object) s.events events s.says zip) s.differ)
-no_fault one sound room object a n s (not_yet h) = true≢false (sym h ∙ s.read)
+-- the singles of an event are one list
+one_list : (room : List ℕ) (events : List Event) (event : Event) (a b : List Booked) → AreSingles room events event a → AreSingles room events event b → a ≡ b
+one_list room events event a b s t =
+    one_order ComesBefore never_first first_of_three a b s.ordered t.ordered
+    (λ x c. t.all x (All-contains (IsSingle room events event) a x s.each c)) (λ x c. s.all x (All-contains (IsSingle room events event) b x t.each c))
+
+confirmed_same : (a b : Confirmed) → a.series ≡ b.series → a.singles ≡ b.singles → a ≡ b
+confirmed_same a b p q = λ i. record { series = p i; singles = q i }
+
+pub one_calendar : OneEvent → (room : List ℕ) (object : Tree) (a b : Confirmed) → SaysCalendar room object a → SaysCalendar room object b → a ≡ b
+one_calendar one room object a b s t =
+    let same : s.events ≡ t.events = same_events one object s.events t.events s.says t.says in
+    let lists : s.are.lists ≡ t.are.lists =
+    zip_one (AreSingles room t.events) (one_list room t.events) t.events s.are.lists t.are.lists (subst (λ (es : List Event). AllZip (AreSingles room es) es s.are.lists) same s.are.each) t.are.each in
+    confirmed_same a b (s.are.series ∙ ap (filter (is_series room)) same ∙ sym t.are.series) (s.are.singles ∙ ap (flat_map (λ own. own)) lists ∙ sym t.are.singles)
+
+pub no_fault : OneEvent → NoFault → (room : List ℕ) (object : Tree) (a : Confirmed) (n : ℕ) → SaysCalendar room object a → CalendarFault object n → ⊥
+no_fault one sound room object a n s (in_event lines at fault) =
+    let e = zip_at (SaysEvent object false) (vevents object) s.events lines s.says at in sound object false lines e.0 n e.1 fault
+no_fault one sound room object a n s (two_masters events says twins) = twins (subst MastersDiffer (same_events one object s.events events s.says says) s.masters)
+no_fault one sound room object a n s (two_overrides events says twins) = twins (subst OverridesDiffer (same_events one object s.events events s.says says) s.overrides)

@@ -100,7 +100,7 @@ recurrence_named object line r slot h e = go line (subst (BothOrNeither (IsRecur
     go None h = absurd h
     go (Some l) (_, (_, _, _, _, dates)) = (dates.1, dates.2)
 
-event_sound : (object : Tree) (lines : Lines) (event : Event) → SaysEvent object false lines event → IsSound event
+pub event_sound : (object : Tree) (lines : Lines) (event : Event) → SaysEvent object false lines event → IsSound event
 event_sound object lines event s =
     let t = s.times in
     record {
@@ -127,7 +127,7 @@ later_one z days t u v s (inr (n, (o, at, means))) (inr (m, (p, there, other))) 
     let same : p ≡ o = s.offset t p o there at in
     s.meaning ((t +ℤ o) +ℤ pos (86_400 * days)) u v means (subst (λ (x : ℤ). Means z ((t +ℤ x) +ℤ pos (86_400 * days)) v) same other)
 
-end_one : (times : EventTimes) (t e f : ℤ) → IsSteady (clock_of times.zone) → EndsAt times t e → EndsAt times t f → e ≡ f
+pub end_one : (times : EventTimes) (t e f : ℤ) → IsSteady (clock_of times.zone) → EndsAt times t e → EndsAt times t f → e ≡ f
 end_one times t e f s (u, h, p) (v, k, q) =
     p ∙ ap (λ (x : ℤ). x +ℤ pos times.length.seconds) (later_one (clock_of times.zone) times.length.days t u v s h k) ∙ sym q
 

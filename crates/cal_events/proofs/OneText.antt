@@ -5,9 +5,8 @@ use Rattle.ical_lines.proofs.ContentLemmas.{read_fine}
 use Rattle.profile.specs.text.Lines.{logical_lines}
 use Rattle.profile.specs.text.Objects.{SpellsTree, IsObject, has_version, lines_have}
 use Rattle.profile.specs.text.Trees.{Tree, tree_name, tree_own, tree_inside}
-use Rattle.profile.specs.checker.Instances.{Booked}
-use Rattle.profile.specs.events.Events.{SaysCalendar, CalendarFault}
-use Rattle.profile.specs.checker.Calendars.{SpellsCalendar, CalendarTextFault, in_lines, in_tree, no_version, in_vevents}
+use Rattle.profile.specs.events.Confirmed.{Confirmed}
+use Rattle.profile.specs.checker.Calendars.{SaysCalendar, CalendarFault, SpellsCalendar, CalendarTextFault, in_lines, in_tree, no_version, in_vevents}
 
 abbrev Lines : Type 0
 Lines = List (List ℕ)
@@ -19,19 +18,19 @@ abbrev pub PairsUp : Type 0
 PairsUp = (bounded : Bool) (t : Tree) (lines : Lines) (n : ℕ) → IsObject tree_name tree_own tree_inside bounded t lines → lines_have n lines ≡ true → ⊥
 
 abbrev OneCalendar : Type 0
-OneCalendar = (room : List ℕ) (object : Tree) (a b : List Booked) → SaysCalendar room object a → SaysCalendar room object b → a ≡ b
+OneCalendar = (room : List ℕ) (object : Tree) (a b : Confirmed) → SaysCalendar room object a → SaysCalendar room object b → a ≡ b
 
 abbrev NoFault : Type 0
-NoFault = (room : List ℕ) (object : Tree) (a : List Booked) (n : ℕ) → SaysCalendar room object a → CalendarFault object n → ⊥
+NoFault = (room : List ℕ) (object : Tree) (a : Confirmed) (n : ℕ) → SaysCalendar room object a → CalendarFault object n → ⊥
 
-pub one_spelled : OneTree → OneCalendar → (room octets : List ℕ) (a b : List Booked) → SpellsCalendar room octets a → SpellsCalendar room octets b → a ≡ b
+pub one_spelled : OneTree → OneCalendar → (room octets : List ℕ) (a b : Confirmed) → SpellsCalendar room octets a → SpellsCalendar room octets b → a ≡ b
 one_spelled tree calendar room octets a b s t =
     let same : s.tree ≡ t.tree = tree 7 7 (logical_lines octets) s.tree t.tree s.object.spelled t.object.spelled in
     calendar room t.tree a b (subst (λ (x : Tree). SaysCalendar room x a) same s.says) t.says
 
 -- ---- no fault stands in octets that read
 
-pub no_fault : OneTree → PairsUp → NoFault → (room octets : List ℕ) (all : List Booked) (n : ℕ) → SpellsCalendar room octets all → CalendarTextFault octets n → ⊥
+pub no_fault : OneTree → PairsUp → NoFault → (room octets : List ℕ) (all : Confirmed) (n : ℕ) → SpellsCalendar room octets all → CalendarTextFault octets n → ⊥
 no_fault one pairs none room octets all n s (in_lines h) = true≢false (sym h ∙ read_fine false octets n s.lines)
 no_fault one pairs none room octets all n s (in_tree h) = pairs false s.tree (logical_lines octets) n s.object h
 no_fault one pairs none room octets all n s (no_version t spelled h) =

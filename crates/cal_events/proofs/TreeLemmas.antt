@@ -13,9 +13,8 @@ use Rattle.ical_tree.specs.declared.component.Component.{Component}
 use Rattle.profile.specs.text.Lines.{is_same_name, logical_lines, reads_as_lines}
 use Rattle.profile.specs.text.Objects.{SpellsTree, has_version}
 use Rattle.profile.specs.text.Trees.{Tree, tree_name, tree_own, vevents}
-use Rattle.profile.specs.checker.Instances.{Booked}
-use Rattle.profile.specs.events.Events.{SaysCalendar, CalendarFault}
-use Rattle.profile.specs.checker.Calendars.{SpellsCalendar, CalendarTextFault, in_lines, in_tree, no_version, in_vevents}
+use Rattle.profile.specs.events.Confirmed.{Confirmed}
+use Rattle.profile.specs.checker.Calendars.{SaysCalendar, CalendarFault, SpellsCalendar, CalendarTextFault, in_lines, in_tree, no_version, in_vevents}
 use Rattle.cal_events.specs.Events.{is_vevent, vevents_of}
 use Rattle.cal_events.proofs.ReadingLemmas.{events_in}
 use Rattle.ical_values.proofs.Exits.{err_exit}
@@ -41,7 +40,7 @@ pub vevents_tree : (c : Component) → vevents (tree_of c) ≡ vevents_of c
 vevents_tree c =
     ap (λ (ts : List Tree). map tree_own (filter (λ t. is_same_name (tree_name t) (codes "VEVENT")) ts)) (tree_of-inside c) ∙ same_events (component_children c)
 
-pub faults_there : (r : Result (List Booked) Fault) (octets : List ℕ) (c : Component) → IsObjectOf false c (logical_lines octets)
+pub faults_there : (r : Result Confirmed Fault) (octets : List ℕ) (c : Component) → IsObjectOf false c (logical_lines octets)
     → IfErr r (RefusesBy (CalendarFault (tree_of c))) → IfErr r (RefusesBy (CalendarTextFault octets))
 faults_there (Ok all) octets c object h = tt
 faults_there (Err Memory) octets c object h = tt
@@ -62,11 +61,11 @@ no_object octets (Refused x) (inl h) = in_lines h
 no_object octets (Refused x) (inr (inl h)) = in_tree h
 no_object octets (Refused x) (inr (inr (c, (s, h)))) = version_wrong octets x.number c s h
 
-pub object_refused : (r : Result (List Booked) Fault) (octets : List ℕ) (f : Fault) → IsErrAnd r (λ e. e ≡ f) → Stands false octets f
+pub object_refused : (r : Result Confirmed Fault) (octets : List ℕ) (f : Fault) → IsErrAnd r (λ e. e ≡ f) → Stands false octets f
     → IfErr r (RefusesBy (CalendarTextFault octets))
 object_refused r octets f e h = err_exit r (RefusesBy (CalendarTextFault octets)) f e (no_object octets f h)
 
-pub calendar_spelled : (r : Result (List Booked) Fault) (room octets : List ℕ) (c : Component) → reads_as_lines false octets ≡ true
+pub calendar_spelled : (r : Result Confirmed Fault) (room octets : List ℕ) (c : Component) → reads_as_lines false octets ≡ true
     → IsObjectOf false c (logical_lines octets) → IfOk r (SaysCalendar room (tree_of c)) → IfOk r (SpellsCalendar room octets)
 calendar_spelled (Ok all) room octets c lines object says =
     record { lines = lines; tree = tree_of c; object = object_tree false c (logical_lines octets) object; says = says }

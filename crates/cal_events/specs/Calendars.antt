@@ -1,20 +1,13 @@
 -- What the types of instances and calendars stand for.
-use Rattle.std.specs.Prelude.{ℕ, List, [], ◌∷◌, ◌≡◌, ◌+◌, ◌<◌, ◌≢◌, cond, map, length, slice_index_or, AllPairs}
-use Rattle.std.specs.Ordering.{ordering_then, nat_cmp}
-use Rattle.std.specs.Cmp.Lexicographic.{slice_cmp}
-use Rattle.std.specs.declared.cmp.Ordering.{Ordering}
-use denote.Ref.{Bor}
+use Rattle.std.specs.Prelude.{ℕ, List, [], ◌≡◌, ◌<◌, ◌≢◌, map, length, get_or, All, AllPairs, ℤ}
 use Rattle.cal_events.specs.declared.sweep.Span.{Span}
 use Rattle.profile.specs.checker.Instances.{Key, Booked}
 use Rattle.ical_values.specs.Octets.{address_octets, text_octets}
-use Rattle.ical_lines.specs.declared.fault.Fault.{Fault}
-use Rattle.ical_lines.specs.declared.fault.Fault.TheVariants.{Refused, Memory}
 use Rattle.cal_events.specs.declared.instance.InstanceKey.{InstanceKey}
 use Rattle.cal_events.specs.declared.instance.Instance.{Instance}
 use Rattle.cal_events.specs.declared.instance.OwnedKey.{OwnedKey}
-use Rattle.cal_events.specs.declared.instance.OwnedInstance.{OwnedInstance}
 use Rattle.cal_events.specs.declared.calendar.Entry.{Entry}
-use Rattle.cal_events.specs.declared.calendar.Singles.{Singles}
+use Rattle.cal_events.specs.declared.calendar.Single.{Single}
 
 -- the key that borrows its texts
 abbrev pub key_of : InstanceKey → Key
@@ -28,58 +21,40 @@ instance_of i = record { key = key_of i.key; start = i.start; end = i.end }
 abbrev pub owned_key_of : OwnedKey → Key
 owned_key_of k = record { organiser = address_octets k.organiser; uid = text_octets k.uid; slot = k.slot }
 
--- the instance that owns its texts
-abbrev pub booked_of : OwnedInstance → Booked
-booked_of i = record { key = owned_key_of i.key; start = i.start; end = i.end }
+-- ---- a calendar
 
--- the singles that an iterator has left
-abbrev pub singles_left : Singles → List Booked
-singles_left s = map booked_of s.bookings.now
+-- a meeting: its organiser and its UID
+abbrev pub Meeting : Type 0
+Meeting = List ℕ × List ℕ
+
+-- the meeting of a VEVENT
+abbrev pub meeting_of : Entry → Meeting
+meeting_of e = (address_octets e.organiser, text_octets e.uid)
+
+-- the key of a meeting's instance
+abbrev pub key_in : Meeting → ℤ → Key
+key_in m slot = record { organiser = m.0; uid = m.1; slot = slot }
+
+-- a single of a VEVENT of that meeting
+abbrev pub booked_as : Meeting → Single → Booked
+booked_as m s = record { key = key_in m s.slot; start = s.start; end = s.end }
+
+-- the meeting of the VEVENT at a place
+abbrev pub meeting_at : List Entry → ℕ → Meeting
+meeting_at entries k = get_or (map meeting_of entries) k ([], [])
+
+-- a single of one of these VEVENTs
+abbrev pub booked_in : List Entry → Single → Booked
+booked_in entries s = booked_as (meeting_at entries s.entry) s
+
+-- the singles are of these VEVENTs
+abbrev pub AreWithin : List Entry → List Single → Type 0
+AreWithin entries singles = All (λ s. s.entry < length entries) singles
 
 -- different places have different keys
 abbrev pub HaveDifferentKeys : List Booked → Type 0
 HaveDifferentKeys all = AllPairs (λ a b. a.key ≢ b.key) all
 
--- the meeting of an event: its organiser and its UID
-abbrev pub meeting_of : Entry → List ℕ × List ℕ
-meeting_of e = (address_octets e.booking.key.organiser, text_octets e.booking.key.uid)
-
--- the instances of the confirmed events, in order
-abbrev pub confirmed_in : List Entry → List Booked
-confirmed_in [] = []
-confirmed_in (e ∷ es) = cond e.confirmed (booked_of e.booking ∷ confirmed_in es) (confirmed_in es)
-
--- no two events are of one meeting
-abbrev pub MeetingsDiffer : List Entry → Type 0
-MeetingsDiffer es = AllPairs ◌≢◌ (map meeting_of es)
-
--- two events are of one meeting
-abbrev pub HaveTwins : List Entry → Type 0
-HaveTwins es = (i : ℕ) × (j : ℕ) × (d : List ℕ × List ℕ) × (i < j) × (j < length es)
-    × (slice_index_or (map meeting_of es) i d ≡ slice_index_or (map meeting_of es) j d)
-
--- out of memory, or two events of one meeting
-abbrev pub IsTwinsFault : List Entry → Fault → Type 0
-IsTwinsFault es Memory = Unit {0}
-IsTwinsFault es (Refused r) = (r.number ≡ 53) × HaveTwins es
-
--- the texts of a pair that borrows them
-abbrev pub texts_of : Bor (List ℕ) × Bor (List ℕ) → List ℕ × List ℕ
-texts_of p = (p.0.now, p.1.now)
-
--- by organiser and then by UID, as octets
-abbrev pub meeting_cmp : List ℕ × List ℕ → List ℕ × List ℕ → Ordering
-meeting_cmp a b = ordering_then (slice_cmp nat_cmp a.0 b.0) (slice_cmp nat_cmp a.1 b.1)
-
--- the texts of the two differ
-abbrev pub HaveOtherTexts : Bor (List ℕ) × Bor (List ℕ) → Bor (List ℕ) × Bor (List ℕ) → Type 0
-HaveOtherTexts p q = texts_of p ≢ texts_of q
-
--- two neighbours have the same texts
-abbrev pub HasEqualNeighbours : List (Bor (List ℕ) × Bor (List ℕ)) → Type 0
-HasEqualNeighbours ps = (k : ℕ) × (p : Bor (List ℕ) × Bor (List ℕ)) × (q : Bor (List ℕ) × Bor (List ℕ)) × (k + 1 < length ps)
-    × (slice_index_or ps k p ≡ p) × (slice_index_or ps (k + 1) q ≡ q) × (texts_of p ≡ texts_of q)
-
--- the span of a booking
-abbrev pub span_of : OwnedInstance → Span
-span_of b = record { start = b.start; end = b.end }
+-- the span of a single
+abbrev pub span_of : Single → Span
+span_of s = record { start = s.start; end = s.end }

@@ -3,11 +3,7 @@ use Rattle.std.specs.Prelude.{ℕ, Bool, ◌||◌, true, false, List, length, ma
 use Rattle.ical_values.specs.Octets.{address_octets, text_octets}
 use Rattle.ical_values.specs.declared.duration.Duration.{Duration}
 use Rattle.std.specs.List.{AllZip, list_any}
-use Rattle.cal_events.specs.Calendars.{booked_of}
-use Rattle.cal_events.specs.declared.calendar.Entry.{Entry}
-use Rattle.profile.specs.faults.Faults.{is_event_fault, is_unread}
-use Rattle.profile.specs.checker.Instances.{Booked}
-use Rattle.profile.specs.events.Meetings.{is_meeting_event_fault}
+use Rattle.profile.specs.faults.Faults.{is_event_fault, is_unread, is_meeting_event_fault}
 use Rattle.profile.specs.events.Events as profile
 use Rattle.profile.specs.events.Properties as properties
 use Rattle.profile.specs.events.Properties.{length_seconds, time_kind}
@@ -30,27 +26,24 @@ use Rattle.cal_events.specs.declared.component.EventComponent.{EventComponent}
 use Rattle.cal_events.specs.declared.component.ParticipationStatus.{ParticipationStatus}
 use Rattle.cal_events.specs.declared.component.ParticipationStatus.TheVariants.{NeedsAction, Tentative, Accepted, Delegated, Declined}
 use Rattle.cal_events.specs.declared.component.Purpose.{Purpose}
-use Rattle.cal_events.specs.declared.component.Purpose.TheVariants.{Request, Cancel, Calendar, Meeting}
+use Rattle.cal_events.specs.declared.component.Purpose.TheVariants.{Request, Cancel, Meeting}
 
 -- a message needs ORGANIZER and DTSTAMP, a calendar doesn't
 abbrev pub is_message : Purpose → Bool
 is_message Request = true
 is_message Cancel = true
-is_message Calendar = false
 is_message Meeting = false
 
 -- what isn't read yet for a purpose
 abbrev pub is_unread_for : Purpose → List ℕ → Bool
 is_unread_for Request = profile.is_unread_in_message
 is_unread_for Cancel = profile.is_unread_in_message
-is_unread_for Calendar = profile.is_unread_line
 is_unread_for Meeting = λ _. false
 
 -- DTSTART is missing, where that isn't read yet
 abbrev pub lacks_start_for : Purpose → List (List ℕ) → Bool
 lacks_start_for Request lines = false
 lacks_start_for Cancel lines = profile.lacks_start lines
-lacks_start_for Calendar lines = false
 lacks_start_for Meeting lines = false
 
 abbrev pub has_unread_for : Purpose → List (List ℕ) → Bool
@@ -60,7 +53,6 @@ has_unread_for purpose lines = lacks_start_for purpose lines || list_any (is_unr
 abbrev pub is_fault_for : Purpose → ℕ → Bool
 is_fault_for Request n = is_event_fault n || is_unread n
 is_fault_for Cancel n = is_event_fault n || is_unread n
-is_fault_for Calendar n = is_event_fault n || is_unread n
 is_fault_for Meeting n = is_meeting_event_fault n
 
 abbrev pub participation_of : ParticipationStatus → profile.Participation
@@ -136,16 +128,3 @@ IsUnreadOrFault object purpose lines n =
 -- one of these VEVENTs has
 abbrev pub IsUnreadOrFaultAmong : Tree → Purpose → List (List (List ℕ)) → ℕ → Type 0
 IsUnreadOrFaultAmong object purpose vevents n = (lines : List (List ℕ)) × Contains vevents lines × IsUnreadOrFault object purpose lines n
-
--- what an entry of a calendar shows: its instance, and whether it is confirmed
-abbrev pub entry_view : Entry → Booked × Bool
-entry_view e = (booked_of e.booking, e.confirmed)
-
--- what an event enters into a room's calendar
-abbrev pub entry_said : List ℕ → profile.Event → Booked × Bool
-entry_said room event = (profile.booked_by event, profile.is_confirmed room event)
-
--- the VEVENTs, of an object, say events, and these are their entries
-abbrev pub AreEntries : Tree → List ℕ → List (List (List ℕ)) → List Entry → Type 0
-AreEntries object room vevents entries =
-    (events : List profile.Event) × AllZip (profile.SaysEvent object false) vevents events × (map entry_view entries ≡ map (entry_said room) events)

@@ -13,3 +13,6 @@ pub mod Instances
 pub mod Left
 pub mod GivenWhole
 pub mod Overlapping
+pub mod SinglesLeft
+pub mod SingleStarts
+pub mod Drafts

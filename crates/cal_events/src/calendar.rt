@@ -1,112 +1,166 @@
-//! A room's calendar: the instances that are confirmed in it, in the calendar's order. So far each
-//! is a single: an instance of no series.
-ghost use Rattle.std.specs.Prelude.{◌≡◌, ◌<◌, map, length, IfOk, IfErr, IfNone, IfSome, MatchBool};
-ghost use Rattle.std.specs.List.{AllAdjacentBelow};
+//! A room's calendar: what is confirmed in it, series and singles, both in the calendar's order.
+ghost use Rattle.std.specs.Prelude.{◌≡◌, ◌<◌, map, length, option_map, IfOk, IfNone, IfSome};
+ghost use Rattle.std.specs.List.{slice_get};
 ghost use Rattle.std.specs.Iterator.{YieldsFirstBy, item_count};
 ghost use Rattle.profile.specs.checker.Instances.{IsClear};
-ghost use Rattle.ical_lines.specs.Fault.{RefusesOnly};
-ghost use Rattle.profile.specs.faults.Faults.{is_between};
-ghost use Rattle.cal_events.specs.Calendars.{booked_of, instance_of, singles_left, confirmed_in, meeting_of, HaveDifferentKeys, MeetingsDiffer, HaveTwins, IsTwinsFault, texts_of, span_of, HaveOtherTexts, HasEqualNeighbours};
+ghost use Rattle.cal_events.specs.Calendars.{booked_in, instance_of, key_of, key_in, meeting_of, owned_key_of, span_of, HaveDifferentKeys, AreWithin};
 ghost use Rattle.cal_events.specs.Clashes.{Names};
 
-use crate::instance::{Instance, OwnedInstance};
+use crate::component::EventComponent;
+use crate::instance::{Instance, InstanceKey, OwnedKey};
 use crate::sweep::{Overlap, Span, first_overlap};
-use ical_lines::{Fault, Refusal};
+use ical_values::{Address, Text};
 use std::alloc::{AllocError, Global};
 use std::marker::Model;
 
-/// An event of a calendar, and whether it holds the room: the room has accepted it and it isn't
-/// cancelled (RFC 5545 3.2.12, 3.8.1.11).
+/// A VEVENT of a calendar: whose it is, and which instance it stands for.
 #[derive(Drop)]
-pub struct Entry {
-    pub booking: OwnedInstance,
-    pub confirmed: bool,
+pub(crate) struct Entry {
+    /// The empty address where ORGANIZER is missing.
+    pub(crate) organiser: Address,
+    pub(crate) uid: Text,
+    /// RECURRENCE-ID, in seconds from 1970-01-01T00:00:00Z.
+    pub(crate) recurrence: Option<i64>,
 }
 
-/// The confirmed instances of a room.
+impl Entry {
+    /// The key of its meeting's instance at a slot.
+    pub(crate) fn key_at(&self, slot: i64) -> InstanceKey<'_>
+        ensures { key_of result ≡ key_in (meeting_of self.now) slot }
+    {
+        InstanceKey {
+            organiser: self.organiser.as_str(),
+            uid: self.uid.as_str(),
+            slot,
+        }
+    }
+}
+
+/// A single: an instance of the VEVENT at a place among the calendar's.
+#[derive(Clone, Copy)]
+pub(crate) struct Single {
+    pub(crate) entry: usize,
+    pub(crate) slot: i64,
+    pub(crate) start: i64,
+    pub(crate) end: i64,
+}
+
+/// What is confirmed in a room.
 #[derive(Drop)]
 pub struct Calendar {
-    bookings: Vec<OwnedInstance>,
+    pub(crate) entries: Vec<Entry>,
+    pub(crate) singles: Vec<Single>,
+    pub(crate) series: Vec<EventComponent>,
 }
 
 impl Model for Calendar {
-    ghost use Rattle.std.specs.Prelude.{List, map};
-    ghost use Rattle.profile.specs.checker.Instances.{Booked};
-    ghost use Rattle.cal_events.specs.Calendars.{booked_of, HaveDifferentKeys};
+    ghost use Rattle.std.specs.Prelude.{map};
+    ghost use Rattle.profile.specs.events.Confirmed.{Confirmed};
+    ghost use Rattle.cal_events.specs.Events.{event_of};
+    ghost use Rattle.cal_events.specs.Calendars.{booked_in, HaveDifferentKeys, AreWithin};
 
-    ghost Value = { List Booked };
+    ghost Value = { Confirmed };
 
-    ghost view = { λ c. map booked_of c.bookings.items };
+    ghost view = { λ c. record { series = map event_of c.series.items; singles = map (booked_in c.entries.items) c.singles.items } };
 
-    ghost invariant = { λ c. HaveDifferentKeys (map booked_of c.bookings.items) };
+    ghost invariant = { λ c. HaveDifferentKeys (map (booked_in c.entries.items) c.singles.items) × AreWithin c.entries.items c.singles.items };
 }
 
 /// The singles of a calendar, in its order.
 #[derive(Drop)]
 pub struct Singles<'a> {
-    bookings: &'a [OwnedInstance],
+    entries: &'a [Entry],
+    singles: &'a [Single],
+    ghost within: { AreWithin entries.now singles.now },
 }
 
 impl Calendar {
-    /// The calendar of these events, in this order. Refused 53 where two of them are of one meeting
-    /// (organiser and UID), confirmed or not (RFC 5545 3.8.4.4); else it fails only for memory.
-    pub fn of(alloc: Global, entries: Vec<Entry>) -> Result<Calendar, Fault>
-        ensures instances { IfOk result (λ calendar. calendar ≡ confirmed_in entries.items) }
-        ensures differ { IfOk result (λ _. MeetingsDiffer entries.items) }
-        ensures refused { IfErr result (IsTwinsFault entries.items) }
-        ensures refuses { IfErr result (RefusesOnly (is_between 53 53)) }
-    {
-        if has_twins(alloc, &entries)? {
-            return Err(Fault::Refused(Refusal::TWO_MASTERS));
-        }
-        let bookings = confirmed(alloc, entries)?;
-        Ok(Calendar { bookings })
-    }
+    ghost use Rattle.cal_events.specs.SinglesLeft.{singles_left};
 
-    /// The confirmed instances of no series, in the calendar's order.
+    /// The singles: the confirmed instances that belong to no series, in the calendar's order.
     pub fn singles(&self) -> Singles<'_>
-        ensures left { singles_left result ≡ self.now }
-        ensures keys { HaveDifferentKeys self.now }
+        ensures left { singles_left result ≡ self.now.singles }
+        ensures keys { HaveDifferentKeys self.now.singles }
     {
         Singles {
-            bookings: &self.bookings,
+            entries: &self.entries,
+            singles: &self.singles,
         }
-    }
-
-    /// The same, owned by the calendar.
-    pub fn bookings(&self) -> &[OwnedInstance]
-        ensures all { map booked_of result.now ≡ self.now }
-        ensures keys { HaveDifferentKeys self.now }
-    {
-        &self.bookings
     }
 
     /// How many singles there are.
     pub fn single_count(&self) -> u64
-        ensures { result ≡ length self.now }
+        ensures { result ≡ length self.now.singles }
     {
-        self.bookings.len() as u64
+        self.singles.len() as u64
     }
 
-    /// How many confirmed series there are: none yet.
+    /// How many series there are: the masters with RRULE that the room has accepted.
     pub fn series_count(&self) -> u64
-        ensures { result ≡ 0 }
+        ensures { result ≡ length self.now.series }
     {
-        0
+        self.series.len() as u64
+    }
+
+    /// The single at a place of the calendar's order, counted from 0.
+    pub fn single(&self, place: usize) -> Option<Instance<'_>>
+        ensures { option_map instance_of result ≡ slice_get self.now.singles place }
+    {
+        let single = self.singles.get(place)?;
+        Some(single.lend(&self.entries))
+    }
+
+    /// Its key, owned. It fails only for memory.
+    pub fn key(&self, place: usize) -> Result<Option<OwnedKey>, AllocError>
+        ensures { IfOk result (λ key. option_map owned_key_of key ≡ option_map (λ b. b.key) (slice_get self.now.singles place)) }
+    {
+        match self.singles.get(place) {
+            Some(single) => Ok(Some(single.owned_key(&self.entries)?)),
+            None => Ok(None),
+        }
     }
 
     /// The places of two singles that clash, the earlier start first, and the later start; None
-    /// where the confirmed instances are clear. Fails only for memory.
+    /// where the singles are clear. Fails only for memory.
     pub fn first_overlap(&self, alloc: Global) -> Result<Option<Overlap>, AllocError>
-        ensures clash { IfOk result (λ r. IfSome r (Names self.now)) }
-        ensures clear { IfOk result (λ r. IfNone r (IsClear self.now)) }
+        ensures clash { IfOk result (λ r. IfSome r (Names self.now.singles)) }
+        ensures clear { IfOk result (λ r. IfNone r (IsClear self.now.singles)) }
     {
-        let spans = spans_of(alloc, &self.bookings)?;
+        let spans = spans_of(alloc, &self.singles)?;
         first_overlap(alloc, &spans)
     }
 }
 
+impl Single {
+    /// The instance, of one of these VEVENTs.
+    fn lend<'a>(&self, entries: &'a [Entry]) -> Instance<'a>
+        requires { self.now.entry < length entries.now }
+        ensures { instance_of result ≡ booked_in entries.now self.now }
+    {
+        Instance {
+            key: entries[self.entry].key_at(self.slot),
+            start: self.start,
+            end: self.end,
+        }
+    }
+
+    /// Its key, owned.
+    fn owned_key(&self, entries: &[Entry]) -> Result<OwnedKey, AllocError>
+        requires { self.now.entry < length entries.now }
+        ensures { IfOk result (λ key. owned_key_of key ≡ (booked_in entries.now self.now).key) }
+    {
+        let entry = &entries[self.entry];
+        Ok(OwnedKey {
+            organiser: entry.organiser.clone()?,
+            uid: entry.uid.clone()?,
+            slot: self.slot,
+        })
+    }
+}
+
 impl<'a> Iterator for Singles<'a> {
+    ghost use Rattle.cal_events.specs.SinglesLeft.{singles_left};
+
     type Item = Instance<'a>;
 
     ghost next_gives = { YieldsFirstBy instance_of singles_left };
@@ -114,74 +168,21 @@ impl<'a> Iterator for Singles<'a> {
     ghost remaining = { item_count singles_left };
 
     fn next(&mut self) -> Option<Instance<'a>> {
-        let (booking, rest) = self.bookings.split_first()?;
-        self.bookings = rest;
-        Some(booking.lend())
+        let (single, rest) = self.singles.split_first()?;
+        self.singles = rest;
+        Some(single.lend(self.entries))
     }
 }
 
-/// Are two of the events of one meeting?
-fn has_twins(alloc: Global, entries: &[Entry]) -> Result<bool, AllocError>
-    ensures { IfOk result (λ twins. MatchBool twins (HaveTwins entries.now) (MeetingsDiffer entries.now)) }
-{
-    let mut meetings = meetings_of(alloc, entries)?;
-    meetings.sort_unstable();
-    Ok(has_equal_neighbours(&meetings))
-}
-
-/// The organiser and the UID of each event.
-fn meetings_of(alloc: Global, entries: &[Entry]) -> Result<Vec<(&str, &str)>, AllocError>
-    ensures { IfOk result (λ v. map texts_of v.items ≡ map meeting_of entries.now) }
-{
-    let mut meetings = Vec::new(alloc);
-    for entry in entries {
-        let key = &entry.booking.key;
-        meetings.push((key.organiser.as_str(), key.uid.as_str()))?;
-    }
-    Ok(meetings)
-}
-
-fn has_equal_neighbours(sorted: &[(&str, &str)]) -> bool
-    ensures { MatchBool result (HasEqualNeighbours sorted.now) (AllAdjacentBelow HaveOtherTexts sorted.now (length sorted.now)) }
-{
-    for next in 1..sorted.len() {
-        let earlier = sorted[next - 1];
-        let later = sorted[next];
-        if is_same_meeting(earlier, later) {
-            return true;
-        }
-    }
-    false
-}
-
-fn is_same_meeting(a: (&str, &str), b: (&str, &str)) -> bool
-    ensures { MatchBool result (texts_of a.entry ≡ texts_of b.entry) (HaveOtherTexts a.entry b.entry) }
-{
-    a.0 == b.0 && a.1 == b.1
-}
-
-/// The bookings of the confirmed events, in order.
-fn confirmed(alloc: Global, entries: Vec<Entry>) -> Result<Vec<OwnedInstance>, AllocError>
-    ensures { IfOk result (λ v. map booked_of v.items ≡ confirmed_in entries.items) }
-{
-    let mut bookings = Vec::new(alloc);
-    for entry in entries {
-        if entry.confirmed {
-            bookings.push(entry.booking)?;
-        }
-    }
-    Ok(bookings)
-}
-
-/// The span of each booking, in order.
-fn spans_of(alloc: Global, bookings: &[OwnedInstance]) -> Result<Vec<Span>, AllocError>
-    ensures { IfOk result (λ v. v.items ≡ map span_of bookings.now) }
+/// The span of each single, in order.
+fn spans_of(alloc: Global, singles: &[Single]) -> Result<Vec<Span>, AllocError>
+    ensures { IfOk result (λ v. v.items ≡ map span_of singles.now) }
 {
     let mut spans = Vec::new(alloc);
-    for booking in bookings {
+    for single in singles {
         spans.push(Span {
-            start: booking.start,
-            end: booking.end,
+            start: single.start,
+            end: single.end,
         })?;
     }
     Ok(spans)

@@ -1,5 +1,5 @@
 //! One VEVENT, read: its values, judged one property after another in a fixed order, and then
-//! together (RFC 5545 3.6.1). Events that recur are read where a whole meeting is.
+//! together (RFC 5545 3.6.1).
 ghost use Rattle.std.specs.Prelude.{ℕ, List, [], unwrap_or, ◌≡◌, ◌⊎◌, ◌↔◌, Bool, Some, map, codes, pos, ◌+ℤ◌, option_map, true, false, IfOk, IfErr, OnOk, IsTrue};
 ghost use Rattle.std.specs.List.{AllZip};
 ghost use Rattle.ical_lines.specs.Fault.{RefusesOnly, RefusesBy};
@@ -40,9 +40,7 @@ pub enum Purpose {
     Request,
     /// A message that cancels an event: the same isn't read yet, nor one without DTSTART.
     Cancel,
-    /// A kept calendar: UID and DTSTART have to stand. The same isn't read yet as in a request, nor is STATUS:CANCELLED.
-    Calendar,
-    /// An event with its instances: UID and DTSTART have to stand.
+    /// A calendar, or an event with its instances: UID and DTSTART have to stand.
     Meeting,
 }
 

@@ -1,6 +1,6 @@
 //! Instances: a meeting's hold on the room for one span of time, and which one it is.
 ghost use Rattle.std.specs.Prelude.{◌≡◌};
-ghost use Rattle.cal_events.specs.Calendars.{key_of, owned_key_of, instance_of, booked_of};
+ghost use Rattle.cal_events.specs.Calendars.{key_of, owned_key_of};
 
 use ical_values::{Address, Text};
 
@@ -42,27 +42,6 @@ impl OwnedKey {
             organiser: self.organiser.as_str(),
             uid: self.uid.as_str(),
             slot: self.slot,
-        }
-    }
-}
-
-/// An instance that owns its texts.
-#[derive(Drop)]
-pub struct OwnedInstance {
-    pub key: OwnedKey,
-    pub start: i64,
-    pub end: i64,
-}
-
-impl OwnedInstance {
-    /// The instance, with its texts borrowed.
-    pub fn lend(&self) -> Instance<'_>
-        ensures { instance_of result ≡ booked_of self.now }
-    {
-        Instance {
-            key: self.key.lend(),
-            start: self.start,
-            end: self.end,
         }
     }
 }

@@ -256,7 +256,7 @@ fn pass_given(after: Bound, days: &mut RuleDays<'_>)
 }
 
 /// The instant that a second of a day means on the clocks of a time's zone.
-fn start_on(time: &ZonedTime, day: Day, second: u32) -> i64
+pub(crate) fn start_on(time: &ZonedTime, day: Day, second: u32) -> i64
     requires day { day ≤ℤ pos 2_932_896 }
     requires second { second < 86_400 }
     ensures meaning { Means (clock_of (zone_said time.now)) (local_time (day_index day) second) result }
@@ -325,7 +325,7 @@ fn days_from(event: &Event, from: i64) -> RuleDays<'_>
 }
 
 /// The same of a master.
-fn days_of<'a>(master: &'a EventComponent, overrides: &[EventComponent], from: i64) -> RuleDays<'a>
+pub(crate) fn days_of<'a>(master: &'a EventComponent, overrides: &[EventComponent], from: i64) -> RuleDays<'a>
     ensures { AreWalked (event_of master.now) (map event_of overrides.now) (record { start = from; slot = None }) result }
 {
     match &master.rule {

@@ -1,6 +1,6 @@
 //! Instants in order, among which one is looked for by halves.
 
-ghost use Rattle.std.specs.Prelude.{◌↔◌, Contains, IsTrue};
+ghost use Rattle.std.specs.Prelude.{◌≡◌, ◌↔◌, Contains, IsTrue};
 ghost use Rattle.std.specs.List.Sorted.{IsPermutation};
 ghost use Rattle.cal_events.specs.Ordered.{IsFirstFrom};
 
@@ -32,6 +32,13 @@ impl Instants {
         let mut sorted = instants;
         sorted.sort_unstable();
         Instants { sorted }
+    }
+
+    /// They themselves, in order.
+    pub(crate) fn sorted(&self) -> &[i64]
+        ensures { result.now ≡ self.now }
+    {
+        &self.sorted
     }
 
     /// Whether one of them is this one.

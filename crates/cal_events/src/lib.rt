@@ -3,6 +3,7 @@
 
 pub mod calendar;
 pub mod component;
+mod draft;
 mod event;
 mod event_rule;
 mod event_times;
@@ -14,18 +15,21 @@ mod overlapping;
 mod properties;
 mod reading;
 mod rule_days;
+mod single_starts;
 pub mod sweep;
 mod whole;
 mod zoned;
 mod zones;
 
-pub use calendar::{Calendar, Entry, Singles};
+pub use calendar::{Calendar, Singles};
 pub use component::{Attendee, EventComponent, ParticipationStatus, Purpose, one_event};
 pub use event::{Event, one_instance, one_meeting};
 pub use event_times::EventTimes;
-pub use instance::{HORIZON, Instance, InstanceKey, OwnedInstance, OwnedKey};
+pub use instance::{HORIZON, Instance, InstanceKey, OwnedKey};
 pub use instances::Instances;
-pub use reading::{one_calendar, one_calendar_text, read_events, refuse_unread_events};
+pub use reading::{
+    one_calendar, one_calendar_text, read_events, refuse_unread_events, singles_are_confirmed,
+};
 pub use sweep::{Overlap, Span, first_overlap};
 pub use whole::all_instances;
 pub use zoned::{ZonedTime, one_zoned_time};

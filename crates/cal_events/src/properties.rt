@@ -2,7 +2,7 @@
 ghost use Rattle.std.specs.Prelude.{◌≡◌, ◌⊎◌, Some, true, false, codes, option_map, IfOk, IfErr, OnOk, OnErr};
 ghost use Rattle.ical_lines.specs.Text.{line_text};
 ghost use Rattle.std.specs.List.{list_any};
-ghost use Rattle.profile.specs.events.Events.{is_unread_line, is_unread_in_message, is_recurrence, is_of_instances, is_end_of_event};
+ghost use Rattle.profile.specs.events.Events.{is_unread_in_message, is_recurrence, is_of_instances, is_end_of_event};
 ghost use Rattle.profile.specs.events.Properties.{is_of, IsMissing, StandsAtMostOnce, StandsTwice};
 ghost use Rattle.cal_events.specs.Events.{is_unread_for, lacks_start_for, has_unread_for};
 
@@ -52,7 +52,7 @@ fn lacks_start_for(event: &Properties<'_>, purpose: Purpose) -> bool
 {
     match purpose {
         Purpose::Cancel => !has_start(event),
-        Purpose::Request | Purpose::Calendar | Purpose::Meeting => false,
+        Purpose::Request | Purpose::Meeting => false,
     }
 }
 
@@ -85,18 +85,8 @@ fn is_unread(line: Line<'_>, purpose: Purpose) -> bool
 {
     match purpose {
         Purpose::Request | Purpose::Cancel => is_unread_in_message(line),
-        Purpose::Calendar => is_unread_line(line),
         Purpose::Meeting => false,
     }
-}
-
-/// Whether a line of a calendar isn't read yet: one of a recurrence, a cancelled status, or a start or an end in a zone.
-fn is_unread_line(line: Line<'_>) -> bool
-    ensures { result ≡ is_unread_line (line_text line.entry) }
-{
-    is_recurrence(line)
-        || (line.is_named("STATUS") && line.value().eq_ignore_ascii_case("CANCELLED"))
-        || (is_end_line(line) && line.param("TZID").is_some())
 }
 
 /// Whether a line of a message isn't read yet: one of a recurrence, or a start or an end in a zone.

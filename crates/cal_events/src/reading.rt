@@ -1,32 +1,32 @@
 //! A calendar read from its octets (RFC 5545 3.4), for one room: open limits, METHOD not looked at.
-ghost use Rattle.std.specs.Prelude.{ℕ, List, ◌≡◌, [], true, false, map, unwrap_or, IfOk, IfErr, OnOk};
+ghost use Rattle.std.specs.Prelude.{ℕ, List, ◌≡◌, ◌⊎◌, [], true, false, map, Contains, IfOk, IfErr, OnOk};
 ghost use Rattle.std.specs.List.{list_any, AllZip};
 ghost use Rattle.ical_lines.specs.Fault.{RefusesOnly, RefusesBy};
 ghost use Rattle.ical_values.specs.Octets.{address_octets};
 ghost use Rattle.profile.specs.faults.Faults.{is_calendar_fault, is_unread};
 ghost use Rattle.profile.specs.checker.Instances.{Booked};
-ghost use Rattle.profile.specs.checker.Calendars.{SpellsCalendar, CalendarTextFault};
-ghost use Rattle.profile.specs.events.Events.{is_confirmed, SaysCalendar, SaysEvent, CalendarFault, has_unread};
+ghost use Rattle.profile.specs.checker.Calendars.{SaysCalendar, SpellsCalendar, IsConfirmedIn, CalendarFault, CalendarTextFault};
+ghost use Rattle.profile.specs.events.Events.{Event, SaysEvent};
+ghost use Rattle.profile.specs.events.Confirmed.{Confirmed, IsConfirmed, AreConfirmed};
 ghost use Rattle.profile.specs.text.Trees.{Tree};
 ghost use Rattle.ical_tree.specs.Tree.{component_lines, tree_of};
 ghost use Rattle.cal_events.specs.Zones.{object_of, AreRead};
-ghost use Rattle.cal_events.specs.Events.{IsUnreadOrFault, IsUnreadOrFaultAmong, is_message, has_unread_for, is_fault_for, event_of, vevents_of, entry_view, entry_said, AreEntries};
+ghost use Rattle.cal_events.specs.Events.{IsUnreadOrFault, IsUnreadOrFaultAmong, is_message, has_unread_for, is_fault_for, event_of, vevents_of};
 
-use crate::calendar::{Calendar, Entry};
-use crate::component::{EventComponent, ParticipationStatus, Purpose, one_event};
-use crate::instance::{OwnedInstance, OwnedKey};
+use crate::calendar::Calendar;
+use crate::component::{EventComponent, Purpose, one_event};
+use crate::draft::Draft;
 use crate::properties::refuse_unread;
 use crate::zones::Zones;
 use ical_lines::{Fault, Limits, Unfolded};
 use ical_tree::{Component, Properties, one_tree, read_object};
 use ical_values::Address;
-use std::alloc::{AllocError, Global};
+use std::alloc::Global;
 
 impl Calendar {
-    /// The calendar that the octets spell, with what is confirmed for the room: the VEVENTs whose ATTENDEE of
-    /// its address has accepted.
-    /// Refused: 1 to 5 and 20 to 24 for the object, 10 to 16, 50 to 52, 55, 56 and 61 for a VEVENT, 53 for two
-    /// VEVENTs of one meeting, 99 for what isn't read yet.
+    /// The calendar that the octets spell, with what is confirmed for the room: the VEVENTs whose ATTENDEE of its address has accepted, and
+    /// that aren't cancelled.
+    /// Refused: 1 to 5 and 20 to 24 for the object, and as by `of_object`.
     pub fn read(alloc: Global, bytes: &[u8], room: &Address) -> Result<Calendar, Fault>
         ensures spells { IfOk result (SpellsCalendar (address_octets room.now) bytes.now) }
         ensures refuses { IfErr result (RefusesOnly is_calendar_fault) }
@@ -37,30 +37,31 @@ impl Calendar {
         Calendar::of_object(alloc, &object, room)
     }
 
-    /// The calendar of an object that was read.
-    /// Refused: as by `read`, but for the object.
+    /// The calendar of an object that was read. In time n log n.
+    /// Refused: as by `EventComponent::read` for a VEVENT; 53 for two VEVENTs of one meeting without RECURRENCE-ID; 54 for two of one meeting
+    /// that stand for one instance.
     pub fn of_object(alloc: Global, object: &Component, room: &Address) -> Result<Calendar, Fault>
         ensures says { IfOk result (SaysCalendar (address_octets room.now) (tree_of object.now)) }
         ensures refuses { IfErr result (RefusesOnly is_calendar_fault) }
         ensures stands { IfErr result (RefusesBy (CalendarFault (tree_of object.now))) }
     {
-        let entries = match entries_of(alloc, object, room) {
-            Ok(entries) => entries,
-            Err(fault) => {
-                // what isn't read yet goes before any other fault
-                refuse_unread_events(alloc, object, Purpose::Calendar)?;
-                return Err(fault);
+        let zones = Zones::of(alloc, object)?;
+        let mut draft = Draft::new(alloc);
+        for component in object.children() {
+            if component.is_named("VEVENT") {
+                let event = read_event(alloc, &zones, component, Purpose::Meeting)?;
+                draft.add(alloc, event, room)?;
             }
-        };
-        Calendar::of(alloc, entries)
+        }
+        draft.into_calendar(alloc)
     }
 }
 
 /// The VEVENTs of an object say at most one calendar for a room, and none where a fault stands in them.
 pub fn one_calendar()
-    ensures one { (room : List ℕ) (object : Tree) (a b : List Booked)
+    ensures one { (room : List ℕ) (object : Tree) (a b : Confirmed)
         → SaysCalendar room object a → SaysCalendar room object b → a ≡ b }
-    ensures or_a_fault { (room : List ℕ) (object : Tree) (a : List Booked) (n : ℕ)
+    ensures or_a_fault { (room : List ℕ) (object : Tree) (a : Confirmed) (n : ℕ)
         → SaysCalendar room object a → CalendarFault object n → ⊥ }
 {
     one_event();
@@ -68,13 +69,26 @@ pub fn one_calendar()
 
 /// Octets spell at most one calendar for a room, and none where a fault stands in them.
 pub fn one_calendar_text()
-    ensures one { (room octets : List ℕ) (a b : List Booked)
+    ensures one { (room octets : List ℕ) (a b : Confirmed)
         → SpellsCalendar room octets a → SpellsCalendar room octets b → a ≡ b }
-    ensures or_a_fault { (room octets : List ℕ) (all : List Booked) (n : ℕ)
+    ensures or_a_fault { (room octets : List ℕ) (all : Confirmed) (n : ℕ)
         → SpellsCalendar room octets all → CalendarTextFault octets n → ⊥ }
 {
     one_tree();
     one_calendar();
+}
+
+/// Of a calendar without series the singles are all confirmed instances, and each key is that of one of them.
+pub fn singles_are_confirmed()
+    ensures single { (room octets : List ℕ) (all : Confirmed) (instance : Booked)
+        → SpellsCalendar room octets all → Contains all.singles instance → IsConfirmedIn room octets instance }
+    ensures all { (room octets : List ℕ) (all : Confirmed) (instance : Booked)
+        → SpellsCalendar room octets all → all.series ≡ [] → IsConfirmedIn room octets instance → Contains all.singles instance }
+    ensures keys { (room octets : List ℕ) (all : Confirmed) (a b : Booked)
+        → SpellsCalendar room octets all → IsConfirmedIn room octets a → IsConfirmedIn room octets b → a.key ≡ b.key → a ≡ b }
+{
+    one_tree();
+    one_event();
 }
 
 /// Refuses an object with a VEVENT that has something that roombox doesn't read yet for a purpose.
@@ -99,7 +113,7 @@ pub fn refuse_unread_events(
 
 /// What a VEVENT says, whose times may name these zones. Its lines are parsed once, for all that is asked of them.
 /// Refused: as by `EventComponent::read`.
-pub(crate) fn read_event(
+fn read_event(
     alloc: Global,
     zones: &Zones<'_, '_>,
     component: &Component,
@@ -135,58 +149,4 @@ pub fn read_events(
         }
     }
     Ok(events)
-}
-
-/// What the VEVENTs of an object book, in order.
-fn entries_of(alloc: Global, object: &Component, room: &Address) -> Result<Vec<Entry>, Fault>
-    ensures says { IfOk result (λ entries. AreEntries (tree_of object.now) (address_octets room.now) (vevents_of object.now) entries.items) }
-    ensures read { OnOk result (list_any has_unread (vevents_of object.now) ≡ false) }
-    ensures refuses { IfErr result (RefusesOnly is_calendar_fault) }
-    ensures stands { IfErr result (RefusesBy (CalendarFault (tree_of object.now))) }
-{
-    let zones = Zones::of(alloc, object)?;
-    let mut entries = Vec::new(alloc);
-    for component in object.children() {
-        if component.is_named("VEVENT") {
-            let event = read_event(alloc, &zones, component, Purpose::Calendar)?;
-            entries.push(entry_of(alloc, &event, room)?)?;
-        }
-    }
-    Ok(entries)
-}
-
-/// What a VEVENT books: its one instance, whose slot is its start, and whether the room has accepted it.
-fn entry_of(alloc: Global, event: &EventComponent, room: &Address) -> Result<Entry, AllocError>
-    ensures { IfOk result (λ entry. entry_view entry ≡ entry_said (address_octets room.now) (event_of event.now)) }
-{
-    let confirmed = has_accepted(event, room);
-    let start = event.times.instant.instant();
-    let end = event.end();
-    let key = OwnedKey {
-        organiser: organiser_of(alloc, event)?,
-        uid: event.uid.clone()?,
-        slot: start,
-    };
-    let booking = OwnedInstance { key, start, end };
-    Ok(Entry { booking, confirmed })
-}
-
-/// Whether the attendee of this address has accepted.
-fn has_accepted(event: &EventComponent, room: &Address) -> bool
-    ensures { result ≡ is_confirmed (address_octets room.now) (event_of event.now) }
-{
-    match event.status_of(room) {
-        Some(ParticipationStatus::Accepted) => true,
-        _ => false,
-    }
-}
-
-/// The address of an event's organiser; the empty one where ORGANIZER is missing.
-fn organiser_of(alloc: Global, event: &EventComponent) -> Result<Address, AllocError>
-    ensures { IfOk result (λ address. address_octets address ≡ unwrap_or (event_of event.now).organiser []) }
-{
-    match &event.organiser {
-        Some(organiser) => organiser.clone(),
-        None => Ok(Address::empty(alloc)),
-    }
 }

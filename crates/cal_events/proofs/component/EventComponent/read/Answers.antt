@@ -11,7 +11,7 @@ use Rattle.cal_events.proofs.component.EventComponent.read.Goals as goal
 
 pub returns-in_err-refuse_unread-clause-refuses : goal.returns-in_err-refuse_unread-clause-refuses
 returns-in_err-refuse_unread-clause-refuses c =
-    err_exit _ (RefusesOnly (is_fault_for c.args.purpose)) _ c.from_residual.ensures.1 (unread_for c.args.purpose _ c.in_err-refuse_unread.ensures.refuses)
+    err_exit _ (RefusesOnly (is_fault_for c.args.purpose)) _ c.from_residual.ensures.1 (unread_for c.args.purpose c.args.properties.now _ c.in_err-refuse_unread.ensures.refuses c.in_err-refuse_unread.ensures.unread)
 
 pub returns-in_err-refuse_unread-clause-stands : goal.returns-in_err-refuse_unread-clause-stands
 returns-in_err-refuse_unread-clause-stands c =

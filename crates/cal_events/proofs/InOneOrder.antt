@@ -1,0 +1,65 @@
+-- Lists of which each element comes before each later one.
+use Rattle.std.proofs.Common.{◌≡◌, ◌∙◌, ℕ, ◌<◌, zero, suc, List, [], ◌∷◌, ◌++◌, get_or, length, subst, sym, refl, ap, inl, inr, ◌⊎◌, arith}
+use Rattle.std.specs.Prelude.{All, AllPairs, Contains}
+use Rattle.std.proofs.lemmas.List.Elements.{All-contains}
+
+-- what is among x and xs is x, or among xs
+pub first_or_later : {X : Type 0} (x y : X) (xs : List X) → Contains (x ∷ xs) y → (x ≡ y) ⊎ Contains xs y
+first_or_later x y xs (zero, w, e) = inl e
+first_or_later x y xs (suc k, w, e) = inr (k, omega (arith, w), e)
+
+pub later : {X : Type 0} (x y : X) (xs : List X) → Contains xs y → Contains (x ∷ xs) y
+later x y xs (k, w, e) = (suc k, omega (arith, w), e)
+
+pub none_in : {X : Type 0} (x : X) → Contains [] x → ⊥
+none_in x (k, w, e) = omega (arith, w)
+
+module _ {X : Type 0} (R : X → X → Type 0) where
+  -- each later one is so to the first
+  pub head_pairs : (x y : X) (xs : List X) → AllPairs R (x ∷ xs) → Contains xs y → R x y
+  head_pairs x y xs p (k, w, e) = subst (R x) e (p 0 (suc k) y (omega arith) (omega (arith, w)))
+
+  pub tail_pairs : (x : X) (xs : List X) → AllPairs R (x ∷ xs) → AllPairs R xs
+  tail_pairs x xs p i j d l w = p (suc i) (suc j) d (omega (arith, l)) (omega (arith, w))
+
+  pub cons_pairs : (x : X) (xs : List X) → ((y : X) → Contains xs y → R x y) → AllPairs R xs → AllPairs R (x ∷ xs)
+  cons_pairs x xs h p zero zero d l w = absurd (omega (arith, l))
+  cons_pairs x xs h p zero (suc j) d l w = h (get_or xs j d) (j, omega (arith, w), same xs j d (omega (arith, w)))
+    where
+      same : (xs : List X) (j : ℕ) (d : X) → j < length xs → get_or xs j (get_or xs j d) ≡ get_or xs j d
+      same [] j d w = absurd (omega (arith, w))
+      same (y ∷ ys) zero d w = refl
+      same (y ∷ ys) (suc j) d w = same ys j d (omega (arith, w))
+  cons_pairs x xs h p (suc i) zero d l w = absurd (omega (arith, l))
+  cons_pairs x xs h p (suc i) (suc j) d l w = p i j d (omega (arith, l)) (omega (arith, w))
+
+  pub append_pairs : (xs ys : List X) → AllPairs R xs → AllPairs R ys → ((x y : X) → Contains xs x → Contains ys y → R x y) → AllPairs R (xs ++ ys)
+  append_pairs [] ys p q h = q
+  append_pairs (x ∷ xs) ys p q h =
+      cons_pairs x (xs ++ ys) (λ y c. either y (parts xs ys y c))
+      (append_pairs xs ys (tail_pairs x xs p) q (λ a b c. h a b (later x a xs c)))
+    where
+      parts : (xs ys : List X) (y : X) → Contains (xs ++ ys) y → Contains xs y ⊎ Contains ys y
+      parts [] ys y c = inr c
+      parts (x ∷ xs) ys y (zero, w, e) = inl (zero, omega arith, e)
+      parts (x ∷ xs) ys y (suc k, w, e) = elim (parts xs ys y (k, omega (arith, w), e)) [ inl c ↦ inl (later x y xs c) | inr c ↦ inr c ]
+
+      either : (y : X) → Contains xs y ⊎ Contains ys y → R x y
+      either y (inl c) = head_pairs x y xs p c
+      either y (inr c) = h x y (zero, omega arith, refl) c
+
+  -- in one order the same elements are one list
+  pub one_order : ((x : X) → R x x → ⊥) → ((x y z : X) → R x y → R y z → R x z) → (xs ys : List X) → AllPairs R xs → AllPairs R ys
+      → ((x : X) → Contains xs x → Contains ys x) → ((x : X) → Contains ys x → Contains xs x) → xs ≡ ys
+  one_order irr trans [] [] p q h k = refl
+  one_order irr trans [] (y ∷ ys) p q h k = absurd (none_in y (k y (zero, omega arith, refl)))
+  one_order irr trans (x ∷ xs) [] p q h k = absurd (none_in x (h x (zero, omega arith, refl)))
+  one_order irr trans (x ∷ xs) (y ∷ ys) p q h k =
+      let first : x ≡ y = elim (first_or_later y x ys (h x (zero, omega arith, refl))) [
+        | inl e ↦ sym e
+        | inr c ↦ elim (first_or_later x y xs (k y (zero, omega arith, refl))) [ inl e ↦ e | inr d ↦ absurd (irr x (trans x y x (head_pairs x y xs p d) (head_pairs y x ys q c))) ]
+      ] in
+      let rest : xs ≡ ys = one_order irr trans xs ys (tail_pairs x xs p) (tail_pairs y ys q)
+      (λ z c. elim (first_or_later y z ys (h z (later x z xs c))) [ inl e ↦ absurd (irr x (subst (R x) (sym (first ∙ e)) (head_pairs x z xs p c))) | inr d ↦ d ])
+      (λ z c. elim (first_or_later x z xs (k z (later y z ys c))) [ inl e ↦ absurd (irr y (subst (R y) (sym (sym first ∙ e)) (head_pairs y z ys q c))) | inr d ↦ d ]) in
+      λ i. first i ∷ rest i

@@ -1,0 +1,8 @@
+use Rattle.std.proofs.Common.{◌≡◌, map, take}
+use Rattle.cal_events.specs.Calendars.{key_of}
+use Rattle.cal_events.specs.Drafts.{override_keys}
+use Rattle.cal_events.proofs.draft.keys_of_overrides.Given as goal
+
+-- the keys of those so far
+abbrev pub invariant-loop-entry : goal.invariant-loop-entry
+invariant-loop-entry l = map key_of l.keys.items ≡ override_keys (take l.entry-index l.entries)

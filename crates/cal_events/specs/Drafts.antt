@@ -1,0 +1,112 @@
+-- A calendar while its VEVENTs are read.
+use Rattle.std.specs.Prelude.{ℕ, suc, List, [], ◌∷◌, ◌++◌, ◌≡◌, ◌⊎◌, ◌&&◌, ◌||◌, map, filter, get_or, All, AllPairs, Contains, Bool, true, not, Option, None, Some, is_some, ℤ, pos}
+use Rattle.std.specs.Ordering.{is_eq}
+use Rattle.std.specs.List.{list_any, filter_map}
+use Rattle.std.specs.List.Sorted.{IsPermutation, IsSortedByKey}
+use Rattle.profile.specs.checker.Instances.{Key, Booked, key_cmp}
+use Rattle.profile.specs.events.Events.{Event, SaysEvent, meeting_said}
+use Rattle.profile.specs.text.Trees.{Tree}
+use Rattle.profile.specs.events.Starts.{IsInstance, EndsAt, ComesBefore}
+use Rattle.profile.specs.events.Confirmed.{alone, is_kept, is_series, IsOfSeries, MastersDiffer, OverridesDiffer}
+use Rattle.cal_events.specs.Events.{event_of}
+use Rattle.cal_events.specs.Calendars.{Meeting, key_of, key_in, meeting_of, meeting_at, booked_as}
+use Rattle.cal_events.specs.declared.calendar.Entry.{Entry}
+use Rattle.cal_events.specs.declared.calendar.Single.{Single}
+use Rattle.cal_events.specs.declared.draft.Draft.{Draft}
+use Rattle.cal_events.specs.declared.instance.InstanceKey.{InstanceKey}
+
+-- ---- what the VEVENTs are of
+
+-- a VEVENT's meeting, and which instance it stands for
+abbrev pub entry_said : Entry → Meeting × Option ℤ
+entry_said e = (meeting_of e, e.recurrence)
+
+abbrev pub name_said : Event → Meeting × Option ℤ
+name_said event = (meeting_said event, event.recurrence)
+
+-- some VEVENT says the event
+abbrev pub IsSaid : Event → Type 0
+IsSaid event = (object : Tree) × (lines : List (List ℕ)) × SaysEvent object false lines event
+
+-- ---- singles, without a look at what overrides hide
+
+-- an instance of an event by itself that belongs to no series, where the room keeps it
+pub record IsOwn (room : List ℕ) (event : Event) (instance : Booked) : Type 0 where
+  pub kept : is_kept room event ≡ true
+  pub is : IsInstance (alone event) instance
+  pub apart : IsOfSeries event instance → ⊥
+
+-- all of them, by start, each once
+pub record AreOwn (room : List ℕ) (event : Event) (own : List Booked) : Type 0 where
+  pub each : All (IsOwn room event) own
+  pub ordered : AllPairs ComesBefore own
+  pub all : (instance : Booked) → IsOwn room event instance → Contains own instance
+
+-- these are they, of the VEVENT at that place
+pub record AreOwnAt (room : List ℕ) (place : ℕ) (event : Event) (own : List Single) : Type 0 where
+  pub at : All (λ s. s.entry ≡ place) own
+  pub are : AreOwn room event (map (booked_as (meeting_said event)) own)
+
+-- a single of the VEVENT at that place, at a start of that
+pub record IsMadeAt (place : ℕ) (event : Event) (start : ℤ) (s : Single) : Type 0 where
+  pub at : s.entry ≡ place
+  pub slot : s.slot ≡ start
+  pub starts : s.start ≡ start
+  pub ends : EndsAt event.times start s.end
+
+-- these are those of VEVENTs from a place on, one after another
+abbrev pub AreDrawn : List ℕ → ℕ → List Event → List Single → Type 0
+AreDrawn room place [] singles = singles ≡ []
+AreDrawn room place (event ∷ events) singles =
+    (own : List Single) × (rest : List Single) × (singles ≡ own ++ rest) × AreOwnAt room place event own × AreDrawn room (suc place) events rest
+
+-- the draft of these VEVENTs
+pub record IsDraft (room : List ℕ) (events : List Event) (draft : Draft) : Type 0 where
+  pub entries : map entry_said draft.entries.items ≡ map name_said events
+  pub series : map event_of draft.series.items ≡ filter (is_series room) events
+  pub singles : AreDrawn room 0 events draft.singles.items
+
+-- ---- one master of a meeting, and one override for an instance
+
+-- the key of a master, with slot 0
+abbrev pub master_key : Meeting × Option ℤ → Option Key
+master_key (m, None) = Some (key_in m (pos 0))
+master_key (m, Some slot) = None
+
+-- the key of the instance that an override stands for
+abbrev pub override_key : Meeting × Option ℤ → Option Key
+override_key (m, None) = None
+override_key (m, Some slot) = Some (key_in m slot)
+
+-- those of all that are one
+abbrev pub master_keys : List Entry → List Key
+master_keys entries = filter_map master_key (map entry_said entries)
+
+abbrev pub override_keys : List Entry → List Key
+override_keys entries = filter_map override_key (map entry_said entries)
+
+-- in order
+abbrev pub AreInOrder : List InstanceKey → Type 0
+AreInOrder keys = IsSortedByKey key_of key_cmp keys
+
+-- the keys that borrow their texts are these, in order
+abbrev pub AreSorted : List Key → List InstanceKey → Type 0
+AreSorted keys sorted = IsPermutation keys (map key_of sorted) × AreInOrder sorted
+
+-- the instance that the VEVENT at a place stands for
+abbrev pub recurrence_at : List Entry → ℕ → Option ℤ
+recurrence_at entries k = get_or (map (λ e. e.recurrence) entries) k None
+
+-- the single is an override's, or none of these keys is its own
+abbrev pub is_shown_in : List Entry → List Key → Single → Bool
+is_shown_in entries keys s = is_some (recurrence_at entries s.entry) || not (list_any (λ key. is_eq (key_cmp key (key_in (meeting_at entries s.entry) s.slot))) keys)
+
+-- those are left that are shown, where overrides stand for these instances, in some order
+pub record AreShown (entries : List Entry) (singles left : List Single) : Type 0 where
+  pub keys : List Key
+  pub same : IsPermutation (override_keys entries) keys
+  pub is : left ≡ filter (is_shown_in entries keys) singles
+
+-- two masters of one meeting, or two overrides for one instance
+abbrev pub IsTwoOf : List Event → ℕ → Type 0
+IsTwoOf events n = ((n ≡ 53) × (MastersDiffer events → ⊥)) ⊎ ((n ≡ 54) × (OverridesDiffer events → ⊥))

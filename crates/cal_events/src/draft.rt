@@ -1,0 +1,253 @@
+//! A calendar while its VEVENTs are read, one after another.
+ghost use Rattle.std.specs.Prelude.{ℕ, List, [], ◌∷◌, ◌++◌, ◌≡◌, ◌≢◌, ◌<◌, map, filter, length, unwrap_or, AllPairs, is_some, ◌&&◌, true, IfOk, IfErr, OnOk, MatchBool};
+ghost use Rattle.ical_lines.specs.Fault.{RefusesOnly, RefusesBy};
+ghost use Rattle.ical_values.specs.Octets.{address_octets};
+ghost use Rattle.profile.specs.faults.Faults.{is_between};
+ghost use Rattle.profile.specs.events.Events.{Event};
+ghost use Rattle.profile.specs.events.Meetings.{is_master};
+ghost use Rattle.profile.specs.events.Starts.{EndsAt};
+ghost use Rattle.profile.specs.series.Zones.{IsNearEpoch};
+ghost use Rattle.profile.specs.events.Confirmed.{is_kept, AreConfirmed, MastersDiffer, OverridesDiffer};
+ghost use Rattle.cal_events.specs.Events.{event_of};
+ghost use Rattle.cal_events.specs.Calendars.{key_of, AreWithin};
+ghost use Rattle.cal_events.specs.Drafts.{entry_said, name_said, AreOwnAt, IsDraft, IsSaid, AreSorted, AreInOrder, master_keys, override_keys, is_shown_in, AreShown, IsTwoOf};
+ghost use Rattle.cal_events.specs.declared.calendar.Single.{Single};
+
+use crate::calendar::{Calendar, Entry, Single};
+use crate::component::{EventComponent, ParticipationStatus};
+use crate::instance::InstanceKey;
+use crate::single_starts::single_starts;
+use ical_lines::{Fault, Refusal};
+use ical_values::Address;
+use std::alloc::{AllocError, Global};
+
+/// The VEVENTs so far, and what would be confirmed of them if no override hid a start.
+#[derive(Drop)]
+pub(crate) struct Draft {
+    entries: Vec<Entry>,
+    singles: Vec<Single>,
+    series: Vec<EventComponent>,
+}
+
+impl Draft {
+    /// Without VEVENTs.
+    pub(crate) fn new(alloc: Global) -> Draft
+        ensures { (room : List ℕ) → IsDraft room [] result }
+    {
+        Draft {
+            entries: Vec::new(alloc),
+            singles: Vec::new(alloc),
+            series: Vec::new(alloc),
+        }
+    }
+
+    /// Takes the next VEVENT, for a room. After an error it may have been taken in part.
+    pub(crate) fn add(
+        &mut self,
+        alloc: Global,
+        event: EventComponent,
+        room: &Address,
+    ) -> Result<(), AllocError>
+        requires { IsSaid (event_of event) }
+        ensures { (events : List Event) → IsDraft (address_octets room.now) events self.old → OnOk result (IsDraft (address_octets room.now) (events ++ event_of event ∷ []) self.new) }
+    {
+        let kept = is_kept(&event, room);
+        if kept {
+            add_singles(alloc, &mut self.singles, self.entries.len(), &event)?;
+        }
+        self.entries.push(entry_of(alloc, &event)?)?;
+        if kept && is_series(&event) {
+            self.series.push(event)?;
+        }
+        Ok(())
+    }
+
+    /// The calendar of these VEVENTs.
+    /// Refused: 53 for two masters of one meeting, 54 for two overrides of one instance. In time n log n.
+    pub(crate) fn into_calendar(self, alloc: Global) -> Result<Calendar, Fault>
+        requires { (room : List ℕ) × (events : List Event) × IsDraft room events self }
+        ensures masters { (room : List ℕ) (events : List Event) → IsDraft room events self → IfOk result (λ _. MastersDiffer events × OverridesDiffer events) }
+        ensures are { (room : List ℕ) (events : List Event) → IsDraft room events self → IfOk result (AreConfirmed room events) }
+        ensures refuses { IfErr result (RefusesOnly (is_between 53 54)) }
+        ensures stands { (room : List ℕ) (events : List Event) → IsDraft room events self → IfErr result (RefusesBy (IsTwoOf events)) }
+    {
+        let Draft {
+            entries,
+            singles,
+            series,
+        } = self;
+        if has_equal_neighbours(&keys_of_masters(alloc, &entries)?) {
+            return Err(Fault::Refused(Refusal::TWO_MASTERS));
+        }
+        let singles = shown(alloc, &entries, singles)?;
+        Ok(Calendar {
+            entries,
+            singles,
+            series,
+        })
+    }
+}
+
+/// The singles that no override hides.
+/// Refused: 54 for two overrides of one instance.
+fn shown(alloc: Global, entries: &[Entry], singles: Vec<Single>) -> Result<Vec<Single>, Fault>
+    requires { AreWithin entries.now singles.items }
+    ensures differ { IfOk result (λ _. AllPairs ◌≢◌ (override_keys entries.now)) }
+    ensures shown { IfOk result (λ left. AreShown entries.now singles.items left.items) }
+    ensures stands { IfErr result (RefusesBy (λ n. (n ≡ 54) × (AllPairs ◌≢◌ (override_keys entries.now) → ⊥))) }
+{
+    let overrides = keys_of_overrides(alloc, entries)?;
+    if has_equal_neighbours(&overrides) {
+        return Err(Fault::Refused(Refusal::TWO_OVERRIDES));
+    }
+    Ok(without_hidden(alloc, entries, singles, &overrides)?)
+}
+
+/// Those that none of the overrides hides. It fails only for memory.
+fn without_hidden(
+    alloc: Global,
+    entries: &[Entry],
+    singles: Vec<Single>,
+    overrides: &[InstanceKey<'_>],
+) -> Result<Vec<Single>, AllocError>
+    requires within { AreWithin entries.now singles.items }
+    requires sorted { AreInOrder overrides.now }
+    ensures { IfOk result (λ left. left.items ≡ filter (is_shown_in entries.now (map key_of overrides.now)) singles.items) }
+{
+    if overrides.is_empty() {
+        return Ok(singles);
+    }
+    let mut left = Vec::new(alloc);
+    for single in singles {
+        if is_shown(entries, overrides, single) {
+            left.push(single)?;
+        }
+    }
+    Ok(left)
+}
+
+/// Whether the room has accepted an event that isn't cancelled.
+fn is_kept(event: &EventComponent, room: &Address) -> bool
+    ensures { result ≡ is_kept (address_octets room.now) (event_of event.now) }
+{
+    match event.status_of(room) {
+        Some(ParticipationStatus::Accepted) => !event.cancelled,
+        _ => false,
+    }
+}
+
+/// Whether it is a master with RRULE.
+fn is_series(event: &EventComponent) -> bool
+    ensures { result ≡ is_master (event_of event.now) && is_some event.now.rule }
+{
+    event.recurrence.is_none() && event.rule.is_some()
+}
+
+fn entry_of(alloc: Global, event: &EventComponent) -> Result<Entry, AllocError>
+    ensures { IfOk result (λ entry. entry_said entry ≡ name_said (event_of event.now)) }
+{
+    Ok(Entry {
+        organiser: organiser_of(alloc, event)?,
+        uid: event.uid.clone()?,
+        recurrence: event.recurrence,
+    })
+}
+
+/// The address of an event's organiser; the empty one where ORGANIZER is missing.
+fn organiser_of(alloc: Global, event: &EventComponent) -> Result<Address, AllocError>
+    ensures { IfOk result (λ address. address_octets address ≡ unwrap_or (event_of event.now).organiser []) }
+{
+    match &event.organiser {
+        Some(organiser) => organiser.clone(),
+        None => Ok(Address::empty(alloc)),
+    }
+}
+
+/// Appends the singles of an event, which stands at that place, by start.
+fn add_singles(
+    alloc: Global,
+    singles: &mut Vec<Single>,
+    entry: usize,
+    event: &EventComponent,
+) -> Result<(), AllocError>
+    requires { IsSaid (event_of event.now) }
+    ensures { (room : List ℕ) → is_kept room (event_of event.now) ≡ true
+        → OnOk result ((own : List Single) × (singles.new.items ≡ singles.old.items ++ own) × AreOwnAt room entry (event_of event.now) own) }
+{
+    match event.recurrence {
+        Some(slot) => {
+            let start = event.times.instant.instant();
+            singles.push(single_at(entry, event, slot, start))?;
+        }
+        None => {
+            for start in single_starts(alloc, event)? {
+                singles.push(single_at(entry, event, start, start))?;
+            }
+        }
+    }
+    Ok(())
+}
+
+/// The instance of an event at a start, with that slot.
+fn single_at(entry: usize, event: &EventComponent, slot: i64, start: i64) -> Single
+    requires { IsNearEpoch start }
+    ensures place { (result.entry ≡ entry) × (result.slot ≡ slot) × (result.start ≡ start) }
+    ensures ends { EndsAt (event_of event.now).times start result.end }
+{
+    Single {
+        entry,
+        slot,
+        start,
+        end: event.times.end_from(start),
+    }
+}
+
+/// The keys of the masters, with slot 0, in order.
+fn keys_of_masters(alloc: Global, entries: &[Entry]) -> Result<Vec<InstanceKey<'_>>, AllocError>
+    ensures { IfOk result (λ keys. AreSorted (master_keys entries.now) keys.items) }
+{
+    let mut keys = Vec::new(alloc);
+    for entry in entries {
+        if entry.recurrence.is_none() {
+            keys.push(entry.key_at(0))?;
+        }
+    }
+    keys.sort_unstable();
+    Ok(keys)
+}
+
+/// The keys of the instances that overrides stand for, in order.
+fn keys_of_overrides(alloc: Global, entries: &[Entry]) -> Result<Vec<InstanceKey<'_>>, AllocError>
+    ensures { IfOk result (λ keys. AreSorted (override_keys entries.now) keys.items) }
+{
+    let mut keys = Vec::new(alloc);
+    for entry in entries {
+        if let Some(slot) = entry.recurrence {
+            keys.push(entry.key_at(slot))?;
+        }
+    }
+    keys.sort_unstable();
+    Ok(keys)
+}
+
+fn has_equal_neighbours(sorted: &[InstanceKey<'_>]) -> bool
+    requires { AreInOrder sorted.now }
+    ensures { MatchBool result (AllPairs ◌≢◌ (map key_of sorted.now) → ⊥) (AllPairs ◌≢◌ (map key_of sorted.now)) }
+{
+    for next in 1..sorted.len() {
+        if sorted[next - 1] == sorted[next] {
+            return true;
+        }
+    }
+    false
+}
+
+/// Whether a single is an override's, or no override stands for its start.
+fn is_shown(entries: &[Entry], overrides: &[InstanceKey<'_>], single: Single) -> bool
+    requires within { single.entry < length entries.now }
+    requires sorted { AreInOrder overrides.now }
+    ensures { result ≡ is_shown_in entries.now (map key_of overrides.now) single }
+{
+    let entry = &entries[single.entry];
+    entry.recurrence.is_some() || overrides.binary_search(&entry.key_at(single.slot)).is_err()
+}
