@@ -1,19 +1,34 @@
 -- A calendar while its VEVENTs are read: one more VEVENT, and what overrides hide in the end.
-use Rattle.std.proofs.Common.{◌≡◌, ◌≢◌, ◌∙◌, ℕ, zero, suc, ◌+◌, ◌<◌, Bool, true, false, cond, List, [], ◌∷◌, ◌++◌, map, filter, length, get_or, subst, sym, refl, ap, inl, inr, ◌⊎◌, arith, ℤ, pos, ◌<ℤ◌}
-use Rattle.std.specs.Prelude.{Option, Some, None, All, AllPairs, Contains, is_some, ◌&&◌, ◌||◌, ◌==◌}
-use Rattle.std.specs.List.{AllZip, flat_map}
+use Rattle.std.proofs.Common.{◌≡◌, ◌≢◌, ◌∙◌, ℕ, zero, suc, ◌+◌, ◌-◌, ◌<◌, Bool, true, false, cond, List, [], ◌∷◌, ◌++◌, map, filter, length, get_or, subst, sym, refl, ap, inl, inr, ◌⊎◌, arith, ℤ, pos, ◌<ℤ◌, Ordering}
+use Rattle.std.specs.Prelude.{Option, Some, None, All, AllPairs, Contains, is_some, not, ◌&&◌, ◌||◌, ◌==◌}
+use Rattle.std.specs.List.{AllZip, flat_map, filter_map, list_any}
 use Rattle.std.proofs.lemmas.Bool.{true≢false, false≢true}
+use Rattle.std.proofs.lemmas.Bool.Decides.{nat_tests}
 use Rattle.std.proofs.lemmas.Int.{ints}
-use Rattle.std.proofs.lemmas.List.{map-append, append_assoc, append-nil, get_or-map}
-use Rattle.std.proofs.lemmas.List.Elements.{All-nil, All-cons, All-contains, filter-append}
-use Rattle.profile.specs.checker.Instances.{Key, Booked}
+use Rattle.std.proofs.lemmas.List.{map-append, append_assoc, append-nil, get_or-map, get_or_default, length-map, length-append, get_or-append_right}
+use Rattle.std.proofs.lemmas.List.Elements.{All-nil, All-cons, All-tail, All-append, All-contains, All-filter, filter-append}
+use Rattle.std.proofs.lemmas.List.Kept.{AllPairs-filter}
+use Rattle.std.proofs.lemmas.List.Folds.{list_any_at}
+use Rattle.std.proofs.lemmas.List.Sorted.{Contains-permutation, IsPermutation-sym}
+use Rattle.std.specs.List.Sorted.{IsPermutation}
+use Rattle.std.specs.Ordering.{is_eq}
+use Rattle.std.specs.declared.cmp.Ordering.TheVariants.{Less, Equal, Greater}
+use Rattle.profile.specs.checker.Instances.{Key, Booked, key_cmp}
 use Rattle.profile.specs.events.Events.{Event, meeting_said}
-use Rattle.profile.specs.events.Confirmed.{is_kept, is_series}
-use Rattle.cal_events.specs.Calendars.{Meeting, key_of, key_in, meeting_of, meeting_at, booked_as}
-use Rattle.cal_events.specs.Drafts.{name_said, IsOwn, AreOwn, AreOwnAt, AreDrawn, recurrence_at, is_shown_in}
+use Rattle.profile.specs.events.Meetings.{is_master}
+use Rattle.profile.specs.events.Starts.{IsInstance, ComesBefore}
+use Rattle.profile.specs.events.Confirmed.{alone, is_kept, is_series, IsReplaced, IsSingle, AreSingles}
+use Rattle.cal_events.specs.Calendars.{Meeting, key_of, key_in, meeting_of, meeting_at, booked_as, booked_in}
+use Rattle.cal_events.specs.Drafts.{entry_said, name_said, override_key, override_keys, IsOwn, AreOwn, AreOwnAt, AreDrawn, IsDraft, recurrence_at, is_shown_in}
 use Rattle.cal_events.specs.declared.calendar.Entry.{Entry}
 use Rattle.cal_events.specs.declared.instance.InstanceKey.{InstanceKey}
 use Rattle.cal_events.specs.declared.calendar.Single.{Single}
+use Rattle.cal_events.specs.declared.draft.Draft.{Draft}
+use Rattle.cal_events.specs.Events.{event_of}
+use Rattle.cal_events.proofs.InOneOrder.{later, none_in, head_pairs, tail_pairs, cons_pairs}
+use Rattle.cal_events.proofs.KeyLemmas.{key_exact, key_itself}
+use Rattle.cal_events.proofs.DraftKeys.{replaced_key, key_replaced, entry_overrides}
+use Rattle.cal_events.proofs.OwnSingles.{of_both, master_alone, not_a_master}
 
 -- ---- one VEVENT more
 
@@ -51,10 +66,232 @@ module _ (entries : List Entry) (k : ℕ) (e : Entry) (w : k < length entries) (
 
 -- without overrides all are shown
 pub none_hidden : (entries : List Entry) (overrides : List InstanceKey) (singles : List Single) → (length overrides == 0) ≡ true → singles ≡ filter (is_shown_in entries (map key_of overrides)) singles
-none_hidden entries (o ∷ os) singles h = absurd (false≢true h)
+none_hidden entries (o ∷ os) singles h = absurd (grind (arith, nat_tests, h))
 none_hidden entries [] [] h = refl
 none_hidden entries [] (s ∷ ss) h = shown (is_some (recurrence_at entries s.entry)) (none_hidden entries [] ss h)
   where
     shown : (b : Bool) → ss ≡ filter (is_shown_in entries []) ss → s ∷ ss ≡ cond (b || true) (s ∷ filter (is_shown_in entries []) ss) (filter (is_shown_in entries []) ss)
     shown true e = ap (λ (l : List Single). s ∷ l) e
     shown false e = ap (λ (l : List Single). s ∷ l) e
+
+-- ---- one VEVENT more, with all that it adds
+
+module _ (room : List ℕ) (events : List Event) (event : Event) (old new : Draft) (draft : IsDraft room events old) where
+  as_many : length old.entries.items ≡ length events
+  as_many = sym (length-map old.entries.items entry_said) ∙ ap length draft.entries ∙ length-map events name_said
+
+  pub draft_more : (entry : Entry) (own : List Single) → new.entries.items ≡ old.entries.items ++ entry ∷ [] → entry_said entry ≡ name_said event → new.singles.items ≡ old.singles.items ++ own
+      → AreOwnAt room (length old.entries.items) event own → map event_of new.series.items ≡ map event_of old.series.items ++ cond (is_series room event) (event ∷ []) [] → IsDraft room (events ++ event ∷ []) new
+  draft_more entry own e said s at series = record {
+    entries =
+        ap (map entry_said) e ∙ map-append entry_said old.entries.items (entry ∷ []) ∙ ap (λ l. l ++ entry_said entry ∷ []) draft.entries
+        ∙ ap (λ n. map name_said events ++ n ∷ []) said ∙ sym (map-append name_said events (event ∷ []));
+    series = series ∙ ap (λ l. l ++ cond (is_series room event) (event ∷ []) []) draft.series ∙ sym (filter-append (is_series room) events (event ∷ []));
+    singles =
+        subst (AreDrawn room 0 (events ++ event ∷ [])) (sym s)
+        (drawn_push room 0 events event old.singles.items own draft.singles (subst (λ (n : ℕ). AreOwnAt room n event own) (omega (arith, as_many)) at));
+  }
+
+pub within_all : (room : List ℕ) (place : ℕ) (events : List Event) (singles : List Single) → AreDrawn room place events singles → All (λ s. s.entry < place + length events) singles
+within_all room place [] singles e = subst (All (λ s. s.entry < place + 0)) (sym e) (All-nil (λ s. s.entry < place + 0))
+within_all room place (x ∷ events) singles (own, rest, e, at, more) =
+    subst (All (λ s. s.entry < place + suc (length events))) (sym e)
+    (All-append (λ s. s.entry < place + suc (length events)) own rest
+    (λ k d w. let l = at.at k d w in omega (arith, l))
+    (λ k d w. let l = within_all room (suc place) events rest more k d w in omega (arith, l)))
+
+-- ---- what overrides hide
+
+-- elements of lists that were mapped or filtered
+in_mapped : {X Y : Type 0} (f : X → Y) (xs : List X) (x : X) → Contains xs x → Contains (map f xs) (f x)
+in_mapped f [] x c = absurd (none_in x c)
+in_mapped f (y ∷ ys) x (zero, w, e) = (zero, omega arith, ap f e)
+in_mapped f (y ∷ ys) x (suc k, w, e) = later (f y) (f x) (map f ys) (in_mapped f ys x (k, omega (arith, w), e))
+
+of_mapped : {X Y : Type 0} (f : X → Y) (xs : List X) (y : Y) → Contains (map f xs) y → (x : X) × Contains xs x × (f x ≡ y)
+of_mapped f [] y c = absurd (none_in y c)
+of_mapped f (x ∷ xs) y (zero, w, e) = (x, (zero, omega arith, refl), e)
+of_mapped f (x ∷ xs) y (suc k, w, e) = let r = of_mapped f xs y (k, omega (arith, w), e) in (r.0, later x r.0 xs r.1, r.2)
+
+in_filtered : {X : Type 0} (p : X → Bool) (xs : List X) (x : X) → Contains xs x → p x ≡ true → Contains (filter p xs) x
+in_filtered p [] x c h = absurd (none_in x c)
+in_filtered p (y ∷ ys) x (zero, w, e) h = subst (λ (b : Bool). Contains (cond b (y ∷ filter p ys) (filter p ys)) x) (sym (ap p e ∙ h)) (zero, omega arith, e)
+in_filtered p (y ∷ ys) x (suc k, w, e) h = go (p y) (in_filtered p ys x (k, omega (arith, w), e) h)
+  where
+    go : (b : Bool) → Contains (filter p ys) x → Contains (cond b (y ∷ filter p ys) (filter p ys)) x
+    go true c = later y x (filter p ys) c
+    go false c = c
+
+of_filtered : {X : Type 0} (p : X → Bool) (xs : List X) (x : X) → Contains (filter p xs) x → Contains xs x × (p x ≡ true)
+of_filtered p [] x c = absurd (none_in x c)
+of_filtered {X} p (y ∷ ys) x c = go (p y) refl c (λ d. of_filtered p ys x d)
+  where
+    go : (b : Bool) → p y ≡ b → Contains (cond b (y ∷ filter p ys) (filter p ys)) x → (Contains (filter p ys) x → Contains ys x × (p x ≡ true)) → Contains (y ∷ ys) x × (p x ≡ true)
+    go true e (zero, w, is) rest = ((zero, omega arith, is), sym (ap p is) ∙ e)
+    go true e (suc k, w, is) rest = let r = rest (k, omega (arith, w), is) in (later y x ys r.0, r.1)
+    go false e c rest = let r = rest c in (later y x ys r.0, r.1)
+
+-- order of what was mapped
+pairs_mapped : {X Y : Type 0} (R : Y → Y → Type 0) (f : X → Y) (xs : List X) → AllPairs (λ a b. R (f a) (f b)) xs → AllPairs R (map f xs)
+pairs_mapped R f [] p = λ i j d l w. absurd (omega (arith, w))
+pairs_mapped R f (x ∷ xs) p =
+    cons_pairs R (f x) (map f xs)
+    (λ y c. let r = of_mapped f xs y c in subst (R (f x)) r.2 (head_pairs (λ a b. R (f a) (f b)) x r.0 xs p r.1))
+    (pairs_mapped R f xs (tail_pairs (λ a b. R (f a) (f b)) x xs p))
+
+mapped_pairs : {X Y : Type 0} (R : Y → Y → Type 0) (f : X → Y) (xs : List X) → AllPairs R (map f xs) → AllPairs (λ a b. R (f a) (f b)) xs
+mapped_pairs R f [] p = λ i j d l w. absurd (omega (arith, w))
+mapped_pairs R f (x ∷ xs) p =
+    cons_pairs (λ a b. R (f a) (f b)) x xs (λ y c. head_pairs R (f x) (f y) (map f xs) p (in_mapped f xs y c)) (mapped_pairs R f xs (tail_pairs R (f x) (map f xs) p))
+
+same_mapped : {X Y : Type 0} (f g : X → Y) (xs : List X) → All (λ x. f x ≡ g x) xs → map f xs ≡ map g xs
+same_mapped f g [] h = refl
+same_mapped f g (x ∷ xs) h = let e = h 0 x (omega arith) in let t = same_mapped f g xs (All-tail (λ x. f x ≡ g x) x xs h) in λ i. e i ∷ t i
+
+all_filtered : {X : Type 0} (P : X → Type 0) (p : X → Bool) (xs : List X) → All P xs → All P (filter p xs)
+all_filtered P p xs h k d w = All-filter p P xs h k d w
+
+module _ (room : List ℕ) (events : List Event) (entries : List Entry) (said : map entry_said entries ≡ map name_said events) (keys : List Key) (same : IsPermutation (override_keys entries) keys) where
+  abbrev shown : Single → Bool
+  shown = is_shown_in entries keys
+
+  -- what stands at a place of the entries
+  name_at : (k : ℕ) (event : Event) → k < length events → get_or events k event ≡ event → (recurrence_at entries k ≡ event.recurrence) × (meeting_at entries k ≡ meeting_said event)
+  name_at k event w e =
+      let many : length entries ≡ length events = sym (length-map entries entry_said) ∙ ap length said ∙ length-map events name_said in
+      let l : k < length entries = omega (arith, w, many) in
+      let n : get_or (map entry_said entries) k (name_said event) ≡ name_said event = ap (λ l. get_or l k (name_said event)) said ∙ get_or-map name_said events k event (name_said event) w ∙ ap name_said e in
+      let first = some_entry entries l in
+      let at : entry_said (get_or entries k first) ≡ name_said event = sym (get_or-map entry_said entries k first (name_said event) l) ∙ n in
+      (get_or-map (λ (x : Entry). x.recurrence) entries k first None l ∙ ap (λ (x : Meeting × Option ℤ). x.1) at, get_or-map meeting_of entries k first ([], []) l ∙ ap (λ (x : Meeting × Option ℤ). x.0) at)
+    where
+      some_entry : (xs : List Entry) → k < length xs → Entry
+      some_entry [] w = absurd (omega (arith, w))
+      some_entry (x ∷ xs) w = x
+
+  -- a single is shown where no override stands for its slot
+  module _ (k : ℕ) (event : Event) (w : k < length events) (e : get_or events k event ≡ event) (s : Single) (at : s.entry ≡ k) where
+    abbrev own : Key
+    own = key_in (meeting_said event) s.slot
+
+    replaced_at : Contains (override_keys entries) own → IsReplaced events event s.slot
+    replaced_at c =
+        let r = replaced_key events own (subst (λ (ks : List Key). Contains ks own) (entry_overrides entries events said) c) in
+        let same_slot : s.slot ≡ r.2.0 = ap (λ (key : Key). key.slot) r.2.2 in
+        record { override = r.0; among = r.1; of = sym (ap (λ (key : Key). (key.organiser, key.uid)) r.2.2); is = r.2.1 ∙ ap Some (sym same_slot) }
+
+    at_replaced : IsReplaced events event s.slot → Contains (override_keys entries) own
+    at_replaced r =
+        subst (λ (ks : List Key). Contains ks own) (sym (entry_overrides entries events said))
+        (subst (Contains (filter_map override_key (map name_said events))) (ap (λ m. key_in m s.slot) r.of) (key_replaced events r.override s.slot r.among r.is))
+
+    found : list_any (λ key. is_eq (key_cmp key own)) keys ≡ true → IsReplaced events event s.slot
+    found h =
+        let r = any_key keys h in
+        replaced_at (Contains-permutation keys (override_keys entries) own (IsPermutation-sym (override_keys entries) keys same) (subst (Contains keys) (key_exact r.0 own r.2) r.1))
+      where
+        any_key : (ks : List Key) → list_any (λ key. is_eq (key_cmp key own)) ks ≡ true → (x : Key) × Contains ks x × (key_cmp x own ≡ Equal)
+        any_key [] h = absurd (false≢true h)
+        any_key (x ∷ xs) h = go (key_cmp x own) refl h (λ t. any_key xs t)
+          where
+            go : (r : Ordering) → key_cmp x own ≡ r → (is_eq r || list_any (λ key. is_eq (key_cmp key own)) xs) ≡ true
+                → (list_any (λ key. is_eq (key_cmp key own)) xs ≡ true → (y : Key) × Contains xs y × (key_cmp y own ≡ Equal)) → (y : Key) × Contains (x ∷ xs) y × (key_cmp y own ≡ Equal)
+            go Less e h rest = let r = rest h in (r.0, later x r.0 xs r.1, r.2)
+            go Equal e h rest = (x, (zero, omega arith, refl), e)
+            go Greater e h rest = let r = rest h in (r.0, later x r.0 xs r.1, r.2)
+
+    lost : IsReplaced events event s.slot → list_any (λ key. is_eq (key_cmp key own)) keys ≡ true
+    lost r =
+        let c = Contains-permutation (override_keys entries) keys own same (at_replaced r) in
+        list_any_at (λ key. is_eq (key_cmp key own)) keys c.0 own c.1 (ap (λ key. is_eq (key_cmp key own)) c.2 ∙ ap is_eq (key_itself own))
+
+    decided : shown s ≡ (is_some event.recurrence || not (list_any (λ key. is_eq (key_cmp key own)) keys))
+    decided =
+        let n = name_at k event w e in
+        ap (λ j. is_some (recurrence_at entries j) || not (list_any (λ key. is_eq (key_cmp key (key_in (meeting_at entries j) s.slot))) keys)) at
+        ∙ ap (λ r. is_some r || not (list_any (λ key. is_eq (key_cmp key (key_in (meeting_at entries k) s.slot))) keys)) n.0
+        ∙ ap (λ m. is_some event.recurrence || not (list_any (λ key. is_eq (key_cmp key (key_in m s.slot))) keys)) n.1
+
+    pub shown_so : shown s ≡ true → is_master event ≡ true → IsReplaced events event s.slot → ⊥
+    shown_so h master r = both (is_some event.recurrence) _ master (sym decided ∙ h) (lost r)
+      where
+        both : (a b : Bool) → not a ≡ true → (a || not b) ≡ true → b ≡ true → ⊥
+        both true b m h t = false≢true m
+        both false true m h t = false≢true h
+        both false false m h t = false≢true t
+
+    pub so_shown : (is_master event ≡ true → IsReplaced events event s.slot → ⊥) → shown s ≡ true
+    so_shown h = decided ∙ either (is_some event.recurrence) _ (λ m t. h m (found t))
+      where
+        either : (a b : Bool) → (not a ≡ true → b ≡ true → ⊥) → (a || not b) ≡ true
+        either true b h = refl
+        either false true h = absurd (h refl refl)
+        either false false h = refl
+
+  -- those of one event that are shown
+  shown_list : (k : ℕ) (event : Event) → k < length events → get_or events k event ≡ event → (own : List Single) → AreOwnAt room k event own
+      → AreSingles room events event (map (booked_as (meeting_said event)) (filter shown own))
+  shown_list k event w e own h = record {
+    each = λ i d v. one (get_or (map f (filter shown own)) i d) (of_mapped f (filter shown own) (get_or (map f (filter shown own)) i d) (i, v, get_or_default (map f (filter shown own)) i _ d v));
+    ordered = pairs_mapped ComesBefore f (filter shown own) (AllPairs-filter (λ a b. ComesBefore (f a) (f b)) shown own (mapped_pairs ComesBefore f own h.are.ordered));
+    all = all;
+  }
+    where
+      f : Single → Booked
+      f = booked_as (meeting_said event)
+
+      -- of a master the slot is the start
+      own_start : (s : Single) → IsInstance (alone event) (booked_as (meeting_said event) s) → is_master event ≡ true → s.slot ≡ s.start
+      own_start s is master = go (of_both event)
+        where
+          go : (event.recurrence ≡ None) ⊎ ((slot : ℤ) × (event.recurrence ≡ Some slot)) → s.slot ≡ s.start
+          go (inl none) = ap (λ (key : Key). key.slot) (master_alone event (booked_as (meeting_said event) s) none is).key
+          go (inr (slot, some)) = absurd (not_a_master event slot some master)
+
+      entry_of_it : (s : Single) → Contains own s → s.entry ≡ k
+      entry_of_it s c = All-contains (λ x. x.entry ≡ k) own s h.at c
+
+      one : (b : Booked) → (s : Single) × Contains (filter shown own) s × (booked_as (meeting_said event) s ≡ b) → IsSingle room events event b
+      one b (s, c, is) =
+          let there = of_filtered shown own s c in
+          let own_one = All-contains (IsOwn room event) (map (booked_as (meeting_said event)) own) (booked_as (meeting_said event) s) h.are.each (in_mapped (booked_as (meeting_said event)) own s there.0) in
+          subst (IsSingle room events event) is (record {
+            kept = own_one.kept;
+            is = record {
+              is = own_one.is;
+              shown = λ master r. shown_so k event w e s (entry_of_it s there.0) there.1 master (subst (IsReplaced events event) (sym (own_start s own_one.is master)) r);
+            };
+            apart = own_one.apart;
+          })
+
+      all : (b : Booked) → IsSingle room events event b → Contains (map (booked_as (meeting_said event)) (filter shown own)) b
+      all b single =
+          let r = of_mapped (booked_as (meeting_said event)) own b (h.are.all b (record { kept = single.kept; is = single.is.is; apart = single.apart })) in
+          let s = r.0 in
+          let is = subst (IsInstance (alone event)) (sym r.2) single.is.is in
+          subst (Contains (map (booked_as (meeting_said event)) (filter shown own))) r.2
+          (in_mapped (booked_as (meeting_said event)) (filter shown own) s (in_filtered shown own s r.1 (so_shown k event w e s (entry_of_it s r.1) (λ master x.
+          single.is.shown master (subst (IsReplaced events event) (own_start s is master ∙ ap (λ (y : Booked). y.start) r.2) x)))))
+
+  -- of all of them
+  pub shown_lists : (front es : List Event) → events ≡ front ++ es → (singles : List Single) → AreDrawn room (length front) es singles
+      → (lists : List (List Booked)) × AllZip (AreSingles room events) es lists × (map (booked_in entries) (filter shown singles) ≡ flat_map (λ own. own) lists)
+  shown_lists front [] whole singles none = ([], tt, ap (λ l. map (booked_in entries) (filter shown l)) none)
+  shown_lists front (event ∷ es) whole singles (own, rest, is, at, more) =
+      let k = length front in
+      let none_left : k - k ≡ 0 = omega arith in
+      let w : k < length events = omega (arith, ap length whole, length-append front (event ∷ es)) in
+      let e : get_or events k event ≡ event = ap (λ l. get_or l k event) whole ∙ get_or-append_right front (event ∷ es) k k event refl (omega arith) ∙ ap (λ n. get_or (event ∷ es) n event) none_left in
+      let after : events ≡ (front ++ event ∷ []) ++ es = whole ∙ sym (append_assoc front (event ∷ []) es) in
+      let next : suc k ≡ length (front ++ event ∷ []) = omega (arith, length-append front (event ∷ [])) in
+      let r = shown_lists (front ++ event ∷ []) es after rest (subst (λ (n : ℕ). AreDrawn room n es rest) next more) in
+      let n = name_at k event w e in
+      let booked : map (booked_in entries) (filter shown own) ≡ map (booked_as (meeting_said event)) (filter shown own) =
+      same_mapped (booked_in entries) (booked_as (meeting_said event)) (filter shown own)
+      (all_filtered (λ s. booked_in entries s ≡ booked_as (meeting_said event) s) shown own (λ i d v. ap (λ m. booked_as m (get_or own i d)) (ap (meeting_at entries) (at.at i d v) ∙ n.1))) in (
+        map (booked_as (meeting_said event)) (filter shown own) ∷ r.0,
+        (shown_list k event w e own at, r.1),
+        ap (λ l. map (booked_in entries) (filter shown l)) is ∙ ap (map (booked_in entries)) (filter-append shown own rest)
+            ∙ map-append (booked_in entries) (filter shown own) (filter shown rest)
+            ∙ ap (λ l. l ++ map (booked_in entries) (filter shown rest)) booked ∙ ap (λ l. map (booked_as (meeting_said event)) (filter shown own) ++ l) r.2,
+      )

@@ -33,6 +33,14 @@ key_exact a b e =
     (exact_pairs (slice_cmp nat_cmp) (λ (x y : List ℕ × ℤ). ordering_then (slice_cmp nat_cmp x.0 y.0) (int_cmp x.1 y.1)) exact_bytes
     (exact_pairs (slice_cmp nat_cmp) int_cmp exact_bytes exact_signed) (a.organiser, (a.uid, a.slot)) (b.organiser, (b.uid, b.slot)) e)
 
+pub key_itself : (k : Key) → key_cmp k k ≡ Equal
+key_itself k = go (key_cmp k k) (key_total.antisymm k k)
+  where
+    go : (r : Ordering) → r ≡ ordering_reverse r → r ≡ Equal
+    go Less e = cc
+    go Equal e = refl
+    go Greater e = cc
+
 -- neither is less than the other
 tie : (a b : Key) → is_lt (key_cmp a b) ≡ false → is_lt (key_cmp b a) ≡ false → a ≡ b
 tie a b f g = go (key_cmp a b) refl

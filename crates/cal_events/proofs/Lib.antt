@@ -27,6 +27,7 @@ pub mod ZonedLemmas
 pub mod KeyLemmas
 pub mod InOneOrder
 pub mod DraftKeys
+pub mod OwnSingles
 pub mod DraftLemmas
 pub mod ClashLemmas
 pub mod Distinct

@@ -122,8 +122,8 @@ module _ (master : Event) (hidden : List ℤ) (instant : ℤ) (r : Bool) (same :
       neither false h = refl
 
   pub not_left_over : r ≡ false → IsTrue r ↔ (IsNamed instant × (Contains hidden instant → ⊥)) → IsTrue r ↔ IsLeftOver master instant
-  not_left_over no starts = (
-    (λ h. absurd (true≢false (sym h ∙ no))),
+  not_left_over isnt starts = (
+    (λ h. absurd (true≢false (sym h ∙ isnt))),
     λ h. starts.1 (h.0, λ c. h.1 (Contains-permutation hidden master.exceptions instant (IsPermutation-sym master.exceptions hidden same) c)),
   )
 

@@ -51,12 +51,13 @@ impl Draft {
         requires { IsSaid (event_of event) }
         ensures { (events : List Event) → IsDraft (address_octets room.now) events self.old → OnOk result (IsDraft (address_octets room.now) (events ++ event_of event ∷ []) self.new) }
     {
-        let kept = is_kept(&event, room);
-        if kept {
-            add_singles(alloc, &mut self.singles, self.entries.len(), &event)?;
-        }
+        let place = self.entries.len();
         self.entries.push(entry_of(alloc, &event)?)?;
-        if kept && is_series(&event) {
+        if !is_kept(&event, room) {
+            return Ok(());
+        }
+        add_singles(alloc, &mut self.singles, place, &event)?;
+        if is_series(&event) {
             self.series.push(event)?;
         }
         Ok(())
@@ -118,9 +119,9 @@ fn without_hidden(
         return Ok(singles);
     }
     let mut left = Vec::new(alloc);
-    for single in singles {
-        if is_shown(entries, overrides, single) {
-            left.push(single)?;
+    for single in &singles {
+        if is_shown(entries, overrides, *single) {
+            left.push(*single)?;
         }
     }
     Ok(left)
@@ -180,8 +181,9 @@ fn add_singles(
             singles.push(single_at(entry, event, slot, start))?;
         }
         None => {
-            for start in single_starts(alloc, event)? {
-                singles.push(single_at(entry, event, start, start))?;
+            let starts = single_starts(alloc, event)?;
+            for start in &starts {
+                singles.push(single_at(entry, event, *start, *start))?;
             }
         }
     }
