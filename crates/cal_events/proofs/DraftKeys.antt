@@ -158,8 +158,18 @@ module _ (events : List Event) where
   key_replaced o slot c e = there_key override_key events o (key_in (meeting_said o) slot) c (said_override o slot e)
 
 -- the same of the entries
-pub entry_masters : (entries : List Entry) (events : List Event) → map entry_said entries ≡ map name_said events → master_keys entries ≡ filter_map master_key (map name_said events)
-entry_masters entries events e = ap (filter_map master_key) e
+module _ (entries : List Entry) (events : List Event) (e : map entry_said entries ≡ map name_said events) where
+  pub entry_overrides : override_keys entries ≡ filter_map override_key (map name_said events)
+  entry_overrides = ap (filter_map override_key) e
 
-pub entry_overrides : (entries : List Entry) (events : List Event) → map entry_said entries ≡ map name_said events → override_keys entries ≡ filter_map override_key (map name_said events)
-entry_overrides entries events e = ap (filter_map override_key) e
+  pub masters_there : AllPairs ◌≢◌ (master_keys entries) → MastersDiffer events
+  masters_there p = masters_differ events (subst (λ (ks : List Key). AllPairs ◌≢◌ ks) (ap (filter_map master_key) e) p)
+
+  pub there_masters : MastersDiffer events → AllPairs ◌≢◌ (master_keys entries)
+  there_masters h = subst (λ (ks : List Key). AllPairs ◌≢◌ ks) (sym (ap (filter_map master_key) e)) (differ_masters events h)
+
+  pub overrides_there : AllPairs ◌≢◌ (override_keys entries) → OverridesDiffer events
+  overrides_there p = overrides_differ events (subst (λ (ks : List Key). AllPairs ◌≢◌ ks) entry_overrides p)
+
+  pub there_overrides : OverridesDiffer events → AllPairs ◌≢◌ (override_keys entries)
+  there_overrides h = subst (λ (ks : List Key). AllPairs ◌≢◌ ks) (sym entry_overrides) (differ_overrides events h)

@@ -1,11 +1,11 @@
 -- A calendar while its VEVENTs are read: one more VEVENT, and what overrides hide in the end.
-use Rattle.std.proofs.Common.{◌≡◌, ◌≢◌, ◌∙◌, ℕ, zero, suc, ◌+◌, ◌-◌, ◌<◌, Bool, true, false, cond, List, [], ◌∷◌, ◌++◌, map, filter, length, get_or, subst, sym, refl, ap, inl, inr, ◌⊎◌, arith, ℤ, pos, ◌<ℤ◌, Ordering}
-use Rattle.std.specs.Prelude.{Option, Some, None, All, AllPairs, Contains, is_some, not, ◌&&◌, ◌||◌, ◌==◌}
+use Rattle.std.proofs.Common.{◌≡◌, ◌≢◌, ◌∙◌, ℕ, zero, suc, ◌+◌, ◌-◌, ◌<◌, Bool, true, false, cond, List, [], ◌∷◌, ◌++◌, map, filter, take, length, get_or, subst, sym, refl, ap, inl, inr, ◌⊎◌, arith, ℤ, pos, ◌<ℤ◌, Ordering}
+use Rattle.std.specs.Prelude.{Option, Some, None, All, AllPairs, Contains, Result, Ok, Err, IfOk, IfErr, is_some, not, ◌&&◌, ◌||◌, ◌==◌}
 use Rattle.std.specs.List.{AllZip, flat_map, filter_map, list_any}
 use Rattle.std.proofs.lemmas.Bool.{true≢false, false≢true}
 use Rattle.std.proofs.lemmas.Bool.Decides.{nat_tests}
 use Rattle.std.proofs.lemmas.Int.{ints}
-use Rattle.std.proofs.lemmas.List.{map-append, append_assoc, append-nil, get_or-map, get_or_default, length-map, length-append, get_or-append_right}
+use Rattle.std.proofs.lemmas.List.{map-append, take_more, append_assoc, append-nil, get_or-map, get_or_default, length-map, length-append, get_or-append_right}
 use Rattle.std.proofs.lemmas.List.Elements.{All-nil, All-cons, All-tail, All-append, All-contains, All-filter, filter-append}
 use Rattle.std.proofs.lemmas.List.Kept.{AllPairs-filter}
 use Rattle.std.proofs.lemmas.List.Folds.{list_any_at}
@@ -17,15 +17,22 @@ use Rattle.profile.specs.checker.Instances.{Key, Booked, key_cmp}
 use Rattle.profile.specs.events.Events.{Event, meeting_said}
 use Rattle.profile.specs.events.Meetings.{is_master}
 use Rattle.profile.specs.events.Starts.{IsInstance, ComesBefore}
-use Rattle.profile.specs.events.Confirmed.{alone, is_kept, is_series, IsReplaced, IsSingle, AreSingles}
-use Rattle.cal_events.specs.Calendars.{Meeting, key_of, key_in, meeting_of, meeting_at, booked_as, booked_in}
-use Rattle.cal_events.specs.Drafts.{entry_said, name_said, override_key, override_keys, IsOwn, AreOwn, AreOwnAt, AreDrawn, IsDraft, recurrence_at, is_shown_in}
+use Rattle.profile.specs.events.Confirmed.{Confirmed, alone, is_kept, is_series, IsReplaced, IsSingle, AreSingles, AreConfirmed, MastersDiffer, OverridesDiffer}
+use Rattle.cal_events.specs.Calendars.{Meeting, key_of, key_in, meeting_of, meeting_at, booked_as, booked_in, AreWithin, HaveDifferentKeys}
+use Rattle.ical_lines.specs.Fault.{RefusesBy}
+use Rattle.ical_lines.specs.declared.fault.Fault.{Fault}
+use Rattle.ical_lines.specs.declared.fault.Fault.TheVariants.{Refused, Memory}
+use Rattle.profile.specs.text.Trees.{Tree}
+use Rattle.profile.specs.checker.Calendars.{SayEvents, SaysCalendar, CalendarFault, two_masters, two_overrides}
+use Rattle.cal_events.specs.Drafts.{IsTwoOf, entry_said, name_said, override_key, override_keys, IsOwn, AreOwn, AreOwnAt, AreDrawn, IsDraft, IsMadeAt, AreShown, recurrence_at, is_shown_in}
 use Rattle.cal_events.specs.declared.calendar.Entry.{Entry}
 use Rattle.cal_events.specs.declared.instance.InstanceKey.{InstanceKey}
 use Rattle.cal_events.specs.declared.calendar.Single.{Single}
 use Rattle.cal_events.specs.declared.draft.Draft.{Draft}
 use Rattle.cal_events.specs.Events.{event_of}
 use Rattle.cal_events.proofs.InOneOrder.{later, none_in, head_pairs, tail_pairs, cons_pairs}
+use Rattle.cal_events.proofs.EventLemmas.{push_zip}
+use Rattle.cal_events.proofs.ConfirmedLemmas.{lists_apart}
 use Rattle.cal_events.proofs.KeyLemmas.{key_exact, key_itself}
 use Rattle.cal_events.proofs.DraftKeys.{replaced_key, key_replaced, entry_overrides}
 use Rattle.cal_events.proofs.OwnSingles.{of_both, master_alone, not_a_master}
@@ -91,6 +98,10 @@ module _ (room : List ℕ) (events : List Event) (event : Event) (old new : Draf
         subst (AreDrawn room 0 (events ++ event ∷ [])) (sym s)
         (drawn_push room 0 events event old.singles.items own draft.singles (subst (λ (n : ℕ). AreOwnAt room n event own) (omega (arith, as_many)) at));
   }
+
+-- a series more, or none
+pub more_series : (room : List ℕ) (event : Event) (old new : List Event) (b : Bool) → is_series room event ≡ b → new ≡ old ++ cond b (event ∷ []) [] → new ≡ old ++ cond (is_series room event) (event ∷ []) []
+more_series room event old new b h e = e ∙ ap (λ x. old ++ cond x (event ∷ []) []) (sym h)
 
 pub within_all : (room : List ℕ) (place : ℕ) (events : List Event) (singles : List Single) → AreDrawn room place events singles → All (λ s. s.entry < place + length events) singles
 within_all room place [] singles e = subst (All (λ s. s.entry < place + 0)) (sym e) (All-nil (λ s. s.entry < place + 0))
@@ -295,3 +306,52 @@ module _ (room : List ℕ) (events : List Event) (entries : List Entry) (said : 
             ∙ map-append (booked_in entries) (filter shown own) (filter shown rest)
             ∙ ap (λ l. l ++ map (booked_in entries) (filter shown rest)) booked ∙ ap (λ l. map (booked_as (meeting_said event)) (filter shown own) ++ l) r.2,
       )
+
+-- ---- the starts of a master, one after another
+
+pub made_more : (place : ℕ) (event : Event) (xs : List ℤ) (k : ℕ) (first old new : List Single) (s : Single) → k < length xs
+    → (own : List Single) × (old ≡ first ++ own) × AllZip (IsMadeAt place event) (take k xs) own → new ≡ old ++ s ∷ [] → IsMadeAt place event (get_or xs k (pos 0)) s
+    → (own : List Single) × (new ≡ first ++ own) × AllZip (IsMadeAt place event) (take (k + 1) xs) own
+made_more place event xs k first old new s w (own, e, z) n made = (
+  own ++ s ∷ [],
+  n ∙ ap (λ (l : List Single). l ++ s ∷ []) e ∙ append_assoc first own (s ∷ []),
+  subst (λ (l : List ℤ). AllZip (IsMadeAt place event) l (own ++ s ∷ [])) (sym (take_more xs k (pos 0) w)) (push_zip (IsMadeAt place event) (take k xs) own (get_or xs k (pos 0)) s z made),
+)
+
+-- ---- what becomes of a draft
+
+module _ (room : List ℕ) (events : List Event) (draft : Draft) (d : IsDraft room events draft) where
+  pub within_entries : AreWithin draft.entries.items draft.singles.items
+  within_entries k s w =
+      let l = within_all room 0 events draft.singles.items d.singles k s w in
+      let many : length draft.entries.items ≡ length events = sym (length-map draft.entries.items entry_said) ∙ ap length d.entries ∙ length-map events name_said in
+      omega (arith, l, many)
+
+  module _ (left : List Single) (shown : AreShown draft.entries.items draft.singles.items left) where
+    lists : (lists : List (List Booked)) × AllZip (AreSingles room events) events lists × (map (booked_in draft.entries.items) left ≡ flat_map (λ own. own) lists)
+    lists =
+        let r = shown_lists room events draft.entries.items d.entries shown.keys shown.same [] events refl draft.singles.items d.singles in
+        (r.0, r.1, ap (map (booked_in draft.entries.items)) shown.is ∙ r.2)
+
+    pub confirmed_of : AreConfirmed room events (record { series = map event_of draft.series.items; singles = map (booked_in draft.entries.items) left })
+    confirmed_of = record { series = d.series; lists = lists.0; each = lists.1; singles = lists.2 }
+
+    pub left_within : AreWithin draft.entries.items left
+    left_within =
+        subst (AreWithin draft.entries.items) (sym shown.is) (All-filter (is_shown_in draft.entries.items shown.keys) (λ s. s.entry < length draft.entries.items) draft.singles.items within_entries)
+
+    pub different_keys : MastersDiffer events → OverridesDiffer events → HaveDifferentKeys (map (booked_in draft.entries.items) left)
+    different_keys masters overrides = subst HaveDifferentKeys (sym lists.2) (lists_apart events masters overrides room [] events lists.0 refl lists.1)
+
+-- ---- the calendar that becomes of it
+
+pub calendar_says : (room : List ℕ) (object : Tree) (events : List Event) (r : Result Confirmed Fault) → SayEvents object events → IfOk r (λ _. MastersDiffer events × OverridesDiffer events)
+    → IfOk r (AreConfirmed room events) → IfOk r (SaysCalendar room object)
+calendar_says room object events (Ok c) says differ are = record { events = events; says = says; masters = differ.0; overrides = differ.1; are = are }
+calendar_says room object events (Err f) says differ are = tt
+
+pub calendar_refused : (object : Tree) (events : List Event) (r : Result Confirmed Fault) → SayEvents object events → IfErr r (RefusesBy (IsTwoOf events)) → IfErr r (RefusesBy (CalendarFault object))
+calendar_refused object events (Ok c) says h = tt
+calendar_refused object events (Err Memory) says h = tt
+calendar_refused object events (Err (Refused x)) says (inl (n, twins)) = subst (CalendarFault object) (sym n) (two_masters events says twins)
+calendar_refused object events (Err (Refused x)) says (inr (n, twins)) = subst (CalendarFault object) (sym n) (two_overrides events says twins)

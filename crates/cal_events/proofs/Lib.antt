@@ -29,6 +29,7 @@ pub mod InOneOrder
 pub mod DraftKeys
 pub mod OwnSingles
 pub mod DraftLemmas
+pub mod ConfirmedLemmas
 pub mod ClashLemmas
 pub mod Distinct
 pub mod SweepLemmas

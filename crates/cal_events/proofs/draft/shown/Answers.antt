@@ -1,15 +1,26 @@
-use Rattle.std.proofs.Common.{refl, map, ap, ◌∙◌}
+use Rattle.std.proofs.Common.{◌≡◌, ◌∙◌, List, refl, map, ap, sym, subst}
+use Rattle.std.specs.List.{filter}
+use Rattle.std.specs.List.Sorted.{IsPermutation}
+use Rattle.std.proofs.lemmas.List.Sorted.{IsPermutation-sym}
 use Rattle.cal_events.specs.Calendars.{key_of}
 use Rattle.cal_events.specs.Drafts.{override_keys, is_shown_in}
-use Rattle.std.proofs.lemmas.List.Sorted.{IsPermutation-sym}
+use Rattle.cal_events.specs.declared.instance.InstanceKey.{InstanceKey}
 use Rattle.cal_events.proofs.KeyLemmas.{pairs_permutation}
 use Rattle.cal_events.proofs.draft.shown.Goals as goal
 
 pub returns-then-has_equal_neighbours-clause-stands : goal.returns-then-has_equal_neighbours-clause-stands
-returns-then-has_equal_neighbours-clause-stands c = ?
+returns-then-has_equal_neighbours-clause-stands c =
+    let same = subst (λ (l : List InstanceKey). IsPermutation (override_keys c.args.entries.now) (map key_of l)) (sym c.deref.ensures.value) c.in_ok-overrides.ensures.0 in
+    (refl, λ differ. c.if-has_equal_neighbours.ensures (pairs_permutation (override_keys c.args.entries.now) (map key_of c.deref.result.now) same differ))
 
 pub returns-clause-differ : goal.returns-clause-differ
-returns-clause-differ c = ?
+returns-clause-differ c =
+    let same = subst (λ (l : List InstanceKey). IsPermutation (override_keys c.args.entries.now) (map key_of l)) (sym c.deref.ensures.value) c.in_ok-overrides.ensures.0 in
+    pairs_permutation (map key_of c.deref.result.now) (override_keys c.args.entries.now) (IsPermutation-sym _ _ same) c.if-has_equal_neighbours.ensures
 
 pub returns-clause-shown : goal.returns-clause-shown
-returns-clause-shown c = ?
+returns-clause-shown c = record {
+  keys = map key_of c.deref-2.result.now;
+  same = subst (λ (l : List InstanceKey). IsPermutation (override_keys c.args.entries.now) (map key_of l)) (sym c.deref-2.ensures.value) c.in_ok-overrides.ensures.0;
+  is = c.in_ok-without_hidden.ensures;
+}

@@ -1,0 +1,212 @@
+-- Confirmed instances: each key is that of one, and the singles of a calendar without series are all of them.
+use Rattle.std.proofs.Common.{◌≡◌, ◌≢◌, ◌∙◌, ℕ, zero, suc, ◌+◌, ◌<◌, Bool, true, false, cond, List, [], ◌∷◌, ◌++◌, filter, length, get_or, subst, sym, refl, ap, inl, inr, ◌⊎◌, arith, ℤ}
+use Rattle.std.specs.Prelude.{Option, Some, None, All, AllPairs, Contains, is_some, ◌&&◌}
+use Rattle.std.specs.List.{AllZip, AllByRecursion, flat_map}
+use Rattle.std.proofs.lemmas.Bool.{cases_order}
+use Rattle.std.proofs.lemmas.Int.{ints}
+use Rattle.std.proofs.lemmas.Option.{same_Some}
+use Rattle.std.proofs.lemmas.List.{get_or_default, append_assoc, length-append, get_or-append_right}
+use Rattle.std.proofs.lemmas.List.Elements.{All-from_recursion, All-contains}
+use Rattle.profile.specs.text.Lines.{logical_lines}
+use Rattle.profile.specs.text.Trees.{Tree, vevents}
+use Rattle.profile.specs.checker.Instances.{Key, Booked}
+use Rattle.profile.specs.checker.Calendars.{SpellsCalendar, IsConfirmedIn, SayEvents}
+use Rattle.profile.specs.events.Events.{Event, SaysEvent, meeting_said}
+use Rattle.profile.specs.events.Meetings.{is_master}
+use Rattle.profile.specs.events.Starts.{ComesBefore}
+use Rattle.profile.specs.events.Confirmed.{Confirmed, is_kept, is_series, IsInstanceAmong, IsConfirmed, IsOfSeries, IsSingle, AreSingles, MastersDiffer, OverridesDiffer}
+use Rattle.cal_events.specs.Calendars.{HaveDifferentKeys}
+use Rattle.cal_events.specs.Drafts.{IsSaid}
+use Rattle.cal_events.proofs.InOneOrder.{later, none_in, head_pairs, tail_pairs, cons_pairs, append_pairs}
+use Rattle.cal_events.proofs.OneCalendar.{OneEvent, same_events}
+use Rattle.cal_events.proofs.OneText.{OneTree}
+use Rattle.cal_events.proofs.OwnSingles.{of_both, is_a_master, master_alone, override_alone, one_of_key}
+
+-- ---- keys
+
+meeting_of_key : Key → List ℕ × List ℕ
+meeting_of_key k = (k.organiser, k.uid)
+
+module _ (events : List Event) (e f : Event) (e_in : Contains events e) (f_in : Contains events f)
+    (masters : e.recurrence ≡ None → f.recurrence ≡ None → meeting_said e ≢ meeting_said f)
+    (overrides : (slot : ℤ) → e.recurrence ≡ Some slot → f.recurrence ≡ Some slot → meeting_said e ≢ meeting_said f) where
+  -- instances of two events have different keys
+  pub keys_apart : (a b : Booked) → IsInstanceAmong events e a → IsInstanceAmong events f b → a.key ≡ b.key → ⊥
+  unfolding meeting_of_key
+  keys_apart a b h k same = go (of_both e) (of_both f)
+    where
+      go : (e.recurrence ≡ None) ⊎ ((slot : ℤ) × (e.recurrence ≡ Some slot)) → (f.recurrence ≡ None) ⊎ ((slot : ℤ) × (f.recurrence ≡ Some slot)) → ⊥
+      go (inl m) (inl n) =
+          let x = master_alone e a m h.is in
+          let y = master_alone f b n k.is in
+          masters m n (ap meeting_of_key (sym x.key ∙ same ∙ y.key))
+      go (inl m) (inr (slot, n)) =
+          let x = master_alone e a m h.is in
+          let y = override_alone f b slot n k.is in
+          let at : b.key.slot ≡ a.start = ap (λ (key : Key). key.slot) (sym same ∙ x.key) in
+          h.shown (is_a_master e m) (record { override = f; among = f_in; of = ap meeting_of_key (sym y.key ∙ sym same ∙ x.key); is = y.slot ∙ ap Some at })
+      go (inr (slot, m)) (inl n) =
+          let x = override_alone e a slot m h.is in
+          let y = master_alone f b n k.is in
+          let at : a.key.slot ≡ b.start = ap (λ (key : Key). key.slot) (same ∙ y.key) in
+          k.shown (is_a_master f n) (record { override = e; among = e_in; of = ap meeting_of_key (sym x.key ∙ same ∙ y.key); is = x.slot ∙ ap Some at })
+      go (inr (slot, m)) (inr (other, n)) =
+          let x = override_alone e a slot m h.is in
+          let y = override_alone f b other n k.is in
+          overrides a.key.slot x.slot (y.slot ∙ ap Some (sym (ap (λ (key : Key). key.slot) same))) (ap meeting_of_key (sym x.key ∙ same ∙ y.key))
+
+module _ (events : List Event) (masters : MastersDiffer events) (overrides : OverridesDiffer events) where
+  at_places : (i j : ℕ) (e f : Event) → i < j → j < length events → get_or events i e ≡ e → get_or events j f ≡ f
+      → (a b : Booked) → IsInstanceAmong events e a → IsInstanceAmong events f b → a.key ≡ b.key → ⊥
+  at_places i j e f l w is_e is_f a b h k same =
+      keys_apart events e f (i, omega (arith, l, w), is_e) (j, w, is_f)
+      (λ m n. subst (λ x. meeting_said x ≢ meeting_said f) first (subst (λ y. meeting_said (get_or events i f) ≢ meeting_said y) is_f
+      (masters i j f l w (ap (λ (x : Event). x.recurrence) first ∙ m) (ap (λ (x : Event). x.recurrence) is_f ∙ n))))
+      (λ slot m n. subst (λ x. meeting_said x ≢ meeting_said f) first (subst (λ y. meeting_said (get_or events i f) ≢ meeting_said y) is_f
+      (overrides i j f l w slot (ap (λ (x : Event). x.recurrence) first ∙ m) (ap (λ (x : Event). x.recurrence) is_f ∙ n))))
+      a b h k same
+    where
+      first : get_or events i f ≡ e
+      first = get_or_default events i f e (omega (arith, l, w)) ∙ is_e
+
+  -- confirmed instances of one key are one
+  pub one_confirmed : (room : List ℕ) → All IsSaid events → (a b : Booked) → IsConfirmed room events a → IsConfirmed room events b → a.key ≡ b.key → a ≡ b
+  one_confirmed room said a b h k same =
+      elim (cases_order h.among.0 k.among.0) [
+        | inl at ↦
+          let one : h.event ≡ k.event = sym h.among.2 ∙ ap (λ n. get_or events n h.event) at ∙ get_or_default events k.among.0 h.event k.event k.among.1 ∙ k.among.2 in
+          one_of_key k.event a b (All-contains IsSaid events k.event said k.among) (subst (λ (e : Event). IsInstanceAmong events e a) one h.is).is k.is.is same
+        | inr o ↦ elim o [
+          | inl l ↦ absurd (at_places h.among.0 k.among.0 h.event k.event l k.among.1 h.among.2 k.among.2 a b h.is k.is same)
+          | inr l ↦ absurd (at_places k.among.0 h.among.0 k.event h.event l h.among.1 k.among.2 h.among.2 b a k.is h.is (sym same))
+        ]
+      ]
+
+  -- ---- lists of singles
+
+  module _ (room : List ℕ) where
+    -- one of the lists has it
+    pub of_lists : (es : List Event) (lists : List (List Booked)) (b : Booked) → AllZip (AreSingles room events) es lists → Contains (flat_map (λ own. own) lists) b
+        → (e : Event) × Contains es e × IsSingle room events e b
+    of_lists [] [] b z c = absurd (none_in b c)
+    of_lists [] (l ∷ ls) b z c = absurd z
+    of_lists (e ∷ es) [] b z c = absurd z
+    of_lists (e ∷ es) (l ∷ ls) b z c = go (parts l (flat_map (λ own. own) ls) b c) (λ d. of_lists es ls b z.1 d)
+      where
+        parts : (xs ys : List Booked) (y : Booked) → Contains (xs ++ ys) y → Contains xs y ⊎ Contains ys y
+        parts [] ys y c = inr c
+        parts (x ∷ xs) ys y (zero, w, e) = inl (zero, omega arith, e)
+        parts (x ∷ xs) ys y (suc k, w, e) = elim (parts xs ys y (k, omega (arith, w), e)) [ inl c ↦ inl (later x y xs c) | inr c ↦ inr c ]
+
+        go : Contains l b ⊎ Contains (flat_map (λ own. own) ls) b → (Contains (flat_map (λ own. own) ls) b → (f : Event) × Contains es f × IsSingle room events f b)
+            → (f : Event) × Contains (e ∷ es) f × IsSingle room events f b
+        go (inl c) rest = (e, (zero, omega arith, refl), All-contains (IsSingle room events e) l b z.0.each c)
+        go (inr c) rest = let r = rest c in (r.0, later e r.0 es r.1, r.2)
+
+    pub in_lists : (es : List Event) (lists : List (List Booked)) (e : Event) (b : Booked) → AllZip (AreSingles room events) es lists → Contains es e → IsSingle room events e b
+        → Contains (flat_map (λ own. own) lists) b
+    in_lists [] lists e b z c s = absurd (none_in e c)
+    in_lists (x ∷ xs) [] e b z c s = absurd z
+    in_lists (x ∷ xs) (l ∷ ls) e b z (zero, w, is) s = left l (flat_map (λ own. own) ls) b (z.0.all b (subst (λ (y : Event). IsSingle room events y b) (sym is) s))
+      where
+        left : (xs ys : List Booked) (y : Booked) → Contains xs y → Contains (xs ++ ys) y
+        left [] ys y c = absurd (none_in y c)
+        left (x ∷ xs) ys y (zero, w, e) = (zero, omega arith, e)
+        left (x ∷ xs) ys y (suc k, w, e) = later x y (xs ++ ys) (left xs ys y (k, omega (arith, w), e))
+    in_lists (x ∷ xs) (l ∷ ls) e b z (suc k, w, is) s = right l (flat_map (λ own. own) ls) b (in_lists xs ls e b z.1 (k, omega (arith, w), is) s)
+      where
+        right : (xs ys : List Booked) (y : Booked) → Contains ys y → Contains (xs ++ ys) y
+        right [] ys y c = c
+        right (x ∷ xs) ys y c = later x y (xs ++ ys) (right xs ys y c)
+
+    -- in one list the keys differ
+    in_one : (e : Event) (l : List Booked) → AreSingles room events e l → HaveDifferentKeys l
+    in_one e l h = go l h.each h.ordered
+      where
+        differ : (a b : Booked) → IsSingle room events e a → IsSingle room events e b → ComesBefore a b → a.key ≡ b.key → ⊥
+        differ a b x y before same = by (of_both e) before
+          where
+            by : (e.recurrence ≡ None) ⊎ ((slot : ℤ) × (e.recurrence ≡ Some slot)) → ComesBefore a b → ⊥
+            by (inl m) (inl l) =
+                let p = ap (λ (key : Key). key.slot) (sym (master_alone e a m x.is.is).key ∙ same ∙ (master_alone e b m y.is.is).key) in omega (arith, ints, p, l)
+            by (inr (slot, m)) (inl l) = let p = (override_alone e a slot m x.is.is).starts ∙ sym (override_alone e b slot m y.is.is).starts in omega (arith, ints, p, l)
+            by o (inr (s, l)) = let p = ap (λ (key : Key). key.slot) same in omega (arith, ints, p, l)
+
+        go : (l : List Booked) → All (IsSingle room events e) l → AllPairs ComesBefore l → HaveDifferentKeys l
+        go [] each p = λ i j d l w. absurd (omega (arith, w))
+        go (x ∷ xs) each p =
+            cons_pairs (λ a b. a.key ≢ b.key) x xs
+            (λ y c. differ x y (All-contains (IsSingle room events e) (x ∷ xs) x each (zero, omega arith, refl)) (All-contains (IsSingle room events e) (x ∷ xs) y each (later x y xs c))
+            (head_pairs ComesBefore x y xs p c))
+            (go xs (λ k d w. each (suc k) d (omega (arith, w))) (tail_pairs ComesBefore x xs p))
+
+    -- and in all of them
+    pub lists_apart : (front es : List Event) (lists : List (List Booked)) → events ≡ front ++ es → AllZip (AreSingles room events) es lists → HaveDifferentKeys (flat_map (λ own. own) lists)
+    lists_apart front [] [] whole z = λ i j d l w. absurd (omega (arith, w))
+    lists_apart front [] (l ∷ ls) whole z = absurd z
+    lists_apart front (e ∷ es) [] whole z = absurd z
+    lists_apart front (e ∷ es) (l ∷ ls) whole z =
+        append_pairs (λ a b. a.key ≢ b.key) l (flat_map (λ own. own) ls) (in_one e l z.0)
+        (lists_apart (front ++ e ∷ []) es ls (whole ∙ sym (append_assoc front (e ∷ []) es)) z.1)
+        (λ a b c d.
+        let r = of_lists es ls b z.1 d in
+        at_places (length front) (length front + suc r.1.0) e r.0 (omega arith) (omega (arith, ap length whole, length-append front (e ∷ es), r.1.1))
+        (ap (λ x. get_or x (length front) e) whole ∙ seam front (e ∷ es) (length front) 0 e (omega arith)) (ap (λ x. get_or x (length front + suc r.1.0) r.0) whole ∙ seam front (e ∷ es) (length front + suc r.1.0) (suc r.1.0) r.0 refl ∙ r.1.2)
+        a b (All-contains (IsSingle room events e) l a z.0.each c).is r.2.is)
+      where
+        seam : (xs ys : List Event) (i k : ℕ) (d : Event) → i ≡ length xs + k → get_or (xs ++ ys) i d ≡ get_or ys k d
+        seam xs ys i k d e = get_or-append_right xs ys (length xs) i d refl (omega (arith, e)) ∙ ap (λ n. get_or ys n d) (omega (arith, e))
+
+-- ---- calendars
+
+all_said : (object : Tree) (events : List Event) → SayEvents object events → All IsSaid events
+all_said object events z = All-from_recursion IsSaid events (go (vevents object) events z)
+  where
+    go : (vs : List (List (List ℕ))) (es : List Event) → AllZip (SaysEvent object false) vs es → AllByRecursion IsSaid es
+    go [] [] z = tt
+    go [] (e ∷ es) z = absurd z
+    go (v ∷ vs) [] z = absurd z
+    go (v ∷ vs) (e ∷ es) z = ((object, v, z.0), go vs es z.1)
+
+module _ (tree : OneTree) (one : OneEvent) (room octets : List ℕ) (all : Confirmed) (s : SpellsCalendar room octets all) where
+  -- what is confirmed in the octets is so of the events of the calendar
+  of_events : (b : Booked) → IsConfirmedIn room octets b → IsConfirmed room s.says.events b
+  of_events b h =
+      let same : h.tree ≡ s.tree = tree 7 7 (logical_lines octets) h.tree s.tree h.object.spelled s.object.spelled in
+      let events : h.events ≡ s.says.events = same_events one s.tree h.events s.says.events (subst (λ (t : Tree). SayEvents t h.events) same h.says) s.says.says in
+      subst (λ (es : List Event). IsConfirmed room es b) events h.is
+
+  pub single : (b : Booked) → Contains all.singles b → IsConfirmedIn room octets b
+  single b c =
+      let e = of_lists s.says.events s.says.masters s.says.overrides room s.says.events s.says.are.lists b s.says.are.each (subst (λ (l : List Booked). Contains l b) s.says.are.singles c) in
+      record {
+        tree = s.tree;
+        object = s.object;
+        events = s.says.events;
+        says = s.says.says;
+        is = record { event = e.0; among = e.1; kept = e.2.kept; is = e.2.is };
+      }
+
+  pub all_single : all.series ≡ [] → (b : Booked) → IsConfirmedIn room octets b → Contains all.singles b
+  all_single none b h =
+      let k = of_events b h in
+      subst (λ (l : List Booked). Contains l b) (sym s.says.are.singles)
+      (in_lists s.says.events s.says.masters s.says.overrides room s.says.events s.says.are.lists k.event b s.says.are.each k.among (record { kept = k.kept; is = k.is; apart = λ series. no_series k.event k.among k.kept series }))
+    where
+      filtered : (p : Event → Bool) (xs : List Event) (x : Event) → Contains xs x → p x ≡ true → Contains (filter p xs) x
+      filtered p [] x c h = absurd (none_in x c)
+      filtered p (y ∷ ys) x (zero, w, e) h = subst (λ (b : Bool). Contains (cond b (y ∷ filter p ys) (filter p ys)) x) (sym (ap p e ∙ h)) (zero, omega arith, e)
+      filtered p (y ∷ ys) x (suc k, w, e) h = go (p y) (filtered p ys x (k, omega (arith, w), e) h)
+        where
+          go : (b : Bool) → Contains (filter p ys) x → Contains (cond b (y ∷ filter p ys) (filter p ys)) x
+          go true c = later y x (filter p ys) c
+          go false c = c
+
+      no_series : (e : Event) → Contains s.says.events e → is_kept room e ≡ true → IsOfSeries e b → ⊥
+      no_series e c kept series =
+          none_in e (subst (λ (l : List Event). Contains l e) (sym s.says.are.series ∙ none)
+          (filtered (is_series room) s.says.events e c (ap (λ x. x && is_master e && is_some e.rule) kept ∙ ap (λ x. x && is_some e.rule) series.master ∙ ap is_some series.has)))
+
+  pub one_key : (a b : Booked) → IsConfirmedIn room octets a → IsConfirmedIn room octets b → a.key ≡ b.key → a ≡ b
+  one_key a b h k same =
+      one_confirmed s.says.events s.says.masters s.says.overrides room (all_said s.tree s.says.events s.says.says) a b (of_events a h) (of_events b k) same
