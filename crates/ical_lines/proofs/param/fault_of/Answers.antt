@@ -10,20 +10,14 @@ returns-in_default c = search rules
 pub returns-then-not-is_name : goal.returns-then-not-is_name
 returns-then-not-is_name c = search rules
 
-pub loop-param-smaller-then-has_bad_quote : goal.loop-param-smaller-then-has_bad_quote
-loop-param-smaller-then-has_bad_quote c = search rules
-
-pub loop-param-preserved-then-has_bad_quote : goal.loop-param-preserved-then-has_bad_quote
-loop-param-preserved-then-has_bad_quote c = search rules
-
 pub loop-param-smaller : goal.loop-param-smaller
 loop-param-smaller c = search rules
 
 pub loop-param-preserved : goal.loop-param-preserved
 loop-param-preserved c = search rules
 
-pub returns-then-has_bad_quote-2 : goal.returns-then-has_bad_quote-2
-returns-then-has_bad_quote-2 c = search rules
+pub returns-then-has_bad_quote : goal.returns-then-has_bad_quote
+returns-then-has_bad_quote c = search rules
 
-pub returns-else-has_bad_quote-2 : goal.returns-else-has_bad_quote-2
-returns-else-has_bad_quote-2 c = search rules
+pub returns-else-has_bad_quote : goal.returns-else-has_bad_quote
+returns-else-has_bad_quote c = search rules
