@@ -29,12 +29,3 @@ returns-clause-stands c = search rules
 
 pub returns-then-is_empty-clause-stands : goal.returns-then-is_empty-clause-stands
 returns-then-is_empty-clause-stands c = grind (arith, common_steps)
-
-pub returns-then-is_empty-clause-not_before : goal.returns-then-is_empty-clause-not_before
-returns-then-is_empty-clause-not_before c = search rules
-
-pub returns-then-is_empty-clause-span : goal.returns-then-is_empty-clause-span
-returns-then-is_empty-clause-span c = search rules
-
-pub returns-then-is_empty-clause-none : goal.returns-then-is_empty-clause-none
-returns-then-is_empty-clause-none c = search rules

@@ -1,4 +1,4 @@
-use Rattle.std.proofs.Common.{rules, ◌≡◌, ◌∙◌, ◌+◌, ◌-◌, sym, true, false, arith}
+use Rattle.std.proofs.Common.{◌≡◌, ◌∙◌, ◌+◌, ◌-◌, sym, true, false, arith}
 use Rattle.profile.specs.series.Rules.{passes}
 use Rattle.cal_rules.specs.Views.{pattern_of}
 use Rattle.cal_rules.proofs.Positions.{count_zero, count_rest}
@@ -65,27 +65,3 @@ pub returns-after-loop-here-clause-stands : goal.returns-after-loop-here-clause-
 returns-after-loop-here-clause-stands c =
     let i = c.loop-here.invariant in
     entered_from_end (pattern_of c.args.written.now c.args.start.index) c.args.day.index c.args.depth c.args.span c.loop-here.here c.loop-here.later c.requires.span c.requires.in_step c.requires.end c.requires.deep i.facts i.low i.high i.count
-
-pub overflow_add-later : goal.overflow_add-later
-overflow_add-later c = search rules
-
-pub loop-here-smaller-then-passes : goal.loop-here-smaller-then-passes
-loop-here-smaller-then-passes c = search rules
-
-pub loop-here-smaller : goal.loop-here-smaller
-loop-here-smaller c = search rules
-
-pub returns-else-later-depth-clause-not_before : goal.returns-else-later-depth-clause-not_before
-returns-else-later-depth-clause-not_before c = search rules
-
-pub returns-else-later-depth-clause-span : goal.returns-else-later-depth-clause-span
-returns-else-later-depth-clause-span c = search rules
-
-pub returns-after-loop-here-clause-not_before : goal.returns-after-loop-here-clause-not_before
-returns-after-loop-here-clause-not_before c = search rules
-
-pub returns-after-loop-here-clause-span : goal.returns-after-loop-here-clause-span
-returns-after-loop-here-clause-span c = search rules
-
-pub returns-after-loop-here-clause-none : goal.returns-after-loop-here-clause-none
-returns-after-loop-here-clause-none c = search rules

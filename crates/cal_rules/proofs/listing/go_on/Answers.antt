@@ -9,9 +9,3 @@ loop-cursor-preserved c = search rules
 
 pub returns : goal.returns
 returns c = search rules
-
-pub returns-then-chosen : goal.returns-then-chosen
-returns-then-chosen c = search rules
-
-pub loop-cursor-smaller : goal.loop-cursor-smaller
-loop-cursor-smaller c = search rules

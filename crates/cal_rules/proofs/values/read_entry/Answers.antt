@@ -44,18 +44,3 @@ returns-clause-reads c =
     let fits : FitsSigned w16 c.in_ok-number.number = search rules in
     rw (to_z-of_z fits) (entry_reads c.args.value.now c.in_ok-weekday.weekday c.in_ok-number.number (subst (λ letters. SpellsWeekday letters c.in_ok-weekday.weekday) c.split_at.ensures.back c.in_ok-weekday.ensures.reads)
     (inr (subst (λ front. SpellsPlace 53 front c.in_ok-number.number) c.split_at.ensures.front c.in_ok-number.ensures.reads)))
-
-pub returns-then-value-lt2-clause-reads : goal.returns-then-value-lt2-clause-reads
-returns-then-value-lt2-clause-reads c = search rules
-
-pub overflow_sub-value : goal.overflow_sub-value
-overflow_sub-value c = search rules
-
-pub returns-then-not-is_char_boundary-clause-reads : goal.returns-then-not-is_char_boundary-clause-reads
-returns-then-not-is_char_boundary-clause-reads c = search rules
-
-pub returns-in_err-weekday-clause-reads : goal.returns-in_err-weekday-clause-reads
-returns-in_err-weekday-clause-reads c = search rules
-
-pub returns-in_err-number-clause-reads : goal.returns-in_err-number-clause-reads
-returns-in_err-number-clause-reads c = search rules

@@ -1,4 +1,4 @@
-use Rattle.std.proofs.Common.{rules, ◌==◌, inl, inr, refl, arith}
+use Rattle.std.proofs.Common.{◌==◌, inl, inr, refl, arith}
 use Rattle.std.specs.List.{slice_split}
 use Rattle.cal_rules.proofs.Cuts.{all_left, cut_more, cut_done}
 use Rattle.cal_rules.proofs.Entered.{none_yet, one_more, stands_there, too_many, list_read}
@@ -36,21 +36,3 @@ pub returns-clause-reads : goal.returns-clause-reads
 returns-clause-reads g c =
     let i = c.loop-text.invariant in
     list_read _ _ i.0 c.loop-text.values.items i.2 (cut_done c.loop-text.text-iterator c.next.new.self i.0 i.1 c.in-None.ensures.steps)
-
-pub returns-in_default-clause-reads : goal.returns-in_default-clause-reads
-returns-in_default-clause-reads g c = search rules
-
-pub returns-then-len-eq-MOST-clause-reads : goal.returns-then-len-eq-MOST-clause-reads
-returns-then-len-eq-MOST-clause-reads g c = search rules
-
-pub loop-text-smaller : goal.loop-text-smaller
-loop-text-smaller g c = search rules
-
-pub returns-in_err-push-clause-reads : goal.returns-in_err-push-clause-reads
-returns-in_err-push-clause-reads g c = search rules
-
-pub returns-in_err-push-clause-none : goal.returns-in_err-push-clause-none
-returns-in_err-push-clause-none g c = search rules
-
-pub returns-clause-none : goal.returns-clause-none
-returns-clause-none g c = search rules

@@ -23,21 +23,3 @@ returns-clause-reads c = search (ints, rules)
 
 pub returns-clause-none : goal.returns-clause-none
 returns-clause-none c = search (ints, rules)
-
-pub returns-in_err-size-clause-reads : goal.returns-in_err-size-clause-reads
-returns-in_err-size-clause-reads c = search rules
-
-pub returns-in_err-size-clause-none : goal.returns-in_err-size-clause-none
-returns-in_err-size-clause-none c = search rules
-
-pub overflow_cast-result : goal.overflow_cast-result
-overflow_cast-result c = search rules
-
-pub overflow_sub-result : goal.overflow_sub-result
-overflow_sub-result c = search rules
-
-pub returns-in_err-size-2-clause-reads : goal.returns-in_err-size-2-clause-reads
-returns-in_err-size-2-clause-reads c = search rules
-
-pub overflow_cast-result-2 : goal.overflow_cast-result-2
-overflow_cast-result-2 c = search rules

@@ -1,4 +1,4 @@
-use Rattle.std.proofs.Common.{rules, map, sym, true, false}
+use Rattle.std.proofs.Common.{map, sym, true, false}
 use Rattle.cal_rules.specs.Views.{entry_of}
 use Rattle.ical_values.proofs.Exits.{if_none}
 use Rattle.cal_zones.specs.Shapes.{days_of}
@@ -35,15 +35,3 @@ returns-clause-none c =
     (months_at c.in_ok-month.month c.months.result.now rule.months true c.months.ensures c.in_ok-month.ensures.found)
     (names_at days c.month_days.result.now rule.month_days (map entry_of c.weekdays.result.now) rule.weekdays c.month_days.ensures c.weekdays.ensures c.in_ok-days.ensures.found)
     c.new.ensures.found
-
-pub returns-then-not-is_plain_yearly-clause-found : goal.returns-then-not-is_plain_yearly-clause-found
-returns-then-not-is_plain_yearly-clause-found c = search rules
-
-pub returns-then-not-is_plain_yearly-clause-none : goal.returns-then-not-is_plain_yearly-clause-none
-returns-then-not-is_plain_yearly-clause-none c = search rules
-
-pub returns-in_err-month-clause-found : goal.returns-in_err-month-clause-found
-returns-in_err-month-clause-found c = search rules
-
-pub returns-in_err-days-clause-found : goal.returns-in_err-days-clause-found
-returns-in_err-days-clause-found c = search rules

@@ -38,12 +38,3 @@ returns-then-is_empty-clause-found c = grind (arith, common_steps)
 
 pub returns-then-is_empty-clause-none : goal.returns-then-is_empty-clause-none
 returns-then-is_empty-clause-none c = search (ints, rules)
-
-pub returns-in_err-only-clause-found : goal.returns-in_err-only-clause-found
-returns-in_err-only-clause-found c = search rules
-
-pub returns-in_err-day-clause-found : goal.returns-in_err-day-clause-found
-returns-in_err-day-clause-found c = search rules
-
-pub returns-in_err-entry-clause-found : goal.returns-in_err-entry-clause-found
-returns-in_err-entry-clause-found c = search rules

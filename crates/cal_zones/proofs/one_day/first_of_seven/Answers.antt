@@ -48,20 +48,8 @@ returns-clause-found c = search (ints, rules)
 pub returns-clause-none : goal.returns-clause-none
 returns-clause-none c = search (ints, rules)
 
-pub returns-in_err-min-clause-found : goal.returns-in_err-min-clause-found
-returns-in_err-min-clause-found c = search rules
-
 pub returns-in_err-min-clause-none : goal.returns-in_err-min-clause-none
 returns-in_err-min-clause-none c = grind (arith, common_steps)
 
-pub returns-in_err-first-clause-found : goal.returns-in_err-first-clause-found
-returns-in_err-first-clause-found c = search rules
-
 pub returns-in_err-first-clause-none : goal.returns-in_err-first-clause-none
 returns-in_err-first-clause-none c = grind (arith, common_steps)
-
-pub returns-then-first-gt25-clause-found : goal.returns-then-first-gt25-clause-found
-returns-then-first-gt25-clause-found c = search rules
-
-pub returns-then-not-are_seven-clause-found : goal.returns-then-not-are_seven-clause-found
-returns-then-not-are_seven-clause-found c = search rules

@@ -31,27 +31,3 @@ returns-in_default-3-clause-found c = search (ints, rules)
 
 pub returns-in_default-3-clause-none : goal.returns-in_default-3-clause-none
 returns-in_default-3-clause-none c = search (ints, rules)
-
-pub returns-in_err-first-clause-found : goal.returns-in_err-first-clause-found
-returns-in_err-first-clause-found c = search rules
-
-pub returns-in_err-first-clause-none : goal.returns-in_err-first-clause-none
-returns-in_err-first-clause-none c = search rules
-
-pub returns-then-number-eq0-clause-found : goal.returns-then-number-eq0-clause-found
-returns-then-number-eq0-clause-found c = search rules
-
-pub returns-then-number-eq0-clause-none : goal.returns-then-number-eq0-clause-none
-returns-then-number-eq0-clause-none c = search rules
-
-pub returns-then-not-is_empty-clause-found : goal.returns-then-not-is_empty-clause-found
-returns-then-not-is_empty-clause-found c = search rules
-
-pub returns-then-not-is_empty-clause-none : goal.returns-then-not-is_empty-clause-none
-returns-then-not-is_empty-clause-none c = search rules
-
-pub overflow_cast-result : goal.overflow_cast-result
-overflow_cast-result c = search rules
-
-pub overflow_cast-result-in-1-to-4 : goal.overflow_cast-result-in-1-to-4
-overflow_cast-result-in-1-to-4 c = search rules

@@ -19,30 +19,3 @@ returns-clause-says c = search rules
 
 pub returns-clause-fixed : goal.returns-clause-fixed
 returns-clause-fixed c = search rules
-
-pub returns-then-is_some-clause-says : goal.returns-then-is_some-clause-says
-returns-then-is_some-clause-says c = search rules
-
-pub returns-then-is_some-clause-stands : goal.returns-then-is_some-clause-stands
-returns-then-is_some-clause-stands c = search rules
-
-pub returns-then-is_some-clause-fixed : goal.returns-then-is_some-clause-fixed
-returns-then-is_some-clause-fixed c = search rules
-
-pub returns-then-ends_in_z-clause-says : goal.returns-then-ends_in_z-clause-says
-returns-then-ends_in_z-clause-says c = search rules
-
-pub returns-then-ends_in_z-clause-stands : goal.returns-then-ends_in_z-clause-stands
-returns-then-ends_in_z-clause-stands c = search rules
-
-pub returns-then-ends_in_z-clause-fixed : goal.returns-then-ends_in_z-clause-fixed
-returns-then-ends_in_z-clause-fixed c = search rules
-
-pub returns-then-not-is_date_time-clause-says : goal.returns-then-not-is_date_time-clause-says
-returns-then-not-is_date_time-clause-says c = search rules
-
-pub returns-then-not-is_date_time-clause-stands : goal.returns-then-not-is_date_time-clause-stands
-returns-then-not-is_date_time-clause-stands c = search rules
-
-pub returns-then-not-is_date_time-clause-fixed : goal.returns-then-not-is_date_time-clause-fixed
-returns-then-not-is_date_time-clause-fixed c = search rules

@@ -1,23 +1,8 @@
-use Rattle.std.proofs.Common.{rules, ap, of_z, w32}
+use Rattle.std.proofs.Common.{ap, of_z, w32}
 use Rattle.std.proofs.lemmas.Bool.{eqb-true, eqb-false}
 use Rattle.cal_zones.specs.Onsets.{observance_of}
 use Rattle.cal_zones.proofs.Casts.{same_offset}
 use Rattle.cal_zones.proofs.read.keeps.Goals as goal
-
-pub returns-in_err-times-clause-yes : goal.returns-in_err-times-clause-yes
-returns-in_err-times-clause-yes c = search rules
-
-pub returns-in_err-times-clause-no : goal.returns-in_err-times-clause-no
-returns-in_err-times-clause-no c = search rules
-
-pub returns-in_err-times-clause-stands : goal.returns-in_err-times-clause-stands
-returns-in_err-times-clause-stands c = search rules
-
-pub returns-then-times-offset-clause-yes : goal.returns-then-times-offset-clause-yes
-returns-then-times-offset-clause-yes c = search rules
-
-pub returns-then-times-offset-clause-no : goal.returns-then-times-offset-clause-no
-returns-then-times-offset-clause-no c = search rules
 
 pub returns-clause-yes : goal.returns-clause-yes
 returns-clause-yes c = λ e.

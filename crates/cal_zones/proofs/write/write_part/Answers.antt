@@ -1,7 +1,7 @@
 use Rattle.cal_zones.specs.Onsets.{observance_of}
 use Rattle.cal_zones.proofs.WrittenLines.{part_written, line_written}
 use Rattle.cal_zones.proofs.write.write_part.Goals as goal
-use Rattle.std.proofs.Common.{rules, ◌++◌, ◌∷◌, [], refl, subst, codes, ℤ}
+use Rattle.std.proofs.Common.{◌++◌, ◌∷◌, [], refl, subst, codes, ℤ}
 use Rattle.profile.specs.text.Values.{WritesOffset}
 use Rattle.cal_zones.proofs.Casts.{narrow}
 use Rattle.profile.specs.written.WrittenZones.{rule_lines, component_lines}
@@ -19,21 +19,3 @@ returns c =
       part_written _ _ _ _ _ _ _ (codes "BEGIN:" ++ c.args.kind.now) (codes "DTSTART:" ++ start.1.0) (codes "TZOFFSETFROM:" ++ from.1.0) (codes "TZOFFSETTO:" ++ to.1.0) (codes "END:" ++ c.args.kind.now) (rule_lines o.rule)
           c.in_ok-write_property.ensures.written (line_written _ _ _ _ start.2 start.1.2) c.in_ok-write_rule.ensures (line_written _ _ _ _ from.2 from.1.2) (line_written _ _ _ _ to.2 to.1.2) c.in_ok-write_property-2.ensures.written,
     )
-
-pub returns-in_err-write_property : goal.returns-in_err-write_property
-returns-in_err-write_property c = search rules
-
-pub returns-in_err-write_start : goal.returns-in_err-write_start
-returns-in_err-write_start c = search rules
-
-pub returns-in_err-write_rule : goal.returns-in_err-write_rule
-returns-in_err-write_rule c = search rules
-
-pub returns-in_err-write_offset : goal.returns-in_err-write_offset
-returns-in_err-write_offset c = search rules
-
-pub returns-in_err-write_offset-2 : goal.returns-in_err-write_offset-2
-returns-in_err-write_offset-2 c = search rules
-
-pub returns-in_err-write_property-2 : goal.returns-in_err-write_property-2
-returns-in_err-write_property-2 c = search rules

@@ -26,21 +26,3 @@ returns-in_default-clause-past c = search (ints, rules)
 
 pub returns-clause-range : goal.returns-clause-range
 returns-clause-range c = search (ints, rules)
-
-pub overflow_cast-offset : goal.overflow_cast-offset
-overflow_cast-offset c = search rules
-
-pub overflow_sub-result : goal.overflow_sub-result
-overflow_sub-result c = search rules
-
-pub returns-then-until-lt0-clause-range : goal.returns-then-until-lt0-clause-range
-returns-then-until-lt0-clause-range c = search rules
-
-pub returns-then-until-lt0-clause-past : goal.returns-then-until-lt0-clause-past
-returns-then-until-lt0-clause-past c = search rules
-
-pub overflow_sub-result-then-time-second : goal.overflow_sub-result-then-time-second
-overflow_sub-result-then-time-second c = search rules
-
-pub returns-then-time-second-clause-range : goal.returns-then-time-second-clause-range
-returns-then-time-second-clause-range c = search rules

@@ -1,4 +1,4 @@
-use Rattle.std.proofs.Common.{rules, ◌∙◌}
+use Rattle.std.proofs.Common.{◌∙◌}
 use Rattle.ical_lines.proofs.FoldLemmas.{far_column, far_written, keeps_appended, keeps_itself, near_column, near_written}
 use Rattle.ical_lines.proofs.fold.fold_character.Goals as goal
 
@@ -36,48 +36,3 @@ returns-in_ok-extend_from_slice-3-clause-written c =
 
 pub returns-in_ok-extend_from_slice-3-clause-column : goal.returns-in_ok-extend_from_slice-3-clause-column
 returns-in_ok-extend_from_slice-3-clause-column c = near_column c.args.column c.args.character _ (c.as_bytes-octets.ensures.value ∙ c.encode_utf8.ensures.value) c.if-column-size-gt-MAX_COLUMN.false
-
-pub slice_bounds-encode_utf8-end : goal.slice_bounds-encode_utf8-end
-slice_bounds-encode_utf8-end c = search rules
-
-pub overflow_add-column : goal.overflow_add-column
-overflow_add-column c = search rules
-
-pub returns-in_err-extend_from_slice-clause-written : goal.returns-in_err-extend_from_slice-clause-written
-returns-in_err-extend_from_slice-clause-written c = search rules
-
-pub returns-in_err-extend_from_slice-clause-column : goal.returns-in_err-extend_from_slice-clause-column
-returns-in_err-extend_from_slice-clause-column c = search rules
-
-pub returns-in_err-extend_from_slice-clause-small : goal.returns-in_err-extend_from_slice-clause-small
-returns-in_err-extend_from_slice-clause-small c = search rules
-
-pub returns-in_err-extend_from_slice-2-clause-written : goal.returns-in_err-extend_from_slice-2-clause-written
-returns-in_err-extend_from_slice-2-clause-written c = search rules
-
-pub returns-in_err-extend_from_slice-2-clause-column : goal.returns-in_err-extend_from_slice-2-clause-column
-returns-in_err-extend_from_slice-2-clause-column c = search rules
-
-pub returns-in_err-extend_from_slice-2-clause-small : goal.returns-in_err-extend_from_slice-2-clause-small
-returns-in_err-extend_from_slice-2-clause-small c = search rules
-
-pub overflow_add-result : goal.overflow_add-result
-overflow_add-result c = search rules
-
-pub returns-in_err-extend_from_slice-3-clause-written : goal.returns-in_err-extend_from_slice-3-clause-written
-returns-in_err-extend_from_slice-3-clause-written c = search rules
-
-pub returns-in_err-extend_from_slice-3-clause-column : goal.returns-in_err-extend_from_slice-3-clause-column
-returns-in_err-extend_from_slice-3-clause-column c = search rules
-
-pub returns-in_err-extend_from_slice-3-clause-small : goal.returns-in_err-extend_from_slice-3-clause-small
-returns-in_err-extend_from_slice-3-clause-small c = search rules
-
-pub overflow_add-result-else-column-size-gt-MAX_COLUMN : goal.overflow_add-result-else-column-size-gt-MAX_COLUMN
-overflow_add-result-else-column-size-gt-MAX_COLUMN c = search rules
-
-pub returns-in_ok-extend_from_slice-2-clause-small : goal.returns-in_ok-extend_from_slice-2-clause-small
-returns-in_ok-extend_from_slice-2-clause-small c = search rules
-
-pub returns-in_ok-extend_from_slice-3-clause-small : goal.returns-in_ok-extend_from_slice-3-clause-small
-returns-in_ok-extend_from_slice-3-clause-small c = search rules

@@ -1,5 +1,5 @@
 use Rattle.std.proofs.lemmas.Grind.{common_steps}
-use Rattle.std.proofs.Common.{rules, length, arith}
+use Rattle.std.proofs.Common.{length, arith}
 use Rattle.std.specs.Str.{chars}
 use Rattle.std.proofs.lemmas.Iterator.{YieldsList-from_chars}
 use Rattle.std.proofs.lemmas.Iterator.Consumers.{YieldsList-turn, YieldsList-end}
@@ -31,21 +31,3 @@ returns-in_err-at-clause-keeps c = keeps_on _ c.loop-character.out.items _ c.loo
 
 pub loop-character-init : goal.loop-character-init
 loop-character-init c = grind (arith, common_steps)
-
-pub returns-in_err-at-clause-written : goal.returns-in_err-at-clause-written
-returns-in_err-at-clause-written c = search rules
-
-pub returns-in_err-at-clause-column : goal.returns-in_err-at-clause-column
-returns-in_err-at-clause-column c = search rules
-
-pub returns-in_err-at-clause-small : goal.returns-in_err-at-clause-small
-returns-in_err-at-clause-small c = search rules
-
-pub loop-character-smaller : goal.loop-character-smaller
-loop-character-smaller c = search rules
-
-pub returns-clause-small : goal.returns-clause-small
-returns-clause-small c = search rules
-
-pub returns-clause-keeps : goal.returns-clause-keeps
-returns-clause-keeps c = search rules

@@ -1,5 +1,5 @@
 use Rattle.std.proofs.lemmas.Grind.{common_steps}
-use Rattle.std.proofs.Common.{rules, sym, ◌∙◌, refl, arith}
+use Rattle.std.proofs.Common.{sym, ◌∙◌, refl, arith}
 use Rattle.ical_lines.proofs.CutLemmas.{cut_here, cut_none, cut_all}
 use Rattle.ical_lines.proofs.BegunLemmas.{begun_here, begun_all}
 use Rattle.ical_lines.proofs.object_end.cut.Goals as goal
@@ -27,15 +27,6 @@ returns-else-has_begun c = record {
   rest = cut_none c.loop-place.cutter c.args.bytes.now c.loop-place.place c.loop-place-test.false c.loop-place.invariant.rest;
   begun = sym (begun_all c.loop-place.cutter c.args.bytes.now c.loop-place.place c.loop-place-test.false c.loop-place.invariant.begun ∙ (sym c.has_begun.ensures ∙ c.if-has_begun.false));
 }
-
-pub loop-place-init : goal.loop-place-init
-loop-place-init c = search rules
-
-pub bounds-bytes-place : goal.bounds-bytes-place
-bounds-bytes-place c = search rules
-
-pub loop-place-smaller : goal.loop-place-smaller
-loop-place-smaller c = search rules
 
 pub loop-place-preserved : goal.loop-place-preserved
 loop-place-preserved c = grind (arith, common_steps)

@@ -1,4 +1,4 @@
-use Rattle.std.proofs.Common.{rules, ◌≡◌, ◌||◌, ◌&&◌, ltb, length, refl, ap, sym, ◌∙◌, arith}
+use Rattle.std.proofs.Common.{◌≡◌, ◌||◌, ◌&&◌, ltb, length, refl, ap, sym, ◌∙◌, arith}
 use Rattle.std.specs.List.{list_any, find}
 use Rattle.std.proofs.Math.Bool.{and-false}
 use Rattle.profile.specs.text.Lines.{is_faulty, line_has}
@@ -59,24 +59,3 @@ returns-then-exceeds_lines-clause-first c =
 pub returns-then-exceeds_lines-clause-stands : goal.returns-then-exceeds_lines-clause-stands
 returns-then-exceeds_lines-clause-stands c =
     bound_stands (is_bounded c.args.limits) c.loop-line.count _ _ _ (lines_of c.args.text.now) c.in-Some.ensures.steps (sym c.exceeds_lines.ensures ∙ c.if-exceeds_lines.true) c.loop-line.invariant.counted
-
-pub invariant_of-line-items : goal.invariant_of-line-items
-invariant_of-line-items c = search rules
-
-pub overflow_add-count : goal.overflow_add-count
-overflow_add-count c = search rules
-
-pub returns-then-exceeds_lines-clause-refuses : goal.returns-then-exceeds_lines-clause-refuses
-returns-then-exceeds_lines-clause-refuses c = search rules
-
-pub returns-in-Some-fault-clause-refuses : goal.returns-in-Some-fault-clause-refuses
-returns-in-Some-fault-clause-refuses c = search rules
-
-pub loop-line-smaller : goal.loop-line-smaller
-loop-line-smaller c = search rules
-
-pub returns-clause-refuses : goal.returns-clause-refuses
-returns-clause-refuses c = search rules
-
-pub returns-clause-first : goal.returns-clause-first
-returns-clause-first c = search rules

@@ -1,5 +1,5 @@
 use Rattle.std.proofs.lemmas.Grind.{common_steps}
-use Rattle.std.proofs.Common.{rules, ◌∙◌, arith, Some, None, ap}
+use Rattle.std.proofs.Common.{◌∙◌, arith, Some, None, ap}
 use Rattle.std.proofs.lemmas.Str.Pattern.{split_after}
 use Rattle.profile.specs.text.Values.{is_scheme, is_path}
 use Rattle.ical_values.proofs.Addresses.{scheme_no_colon}
@@ -19,17 +19,5 @@ returns-else-is_scheme-clause-complete c = λ h.
     let both = split_after 58 c.args.text.now h.0 h.1 (Some (c.in-Some.scheme, c.in-Some.path)) c.in-Some.ensures.cases (omega arith) h.2 (scheme_no_colon h.0 h.3) in
     c.is_scheme.ensures ∙ ap is_scheme (c.as_bytes.ensures.value ∙ both.0) ∙ h.3
 
-pub returns-then-text-gt-LIMIT-clause-sound : goal.returns-then-text-gt-LIMIT-clause-sound
-returns-then-text-gt-LIMIT-clause-sound c = search rules
-
-pub returns-then-text-gt-LIMIT-clause-complete : goal.returns-then-text-gt-LIMIT-clause-complete
-returns-then-text-gt-LIMIT-clause-complete c = search rules
-
-pub returns-in_default-clause-sound : goal.returns-in_default-clause-sound
-returns-in_default-clause-sound c = search rules
-
 pub returns-then-is_scheme-clause-sound : goal.returns-then-is_scheme-clause-sound
 returns-then-is_scheme-clause-sound c = grind (arith, common_steps)
-
-pub returns-else-is_scheme-clause-sound : goal.returns-else-is_scheme-clause-sound
-returns-else-is_scheme-clause-sound c = search rules

@@ -1,4 +1,4 @@
-use Rattle.std.proofs.Common.{rules, ◌≡◌, ◌≢◌, arith, length}
+use Rattle.std.proofs.Common.{◌≡◌, ◌≢◌, arith, length}
 use Rattle.std.proofs.lemmas.Bool.Decides.{nat_tests}
 use Rattle.ical_values.proofs.Exits.{if_none}
 use Rattle.ical_values.proofs.Parts.{days_alone, days_of_time, days_none, days_rest_none}
@@ -24,21 +24,3 @@ returns-in_err-seconds-2-clause-none c =
     let some : length c.in-Some.rest.now ≢ 0 = grind (arith, nat_tests) in
     let b = c.in-Some.ensures.found in
     if_none c.from_residual-in_err-seconds-2.result (days_rest_none c.args.text.now c.in-Some.rest.now b.0 b.1 some c.in_err-seconds-2.ensures.none)
-
-pub returns-in_err-seconds-clause-found : goal.returns-in_err-seconds-clause-found
-returns-in_err-seconds-clause-found c = search rules
-
-pub returns-in_default-clause-none : goal.returns-in_default-clause-none
-returns-in_default-clause-none c = search rules
-
-pub returns-then-is_empty-clause-none : goal.returns-then-is_empty-clause-none
-returns-then-is_empty-clause-none c = search rules
-
-pub returns-in_err-seconds-2-clause-found : goal.returns-in_err-seconds-2-clause-found
-returns-in_err-seconds-2-clause-found c = search rules
-
-pub returns-clause-found : goal.returns-clause-found
-returns-clause-found c = search rules
-
-pub returns-clause-none : goal.returns-clause-none
-returns-clause-none c = search rules

@@ -1,4 +1,3 @@
-use Rattle.std.proofs.Common.{rules}
 use Rattle.ical_lines.proofs.CleanLines.{clean_shown}
 use Rattle.ical_values.proofs.ShownValues.{shown_local}
 use Rattle.ical_values.proofs.shown.local_text.Goals as goal
@@ -7,12 +6,3 @@ pub text_of-requires : goal.text_of-requires
 text_of-requires c =
     let w = c.in_ok-write.ensures.ok in
     rw (w.2, c.in_ok-octets.ensures.items) (clean_shown w.0 (shown_local w.0 _ w.1)).utf8
-
-pub returns-in_err-octets : goal.returns-in_err-octets
-returns-in_err-octets c = search rules
-
-pub returns-in_err-write : goal.returns-in_err-write
-returns-in_err-write c = search rules
-
-pub returns : goal.returns
-returns c = search rules

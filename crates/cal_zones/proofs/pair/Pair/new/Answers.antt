@@ -61,30 +61,3 @@ returns-clause-refuses c = search rules
 
 pub returns-clause-least : goal.returns-clause-least
 returns-clause-least c = search rules
-
-pub returns-then-not-are_matched-clause-standard : goal.returns-then-not-are_matched-clause-standard
-returns-then-not-are_matched-clause-standard c = search rules
-
-pub returns-then-not-are_matched-clause-daylight : goal.returns-then-not-are_matched-clause-daylight
-returns-then-not-are_matched-clause-daylight c = search rules
-
-pub returns-then-not-are_matched-clause-accepted : goal.returns-then-not-are_matched-clause-accepted
-returns-then-not-are_matched-clause-accepted c = search rules
-
-pub returns-then-not-are_matched-clause-refuses : goal.returns-then-not-are_matched-clause-refuses
-returns-then-not-are_matched-clause-refuses c = search rules
-
-pub returns-then-not-are_matched-clause-least : goal.returns-then-not-are_matched-clause-least
-returns-then-not-are_matched-clause-least c = search rules
-
-pub returns-then-not-is_spaced-clause-standard : goal.returns-then-not-is_spaced-clause-standard
-returns-then-not-is_spaced-clause-standard c = search rules
-
-pub returns-then-not-is_spaced-clause-daylight : goal.returns-then-not-is_spaced-clause-daylight
-returns-then-not-is_spaced-clause-daylight c = search rules
-
-pub returns-then-not-is_spaced-clause-accepted : goal.returns-then-not-is_spaced-clause-accepted
-returns-then-not-is_spaced-clause-accepted c = search rules
-
-pub returns-then-not-is_spaced-clause-least : goal.returns-then-not-is_spaced-clause-least
-returns-then-not-is_spaced-clause-least c = search rules

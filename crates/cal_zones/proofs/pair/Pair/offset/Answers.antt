@@ -1,4 +1,4 @@
-use Rattle.std.proofs.Common.{rules, ◌≡◌, arith, to_z, of_z, w64, to_z-of_z, ◌≤ℤ◌}
+use Rattle.std.proofs.Common.{◌≡◌, arith, to_z, of_z, w64, to_z-of_z, ◌≤ℤ◌}
 use Rattle.jiff_core.proofs.SignedLemmas.{signed_arith}
 use Rattle.cal_zones.specs.Onsets.{observance_of}
 use Rattle.cal_zones.proofs.Casts.{narrow}
@@ -49,18 +49,3 @@ returns-in-Some-Some-2-clause-offset c =
     let y : to_z w64 (of_z w64 both.y) ≡ both.y = omega (arith, signed_arith, rw both.is-1 at c.latest_onset-daylight.ensures.low, second.begun, c.ranges.instant) in
     let order : both.x ≤ℤ both.y = omega (arith, signed_arith, c.if-x-y.false) in
     rw (narrow b.offset_to b.to) (right_later (observance_of a) (observance_of b) c.args.instant both.x both.y first second order)
-
-pub returns-in-None-None-clause-range : goal.returns-in-None-None-clause-range
-returns-in-None-None-clause-range c = search rules
-
-pub returns-in-None-Some-clause-range : goal.returns-in-None-Some-clause-range
-returns-in-None-Some-clause-range c = search rules
-
-pub returns-in-Some-None-clause-range : goal.returns-in-Some-None-clause-range
-returns-in-Some-None-clause-range c = search rules
-
-pub returns-in-Some-Some-clause-range : goal.returns-in-Some-Some-clause-range
-returns-in-Some-Some-clause-range c = search rules
-
-pub returns-in-Some-Some-2-clause-range : goal.returns-in-Some-Some-2-clause-range
-returns-in-Some-Some-2-clause-range c = search rules

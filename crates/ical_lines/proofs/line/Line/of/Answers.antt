@@ -1,5 +1,4 @@
-use Rattle.std.proofs.lemmas.Grind.{common_steps}
-use Rattle.std.proofs.Common.{rules, Some, ap, ◌∙◌, arith}
+use Rattle.std.proofs.Common.{Some, ap, ◌∙◌, arith}
 use Rattle.std.proofs.lemmas.Str.Pattern.{strip_prefix_char}
 use Rattle.profile.specs.text.Lines.{pieces}
 use Rattle.ical_lines.proofs.MarkLemmas.{colon_name, colon_params, colon_value, semicolon_name, semicolon_params, semicolon_value}
@@ -28,12 +27,3 @@ invariant_of-result-in-Some-strip_prefix-clause-has_params c =
 pub invariant_of-result-in-Some-strip_prefix-clause-has_value : goal.invariant_of-result-in-Some-strip_prefix-clause-has_value
 invariant_of-result-in-Some-strip_prefix-clause-has_value c =
     semicolon_value c.args.text.now _ _ _ _ c.split_mark.ensures.whole (strip_prefix_char 59 _ (Some c.in-Some-strip_prefix.after) c.in-Some-strip_prefix.ensures.cases (omega arith)) c.split_mark.ensures.plain c.split_outside.ensures.back
-
-pub returns-in-Some : goal.returns-in-Some
-returns-in-Some c = search rules
-
-pub returns-in-Some-strip_prefix : goal.returns-in-Some-strip_prefix
-returns-in-Some-strip_prefix c = search rules
-
-pub returns : goal.returns
-returns c = search rules

@@ -1,4 +1,4 @@
-use Rattle.std.proofs.Common.{rules, ap, sym, ◌∙◌}
+use Rattle.std.proofs.Common.{ap, sym, ◌∙◌}
 use Rattle.std.proofs.lemmas.Result.{err_from_is_err_and}
 use Rattle.profile.specs.text.Lines.{logical_lines}
 use Rattle.ical_lines.specs.Breaks.{lines_of}
@@ -21,54 +21,3 @@ returns-in_err-check_lines-clause-first c =
 pub returns-clause-reads : goal.returns-clause-reads
 returns-clause-reads c =
     all_read (is_bounded c.args.limits) c.args.bytes.now (lines_of c.as_str.result.now) (ap lines_of c.as_str.ensures ∙ c.in_ok-text.ensures.lines) (text_utf8 c.as_str.result.now (logical_lines c.args.bytes.now) (ap lines_of c.as_str.ensures ∙ c.in_ok-text.ensures.lines) c.as_str.utf8) c.in_ok-check_lines.ensures.stands.0 c.in_ok-check_lines.ensures.stands.1 (sym c.exceeds_octets.ensures ∙ c.if-exceeds_octets.false)
-
-pub returns-then-exceeds_octets-clause-lines : goal.returns-then-exceeds_octets-clause-lines
-returns-then-exceeds_octets-clause-lines c = search rules
-
-pub returns-then-exceeds_octets-clause-reads : goal.returns-then-exceeds_octets-clause-reads
-returns-then-exceeds_octets-clause-reads c = search rules
-
-pub returns-then-exceeds_octets-clause-refuses : goal.returns-then-exceeds_octets-clause-refuses
-returns-then-exceeds_octets-clause-refuses c = search rules
-
-pub returns-then-exceeds_octets-clause-stands : goal.returns-then-exceeds_octets-clause-stands
-returns-then-exceeds_octets-clause-stands c = search rules
-
-pub returns-then-exceeds_octets-clause-first : goal.returns-then-exceeds_octets-clause-first
-returns-then-exceeds_octets-clause-first c = search rules
-
-pub returns-in_err-text-clause-lines : goal.returns-in_err-text-clause-lines
-returns-in_err-text-clause-lines c = search rules
-
-pub returns-in_err-text-clause-reads : goal.returns-in_err-text-clause-reads
-returns-in_err-text-clause-reads c = search rules
-
-pub returns-in_err-text-clause-refuses : goal.returns-in_err-text-clause-refuses
-returns-in_err-text-clause-refuses c = search rules
-
-pub returns-in_err-text-clause-stands : goal.returns-in_err-text-clause-stands
-returns-in_err-text-clause-stands c = search rules
-
-pub returns-in_err-text-clause-first : goal.returns-in_err-text-clause-first
-returns-in_err-text-clause-first c = search rules
-
-pub returns-in_err-check_lines-clause-lines : goal.returns-in_err-check_lines-clause-lines
-returns-in_err-check_lines-clause-lines c = search rules
-
-pub returns-in_err-check_lines-clause-reads : goal.returns-in_err-check_lines-clause-reads
-returns-in_err-check_lines-clause-reads c = search rules
-
-pub returns-in_err-check_lines-clause-refuses : goal.returns-in_err-check_lines-clause-refuses
-returns-in_err-check_lines-clause-refuses c = search rules
-
-pub returns-clause-lines : goal.returns-clause-lines
-returns-clause-lines c = search rules
-
-pub returns-clause-refuses : goal.returns-clause-refuses
-returns-clause-refuses c = search rules
-
-pub returns-clause-stands : goal.returns-clause-stands
-returns-clause-stands c = search rules
-
-pub returns-clause-first : goal.returns-clause-first
-returns-clause-first c = search rules

@@ -1,4 +1,4 @@
-use Rattle.std.proofs.Common.{rules, refl, ap, sym, ◌∙◌, drop}
+use Rattle.std.proofs.Common.{refl, ap, sym, ◌∙◌, drop}
 use Rattle.std.specs.List.{list_any}
 use Rattle.std.specs.String.{string_bytes}
 use Rattle.std.proofs.lemmas.Bool.{false≢true}
@@ -26,21 +26,3 @@ returns-in_default-from_utf8-clause-refuses c =
 pub returns-clause-lines : goal.returns-clause-lines
 returns-clause-lines c =
     lines_of-lent c.args.octets.now c.in-Ok-from_utf8.text.now (c.in-Ok-from_utf8.ensures.cases.0 ∙ c.without_mark-unmarked.ensures) (ap (λ z. list_any is_continuation (drop 1 (physical_lines z))) c.in-Ok-from_utf8.ensures.cases.0 ∙ (sym c.is_folded.ensures ∙ c.if-is_folded.false))
-
-pub returns-in_err-unfold-clause-lines : goal.returns-in_err-unfold-clause-lines
-returns-in_err-unfold-clause-lines c = search rules
-
-pub returns-in_err-unfold-clause-refuses : goal.returns-in_err-unfold-clause-refuses
-returns-in_err-unfold-clause-refuses c = search rules
-
-pub returns-in_default-clause-lines : goal.returns-in_default-clause-lines
-returns-in_default-clause-lines c = search rules
-
-pub returns-then-is_folded-clause-refuses : goal.returns-then-is_folded-clause-refuses
-returns-then-is_folded-clause-refuses c = search rules
-
-pub returns-in_default-from_utf8-clause-lines : goal.returns-in_default-from_utf8-clause-lines
-returns-in_default-from_utf8-clause-lines c = search rules
-
-pub returns-clause-refuses : goal.returns-clause-refuses
-returns-clause-refuses c = search rules

@@ -1,5 +1,5 @@
 use Rattle.std.proofs.lemmas.Grind.{common_steps}
-use Rattle.std.proofs.Common.{rules, ◌≡◌, ◌∙◌, sym, arith, Some, to_z, of_z, w64}
+use Rattle.std.proofs.Common.{◌≡◌, ◌∙◌, sym, arith, Some, to_z, of_z, w64}
 use Rattle.std.proofs.lemmas.Int.{ints}
 use Rattle.std.proofs.lemmas.List.{append_cancel_right}
 use Rattle.std.proofs.lemmas.Str.Pattern.{strip_suffix_char}
@@ -18,26 +18,5 @@ returns-in-None-clause-none c = λ instant h.
     let same = append_cancel_right h.0 c.in-Some.local.now _ (sym h.2 ∙ e) in
     c.in-None.ensures.none instant (rw (c.as_bytes.ensures.value, ← same) h.1)
 
-pub returns-in_default-clause-reads : goal.returns-in_default-clause-reads
-returns-in_default-clause-reads c = search rules
-
-pub returns-in_default-clause-refuses : goal.returns-in_default-clause-refuses
-returns-in_default-clause-refuses c = search rules
-
 pub returns-in_default-clause-none : goal.returns-in_default-clause-none
 returns-in_default-clause-none c = grind (arith, common_steps)
-
-pub invariant_of-result : goal.invariant_of-result
-invariant_of-result c = search rules
-
-pub returns-in-Some-read-clause-refuses : goal.returns-in-Some-read-clause-refuses
-returns-in-Some-read-clause-refuses c = search rules
-
-pub returns-in-Some-read-clause-none : goal.returns-in-Some-read-clause-none
-returns-in-Some-read-clause-none c = search rules
-
-pub returns-in-None-clause-reads : goal.returns-in-None-clause-reads
-returns-in-None-clause-reads c = search rules
-
-pub returns-in-None-clause-refuses : goal.returns-in-None-clause-refuses
-returns-in-None-clause-refuses c = search rules
