@@ -1,5 +1,7 @@
 -- Offsets and local times in the widths that hold them.
 use Rattle.std.proofs.Common.{◌≡◌, ◌∙◌, ap, sym, arith, ℤ, ◌-ℤ◌, to_z, of_z, w32, w64}
+use Rattle.std.proofs.lemmas.Int.{to_z-of_z}
+use mir.Val.{SFits}
 use Rattle.jiff_core.proofs.SignedLemmas.{signed_arith}
 use Rattle.profile.specs.text.Values.{IsOffset, IsClockSeconds}
 use Rattle.ical_values.proofs.Facts.{wide_clock}
@@ -20,3 +22,7 @@ read_with s o h k = rw (narrow o k, wide_offset o k, wide_clock s h) (difference
 -- offsets of the same bits are the same
 pub same_bits : (a b : ℤ) → IsOffset a → IsOffset b → of_z w32 a ≡ of_z w32 b → a ≡ b
 same_bits a b h k e = sym (narrow a h) ∙ ap (to_z w32) e ∙ narrow b k
+
+-- and so is a number in range of the same bits
+pub same_offset : (a b : ℤ) → IsOffset a → SFits w32 b → of_z w32 a ≡ of_z w32 b → a ≡ b
+same_offset a b h k e = sym (narrow a h) ∙ (ap (to_z w32) e ∙ to_z-of_z w32 b k)

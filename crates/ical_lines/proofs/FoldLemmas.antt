@@ -76,37 +76,30 @@ keeps_appended a y z more true e f =
     ap (take (length a)) f ∙ (take-append-le (length a) y more l ∙ e)
 keeps_appended a y z more false e f = ap (take (length a)) f ∙ e
 
-chars_colon : (value : List ℕ) → chars (58 ∷ value) ≡ 58 ∷ chars value
-unfolding chars
-chars_colon [] = refl
-chars_colon (b ∷ value) = refl
-
-chars_property : (name value : List ℕ) → IsUtf8 name → chars (name ++ 58 ∷ value) ≡ chars name ++ 58 ∷ chars value
-chars_property name value u = chars-append name (58 ∷ value) u ∙ ap (λ z. chars name ++ z) (chars_colon value)
-
-chars_one : chars (58 ∷ []) ≡ 58 ∷ []
-unfolding chars
-chars_one = refl
-
-parts_joined : (column : ℕ) (cs ds : List ℕ) → (fold_from column cs ++ fold_from (column_after column cs) (58 ∷ [])) ++ fold_from (column_after (column_after column cs) (58 ∷ [])) ds ≡ fold_from column (cs ++ 58 ∷ ds)
-parts_joined column cs ds =
+parts_joined : (column : ℕ) (cs ds es : List ℕ) → (fold_from column cs ++ fold_from (column_after column cs) ds) ++ fold_from (column_after (column_after column cs) ds) es ≡ fold_from column (cs ++ (ds ++ es))
+parts_joined column cs ds es =
     let a = column_after column cs in
-    append_assoc (fold_from column cs) (fold_from a (58 ∷ [])) (fold_from (column_after a (58 ∷ [])) ds) ∙ (ap (λ z. fold_from column cs ++ z) (sym (fold_from-append a (58 ∷ []) ds)) ∙ sym (fold_from-append column cs (58 ∷ ds)))
+    append_assoc (fold_from column cs) (fold_from a ds) (fold_from (column_after a ds) es) ∙ (ap (λ z. fold_from column cs ++ z) (sym (fold_from-append a ds es)) ∙ sym (fold_from-append column cs (ds ++ es)))
 
-pub property_written : {T E : Type 0} (r : Result T E) (old first second third new name value : List ℕ) (a b : ℕ) → IsUtf8 name → first ≡ old ++ fold_from 0 (chars name) → a ≡ column_after 0 (chars name) → second ≡ first ++ fold_from a (chars (58 ∷ [])) → b ≡ column_after a (chars (58 ∷ [])) → third ≡ second ++ fold_from b (chars value) → new ≡ cond (is_ok r) (third ++ 13 ∷ 10 ∷ []) third → OnOk r (new ≡ old ++ folded (name ++ 58 ∷ value))
-property_written (Err x) old first second third new name value a b u e f g h k n = tt
-property_written (Ok x) old first second third new name value a b u e f g h k n =
-    let cs = chars name in
-    let ds = chars value in
-    let ca = column_after 0 cs in
-    let m = fold_from ca (58 ∷ []) in
-    let cb = column_after ca (58 ∷ []) in
-    let g1 : second ≡ (old ++ fold_from 0 cs) ++ m = g ∙ (ap (λ z. first ++ fold_from a z) chars_one ∙ (ap (λ z. z ++ fold_from a (58 ∷ [])) e ∙ ap (λ z. (old ++ fold_from 0 cs) ++ fold_from z (58 ∷ [])) f)) in
-    let h1 : b ≡ cb = h ∙ (ap (λ z. column_after z (chars (58 ∷ []))) f ∙ ap (column_after ca) chars_one) in
-    let k1 : third ≡ ((old ++ fold_from 0 cs) ++ m) ++ fold_from cb ds = k ∙ (ap (λ z. z ++ fold_from b ds) g1 ∙ ap (λ z. ((old ++ fold_from 0 cs) ++ m) ++ fold_from z ds) h1) in
-    let k2 : third ≡ old ++ ((fold_from 0 cs ++ m) ++ fold_from cb ds) = k1 ∙ (ap (λ z. z ++ fold_from cb ds) (append_assoc old (fold_from 0 cs) m) ∙ append_assoc old (fold_from 0 cs ++ m) (fold_from cb ds)) in
-    let k3 : third ≡ old ++ fold_from 0 (chars (name ++ 58 ∷ value)) = k2 ∙ ap (λ z. old ++ z) (parts_joined 0 cs ds ∙ ap (fold_from 0) (sym (chars_property name value u))) in
-    n ∙ (ap (λ z. z ++ 13 ∷ 10 ∷ []) k3 ∙ append_assoc old (fold_from 0 (chars (name ++ 58 ∷ value))) (13 ∷ 10 ∷ []))
+chars_joined : (xs ys zs : List ℕ) → IsUtf8 xs → IsUtf8 ys → chars (xs ++ (ys ++ zs)) ≡ chars xs ++ (chars ys ++ chars zs)
+chars_joined xs ys zs u v = chars-append xs (ys ++ zs) u ∙ ap (λ l. chars xs ++ l) (chars-append ys zs v)
+
+-- a line of three pieces
+pub pieces_written : {T E : Type 0} (r : Result T E) (old one two three new first second third : List ℕ) (a b : ℕ) → IsUtf8 first → IsUtf8 second → one ≡ old ++ fold_from 0 (chars first) → a ≡ column_after 0 (chars first)
+    → two ≡ one ++ fold_from a (chars second) → b ≡ column_after a (chars second) → three ≡ two ++ fold_from b (chars third) → new ≡ cond (is_ok r) (three ++ 13 ∷ 10 ∷ []) three → OnOk r (new ≡ old ++ folded (first ++ (second ++ third)))
+pieces_written (Err x) old one two three new first second third a b u v e f g h k n = tt
+pieces_written (Ok x) old one two three new first second third a b u v e f g h k n =
+    let cs = chars first in
+    let ds = chars second in
+    let es = chars third in
+    let m = fold_from (column_after 0 cs) ds in
+    let two_is : two ≡ (old ++ fold_from 0 cs) ++ m = g ∙ (ap (λ z. z ++ fold_from a ds) e ∙ ap (λ z. (old ++ fold_from 0 cs) ++ fold_from z ds) f) in
+    let column_is : b ≡ column_after (column_after 0 cs) ds = h ∙ ap (λ z. column_after z ds) f in
+    let last = fold_from (column_after (column_after 0 cs) ds) es in
+    let three_is : three ≡ ((old ++ fold_from 0 cs) ++ m) ++ last = k ∙ (ap (λ z. z ++ fold_from b es) two_is ∙ ap (λ z. ((old ++ fold_from 0 cs) ++ m) ++ fold_from z es) column_is) in
+    let apart : ((old ++ fold_from 0 cs) ++ m) ++ last ≡ old ++ ((fold_from 0 cs ++ m) ++ last) = ap (λ z. z ++ last) (append_assoc old (fold_from 0 cs) m) ∙ append_assoc old (fold_from 0 cs ++ m) last in
+    let all : three ≡ old ++ fold_from 0 (chars (first ++ (second ++ third))) = three_is ∙ (apart ∙ ap (λ z. old ++ z) (parts_joined 0 cs ds es ∙ ap (fold_from 0) (sym (chars_joined first second third u v)))) in
+    n ∙ (ap (λ z. z ++ 13 ∷ 10 ∷ []) all ∙ append_assoc old (fold_from 0 (chars (first ++ (second ++ third)))) (13 ∷ 10 ∷ []))
 
 -- ---- what fits on the physical line
 
@@ -132,16 +125,3 @@ column_written text column u h =
     let same = encodes-chars text u in
     let short : column + length (encodes (chars text)) ≤ 75 = rw same h in
     sym ((fits column (chars text) short).1 ∙ ap (λ z. column + length z) same)
-
--- ---- a line of two pieces
-
-pub pieces_written : {T E : Type 0} (r : Result T E) (old one two new first second : List ℕ) (column : ℕ) → IsUtf8 first → one ≡ old ++ fold_from 0 (chars first) → column ≡ column_after 0 (chars first)
-    → two ≡ one ++ fold_from column (chars second) → new ≡ cond (is_ok r) (two ++ 13 ∷ 10 ∷ []) two → OnOk r (new ≡ old ++ folded (first ++ second))
-pieces_written (Err x) old one two new first second column u e f g h = tt
-pieces_written (Ok x) old one two new first second column u e f g h =
-    let cs = chars first in
-    let ds = chars second in
-    let both : fold_from 0 cs ++ fold_from (column_after 0 cs) ds ≡ fold_from 0 (chars (first ++ second)) = sym (fold_from-append 0 cs ds) ∙ ap (fold_from 0) (sym (chars-append first second u)) in
-    let two_is : two ≡ (old ++ fold_from 0 cs) ++ fold_from (column_after 0 cs) ds = g ∙ (ap (λ z. z ++ fold_from column ds) e ∙ ap (λ z. (old ++ fold_from 0 cs) ++ fold_from z ds) f) in
-    let all : two ≡ old ++ fold_from 0 (chars (first ++ second)) = two_is ∙ (append_assoc old (fold_from 0 cs) (fold_from (column_after 0 cs) ds) ∙ ap (λ z. old ++ z) both) in
-    h ∙ (ap (λ z. z ++ 13 ∷ 10 ∷ []) all ∙ append_assoc old (fold_from 0 (chars (first ++ second))) (13 ∷ 10 ∷ []))

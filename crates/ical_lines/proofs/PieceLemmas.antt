@@ -4,7 +4,7 @@ use Rattle.std.specs.List.{onto_first}
 use Rattle.std.specs.Option.{option_map}
 use Rattle.std.specs.Str.{IsUtf8, IsCharBoundary}
 use Rattle.std.proofs.lemmas.Bool.Decides.{nat_tests}
-use Rattle.std.proofs.lemmas.List.{get_or-drop, length-drop}
+use Rattle.std.proofs.lemmas.List.{drop-drop, get_or-drop, length-drop}
 use Rattle.std.proofs.lemmas.Str.{IsUtf8-drop, IsCharBoundary-before_ascii, IsCharBoundary-after_ascii}
 use Rattle.profile.specs.text.Lines.{outside_from, outside, front, back, pieces_from, pieces}
 use Rattle.ical_lines.specs.PiecesOf.{pieces_of}
@@ -32,8 +32,12 @@ pieces_first stop q (c ∷ cs) =
     rw (pieces_first stop (not q) cs, pieces_first stop q cs) (first_by (pieces_from stop false) c cs (outside_from stop (not q) cs) (outside_from stop q cs) (eqb c 34) (eqb c stop && not q))
 
 pub pieces_step : (stop : ℕ) (text f : List ℕ) (r : Option (Bor (List ℕ))) → f ≡ front stop text → MatchOption r (length text ≤ outside stop text) (λ x. (outside stop text < length text) × (x.now ≡ back stop text)) → pieces stop text ≡ f ∷ pieces_of stop (option_map (λ x. x.now) r)
-pieces_step stop text f None e h = pieces_first stop false text ∙ grind (arith, nat_tests)
-pieces_step stop text f (Some x) e h = pieces_first stop false text ∙ grind (arith, nat_tests)
+pieces_step stop text f None e h =
+    let ended : ltb (outside stop text) (length text) ≡ false = grind (arith, nat_tests, h) in
+    pieces_first stop false text ∙ rw (ended, e) refl
+pieces_step stop text f (Some x) e h =
+    let goes : ltb (outside stop text) (length text) ≡ true = grind (arith, nat_tests, h.0) in
+    pieces_first stop false text ∙ rw (goes, e, h.1) refl
 
 -- a text may be cut after an ASCII stop
 pub boundary_past : (text bytes rest : List ℕ) (n stop : ℕ) → IsUtf8 text → bytes ≡ text → rest ≡ drop n text → 0 < length rest → (n < length bytes → get_or bytes n 0 ≡ stop) → stop < 128 → IsCharBoundary rest 1
@@ -48,3 +52,7 @@ boundary_past text bytes rest n stop u b e h at ascii =
 
 pub shorter : {B : Type 0} (xs ys : List B) (y : B) → xs ≡ y ∷ ys → length ys < length xs
 shorter xs ys y e = omega (arith, ap length e)
+
+-- what stands behind a stop that was found
+pub cut_past : (text rest after : List ℕ) (n stop : ℕ) → n ≡ outside stop text → rest ≡ drop n text → 0 < length rest → after ≡ drop 1 rest → (outside stop text < length text) × (after ≡ back stop text)
+cut_past text rest after n stop e f l g = (omega (arith, e, ap length f, length-drop n text), g ∙ (ap (drop 1) f ∙ (drop-drop 1 n text ∙ ap (λ k. drop (k + 1) text) e)))

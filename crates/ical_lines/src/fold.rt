@@ -24,7 +24,7 @@ pub fn write_line(out: &mut Vec<u8>, text: &str) -> Result<(), AllocError>
         → unfolded (physical_lines (folded text.now ++ rest)) ≡ text.now ∷ unfolded (physical_lines rest) }
     ensures short { is_one_line text.now ≡ true → list_all is_short (physical_lines (folded text.now)) ≡ true }
 {
-    write_pieces(out, text, "")
+    write_joined(out, text, "", "")
 }
 
 /// Writes one content line of two pieces, the second right behind the first, folded and ended by CRLF. Pieces without LF read back
@@ -39,14 +39,7 @@ pub fn write_pieces(out: &mut Vec<u8>, first: &str, second: &str) -> Result<(), 
         → unfolded (physical_lines (folded (first.now ++ second.now) ++ rest)) ≡ (first.now ++ second.now) ∷ unfolded (physical_lines rest) }
     ensures short { is_one_line (first.now ++ second.now) ≡ true → list_all is_short (physical_lines (folded (first.now ++ second.now))) ≡ true }
 {
-    let kept = out.len();
-    match fold_pieces(out, first, second) {
-        Ok(()) => Ok(()),
-        Err(error) => {
-            out.truncate(kept);
-            Err(error)
-        }
-    }
+    write_joined(out, first, second, "")
 }
 
 /// Writes the line `name:value`, folded and ended by CRLF. The name may have parameters.
@@ -60,8 +53,17 @@ pub fn write_property(out: &mut Vec<u8>, name: &str, value: &str) -> Result<(), 
         → unfolded (physical_lines (folded (name.now ++ 58 ∷ value.now) ++ rest)) ≡ (name.now ++ 58 ∷ value.now) ∷ unfolded (physical_lines rest) }
     ensures short { is_one_line (name.now ++ 58 ∷ value.now) ≡ true → list_all is_short (physical_lines (folded (name.now ++ 58 ∷ value.now))) ≡ true }
 {
+    write_joined(out, name, ":", value)
+}
+
+/// Writes one content line of three pieces, one right behind another, folded and ended by CRLF.
+/// Where memory is refused, `out` is unchanged.
+fn write_joined(out: &mut Vec<u8>, first: &str, second: &str, third: &str) -> Result<(), AllocError>
+    ensures written { OnOk result (out.new.items ≡ out.old.items ++ folded (first.now ++ (second.now ++ third.now))) }
+    ensures unchanged { OnErr result (out.new.items ≡ out.old.items) }
+{
     let kept = out.len();
-    match fold_property(out, name, value) {
+    match fold_pieces(out, first, second, third) {
         Ok(()) => Ok(()),
         Err(error) => {
             out.truncate(kept);
@@ -70,24 +72,14 @@ pub fn write_property(out: &mut Vec<u8>, name: &str, value: &str) -> Result<(), 
     }
 }
 
-/// Appends a folded line of two pieces and its line break. On an error some of it may have been appended.
-fn fold_pieces(out: &mut Vec<u8>, first: &str, second: &str) -> Result<(), AllocError>
-    ensures written { OnOk result (out.new.items ≡ out.old.items ++ folded (first.now ++ second.now)) }
+/// Appends a folded line of three pieces and its line break. On an error some of it may have been appended.
+fn fold_pieces(out: &mut Vec<u8>, first: &str, second: &str, third: &str) -> Result<(), AllocError>
+    ensures written { OnOk result (out.new.items ≡ out.old.items ++ folded (first.now ++ (second.now ++ third.now))) }
     ensures keeps { take (length out.old.items) out.new.items ≡ out.old.items }
 {
-    let column = fold_part(out, 0, first)?;
-    fold_part(out, column, second)?;
-    out.extend_from_slice(b"\r\n")
-}
-
-/// Appends the folded line `name:value` and its line break. On an error some of it may have been appended.
-fn fold_property(out: &mut Vec<u8>, name: &str, value: &str) -> Result<(), AllocError>
-    ensures written { OnOk result (out.new.items ≡ out.old.items ++ folded (name.now ++ 58 ∷ value.now)) }
-    ensures keeps { take (length out.old.items) out.new.items ≡ out.old.items }
-{
-    let after_name = fold_part(out, 0, name)?;
-    let after_colon = fold_part(out, after_name, ":")?;
-    fold_part(out, after_colon, value)?;
+    let after_first = fold_part(out, 0, first)?;
+    let after_second = fold_part(out, after_first, second)?;
+    fold_part(out, after_second, third)?;
     out.extend_from_slice(b"\r\n")
 }
 

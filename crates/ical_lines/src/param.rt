@@ -72,8 +72,10 @@ impl<'a> Iterator for Params<'a> {
     ghost remaining = { item_count params_left };
 
     fn next(&mut self) -> Option<Param<'a>> {
-        let piece = self.pieces.next()?;
-        Some(Param::of(piece))
+        match self.pieces.next() {
+            Some(piece) => Some(Param::of(piece)),
+            None => None,
+        }
     }
 }
 
@@ -91,7 +93,7 @@ pub(crate) fn fault_of(params: Pieces<'_>) -> Option<Refusal>
         if !is_name(name) {
             return Some(Refusal::BAD_NAME);
         }
-        has_bad_quote = has_bad_quote || has_no_item(Pieces::of(value, b','));
+        has_bad_quote |= has_no_item(Pieces::of(value, b','));
     }
     if has_bad_quote {
         Some(Refusal::BAD_QUOTE)
@@ -101,10 +103,15 @@ pub(crate) fn fault_of(params: Pieces<'_>) -> Option<Refusal>
 }
 
 /// Whether one of some values is neither quoted nor free of quotes.
-fn has_no_item(mut values: Pieces<'_>) -> bool
+fn has_no_item(values: Pieces<'_>) -> bool
     ensures { result ≡ list_any (λ item. not (is_item item)) (pieces_left values.entry) }
 {
-    values.any(|value| !is_item(value))
+    for value in values {
+        if !is_item(value) {
+            return true;
+        }
+    }
+    false
 }
 
 /// Whether a text is one value of a parameter: quoted, or without a quote.

@@ -117,9 +117,13 @@ impl<'a> Iterator for Pieces<'a> {
     ghost remaining = { item_count pieces_left };
 
     fn next(&mut self) -> Option<&'a str> {
-        let text = self.rest?;
-        let (piece, rest) = split_outside(text, self.stop);
-        self.rest = rest;
-        Some(piece)
+        match self.rest {
+            Some(text) => {
+                let (piece, rest) = split_outside(text, self.stop);
+                self.rest = rest;
+                Some(piece)
+            }
+            None => None,
+        }
     }
 }

@@ -162,8 +162,10 @@ impl<'a> Iterator for Lines<'a> {
 
     #[inline]
     fn next(&mut self) -> Option<Line<'a>> {
-        let text = self.next_text()?;
-        Some(Line::of(text))
+        match self.next_text() {
+            Some(text) => Some(Line::of(text)),
+            None => None,
+        }
     }
 }
 

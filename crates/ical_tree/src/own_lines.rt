@@ -49,9 +49,13 @@ impl<'a> Run<'a> {
         if self.count == 0 {
             return None;
         }
-        let line = self.from.next()?;
-        self.count -= 1;
-        Some(line)
+        match self.from.next() {
+            Some(line) => {
+                self.count -= 1;
+                Some(line)
+            }
+            None => None,
+        }
     }
 }
 

@@ -1,4 +1,5 @@
-use Rattle.std.proofs.Common.{rules, ◌≡◌, ◌+◌, true, pos, Bool, ◌&&◌, refl}
+use Rattle.std.proofs.lemmas.Grind.{common_steps}
+use Rattle.std.proofs.Common.{rules, ◌≡◌, ◌+◌, true, pos, Bool, ◌&&◌, refl, arith}
 use borrow.Author.Tests.{tests}
 use Rattle.std.specs.List.{list_all, list_any, range_with_len}
 use Rattle.std.specs.Ordering.{int_eq}
@@ -20,3 +21,6 @@ returns-then-all c =
     let each : c.all-then-all.result ≡ list_all (λ more. list_any (λ x. int_eq x (pos (first + more))) numbers) (range_with_len 0 7) =
     all_from_yields_List (λ more. list_any (λ x. int_eq x (pos (first + more))) numbers) c.all-then-all.new.self _ c.all-then-all.result c.all-then-all.ensures.ran (YieldsList-from_range 0 7 7 refl refl) (λ x b q k. search (rules, tests)) in
     both c.all.result c.all-then-all.result (list_all (is_of_seven first) numbers) (list_all (λ more. list_any (λ x. int_eq x (pos (first + more))) numbers) (range_with_len 0 7)) c.if-all.true within each
+
+pub returns-else-all : goal.returns-else-all
+returns-else-all c = grind (arith, common_steps)

@@ -1,4 +1,5 @@
-use Rattle.std.proofs.Common.{rules}
+use Rattle.std.proofs.lemmas.Grind.{common_steps}
+use Rattle.std.proofs.Common.{rules, arith}
 use Rattle.std.proofs.lemmas.Int.{ints}
 use Rattle.std.proofs.Common.{◌≡◌, ◌∙◌, ap, sym, refl, ℕ, ℤ, ◌≤◌, pos, arith, Some, Bor, Ordering, Less, Equal, Greater, Result, nat_abs, w16, to_z, of_z}
 use Rattle.std.specs.List.{reduce}
@@ -46,3 +47,9 @@ returns-clause-found c = search (ints, rules)
 
 pub returns-clause-none : goal.returns-clause-none
 returns-clause-none c = search (ints, rules)
+
+pub returns-in_err-min-clause-none : goal.returns-in_err-min-clause-none
+returns-in_err-min-clause-none c = grind (arith, common_steps)
+
+pub returns-in_err-first-clause-none : goal.returns-in_err-first-clause-none
+returns-in_err-first-clause-none c = grind (arith, common_steps)

@@ -1,3 +1,4 @@
+use Rattle.std.proofs.lemmas.Grind.{common_steps}
 use Rattle.std.proofs.Common.{length, arith}
 use Rattle.std.specs.Str.{chars}
 use Rattle.std.proofs.lemmas.Iterator.{YieldsList-from_chars}
@@ -27,3 +28,6 @@ returns-clause-column c =
 
 pub returns-in_err-at-clause-keeps : goal.returns-in_err-at-clause-keeps
 returns-in_err-at-clause-keeps c = keeps_on _ c.loop-character.out.items _ c.loop-character.invariant.keeps c.fold_character.ensures.keeps
+
+pub loop-character-init : goal.loop-character-init
+loop-character-init c = grind (arith, common_steps)

@@ -1,3 +1,4 @@
+use Rattle.std.proofs.lemmas.Grind.{common_steps}
 use Rattle.std.proofs.Common.{sym, ◌∙◌, refl, arith}
 use Rattle.ical_lines.proofs.CutLemmas.{cut_here, cut_none, cut_all}
 use Rattle.ical_lines.proofs.BegunLemmas.{begun_here, begun_all}
@@ -26,3 +27,6 @@ returns-else-has_begun c = record {
   rest = cut_none c.loop-place.cutter c.args.bytes.now c.loop-place.place c.loop-place-test.false c.loop-place.invariant.rest;
   begun = sym (begun_all c.loop-place.cutter c.args.bytes.now c.loop-place.place c.loop-place-test.false c.loop-place.invariant.begun ∙ (sym c.has_begun.ensures ∙ c.if-has_begun.false));
 }
+
+pub loop-place-preserved : goal.loop-place-preserved
+loop-place-preserved c = grind (arith, common_steps)

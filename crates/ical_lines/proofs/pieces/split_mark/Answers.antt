@@ -1,4 +1,5 @@
-use Rattle.std.proofs.Common.{ap, sym, ◌∙◌}
+use Rattle.std.proofs.lemmas.Grind.{common_steps}
+use Rattle.std.proofs.Common.{ap, sym, ◌∙◌, arith}
 use Rattle.std.specs.List.{position}
 use Rattle.ical_lines.specs.Breaks.{is_mark}
 use Rattle.ical_lines.proofs.MarkLemmas.{mark_at, plain_before, plain_all}
@@ -15,3 +16,6 @@ returns-in-Some-clause-plain c =
 pub returns-in-None-clause-plain : goal.returns-in-None-clause-plain
 returns-in-None-clause-plain c =
     plain_all c.args.text.now (sym (ap (position is_mark) c.as_bytes.ensures.value) ∙ (sym c.first_mark.ensures ∙ c.in-None.is))
+
+pub returns-in-Some-clause-whole : goal.returns-in-Some-clause-whole
+returns-in-Some-clause-whole c = grind (arith, common_steps)

@@ -1,3 +1,4 @@
+use Rattle.std.proofs.lemmas.Grind.{common_steps}
 use Rattle.std.proofs.Common.{◌∙◌, arith, Some, None, ap}
 use Rattle.std.proofs.lemmas.Str.Pattern.{split_after}
 use Rattle.profile.specs.text.Values.{is_scheme, is_path}
@@ -17,3 +18,6 @@ pub returns-else-is_scheme-clause-complete : goal.returns-else-is_scheme-clause-
 returns-else-is_scheme-clause-complete c = λ h.
     let both = split_after 58 c.args.text.now h.0 h.1 (Some (c.in-Some.scheme, c.in-Some.path)) c.in-Some.ensures.cases (omega arith) h.2 (scheme_no_colon h.0 h.3) in
     c.is_scheme.ensures ∙ ap is_scheme (c.as_bytes.ensures.value ∙ both.0) ∙ h.3
+
+pub returns-then-is_scheme-clause-sound : goal.returns-then-is_scheme-clause-sound
+returns-then-is_scheme-clause-sound c = grind (arith, common_steps)

@@ -1,3 +1,4 @@
+use Rattle.std.proofs.lemmas.Grind.{common_steps}
 use Rattle.std.proofs.Common.{◌≡◌, ◌≤◌, length, is_some, true, sym, ◌∙◌, arith}
 use Rattle.profile.specs.text.Objects.{may_begin}
 use Rattle.ical_tree.specs.Reading.{Built, names_of, open_view}
@@ -14,3 +15,12 @@ returns-clause-built c = λ done line o b.
     let may : may_begin (names_of (open_view mid)) (is_some mid.closed) (component_name c.new.result) ≡ true = rw (moved.view, moved.closed, c.new.ensures.name) (sym c.may_begin.ensures ∙ c.if-not-may_begin.false) in
     let built : Built (open_view mid) mid.closed done = rw (moved.view, moved.closed) b in
     rw c.in_ok-push.ensures.items (begun mid.«open».items (run_lines mid.run) c.new.result mid.closed done line moved.empty (rw c.new.ensures.name o) c.new.ensures.lines c.new.ensures.children may few built)
+
+pub returns-then-len-ge-MAX_DEPTH-clause-stands : goal.returns-then-len-ge-MAX_DEPTH-clause-stands
+returns-then-len-ge-MAX_DEPTH-clause-stands c = grind (arith, common_steps)
+
+pub returns-then-not-may_begin-clause-stands : goal.returns-then-not-may_begin-clause-stands
+returns-then-not-may_begin-clause-stands c = grind (arith, common_steps)
+
+pub returns-clause-names : goal.returns-clause-names
+returns-clause-names c = grind (arith, common_steps)

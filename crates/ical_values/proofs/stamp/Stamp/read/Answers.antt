@@ -1,3 +1,4 @@
+use Rattle.std.proofs.lemmas.Grind.{common_steps}
 use Rattle.std.proofs.Common.{◌≡◌, ◌∙◌, sym, arith, Some, to_z, of_z, w64}
 use Rattle.std.proofs.lemmas.Int.{ints}
 use Rattle.std.proofs.lemmas.List.{append_cancel_right}
@@ -16,3 +17,6 @@ returns-in-None-clause-none c = λ instant h.
     let e = strip_suffix_char 90 c.args.text.now (Some c.in-Some.local) c.in-Some.ensures.cases (omega arith) in
     let same = append_cancel_right h.0 c.in-Some.local.now _ (sym h.2 ∙ e) in
     c.in-None.ensures.none instant (rw (c.as_bytes.ensures.value, ← same) h.1)
+
+pub returns-in_default-clause-none : goal.returns-in_default-clause-none
+returns-in_default-clause-none c = grind (arith, common_steps)
