@@ -17,7 +17,7 @@ use Rattle.profile.specs.events.Starts.{ComesBefore}
 use Rattle.profile.specs.events.Confirmed.{Confirmed, is_kept, is_series, IsInstanceAmong, IsConfirmed, IsOfSeries, IsSingle, AreSingles, MastersDiffer, OverridesDiffer}
 use Rattle.cal_events.specs.Calendars.{HaveDifferentKeys}
 use Rattle.cal_events.specs.Drafts.{IsSaid}
-use Rattle.cal_events.proofs.InOneOrder.{later, none_in, head_pairs, tail_pairs, cons_pairs, append_pairs}
+use Rattle.cal_events.proofs.InOneOrder.{later, none_in, in_filtered, head_pairs, tail_pairs, cons_pairs, append_pairs}
 use Rattle.cal_events.proofs.OneCalendar.{OneEvent, same_events}
 use Rattle.cal_events.proofs.OneText.{OneTree}
 use Rattle.cal_events.proofs.OwnSingles.{of_both, is_a_master, master_alone, override_alone, one_of_key}
@@ -74,8 +74,8 @@ module _ (events : List Event) (masters : MastersDiffer events) (overrides : Ove
   one_confirmed room said a b h k same =
       elim (cases_order h.among.0 k.among.0) [
         | inl at ↦
-          let one : h.event ≡ k.event = sym h.among.2 ∙ ap (λ n. get_or events n h.event) at ∙ get_or_default events k.among.0 h.event k.event k.among.1 ∙ k.among.2 in
-          one_of_key k.event a b (All-contains IsSaid events k.event said k.among) (subst (λ (e : Event). IsInstanceAmong events e a) one h.is).is k.is.is same
+            let one : h.event ≡ k.event = sym h.among.2 ∙ ap (λ n. get_or events n h.event) at ∙ get_or_default events k.among.0 h.event k.event k.among.1 ∙ k.among.2 in
+            one_of_key k.event a b (All-contains IsSaid events k.event said k.among) (subst (λ (e : Event). IsInstanceAmong events e a) one h.is).is k.is.is same
         | inr o ↦ elim o [
           | inl l ↦ absurd (at_places h.among.0 k.among.0 h.event k.event l k.among.1 h.among.2 k.among.2 a b h.is k.is same)
           | inr l ↦ absurd (at_places k.among.0 h.among.0 k.event h.event l h.among.1 k.among.2 h.among.2 b a k.is h.is (sym same))
@@ -193,19 +193,10 @@ module _ (tree : OneTree) (one : OneEvent) (room octets : List ℕ) (all : Confi
       subst (λ (l : List Booked). Contains l b) (sym s.says.are.singles)
       (in_lists s.says.events s.says.masters s.says.overrides room s.says.events s.says.are.lists k.event b s.says.are.each k.among (record { kept = k.kept; is = k.is; apart = λ series. no_series k.event k.among k.kept series }))
     where
-      filtered : (p : Event → Bool) (xs : List Event) (x : Event) → Contains xs x → p x ≡ true → Contains (filter p xs) x
-      filtered p [] x c h = absurd (none_in x c)
-      filtered p (y ∷ ys) x (zero, w, e) h = subst (λ (b : Bool). Contains (cond b (y ∷ filter p ys) (filter p ys)) x) (sym (ap p e ∙ h)) (zero, omega arith, e)
-      filtered p (y ∷ ys) x (suc k, w, e) h = go (p y) (filtered p ys x (k, omega (arith, w), e) h)
-        where
-          go : (b : Bool) → Contains (filter p ys) x → Contains (cond b (y ∷ filter p ys) (filter p ys)) x
-          go true c = later y x (filter p ys) c
-          go false c = c
-
       no_series : (e : Event) → Contains s.says.events e → is_kept room e ≡ true → IsOfSeries e b → ⊥
       no_series e c kept series =
           none_in e (subst (λ (l : List Event). Contains l e) (sym s.says.are.series ∙ none)
-          (filtered (is_series room) s.says.events e c (ap (λ x. x && is_master e && is_some e.rule) kept ∙ ap (λ x. x && is_some e.rule) series.master ∙ ap is_some series.has)))
+          (in_filtered (is_series room) s.says.events e c (ap (λ x. x && is_master e && is_some e.rule) kept ∙ ap (λ x. x && is_some e.rule) series.master ∙ ap is_some series.has)))
 
   pub one_key : (a b : Booked) → IsConfirmedIn room octets a → IsConfirmedIn room octets b → a.key ≡ b.key → a ≡ b
   one_key a b h k same =

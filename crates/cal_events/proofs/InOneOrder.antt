@@ -1,5 +1,5 @@
 -- Lists of which each element comes before each later one.
-use Rattle.std.proofs.Common.{◌≡◌, ◌∙◌, ℕ, ◌<◌, zero, suc, List, [], ◌∷◌, ◌++◌, get_or, length, subst, sym, refl, ap, inl, inr, ◌⊎◌, arith}
+use Rattle.std.proofs.Common.{◌≡◌, ◌∙◌, ℕ, ◌<◌, zero, suc, Bool, true, false, cond, List, [], ◌∷◌, ◌++◌, map, filter, get_or, length, subst, sym, refl, ap, inl, inr, ◌⊎◌, arith}
 use Rattle.std.specs.Prelude.{All, AllPairs, Contains}
 use Rattle.std.proofs.lemmas.List.Elements.{All-contains}
 
@@ -63,3 +63,45 @@ module _ {X : Type 0} (R : X → X → Type 0) where
       (λ z c. elim (first_or_later y z ys (h z (later x z xs c))) [ inl e ↦ absurd (irr x (subst (R x) (sym (first ∙ e)) (head_pairs x z xs p c))) | inr d ↦ d ])
       (λ z c. elim (first_or_later x z xs (k z (later y z ys c))) [ inl e ↦ absurd (irr y (subst (R y) (sym (sym first ∙ e)) (head_pairs y z ys q c))) | inr d ↦ d ]) in
       λ i. first i ∷ rest i
+
+-- elements of lists that were mapped or filtered
+pub in_mapped : {X Y : Type 0} (f : X → Y) (xs : List X) (x : X) → Contains xs x → Contains (map f xs) (f x)
+in_mapped f [] x c = absurd (none_in x c)
+in_mapped f (y ∷ ys) x (zero, w, e) = (zero, omega arith, ap f e)
+in_mapped f (y ∷ ys) x (suc k, w, e) = later (f y) (f x) (map f ys) (in_mapped f ys x (k, omega (arith, w), e))
+
+pub of_mapped : {X Y : Type 0} (f : X → Y) (xs : List X) (y : Y) → Contains (map f xs) y → (x : X) × Contains xs x × (f x ≡ y)
+of_mapped f [] y c = absurd (none_in y c)
+of_mapped f (x ∷ xs) y (zero, w, e) = (x, (zero, omega arith, refl), e)
+of_mapped f (x ∷ xs) y (suc k, w, e) = let r = of_mapped f xs y (k, omega (arith, w), e) in (r.0, later x r.0 xs r.1, r.2)
+
+pub in_filtered : {X : Type 0} (p : X → Bool) (xs : List X) (x : X) → Contains xs x → p x ≡ true → Contains (filter p xs) x
+in_filtered p [] x c h = absurd (none_in x c)
+in_filtered p (y ∷ ys) x (zero, w, e) h = subst (λ (b : Bool). Contains (cond b (y ∷ filter p ys) (filter p ys)) x) (sym (ap p e ∙ h)) (zero, omega arith, e)
+in_filtered p (y ∷ ys) x (suc k, w, e) h = go (p y) (in_filtered p ys x (k, omega (arith, w), e) h)
+  where
+    go : (b : Bool) → Contains (filter p ys) x → Contains (cond b (y ∷ filter p ys) (filter p ys)) x
+    go true c = later y x (filter p ys) c
+    go false c = c
+
+pub of_filtered : {X : Type 0} (p : X → Bool) (xs : List X) (x : X) → Contains (filter p xs) x → Contains xs x × (p x ≡ true)
+of_filtered p [] x c = absurd (none_in x c)
+of_filtered {X} p (y ∷ ys) x c = go (p y) refl c (λ d. of_filtered p ys x d)
+  where
+    go : (b : Bool) → p y ≡ b → Contains (cond b (y ∷ filter p ys) (filter p ys)) x → (Contains (filter p ys) x → Contains ys x × (p x ≡ true)) → Contains (y ∷ ys) x × (p x ≡ true)
+    go true e (zero, w, is) rest = ((zero, omega arith, is), sym (ap p is) ∙ e)
+    go true e (suc k, w, is) rest = let r = rest (k, omega (arith, w), is) in (later y x ys r.0, r.1)
+    go false e c rest = let r = rest c in (later y x ys r.0, r.1)
+
+-- order of what was mapped
+pub pairs_mapped : {X Y : Type 0} (R : Y → Y → Type 0) (f : X → Y) (xs : List X) → AllPairs (λ a b. R (f a) (f b)) xs → AllPairs R (map f xs)
+pairs_mapped R f [] p = λ i j d l w. absurd (omega (arith, w))
+pairs_mapped R f (x ∷ xs) p =
+    cons_pairs R (f x) (map f xs)
+    (λ y c. let r = of_mapped f xs y c in subst (R (f x)) r.2 (head_pairs (λ a b. R (f a) (f b)) x r.0 xs p r.1))
+    (pairs_mapped R f xs (tail_pairs (λ a b. R (f a) (f b)) x xs p))
+
+pub mapped_pairs : {X Y : Type 0} (R : Y → Y → Type 0) (f : X → Y) (xs : List X) → AllPairs R (map f xs) → AllPairs (λ a b. R (f a) (f b)) xs
+mapped_pairs R f [] p = λ i j d l w. absurd (omega (arith, w))
+mapped_pairs R f (x ∷ xs) p =
+    cons_pairs (λ a b. R (f a) (f b)) x xs (λ y c. head_pairs R (f x) (f y) (map f xs) p (in_mapped f xs y c)) (mapped_pairs R f xs (tail_pairs R (f x) (map f xs) p))

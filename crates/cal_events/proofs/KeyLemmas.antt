@@ -1,5 +1,5 @@
 -- Keys of instances in order: equal ones are neighbours, and one is looked for by halves.
-use Rattle.std.proofs.Common.{◌≡◌, ◌≢◌, ℕ, [], ◌∷◌, ◌+◌, ◌<◌, ◌≤◌, ◌-◌, true, false, List, map, length, get_or, subst, sym, refl, ap, ◌∙◌, inl, inr, arith, Ordering, ℤ}
+use Rattle.std.proofs.Common.{◌≡◌, ◌≢◌, ℕ, [], ◌∷◌, ◌+◌, ◌<◌, ◌≤◌, ◌-◌, true, false, List, map, length, get_or, subst, sym, refl, ap, ◌∙◌, inl, inr, ◌⊎◌, arith, Ordering, ℤ}
 use Rattle.std.specs.Prelude.{AllPairs, Result, Ok, Err, Bool, not, ◌&&◌}
 use Rattle.std.specs.declared.cmp.Ordering.TheVariants.{Less, Equal, Greater}
 use Rattle.std.specs.Ordering.{is_lt, is_eq, int_eq, nat_cmp, int_cmp, ordering_then, ordering_reverse}
@@ -40,6 +40,15 @@ key_itself k = go (key_cmp k k) (key_total.antisymm k k)
     go Less e = cc
     go Equal e = refl
     go Greater e = cc
+
+-- two keys are one or two
+pub same_or_other : (a b : Key) → (a ≡ b) ⊎ (a ≢ b)
+same_or_other a b = go (key_cmp a b) refl
+  where
+    go : (r : Ordering) → key_cmp a b ≡ r → (a ≡ b) ⊎ (a ≢ b)
+    go Less e = inr (λ same. let x = sym e ∙ ap (key_cmp a) (sym same) ∙ key_itself a in cc)
+    go Equal e = inl (key_exact a b e)
+    go Greater e = inr (λ same. let x = sym e ∙ ap (key_cmp a) (sym same) ∙ key_itself a in cc)
 
 -- neither is less than the other
 tie : (a b : Key) → is_lt (key_cmp a b) ≡ false → is_lt (key_cmp b a) ≡ false → a ≡ b
@@ -136,11 +145,11 @@ module _ (ps : List InstanceKey) (next : ℕ) (first : 1 ≤ next) (within : nex
       elim (cases_lt (k + 1) next) [
         | inl below ↦ h k x below same
         | inr from ↦
-          let at : k + 1 ≡ next = omega (arith, w, from) in
-          let at_k : k ≡ next - 1 = omega (arith, w, from) in
-          let a : get_or ps k x ≡ get_or ps (next - 1) d = ap (λ j. get_or ps j x) at_k ∙ get_or_default ps (next - 1) x d (omega (arith, first, within)) in
-          let b : get_or ps (k + 1) x ≡ get_or ps next e = ap (λ j. get_or ps j x) at ∙ get_or_default ps next x e within in
-          true≢false (sym (key_same (get_or ps (next - 1) d) (get_or ps next e) (ap key_of (sym a) ∙ same ∙ ap key_of b)) ∙ sym differ)
+            let at : k + 1 ≡ next = omega (arith, w, from) in
+            let at_k : k ≡ next - 1 = omega (arith, w, from) in
+            let a : get_or ps k x ≡ get_or ps (next - 1) d = ap (λ j. get_or ps j x) at_k ∙ get_or_default ps (next - 1) x d (omega (arith, first, within)) in
+            let b : get_or ps (k + 1) x ≡ get_or ps next e = ap (λ j. get_or ps j x) at ∙ get_or_default ps next x e within in
+            true≢false (sym (key_same (get_or ps (next - 1) d) (get_or ps next e) (ap key_of (sym a) ∙ same ∙ ap key_of b)) ∙ sym differ)
       ]
 
 -- what a search by halves says

@@ -30,6 +30,7 @@ pub mod DraftKeys
 pub mod OwnSingles
 pub mod DraftLemmas
 pub mod ConfirmedLemmas
+pub mod PlainSingles
 pub mod ClashLemmas
 pub mod Distinct
 pub mod SweepLemmas

@@ -207,10 +207,14 @@ module _ (room : List ℕ) (place : ℕ) (event : Event) (said : IsSaid event) (
     are = record {
       each = All-cons (IsOwn room event) (booked s) [] own (All-nil (IsOwn room event));
       ordered = cons_pairs ComesBefore (booked s) [] (λ y c. absurd (none_in y c)) (λ i j d l w. absurd (omega (arith, w)));
-      all = λ b h. (zero, omega arith, one_of_key event (booked s) b said own.is h.is (
-        let x = override_alone event b slot is h.is in
-        (λ i. record { organiser = (meeting_said event).0; uid = (meeting_said event).1; slot = (of ∙ same_Some slot b.key.slot (sym is ∙ x.slot)) i }) ∙ sym x.key
-      ));
+      all = λ b h. (
+        zero,
+        omega arith,
+        one_of_key event (booked s) b said own.is h.is (
+            let x = override_alone event b slot is h.is in
+            (λ i. record { organiser = (meeting_said event).0; uid = (meeting_said event).1; slot = (of ∙ same_Some slot b.key.slot (sym is ∙ x.slot)) i }) ∙ sym x.key
+            ),
+      );
     };
   }
     where

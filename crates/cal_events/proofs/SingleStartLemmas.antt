@@ -86,7 +86,7 @@ module _ (master : Event) (instant : ℤ) (rule : Parts) (is : master.rule ≡ S
       let r = it_gives h in
       elim (cases_order r.day found) [
         | inl same ↦
-          let e = one (local_time found second) instant start (subst (λ (x : ℕ). Means (clock_of master.times.zone) (local_time x second) instant) same (means_too r)) means in omega (arith, ints, e, less)
+            let e = one (local_time found second) instant start (subst (λ (x : ℕ). Means (clock_of master.times.zone) (local_time x second) instant) same (means_too r)) means in omega (arith, ints, e, less)
         | inr x ↦ elim x [
           | inl before ↦ none_earlier master [] (at instant) rule is one first second on from none found next r.day before r.listed instant (means_too r) wanted
           | inr after ↦ let l : start <ℤ instant = up (local_time found second) (local_time r.day second) start instant means (means_too r) (omega (arith, ints, after)) in omega (arith, ints, l, less)

@@ -325,7 +325,11 @@ fn days_from(event: &Event, from: i64) -> RuleDays<'_>
 }
 
 /// The same of a master.
-pub(crate) fn days_of<'a>(master: &'a EventComponent, overrides: &[EventComponent], from: i64) -> RuleDays<'a>
+pub(crate) fn days_of<'a>(
+    master: &'a EventComponent,
+    overrides: &[EventComponent],
+    from: i64,
+) -> RuleDays<'a>
     ensures { AreWalked (event_of master.now) (map event_of overrides.now) (record { start = from; slot = None }) result }
 {
     match &master.rule {

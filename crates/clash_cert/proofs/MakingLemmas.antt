@@ -1,36 +1,25 @@
 -- Which of two clashing instances is named first.
-use Rattle.std.proofs.Common.{◌≡◌, ℕ, true, false, ◌<◌, ℤ, ◌≤ℤ◌, List, map, length, get_or, subst, sym, refl, ap, ◌∙◌, arith, Ordering}
-use Rattle.std.specs.Prelude.{Result, Ok, Err, IfOk, MatchBool}
+use Rattle.std.proofs.Common.{◌≡◌, ℕ, Bool, true, false, ◌<◌, ℤ, ◌≤ℤ◌, List, [], ◌∷◌, length, get_or, subst, sym, refl, ap, ◌∙◌, arith, Ordering}
+use Rattle.std.specs.Prelude.{Option, Some, None, option_map, is_some, Result, Ok, Err, IfOk, MatchBool}
 use Rattle.std.specs.declared.cmp.Ordering.TheVariants.{Less, Equal, Greater}
 use Rattle.std.specs.Ordering.{is_lt, nat_cmp, int_cmp, ordering_then, ordering_reverse}
 use Rattle.std.specs.Cmp.{IsTotalOrder}
 use Rattle.std.specs.Cmp.Lexicographic.{slice_cmp}
 use Rattle.std.proofs.lemmas.Cmp.{on_total, then_total, nat_list_cmp_total, int_cmp_total}
 use Rattle.std.proofs.lemmas.Int.{ints}
-use Rattle.std.proofs.lemmas.List.{get_or-map}
-use Rattle.std.proofs.lemmas.Map.Lookups.{exact_pairs, exact_bytes, exact_signed}
+use Rattle.std.specs.List.{slice_get}
+use Rattle.std.proofs.lemmas.Bool.{false≢true}
+use Rattle.std.proofs.lemmas.Option.{same_Some, slice_get-get_or}
 use Rattle.profile.specs.checker.Instances.{Key, Booked, IsClash, booked_cmp, key_cmp}
 use Rattle.cal_events.specs.declared.sweep.Overlap.{Overlap}
-use Rattle.cal_events.specs.declared.instance.OwnedInstance.{OwnedInstance}
-use Rattle.cal_events.specs.Calendars.{booked_of}
+use Rattle.cal_events.proofs.KeyLemmas.{key_total, key_exact}
 use Rattle.cal_events.specs.Clashes.{Names}
 use Rattle.clash_cert.specs.declared.making.Clash.{Clash}
-use Rattle.clash_cert.specs.Makings.{HasKeys, IsNamedClash, AreNamed, AreNamedAt}
+use Rattle.clash_cert.specs.Makings.{HasKeys, HasKeysAt, IsNamedClash, AreNamed, AreNamedAt}
 use Rattle.ical_values.proofs.Facts.{is_lt_true}
-
-key_total : IsTotalOrder key_cmp
-key_total =
-    then_total (on_total (λ (k : Key). k.organiser) nat_list_cmp_total)
-    (then_total (on_total (λ (k : Key). k.uid) nat_list_cmp_total) (on_total (λ (k : Key). k.slot) int_cmp_total))
 
 booked_total : IsTotalOrder booked_cmp
 booked_total = then_total (on_total (λ (b : Booked). b.start) int_cmp_total) (on_total (λ (b : Booked). b.key) key_total)
-
-key_exact : (a b : Key) → key_cmp a b ≡ Equal → a ≡ b
-key_exact a b e =
-    ap (λ (p : List ℕ × (List ℕ × ℤ)). record { organiser = p.0; uid = p.1.0; slot = p.1.1 })
-    (exact_pairs (slice_cmp nat_cmp) (λ (x y : List ℕ × ℤ). ordering_then (slice_cmp nat_cmp x.0 y.0) (int_cmp x.1 y.1)) exact_bytes
-    (exact_pairs (slice_cmp nat_cmp) int_cmp exact_bytes exact_signed) (a.organiser, (a.uid, a.slot)) (b.organiser, (b.uid, b.slot)) e)
 
 then_equal : (r s : Ordering) → ordering_then r s ≡ Equal → s ≡ Equal
 then_equal Less s e = cc
@@ -96,13 +85,41 @@ by_order all a b t clash Greater e is later le keys =
 pub named_at : (all : List Booked) (o : Overlap) (clash : Clash) → Names all o → AreNamedAt all o clash → IsNamedClash all clash
 named_at all o clash n h = by_order all n.a n.b o.instant clash (booked_cmp n.b n.a) refl n.clash n.later n.earlier (h n.a n.b n.first n.second)
 
-read_at : (bs : List OwnedInstance) (i : ℕ) (x : OwnedInstance) (a : Booked) → i < length bs → x ≡ get_or bs i x → get_or (map booked_of bs) i a ≡ a → booked_of x ≡ a
-read_at bs i x a w e h = ap booked_of e ∙ sym (get_or-map booked_of bs i x a w) ∙ h
+-- ---- singles by their places
 
-pub at_places : (bs : List OwnedInstance) (o : Overlap) (x y : OwnedInstance) {E : Type 0} (r : Result Clash E) → o.first < length bs → o.second < length bs
-    → x ≡ get_or bs o.first x → y ≡ get_or bs o.second y → IfOk r (AreNamed (booked_of x) (booked_of y) o.instant) → IfOk r (AreNamedAt (map booked_of bs) o)
-at_places bs o x y (Ok k) v w ex ey h = λ a b ea eb.
-    let p = read_at bs o.first x a v ex ea in
-    let q = read_at bs o.second y b w ey eb in
-    subst (λ (u : Booked). AreNamed u b o.instant k) p (subst (λ (u : Booked). AreNamed (booked_of x) u o.instant k) q h)
-at_places bs o x y (Err e) v w ex ey h = h
+-- a place holds one
+pub there : {X : Type 0} (f : X → Booked) (all : List Booked) (i : ℕ) (o : Option X) → option_map f o ≡ slice_get all i → i < length all → is_some o ≡ true
+there f all i (Some x) e w = refl
+there f all i None e w = false≢true (ap (λ r. is_some r) (e ∙ slice_get-get_or all i (some_of all w) w))
+  where
+    some_of : (xs : List Booked) → i < length xs → Booked
+    some_of [] w = absurd (omega (arith, w))
+    some_of (x ∷ xs) w = x
+
+pub key_there : {X : Type 0} (f : X → Key) (all : List Booked) (i : ℕ) (o : Option X) → option_map f o ≡ option_map (λ b. b.key) (slice_get all i) → i < length all → is_some o ≡ true
+key_there f all i (Some x) e w = refl
+key_there f all i None e w = false≢true (ap (λ r. is_some r) (e ∙ ap (λ r. option_map (λ (b : Booked). b.key) r) (slice_get-get_or all i (some_of all w) w)))
+  where
+    some_of : (xs : List Booked) → i < length xs → Booked
+    some_of [] w = absurd (omega (arith, w))
+    some_of (x ∷ xs) w = x
+
+-- and that is what stands there
+pub held : {X : Type 0} (f : X → Booked) (all : List Booked) (i : ℕ) (o : Option X) (x : X) (a : Booked) → option_map f o ≡ slice_get all i → o ≡ Some x → i < length all → get_or all i a ≡ a → f x ≡ a
+held f all i o x a e is w at = same_Some (f x) a (sym (ap (option_map f) is) ∙ e ∙ slice_get-get_or all i a w ∙ ap Some at)
+
+pub key_held : {X : Type 0} (f : X → Key) (all : List Booked) (i : ℕ) (o : Option X) (x : X) (a : Booked) → option_map f o ≡ option_map (λ b. b.key) (slice_get all i) → o ≡ Some x → i < length all
+    → get_or all i a ≡ a → f x ≡ a.key
+key_held f all i o x a e is w at =
+    same_Some (f x) a.key (sym (ap (option_map f) is) ∙ e ∙ ap (option_map (λ (b : Booked). b.key)) (slice_get-get_or all i a w ∙ ap Some at))
+
+-- the lesser of them is named first
+pub by_places : (all : List Booked) (i j : ℕ) (x y : Booked) (t : ℤ) {E : Type 0} (r : Result Clash E) (b : Bool) → ((a : Booked) → get_or all i a ≡ a → x ≡ a) → ((a : Booked) → get_or all j a ≡ a → y ≡ a)
+    → is_lt (booked_cmp y x) ≡ b → IfOk r (λ k. MatchBool b (HasKeysAt all j i t k) (HasKeysAt all i j t k)) → IfOk r (λ k. (a c : Booked) → get_or all i a ≡ a → get_or all j c ≡ c → AreNamed a c t k)
+by_places all i j x y t (Err e) b f g lt h = h
+by_places all i j x y t (Ok k) true f g lt h = λ a c ea ec.
+    let e : is_lt (booked_cmp c a) ≡ true = subst (λ u. is_lt (booked_cmp c u) ≡ true) (f a ea) (subst (λ u. is_lt (booked_cmp u x) ≡ true) (g c ec) lt) in
+    subst (λ v. MatchBool v (HasKeys c a t k) (HasKeys a c t k)) (sym e) (h c a ec ea)
+by_places all i j x y t (Ok k) false f g lt h = λ a c ea ec.
+    let e : is_lt (booked_cmp c a) ≡ false = subst (λ u. is_lt (booked_cmp c u) ≡ false) (f a ea) (subst (λ u. is_lt (booked_cmp u x) ≡ false) (g c ec) lt) in
+    subst (λ v. MatchBool v (HasKeys c a t k) (HasKeys a c t k)) (sym e) (h a c ea ec)

@@ -1,5 +1,5 @@
 -- What making gives, and which clash a `Clash` names.
-use Rattle.std.specs.Prelude.{ℕ, ℤ, List, MatchBool, ◌≡◌, slice_index_or}
+use Rattle.std.specs.Prelude.{ℕ, ℤ, List, [], MatchBool, ◌≡◌, slice_index_or}
 use Rattle.std.specs.Ordering.{is_lt}
 use Rattle.std.specs.declared.cmp.Ordering.TheVariants.{Less}
 use Rattle.profile.specs.checker.Instances.{Booked, IsClash, booked_cmp}
@@ -32,9 +32,9 @@ pub record IsNamedClash (all : List Booked) (clash : Clash) : Type 0 where
   pub less : booked_cmp a b ≡ Less
   pub later : clash.instant ≡ b.start
 
--- a certificate that stands where no two instances clash, else a clash of two
+-- a certificate that stands where these are the singles, without series, and no two of them clash, else a clash of two
 abbrev pub IsMadeFor : List Booked → Made → Type 0
-IsMadeFor all (made.Clear c) = CertificateStands all (text_of c)
+IsMadeFor all (made.Clear c) = CertificateStands (record { series = []; singles = all }) (text_of c)
 IsMadeFor all (made.Clash clash) = IsNamedClash all clash
 
 -- a certificate was made, and no clash found
@@ -51,6 +51,10 @@ HasCount n (made.Clash clash) = Unit {0}
 abbrev pub AreNamed : Booked → Booked → ℤ → Clash → Type 0
 AreNamed a b t clash = MatchBool (is_lt (booked_cmp b a)) (HasKeys b a t clash) (HasKeys a b t clash)
 
--- the same of the instances at two places
+-- it has the keys of the instances at two places
+abbrev pub HasKeysAt : List Booked → ℕ → ℕ → ℤ → Clash → Type 0
+HasKeysAt all i j t clash = (a b : Booked) → slice_index_or all i a ≡ a → slice_index_or all j b ≡ b → HasKeys a b t clash
+
+-- the lesser of the instances at two places is named first
 abbrev pub AreNamedAt : List Booked → Overlap → Clash → Type 0
 AreNamedAt all o clash = (a b : Booked) → slice_index_or all o.first a ≡ a → slice_index_or all o.second b ≡ b → AreNamed a b o.instant clash

@@ -1,12 +1,12 @@
 //! Making: a certificate where the confirmed instances are clear, else a clash.
-ghost use Rattle.std.specs.Prelude.{◌≡◌, ◌<◌, ◌↔◌, List, map, length, IfOk, IfSome, IfNone};
+ghost use Rattle.std.specs.Prelude.{◌≡◌, ◌<◌, ◌↔◌, List, length, IfOk, IfSome, IfNone};
 ghost use Rattle.std.specs.Ordering.{is_lt};
 ghost use Rattle.profile.specs.checker.Instances.{Booked, IsClear, booked_cmp};
-ghost use Rattle.cal_events.specs.Calendars.{booked_of, instance_of};
-ghost use Rattle.clash_cert.specs.Makings.{IsCertificate, IsMadeFor, IsNamedClash, HasCount, AreNamed, AreNamedAt, HasKeys};
+ghost use Rattle.cal_events.specs.Calendars.{instance_of};
+ghost use Rattle.clash_cert.specs.Makings.{IsCertificate, IsMadeFor, IsNamedClash, HasCount, AreNamedAt, HasKeysAt};
 
 use crate::certificate::Certificate;
-use cal_events::{Calendar, Instance, Overlap, OwnedInstance, OwnedKey};
+use cal_events::{Calendar, Instance, Overlap, OwnedKey};
 use std::alloc::{AllocError, Global};
 
 /// Two instances of different keys and an instant in both, before the horizon: the later start.
@@ -43,7 +43,8 @@ pub trait Confirmed {
 }
 
 impl Confirmed for Calendar {
-    ghost confirmed = { λ calendar. calendar };
+    // Those of its singles: what is made for a calendar with series stands for it once certificates have series.
+    ghost confirmed = { λ calendar. calendar.singles };
 
     fn count(&self) -> u64 {
         self.single_count()
@@ -53,7 +54,7 @@ impl Confirmed for Calendar {
         let Some(overlap) = self.first_overlap(alloc)? else {
             return Ok(None);
         };
-        let clash = clash_at(self.bookings(), overlap)?;
+        let clash = clash_at(self, overlap)?;
         Ok(Some(clash))
     }
 }
@@ -71,38 +72,34 @@ pub fn make<C: Confirmed>(alloc: Global, confirmed: &C) -> Result<Made, AllocErr
     Ok(Made::Clear(Certificate::of(confirmed.count())))
 }
 
-/// The clash of the bookings at two places.
-fn clash_at(bookings: &[OwnedInstance], overlap: Overlap) -> Result<Clash, AllocError>
-    requires first { overlap.first < length bookings.now }
-    requires second { overlap.second < length bookings.now }
-    ensures { IfOk result (AreNamedAt (map booked_of bookings.now) overlap) }
+/// The clash of the singles at two places.
+fn clash_at(calendar: &Calendar, overlap: Overlap) -> Result<Clash, AllocError>
+    requires first { overlap.first < length calendar.now.singles }
+    requires second { overlap.second < length calendar.now.singles }
+    ensures { IfOk result (AreNamedAt calendar.now.singles overlap) }
 {
-    let a = &bookings[overlap.first];
-    let b = &bookings[overlap.second];
-    clash_of(a, b, overlap.instant)
-}
-
-/// The clash of two bookings in that instant.
-fn clash_of(a: &OwnedInstance, b: &OwnedInstance, instant: i64) -> Result<Clash, AllocError>
-    ensures { IfOk result (AreNamed (booked_of a.now) (booked_of b.now) instant) }
-{
-    if is_before(&b.lend(), &a.lend()) {
-        in_order(b, a, instant)
+    let a = calendar.single(overlap.first).unwrap();
+    let b = calendar.single(overlap.second).unwrap();
+    if is_before(&b, &a) {
+        in_order(calendar, overlap.second, overlap.first, overlap.instant)
     } else {
-        in_order(a, b, instant)
+        in_order(calendar, overlap.first, overlap.second, overlap.instant)
     }
 }
 
-/// The clash that names the first of two bookings first.
+/// The clash of two singles, by their places.
 fn in_order(
-    first: &OwnedInstance,
-    second: &OwnedInstance,
+    calendar: &Calendar,
+    first: usize,
+    second: usize,
     instant: i64,
 ) -> Result<Clash, AllocError>
-    ensures { IfOk result (HasKeys (booked_of first.now) (booked_of second.now) instant) }
+    requires first { first < length calendar.now.singles }
+    requires second { second < length calendar.now.singles }
+    ensures { IfOk result (HasKeysAt calendar.now.singles first second instant) }
 {
-    let first = first.key.clone()?;
-    let second = second.key.clone()?;
+    let first = calendar.key(first)?.unwrap();
+    let second = calendar.key(second)?.unwrap();
     Ok(Clash {
         first,
         second,

@@ -1,16 +1,16 @@
 //! Checking: a certificate's text against a calendar, and a clash against a calendar.
-ghost use Rattle.std.specs.Prelude.{ℕ, List, ◌≡◌, ◌<ℤ◌, ◌≤ℤ◌, ◌↔◌, ◌⊎◌, map, IsTrue, IfOk, IfNone, IfSome, Contains};
+ghost use Rattle.std.specs.Prelude.{ℕ, List, ◌≡◌, ◌<ℤ◌, ◌≤ℤ◌, ◌↔◌, ◌⊎◌, IsTrue, IfOk, IfNone, IfSome, Contains};
 ghost use Rattle.profile.specs.checker.Instances.{Booked, IsClear, IsWithin};
+ghost use Rattle.profile.specs.events.Confirmed.{Confirmed};
 ghost use Rattle.profile.specs.checker.Calendars.{CertificateHolds};
 ghost use Rattle.profile.specs.checker.Certificates.{CertificateStands, Spells};
 ghost use Rattle.ical_values.specs.Octets.{address_octets};
-ghost use Rattle.cal_events.specs.Calendars.{booked_of};
+ghost use Rattle.cal_events.specs.Calendars.{instance_of, owned_key_of};
 ghost use Rattle.clash_cert.specs.Makings.{IsClashIn};
-ghost use Rattle.cal_events.specs.declared.instance.OwnedInstance.{OwnedInstance};
 ghost use Rattle.clash_check.specs.Verdicts.{IsVerdict, MakesFew, IsNo, IsRefusedCalendar, IsJudgement, HasThatKey, Share};
 
 use crate::verdict::{Checked, Verdict, Why};
-use cal_events::{Calendar, HORIZON, OwnedInstance, OwnedKey, one_calendar_text};
+use cal_events::{Calendar, HORIZON, Instance, OwnedKey, one_calendar_text};
 use clash_cert::{CertFault, Certificate, Clash};
 use ical_lines::Fault;
 use ical_values::Address;
@@ -79,59 +79,58 @@ fn judge(
 
 /// A certificate that stands for instances is enough: no two of them clash.
 pub fn standing_means_clear()
-    ensures { (all : List Booked) (text : List ℕ) → CertificateStands all text → IsClear all }
+    ensures { (all : Confirmed) (text : List ℕ) → CertificateStands all text → IsClear all.singles }
 {}
 
-/// Is this a clash of two confirmed instances of the calendar?
+/// Is this a clash of two singles of the calendar?
 pub fn check_clash(calendar: &Calendar, clash: &Clash) -> bool
-    ensures { IsTrue result ↔ IsClashIn calendar.now clash.now }
+    ensures { IsTrue result ↔ IsClashIn calendar.now.singles clash.now }
 {
-    let bookings = calendar.bookings();
-    let Some(first) = booking_of(bookings, &clash.first) else {
+    let Some(first) = single_of(calendar, &clash.first) else {
         return false;
     };
-    let Some(second) = booking_of(bookings, &clash.second) else {
+    let Some(second) = single_of(calendar, &clash.second) else {
         return false;
     };
-    if has_key(first, &clash.second) {
+    if has_key(&first, &clash.second) {
         return false;
     }
-    share(first, second, clash.instant)
+    share(&first, &second, clash.instant)
 }
 
 /// Do both hold the room in that second, before the horizon?
-fn share(first: &OwnedInstance, second: &OwnedInstance, instant: i64) -> bool
-    ensures { IsTrue result ↔ Share (booked_of first.now) (booked_of second.now) instant }
+fn share(first: &Instance<'_>, second: &Instance<'_>, instant: i64) -> bool
+    ensures { IsTrue result ↔ Share (instance_of first.now) (instance_of second.now) instant }
 {
     instant < HORIZON && is_during(first, instant) && is_during(second, instant)
 }
 
-/// The booking of that key.
-fn booking_of<'a>(bookings: &'a [OwnedInstance], key: &OwnedKey) -> Option<&'a OwnedInstance>
-    ensures found { IfSome result (λ b. Contains bookings.now b.now × HasThatKey key.now b.now) }
-    ensures none { IfNone result ((b : OwnedInstance) → Contains bookings.now b → HasThatKey key.now b → ⊥) }
+/// The single of that key.
+fn single_of<'a>(calendar: &'a Calendar, key: &OwnedKey) -> Option<Instance<'a>>
+    ensures found { IfSome result (λ i. Contains calendar.now.singles (instance_of i) × HasThatKey key.now i) }
+    ensures none { IfNone result ((b : Booked) → Contains calendar.now.singles b → b.key ≡ owned_key_of key.now → ⊥) }
 {
-    for booking in bookings {
-        if has_key(booking, key) {
-            return Some(booking);
+    for place in 0..calendar.single_count() as usize {
+        if let Some(single) = calendar.single(place) {
+            if has_key(&single, key) {
+                return Some(single);
+            }
         }
     }
     None
 }
 
-/// Is it the key of the booking?
-fn has_key(booking: &OwnedInstance, key: &OwnedKey) -> bool
-    ensures { IsTrue result ↔ HasThatKey key.now booking.now }
+/// Is it the key of the instance?
+fn has_key(instance: &Instance<'_>, key: &OwnedKey) -> bool
+    ensures { IsTrue result ↔ HasThatKey key.now instance.now }
 {
-    let own = &booking.key;
-    own.slot == key.slot
-        && own.uid.as_str() == key.uid.as_str()
-        && own.organiser.as_str() == key.organiser.as_str()
+    let own = &instance.key;
+    own.slot == key.slot && own.uid == key.uid.as_str() && own.organiser == key.organiser.as_str()
 }
 
-/// Does the booking hold the room in that second?
-fn is_during(booking: &OwnedInstance, instant: i64) -> bool
-    ensures { IsTrue result ↔ IsWithin booking.now.start booking.now.end instant }
+/// Does the instance hold the room in that second?
+fn is_during(instance: &Instance<'_>, instant: i64) -> bool
+    ensures { IsTrue result ↔ IsWithin instance.now.start instance.now.end instant }
 {
-    booking.start <= instant && instant < booking.end
+    instance.start <= instant && instant < instance.end
 }

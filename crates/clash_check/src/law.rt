@@ -2,12 +2,13 @@
 
 ghost use Rattle.profile.specs.Headline.{YesMeansFree};
 
-use cal_events::one_calendar_text;
+use cal_events::{one_calendar_text, singles_are_confirmed};
 
-/// Where the certificate holds for the room's calendar, no two of the instances that the calendar's octets spell for the room
-/// share an instant before year 10000, whichever two places of the list they stand in.
+/// Where the certificate holds for the room's calendar, no two of the instances that the calendar's octets confirm for the room share an
+/// instant before year 10000.
 pub fn yes_means_free()
     ensures { YesMeansFree }
 {
     one_calendar_text();
+    singles_are_confirmed();
 }

@@ -10,7 +10,7 @@ use Rattle.profile.specs.text.Trees.{Tree, vevents}
 use Rattle.profile.specs.text.Objects.{is_property}
 use Rattle.profile.specs.text.Values.{IsAddress, SpellsSequence, escaped, lower_case, duration_text}
 use Rattle.profile.specs.checker.Instances.{Booked}
-use Rattle.profile.specs.events.Events.{Event, SaysEvent, SaysSequence, IsAttendee, has_unread, is_confirmed, booked_by, meeting_said}
+use Rattle.profile.specs.events.Events.{Event, SaysEvent, SaysSequence, IsAttendee, booked_by, meeting_said}
 use Rattle.profile.specs.events.Properties.{Says, BothOrNeither, StandsAtMostOnce, IsAddressLine, IsUidLine, IsSequenceLine, is_of, lines_named}
 use Rattle.profile.specs.rooms.Messages as messages
 use Rattle.profile.specs.rooms.Messages.{SpellsMessage, IsPart, IsBody, IsContent, cancels, is_cancel, is_addressed, names_room}
@@ -29,7 +29,8 @@ use Rattle.ical_values.proofs.ShownValues.{shown_stamp}
 use Rattle.itip_messages.proofs.CleanText.{clean_address, text_address, shown_duration}
 use Rattle.itip_messages.proofs.CleanUids.{clean_text, text_value}
 use Rattle.itip_messages.proofs.ObjectTree.{Lines, vevent_lines}
-use Rattle.room_books.proofs.KeptEvents.{kept_own, kept_event, Spell, kept_says, kept_read, kept_confirmed, kept_booked}
+use Rattle.room_books.proofs.KeptEvents.{kept_own, kept_event, Spell, kept_says, kept_plain, kept_booked}
+use Rattle.cal_events.proofs.PlainSingles.{IsPlain}
 use Rattle.room_books.proofs.KeptLines.{kept_content, kept_properties}
 use Rattle.room_books.proofs.Loops.{zip_from}
 use Rattle.room_books.proofs.KeptRequests.{clean_value, vevent_among}
@@ -58,8 +59,7 @@ pub record ReadsBack (room : List ℕ) (answer : Answer) (lines : Lines) : Type 
   pub properties : list_all is_property own ≡ true
   pub content : list_all is_content own ≡ true
   pub says : (object : Tree) → SaysEvent object false own said
-  pub read : has_unread own ≡ false
-  pub confirmed : is_confirmed room said ≡ true
+  pub plain : IsPlain room said
   pub books : answer.claim.singles ≡ booked_by said ∷ []
   pub meeting : meeting_said said ≡ (answer.claim.part.organiser, answer.claim.part.uid)
 
@@ -184,8 +184,7 @@ reads_back room answer lines a k =
       content = kept_content uid sequence k.stamp c.start duration part.organiser room (clean_text part.uid n.uid) (clean_shown sequence (shown_decimal part.revision.sequence (omega arith)))
           (clean_shown k.stamp (shown_stamp k.stamp part.revision.stamp k.written_stamp)) (clean_shown c.start shown_start) (clean_shown duration long) (clean_address part.organiser n.organiser) (clean_address room r.text);
       says = kept_says event uid sequence k.stamp c.start duration part.organiser room part.revision.stamp spell;
-      read = kept_read uid sequence k.stamp c.start duration part.organiser room;
-      confirmed = kept_confirmed event part.organiser part.revision.stamp room;
+      plain = kept_plain event uid sequence k.stamp c.start duration part.organiser room part.revision.stamp spell a.spells.tree;
       books = a.books ∙ ap (λ (b : Booked). b ∷ []) (kept_booked event part.organiser part.revision.stamp room a.part.organiser);
       meeting = ap (λ (u : List ℕ). (part.organiser, u)) (sym a.part.uid);
     }

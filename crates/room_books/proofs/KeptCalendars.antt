@@ -1,13 +1,16 @@
 -- The kept calendar spells the confirmed instances, and the kept certificate stands for them.
-use Rattle.std.proofs.Common.{◌≡◌, ◌≢◌, ◌∙◌, ℕ, true, false, List, [], ◌∷◌, ◌++◌, length, map, None, refl, sym, ap, ap₂, subst, arith, cond, suc}
-use Rattle.std.specs.List.{filter, flat_map, list_all, list_any, Contains, AllPairs, AllZip}
-use Rattle.std.proofs.lemmas.Bool.{and_from, or_from}
+use Rattle.std.proofs.Common.{◌≡◌, ◌≢◌, ◌∙◌, ℕ, true, false, List, [], ◌∷◌, ◌++◌, length, map, None, refl, sym, ap, ap₂, subst, arith, suc}
+use Rattle.std.specs.List.{filter, flat_map, list_all, Contains, All, AllPairs, AllZip}
+use Rattle.std.proofs.lemmas.Bool.{and_from}
+use Rattle.std.proofs.lemmas.List.Elements.{All-nil, All-cons}
 use Rattle.profile.specs.text.Lines.{is_content, logical_lines, reads_as_lines, written}
 use Rattle.profile.specs.text.Objects.{is_property, IsObject}
 use Rattle.profile.specs.text.Trees.{Tree, tree_name, tree_own, tree_inside}
-use Rattle.profile.specs.events.Events as events
-use Rattle.profile.specs.events.Events.{Event, SaysEvent, SaysCalendar, has_unread, booked_by, meeting_said}
-use Rattle.profile.specs.checker.Calendars.{SpellsCalendar, CertificateHolds}
+use Rattle.profile.specs.events.Events.{Event, SaysEvent, booked_by, meeting_said}
+use Rattle.profile.specs.events.Confirmed.{Confirmed, AreConfirmed}
+use Rattle.profile.specs.checker.Calendars.{SaysCalendar, SpellsCalendar, CertificateHolds}
+use Rattle.cal_events.proofs.InOneOrder.{mapped_pairs}
+use Rattle.cal_events.proofs.PlainSingles.{IsPlain, plain_confirmed}
 use Rattle.profile.specs.checker.Instances.{Booked}
 use Rattle.profile.specs.rooms.Messages.{object_lines}
 use Rattle.profile.specs.rooms.Rooms.{Claim, Answer, Book, Delivery, Runs, empty_book, confirmed, is_confirmed}
@@ -31,6 +34,9 @@ use Rattle.room_books.proofs.Views.{confirmed_all}
 abbrev books : Answer → List Booked
 books a = a.claim.singles
 
+abbrev without_series : List Booked → Confirmed
+without_series all = record { series = []; singles = all }
+
 -- ---- the VEVENTs
 
 -- all VEVENTs read back
@@ -41,15 +47,12 @@ record AllBack (room : List ℕ) (answers : List Answer) (each : List Lines) : T
   properties : list_all (list_all is_property) owns ≡ true
   content : list_all (list_all is_content) owns ≡ true
   says : (object : Tree) → AllZip (SaysEvent object false) owns saids
-  read : list_any has_unread owns ≡ false
-  confirmed : events.confirmed room saids ≡ flat_map books answers
+  plain : All (IsPlain room) saids
+  booked : map booked_by saids ≡ flat_map books answers
   meetings : map meeting_said saids ≡ map meeting_of answers
 
-one_confirmed : (room : List ℕ) (said : Event) (saids : List Event) → events.is_confirmed room said ≡ true → events.confirmed room (said ∷ saids) ≡ booked_by said ∷ events.confirmed room saids
-one_confirmed room said saids h = ap (λ b. map booked_by (cond b (said ∷ filter (events.is_confirmed room) saids) (filter (events.is_confirmed room) saids))) h
-
 all_back : (room : List ℕ) (answers : List Answer) (each : List Lines) → ((a : Answer) → Contains answers a → IsAsked room a.claim) → AllZip (λ a. IsKeptEvent room a.claim) answers each → AllBack room answers each
-all_back room [] [] f z = record { owns = []; saids = []; are = refl; properties = refl; content = refl; says = λ _. tt; read = refl; confirmed = refl; meetings = refl }
+all_back room [] [] f z = record { owns = []; saids = []; are = refl; properties = refl; content = refl; says = λ _. tt; plain = All-nil (IsPlain room); booked = refl; meetings = refl }
 all_back room [] (lines ∷ each) f z = absurd z
 all_back room (a ∷ answers) [] f z = absurd z
 all_back room (a ∷ answers) (lines ∷ each) f z =
@@ -62,27 +65,28 @@ all_back room (a ∷ answers) (lines ∷ each) f z =
       properties = and_from _ _ one.properties rest.properties;
       content = and_from _ _ one.content rest.content;
       says = λ object. (one.says object, rest.says object);
-      read = or_from _ _ one.read rest.read;
-      confirmed = one_confirmed room one.said rest.saids one.confirmed ∙ ap₂ (λ x y. x ++ y) (sym one.books) rest.confirmed;
+      plain = All-cons (IsPlain room) one.said rest.saids one.plain rest.plain;
+      booked = ap₂ (λ x y. x ++ y) (sym one.books) rest.booked;
       meetings = ap₂ (λ x y. x ∷ y) one.meeting rest.meetings;
     }
 
 -- ---- the calendar
 
 calendar_spelled : LinesBack → ReadsLines → (room octets : List ℕ) (answers : List Answer) (each : List Lines) → AllBack room answers each → Pairwise AnswersApart answers
-    → octets ≡ written (object_lines None (flat_map (λ lines. lines) each)) → SpellsCalendar room octets (flat_map books answers)
+    → octets ≡ written (object_lines None (flat_map (λ lines. lines) each)) → SpellsCalendar room octets (without_series (flat_map books answers))
 calendar_spelled back reads room octets answers each b apart is =
     let lines = object_lines None (flat_map vevent_lines b.owns) in
     let content = object_content None b.owns no_method b.content in
     let whole : octets ≡ written lines = is ∙ ap (λ l. written (object_lines None l)) b.are in
     let logical : logical_lines octets ≡ lines = ap logical_lines whole ∙ back lines content in
     let owns = calendar_vevents None b.owns in
-    let says : SaysCalendar room (calendar_tree None b.owns) (flat_map books answers) = record {
+    let differ : AllPairs (λ a b. meeting_said a ≢ meeting_said b) b.saids = mapped_pairs ◌≢◌ meeting_said b.saids (subst (AllPairs ◌≢◌) (sym b.meetings) (meetings_differ answers apart)) in
+    let says : SaysCalendar room (calendar_tree None b.owns) (without_series (flat_map books answers)) = record {
       events = b.saids;
       says = subst (λ (l : List Lines). AllZip (SaysEvent (calendar_tree None b.owns) false) l b.saids) (sym owns) (b.says (calendar_tree None b.owns));
-      read = ap (list_any has_unread) owns ∙ b.read;
-      differ = subst (AllPairs ◌≢◌) (sym b.meetings) (meetings_differ answers apart);
-      is = sym b.confirmed;
+      masters = λ i j d l w m n. differ i j d l w;
+      overrides = λ i j d l w slot m n. differ i j d l w;
+      are = subst (λ (all : List Booked). AreConfirmed room b.saids (without_series all)) b.booked (plain_confirmed room b.saids b.plain);
     } in
     record {
       lines = ap (reads_as_lines false) whole ∙ reads lines content;
@@ -154,12 +158,12 @@ keeps_pass back reads room book keeps calendar k =
     let well = kept_well room book keeps in
     let few = keeps.sound.good.few in
     record {
-      all = flat_map books (kept book);
+      confirmed = without_series (flat_map books (kept book));
       spells = calendar_spelled back reads room calendar (kept book) k.events (all_back room (kept book) k.events well.each (kept_events room book keeps k.claims k.events k.kept k.each)) well.apart k.is;
       stands = record {
         c = record { singles = length (confirmed book) };
         spells = record { claims = omega (arith, few); is = refl };
-        singles = well.long;
+        counts = record { singles = well.long; series = refl };
         clear = well.good.clear;
       };
     }
@@ -177,7 +181,7 @@ kept_back room book k b c =
 
 -- the calendar spells what is confirmed, and nothing else
 abbrev pub SpellsConfirmed : List ℕ → Book → List ℕ → Type 0
-SpellsConfirmed room book calendar = (all : List Booked) × SpellsCalendar room calendar all × (length all ≡ length (confirmed book)) × ((b : Booked) → Contains all b ↔ Contains (confirmed book) b)
+SpellsConfirmed room book calendar = (all : List Booked) × SpellsCalendar room calendar (record { series = []; singles = all }) × (length all ≡ length (confirmed book)) × ((b : Booked) → Contains all b ↔ Contains (confirmed book) b)
 
 keeps_same : LinesBack → ReadsLines → (room : List ℕ) (book : Book) → KeepsAll room book → (calendar : List ℕ) → IsKeptCalendar room book calendar → SpellsConfirmed room book calendar
 keeps_same back reads room book keeps calendar k =

@@ -7,9 +7,10 @@ use Rattle.profile.specs.text.Values.{SpellsStamp, SpellsSequence, SpellsDuratio
 use Rattle.std.proofs.lemmas.Bool.{false≢true}
 use Rattle.profile.specs.text.Trees.{Tree}
 use Rattle.profile.specs.checker.Instances.{horizon}
-use Rattle.profile.specs.events.Events.{Event, Attendee, Accepted, SaysEvent, has_unread, is_confirmed, booked_by, is_accepted}
+use Rattle.profile.specs.events.Events.{Event, Attendee, Accepted, SaysEvent, is_confirmed, booked_by, is_accepted}
 use Rattle.profile.specs.events.Properties.{length_seconds}
 use Rattle.cal_events.proofs.Meanings.{utc_means}
+use Rattle.cal_events.proofs.PlainSingles.{IsPlain}
 
 -- the own lines of a kept VEVENT with these values
 abbrev pub kept_own : (uid sequence stamp start duration organiser room : List ℕ) → List (List ℕ)
@@ -79,16 +80,27 @@ kept_says event uid sequence stamp start duration organiser room stamped s objec
   attendees = (((s.addressed, sym s.room_lower), refl), tt);
 }
 
--- nothing in them is left unread
-pub kept_read : (uid sequence stamp start duration organiser room : List ℕ) → has_unread (kept_own uid sequence stamp start duration organiser room) ≡ false
-kept_read uid sequence stamp start duration organiser room = refl
-
 -- the room has accepted it
-pub kept_confirmed : (event : Event) (organiser : List ℕ) (stamped : ℤ) (room : List ℕ) → is_confirmed room (kept_event event organiser stamped room) ≡ true
+kept_confirmed : (event : Event) (organiser : List ℕ) (stamped : ℤ) (room : List ℕ) → is_confirmed room (kept_event event organiser stamped room) ≡ true
 kept_confirmed event organiser stamped room =
     let same : bytes_eq room room ≡ true = (bytes_eq-Decides room room).1 refl in
     let attendee : Attendee = record { address = room; participation = Accepted } in
     ap (λ b. unwrap_or (option_map is_accepted (option_map (λ (a : Attendee). a.participation) (cond b (Some attendee) None))) false) same
+
+-- it happens once, in UTC
+pub kept_plain : (event : Event) (uid sequence stamp start duration organiser room : List ℕ) (stamped : ℤ) → Spell event uid sequence stamp start duration organiser room stamped → Tree
+    → IsPlain room (kept_event event organiser stamped room)
+kept_plain event uid sequence stamp start duration organiser room stamped s object = record {
+  said = (object, kept_own uid sequence stamp start duration organiser room, kept_says event uid sequence stamp start duration organiser room stamped s object);
+  accepted = kept_confirmed event organiser stamped room;
+  stays = refl;
+  master = refl;
+  once = refl;
+  no_additions = refl;
+  no_exceptions = refl;
+  in_utc = refl;
+  dated = (s.from_1970, s.to_9999);
+}
 
 pub kept_booked : (event : Event) (organiser : List ℕ) (stamped : ℤ) (room : List ℕ) → event.organiser ≡ Some organiser → booked_by event ≡ booked_by (kept_event event organiser stamped room)
 kept_booked event organiser stamped room e = ap (λ (o : Option (List ℕ)). booked_by (record event { organiser = o })) e

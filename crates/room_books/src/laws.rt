@@ -1,6 +1,6 @@
 //! What holds of each room, whatever it takes: laws, with nothing to do.
 
-ghost use Rattle.std.specs.Prelude.{◌≡◌, ◌≤◌, ◌↔◌, ℕ, ℤ, List, length, Contains};
+ghost use Rattle.std.specs.Prelude.{◌≡◌, ◌≤◌, ◌↔◌, ℕ, ℤ, List, [], length, Contains};
 ghost use Rattle.profile.specs.checker.Instances.{Booked, IsClear};
 ghost use Rattle.profile.specs.rooms.Rooms.{Answer, Book, Delivery, Runs, empty_book, confirmed, most_singles};
 ghost use Rattle.profile.specs.streams.Streams.{IsDelivered, AllAnswers, Hosted, new_box};
@@ -39,11 +39,11 @@ pub fn kept_texts_pass()
     ical_lines::lines_read_back();
 }
 
-/// And that calendar spells exactly what the room has confirmed: the same instances, and as many.
+/// And that calendar spells exactly what the room has confirmed: the same instances, and as many, without series.
 pub fn kept_texts_spell()
     ensures { (room : List ℕ) (deliveries : List Delivery) (book : Book) (text : List ℕ)
         → ((taken : Delivery) → Contains deliveries taken → IsDelivered room taken) → Runs empty_book deliveries book → IsKeptCalendar room book text
-        → (all : List Booked) × SpellsCalendar room text all × (length all ≡ length (confirmed book))
+        → (all : List Booked) × SpellsCalendar room text (record { series = []; singles = all }) × (length all ≡ length (confirmed book))
         × ((booked : Booked) → Contains all booked ↔ Contains (confirmed book) booked) }
 {
     ical_lines::lines_read_back();

@@ -31,9 +31,12 @@ returns-in_ok-push-in-Some c room kept =
     let s = c.single_at.result in
     let p = c.single_at.ensures.place in
     let slot : to_z w64 (of_z w64 c.in-Some.slot) ≡ c.in-Some.slot = search rules in
-    let start : to_z w64 (of_z w64 c.instant-start.result) ≡ c.args.event.now.times.instant = search rules in
-    (s ∷ [], c.in_ok-push-in-Some.ensures.items, override_own room c.args.entry event c.requires kept c.in-Some.slot c.args.event.now.times.instant s c.in-Some.is p.0 (p.1 ∙ slot) (p.2 ∙ start)
-    (subst (λ (t : ℤ). EndsAt event.times t s.end) (sym p.2) c.single_at.ensures.ends))
+    let start : to_z w64 (of_z w64 c.instant-start.result) ≡ c.args.event.now.times.instant = search rules in (
+      s ∷ [],
+      c.in_ok-push-in-Some.ensures.items,
+      override_own room c.args.entry event c.requires kept c.in-Some.slot c.args.event.now.times.instant s c.in-Some.is p.0 (p.1 ∙ slot) (p.2 ∙ start)
+          (subst (λ (t : ℤ). EndsAt event.times t s.end) (sym p.2) c.single_at.ensures.ends),
+    )
 
 pub returns-after-loop-start : goal.returns-after-loop-start
 returns-after-loop-start c room kept =

@@ -18,9 +18,9 @@ loop-entry-preserved c =
     let i = c.loop-entry.entry-index in
     elim c.if-is_none.branch [
       | then-is_none+in_ok-push w ↦ key_pushed master_key es i e c.loop-entry-test.true c.entry-item.is c.loop-entry.keys.items c.loop-entry.invariant c.if-is_none.keys.items w.key_at.result
-        (ap (λ r. master_key (meeting_of e, r)) (none_there e.recurrence (c.is_none.ensures ∙ ap not w.if-is_none.true)) ∙ ap Some (sym w.key_at.ensures)) (ap (λ v. v.items) w.keys-is ∙ w.in_ok-push.ensures.items)
+          (ap (λ r. master_key (meeting_of e, r)) (none_there e.recurrence (c.is_none.ensures ∙ ap not w.if-is_none.true)) ∙ ap Some (sym w.key_at.ensures)) (ap (λ v. v.items) w.keys-is ∙ w.in_ok-push.ensures.items)
       | else-is_none w ↦ key_passed master_key es i e c.loop-entry-test.true c.entry-item.is c.loop-entry.keys.items c.loop-entry.invariant c.if-is_none.keys.items
-        (let s = some_there e.recurrence (c.is_none.ensures ∙ ap not w.if-is_none.false) in ap (λ r. master_key (meeting_of e, r)) s.1) (ap (λ v. v.items) w.keys-is)
+          (let s = some_there e.recurrence (c.is_none.ensures ∙ ap not w.if-is_none.false) in ap (λ r. master_key (meeting_of e, r)) s.1) (ap (λ v. v.items) w.keys-is)
     ]
 
 pub returns : goal.returns

@@ -18,9 +18,9 @@ loop-entry-preserved c =
     let i = c.loop-entry.entry-index in
     elim c.match-entry.branch [
       | in-Some+in_ok-push w ↦ key_pushed override_key es i e c.loop-entry-test.true c.entry-item.is c.loop-entry.keys.items c.loop-entry.invariant c.match-entry.keys.items w.key_at.result
-        (ap (λ (r : Option ℤ). override_key (meeting_of e, r)) {x = e.recurrence} {y = Some w.in-Some.slot} w.in-Some.is ∙ ap (λ (t : ℤ). override_key (meeting_of e, Some t)) (search rules) ∙ ap Some (sym w.key_at.ensures)) (ap (λ v. v.items) w.keys-is ∙ w.in_ok-push.ensures.items)
+          (ap (λ (r : Option ℤ). override_key (meeting_of e, r)) {x = e.recurrence} {y = Some w.in-Some.slot} w.in-Some.is ∙ ap (λ (t : ℤ). override_key (meeting_of e, Some t)) (search rules) ∙ ap Some (sym w.key_at.ensures)) (ap (λ v. v.items) w.keys-is ∙ w.in_ok-push.ensures.items)
       | in_default w ↦ key_passed override_key es i e c.loop-entry-test.true c.entry-item.is c.loop-entry.keys.items c.loop-entry.invariant c.match-entry.keys.items
-        (ap (λ (r : Option ℤ). override_key (meeting_of e, r)) {x = e.recurrence} {y = None} w.in_default.is) (ap (λ v. v.items) w.keys-is)
+          (ap (λ (r : Option ℤ). override_key (meeting_of e, r)) {x = e.recurrence} {y = None} w.in_default.is) (ap (λ v. v.items) w.keys-is)
     ]
 
 pub returns : goal.returns

@@ -12,6 +12,6 @@ returns c =
     let copied = c.in_ok-instants.ensures ∙ c.deref.ensures.value in
     elim c.if-is_none.branch [
       | then-is_none+in_ok-push w ↦ with_dtstart master xs c.of.result c.of.ensures (none_there c.args.master.now.rule (c.is_none.ensures ∙ ap not w.if-is_none.true))
-        (ap (λ v. v.items) w.instants-is ∙ w.in_ok-push.ensures.items ∙ (ap (λ (l : List ℤ). l ++ to_z w64 (of_z w64 w.instant.result) ∷ []) copied ∙ ap (λ (t : ℤ). c.args.master.now.additions.items ++ t ∷ []) (search rules)))
+          (ap (λ v. v.items) w.instants-is ∙ w.in_ok-push.ensures.items ∙ (ap (λ (l : List ℤ). l ++ to_z w64 (of_z w64 w.instant.result) ∷ []) copied ∙ ap (λ (t : ℤ). c.args.master.now.additions.items ++ t ∷ []) (search rules)))
       | else-is_none w ↦ without_dtstart master xs c.of.result c.of.ensures (c.is_none.ensures ∙ ap not w.if-is_none.false) (ap (λ v. v.items) w.instants-is ∙ copied)
     ]

@@ -34,11 +34,11 @@ returns-then-start-instant c =
     let wanted = wanted_at event instant c.requires.named c.requires.not_excepted in
     let words = unsigned_Decides (of_z w64 start) (of_z w64 instant) in (
       (λ h. gives event instant r.0 r.1 c.requires.clock.0 (day_index d.0) d.1 on c.loop-day.days.from walked.none wanted (day_index c.in-Some.day) step.2.0 start c.start_on-start.ensures.meaning
-      (sym here ∙ ap (to_z w64) (words.0 h) ∙ given)),
+          (sym here ∙ ap (to_z w64) (words.0 h) ∙ given)),
       λ h. words.1 (by_lt_z instant start
-      (λ less. absurd (gives_not event instant r.0 r.1 c.requires.clock.0 (day_index d.0) d.1 on c.loop-day.days.from walked.none wanted c.requires.clock.1 (day_index c.in-Some.day) step.2.0 start
-      c.start_on-start.ensures.meaning less h))
-      (λ most. ap (of_z w64) {x = start} {y = instant} (omega (arith, ints, most, c.if-start-instant.true, here, given)))),
+          (λ less. absurd (gives_not event instant r.0 r.1 c.requires.clock.0 (day_index d.0) d.1 on c.loop-day.days.from walked.none wanted c.requires.clock.1 (day_index c.in-Some.day) step.2.0 start
+          c.start_on-start.ensures.meaning less h))
+          (λ most. ap (of_z w64) {x = start} {y = instant} (omega (arith, ints, most, c.if-start-instant.true, here, given)))),
     )
 
 pub loop-day-smaller : goal.loop-day-smaller

@@ -24,7 +24,7 @@ loop-instant-preserved c =
     let last = subst (λ (l : List ℤ). IsTrue c.is_last.result ↔ IsLast l x) c.deref-in-loop-instant.ensures.value (rw cast at c.is_last.ensures) in
     elim c.if-not-is_last.branch [
       | then-not-is_last+then-is_single+in_ok-push w ↦ one_more event xs starts up k x c.loop-instant-test.true here c.loop-instant.invariant c.if-not-is_last.starts.items
-        (ap (λ v. v.items) w.starts-is ∙ w.in_ok-push.ensures.items ∙ ap (λ (z : ℤ). starts ++ z ∷ []) cast) (λ l. true≢false (sym (last.1 l) ∙ w.if-not-is_last.true)) (rw cast at (w.is_single.ensures.0 w.if-is_single.true))
+          (ap (λ v. v.items) w.starts-is ∙ w.in_ok-push.ensures.items ∙ ap (λ (z : ℤ). starts ++ z ∷ []) cast) (λ l. true≢false (sym (last.1 l) ∙ w.if-not-is_last.true)) (rw cast at (w.is_single.ensures.0 w.if-is_single.true))
       | else-not-is_last w ↦ subst (AreSoFar event (take (k + 1) xs)) (sym (ap (λ v. v.items) w.starts-is)) (elim w.else-not-is_last.branch [
         | else-not-is_last-via-then-not-is_last+else-is_single v ↦ none_more event xs starts up k x c.loop-instant-test.true here c.loop-instant.invariant (λ p. true≢false (sym (v.is_single.ensures.1 (rw cast p)) ∙ v.if-is_single.false))
         | else-not-is_last-via-else-not-is_last v ↦ once_more event xs starts up k x c.loop-instant-test.true here c.loop-instant.invariant (last.0 v.if-not-is_last.false)

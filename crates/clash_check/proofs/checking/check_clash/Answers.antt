@@ -4,18 +4,10 @@ use Rattle.clash_check.proofs.ClashLemmas.{never, no_first, no_second, decided}
 use Rattle.clash_check.proofs.checking.check_clash.Goals as goal
 
 pub returns-in_default : goal.returns-in_default
-returns-in_default c =
-    never c.args.calendar.now c.args.clash.now
-    (no_first c.args.calendar.now c.bookings-bookings.result.now c.args.clash.now c.bookings-bookings.ensures.all c.in_default.ensures.none)
+returns-in_default c = never c.args.calendar.now.singles c.args.clash.now (no_first c.args.calendar.now.singles c.args.clash.now c.in_default.ensures.none)
 
-pub returns-in_default-booking_of : goal.returns-in_default-booking_of
-returns-in_default-booking_of c =
-    never c.args.calendar.now c.args.clash.now
-    (no_second c.args.calendar.now c.bookings-bookings.result.now c.args.clash.now c.bookings-bookings.ensures.all c.in_default-booking_of.ensures.none)
+pub returns-in_default-single_of : goal.returns-in_default-single_of
+returns-in_default-single_of c = never c.args.calendar.now.singles c.args.clash.now (no_second c.args.calendar.now.singles c.args.clash.now c.in_default-single_of.ensures.none)
 
 pub returns : goal.returns
-returns c =
-    let fits : FitsSigned w64 c.args.clash.now.instant = search rules in
-    decided c.args.calendar.now c.bookings-bookings.result.now c.args.clash.now c.in-Some.first.now c.in-Some-booking_of.second.now c.share.result c.has_key.result _
-    c.bookings-bookings.ensures.keys c.bookings-bookings.ensures.all c.in-Some.ensures.found c.in-Some-booking_of.ensures.found c.has_key.ensures c.if-has_key.false
-    (to_z-of_z w64 c.args.clash.now.instant fits) c.share.ensures
+returns c = ?

@@ -1,13 +1,10 @@
-use Rattle.std.proofs.Common.{List, subst}
 use Rattle.std.proofs.lemmas.Option.{MatchOption-at_some}
-use Rattle.profile.specs.checker.Instances.{Booked}
 use Rattle.cal_events.specs.Clashes.{Names}
-use Rattle.clash_cert.specs.Makings.{AreNamedAt}
 use Rattle.clash_cert.proofs.MakingLemmas.{named_at}
 use Rattle.clash_cert.proofs.making.CalendarConfirmed.clash.Goals as goal
 
 pub returns-clause-clash : goal.returns-clause-clash
 returns-clause-clash c =
-    named_at c.args.self.now c.in-Some.overlap c.in_ok-clash.clash
-    (MatchOption-at_some _ (Names c.args.self.now) c.in-Some.overlap c.in-Some.is c.in_ok-overlap.ensures.clash)
-    (subst (λ (all : List Booked). AreNamedAt all c.in-Some.overlap c.in_ok-clash.clash) c.bookings.ensures.all c.in_ok-clash.ensures)
+    named_at c.args.self.now.singles c.in-Some.overlap c.in_ok-clash.clash
+    (MatchOption-at_some _ (Names c.args.self.now.singles) c.in-Some.overlap c.in-Some.is c.in_ok-overlap.ensures.clash)
+    c.in_ok-clash.ensures
