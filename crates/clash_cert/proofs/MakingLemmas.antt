@@ -90,7 +90,7 @@ named_at all o clash n h = by_order all n.a n.b o.instant clash (booked_cmp n.b 
 -- a place holds one
 pub there : {X : Type 0} (f : X → Booked) (all : List Booked) (i : ℕ) (o : Option X) → option_map f o ≡ slice_get all i → i < length all → is_some o ≡ true
 there f all i (Some x) e w = refl
-there f all i None e w = false≢true (ap (λ r. is_some r) (e ∙ slice_get-get_or all i (some_of all w) w))
+there f all i None e w = absurd (false≢true (ap (λ r. is_some r) (e ∙ slice_get-get_or all i (some_of all w) w)))
   where
     some_of : (xs : List Booked) → i < length xs → Booked
     some_of [] w = absurd (omega (arith, w))
@@ -98,7 +98,7 @@ there f all i None e w = false≢true (ap (λ r. is_some r) (e ∙ slice_get-get
 
 pub key_there : {X : Type 0} (f : X → Key) (all : List Booked) (i : ℕ) (o : Option X) → option_map f o ≡ option_map (λ b. b.key) (slice_get all i) → i < length all → is_some o ≡ true
 key_there f all i (Some x) e w = refl
-key_there f all i None e w = false≢true (ap (λ r. is_some r) (e ∙ ap (λ r. option_map (λ (b : Booked). b.key) r) (slice_get-get_or all i (some_of all w) w)))
+key_there f all i None e w = absurd (false≢true (ap (λ r. is_some r) (e ∙ ap (λ r. option_map (λ (b : Booked). b.key) r) (slice_get-get_or all i (some_of all w) w))))
   where
     some_of : (xs : List Booked) → i < length xs → Booked
     some_of [] w = absurd (omega (arith, w))
