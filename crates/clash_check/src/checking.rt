@@ -86,6 +86,8 @@ pub fn standing_means_clear()
 pub fn check_clash(calendar: &Calendar, clash: &Clash) -> bool
     ensures { IsTrue result ↔ IsClashIn calendar.now.singles clash.now }
 {
+    // For the proof alone: the keys of the singles differ.
+    let _singles = calendar.singles();
     let Some(first) = single_of(calendar, &clash.first) else {
         return false;
     };

@@ -10,4 +10,8 @@ pub returns-in_default-single_of : goal.returns-in_default-single_of
 returns-in_default-single_of c = never c.args.calendar.now.singles c.args.clash.now (no_second c.args.calendar.now.singles c.args.clash.now c.in_default-single_of.ensures.none)
 
 pub returns : goal.returns
-returns c = ?
+returns c =
+    let fits : FitsSigned w64 c.args.clash.now.instant = search rules in
+    decided c.args.calendar.now.singles c.args.clash.now c.in-Some.first c.in-Some-single_of.second c.share.result c.has_key.result _
+    c.singles-singles.ensures.keys c.in-Some.ensures.found c.in-Some-single_of.ensures.found c.has_key.ensures c.if-has_key.false
+    (to_z-of_z w64 c.args.clash.now.instant fits) c.share.ensures
