@@ -14,10 +14,10 @@ use std::alloc::Global;
 pub fn kept(alloc: Global, octets: &[u8], room: &Address) -> Result<String, NoAnswer> {
     let calendar = Calendar::read(alloc, octets, room)?;
     let mut list = calendar.single_count().to_string(alloc)?;
-    for booking in calendar.bookings() {
-        let organiser = booking.key.organiser.as_str();
-        let slot = booking.key.slot;
-        let item = format!(in alloc; "{organiser} {slot} {} {}", booking.start, booking.end)?;
+    for single in calendar.singles() {
+        let organiser = single.key.organiser;
+        let slot = single.key.slot;
+        let item = format!(in alloc; "{organiser} {slot} {} {}", single.start, single.end)?;
         append(&mut list, ", ", item.as_str())?;
     }
     Ok(list)

@@ -1,16 +1,16 @@
 //! Cases of calendars that are made from events: `events | EVENT, EVENT ..`, where an EVENT is `UID START END`, or `UID START END
-//! declined` for one that holds no room. All are ann's.
+//! declined` for one that holds no room. All are ann's. And cases of spans alone: `spans | START END, START END ..`.
 
 use crate::certificates::verdict_text;
-use crate::names::ANN;
-use cal_events::{Calendar, Entry, OwnedInstance, OwnedKey};
+use crate::names::{ANN, ROOM};
+use cal_events::{Calendar, OwnedKey, Span, first_overlap};
 use clash_cert::{Clash, Made, make};
 use clash_check::{check_clash, judge_read};
 use example_cases::answers::{Answers, append, none, yes_or_no};
 use example_cases::spelled::{escaped, octets_of};
 use example_cases::words::{first_word, number};
 use example_cases::{Case, NoAnswer};
-use ical_values::{Address, Text};
+use ical_values::{Address, Stamp, Text};
 use std::alloc::Global;
 
 /// The answers of a case.
@@ -24,34 +24,62 @@ pub fn answers(alloc: Global, case: Case<'_>) -> Result<String, NoAnswer> {
     Ok(answers.finish())
 }
 
-fn calendar_of(alloc: Global, events: &str) -> Result<Calendar, NoAnswer> {
-    let mut entries = Vec::new(alloc);
-    for event in events.split(", ") {
-        entries.push(entry(alloc, event)?)?;
+/// The places of two spans that share an instant.
+pub fn span_answer(alloc: Global, case: Case<'_>) -> Result<String, NoAnswer> {
+    let mut spans = Vec::new(alloc);
+    for span in case.input().split(", ") {
+        let (start, end) = first_word(span);
+        spans.push(Span {
+            start: number(start)?,
+            end: number(end)?,
+        })?;
     }
-    Ok(Calendar::of(alloc, entries)?)
+    match first_overlap(alloc, &spans)? {
+        Some(found) => Ok(format!(in alloc;
+            "{} and {} at {}",
+            found.first, found.second, found.instant
+        )?),
+        None => Ok(none(alloc)?),
+    }
 }
 
-/// The entry of an EVENT.
-fn entry(alloc: Global, event: &str) -> Result<Entry, NoAnswer> {
+/// The calendar that has a VEVENT for each event.
+fn calendar_of(alloc: Global, events: &str) -> Result<Calendar, NoAnswer> {
+    let mut text = String::from_str(alloc, "BEGIN:VCALENDAR\r\nVERSION:2.0\r\n")?;
+    for event in events.split(", ") {
+        push_event(alloc, &mut text, event)?;
+    }
+    text.push_str("END:VCALENDAR\r\n")?;
+    let room = Address::read(alloc, ROOM)?;
+    Ok(Calendar::read(alloc, text.as_bytes(), &room)?)
+}
+
+/// Appends the VEVENT of an EVENT.
+fn push_event(alloc: Global, text: &mut String, event: &str) -> Result<(), NoAnswer> {
     let (uid, rest) = first_word(event);
     let (start, rest) = first_word(rest);
     let (end, status) = first_word(rest);
     let start = number(start)?;
-    let key = OwnedKey {
-        organiser: Address::read(alloc, ANN)?,
-        uid: Text::read(alloc, uid)?,
-        slot: start,
+    let seconds = number(end)? - start;
+    let status = if status == "declined" {
+        "DECLINED"
+    } else {
+        "ACCEPTED"
     };
-    let booking = OwnedInstance {
-        key,
-        start,
-        end: number(end)?,
-    };
-    Ok(Entry {
-        booking,
-        confirmed: status != "declined",
-    })
+    let stamp = stamp_text(alloc, start)?;
+    let lines = format!(in alloc;
+        "BEGIN:VEVENT\r\nUID:{uid}\r\nDTSTART:{stamp}\r\nDURATION:PT{seconds}S\r\nORGANIZER:{ANN}\r\nATTENDEE;PARTSTAT={status}:{ROOM}\r\nEND:VEVENT\r\n"
+    )?;
+    text.push_str(lines.as_str())?;
+    Ok(())
+}
+
+/// An instant as a UTC date-time.
+fn stamp_text(alloc: Global, instant: i64) -> Result<String, NoAnswer> {
+    let stamp = Stamp::of_instant(instant).ok_or(NoAnswer::Unreadable)?;
+    let mut text = Vec::new(alloc);
+    stamp.write(&mut text)?;
+    Ok(escaped(alloc, text.as_slice())?)
 }
 
 /// What the calendar answers to a step:

@@ -9,6 +9,7 @@ pub fn answer<R: Files + AllocGlobal>(rt: &R, case: Case<'_>) -> Result<String, 
     let alloc = rt.alloc();
     match case.call() {
         "events" => calendars::answers(alloc, case),
+        "spans" => calendars::span_answer(alloc, case),
         "certificate" => certificates::read_answer(alloc, case),
         "certificate-of" => certificates::write_answer(alloc, case),
         "held" => parts::answers(alloc, case),
