@@ -32,8 +32,8 @@ module _ (all : List Booked) (key : Key) (place : ℕ) (o : Option Instance) (e 
       elim (cases_lt k place) [
         | inl before ↦ none k d before within same
         | inr from ↦
-          let here : k ≡ place = omega (arith, w, from) in
-          not (ap (λ (b : Booked). b.key) (sym (ap (λ n. get_or all n d) here ∙ get_or_from_slice_get all place (instance_of i) d at)) ∙ same)
+            let here : k ≡ place = omega (arith, w, from) in
+            not (ap (λ (b : Booked). b.key) (sym (ap (λ n. get_or all n d) here ∙ get_or_from_slice_get all place (instance_of i) d at)) ∙ same)
       ]
 
   -- no single stands there
@@ -42,8 +42,8 @@ module _ (all : List Booked) (key : Key) (place : ℕ) (o : Option Instance) (e 
       elim (cases_lt k place) [
         | inl before ↦ none k d before within same
         | inr from ↦
-          let here : k ≡ place = omega (arith, w, from) in
-          nothing (sym (ap (option_map instance_of) is) ∙ e ∙ slice_get-get_or all place d (omega (arith, within, here)))
+            let here : k ≡ place = omega (arith, w, from) in
+            nothing (sym (ap (option_map instance_of) is) ∙ e ∙ slice_get-get_or all place d (omega (arith, within, here)))
       ]
     where
       nothing : {x : Booked} → None ≡ Some x → ⊥
