@@ -1,10 +1,9 @@
 -- Confirmed instances: each key is that of one, and the singles of a calendar without series are all of them.
-use Rattle.std.proofs.Common.{◌≡◌, ◌≢◌, ◌∙◌, ℕ, zero, suc, ◌+◌, ◌<◌, Bool, true, false, cond, List, [], ◌∷◌, ◌++◌, filter, length, get_or, subst, sym, refl, ap, inl, inr, ◌⊎◌, arith, ℤ}
-use Rattle.std.specs.Prelude.{Option, Some, None, All, AllPairs, Contains, is_some, ◌&&◌}
+use Rattle.std.proofs.Common.{◌≡◌, ◌≢◌, ◌∙◌, ℕ, zero, suc, ◌+◌, ◌<◌, true, false, List, [], ◌∷◌, ◌++◌, length, get_or, subst, sym, refl, ap, inl, inr, ◌⊎◌, arith, ℤ}
+use Rattle.std.specs.Prelude.{Some, None, All, AllPairs, Contains, is_some, ◌&&◌}
 use Rattle.std.specs.List.{AllZip, AllByRecursion, flat_map}
 use Rattle.std.proofs.lemmas.Bool.{cases_order}
 use Rattle.std.proofs.lemmas.Int.{ints}
-use Rattle.std.proofs.lemmas.Option.{same_Some}
 use Rattle.std.proofs.lemmas.List.{get_or_default, append_assoc, length-append, get_or-append_right}
 use Rattle.std.proofs.lemmas.List.Elements.{All-from_recursion, All-contains}
 use Rattle.profile.specs.text.Lines.{logical_lines}

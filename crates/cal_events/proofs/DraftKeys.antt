@@ -1,5 +1,5 @@
 -- The keys of masters and overrides: no two are one exactly where no two masters are of one meeting, and no two overrides for one instance.
-use Rattle.std.proofs.Common.{◌≡◌, ◌≢◌, ◌∙◌, ℕ, zero, suc, ◌+◌, ◌<◌, true, false, List, [], ◌∷◌, ◌++◌, map, take, length, get_or, subst, sym, refl, ap, inl, inr, ◌⊎◌, arith, ℤ, pos}
+use Rattle.std.proofs.Common.{◌≡◌, ◌≢◌, ◌∙◌, ℕ, zero, suc, ◌+◌, ◌<◌, true, false, List, [], ◌∷◌, ◌++◌, map, take, length, get_or, subst, sym, refl, ap, arith, ℤ, pos}
 use Rattle.std.specs.Prelude.{Option, Some, None, AllPairs, Contains, is_some}
 use Rattle.std.proofs.lemmas.Bool.{true≢false}
 use Rattle.std.specs.List.{filter_map, cons_option}
@@ -9,7 +9,7 @@ use Rattle.std.proofs.lemmas.List.Elements.{filter_map-append}
 use Rattle.profile.specs.checker.Instances.{Key}
 use Rattle.profile.specs.events.Events.{Event, meeting_said}
 use Rattle.profile.specs.events.Confirmed.{MastersDiffer, OverridesDiffer}
-use Rattle.cal_events.specs.Calendars.{Meeting, key_of, key_in, meeting_of}
+use Rattle.cal_events.specs.Calendars.{Meeting, key_of, key_in}
 use Rattle.cal_events.specs.Drafts.{entry_said, name_said, master_key, override_key, master_keys, override_keys}
 use Rattle.cal_events.specs.declared.calendar.Entry.{Entry}
 use Rattle.cal_events.specs.declared.instance.InstanceKey.{InstanceKey}

@@ -1,12 +1,11 @@
 -- A calendar while its VEVENTs are read: one more VEVENT, and what overrides hide in the end.
-use Rattle.std.proofs.Common.{◌≡◌, ◌≢◌, ◌∙◌, ℕ, zero, suc, ◌+◌, ◌-◌, ◌<◌, Bool, true, false, cond, List, [], ◌∷◌, ◌++◌, map, filter, take, length, get_or, subst, sym, refl, ap, inl, inr, ◌⊎◌, arith, ℤ, pos, ◌<ℤ◌, Ordering}
-use Rattle.std.specs.Prelude.{Option, Some, None, All, AllPairs, Contains, Result, Ok, Err, IfOk, IfErr, is_some, not, ◌&&◌, ◌||◌, ◌==◌}
+use Rattle.std.proofs.Common.{◌≡◌, ◌∙◌, ℕ, zero, suc, ◌+◌, ◌-◌, ◌<◌, Bool, true, false, cond, List, [], ◌∷◌, ◌++◌, map, filter, take, length, get_or, subst, sym, refl, ap, inl, inr, ◌⊎◌, arith, ℤ, pos, Ordering}
+use Rattle.std.specs.Prelude.{Option, Some, None, All, Contains, Result, Ok, Err, IfOk, IfErr, is_some, not, ◌||◌, ◌==◌}
 use Rattle.std.specs.List.{AllZip, flat_map, filter_map, list_any}
 use Rattle.std.proofs.lemmas.Bool.{true≢false, false≢true}
 use Rattle.std.proofs.lemmas.Bool.Decides.{nat_tests}
-use Rattle.std.proofs.lemmas.Int.{ints}
 use Rattle.std.proofs.lemmas.List.{map-append, take_more, append_assoc, append-nil, get_or-map, get_or_default, length-map, length-append, get_or-append_right}
-use Rattle.std.proofs.lemmas.List.Elements.{All-nil, All-cons, All-tail, All-append, All-contains, All-filter, filter-append}
+use Rattle.std.proofs.lemmas.List.Elements.{All-nil, All-tail, All-append, All-contains, All-filter, filter-append}
 use Rattle.std.proofs.lemmas.List.Kept.{AllPairs-filter}
 use Rattle.std.proofs.lemmas.List.Folds.{list_any_at}
 use Rattle.std.proofs.lemmas.List.Sorted.{Contains-permutation, IsPermutation-sym}
@@ -24,13 +23,13 @@ use Rattle.ical_lines.specs.declared.fault.Fault.{Fault}
 use Rattle.ical_lines.specs.declared.fault.Fault.TheVariants.{Refused, Memory}
 use Rattle.profile.specs.text.Trees.{Tree}
 use Rattle.profile.specs.checker.Calendars.{SayEvents, SaysCalendar, CalendarFault, two_masters, two_overrides}
-use Rattle.cal_events.specs.Drafts.{IsTwoOf, entry_said, name_said, override_key, override_keys, IsOwn, AreOwn, AreOwnAt, AreDrawn, IsDraft, IsMadeAt, AreShown, recurrence_at, is_shown_in}
+use Rattle.cal_events.specs.Drafts.{IsTwoOf, entry_said, name_said, override_key, override_keys, IsOwn, AreOwnAt, AreDrawn, IsDraft, IsMadeAt, AreShown, recurrence_at, is_shown_in}
 use Rattle.cal_events.specs.declared.calendar.Entry.{Entry}
 use Rattle.cal_events.specs.declared.instance.InstanceKey.{InstanceKey}
 use Rattle.cal_events.specs.declared.calendar.Single.{Single}
 use Rattle.cal_events.specs.declared.draft.Draft.{Draft}
 use Rattle.cal_events.specs.Events.{event_of}
-use Rattle.cal_events.proofs.InOneOrder.{later, none_in, in_mapped, of_mapped, in_filtered, of_filtered, pairs_mapped, mapped_pairs}
+use Rattle.cal_events.proofs.InOneOrder.{later, in_mapped, of_mapped, in_filtered, of_filtered, pairs_mapped, mapped_pairs}
 use Rattle.cal_events.proofs.EventLemmas.{push_zip}
 use Rattle.cal_events.proofs.ConfirmedLemmas.{lists_apart}
 use Rattle.cal_events.proofs.KeyLemmas.{key_exact, key_itself}

@@ -1,7 +1,6 @@
 -- Lists of which each element comes before each later one.
 use Rattle.std.proofs.Common.{◌≡◌, ◌∙◌, ℕ, ◌<◌, zero, suc, Bool, true, false, cond, List, [], ◌∷◌, ◌++◌, map, filter, get_or, length, subst, sym, refl, ap, inl, inr, ◌⊎◌, arith}
-use Rattle.std.specs.Prelude.{All, AllPairs, Contains}
-use Rattle.std.proofs.lemmas.List.Elements.{All-contains}
+use Rattle.std.specs.Prelude.{AllPairs, Contains}
 
 -- what is among x and xs is x, or among xs
 pub first_or_later : {X : Type 0} (x y : X) (xs : List X) → Contains (x ∷ xs) y → (x ≡ y) ⊎ Contains xs y

@@ -2,14 +2,14 @@
 use Rattle.std.proofs.Common.{eqb, ◌≡◌, ◌∙◌, ap, sym, refl, inl, inr, ℕ, Bool, true, false, cond, ◌&&◌, ◌||◌, ◌<◌, List, [], ◌∷◌, length, subst, codes, arith}
 use Rattle.std.specs.Prelude.{Option, Some, None, Contains, is_some, ◌⊎◌}
 use Rattle.std.specs.List.{list_any, flat_map}
-use Rattle.std.proofs.lemmas.Bool.{true≢false, or_parts, or_from, or_right}
+use Rattle.std.proofs.lemmas.Bool.{true≢false, or_parts, or_right}
 use Rattle.std.proofs.lemmas.List.Folds.{list_any_at}
 use Rattle.std.proofs.lemmas.List.Elements.{All-contains, All-filter, All-contains_itself, filter_passes}
 use Rattle.ical_lines.specs.Fault.{RefusesOnly, RefusesBy}
 use Rattle.ical_lines.specs.declared.fault.Fault.{Fault}
 use Rattle.ical_lines.specs.declared.fault.Fault.TheVariants.{Refused, Memory}
 use Rattle.profile.specs.faults.Faults.{is_event_fault, is_zoned_event_fault, is_zone_fault, is_unread, is_rule_fault, is_series_event_fault, is_meeting_event_fault}
-use Rattle.profile.specs.text.Lines.{line_param, line_value, is_same_name}
+use Rattle.profile.specs.text.Lines.{line_param, line_value}
 use Rattle.profile.specs.text.Trees.{Tree}
 use Rattle.profile.specs.series.ZoneTexts.{PartsFault, no_part, in_part, ruled, other_parts, unruled, unmatched, close, TimesFault, dates, missing, twice as part_twice, fixed, bad_start as bad_part, bad_from, bad_to}
 use Rattle.profile.specs.events.Properties.{TimeKind, DateTime, Date, Period, Other, time_kind, UnfixedOrMalformed, IsDateText, IsLocalText, KindFault, ends_in_z, is_of, lines_named}

@@ -1,5 +1,5 @@
 -- The singles of an event by itself: what its starts, or its own start, make.
-use Rattle.std.proofs.Common.{◌≡◌, ◌∙◌, ℕ, zero, suc, ◌<◌, Bool, true, false, List, [], ◌∷◌, map, length, get_or, subst, sym, refl, ap, inl, inr, ◌⊎◌, arith, ℤ, ◌<ℤ◌}
+use Rattle.std.proofs.Common.{◌≡◌, ◌∙◌, ℕ, zero, suc, Bool, true, List, [], ◌∷◌, map, subst, sym, refl, ap, inl, inr, ◌⊎◌, arith, ℤ, ◌<ℤ◌}
 use Rattle.std.specs.Prelude.{Option, Some, None, All, AllPairs, Contains, is_some, not, if◌then◌else◌}
 use Rattle.std.specs.List.{AllZip}
 use Rattle.std.proofs.lemmas.Bool.{true≢false}
@@ -8,15 +8,15 @@ use Rattle.std.proofs.lemmas.List.Elements.{All-nil, All-cons}
 use Rattle.profile.specs.checker.Instances.{Key, Booked}
 use Rattle.profile.specs.events.ZonedTimes.{clock_of}
 use Rattle.profile.specs.events.Events.{Event, meeting_said}
-use Rattle.profile.specs.events.Meetings.{Meeting, is_master, is_override}
-use Rattle.profile.specs.events.Starts.{IsStart, IsRuleStart, IsInstance, IsOfMaster, IsOfOverride, EndsAt, ComesBefore, key_at}
-use Rattle.profile.specs.events.Confirmed.{alone, is_kept, IsOfSeries}
+use Rattle.profile.specs.events.Meetings.{Meeting, is_master}
+use Rattle.profile.specs.events.Starts.{IsStart, IsRuleStart, IsInstance, EndsAt, ComesBefore, key_at}
+use Rattle.profile.specs.events.Confirmed.{alone, is_kept}
 use Rattle.cal_events.specs.Calendars.{booked_as}
-use Rattle.cal_events.specs.Drafts.{IsSaid, IsOwn, AreOwn, AreOwnAt, IsMadeAt}
-use Rattle.cal_events.specs.SingleStarts.{IsOnRule, IsSingleStart, AreSingleStarts}
+use Rattle.cal_events.specs.Drafts.{IsSaid, IsOwn, AreOwnAt, IsMadeAt}
+use Rattle.cal_events.specs.SingleStarts.{IsSingleStart, AreSingleStarts}
 use Rattle.cal_events.specs.declared.calendar.Single.{Single}
 use Rattle.cal_events.proofs.InOneOrder.{first_or_later, later, none_in, head_pairs, tail_pairs, cons_pairs}
-use Rattle.cal_events.proofs.OneInstance.{IsSteady, IsSound, event_sound, end_one, booked_same}
+use Rattle.cal_events.proofs.OneInstance.{IsSteady, event_sound, end_one, booked_same}
 
 -- ---- an event by itself
 

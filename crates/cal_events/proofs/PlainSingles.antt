@@ -1,22 +1,22 @@
 -- Of events in UTC that happen once, each accepted by the room, and none of them an override, the singles are their own instances.
-use Rattle.std.proofs.Common.{◌≡◌, ◌≢◌, ◌∙◌, ℕ, zero, suc, ◌*◌, ◌<◌, Bool, true, false, cond, List, [], ◌∷◌, ◌++◌, map, filter, subst, sym, refl, ap, inl, inr, ◌⊎◌, arith, ℤ, pos, ◌+ℤ◌}
-use Rattle.std.specs.Prelude.{Option, Some, None, All, AllPairs, Contains, is_some, not, ◌&&◌, ◌||◌}
-use Rattle.std.specs.List.{AllZip, AllByRecursion, flat_map}
+use Rattle.std.proofs.Common.{◌≡◌, ◌∙◌, ℕ, zero, ◌*◌, Bool, true, false, cond, List, [], ◌∷◌, map, filter, subst, sym, refl, ap, inl, inr, ◌⊎◌, arith, ℤ, pos, ◌+ℤ◌}
+use Rattle.std.specs.Prelude.{Option, None, All, Contains, is_some, not, ◌&&◌}
+use Rattle.std.specs.List.{AllZip, flat_map}
 use Rattle.std.proofs.lemmas.Bool.{true≢false, cases_lt}
 use Rattle.std.proofs.lemmas.Int.{ints}
 use Rattle.std.proofs.lemmas.List.Elements.{All-cons, All-nil, All-contains, All-tail}
 use Rattle.profile.specs.checker.Instances.{Booked}
 use Rattle.profile.specs.series.Rules.{Parts}
-use Rattle.profile.specs.series.Zones.{Zone, Means}
+use Rattle.profile.specs.series.Zones.{Means}
 use Rattle.profile.specs.events.Properties.{length_seconds}
 use Rattle.profile.specs.events.ZonedTimes.{EventTimes, clock_of}
 use Rattle.profile.specs.events.Events.{Event, booked_by, is_confirmed, meeting_said}
 use Rattle.profile.specs.events.Meetings.{is_master}
-use Rattle.profile.specs.events.Starts.{IsGiven, IsStart, IsDaysLater, EndsAt}
-use Rattle.profile.specs.events.Confirmed.{is_kept, is_series, IsSingle, AreSingles, AreConfirmed, IsReplaced}
+use Rattle.profile.specs.events.Starts.{IsGiven, IsDaysLater, EndsAt}
+use Rattle.profile.specs.events.Confirmed.{is_kept, is_series, IsSingle, AreSingles, AreConfirmed}
 use Rattle.cal_events.specs.Meetings.{IsNamed}
 use Rattle.cal_events.specs.Drafts.{IsSaid}
-use Rattle.cal_events.proofs.InOneOrder.{none_in, later, cons_pairs}
+use Rattle.cal_events.proofs.InOneOrder.{none_in}
 use Rattle.cal_events.proofs.Meanings.{utc_means}
 use Rattle.cal_events.proofs.OwnSingles.{IsAtStart, alone_master, master_alone, one_of_key}
 

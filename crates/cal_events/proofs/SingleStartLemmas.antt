@@ -1,6 +1,6 @@
 -- The starts of a master that belong to no series.
 use Rattle.std.proofs.Common.{◌≡◌, ◌∙◌, ℕ, zero, suc, ◌+◌, ◌-◌, ◌<◌, ◌≤◌, true, false, List, [], ◌∷◌, ◌++◌, take, length, get_or, subst, sym, refl, ap, inl, inr, ◌⊎◌, arith, ℤ, ◌<ℤ◌, ◌≤ℤ◌}
-use Rattle.std.specs.Prelude.{Option, Some, None, All, AllPairs, Contains, Bool, not, IsTrue, is_some, ◌↔◌}
+use Rattle.std.specs.Prelude.{Option, Some, None, AllPairs, Contains, Bool, not, IsTrue, is_some, ◌↔◌}
 use Rattle.std.specs.Ordering.{int_cmp}
 use Rattle.std.specs.List.Sorted.{IsPermutation, IsSorted}
 use Rattle.std.proofs.lemmas.Bool.{cases_order, false≢true, true≢false}
@@ -9,12 +9,12 @@ use Rattle.std.proofs.lemmas.Option.{same_Some}
 use Rattle.std.proofs.lemmas.List.{take_all, take_more, get_or_default, length-take-le, get_or-take}
 use Rattle.std.proofs.lemmas.List.Elements.{Contains-push_cases, Contains-push, Contains-append_left}
 use Rattle.std.proofs.lemmas.List.Sorted.{IsPermutation-sym, Contains-permutation}
-use Rattle.profile.specs.series.Rules.{Parts, is_rule_day, IsNextDay, NoDayFrom}
+use Rattle.profile.specs.series.Rules.{Parts, IsNextDay, NoDayFrom}
 use Rattle.profile.specs.series.Zones.{Means, IsOneMeaning, local_time}
 use Rattle.profile.specs.events.Events.{Event}
 use Rattle.profile.specs.events.EventRules.{IsOnDay}
 use Rattle.profile.specs.events.ZonedTimes.{clock_of}
-use Rattle.profile.specs.events.Starts.{IsGiven, IsRuleStart, IsStart}
+use Rattle.profile.specs.events.Starts.{IsGiven, IsRuleStart}
 use Rattle.cal_events.specs.Meetings.{IsNamed}
 use Rattle.cal_events.specs.Instances.{IsAscending, IsAfter, IsWanted, NoneBefore}
 use Rattle.cal_events.specs.SingleStarts.{IsOnRule, IsSingleStart, AreSingleStarts, IsCandidate, IsLast, IsLeftOver}

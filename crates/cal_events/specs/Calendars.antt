@@ -1,5 +1,5 @@
 -- What the types of instances and calendars stand for.
-use Rattle.std.specs.Prelude.{ℕ, List, [], ◌≡◌, ◌<◌, ◌≢◌, map, length, get_or, All, AllPairs, ℤ}
+use Rattle.std.specs.Prelude.{ℕ, List, [], ◌<◌, ◌≢◌, map, length, get_or, All, AllPairs, ℤ}
 use Rattle.cal_events.specs.declared.sweep.Span.{Span}
 use Rattle.profile.specs.checker.Instances.{Key, Booked}
 use Rattle.ical_values.specs.Octets.{address_octets, text_octets}

@@ -1,5 +1,5 @@
 -- A calendar while its VEVENTs are read.
-use Rattle.std.specs.Prelude.{ℕ, suc, List, [], ◌∷◌, ◌++◌, ◌≡◌, ◌⊎◌, ◌&&◌, ◌||◌, map, filter, get_or, All, AllPairs, Contains, Bool, true, false, not, Option, None, Some, is_some, ℤ, pos}
+use Rattle.std.specs.Prelude.{ℕ, suc, List, [], ◌∷◌, ◌++◌, ◌≡◌, ◌⊎◌, ◌||◌, map, filter, get_or, All, AllPairs, Contains, Bool, true, false, not, Option, None, Some, is_some, ℤ, pos}
 use Rattle.std.specs.Ordering.{is_eq}
 use Rattle.std.specs.List.{list_any, filter_map}
 use Rattle.std.specs.List.Sorted.{IsPermutation, IsSortedByKey}

@@ -2,7 +2,7 @@
 use Rattle.std.specs.Prelude.{ℕ, Bool, ◌||◌, true, false, List, length, map, filter, option_map, Option, codes, Contains, ◌≡◌, ◌⊎◌, ◌<◌, ℤ, pos, ◌<ℤ◌}
 use Rattle.ical_values.specs.Octets.{address_octets, text_octets}
 use Rattle.ical_values.specs.declared.duration.Duration.{Duration}
-use Rattle.std.specs.List.{AllZip, list_any}
+use Rattle.std.specs.List.{list_any}
 use Rattle.profile.specs.faults.Faults.{is_event_fault, is_unread, is_meeting_event_fault}
 use Rattle.profile.specs.events.Events as profile
 use Rattle.profile.specs.events.Properties as properties

@@ -1,12 +1,11 @@
 -- What is confirmed, worked by the definitions alone; and of an event that happens once in UTC.
-use Rattle.std.proofs.Common.{◌≡◌, ◌∙◌, ℕ, zero, suc, true, false, List, [], ◌∷◌, codes, refl, sym, ap, subst, inl, inr, arith, ℤ, pos, ◌+ℤ◌}
+use Rattle.std.proofs.Common.{◌≡◌, ◌∙◌, ℕ, zero, suc, true, false, List, [], ◌∷◌, codes, refl, sym, ap, inl, inr, arith, ℤ, pos}
 use Rattle.std.specs.Prelude.{Option, Some, None, Contains, Bool, is_some}
 use Rattle.std.proofs.lemmas.Bool.{false≢true}
 use Rattle.std.proofs.lemmas.Int.{ints}
-use Rattle.profile.specs.checker.Instances.{Booked}
-use Rattle.profile.specs.events.Events.{Event, Participation, Accepted, Declined, booked_by, meeting_said}
-use Rattle.profile.specs.events.Starts.{IsStart, IsInstance, key_at}
-use Rattle.profile.specs.events.Confirmed.{alone, is_kept, is_series, IsReplaced, IsInstanceAmong, IsConfirmed, MastersDiffer, OverridesDiffer}
+use Rattle.profile.specs.events.Events.{Event, Participation, Accepted, Declined}
+use Rattle.profile.specs.events.Starts.{key_at}
+use Rattle.profile.specs.events.Confirmed.{is_kept, is_series, IsInstanceAmong, IsConfirmed, MastersDiffer, OverridesDiffer}
 
 abbrev room : List ℕ
 room = codes "r:1"

@@ -1,5 +1,5 @@
 -- The text of a certificate, and when it stands. The format is this profile's own.
-use Rattle.std.specs.Prelude.{ℕ, ℤ, List, [], ◌∷◌, ◌++◌, ◌-◌, ◌^◌, ◌<◌, ◌≤◌, ◌≡◌, ◌≢◌, length, take, codes, decimal}
+use Rattle.std.specs.Prelude.{ℕ, ℤ, List, [], ◌∷◌, ◌++◌, ◌-◌, ◌^◌, ◌<◌, ◌≤◌, ◌≡◌, length, take, codes, decimal}
 use Rattle.profile.specs.checker.Instances.{Booked, IsClash, IsClear}
 use Rattle.profile.specs.events.Confirmed.{Confirmed}
 

@@ -1,5 +1,5 @@
 -- Which instances the VEVENTs of a calendar confirm in a room (RFC 5545 3.2.12, 3.8.1.11, 3.8.4.4), in series and singles.
-use Rattle.std.specs.Prelude.{◌≡◌, ◌≢◌, Contains, AllPairs, All, Bool, true, not, if◌then◌else◌, ◌&&◌, List, [], ◌∷◌, map, filter, Some, None, is_some, ℤ, ℕ}
+use Rattle.std.specs.Prelude.{◌≡◌, ◌≢◌, Contains, AllPairs, All, Bool, true, not, if◌then◌else◌, ◌&&◌, List, [], ◌∷◌, filter, Some, None, is_some, ℤ, ℕ}
 use Rattle.std.specs.List.{AllZip, flat_map}
 use Rattle.profile.specs.checker.Instances.{Booked}
 use Rattle.profile.specs.series.Rules.{Parts}

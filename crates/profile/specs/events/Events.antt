@@ -1,10 +1,10 @@
 -- VEVENTs: what their lines say (RFC 5545 3.6.1), and what a message for a single event in UTC books. A VEVENT is its content lines here,
 -- beside the object that it stands in: its times may name a VTIMEZONE of that.
-use Rattle.std.specs.Prelude.{◌≡◌, ◌≢◌, ℕ, Contains, AllPairs, Bool, true, false, not, if◌then◌else◌, ◌&&◌, ◌||◌, List, [], ◌∷◌, map, filter, codes, Option, Some, option_map, unwrap_or, ℤ, pos, ◌+ℤ◌}
+use Rattle.std.specs.Prelude.{◌≡◌, ℕ, Contains, Bool, true, false, not, if◌then◌else◌, ◌&&◌, ◌||◌, List, [], ◌∷◌, codes, Option, Some, option_map, unwrap_or, ℤ, pos, ◌+ℤ◌}
 use Rattle.std.specs.List.{find, list_any, AllZip}
 use Rattle.std.specs.Str.{bytes_eq}
 use Rattle.profile.specs.text.Lines.{line_value, line_param, is_same_name}
-use Rattle.profile.specs.text.Trees.{Tree, vevents}
+use Rattle.profile.specs.text.Trees.{Tree}
 use Rattle.profile.specs.text.Values.{IsUid, unescaped}
 use Rattle.profile.specs.checker.Instances.{Booked}
 use Rattle.profile.specs.events.Properties.{is_of, lines_named, IsStampLine, IsSequenceLine, IsAddressLine, Says, IsUidLine, length_seconds, StandsTwice, IsMissing, SomeLine, IsNoStamp, IsNoAddress, IsNoSequence}

@@ -1,6 +1,6 @@
-use Rattle.std.proofs.Common.{◌≡◌, ◌∙◌, ◌++◌, ◌∷◌, [], ap, sym, subst, refl, List, ℤ, pos, take, get_or, FitsSigned, to_z, of_z, w64, to_z-of_z, rules}
+use Rattle.std.proofs.Common.{◌≡◌, ◌∙◌, ◌∷◌, [], sym, subst, List, ℤ, pos, get_or, FitsSigned, to_z, of_z, w64, to_z-of_z, rules}
 use Rattle.std.specs.List.{AllZip}
-use Rattle.std.proofs.lemmas.List.{take_all, take_more, append_assoc}
+use Rattle.std.proofs.lemmas.List.{take_all}
 use Rattle.profile.specs.events.Starts.{EndsAt}
 use Rattle.cal_events.specs.Events.{event_of}
 use Rattle.cal_events.specs.Drafts.{IsMadeAt}

@@ -1,4 +1,4 @@
-use Rattle.std.proofs.Common.{◌≡◌, ◌+◌, ◌-◌, ◌<◌, arith, get_or}
+use Rattle.std.proofs.Common.{arith}
 use Rattle.cal_events.proofs.KeyLemmas.{none_equal, equal_there, one_further}
 use Rattle.cal_events.proofs.draft.has_equal_neighbours.Goals as goal
 

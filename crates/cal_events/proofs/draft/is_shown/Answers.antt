@@ -1,8 +1,8 @@
-use Rattle.std.proofs.Common.{◌≡◌, ◌∙◌, ◌||◌, Bool, not, map, List, ap, sym, to_z, of_z, w64, rules}
+use Rattle.std.proofs.Common.{◌≡◌, ◌∙◌, ◌||◌, Bool, not, map, ap, sym, to_z, of_z, w64, rules}
 use Rattle.std.specs.Prelude.{is_some}
 use Rattle.std.specs.List.{list_any}
 use Rattle.std.specs.Ordering.{is_eq}
-use Rattle.profile.specs.checker.Instances.{Key, key_cmp}
+use Rattle.profile.specs.checker.Instances.{key_cmp}
 use Rattle.cal_events.specs.Calendars.{key_of, key_in, meeting_of, meeting_at}
 use Rattle.cal_events.proofs.DraftLemmas.{recurrence_there, meeting_there}
 use Rattle.cal_events.proofs.KeyLemmas.{missing}

@@ -1,9 +1,8 @@
-use Rattle.std.proofs.Common.{◌≡◌, ◌∙◌, List, refl, map, ap, sym, subst}
-use Rattle.std.specs.List.{filter}
+use Rattle.std.proofs.Common.{List, refl, map, sym, subst}
 use Rattle.std.specs.List.Sorted.{IsPermutation}
 use Rattle.std.proofs.lemmas.List.Sorted.{IsPermutation-sym}
 use Rattle.cal_events.specs.Calendars.{key_of}
-use Rattle.cal_events.specs.Drafts.{override_keys, is_shown_in}
+use Rattle.cal_events.specs.Drafts.{override_keys}
 use Rattle.cal_events.specs.declared.instance.InstanceKey.{InstanceKey}
 use Rattle.cal_events.proofs.KeyLemmas.{pairs_permutation}
 use Rattle.cal_events.proofs.draft.shown.Goals as goal

@@ -1,4 +1,4 @@
-use Rattle.std.proofs.Common.{◌∙◌, ◌++◌, ◌∷◌, [], List, ℤ, ap, sym, not, to_z, of_z, w64, rules}
+use Rattle.std.proofs.Common.{◌∙◌, ◌++◌, ◌∷◌, [], List, ℤ, ap, not, to_z, of_z, w64, rules}
 use Rattle.cal_events.specs.Events.{event_of}
 use Rattle.cal_events.proofs.DraftKeys.{none_there}
 use Rattle.cal_events.proofs.SingleStartLemmas.{with_dtstart, without_dtstart}

@@ -1,6 +1,5 @@
-use Rattle.std.proofs.Common.{◌≡◌, ◌∙◌, ap, sym, subst, not, true, false, refl, ℤ, to_z, of_z, w64, to_z-of_z}
-use Rattle.std.specs.Prelude.{Contains}
-use Rattle.std.proofs.lemmas.List.Sorted.{Contains-permutation, IsPermutation-sym}
+use Rattle.std.proofs.Common.{◌≡◌, refl, to_z, of_z, w64, to_z-of_z}
+use Rattle.std.proofs.lemmas.List.Sorted.{Contains-permutation}
 use Rattle.cal_events.proofs.SingleStartLemmas.{left_over, not_left_over}
 use Rattle.cal_events.specs.Events.{event_of}
 use Rattle.cal_events.proofs.single_starts.is_single.Goals as goal

@@ -1,4 +1,4 @@
-use Rattle.std.proofs.Common.{◌≡◌, ◌∙◌, ◌<◌, ap, sym, subst, not, true, false, refl, List, ℤ, pos, ◌++◌, ◌∷◌, [], ◌+◌, take, length, get_or, FitsSigned, to_z, of_z, w64, to_z-of_z, rules}
+use Rattle.std.proofs.Common.{◌≡◌, ◌∙◌, ap, sym, subst, List, ℤ, pos, ◌++◌, ◌∷◌, [], ◌+◌, take, get_or, FitsSigned, to_z, of_z, w64, to_z-of_z, rules}
 use Rattle.std.proofs.lemmas.Bool.{true≢false}
 use Rattle.std.proofs.lemmas.List.{get_or_default}
 use Rattle.std.specs.Prelude.{IsTrue, Contains, ◌↔◌}

@@ -1,4 +1,4 @@
-use Rattle.std.proofs.Common.{◌≡◌, ◌∙◌, ◌<◌, ◌≤◌, ◌++◌, ◌∷◌, [], false, List, length, get_or, take, sym, ap, subst, refl}
+use Rattle.std.proofs.Common.{◌≡◌, ◌∙◌, ◌<◌, ◌≤◌, ◌++◌, ◌∷◌, [], false, List, length, get_or, take, sym, ap, subst}
 use Rattle.std.specs.List.{AllZip}
 use Rattle.std.proofs.lemmas.List.{take_all}
 use Rattle.ical_lines.specs.Fault.{RefusesBy}
@@ -6,9 +6,9 @@ use Rattle.ical_values.specs.Octets.{address_octets}
 use Rattle.ical_values.proofs.Exits.{err_exit}
 use Rattle.ical_tree.specs.Tree.{component_lines, component_children, tree_of}
 use Rattle.ical_tree.specs.declared.component.Component.{Component}
-use Rattle.profile.specs.text.Trees.{Tree, vevents}
+use Rattle.profile.specs.text.Trees.{Tree}
 use Rattle.profile.specs.checker.Calendars.{CalendarFault}
-use Rattle.profile.specs.events.Events.{Event, SaysEvent}
+use Rattle.profile.specs.events.Events.{SaysEvent}
 use Rattle.cal_events.specs.declared.component.Purpose.TheVariants.{Meeting}
 use Rattle.cal_events.specs.Events.{event_of, vevents_of, IsUnreadOrFault}
 use Rattle.cal_events.specs.Drafts.{IsDraft}

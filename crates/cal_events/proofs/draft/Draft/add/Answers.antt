@@ -1,10 +1,9 @@
-use Rattle.std.proofs.Common.{◌≡◌, ◌∙◌, ◌++◌, ◌∷◌, ◌&&◌, [], cond, Bool, ap, sym, subst, refl, true, false, not, ℕ, List, map, length, arith}
+use Rattle.std.proofs.Common.{◌≡◌, ◌∙◌, ◌∷◌, ◌&&◌, [], ap, sym, subst, true, false, ℕ, map, length, arith}
 use Rattle.std.specs.Prelude.{is_some}
 use Rattle.ical_values.specs.Octets.{address_octets}
 use Rattle.std.proofs.lemmas.List.{append-nil, map-append}
-use Rattle.profile.specs.events.Events.{Event}
 use Rattle.profile.specs.events.Meetings.{is_master}
-use Rattle.profile.specs.events.Confirmed.{is_kept, is_series}
+use Rattle.profile.specs.events.Confirmed.{is_kept}
 use Rattle.cal_events.specs.Events.{event_of}
 use Rattle.cal_events.specs.Drafts.{AreOwnAt}
 use Rattle.cal_events.proofs.DraftLemmas.{draft_more, none_own, more_series}
