@@ -41,6 +41,30 @@ ORGANIZER:mailto:ann@example.com
 ATTENDEE;PARTSTAT=ACCEPTED:{room}
 END:VEVENT
 """
+# A meeting of DAYS days in a row: EXDATE takes one away, and an override moves another by half an hour.
+DAYS = 12
+LISTED_DAYS = """BEGIN:VEVENT
+UID:meeting-{number}@example.com
+SEQUENCE:0
+DTSTAMP:20250101T000000Z
+DTSTART:{start}
+RDATE:{others}
+EXDATE:{excepted}
+DURATION:PT1800S
+ORGANIZER:mailto:ann@example.com
+ATTENDEE;PARTSTAT=ACCEPTED:{room}
+END:VEVENT
+BEGIN:VEVENT
+UID:meeting-{number}@example.com
+RECURRENCE-ID:{slot}
+SEQUENCE:1
+DTSTAMP:20250101T000000Z
+DTSTART:{moved}
+DURATION:PT1800S
+ORGANIZER:mailto:ann@example.com
+ATTENDEE;PARTSTAT=ACCEPTED:{room}
+END:VEVENT
+"""
 ZONE = """BEGIN:VTIMEZONE
 TZID:Z{number}
 BEGIN:STANDARD
@@ -208,6 +232,20 @@ def calendar(count):
     yield crlf("END:VCALENDAR\n")
 
 
+def calendar_of_days(count):
+    """So many meetings by RDATE, each with a day taken away and one moved by half an hour."""
+    yield crlf("BEGIN:VCALENDAR\nVERSION:2.0\nPRODID:-//bench//EN\n")
+    for number in range(count):
+        block, hour = divmod(number, 24)
+        hours = [24 * (DAYS * block + day) + hour for day in range(DAYS)]
+        days = [stamp(place) for place in hours]
+        moved = (FIRST + timedelta(hours=hours[2], minutes=30)).strftime("%Y%m%dT%H%M%SZ")
+        others = ",".join(days[1:])
+        room = ROOM.format(0)
+        yield crlf(LISTED_DAYS.format(number=number, start=days[0], others=others, excepted=days[1], slot=days[2], moved=moved, room=room))
+    yield crlf("END:VCALENDAR\n")
+
+
 def run(words, stream):
     """Seconds, peak octets and output of one run."""
     with tempfile.TemporaryFile() as output:
@@ -344,6 +382,8 @@ def main():
     grown("a third cancels, a third revisions, a third repeats", (10_000, 100_000), changed, None)
     grown("objects of 1 MB with folded lines", (20,), lambda count: serve(program, large_objects(count), count), "octets")
     grown("singles checked", (100_000, 1_000_000), lambda count: check(program, calendar(count), count), "octets")
+    days = lambda count: check(program, calendar_of_days(count), count * (DAYS - 1))
+    grown(f"meetings of {DAYS} days checked", (10_000, 100_000), days, "octets")
     for work, start, rule in RULES:
         grown(work, (9_500, 95_000), lambda count: expand(program, start, rule, count), None)
     grown("VEVENTs of an event, a zone each", (20, 200), lambda count: zoned(program, count), None)

@@ -1,5 +1,5 @@
 -- Confirmed instances: each key is that of one, and the singles of a calendar without series are all of them.
-use Rattle.std.proofs.Common.{◌≡◌, ◌≢◌, ◌∙◌, ℕ, zero, suc, ◌+◌, ◌<◌, true, false, List, [], ◌∷◌, ◌++◌, length, get_or, subst, sym, refl, ap, inl, inr, ◌⊎◌, arith, ℤ}
+use Rattle.std.proofs.Common.{◌≡◌, ◌≢◌, ◌∙◌, ℕ, zero, suc, ◌+◌, ◌<◌, false, List, [], ◌∷◌, ◌++◌, length, get_or, subst, sym, refl, ap, inl, inr, ◌⊎◌, arith, ℤ}
 use Rattle.std.specs.Prelude.{Some, None, All, AllPairs, Contains, is_some, ◌&&◌}
 use Rattle.std.specs.List.{AllZip, AllByRecursion, flat_map}
 use Rattle.std.proofs.lemmas.Bool.{cases_order}
@@ -13,7 +13,7 @@ use Rattle.profile.specs.checker.Calendars.{SpellsCalendar, IsConfirmedIn, SayEv
 use Rattle.profile.specs.events.Events.{Event, SaysEvent, meeting_said}
 use Rattle.profile.specs.events.Meetings.{is_master}
 use Rattle.profile.specs.events.Starts.{ComesBefore}
-use Rattle.profile.specs.events.Confirmed.{Confirmed, is_kept, is_series, IsInstanceAmong, IsConfirmed, IsOfSeries, IsSingle, AreSingles, MastersDiffer, OverridesDiffer}
+use Rattle.profile.specs.events.Confirmed.{Confirmed, is_series, IsInstanceAmong, IsConfirmed, IsOfSeries, IsSingle, AreSingles, MastersDiffer, OverridesDiffer}
 use Rattle.cal_events.specs.Calendars.{HaveDifferentKeys}
 use Rattle.cal_events.specs.Drafts.{IsSaid}
 use Rattle.cal_events.proofs.InOneOrder.{later, none_in, in_filtered, head_pairs, tail_pairs, cons_pairs, append_pairs}
@@ -67,6 +67,17 @@ module _ (events : List Event) (masters : MastersDiffer events) (overrides : Ove
     where
       first : get_or events i f ≡ e
       first = get_or_default events i f e (omega (arith, l, w)) ∙ is_e
+
+  -- an instance is one of one event
+  pub one_event : (e f : Event) → Contains events e → Contains events f → (a : Booked) → IsInstanceAmong events e a → IsInstanceAmong events f a → e ≡ f
+  one_event e f c d a h k =
+      elim (cases_order c.0 d.0) [
+        | inl at ↦ sym c.2 ∙ ap (λ n. get_or events n e) at ∙ get_or_default events d.0 e f d.1 ∙ d.2
+        | inr o ↦ elim o [
+          | inl l ↦ absurd (at_places c.0 d.0 e f l d.1 c.2 d.2 a a h k refl)
+          | inr l ↦ absurd (at_places d.0 c.0 f e l c.1 d.2 c.2 a a k h refl)
+        ]
+      ]
 
   -- confirmed instances of one key are one
   pub one_confirmed : (room : List ℕ) → All IsSaid events → (a b : Booked) → IsConfirmed room events a → IsConfirmed room events b → a.key ≡ b.key → a ≡ b
@@ -168,12 +179,14 @@ all_said object events z = All-from_recursion IsSaid events (go (vevents object)
     go (v ∷ vs) (e ∷ es) z = ((object, v, z.0), go vs es z.1)
 
 module _ (tree : OneTree) (one : OneEvent) (room octets : List ℕ) (all : Confirmed) (s : SpellsCalendar room octets all) where
-  -- what is confirmed in the octets is so of the events of the calendar
-  of_events : (b : Booked) → IsConfirmedIn room octets b → IsConfirmed room s.says.events b
-  of_events b h =
+  -- the octets say one list of events
+  same_as : {b : Booked} (h : IsConfirmedIn room octets b) → h.events ≡ s.says.events
+  same_as h =
       let same : h.tree ≡ s.tree = tree 7 7 (logical_lines octets) h.tree s.tree h.object.spelled s.object.spelled in
-      let events : h.events ≡ s.says.events = same_events one s.tree h.events s.says.events (subst (λ (t : Tree). SayEvents t h.events) same h.says) s.says.says in
-      subst (λ (es : List Event). IsConfirmed room es b) events h.is
+      same_events one s.tree h.events s.says.events (subst (λ (t : Tree). SayEvents t h.events) same h.says) s.says.says
+
+  of_events : (b : Booked) → IsConfirmedIn room octets b → IsConfirmed room s.says.events b
+  of_events b h = subst (λ (es : List Event). IsConfirmed room es b) (same_as h) h.is
 
   pub single : (b : Booked) → Contains all.singles b → IsConfirmedIn room octets b
   single b c =
@@ -186,16 +199,41 @@ module _ (tree : OneTree) (one : OneEvent) (room octets : List ℕ) (all : Confi
         is = record { event = e.0; among = e.1; kept = e.2.kept; is = e.2.is };
       }
 
-  pub all_single : all.series ≡ [] → (b : Booked) → IsConfirmedIn room octets b → Contains all.singles b
-  all_single none b h =
-      let k = of_events b h in
+  -- what holds of each confirmed instance of the calendar's events holds of each in the octets
+  for_each : (b : Booked) (p : Event → Type 0) → ((k : IsConfirmed room s.says.events b) → p k.event) → (h : IsConfirmedIn room octets b) → p h.is.event
+  for_each b p holds h =
+      subst (λ (es : List Event). (k : IsConfirmed room es b) → p k.event) (sym (same_as h)) holds h.is
+
+  -- one that its master's rule doesn't give is a single
+  pub left_over : (b : Booked) (h : IsConfirmedIn room octets b) → (IsOfSeries h.is.event b → ⊥) → Contains all.singles b
+  left_over b h =
+      for_each b (λ e. (IsOfSeries e b → ⊥) → Contains all.singles b)
+      (λ k apart.
       subst (λ (l : List Booked). Contains l b) (sym s.says.are.singles)
-      (in_lists s.says.events s.says.masters s.says.overrides room s.says.events s.says.are.lists k.event b s.says.are.each k.among (record { kept = k.kept; is = k.is; apart = λ series. no_series k.event k.among k.kept series }))
+      (in_lists s.says.events s.says.masters s.says.overrides room s.says.events s.says.are.lists k.event b s.says.are.each k.among (record { kept = k.kept; is = k.is; apart = apart })))
+      h
+
+  -- one that it gives is in a series of the calendar
+  pub of_series : (b : Booked) (h : IsConfirmedIn room octets b) → IsOfSeries h.is.event b → Contains all.series h.is.event
+  of_series b h =
+      for_each b (λ e. IsOfSeries e b → Contains all.series e)
+      (λ k series.
+      subst (λ (l : List Event). Contains l k.event) (sym s.says.are.series)
+      (in_filtered (is_series room) s.says.events k.event k.among
+      (ap (λ x. x && is_master k.event && is_some k.event.rule) k.kept ∙ ap (λ x. x && is_some k.event.rule) series.master ∙ ap is_some series.has)))
+      h
+
+  -- and no single
+  pub no_single : (b : Booked) → Contains all.singles b → (h : IsConfirmedIn room octets b) → IsOfSeries h.is.event b → ⊥
+  no_single b c h = for_each b (λ e. IsOfSeries e b → ⊥) (λ k series. go k series) h
     where
-      no_series : (e : Event) → Contains s.says.events e → is_kept room e ≡ true → IsOfSeries e b → ⊥
-      no_series e c kept series =
-          none_in e (subst (λ (l : List Event). Contains l e) (sym s.says.are.series ∙ none)
-          (in_filtered (is_series room) s.says.events e c (ap (λ x. x && is_master e && is_some e.rule) kept ∙ ap (λ x. x && is_some e.rule) series.master ∙ ap is_some series.has)))
+      go : (k : IsConfirmed room s.says.events b) → IsOfSeries k.event b → ⊥
+      go k series =
+          let e = of_lists s.says.events s.says.masters s.says.overrides room s.says.events s.says.are.lists b s.says.are.each (subst (λ (l : List Booked). Contains l b) s.says.are.singles c) in
+          e.2.apart (subst (λ (f : Event). IsOfSeries f b) (one_event s.says.events s.says.masters s.says.overrides k.event e.0 k.among e.1 b k.is e.2.is) series)
+
+  pub all_single : all.series ≡ [] → (b : Booked) → IsConfirmedIn room octets b → Contains all.singles b
+  all_single none b h = left_over b h (λ series. none_in h.is.event (subst (λ (l : List Event). Contains l h.is.event) none (of_series b h series)))
 
   pub one_key : (a b : Booked) → IsConfirmedIn room octets a → IsConfirmedIn room octets b → a.key ≡ b.key → a ≡ b
   one_key a b h k same =

@@ -28,7 +28,8 @@ pub use event_times::EventTimes;
 pub use instance::{HORIZON, Instance, InstanceKey, OwnedKey};
 pub use instances::Instances;
 pub use reading::{
-    one_calendar, one_calendar_text, read_events, refuse_unread_events, singles_are_confirmed,
+    one_calendar, one_calendar_text, read_events, refuse_unread_events, series_and_singles_divide,
+    singles_are_confirmed,
 };
 pub use sweep::{Overlap, Span, first_overlap};
 pub use whole::all_instances;

@@ -7,7 +7,7 @@ ghost use Rattle.profile.specs.faults.Faults.{is_calendar_fault, is_unread};
 ghost use Rattle.profile.specs.checker.Instances.{Booked};
 ghost use Rattle.profile.specs.checker.Calendars.{SaysCalendar, SpellsCalendar, IsConfirmedIn, CalendarFault, CalendarTextFault};
 ghost use Rattle.profile.specs.events.Events.{Event, SaysEvent};
-ghost use Rattle.profile.specs.events.Confirmed.{Confirmed, IsConfirmed, AreConfirmed};
+ghost use Rattle.profile.specs.events.Confirmed.{Confirmed, IsConfirmed, IsOfSeries, AreConfirmed};
 ghost use Rattle.profile.specs.text.Trees.{Tree};
 ghost use Rattle.ical_tree.specs.Tree.{component_lines, tree_of};
 ghost use Rattle.cal_events.specs.Zones.{object_of, AreRead};
@@ -86,6 +86,23 @@ pub fn singles_are_confirmed()
         → SpellsCalendar room octets all → all.series ≡ [] → IsConfirmedIn room octets instance → Contains all.singles instance }
     ensures keys { (room octets : List ℕ) (all : Confirmed) (a b : Booked)
         → SpellsCalendar room octets all → IsConfirmedIn room octets a → IsConfirmedIn room octets b → a.key ≡ b.key → a ≡ b }
+{
+    one_tree();
+    one_event();
+}
+
+/// Series and singles divide what is confirmed: an instance whose master's rule gives its start is of a series of the calendar, and no
+/// single; each other one is a single.
+pub fn series_and_singles_divide()
+    ensures series { (room octets : List ℕ) (all : Confirmed) (instance : Booked)
+        → SpellsCalendar room octets all → (confirmed : IsConfirmedIn room octets instance)
+        → IsOfSeries confirmed.is.event instance → Contains all.series confirmed.is.event }
+    ensures apart { (room octets : List ℕ) (all : Confirmed) (instance : Booked)
+        → SpellsCalendar room octets all → (confirmed : IsConfirmedIn room octets instance)
+        → IsOfSeries confirmed.is.event instance → Contains all.singles instance → ⊥ }
+    ensures single { (room octets : List ℕ) (all : Confirmed) (instance : Booked)
+        → SpellsCalendar room octets all → (confirmed : IsConfirmedIn room octets instance)
+        → (IsOfSeries confirmed.is.event instance → ⊥) → Contains all.singles instance }
 {
     one_tree();
     one_event();
