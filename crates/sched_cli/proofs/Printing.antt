@@ -1,6 +1,6 @@
 -- What `expand` prints, put together.
-use Rattle.std.proofs.Common.{◌≡◌, ◌∙◌, ap, sym, refl, subst, inl, inr, ◌⊎◌, ℕ, suc, ◌+◌, ◌<◌, ◌≤◌, List, [], ◌∷◌, ◌++◌, length, append_assoc, append-nil, length-append, decimal, arith, ℤ, pos, negsuc, ◌+ℤ◌, ◌-ℤ◌, ◌<ℤ◌, ◌≤ℤ◌, unsigned_abs}
-use Rattle.std.specs.Prelude.{Option, Some, None, All, Contains}
+use Rattle.std.proofs.Common.{◌≡◌, ◌∙◌, ap, sym, refl, subst, inl, inr, ◌⊎◌, ℕ, suc, ◌+◌, ◌<◌, List, [], ◌∷◌, ◌++◌, append_assoc, append-nil, length-append, decimal, arith, ℤ, pos, negsuc, ◌+ℤ◌, ◌-ℤ◌, ◌<ℤ◌, ◌≤ℤ◌, unsigned_abs}
+use Rattle.std.specs.Prelude.{Option, Some, None, Contains}
 use Rattle.std.specs.List.{AllZip, concat}
 use Rattle.std.specs.Io.KnownBytes.{Appends}
 use Rattle.std.proofs.lemmas.Int.{ints, by_lt_z}
@@ -11,19 +11,18 @@ use Rattle.std.proofs.KnownBytes.{Appends-nil, Appends-trans}
 use Rattle.profile.specs.text.Values.{WritesStamp}
 use Rattle.profile.specs.checker.Instances.{Booked}
 use Rattle.profile.specs.events.Meetings.{Meeting, SpellsMeeting}
-use Rattle.profile.specs.events.Starts.{IsInstance, ComesBefore, AreFirst}
+use Rattle.profile.specs.events.Starts.{IsInstance, ComesBefore}
 use Rattle.profile.specs.events.Expanding.{IsInstanceLine}
 use Rattle.cal_events.specs.Calendars.{instance_of}
 use Rattle.cal_events.specs.Instances.{IsAfter, IsPastSlot}
 use Rattle.cal_events.specs.Left.{IsLeft, GivesFirst}
 use Rattle.cal_events.specs.Meetings.{IsNamed}
 use Rattle.cal_events.specs.SaidMeetings.{said_meeting}
-use Rattle.cal_events.specs.declared.event.Event as declared
 use Rattle.cal_events.specs.declared.instance.Instance.{Instance}
 use Rattle.cal_events.specs.declared.instances.Bound.{Bound}
 use Rattle.cal_events.specs.declared.instances.Instances.{Instances}
 use Rattle.cal_events.proofs.EventLemmas.{push_zip}
-use Rattle.sched_cli.specs.Expanding.{HasLine, IsLineOf, IsHandedOver, HasPlaceIn, AreFirstPlaces, PrintsFirst, AreGoneThrough, PrintsUpTo, ExpandsTo}
+use Rattle.sched_cli.specs.Expanding.{HasLine, IsLineOf, IsHandedOver, AreFirstPlaces, PrintsFirst, AreGoneThrough, PrintsUpTo, ExpandsTo}
 
 -- ---- what was handed over
 

@@ -1,5 +1,5 @@
 -- What `expand` prints of the event that an object says, while it goes through its instances.
-use Rattle.std.specs.Prelude.{◌≡◌, ◌⊎◌, ◌≤◌, ℕ, ℤ, ◌≤ℤ◌, List, ◌++◌, All, AllPairs, Contains, Bool, true, false, length, Option, Some}
+use Rattle.std.specs.Prelude.{◌≡◌, ◌⊎◌, ◌≤◌, ℕ, ◌≤ℤ◌, List, ◌++◌, All, AllPairs, Contains, Bool, true, false, length, Option, Some}
 use Rattle.std.specs.List.{AllZip, concat}
 use Rattle.std.specs.Io.KnownBytes.{Appends}
 use Rattle.profile.specs.text.Values.{IsClockSeconds}

@@ -1,4 +1,4 @@
-use Rattle.std.proofs.Common.{◌≡◌, ◌∙◌, subst, ℤ, to_z, of_z, w64, to_z-of_z, FitsSigned, rules}
+use Rattle.std.proofs.Common.{◌≡◌, subst, ℤ, to_z, of_z, w64, to_z-of_z, FitsSigned, rules}
 use Rattle.std.proofs.lemmas.Bool.{false≢true}
 use Rattle.profile.specs.text.Values.{WritesStamp}
 use Rattle.cal_events.specs.Calendars.{instance_of}
