@@ -60,9 +60,7 @@ fn push_event(alloc: Global, text: &mut String, event: &str) -> Result<(), NoAns
     let (start, rest) = first_word(rest);
     let (end, status) = first_word(rest);
     let start = number(start)?;
-    let seconds = number(end)?
-        .checked_sub(start)
-        .ok_or(NoAnswer::Unreadable)?;
+    let seconds = number(end)?.checked_sub(start).ok_or(NoAnswer::Unreadable)?;
     let status = if status == "declined" {
         "DECLINED"
     } else {
