@@ -41,30 +41,11 @@ ORGANIZER:mailto:ann@example.com
 ATTENDEE;PARTSTAT=ACCEPTED:{room}
 END:VEVENT
 """
-# A meeting of DAYS days in a row: EXDATE takes one away, and an override moves another by half an hour.
+# A meeting of DAYS days in a row, of half an hour each: EXDATE takes one away, and an override moves another.
 DAYS = 12
-LISTED_DAYS = """BEGIN:VEVENT
-UID:meeting-{number}@example.com
-SEQUENCE:0
-DTSTAMP:20250101T000000Z
-DTSTART:{start}
-RDATE:{others}
-EXDATE:{excepted}
-DURATION:PT1800S
-ORGANIZER:mailto:ann@example.com
-ATTENDEE;PARTSTAT=ACCEPTED:{room}
-END:VEVENT
-BEGIN:VEVENT
-UID:meeting-{number}@example.com
-RECURRENCE-ID:{slot}
-SEQUENCE:1
-DTSTAMP:20250101T000000Z
-DTSTART:{moved}
-DURATION:PT1800S
-ORGANIZER:mailto:ann@example.com
-ATTENDEE;PARTSTAT=ACCEPTED:{room}
-END:VEVENT
-"""
+LISTED_DAYS = EVENT.replace("DURATION:PT3600S", "RDATE:{others}\nEXDATE:{excepted}\nDURATION:PT1800S") + EVENT.replace(
+    "DTSTART:{start}\nDURATION:PT3600S", "RECURRENCE-ID:{slot}\nDTSTART:{moved}\nDURATION:PT1800S"
+)
 ZONE = """BEGIN:VTIMEZONE
 TZID:Z{number}
 BEGIN:STANDARD
