@@ -1,8 +1,8 @@
 -- Confirmed instances: each key is that of one, and the singles of a calendar without series are all of them.
-use Rattle.std.proofs.Common.{◌≡◌, ◌≢◌, ◌∙◌, ℕ, zero, suc, ◌+◌, ◌<◌, false, List, [], ◌∷◌, ◌++◌, length, get_or, subst, sym, refl, ap, inl, inr, ◌⊎◌, arith, ℤ}
-use Rattle.std.specs.Prelude.{Some, None, All, AllPairs, Contains, is_some, ◌&&◌}
+use Rattle.std.proofs.Common.{◌≡◌, ◌≢◌, ◌∙◌, ℕ, zero, suc, ◌+◌, ◌<◌, false, List, [], ◌∷◌, ◌++◌, length, get_or, subst, sym, refl, ap, inl, inr, ◌⊎◌, arith, ℤ, true}
+use Rattle.std.specs.Prelude.{Some, None, All, AllPairs, Contains, filter, is_some, ◌&&◌}
 use Rattle.std.specs.List.{AllZip, AllByRecursion, flat_map}
-use Rattle.std.proofs.lemmas.Bool.{cases_order}
+use Rattle.std.proofs.lemmas.Bool.{cases_order, and_parts}
 use Rattle.std.proofs.lemmas.Int.{ints}
 use Rattle.std.proofs.lemmas.List.{get_or_default, append_assoc, length-append, get_or-append_right}
 use Rattle.std.proofs.lemmas.List.Elements.{All-from_recursion, All-contains}
@@ -11,14 +11,15 @@ use Rattle.profile.specs.text.Trees.{Tree, vevents}
 use Rattle.profile.specs.checker.Instances.{Key, Booked}
 use Rattle.profile.specs.checker.Calendars.{SpellsCalendar, IsConfirmedIn, SayEvents}
 use Rattle.profile.specs.events.Events.{Event, SaysEvent, meeting_said}
-use Rattle.profile.specs.events.Meetings.{is_master}
+use Rattle.profile.specs.events.Meetings.{Meeting as Whole, is_master}
 use Rattle.profile.specs.events.Starts.{ComesBefore}
-use Rattle.profile.specs.events.Confirmed.{Confirmed, is_series, IsInstanceAmong, IsConfirmed, IsOfSeries, IsSingle, AreSingles, MastersDiffer, OverridesDiffer}
+use Rattle.profile.specs.events.Confirmed.{Confirmed, is_kept, is_series, IsSeries, IsInSeries, IsInstanceAmong, IsConfirmed, IsOfSeries, IsSingle, AreSingles, MastersDiffer, OverridesDiffer}
 use Rattle.cal_events.specs.Calendars.{HaveDifferentKeys}
 use Rattle.cal_events.specs.Drafts.{IsSaid}
-use Rattle.cal_events.proofs.InOneOrder.{later, none_in, in_filtered, head_pairs, tail_pairs, cons_pairs, append_pairs}
+use Rattle.cal_events.proofs.InOneOrder.{later, none_in, in_filtered, of_filtered, head_pairs, tail_pairs, cons_pairs, append_pairs}
 use Rattle.cal_events.proofs.OneCalendar.{OneEvent, same_events}
 use Rattle.cal_events.proofs.OneText.{OneTree}
+use Rattle.cal_events.proofs.SeriesLemmas.{of_its_series, in_its_series, zip_with, zip_back}
 use Rattle.cal_events.proofs.OwnSingles.{of_both, is_a_master, master_alone, override_alone, one_of_key}
 
 -- ---- keys
@@ -205,7 +206,7 @@ module _ (tree : OneTree) (one : OneEvent) (room octets : List ℕ) (all : Confi
       subst (λ (es : List Event). (k : IsConfirmed room es b) → p k.event) (sym (same_as h)) holds h.is
 
   -- one that its master's rule doesn't give is a single
-  pub left_over : (b : Booked) (h : IsConfirmedIn room octets b) → (IsOfSeries h.is.event b → ⊥) → Contains all.singles b
+  left_over : (b : Booked) (h : IsConfirmedIn room octets b) → (IsOfSeries h.is.event b → ⊥) → Contains all.singles b
   left_over b h =
       for_each b (λ e. (IsOfSeries e b → ⊥) → Contains all.singles b)
       (λ k apart.
@@ -213,27 +214,60 @@ module _ (tree : OneTree) (one : OneEvent) (room octets : List ℕ) (all : Confi
       (in_lists s.says.events s.says.masters s.says.overrides room s.says.events s.says.are.lists k.event b s.says.are.each k.among (record { kept = k.kept; is = k.is; apart = apart })))
       h
 
-  -- one that it gives is in a series of the calendar
-  pub of_series : (b : Booked) (h : IsConfirmedIn room octets b) → IsOfSeries h.is.event b → Contains all.series h.is.event
-  of_series b h =
-      for_each b (λ e. IsOfSeries e b → Contains all.series e)
-      (λ k series.
-      subst (λ (l : List Event). Contains l k.event) (sym s.says.are.series)
-      (in_filtered (is_series room) s.says.events k.event k.among
-      (ap (λ x. x && is_master k.event && is_some k.event.rule) k.kept ∙ ap (λ x. x && is_some k.event.rule) series.master ∙ ap is_some series.has)))
-      h
+  -- the master of a series
+  record IsOf (series : Whole) : Type 0 where
+    master : Event
+    among : Contains s.says.events master
+    kept : is_kept room master ≡ true
+    is : is_master master ≡ true
+    rule : is_some master.rule ≡ true
+    of : IsSeries s.says.events master series
+
+  master_of : (series : Whole) → Contains all.series series → IsOf series
+  master_of series c =
+      let r = zip_back (IsSeries s.says.events) (filter (is_series room) s.says.events) all.series series s.says.are.series c in
+      let f = of_filtered (is_series room) s.says.events r.0 r.1 in
+      let p = and_parts (is_kept room r.0 && is_master r.0) (is_some r.0.rule) f.1 in
+      let q = and_parts (is_kept room r.0) (is_master r.0) p.0 in
+      record { master = r.0; among = f.0; kept = q.0; is = q.1; rule = p.1; of = r.2 }
+
+  -- what is of a series is confirmed
+  pub series_confirmed : (b : Booked) → IsInSeries all.series b → IsConfirmedIn room octets b
+  series_confirmed b (series, c, h) =
+      let m = master_of series c in
+      record {
+        tree = s.tree;
+        object = s.object;
+        events = s.says.events;
+        says = s.says.says;
+        is = record { event = m.master; among = m.among; kept = m.kept; is = (of_its_series s.says.events m.master m.is series m.of m.rule b h).0 };
+      }
 
   -- and no single
-  pub no_single : (b : Booked) → Contains all.singles b → (h : IsConfirmedIn room octets b) → IsOfSeries h.is.event b → ⊥
-  no_single b c h = for_each b (λ e. IsOfSeries e b → ⊥) (λ k series. go k series) h
-    where
-      go : (k : IsConfirmed room s.says.events b) → IsOfSeries k.event b → ⊥
-      go k series =
-          let e = of_lists s.says.events s.says.masters s.says.overrides room s.says.events s.says.are.lists b s.says.are.each (subst (λ (l : List Booked). Contains l b) s.says.are.singles c) in
-          e.2.apart (subst (λ (f : Event). IsOfSeries f b) (one_event s.says.events s.says.masters s.says.overrides k.event e.0 k.among e.1 b k.is e.2.is) series)
+  pub no_single : (b : Booked) → Contains all.singles b → IsInSeries all.series b → ⊥
+  no_single b c (series, d, h) =
+      let m = master_of series d in
+      let x = of_its_series s.says.events m.master m.is series m.of m.rule b h in
+      let e = of_lists s.says.events s.says.masters s.says.overrides room s.says.events s.says.are.lists b s.says.are.each (subst (λ (l : List Booked). Contains l b) s.says.are.singles c) in
+      e.2.apart (subst (λ (f : Event). IsOfSeries f b) (one_event s.says.events s.says.masters s.says.overrides m.master e.0 m.among e.1 b x.0 e.2.is) x.1)
+
+  -- one whose master's rule gives its start is of a series
+  in_series : (b : Booked) (h : IsConfirmedIn room octets b) → IsOfSeries h.is.event b → IsInSeries all.series b
+  in_series b h =
+      for_each b (λ e. IsOfSeries e b → IsInSeries all.series b)
+      (λ k series.
+      let kept : is_series room k.event ≡ true =
+      ap (λ x. x && is_master k.event && is_some k.event.rule) k.kept ∙ ap (λ x. x && is_some k.event.rule) series.master ∙ ap is_some series.has in
+      let r = zip_with (IsSeries s.says.events) (filter (is_series room) s.says.events) all.series k.event s.says.are.series (in_filtered (is_series room) s.says.events k.event k.among kept) in
+      (r.0, r.1, in_its_series s.says.events k.event series.master r.0 r.2 b k.is series))
+      h
+
+  -- each other one is a single
+  pub other_single : (b : Booked) (h : IsConfirmedIn room octets b) → (IsInSeries all.series b → ⊥) → Contains all.singles b
+  other_single b h none = left_over b h (λ series. none (in_series b h series))
 
   pub all_single : all.series ≡ [] → (b : Booked) → IsConfirmedIn room octets b → Contains all.singles b
-  all_single none b h = left_over b h (λ series. none_in h.is.event (subst (λ (l : List Event). Contains l h.is.event) none (of_series b h series)))
+  all_single none b h = other_single b h (λ x. none_in x.0 (subst (λ (l : List Whole). Contains l x.0) none x.1))
 
   pub one_key : (a b : Booked) → IsConfirmedIn room octets a → IsConfirmedIn room octets b → a.key ≡ b.key → a ≡ b
   one_key a b h k same =

@@ -1,8 +1,8 @@
 -- A calendar while its VEVENTs are read: one more VEVENT, and what overrides hide in the end.
 use Rattle.std.proofs.Common.{◌≡◌, ◌∙◌, ℕ, zero, suc, ◌+◌, ◌-◌, ◌<◌, Bool, true, false, cond, List, [], ◌∷◌, ◌++◌, map, filter, take, length, get_or, subst, sym, refl, ap, inl, inr, ◌⊎◌, arith, ℤ, pos, Ordering}
-use Rattle.std.specs.Prelude.{Option, Some, None, All, Contains, Result, Ok, Err, IfOk, IfErr, is_some, not, ◌||◌, ◌==◌}
+use Rattle.std.specs.Prelude.{Option, Some, None, All, Contains, Result, Ok, Err, IfOk, IfErr, is_some, not, ◌&&◌, ◌||◌, ◌==◌}
 use Rattle.std.specs.List.{AllZip, flat_map, filter_map, list_any}
-use Rattle.std.proofs.lemmas.Bool.{true≢false, false≢true}
+use Rattle.std.proofs.lemmas.Bool.{true≢false, false≢true, and_parts}
 use Rattle.std.proofs.lemmas.Bool.Decides.{nat_tests}
 use Rattle.std.proofs.lemmas.List.{map-append, take_more, append_assoc, append-nil, get_or-map, get_or_default, length-map, length-append, get_or-append_right}
 use Rattle.std.proofs.lemmas.List.Elements.{All-nil, All-tail, All-append, All-contains, All-filter, filter-append}
@@ -16,14 +16,14 @@ use Rattle.profile.specs.checker.Instances.{Key, Booked, key_cmp}
 use Rattle.profile.specs.events.Events.{Event, meeting_said}
 use Rattle.profile.specs.events.Meetings.{is_master}
 use Rattle.profile.specs.events.Starts.{IsInstance, ComesBefore}
-use Rattle.profile.specs.events.Confirmed.{Confirmed, alone, is_kept, is_series, IsReplaced, IsSingle, AreSingles, AreConfirmed, MastersDiffer, OverridesDiffer}
+use Rattle.profile.specs.events.Confirmed.{Confirmed, alone, is_kept, is_series, IsSeries, IsReplaced, IsSingle, AreSingles, AreConfirmed, MastersDiffer, OverridesDiffer}
 use Rattle.cal_events.specs.Calendars.{Meeting, key_of, key_in, meeting_of, meeting_at, booked_as, booked_in, AreWithin, HaveDifferentKeys}
 use Rattle.ical_lines.specs.Fault.{RefusesBy}
 use Rattle.ical_lines.specs.declared.fault.Fault.{Fault}
 use Rattle.ical_lines.specs.declared.fault.Fault.TheVariants.{Refused, Memory}
 use Rattle.profile.specs.text.Trees.{Tree}
 use Rattle.profile.specs.checker.Calendars.{SayEvents, SaysCalendar, CalendarFault, two_masters, two_overrides}
-use Rattle.cal_events.specs.Drafts.{IsTwoOf, entry_said, name_said, override_key, override_keys, IsOwn, AreOwnAt, AreDrawn, IsDraft, IsMadeAt, AreShown, recurrence_at, is_shown_in}
+use Rattle.cal_events.specs.Drafts.{IsTwoOf, IsSaid, entry_said, name_said, override_key, override_keys, IsOwn, AreOwnAt, AreDrawn, IsDraft, IsMadeAt, AreShown, recurrence_at, is_shown_in}
 use Rattle.cal_events.specs.declared.calendar.Entry.{Entry}
 use Rattle.cal_events.specs.declared.instance.InstanceKey.{InstanceKey}
 use Rattle.cal_events.specs.declared.calendar.Single.{Single}
@@ -33,7 +33,11 @@ use Rattle.cal_events.proofs.InOneOrder.{later, in_mapped, of_mapped, in_filtere
 use Rattle.cal_events.proofs.EventLemmas.{push_zip}
 use Rattle.cal_events.proofs.ConfirmedLemmas.{lists_apart}
 use Rattle.cal_events.proofs.KeyLemmas.{key_exact, key_itself}
-use Rattle.cal_events.proofs.DraftKeys.{replaced_key, key_replaced, entry_overrides}
+use Rattle.cal_events.specs.Masters.{AreMasters, AreRuled}
+use Rattle.cal_events.specs.Ruled.{IsByItsRule}
+use Rattle.cal_events.specs.SaidSeries.{series_said}
+use Rattle.cal_events.specs.declared.series.Series.{Series}
+use Rattle.cal_events.proofs.SeriesLemmas.{replaced_at, at_replaced, series_made, zip_mapped}
 use Rattle.cal_events.proofs.OwnSingles.{of_both, master_alone, not_a_master}
 
 -- ---- one VEVENT more
@@ -86,9 +90,10 @@ module _ (room : List ℕ) (events : List Event) (event : Event) (old new : Draf
   as_many : length old.entries.items ≡ length events
   as_many = sym (length-map old.entries.items entry_said) ∙ ap length draft.entries ∙ length-map events name_said
 
-  pub draft_more : (entry : Entry) (own : List Single) → new.entries.items ≡ old.entries.items ++ entry ∷ [] → entry_said entry ≡ name_said event → new.singles.items ≡ old.singles.items ++ own
+  pub draft_more : IsSaid event → (entry : Entry) (own : List Single) → new.entries.items ≡ old.entries.items ++ entry ∷ [] → entry_said entry ≡ name_said event → new.singles.items ≡ old.singles.items ++ own
       → AreOwnAt room (length old.entries.items) event own → map event_of new.series.items ≡ map event_of old.series.items ++ cond (is_series room event) (event ∷ []) [] → IsDraft room (events ++ event ∷ []) new
-  draft_more entry own e said s at series = record {
+  draft_more spoken entry own e said s at series = record {
+    said = All-append IsSaid events (event ∷ []) draft.said (λ k d w. first_said k d w);
     entries =
         ap (map entry_said) e ∙ map-append entry_said old.entries.items (entry ∷ []) ∙ ap (λ l. l ++ entry_said entry ∷ []) draft.entries
         ∙ ap (λ n. map name_said events ++ n ∷ []) said ∙ sym (map-append name_said events (event ∷ []));
@@ -97,6 +102,10 @@ module _ (room : List ℕ) (events : List Event) (event : Event) (old new : Draf
         subst (AreDrawn room 0 (events ++ event ∷ [])) (sym s)
         (drawn_push room 0 events event old.singles.items own draft.singles (subst (λ (n : ℕ). AreOwnAt room n event own) (omega (arith, as_many)) at));
   }
+    where
+      first_said : (k : ℕ) (d : Event) → k < 1 → IsSaid (get_or (event ∷ []) k d)
+      first_said zero d w = spoken
+      first_said (suc k) d w = absurd (omega (arith, w))
 
 -- a series more, or none
 pub more_series : (room : List ℕ) (event : Event) (old new : List Event) (b : Bool) → is_series room event ≡ b → new ≡ old ++ cond b (event ∷ []) [] → new ≡ old ++ cond (is_series room event) (event ∷ []) []
@@ -142,21 +151,10 @@ module _ (room : List ℕ) (events : List Event) (entries : List Entry) (said : 
     abbrev own : Key
     own = key_in (meeting_said event) s.slot
 
-    replaced_at : Contains (override_keys entries) own → IsReplaced events event s.slot
-    replaced_at c =
-        let r = replaced_key events own (subst (λ (ks : List Key). Contains ks own) (entry_overrides entries events said) c) in
-        let same_slot : s.slot ≡ r.2.0 = ap (λ (key : Key). key.slot) r.2.2 in
-        record { override = r.0; among = r.1; of = sym (ap (λ (key : Key). (key.organiser, key.uid)) r.2.2); is = r.2.1 ∙ ap Some (sym same_slot) }
-
-    at_replaced : IsReplaced events event s.slot → Contains (override_keys entries) own
-    at_replaced r =
-        subst (λ (ks : List Key). Contains ks own) (sym (entry_overrides entries events said))
-        (subst (Contains (filter_map override_key (map name_said events))) (ap (λ m. key_in m s.slot) r.of) (key_replaced events r.override s.slot r.among r.is))
-
     found : list_any (λ key. is_eq (key_cmp key own)) keys ≡ true → IsReplaced events event s.slot
     found h =
         let r = any_key keys h in
-        replaced_at (Contains-permutation keys (override_keys entries) own (IsPermutation-sym (override_keys entries) keys same) (subst (Contains keys) (key_exact r.0 own r.2) r.1))
+        replaced_at events entries said event s.slot (Contains-permutation keys (override_keys entries) own (IsPermutation-sym (override_keys entries) keys same) (subst (Contains keys) (key_exact r.0 own r.2) r.1))
       where
         any_key : (ks : List Key) → list_any (λ key. is_eq (key_cmp key own)) ks ≡ true → (x : Key) × Contains ks x × (key_cmp x own ≡ Equal)
         any_key [] h = absurd (false≢true h)
@@ -170,7 +168,7 @@ module _ (room : List ℕ) (events : List Event) (entries : List Entry) (said : 
 
     lost : IsReplaced events event s.slot → list_any (λ key. is_eq (key_cmp key own)) keys ≡ true
     lost r =
-        let c = Contains-permutation (override_keys entries) keys own same (at_replaced r) in
+        let c = Contains-permutation (override_keys entries) keys own same (at_replaced events entries said event s.slot r) in
         list_any_at (λ key. is_eq (key_cmp key own)) keys c.0 own c.1 (ap (λ key. is_eq (key_cmp key own)) c.2 ∙ ap is_eq (key_itself own))
 
     decided : shown s ≡ (is_some event.recurrence || not (list_any (λ key. is_eq (key_cmp key own)) keys))
@@ -284,14 +282,33 @@ module _ (room : List ℕ) (events : List Event) (draft : Draft) (d : IsDraft ro
       let many : length draft.entries.items ≡ length events = sym (length-map draft.entries.items entry_said) ∙ ap length d.entries ∙ length-map events name_said in
       omega (arith, l, many)
 
+  -- the masters of its series have RRULE
+  pub masters_of : AreMasters draft.series.items
+  masters_of k x w =
+      let m = get_or draft.series.items k x in
+      let there = in_mapped event_of draft.series.items m (k, w, get_or_default draft.series.items k m x w) in
+      let f = of_filtered (is_series room) events (event_of m) (subst (λ es. Contains es (event_of m)) d.series there) in
+      let p = and_parts (is_kept room (event_of m) && is_master (event_of m)) (is_some m.rule) f.1 in
+      let q = and_parts (is_kept room (event_of m)) (is_master (event_of m)) p.0 in
+      record { said = All-contains IsSaid events (event_of m) d.said f.0; is = q.1; rule = p.1 }
+
   module _ (left : List Single) (shown : AreShown draft.entries.items draft.singles.items left) where
     lists : (lists : List (List Booked)) × AllZip (AreSingles room events) events lists × (map (booked_in draft.entries.items) left ≡ flat_map (λ own. own) lists)
     lists =
         let r = shown_lists room events draft.entries.items d.entries shown.keys shown.same [] events refl draft.singles.items d.singles in
         (r.0, r.1, ap (map (booked_in draft.entries.items)) shown.is ∙ r.2)
 
-    pub confirmed_of : AreConfirmed room events (record { series = map event_of draft.series.items; singles = map (booked_in draft.entries.items) left })
-    confirmed_of = record { series = d.series; lists = lists.0; each = lists.1; singles = lists.2 }
+    pub confirmed_of : (series : List Series) → AreRuled draft.entries.items draft.series.items series
+        → AreConfirmed room events (record { series = map series_said series; singles = map (booked_in draft.entries.items) left })
+    confirmed_of series ruled = record {
+      series =
+          subst (λ es. AllZip (IsSeries events) es (map series_said series)) d.series
+          (zip_mapped (IsSeries events) (λ m s. IsByItsRule ruled.keys (event_of m) (series_said s)) event_of series_said
+          (λ m s h. series_made events draft.entries.items d.entries ruled.keys ruled.same (event_of m) (series_said s) h) draft.series.items series ruled.each);
+      lists = lists.0;
+      each = lists.1;
+      singles = lists.2;
+    }
 
     pub left_within : AreWithin draft.entries.items left
     left_within =

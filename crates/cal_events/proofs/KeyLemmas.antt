@@ -51,7 +51,7 @@ same_or_other a b = go (key_cmp a b) refl
     go Greater e = inr (λ same. let x = sym e ∙ ap (key_cmp a) (sym same) ∙ key_itself a in cc)
 
 -- neither is less than the other
-tie : (a b : Key) → is_lt (key_cmp a b) ≡ false → is_lt (key_cmp b a) ≡ false → a ≡ b
+pub tie : (a b : Key) → is_lt (key_cmp a b) ≡ false → is_lt (key_cmp b a) ≡ false → a ≡ b
 tie a b f g = go (key_cmp a b) refl
   where
     go : (r : Ordering) → key_cmp a b ≡ r → a ≡ b

@@ -26,8 +26,10 @@ pub mod ZoneTables
 pub mod ZonedLemmas
 pub mod KeyLemmas
 pub mod InOneOrder
+pub mod OwnKeys
 pub mod DraftKeys
 pub mod OwnSingles
+pub mod SeriesLemmas
 pub mod DraftLemmas
 pub mod ConfirmedLemmas
 pub mod PlainSingles

@@ -4,12 +4,13 @@ use Rattle.std.specs.List.{AllZip, flat_map}
 use Rattle.profile.specs.text.Trees.{Tree, vevents}
 use Rattle.profile.specs.checker.Instances.{Booked}
 use Rattle.profile.specs.events.Events.{Event, SaysEvent, EventFault}
-use Rattle.profile.specs.events.Confirmed.{Confirmed, IsSingle, AreSingles, is_series, MastersDiffer, OverridesDiffer}
+use Rattle.profile.specs.events.Confirmed.{Confirmed, IsSingle, AreSingles, IsSeries, is_series, MastersDiffer, OverridesDiffer}
 use Rattle.profile.specs.checker.Calendars.{SaysCalendar, CalendarFault, in_event, two_masters, two_overrides}
 use Rattle.std.proofs.lemmas.Int.{ints}
 use Rattle.std.proofs.lemmas.List.Elements.{All-contains}
 use Rattle.profile.specs.events.Starts.{ComesBefore}
 use Rattle.cal_events.proofs.InOneOrder.{one_order}
+use Rattle.cal_events.proofs.SeriesLemmas.{one_series}
 use Rattle.cal_events.proofs.Zips.{zip_one, zip_at}
 
 abbrev pub OneEvent : Type 0
@@ -45,7 +46,10 @@ one_calendar one room object a b s t =
     let same : s.events ≡ t.events = same_events one object s.events t.events s.says t.says in
     let lists : s.are.lists ≡ t.are.lists =
     zip_one (AreSingles room t.events) (one_list room t.events) t.events s.are.lists t.are.lists (subst (λ (es : List Event). AllZip (AreSingles room es) es s.are.lists) same s.are.each) t.are.each in
-    confirmed_same a b (s.are.series ∙ ap (filter (is_series room)) same ∙ sym t.are.series) (s.are.singles ∙ ap (flat_map (λ own. own)) lists ∙ sym t.are.singles)
+    let series : a.series ≡ b.series =
+    zip_one (IsSeries t.events) (one_series t.events) (filter (is_series room) t.events) a.series b.series
+    (subst (λ (es : List Event). AllZip (IsSeries es) (filter (is_series room) es) a.series) same s.are.series) t.are.series in
+    confirmed_same a b series (s.are.singles ∙ ap (flat_map (λ own. own)) lists ∙ sym t.are.singles)
 
 pub no_fault : OneEvent → NoFault → (room : List ℕ) (object : Tree) (a : Confirmed) (n : ℕ) → SaysCalendar room object a → CalendarFault object n → ⊥
 no_fault one sound room object a n s (in_event lines at fault) =

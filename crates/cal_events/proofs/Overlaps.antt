@@ -188,3 +188,8 @@ ended meeting from to (Some i) left h none = absurd (none i refl)
 pub at_most : (z : ℤ) → (saturate_signed w64 z ≤ℤ z) ⊎ (saturate_signed w64 z ≤ℤ first_second)
 at_most (pos n) = inl (omega (arith, ints))
 at_most (negsuc n) = elim (cases_lt n 9_223_372_036_854_775_808) [ inl below ↦ inl (omega (arith, ints, below)) | inr from ↦ inr (omega (arith, ints, from)) ]
+
+-- without days instances last as long as the seconds
+pub lasts_so_long : (times : EventTimes) (n : ℤ) → times.length.days ≡ 0 → n ≡ pos (length_seconds times.length) → LastAtMost times n
+lasts_so_long times n none e start end (later, inl (z, is), h) = omega (arith, ints, none, e, is, h)
+lasts_so_long times n none e start end (later, inr (some, x), h) = absurd (omega (arith, none, some))

@@ -20,7 +20,7 @@ use Rattle.cal_events.proofs.OneInstance.{IsSteady, event_sound, end_one, booked
 
 -- ---- an event by itself
 
-abbrev of_master : Event → Meeting
+abbrev pub of_master : Event → Meeting
 of_master event = record { master = Some event; overrides = [] }
 
 abbrev of_override : Event → Meeting
@@ -42,7 +42,7 @@ pub record IsItself (event : Event) (b : Booked) : Type 0 where
   pub starts : b.start ≡ event.times.start
   pub ends : EndsAt event.times b.start b.end
 
-at_start : (event : Event) (b : Booked) → IsInstance (of_master event) b → IsAtStart event b
+pub at_start : (event : Event) (b : Booked) → IsInstance (of_master event) b → IsAtStart event b
 at_start event b (inl h) =
     let same : h.master ≡ event = same_Some h.master event (sym h.is) in
     record {
@@ -65,7 +65,7 @@ itself event b (inr h) = go (first_or_later event h.override [] h.is)
       ends = subst (λ (x : Event). EndsAt x.times b.start b.end) (sym same) h.ends;
     }
 
-from_start : (event : Event) (b : Booked) → IsAtStart event b → IsInstance (of_master event) b
+pub from_start : (event : Event) (b : Booked) → IsAtStart event b → IsInstance (of_master event) b
 from_start event b h = inl (record { master = event; is = refl; starts = h.starts; key = h.key; ends = h.ends })
 
 from_itself : (event : Event) (b : Booked) → IsItself event b → IsInstance (of_override event) b

@@ -13,7 +13,7 @@ use Rattle.profile.specs.events.ZonedTimes.{EventTimes, clock_of}
 use Rattle.profile.specs.events.Events.{Event, booked_by, is_confirmed, meeting_said}
 use Rattle.profile.specs.events.Meetings.{is_master}
 use Rattle.profile.specs.events.Starts.{IsGiven, IsDaysLater, EndsAt}
-use Rattle.profile.specs.events.Confirmed.{is_kept, is_series, IsSingle, AreSingles, AreConfirmed}
+use Rattle.profile.specs.events.Confirmed.{is_kept, is_series, IsSeries, IsSingle, AreSingles, AreConfirmed}
 use Rattle.cal_events.specs.Meetings.{IsNamed}
 use Rattle.cal_events.specs.Drafts.{IsSaid}
 use Rattle.cal_events.proofs.InOneOrder.{none_in}
@@ -110,7 +110,7 @@ one_each (e ∷ es) = ap (λ l. booked_by e ∷ l) (one_each es)
 -- what they confirm
 pub plain_confirmed : (room : List ℕ) (events : List Event) → All (IsPlain room) events → AreConfirmed room events (record { series = []; singles = map booked_by events })
 plain_confirmed room events h = record {
-  series = sym (no_series room events h);
+  series = subst (λ es. AllZip (IsSeries events) es []) (sym (no_series room events h)) tt;
   lists = map (λ e. booked_by e ∷ []) events;
   each = all_singles room events (λ e c. (All-contains (IsPlain room) events e h c).master) events h;
   singles = one_each events;

@@ -62,6 +62,7 @@ AreDrawn room place (event ∷ events) singles =
 
 -- the draft of these VEVENTs
 pub record IsDraft (room : List ℕ) (events : List Event) (draft : Draft) : Type 0 where
+  pub said : All IsSaid events
   pub entries : map entry_said draft.entries.items ≡ map name_said events
   pub series : map event_of draft.series.items ≡ filter (is_series room) events
   pub singles : AreDrawn room 0 events draft.singles.items

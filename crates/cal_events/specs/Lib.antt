@@ -16,3 +16,6 @@ pub mod Overlapping
 pub mod SinglesLeft
 pub mod SingleStarts
 pub mod Drafts
+pub mod Ruled
+pub mod SaidSeries
+pub mod Masters

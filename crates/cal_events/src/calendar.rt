@@ -5,9 +5,10 @@ ghost use Rattle.std.specs.Iterator.{YieldsFirstBy, item_count};
 ghost use Rattle.profile.specs.checker.Instances.{IsClear};
 ghost use Rattle.cal_events.specs.Calendars.{booked_in, instance_of, key_of, key_in, meeting_of, owned_key_of, span_of, HaveDifferentKeys, AreWithin};
 ghost use Rattle.cal_events.specs.Clashes.{Names};
+ghost use Rattle.cal_events.specs.SaidSeries.{series_said};
 
-use crate::component::EventComponent;
 use crate::instance::{Instance, InstanceKey, OwnedKey};
+use crate::series::Series;
 use crate::sweep::{Overlap, Span, first_overlap};
 use ical_values::{Address, Text};
 use std::alloc::{AllocError, Global};
@@ -50,18 +51,18 @@ pub(crate) struct Single {
 pub struct Calendar {
     pub(crate) entries: Vec<Entry>,
     pub(crate) singles: Vec<Single>,
-    pub(crate) series: Vec<EventComponent>,
+    pub(crate) series: Vec<Series>,
 }
 
 impl Model for Calendar {
     ghost use Rattle.std.specs.Prelude.{map};
     ghost use Rattle.profile.specs.events.Confirmed.{Confirmed};
-    ghost use Rattle.cal_events.specs.Events.{event_of};
+    ghost use Rattle.cal_events.specs.SaidSeries.{series_said};
     ghost use Rattle.cal_events.specs.Calendars.{booked_in, HaveDifferentKeys, AreWithin};
 
     ghost Value = { Confirmed };
 
-    ghost view = { λ c. record { series = map event_of c.series.items; singles = map (booked_in c.entries.items) c.singles.items } };
+    ghost view = { λ c. record { series = map series_said c.series.items; singles = map (booked_in c.entries.items) c.singles.items } };
 
     ghost invariant = { λ c. HaveDifferentKeys (map (booked_in c.entries.items) c.singles.items) × AreWithin c.entries.items c.singles.items };
 }
@@ -95,7 +96,14 @@ impl Calendar {
         self.singles.len() as u64
     }
 
-    /// How many series there are: the masters with RRULE that the room has accepted.
+    /// The series: the masters with RRULE that the room has accepted, in the calendar's order.
+    pub fn series(&self) -> &[Series]
+        ensures { map series_said result.now ≡ self.now.series }
+    {
+        &self.series
+    }
+
+    /// How many series there are.
     pub fn series_count(&self) -> u64
         ensures { result ≡ length self.now.series }
     {

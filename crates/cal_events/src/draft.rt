@@ -11,11 +11,13 @@ ghost use Rattle.profile.specs.events.Confirmed.{is_kept, AreConfirmed, MastersD
 ghost use Rattle.cal_events.specs.Events.{event_of};
 ghost use Rattle.cal_events.specs.Calendars.{key_of, AreWithin};
 ghost use Rattle.cal_events.specs.Drafts.{entry_said, name_said, AreOwnAt, IsDraft, IsSaid, AreSorted, AreInOrder, master_keys, override_keys, is_shown_in, AreShown, IsTwoOf};
+ghost use Rattle.cal_events.specs.Masters.{AreMasters, AreSeriesOf, AreRuled};
 ghost use Rattle.cal_events.specs.declared.calendar.Single.{Single};
 
 use crate::calendar::{Calendar, Entry, Single};
 use crate::component::{EventComponent, ParticipationStatus};
 use crate::instance::InstanceKey;
+use crate::series::Series;
 use crate::single_starts::single_starts;
 use ical_lines::{Fault, Refusal};
 use ical_values::Address;
@@ -80,7 +82,7 @@ impl Draft {
         if has_equal_neighbours(&keys_of_masters(alloc, &entries)?) {
             return Err(Fault::Refused(Refusal::TWO_MASTERS));
         }
-        let singles = shown(alloc, &entries, singles)?;
+        let (singles, series) = shown(alloc, &entries, singles, series)?;
         Ok(Calendar {
             entries,
             singles,
@@ -89,19 +91,46 @@ impl Draft {
     }
 }
 
-/// The singles that no override hides.
+/// The singles that no override hides, and the series of the masters without the starts that one does.
 /// Refused: 54 for two overrides of one instance.
-fn shown(alloc: Global, entries: &[Entry], singles: Vec<Single>) -> Result<Vec<Single>, Fault>
-    requires { AreWithin entries.now singles.items }
+fn shown(
+    alloc: Global,
+    entries: &[Entry],
+    singles: Vec<Single>,
+    masters: Vec<EventComponent>,
+) -> Result<(Vec<Single>, Vec<Series>), Fault>
+    requires within { AreWithin entries.now singles.items }
+    requires masters { AreMasters masters.items }
     ensures differ { IfOk result (λ _. AllPairs ◌≢◌ (override_keys entries.now)) }
-    ensures shown { IfOk result (λ left. AreShown entries.now singles.items left.items) }
+    ensures shown { IfOk result (λ left. AreShown entries.now singles.items left.0.items) }
+    ensures ruled { IfOk result (λ left. AreRuled entries.now masters.items left.1.items) }
     ensures stands { IfErr result (RefusesBy (λ n. (n ≡ 54) × (AllPairs ◌≢◌ (override_keys entries.now) → ⊥))) }
 {
     let overrides = keys_of_overrides(alloc, entries)?;
     if has_equal_neighbours(&overrides) {
         return Err(Fault::Refused(Refusal::TWO_OVERRIDES));
     }
-    Ok(without_hidden(alloc, entries, singles, &overrides)?)
+    let singles = without_hidden(alloc, entries, singles, &overrides)?;
+    let series = series_of(alloc, masters, &overrides)?;
+    Ok((singles, series))
+}
+
+/// The series of the masters, where overrides stand for these instances, in order. It fails only for memory.
+fn series_of(
+    alloc: Global,
+    masters: Vec<EventComponent>,
+    overrides: &[InstanceKey<'_>],
+) -> Result<Vec<Series>, AllocError>
+    requires masters { AreMasters masters.items }
+    requires sorted { AreInOrder overrides.now }
+    requires differ { AllPairs ◌≢◌ (map key_of overrides.now) }
+    ensures { IfOk result (λ series. AreSeriesOf (map key_of overrides.now) masters.items series.items) }
+{
+    let mut series = Vec::new(alloc);
+    for master in masters {
+        series.push(Series::of(alloc, master, overrides)?)?;
+    }
+    Ok(series)
 }
 
 /// Those that none of the overrides hides. It fails only for memory.

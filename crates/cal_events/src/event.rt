@@ -55,7 +55,8 @@ impl Event {
     /// Its instances that start at an instant or later, in seconds from 1970-01-01T00:00:00Z: each once, by start and then by slot. Takes no
     /// memory, and looks at nothing that comes before.
     pub fn instances(&self, from: i64) -> Instances<'_>
-        ensures { (b : Booked) → IsLeft result b ↔ IsInstance (said_meeting self.now) b × (from ≤ℤ b.start) }
+        ensures left { (b : Booked) → IsLeft result b ↔ IsInstance (said_meeting self.now) b × (from ≤ℤ b.start) }
+        ensures of { said_meeting result.event.now ≡ said_meeting self.now }
     {
         Instances::from(self, from)
     }
@@ -95,6 +96,21 @@ impl Event {
             return Err(Fault::Refused(Refusal::TWO_OVERRIDES));
         }
         Ok(divided.into_event(alloc)?)
+    }
+
+    /// The event of a master alone. It fails only for memory.
+    pub(crate) fn of_master(alloc: Global, master: EventComponent) -> Result<Event, AllocError>
+        requires clock { HasGoodClock (event_of master) }
+        requires ends { HaveOneEnd (record { master = Some (event_of master); overrides = [] }) }
+        requires dated { AreDated (record { master = Some (event_of master); overrides = [] }) }
+        ensures { IfOk result (λ event. (event.master ≡ Some master) × (event.overrides.items ≡ [])) }
+    {
+        let divided = Divided {
+            master: Some(master),
+            overrides: Vec::new(alloc),
+            instants: Vec::new(alloc),
+        };
+        divided.into_event(alloc)
     }
 }
 

@@ -5,7 +5,7 @@ ghost use Rattle.std.specs.Prelude.{◌≡◌, ◌↔◌, ◌≤◌, ◌^◌, �
 ghost use Rattle.ical_lines.specs.Text.{line_text};
 ghost use Rattle.profile.specs.text.Trees.{Tree};
 ghost use Rattle.profile.specs.series.Zones.{IsNearEpoch, Means};
-ghost use Rattle.profile.specs.events.Starts.{IsDaysLater, EndsAt};
+ghost use Rattle.profile.specs.events.Starts.{IsDaysLater, EndsAt, IsWidth};
 ghost use Rattle.cal_zones.specs.Kinds.{zone_of};
 ghost use Rattle.profile.specs.faults.Faults.{is_event_fault};
 ghost use Rattle.profile.specs.events.Properties.{length_seconds};
@@ -49,13 +49,18 @@ impl EventTimes {
         seconds_of(self.length) as u64
     }
 
-    /// No instance lasts longer, in exact seconds: the days of its length may be longer by what the clocks are set by.
-    pub(crate) fn longest(&self) -> i64
+    /// No instance lasts longer, in exact seconds: its days are 86,400 seconds each, and longer by what the clocks are set by.
+    pub fn width(&self) -> i64
+        ensures width { IsWidth (times_of self.now) result }
         ensures bound { LastAtMost (times_of self.now) result }
         ensures range { (pos 0 ≤ℤ result) × (result <ℤ pos (2 ^ 50)) }
     {
+        let seconds = seconds_of(self.length);
+        if self.length.days == 0 {
+            return seconds;
+        }
         let (least, greatest) = self.start.clock().offsets();
-        seconds_of(self.length) + i64::from(greatest - least)
+        seconds + i64::from(greatest - least)
     }
 
     /// When an instance ends that starts at an instant: after the days of the length, in the zone of DTSTART, and its seconds (RFC 5545

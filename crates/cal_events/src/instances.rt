@@ -100,7 +100,8 @@ impl<'a> Instances<'a> {
 
     /// Those that start at an instant or later.
     pub(crate) fn from(event: &'a Event, from: i64) -> Instances<'a>
-        ensures { (b : Booked) → IsLeft result b ↔ IsInstance (said_meeting event.now) b × (from ≤ℤ b.start) }
+        ensures left { (b : Booked) → IsLeft result b ↔ IsInstance (said_meeting event.now) b × (from ≤ℤ b.start) }
+        ensures of { said_meeting result.event.now ≡ said_meeting event.now }
     {
         let after = Bound {
             start: from,

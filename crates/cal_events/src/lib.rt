@@ -15,6 +15,7 @@ mod overlapping;
 mod properties;
 mod reading;
 mod rule_days;
+mod series;
 mod single_starts;
 pub mod sweep;
 mod whole;
@@ -31,6 +32,7 @@ pub use reading::{
     one_calendar, one_calendar_text, read_events, refuse_unread_events, series_and_singles_divide,
     singles_are_confirmed,
 };
+pub use series::Series;
 pub use sweep::{Overlap, Span, first_overlap};
-pub use whole::all_instances;
+pub use whole::{all_instances, all_starts};
 pub use zoned::{ZonedTime, one_zoned_time};

@@ -64,7 +64,7 @@ fn longest(event: &Event) -> i64
 {
     let of_overrides = longest_of(event.overrides.as_slice());
     match &event.master {
-        Some(master) => later(master.times.longest(), of_overrides),
+        Some(master) => later(master.times.width(), of_overrides),
         None => of_overrides,
     }
 }
@@ -76,7 +76,7 @@ fn longest_of(overrides: &[EventComponent]) -> i64
 {
     let mut longest = 0;
     for component in overrides {
-        longest = later(longest, component.times.longest());
+        longest = later(longest, component.times.width());
     }
     longest
 }

@@ -7,7 +7,7 @@ ghost use Rattle.profile.specs.faults.Faults.{is_calendar_fault, is_unread};
 ghost use Rattle.profile.specs.checker.Instances.{Booked};
 ghost use Rattle.profile.specs.checker.Calendars.{SaysCalendar, SpellsCalendar, IsConfirmedIn, CalendarFault, CalendarTextFault};
 ghost use Rattle.profile.specs.events.Events.{Event, SaysEvent};
-ghost use Rattle.profile.specs.events.Confirmed.{Confirmed, IsConfirmed, IsOfSeries, AreConfirmed};
+ghost use Rattle.profile.specs.events.Confirmed.{Confirmed, IsConfirmed, IsInSeries, AreConfirmed};
 ghost use Rattle.profile.specs.text.Trees.{Tree};
 ghost use Rattle.ical_tree.specs.Tree.{component_lines, tree_of};
 ghost use Rattle.cal_events.specs.Zones.{object_of, AreRead};
@@ -91,18 +91,16 @@ pub fn singles_are_confirmed()
     one_event();
 }
 
-/// Series and singles divide what is confirmed: an instance whose master's rule gives its start is of a series of the calendar, and no
-/// single; each other one is a single.
+/// Series and singles divide what is confirmed: each instance of a series is confirmed, and no single; each other one that is confirmed is a
+/// single.
 pub fn series_and_singles_divide()
     ensures series { (room octets : List ℕ) (all : Confirmed) (instance : Booked)
-        → SpellsCalendar room octets all → (confirmed : IsConfirmedIn room octets instance)
-        → IsOfSeries confirmed.is.event instance → Contains all.series confirmed.is.event }
+        → SpellsCalendar room octets all → IsInSeries all.series instance → IsConfirmedIn room octets instance }
     ensures apart { (room octets : List ℕ) (all : Confirmed) (instance : Booked)
-        → SpellsCalendar room octets all → (confirmed : IsConfirmedIn room octets instance)
-        → IsOfSeries confirmed.is.event instance → Contains all.singles instance → ⊥ }
+        → SpellsCalendar room octets all → IsInSeries all.series instance → Contains all.singles instance → ⊥ }
     ensures single { (room octets : List ℕ) (all : Confirmed) (instance : Booked)
-        → SpellsCalendar room octets all → (confirmed : IsConfirmedIn room octets instance)
-        → (IsOfSeries confirmed.is.event instance → ⊥) → Contains all.singles instance }
+        → SpellsCalendar room octets all → IsConfirmedIn room octets instance
+        → (IsInSeries all.series instance → ⊥) → Contains all.singles instance }
 {
     one_tree();
     one_event();

@@ -1,15 +1,24 @@
 //! What the instances of an event are when they are taken to their end.
 
-ghost use Rattle.std.specs.Prelude.{ℕ, List, ℤ, ◌↔◌, ◌≤ℤ◌};
+ghost use Rattle.std.specs.Prelude.{ℕ, List, ℤ, ◌≡◌, ◌↔◌, ◌≤ℤ◌};
 ghost use Rattle.profile.specs.checker.Instances.{Booked};
 ghost use Rattle.profile.specs.events.Meetings.{SpellsMeeting};
 ghost use Rattle.profile.specs.events.Starts.{IsInstance, AreInstancesFrom};
 ghost use Rattle.cal_events.specs.GivenWhole.{GivesAll};
 ghost use Rattle.cal_events.specs.Left.{IsLeft};
 ghost use Rattle.cal_events.specs.SaidMeetings.{said_meeting};
+ghost use Rattle.cal_events.specs.SaidSeries.{series_said};
 ghost use Rattle.cal_events.specs.declared.instances.Instances.{Instances};
+ghost use Rattle.cal_events.specs.declared.series.Series.{Series};
 
 use crate::event::one_instance;
+
+/// `Series::starts` gives all starts of a series at an instant or later, ascending, each once, if it is taken to its end.
+pub fn all_starts()
+    ensures { (series : Series) (from : ℤ) (instances : Instances) (all : List Booked) → said_meeting instances.event.now ≡ series_said series
+        → ((b : Booked) → IsLeft instances b ↔ (IsInstance (series_said series) b × (from ≤ℤ b.start)))
+        → GivesAll instances all → AreInstancesFrom (series_said series) from all }
+{}
 
 /// Of an event that octets spell, `Event::instances` gives all instances that start at an instant or later, by start and then by slot, each
 /// once, if it is taken to its end.

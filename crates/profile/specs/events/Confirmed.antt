@@ -1,5 +1,6 @@
 -- Which instances the VEVENTs of a calendar confirm in a room (RFC 5545 3.2.12, 3.8.1.11, 3.8.4.4), in series and singles.
-use Rattle.std.specs.Prelude.{◌≡◌, ◌≢◌, Contains, AllPairs, All, Bool, true, not, if◌then◌else◌, ◌&&◌, List, [], ◌∷◌, filter, Some, None, is_some, ℤ, ℕ}
+-- A meeting is one ORGANIZER and one UID; by RFC 5545 3.8.4.7 the UID alone is global, so this is this profile's choice.
+use Rattle.std.specs.Prelude.{◌≡◌, ◌≢◌, ◌<ℤ◌, Contains, AllPairs, All, Bool, true, not, if◌then◌else◌, ◌&&◌, List, [], ◌∷◌, ◌++◌, filter, Some, None, is_some, ℤ, ℕ}
 use Rattle.std.specs.List.{AllZip, flat_map}
 use Rattle.profile.specs.checker.Instances.{Booked}
 use Rattle.profile.specs.series.Rules.{Parts}
@@ -20,7 +21,7 @@ pub record IsReplaced (events : List Event) (event : Event) (instant : ℤ) : Ty
   pub of : meeting_said override ≡ meeting_said event
   pub is : override.recurrence ≡ Some instant
 
--- an instance of one of the events: of a master none that an override stands for
+-- an instance of one of the events: of a master none that an override stands for. A cancelled master has none, and leaves its overrides
 pub record IsInstanceAmong (events : List Event) (event : Event) (instance : Booked) : Type 0 where
   pub is : IsInstance (alone event) instance
   pub shown : is_master event ≡ true → IsReplaced events event instance.start → ⊥
@@ -63,14 +64,46 @@ pub record AreSingles (room : List ℕ) (events : List Event) (event : Event) (s
 abbrev pub is_series : List ℕ → Event → Bool
 is_series room event = is_kept room event && is_master event && is_some event.rule
 
--- what is confirmed in a room: series, each by its master, and singles
+-- overrides of the event's meeting stand for these instants, ascending
+pub record AreReplaced (events : List Event) (event : Event) (instants : List ℤ) : Type 0 where
+  pub each : All (IsReplaced events event) instants
+  pub ascending : AllPairs ◌<ℤ◌ instants
+  pub all : (instant : ℤ) → IsReplaced events event instant → Contains instants instant
+
+-- a master by its rule alone: without what RDATE adds, and without what overrides stand for, as if EXDATE named it
+abbrev pub by_its_rule : Event → List ℤ → Event
+by_its_rule master replaced = record {
+  uid = master.uid;
+  organiser = master.organiser;
+  stamp = master.stamp;
+  sequence = master.sequence;
+  cancelled = master.cancelled;
+  recurrence = master.recurrence;
+  times = master.times;
+  rule = master.rule;
+  additions = [];
+  exceptions = master.exceptions ++ replaced;
+  attendees = master.attendees;
+}
+
+-- the series of a master among the events: a meeting of that alone
+pub record IsSeries (events : List Event) (master : Event) (series : Meeting) : Type 0 where
+  pub replaced : List ℤ
+  pub are : AreReplaced events master replaced
+  pub is : series ≡ record { master = Some (by_its_rule master replaced); overrides = [] }
+
+-- what is confirmed in a room: series and singles
 pub record Confirmed : Type 0 where
-  pub series : List Event
+  pub series : List Meeting
   pub singles : List Booked
+
+-- the instance is one of one of these series
+abbrev pub IsInSeries : List Meeting → Booked → Type 0
+IsInSeries all instance = (series : Meeting) × Contains all series × IsInstance series instance
 
 -- these are confirmed, of these events: both in the order of the events
 pub record AreConfirmed (room : List ℕ) (events : List Event) (confirmed : Confirmed) : Type 0 where
-  pub series : confirmed.series ≡ filter (is_series room) events
+  pub series : AllZip (IsSeries events) (filter (is_series room) events) confirmed.series
   pub lists : List (List Booked)
   pub each : AllZip (AreSingles room events) events lists
   pub singles : confirmed.singles ≡ flat_map (λ own. own) lists

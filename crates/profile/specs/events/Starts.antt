@@ -1,10 +1,10 @@
 -- When a meeting takes place: its instances, from the master's rule, its RDATEs and EXDATEs, and the overrides (RFC 5545 3.8.5.3, 3.8.5.2,
 -- 3.8.5.1, 3.8.4.4). Instants are seconds from 1970-01-01T00:00:00Z. An instance is known by its start and its slot.
-use Rattle.std.specs.Prelude.{◌≡◌, ◌⊎◌, true, ℕ, ◌*◌, ◌<◌, ◌≤◌, Contains, AllPairs, All, List, [], length, map, MatchOption, Option, Some, None, unwrap_or, ℤ, pos, ◌+ℤ◌, ◌≤ℤ◌, ◌<ℤ◌}
+use Rattle.std.specs.Prelude.{◌≡◌, ◌⊎◌, true, ℕ, ◌*◌, ◌<◌, ◌≤◌, Contains, AllPairs, All, List, [], length, map, MatchOption, Option, Some, None, unwrap_or, ℤ, pos, ◌+ℤ◌, ◌-ℤ◌, ◌≤ℤ◌, ◌<ℤ◌}
 use Rattle.profile.specs.checker.Instances.{Key, Booked, IsWithin, horizon}
 use Rattle.profile.specs.series.Rules.{Parts, is_rule_day}
-use Rattle.profile.specs.series.Zones.{Zone, IsOffsetAt, Means, local_time}
-use Rattle.profile.specs.events.Properties.{first_second}
+use Rattle.profile.specs.series.Zones.{Zone, IsOffsetAt, IsBounds, Means, local_time}
+use Rattle.profile.specs.events.Properties.{first_second, length_seconds}
 use Rattle.profile.specs.events.ZonedTimes.{EventTimes, clock_of}
 use Rattle.profile.specs.events.EventRules.{IsOnDay}
 use Rattle.profile.specs.events.Events.{Event}
@@ -24,6 +24,14 @@ IsDaysLater zone days instant later =
 abbrev pub EndsAt : EventTimes → ℤ → ℤ → Type 0
 EndsAt times start end =
     (later : ℤ) × IsDaysLater (clock_of times.zone) times.length.days start later × (end ≡ later +ℤ pos times.length.seconds)
+
+-- no instance of an event with these times lasts longer, in exact seconds: its days are 86,400 seconds each, and longer by what the clocks of
+-- DTSTART's zone are set by, where there are days
+abbrev pub IsWidth : EventTimes → ℤ → Type 0
+IsWidth times width =
+    ((times.length.days ≡ 0) × (width ≡ pos (length_seconds times.length)))
+    ⊎ ((0 < times.length.days)
+    × ((least : ℤ) × (greatest : ℤ) × IsBounds (clock_of times.zone) least greatest × (width ≡ pos (length_seconds times.length) +ℤ (greatest -ℤ least))))
 
 -- ---- at which instants a master starts
 

@@ -1,8 +1,9 @@
-use Rattle.std.proofs.Common.{List, refl, map, sym, subst}
+use Rattle.std.proofs.Common.{◌∙◌, List, refl, map, sym, subst}
 use Rattle.std.specs.List.Sorted.{IsPermutation}
 use Rattle.std.proofs.lemmas.List.Sorted.{IsPermutation-sym}
 use Rattle.cal_events.specs.Calendars.{key_of}
 use Rattle.cal_events.specs.Drafts.{override_keys}
+use Rattle.cal_events.specs.Masters.{AreSeriesOf}
 use Rattle.cal_events.specs.declared.instance.InstanceKey.{InstanceKey}
 use Rattle.cal_events.proofs.KeyLemmas.{pairs_permutation}
 use Rattle.cal_events.proofs.draft.shown.Goals as goal
@@ -21,5 +22,12 @@ pub returns-clause-shown : goal.returns-clause-shown
 returns-clause-shown c = record {
   keys = map key_of c.deref-2.result.now;
   same = subst (λ (l : List InstanceKey). IsPermutation (override_keys c.args.entries.now) (map key_of l)) (sym c.deref-2.ensures.value) c.in_ok-overrides.ensures.0;
-  is = c.in_ok-without_hidden.ensures;
+  is = c.in_ok-singles.ensures;
+}
+
+pub returns-clause-ruled : goal.returns-clause-ruled
+returns-clause-ruled c = record {
+  keys = map key_of c.deref-2.result.now;
+  same = subst (λ (l : List InstanceKey). IsPermutation (override_keys c.args.entries.now) (map key_of l)) (sym c.deref-2.ensures.value) c.in_ok-overrides.ensures.0;
+  each = subst (λ (l : List InstanceKey). AreSeriesOf (map key_of l) c.args.masters.items c.in_ok-series.series.items) (c.deref-3.ensures.value ∙ sym c.deref-2.ensures.value) c.in_ok-series.ensures;
 }

@@ -27,7 +27,7 @@ loop-next-init c =
     let early : (begin ≤ℤ (from -ℤ n)) ⊎ (begin ≤ℤ first_second) = subst (λ (x : ℤ). (x ≤ℤ (from -ℤ n)) ⊎ (x ≤ℤ first_second)) (sym is) (at_most (from -ℤ n)) in
     record {
       old = c.instances-instances.result;
-      still = left_first (said_meeting event) from c.args.span.end begin n c.instances-instances.result c.longest.ensures.bound event.dated early (rw cast at c.instances-instances.ensures);
+      still = left_first (said_meeting event) from c.args.span.end begin n c.instances-instances.result c.longest.ensures.bound event.dated early (rw cast at c.instances-instances.ensures.left);
       given = c.next-next.ensures.steps;
     }
 

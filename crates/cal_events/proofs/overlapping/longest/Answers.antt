@@ -10,7 +10,7 @@ use Rattle.cal_events.proofs.overlapping.longest.Goals as goal
 pub returns-in-Some-clause-bound : goal.returns-in-Some-clause-bound
 returns-in-Some-clause-bound c =
     let r = c.later.result in
-    let n = c.longest.result in
+    let n = c.width.result in
     let v = c.longest_of-of_overrides.result in
     let fits : FitsSigned w64 r = search rules in
     let cast : to_z w64 (of_z w64 r) ≡ r = to_z-of_z fits in
@@ -24,7 +24,7 @@ returns-in-Some-clause-bound c =
     let all = subst (λ (l : List EventComponent). AllLast l v) c.as_slice.ensures.value c.longest_of-of_overrides.ensures.bound in
     rw cast
     (instance_lasts c.args.event.now r
-    (λ d e. subst (λ (x : EventComponent). LastAtMost (times_of x.times) r) (same_Some c.in-Some.master d (sym c.in-Some.is ∙ e)) (lasts_longer (times_of c.in-Some.master.times) n r own c.longest.ensures.bound))
+    (λ d e. subst (λ (x : EventComponent). LastAtMost (times_of x.times) r) (same_Some c.in-Some.master d (sym c.in-Some.is ∙ e)) (lasts_longer (times_of c.in-Some.master.times) n r own c.width.ensures.bound))
     (λ o k. lasts_longer (times_of o.times) v r others (all o k)))
 
 pub returns-in-None-clause-bound : goal.returns-in-None-clause-bound

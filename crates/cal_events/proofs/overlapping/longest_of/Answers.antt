@@ -9,7 +9,7 @@ loop-component-init c = ((λ o h. absurd (omega (arith, h.1))), omega (arith, in
 pub loop-component-preserved : goal.loop-component-preserved
 loop-component-preserved c =
     let r = c.later-longest.result in
-    let n = c.longest.result in
+    let n = c.width.result in
     let fits : FitsSigned w64 r = search rules in
     let cast : to_z w64 (of_z w64 r) ≡ r = to_z-of_z fits in
     let fits_n : FitsSigned w64 n = search rules in
@@ -19,9 +19,9 @@ loop-component-preserved c =
     let old : m ≤ℤ r = least.0 in
     let new : n ≤ℤ r = subst (λ (x : ℤ). x ≤ℤ r) cast_n least.1 in
     let i = c.loop-component.invariant in
-    let below : r <ℤ pos (2 ^ 50) = elim c.later-longest.ensures.one [ inl e ↦ omega (arith, ints, e, i.2) | inr e ↦ omega (arith, ints, e, cast_n, c.longest.ensures.range) ] in
+    let below : r <ℤ pos (2 ^ 50) = elim c.later-longest.ensures.one [ inl e ↦ omega (arith, ints, e, i.2) | inr e ↦ omega (arith, ints, e, cast_n, c.width.ensures.range) ] in
     rw cast
-    (last_more c.args.overrides.now c.loop-component.component-index c.component-item.result m n r c.loop-component-test.true c.component-item.is i.0 c.longest.ensures.bound old new, omega (arith, ints, i.1, old), below)
+    (last_more c.args.overrides.now c.loop-component.component-index c.component-item.result m n r c.loop-component-test.true c.component-item.is i.0 c.width.ensures.bound old new, omega (arith, ints, i.1, old), below)
 
 pub returns-clause-bound : goal.returns-clause-bound
 returns-clause-bound c =

@@ -9,7 +9,7 @@ loop-count-init g c =
     let meeting = said_meeting c.args.event.now in
     let left = c.instances-instances.result in
     let before = g.W.Output.contents c.args.writer.now in
-    let all = c.instances-instances.ensures in
+    let all = c.instances-instances.ensures.left in
     record {
       printed = subst (λ (t : List ℕ). PrintsUpTo meeting left 0 before before t) (sym c.requires)
           (no_line_yet meeting left before (none_yet meeting left (λ b h. ((all b).0 h).0) (λ b is line. (all b).1 (is, from_the_first b line))));

@@ -6,12 +6,13 @@ use Rattle.ical_lines.specs.Fault.{RefusesBy}
 use Rattle.ical_values.proofs.Exits.{err_exit}
 use Rattle.cal_events.specs.Calendars.{key_of, AreWithin}
 use Rattle.cal_events.specs.Drafts.{master_keys, override_keys, IsTwoOf, AreShown}
+use Rattle.cal_events.specs.Masters.{AreRuled}
 use Rattle.cal_events.specs.declared.calendar.Entry.{Entry}
 use Rattle.cal_events.specs.declared.instance.InstanceKey.{InstanceKey}
 use Rattle.cal_events.proofs.KeyLemmas.{pairs_permutation}
 use Rattle.cal_events.proofs.ZonedLemmas.{weaker_fault}
 use Rattle.cal_events.proofs.DraftKeys.{masters_there, there_masters, overrides_there, there_overrides}
-use Rattle.cal_events.proofs.DraftLemmas.{within_entries, confirmed_of, left_within, different_keys}
+use Rattle.cal_events.proofs.DraftLemmas.{within_entries, masters_of, confirmed_of, left_within, different_keys}
 use Rattle.cal_events.proofs.draft.Draft.into_calendar.Goals as goal
 
 pub returns-then-has_equal_neighbours-clause-stands : goal.returns-then-has_equal_neighbours-clause-stands
@@ -24,7 +25,10 @@ returns-then-has_equal_neighbours-clause-stands c room events d =
 pub shown-requires : goal.shown-requires
 shown-requires c =
     let d = c.requires in
-    subst (λ (es : List Entry). AreWithin es c.args.self.singles.items) (sym c.deref-3.ensures.value) (within_entries d.0 d.1 c.args.self d.2)
+    record {
+      within = subst (λ (es : List Entry). AreWithin es c.args.self.singles.items) (sym c.deref-3.ensures.value) (within_entries d.0 d.1 c.args.self d.2);
+      masters = masters_of d.0 d.1 c.args.self d.2;
+    }
 
 pub returns-in_err-singles-clause-stands : goal.returns-in_err-singles-clause-stands
 returns-in_err-singles-clause-stands c room events d =
@@ -57,4 +61,6 @@ returns-clause-masters c room events d =
 
 pub returns-clause-are : goal.returns-clause-are
 returns-clause-are c room events d =
-    confirmed_of room events c.args.self d c.in_ok-singles.singles.items (subst (λ (es : List Entry). AreShown es c.args.self.singles.items c.in_ok-singles.singles.items) c.deref-3.ensures.value c.in_ok-singles.ensures.shown)
+    confirmed_of room events c.args.self d c.in_ok-singles.singles.items
+    (subst (λ (es : List Entry). AreShown es c.args.self.singles.items c.in_ok-singles.singles.items) c.deref-3.ensures.value c.in_ok-singles.ensures.shown)
+    c.in_ok-singles.series.items (subst (λ (es : List Entry). AreRuled es c.args.self.series.items c.in_ok-singles.series.items) c.deref-3.ensures.value c.in_ok-singles.ensures.ruled)

@@ -1,7 +1,7 @@
 use Rattle.std.proofs.Common.{◌≡◌, to_z, of_z, w64, to_z-of_z}
 use Rattle.cal_events.proofs.event.Event.instances.Goals as goal
 
-pub returns : goal.returns
-returns c =
+pub returns-clause-left : goal.returns-clause-left
+returns-clause-left c =
     let same : to_z w64 (of_z w64 c.args.from) ≡ c.args.from = to_z-of_z c.ranges.from in
-    rw same at c.from.ensures
+    rw same at c.from.ensures.left

@@ -1,0 +1,208 @@
+-- Series: what they are of their masters, and that they are one for each.
+use Rattle.std.proofs.Common.{◌≡◌, ◌∙◌, ℕ, zero, suc, true, false, List, [], ◌∷◌, ◌++◌, ◌<◌, length, get_or, subst, sym, refl, ap, inl, inr, ◌⊎◌, arith, ℤ, ◌<ℤ◌, map}
+use Rattle.std.specs.Prelude.{Option, Some, None, All, Contains, is_some, option_map, ◌↔◌}
+use Rattle.std.specs.List.{AllZip}
+use Rattle.std.specs.List.Sorted.{IsPermutation}
+use Rattle.std.proofs.lemmas.Bool.{false≢true}
+use Rattle.std.proofs.lemmas.Int.{ints}
+use Rattle.std.proofs.lemmas.List.{get_or_default}
+use Rattle.std.proofs.lemmas.List.Elements.{All-contains}
+use Rattle.std.proofs.lemmas.List.Sorted.{Contains-permutation, IsPermutation-sym}
+use Rattle.profile.specs.checker.Instances.{Key, Booked}
+use Rattle.profile.specs.series.Rules.{Parts}
+use Rattle.profile.specs.events.Events.{Event, meeting_said}
+use Rattle.profile.specs.events.Meetings.{Meeting as Whole, is_master}
+use Rattle.profile.specs.events.ZonedTimes.{EventTimes}
+use Rattle.profile.specs.events.Starts.{key_at, IsGiven, IsRuleStart, IsStart, IsInstance, EndsAt}
+use Rattle.profile.specs.events.Confirmed.{IsReplaced, IsInstanceAmong, IsOfSeries, AreReplaced, by_its_rule, IsSeries}
+use Rattle.cal_events.specs.Calendars.{key_in}
+use Rattle.cal_events.specs.Drafts.{entry_said, name_said, override_key, override_keys, IsSaid}
+use Rattle.cal_events.specs.Ruled.{AreSlotsOf, IsByItsRule, IsRuled}
+use Rattle.cal_events.specs.Meetings.{IsNamed}
+use Rattle.cal_events.specs.Overlapping.{HaveOneEnd, AreDated}
+use Rattle.cal_events.specs.Events.{event_of}
+use Rattle.cal_events.specs.SaidMeetings.{said_meeting}
+use Rattle.cal_events.specs.declared.component.EventComponent.{EventComponent}
+use Rattle.cal_events.specs.declared.event.Event as declared
+use Rattle.cal_events.specs.declared.calendar.Entry.{Entry}
+use Rattle.std.specs.List.{filter_map}
+use Rattle.cal_events.proofs.DraftKeys.{some_there, replaced_key, key_replaced, entry_overrides}
+use Rattle.cal_events.proofs.InOneOrder.{later, none_in, one_order}
+use Rattle.cal_events.proofs.OneInstance.{end_one, booked_same}
+use Rattle.cal_events.proofs.OwnSingles.{IsAtStart, of_master, at_start, from_start, master_alone, alone_master, of_both, not_a_master, steady}
+
+-- ---- lists
+
+in_first : {X : Type 0} (xs ys : List X) (x : X) → Contains xs x → Contains (xs ++ ys) x
+in_first [] ys x c = absurd (none_in x c)
+in_first (y ∷ xs) ys x (zero, w, e) = (zero, omega arith, e)
+in_first (y ∷ xs) ys x (suc k, w, e) = later y x (xs ++ ys) (in_first xs ys x (k, omega (arith, w), e))
+
+in_second : {X : Type 0} (xs ys : List X) (x : X) → Contains ys x → Contains (xs ++ ys) x
+in_second [] ys x c = c
+in_second (y ∷ xs) ys x c = later y x (xs ++ ys) (in_second xs ys x c)
+
+in_one_of : {X : Type 0} (xs ys : List X) (x : X) → Contains (xs ++ ys) x → Contains xs x ⊎ Contains ys x
+in_one_of [] ys x c = inr c
+in_one_of (y ∷ xs) ys x (zero, w, e) = inl (zero, omega arith, e)
+in_one_of (y ∷ xs) ys x (suc k, w, e) = elim (in_one_of xs ys x (k, omega (arith, w), e)) [ inl c ↦ inl (later y x xs c) | inr c ↦ inr c ]
+
+-- ---- what a rule gives
+
+given_rule : (times : EventTimes) (o : Option Parts) (t : ℤ) → is_some o ≡ true → IsGiven times o t → (rule : Parts) × (o ≡ Some rule) × IsRuleStart times rule t
+given_rule times None t h g = absurd (false≢true h)
+given_rule times (Some rule) t h g = (rule, refl, g)
+
+rule_gives : (times : EventTimes) (o : Option Parts) (rule : Parts) (t : ℤ) → o ≡ Some rule → IsRuleStart times rule t → IsGiven times o t
+rule_gives times o rule t e h = subst (λ (x : Option Parts). IsGiven times x t) (sym e) h
+
+no_recurrence : (event : Event) → is_master event ≡ true → event.recurrence ≡ None
+no_recurrence event h = elim (of_both event) [ inl e ↦ e | inr (slot, e) ↦ absurd (not_a_master event slot e h) ]
+
+-- ---- the series of a master
+
+module _ (events : List Event) (master : Event) (is : is_master master ≡ true) (series : Whole) (s : IsSeries events master series) where
+  abbrev ruled : Event
+  ruled = by_its_rule master s.replaced
+
+  -- what is of the series is an instance of the master at a start that its rule gives
+  pub of_its_series : is_some master.rule ≡ true → (b : Booked) → IsInstance series b → IsInstanceAmong events master b × IsOfSeries master b
+  of_its_series some b h =
+      let x = at_start ruled b (subst (λ (m : Whole). IsInstance m b) s.is h) in
+      let g : IsGiven master.times master.rule b.start = elim x.starts.given [ inl g ↦ g | inr c ↦ absurd (none_in b.start c) ] in
+      let r = given_rule master.times master.rule b.start some g in (
+        record {
+          is = alone_master master b (no_recurrence master is) (record {
+            starts = record {
+              given = inl g;
+              in_dates = x.starts.in_dates;
+              not_excepted = λ c. x.starts.not_excepted (in_first master.exceptions s.replaced b.start c);
+              not_overridden = x.starts.not_overridden;
+            };
+            key = x.key;
+            ends = x.ends;
+          });
+          shown = λ _ t. x.starts.not_excepted (in_second master.exceptions s.replaced b.start (s.are.all b.start t));
+        },
+        record { master = is; rule = r.0; has = r.1; starts = r.2 },
+      )
+
+  -- and what is such an instance is of the series
+  pub in_its_series : (b : Booked) → IsInstanceAmong events master b → IsOfSeries master b → IsInstance series b
+  in_its_series b among of =
+      let y = master_alone master b (no_recurrence master is) among.is in
+      subst (λ (m : Whole). IsInstance m b) (sym s.is)
+      (from_start ruled b (record {
+        starts = record {
+          given = inl (rule_gives master.times master.rule of.rule b.start of.has of.starts);
+          in_dates = y.starts.in_dates;
+          not_excepted = λ c. elim (in_one_of master.exceptions s.replaced b.start c) [
+            | inl d ↦ y.starts.not_excepted d
+            | inr d ↦ among.shown is (All-contains (IsReplaced events master) s.replaced b.start s.are.each d)
+          ];
+          not_overridden = y.starts.not_overridden;
+        };
+        key = y.key;
+        ends = y.ends;
+      }))
+
+-- a master has one series
+pub one_series : (events : List Event) (master : Event) (a b : Whole) → IsSeries events master a → IsSeries events master b → a ≡ b
+one_series events master a b s t =
+    let same : s.replaced ≡ t.replaced =
+    one_order ◌<ℤ◌ (λ x l. absurd (omega (arith, ints, l))) (λ x y z l m. omega (arith, ints, l, m)) s.replaced t.replaced s.are.ascending t.are.ascending
+    (λ x c. t.are.all x (All-contains (IsReplaced events master) s.replaced x s.are.each c)) (λ x c. s.are.all x (All-contains (IsReplaced events master) t.replaced x t.are.each c)) in
+    s.is ∙ ap (λ l. of_master (by_its_rule master l)) same ∙ sym t.is
+
+-- ---- what overrides stand for
+
+module _ (events : List Event) (entries : List Entry) (said : map entry_said entries ≡ map name_said events) (event : Event) (slot : ℤ) where
+  abbrev own : Key
+  own = key_in (meeting_said event) slot
+
+  pub replaced_at : Contains (override_keys entries) own → IsReplaced events event slot
+  replaced_at c =
+      let r = replaced_key events own (subst (λ (ks : List Key). Contains ks own) (entry_overrides entries events said) c) in
+      let same_slot : slot ≡ r.2.0 = ap (λ (key : Key). key.slot) r.2.2 in
+      record { override = r.0; among = r.1; of = sym (ap (λ (key : Key). (key.organiser, key.uid)) r.2.2); is = r.2.1 ∙ ap Some (sym same_slot) }
+
+  pub at_replaced : IsReplaced events event slot → Contains (override_keys entries) own
+  at_replaced r =
+      subst (λ (ks : List Key). Contains ks own) (sym (entry_overrides entries events said))
+      (subst (Contains (filter_map override_key (map name_said events))) (ap (λ m. key_in m slot) r.of) (key_replaced events r.override slot r.among r.is))
+
+-- what is made by the keys of the entries is the series
+pub series_made : (events : List Event) (entries : List Entry) → map entry_said entries ≡ map name_said events → (keys : List Key) → IsPermutation (override_keys entries) keys
+    → (master : Event) (series : Whole) → IsByItsRule keys master series → IsSeries events master series
+series_made events entries said keys same master series h = record {
+  replaced = h.replaced;
+  are = record {
+    each = λ k d w. replaced (get_there h.replaced k d w);
+    ascending = h.slots.ascending;
+    all = λ t r. (h.slots.are t).1 (Contains-permutation (override_keys entries) keys (key_in (meeting_said master) t) same (at_replaced events entries said master t r));
+  };
+  is = h.is;
+}
+  where
+    replaced : {t : ℤ} → Contains h.replaced t → IsReplaced events master t
+    replaced {t} c =
+        replaced_at events entries said master t
+        (Contains-permutation keys (override_keys entries) (key_in (meeting_said master) t) (IsPermutation-sym (override_keys entries) keys same) ((h.slots.are t).0 c))
+
+    get_there : (xs : List ℤ) (k : ℕ) (d : ℤ) → k < length xs → Contains xs (get_or xs k d)
+    get_there xs k d w = (k, w, get_or_default xs k (get_or xs k d) d w)
+
+-- ---- a master by itself
+
+module _ (master : Event) (said : IsSaid master) (replaced : List ℤ) where
+  pub ruled_ends : HaveOneEnd (of_master (by_its_rule master replaced))
+  ruled_ends a b h k start slot =
+      let x = at_start (by_its_rule master replaced) a h in
+      let y = at_start (by_its_rule master replaced) b k in
+      end_one master.times b.start a.end b.end (steady master said) (subst (λ (t : ℤ). EndsAt master.times t a.end) start x.ends) y.ends
+
+  pub ruled_dated : AreDated (of_master (by_its_rule master replaced))
+  ruled_dated a h =
+      let x = at_start (by_its_rule master replaced) a h in
+      (subst IsNamed (sym (ap (λ (key : Key). key.slot) x.key)) x.starts.in_dates, x.starts.in_dates)
+
+-- ---- lists that are related element by element
+
+pub zip_with : {A V : Type 0} (R : A → V → Type 0) (xs : List A) (vs : List V) (x : A) → AllZip R xs vs → Contains xs x → (v : V) × Contains vs v × R x v
+zip_with R [] vs x h c = absurd (none_in x c)
+zip_with R (y ∷ xs) [] x h c = absurd h
+zip_with R (y ∷ xs) (v ∷ vs) x h (zero, w, e) = (v, (zero, omega arith, refl), subst (λ z. R z v) e h.0)
+zip_with R (y ∷ xs) (v ∷ vs) x h (suc k, w, e) = let r = zip_with R xs vs x h.1 (k, omega (arith, w), e) in (r.0, later v r.0 vs r.1, r.2)
+
+pub zip_back : {A V : Type 0} (R : A → V → Type 0) (xs : List A) (vs : List V) (v : V) → AllZip R xs vs → Contains vs v → (x : A) × Contains xs x × R x v
+zip_back R xs [] v h c = absurd (none_in v c)
+zip_back R [] (u ∷ vs) v h c = absurd h
+zip_back R (x ∷ xs) (u ∷ vs) v h (zero, w, e) = (x, (zero, omega arith, refl), subst (R x) e h.0)
+zip_back R (x ∷ xs) (u ∷ vs) v h (suc k, w, e) = let r = zip_back R xs vs v h.1 (k, omega (arith, w), e) in (r.0, later x r.0 xs r.1, r.2)
+
+-- of what was mapped
+pub zip_mapped : {A B V W : Type 0} (R : A → B → Type 0) (S : V → W → Type 0) (f : V → A) (g : W → B) → ((v : V) (w : W) → S v w → R (f v) (g w)) → (vs : List V) (ws : List W) → AllZip S vs ws → AllZip R (map f vs) (map g ws)
+zip_mapped R S f g h [] [] z = tt
+zip_mapped R S f g h [] (w ∷ ws) z = absurd z
+zip_mapped R S f g h (v ∷ vs) [] z = absurd z
+zip_mapped R S f g h (v ∷ vs) (w ∷ ws) z = (h v w z.0, zip_mapped R S f g h vs ws z.1)
+
+-- ---- the starts of a series
+
+empty_list : {X : Type 0} (xs : List X) → length xs ≡ 0 → xs ≡ []
+empty_list [] h = refl
+empty_list (x ∷ xs) h = absurd (omega (arith, h))
+
+-- the event of a master alone stands for it
+pub alone_said : (event : declared.Event) → length event.overrides.items ≡ 0 → (m : EventComponent) → event.master ≡ Some m → said_meeting event ≡ of_master (event_of m)
+alone_said event none m is =
+    let e = empty_list event.overrides.items none in λ i. record { master = option_map event_of (is i); overrides = map event_of (e i) }
+
+-- of a master alone the instances differ in their starts
+pub one_start : (event : declared.Event) → IsRuled event → (a b : Booked) → IsInstance (said_meeting event) a → IsInstance (said_meeting event) b → a.start ≡ b.start → a.key.slot ≡ b.key.slot → a ≡ b
+one_start event r a b h k start slot =
+    let m = some_there event.master r.0 in
+    let is = alone_said event r.1.1 m.0 m.1 in
+    let x = at_start (event_of m.0) a (subst (λ (w : Whole). IsInstance w a) is h) in
+    let y = at_start (event_of m.0) b (subst (λ (w : Whole). IsInstance w b) is k) in
+    booked_same a b (x.key ∙ ap (key_at (event_of m.0)) start ∙ sym y.key) start (event.ends a b h k start slot)

@@ -1,0 +1,8 @@
+use Rattle.cal_events.specs.SaidSeries.{series_said}
+use Rattle.cal_events.proofs.SeriesLemmas.{one_start}
+use Rattle.cal_events.proofs.WholeLists.{all_given}
+use Rattle.cal_events.proofs.whole.all_starts.Goals as goal
+
+pub returns : goal.returns
+returns c = λ series from instances all of begins given.
+    all_given (series_said series) (one_start series.event series.ruled) from instances all of begins given

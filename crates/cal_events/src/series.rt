@@ -1,0 +1,147 @@
+//! The series of a calendar: a master by its rule alone (RFC 5545 3.8.5.3). What RDATE adds belongs to none.
+ghost use Rattle.std.specs.Prelude.{◌≡◌, ◌≢◌, ◌↔◌, ◌≤ℤ◌, true, Some, is_some, map, filter, AllPairs, IfOk};
+ghost use Rattle.profile.specs.checker.Instances.{Booked};
+ghost use Rattle.profile.specs.events.Meetings.{is_master};
+ghost use Rattle.profile.specs.events.Starts.{IsInstance, IsWidth};
+ghost use Rattle.profile.specs.events.Confirmed.{by_its_rule};
+ghost use Rattle.profile.specs.events.Events.{Event as Said, meeting_said};
+ghost use Rattle.profile.specs.events.ZonedTimes.{clock_of};
+ghost use Rattle.cal_zones.specs.Kinds.{zone_of};
+ghost use Rattle.cal_events.specs.Calendars.{key_of};
+ghost use Rattle.cal_events.specs.Drafts.{IsSaid, AreInOrder};
+ghost use Rattle.cal_events.specs.Events.{event_of};
+ghost use Rattle.cal_events.specs.Left.{IsLeft};
+ghost use Rattle.cal_events.specs.SaidMeetings.{said_meeting};
+ghost use Rattle.cal_events.specs.Ruled.{IsRuled, AreSlotsOf, IsByItsRule, cmp_to, is_of};
+
+use crate::component::EventComponent;
+use crate::event::Event;
+use crate::instance::InstanceKey;
+use crate::instances::Instances;
+use cal_rules::Rule;
+use cal_zones::Zone;
+use std::alloc::{AllocError, Global};
+use std::cmp::Ordering;
+
+/// A series: a master with RRULE that the room has accepted, by its rule alone. What overrides of its meeting stand for is none of its starts.
+#[derive(Drop)]
+pub struct Series {
+    pub(crate) event: Event,
+    ghost ruled: { IsRuled event },
+}
+
+impl Series {
+    ghost use Rattle.cal_events.specs.SaidSeries.{series_said, IsMasterOf};
+
+    /// The series of a master, where overrides stand for these instances, in order. It fails only for memory.
+    pub(crate) fn of(
+        alloc: Global,
+        master: EventComponent,
+        overrides: &[InstanceKey<'_>],
+    ) -> Result<Series, AllocError>
+        requires said { IsSaid (event_of master) }
+        requires master { is_master (event_of master) ≡ true }
+        requires rule { is_some master.rule ≡ true }
+        requires sorted { AreInOrder overrides.now }
+        requires differ { AllPairs ◌≢◌ (map key_of overrides.now) }
+        ensures { IfOk result (λ series. IsByItsRule (map key_of overrides.now) (event_of master) (series_said series)) }
+    {
+        let replaced = replaced(alloc, &master, overrides)?;
+        let master = by_its_rule(alloc, master, &replaced)?;
+        let event = Event::of_master(alloc, master)?;
+        Ok(Series { event })
+    }
+
+    /// Its starts at an instant or later, in seconds from 1970-01-01T00:00:00Z, with their ends: ascending, each once. Takes no memory, and
+    /// looks at nothing that comes before.
+    pub fn starts(&self, from: i64) -> Instances<'_>
+        ensures left { (b : Booked) → IsLeft result b ↔ IsInstance (series_said self.now) b × (from ≤ℤ b.start) }
+        ensures of { said_meeting result.event.now ≡ series_said self.now }
+    {
+        self.event.instances(from)
+    }
+
+    /// The rule by which it recurs.
+    pub fn rule(&self) -> &Rule
+        ensures { (master : Said) → IsMasterOf (series_said self.now) master → master.rule ≡ Some result.now }
+    {
+        match &self.master().rule {
+            Some(rule) => rule,
+            None => unreachable!(),
+        }
+    }
+
+    /// The zone of its starts.
+    pub fn zone(&self) -> Zone
+        ensures { (master : Said) → IsMasterOf (series_said self.now) master → zone_of result ≡ clock_of master.times.zone }
+    {
+        self.master().times.start.clock()
+    }
+
+    /// No instance of it lasts longer, in exact seconds: its length with days of 86,400 seconds, and where it has days the difference of its
+    /// zone's offsets.
+    pub fn width(&self) -> i64
+        ensures { (master : Said) → IsMasterOf (series_said self.now) master → IsWidth master.times result }
+    {
+        self.master().times.width()
+    }
+
+    fn master(&self) -> &EventComponent
+        ensures master { IsMasterOf (series_said self.now) (event_of result.now) }
+        ensures ruled { is_some result.now.rule ≡ true }
+    {
+        match &self.event.master {
+            Some(master) => master,
+            None => unreachable!(),
+        }
+    }
+}
+
+/// A master without what RDATE adds, and without what overrides stand for. It fails only for memory.
+fn by_its_rule(
+    alloc: Global,
+    master: EventComponent,
+    replaced: &[i64],
+) -> Result<EventComponent, AllocError>
+    ensures { IfOk result (λ ruled. event_of ruled ≡ by_its_rule (event_of master) replaced.now) }
+{
+    let mut master = master;
+    master.additions = Vec::new(alloc);
+    master.exceptions.extend_from_slice(replaced)?;
+    Ok(master)
+}
+
+/// The instants for which overrides of a master's meeting stand, ascending. It fails only for memory.
+fn replaced(
+    alloc: Global,
+    master: &EventComponent,
+    overrides: &[InstanceKey<'_>],
+) -> Result<Vec<i64>, AllocError>
+    requires sorted { AreInOrder overrides.now }
+    requires differ { AllPairs ◌≢◌ (map key_of overrides.now) }
+    ensures { IfOk result (λ slots. AreSlotsOf (map key_of overrides.now) (meeting_said (event_of master.now)) slots.items) }
+{
+    let mut slots = Vec::new(alloc);
+    for key in own_keys(overrides, master.organiser_text(), master.uid.as_str()) {
+        slots.push(key.slot)?;
+    }
+    Ok(slots)
+}
+
+/// Those of the keys, in order, that are of one meeting. They are looked for by halves.
+fn own_keys<'a>(keys: &'a [InstanceKey<'a>], organiser: &str, uid: &str) -> &'a [InstanceKey<'a>]
+    requires sorted { AreInOrder keys.now }
+    ensures { result.now ≡ filter (is_of (organiser.now, uid.now)) keys.now }
+{
+    let first = keys.partition_point(|key| cmp_meeting(key, organiser, uid).is_lt());
+    let rest = &keys[first..];
+    let count = rest.partition_point(|key| cmp_meeting(key, organiser, uid).is_eq());
+    &rest[..count]
+}
+
+/// The meeting of a key beside another, by organiser and UID as octets.
+fn cmp_meeting(key: &InstanceKey<'_>, organiser: &str, uid: &str) -> Ordering
+    ensures { result ≡ cmp_to (organiser.now, uid.now) key.now }
+{
+    key.organiser.cmp(organiser).then(key.uid.cmp(uid))
+}
