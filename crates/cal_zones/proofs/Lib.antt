@@ -18,3 +18,5 @@ pub mod WrittenParts
 pub mod ZoneReads
 pub mod RuleWords
 pub mod WrittenLines
+pub mod Spans
+pub mod Meant

@@ -17,7 +17,7 @@ count_of_number : (count : ℕ) (number : ℤ) → pos count -ℤ pos 719_528 �
 count_of_number count number e = omega (arith, signed_arith, one_part (number +ℤ pos 719_528))
 
 -- a month has at least 28 days, and is never shorter than in the year 1
-month_least : (year month : ℕ) → (28 ≤ days_in_month year month) × (days_in_month 1 month ≤ days_in_month year month)
+pub month_least : (year month : ℕ) → (28 ≤ days_in_month year month) × (days_in_month 1 month ≤ days_in_month year month)
 month_least year month = (grind (arith, nat_tests), grind (arith, nat_tests))
 
 yearly_month : (month : ℕ) (days : MonthDays) → is_yearly month days ≡ true → (1 ≤ month) × (month ≤ 12)
@@ -38,7 +38,7 @@ place_within month (Week d w) first length before h long least place =
     omega (arith, place)
 
 -- the day that lies there in that month of that year
-placed_in : (r : Yearly) (year index length before : ℕ) → index ≡ days_before year r.month 1 → length ≡ days_in_month year r.month → IsPlace r.days index length before → IsDayOfYear r year (index + before)
+pub placed_in : (r : Yearly) (year index length before : ℕ) → index ≡ days_before year r.month 1 → length ≡ days_in_month year r.month → IsPlace r.days index length before → IsDayOfYear r year (index + before)
 placed_in r year index length before i l place =
     let month = yearly_month r.month r.days r.yearly in
     let short = month_least year r.month in

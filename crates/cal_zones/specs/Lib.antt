@@ -8,3 +8,4 @@ pub mod Kinds
 pub mod Spaced
 pub mod Named
 pub mod Read
+pub mod Spans

@@ -4,6 +4,7 @@
 //! No rule is walked from year to year: of each observance two years are looked at.
 #![tactic(auto)]
 
+mod clock;
 mod observance;
 mod one_day;
 mod pair;
@@ -13,6 +14,7 @@ mod write;
 mod yearly;
 mod zone;
 
+pub use clock::Clock;
 pub use observance::Observance;
 pub use read::one_zone;
 pub use write::zone_reads_back;

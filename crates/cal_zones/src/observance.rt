@@ -34,6 +34,7 @@ impl Observance {
     ghost use Rattle.profile.specs.series.Zones.{Single, local_time, IsOffsetAt, IsOnset, IsLatest, IsFirstOf, NoneBegun, onset_at};
     ghost use Rattle.cal_zones.specs.Onsets.{observance_of, IsFirstDayOf};
     ghost use Rattle.cal_zones.specs.Kinds.{IsOrdered};
+    ghost use Rattle.cal_zones.specs.Spans.{AreNoneBetween};
 
     /// The observance with that DTSTART, RRULE, TZOFFSETFROM and TZOFFSETTO.
     pub fn new(start: LocalTime, rule: Option<Yearly>, from: UtcOffset, to: UtcOffset) -> Observance
@@ -105,6 +106,28 @@ impl Observance {
             None => Some(first),
             Some(rule) => Some(rule.latest_onset(first_day, first, instant)),
         }
+    }
+
+    /// An instant such that no onset comes after the given one and before it. It needn't be later than the given one: on
+    /// the day of an onset, once that has come, it is that onset.
+    pub(crate) fn quiet_until(&self, instant: i64) -> i64
+        ensures { AreNoneBetween (IsOnset (observance_of self.now)) instant result }
+    {
+        let Some(rule) = self.rule else {
+            let only = self.onset_on(self.day);
+            if instant < only {
+                return only;
+            }
+            return i64::MAX;
+        };
+        let shown = instant.saturating_add(self.offset_from as i64);
+        let Some(local) = LocalTime::of_seconds(shown) else {
+            // Before the year 1, or after the year 9999.
+            return instant;
+        };
+        let (day, _) = local.day_and_second();
+        let from = day.index().max(self.day);
+        self.onset_on(rule.first_from(from))
     }
 
     /// The offset in force by this one alone.

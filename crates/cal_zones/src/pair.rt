@@ -24,10 +24,11 @@ pub struct Pair {
 impl Pair {
     ghost use Rattle.std.specs.Prelude.{◌≡◌, ◌≤◌, ℕ, true, IfOk, IfErr};
     ghost use Rattle.profile.specs.text.Values.{IsOffset};
-    ghost use Rattle.profile.specs.series.Zones.{IsOffsetAt, NoneBegun};
+    ghost use Rattle.profile.specs.series.Zones.{IsOffsetAt, IsZoneOnset, NoneBegun};
     ghost use Rattle.profile.specs.series.ZoneTexts.{AreMatched, AreSpaced, IsPairFault};
     ghost use Rattle.cal_zones.specs.Onsets.{observance_of};
     ghost use Rattle.cal_zones.specs.Kinds.{pair_of};
+    ghost use Rattle.cal_zones.specs.Spans.{AreNoneBetween};
 
     /// The pair of two observances. Refused with 40 where one has no rule, else with 41 where each TZOFFSETFROM isn't the
     /// other's TZOFFSETTO or they lie more than 12 hours apart, else with 42 where two onsets of their rules lie less than
@@ -82,6 +83,15 @@ impl Pair {
             (Some(x), Some(y)) if x >= y => self.standard.offset_to,
             (Some(_), Some(_)) => self.daylight.offset_to,
         }
+    }
+
+    /// An instant such that no onset of either comes after the given one and before it.
+    pub(crate) fn quiet_until(&self, instant: i64) -> i64
+        ensures { AreNoneBetween (IsZoneOnset (pair_of self.now.standard self.now.daylight)) instant result }
+    {
+        let standard = self.standard.quiet_until(instant);
+        let daylight = self.daylight.quiet_until(instant);
+        standard.min(daylight)
     }
 
     /// The offset where neither has begun.

@@ -44,10 +44,11 @@ impl Zone {
     ghost use Rattle.std.specs.Prelude.{◌≡◌, ◌<◌, ◌≤◌, ℕ, None, pos, unsigned_abs, ◌-ℤ◌, IfOk, IfErr, MatchOption, OnOk, OnErr};
     ghost use Rattle.profile.specs.text.Values.{IsOffset};
     ghost use Rattle.profile.specs.series.Days.{day_index};
-    ghost use Rattle.profile.specs.series.Zones.{Constant, Single, IsOffsetAt, Means, AreFirstOnsets, IsBounds, IsOneOffset, IsOneMeaning, IsNearEpoch, IsLastDay, NoneFrom};
+    ghost use Rattle.profile.specs.series.Zones.{Constant, Single, IsZoneOnset, IsOffsetAt, Means, AreFirstOnsets, IsBounds, IsOneOffset, IsOneMeaning, IsNearEpoch, IsLastDay, NoneFrom};
     ghost use Rattle.profile.specs.series.ZoneTexts.{AreMatched, AreSpaced, IsSingleFault, IsPairFault, SaysZone, ZoneFault};
     ghost use Rattle.cal_zones.specs.Onsets.{observance_of};
     ghost use Rattle.cal_zones.specs.Kinds.{zone_of, pair_of, AreEnds};
+    ghost use Rattle.cal_zones.specs.Spans.{AreNoneBetween};
     ghost use Rattle.ical_lines.specs.Fault.{RefusesBy};
     ghost use Rattle.ical_tree.specs.Tree.{tree_of};
     ghost use Rattle.profile.specs.written.WrittenZones.{IsZoneText};
@@ -178,6 +179,17 @@ impl Zone {
                 Some(pair.standard.first_onset()),
                 Some(pair.daylight.first_onset()),
             ),
+        }
+    }
+
+    /// An instant such that no onset comes after the given one and before it. It needn't be later than the given one.
+    pub(crate) fn quiet_until(&self, instant: i64) -> i64
+        ensures { AreNoneBetween (IsZoneOnset (zone_of self.now)) instant result }
+    {
+        match &self.kind {
+            Form::Constant(_) => i64::MAX,
+            Form::Single(observance) => observance.quiet_until(instant),
+            Form::Pair(pair) => pair.quiet_until(instant),
         }
     }
 
