@@ -1,4 +1,4 @@
-//! Worked examples of messages, calendars, certificates, the order of parts, streams, commands and events, in three tables. Each line of a table
+//! Worked examples of messages, calendars, certificates, the order of parts, streams, commands and events, in four tables. Each line of a table
 //! names a call and gives its input, often as names of files. What is printed of each case is compared by `rt ci` with the file `stdout`,
 //! whose lines come from the RFCs, by hand or from another program.
 #![tactic(auto)]
@@ -26,7 +26,9 @@ fn main(rt: HostRuntime) -> io::Result<()> {
     print_answers(&rt, "messages.txt")?;
     print_commands(&rt)?;
     // made by tests/events_by_dateutil.py
-    print_answers(&rt, "events.txt")
+    print_answers(&rt, "events.txt")?;
+    // made by tests/calendars_by_icalendar.py
+    print_answers(&rt, "calendars.txt")
 }
 
 fn print_answers<R: Files + Print + AllocGlobal>(rt: &R, table: &str) -> io::Result<()> {
