@@ -41,6 +41,7 @@ mod InstanceLemmas
 mod Clocks
 mod RuleDayLemmas
 mod Walks
+mod ClockLemmas
 mod InOrder
 mod HiddenLemmas
 mod WholeLists

@@ -10,6 +10,7 @@ use Rattle.cal_events.specs.Instances.{IsAfter, IsPastSlot}
 use Rattle.cal_events.specs.Left.{IsLeft, GivesFirst}
 use Rattle.cal_events.specs.GivenWhole.{GivesAll, no_more, one_more}
 use Rattle.cal_events.specs.SaidMeetings.{said_meeting}
+use Rattle.cal_events.specs.declared.event.Event as declared
 use Rattle.cal_events.specs.declared.instance.Instance.{Instance}
 use Rattle.cal_events.specs.declared.instances.Bound.{Bound}
 use Rattle.cal_events.specs.declared.instances.Instances.{Instances}
@@ -63,6 +64,20 @@ after_later bound a b (inl l) (inl m) = inl (omega (arith, ints, l, m))
 after_later bound a b (inl l) (inr (e, m)) = inl (omega (arith, ints, l, e))
 after_later bound a b (inr (e, p)) (inl m) = inl (omega (arith, ints, e, m))
 after_later bound a b (inr (e, p)) (inr (f, m)) = inr (e ∙ f, past bound.slot a.key.slot b.key.slot p m)
+
+-- those from an instant on are those that start then or later
+pub left_from : (event : declared.Event) (from : ℤ) (b : Booked) → (IsInstance (said_meeting event) b × IsAfter (record { start = from; slot = None }) b.start b.key.slot) ↔ (IsInstance (said_meeting event) b × (from ≤ℤ b.start))
+left_from event from b = ((λ h. (h.0, late h.1)), λ h. (h.0, after h.1))
+  where
+    late : IsAfter (record { start = from; slot = None }) b.start b.key.slot → from ≤ℤ b.start
+    late (inl l) = omega (arith, ints, l)
+    late (inr (e, _)) = omega (arith, ints, e)
+
+    after : from ≤ℤ b.start → IsAfter (record { start = from; slot = None }) b.start b.key.slot
+    after le = elim (order from b.start) [
+      | inl less ↦ inl less
+      | inr o ↦ elim o [ inl e ↦ inr (e, tt) | inr more ↦ absurd (omega (arith, ints, le, more)) ]
+    ]
 
 -- ---- all that are left
 

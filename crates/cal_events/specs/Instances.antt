@@ -9,6 +9,8 @@ use Rattle.profile.specs.events.ZonedTimes.{clock_of}
 use Rattle.profile.specs.events.EventRules.{IsOnDay}
 use Rattle.profile.specs.events.Events as profile
 use Rattle.profile.specs.events.Starts.{IsOverridden, IsStart}
+use Rattle.cal_zones.specs.Kinds.{zone_of}
+use Rattle.cal_zones.specs.declared.clock.Clock.{Clock}
 use Rattle.cal_events.specs.Events.{event_of}
 use Rattle.cal_events.specs.declared.component.EventComponent.{EventComponent}
 use Rattle.cal_events.specs.declared.rule_days.RuleDays.{RuleDays}
@@ -107,6 +109,13 @@ IsSooner (Some x) (Some y) r = ((r ≡ Some x) × (IsBefore y x → ⊥)) ⊎ ((
 -- on no other day of the master's rule is a start to come
 abbrev pub HasPassed : Option EventComponent → List EventComponent → Bound → RuleDays → Type 0
 HasPassed master overrides bound days = (c : EventComponent) → master ≡ Some c → AreWalked (event_of c) (map event_of overrides) bound days
+
+-- what a local time means on the clocks of DTSTART's zone is what it means on these
+abbrev pub IsOfClock : profile.Event → Clock → Type 0
+IsOfClock event clock = (local t u : ℤ) → Means (zone_of clock.zone) local t → Means (clock_of event.times.zone) local u → u ≡ t
+
+abbrev pub HasClock : Option EventComponent → Clock → Type 0
+HasClock master clock = (c : EventComponent) → master ≡ Some c → IsOfClock (event_of c) clock
 
 -- the place of the instance at a start
 abbrev pub own_place : ℤ → Place

@@ -9,9 +9,10 @@ ghost use Rattle.profile.specs.checker.Instances.{Booked, horizon};
 ghost use Rattle.profile.specs.events.Starts.{IsGiven, IsOverridden, IsStart, IsInstance, EndsAt, key_at};
 ghost use Rattle.cal_events.specs.Calendars.{key_of, instance_of};
 ghost use Rattle.cal_events.specs.SaidMeetings.{said_meeting};
+ghost use Rattle.cal_zones.specs.Kinds.{zone_of};
 ghost use Rattle.cal_events.specs.Events.{event_of, zone_said};
 ghost use Rattle.cal_events.specs.Meetings.{IsNamed};
-ghost use Rattle.cal_events.specs.Instances.{IsAfter, IsPastSlot, IsBefore, IsAscending, IsWanted, NoneBefore, AreWalked, StayWalked, IsLeast, lesser, IsAt, IsMovedTo, IsSoonest, IsSooner, HasGoodClock, HasPassed, IsHeldAt, IsHeld, own_place};
+ghost use Rattle.cal_events.specs.Instances.{IsAfter, IsPastSlot, IsBefore, IsAscending, IsWanted, NoneBefore, AreWalked, StayWalked, IsLeast, lesser, IsAt, IsMovedTo, IsSoonest, IsSooner, HasGoodClock, HasPassed, IsOfClock, HasClock, IsHeldAt, IsHeld, own_place};
 ghost use Rattle.cal_events.specs.declared.component.EventComponent.{EventComponent};
 
 use crate::component::EventComponent;
@@ -23,6 +24,7 @@ use crate::rule_days::RuleDays;
 use crate::zoned::ZonedTime;
 use cal_days::Day;
 use cal_rules::Rule;
+use cal_zones::{Clock, Zone};
 use ical_values::LocalTime;
 
 /// Where an instance lies among those of its event.
@@ -92,7 +94,10 @@ pub struct Instances<'a> {
     after: Bound,
     /// On none of the master's other rule days is one to come.
     days: RuleDays<'a>,
+    /// Those of DTSTART's zone.
+    clock: Clock,
     ghost passed: { HasPassed event.now.master event.now.overrides.items after days },
+    ghost reads: { HasClock event.now.master clock },
 }
 
 impl<'a> Instances<'a> {
@@ -111,6 +116,7 @@ impl<'a> Instances<'a> {
             event,
             after,
             days: days_from(event, from),
+            clock: clock_of(event),
         }
     }
 }
@@ -126,7 +132,7 @@ impl<'a> Iterator for Instances<'a> {
     ghost remaining = { λ _. endless };
 
     fn next(&mut self) -> Option<Instance<'a>> {
-        let place = first_place(self.event, self.after, &mut self.days)?;
+        let place = first_place(self.event, self.after, &mut self.days, &mut self.clock)?;
         self.after = Bound {
             start: place.start,
             slot: Some(place.slot),
@@ -190,16 +196,19 @@ fn first_given(
     master: &EventComponent,
     after: Bound,
     days: &mut RuleDays<'_>,
+    clock: &mut Clock,
 ) -> Option<i64>
     requires master { event.now.master ≡ Some master.now }
     requires meaning { IsOneMeaning (clock_of (event_of master.now).times.zone) }
     requires ascending { IsAscending (clock_of (event_of master.now).times.zone) }
     requires walked { AreWalked (event_of master.now) (map event_of event.now.overrides.items) after days.old }
+    requires reads { IsOfClock (event_of master.now) clock.old }
     ensures first { IsLeast (λ t. IsGiven (event_of master.now).times (event_of master.now).rule t × IsWanted (event_of master.now) (map event_of event.now.overrides.items) after t) result }
     ensures walked { AreWalked (event_of master.now) (map event_of event.now.overrides.items) after days.new }
+    ensures reads { IsOfClock (event_of master.now) clock.new }
 {
     match &master.rule {
-        Some(rule) => first_on_rule(event, master, rule, after, days),
+        Some(rule) => first_on_rule(event, master, rule, after, days, clock),
         None => {
             let start = master.times.instant.instant();
             wanted_at(event, after, start)
@@ -224,19 +233,22 @@ fn first_on_rule(
     _rule: &Rule,
     after: Bound,
     days: &mut RuleDays<'_>,
+    clock: &mut Clock,
 ) -> Option<i64>
     requires rule { master.now.rule ≡ Some _rule.now }
     requires master { event.now.master ≡ Some master.now }
     requires meaning { IsOneMeaning (clock_of (event_of master.now).times.zone) }
     requires ascending { IsAscending (clock_of (event_of master.now).times.zone) }
     requires walked { AreWalked (event_of master.now) (map event_of event.now.overrides.items) after days.old }
+    requires reads { IsOfClock (event_of master.now) clock.old }
     ensures first { IsLeast (λ t. IsGiven (event_of master.now).times (event_of master.now).rule t × IsWanted (event_of master.now) (map event_of event.now.overrides.items) after t) result }
     ensures walked { AreWalked (event_of master.now) (map event_of event.now.overrides.items) after days.new }
+    ensures reads { IsOfClock (event_of master.now) clock.new }
 {
     let (_, second) = master.times.start.local.day_and_second();
     pass_given(after, days);
     while let Some(found) = days.next() {
-        let start = start_on(&master.times.start, found, second);
+        let start = start_by(clock, found, second);
         if is_wanted(event, after, start) {
             days.put_back(found, start);
             return Some(start);
@@ -265,6 +277,28 @@ pub(crate) fn start_on(time: &ZonedTime, day: Day, second: u32) -> i64
 {
     let local = LocalTime::of_day(day, second).unwrap();
     time.clock().resolve(local)
+}
+
+/// The instant that a second of a day means on clocks.
+fn start_by(clock: &mut Clock, day: Day, second: u32) -> i64
+    requires day { day ≤ℤ pos 2_932_896 }
+    requires second { second < 86_400 }
+    ensures meaning { Means (zone_of clock.old.zone) (local_time (day_index day) second) result }
+    ensures range { IsNearEpoch result }
+    ensures zone { clock.new.zone ≡ clock.old.zone }
+{
+    let local = LocalTime::of_day(day, second).unwrap();
+    clock.resolve(local)
+}
+
+/// The clocks of the zone of the master's DTSTART.
+fn clock_of(event: &Event) -> Clock
+    ensures { HasClock event.now.master result }
+{
+    match &event.master {
+        Some(master) => Clock::of(master.times.start.clock()),
+        None => Clock::of(Zone::utc()),
+    }
 }
 
 /// The place of the first override that is to come.
@@ -353,15 +387,22 @@ fn first_day(master: &EventComponent, rule: &Rule, overrides: &[EventComponent],
 }
 
 /// The first place that is to come.
-fn first_place(event: &Event, after: Bound, days: &mut RuleDays<'_>) -> Option<Place>
-    requires { HasPassed event.now.master event.now.overrides.items after days.old }
+fn first_place(
+    event: &Event,
+    after: Bound,
+    days: &mut RuleDays<'_>,
+    clock: &mut Clock,
+) -> Option<Place>
+    requires passed { HasPassed event.now.master event.now.overrides.items after days.old }
+    requires reads { HasClock event.now.master clock.old }
     ensures first { IsSoonest (IsHeld event.now.master event.now.overrides.items after) result }
     ensures passed { HasPassed event.now.master event.now.overrides.items after days.new }
+    ensures reads { HasClock event.now.master clock.new }
 {
     let moved = first_moved(event.overrides.as_slice(), after);
     match &event.master {
         Some(master) => {
-            let start = first_start(event, master, after, days);
+            let start = first_start(event, master, after, days, clock);
             sooner(own_place(start), moved)
         }
         None => moved,
@@ -374,14 +415,17 @@ fn first_start(
     master: &EventComponent,
     after: Bound,
     days: &mut RuleDays<'_>,
+    clock: &mut Clock,
 ) -> Option<i64>
     requires master { event.now.master ≡ Some master.now }
     requires clock { HasGoodClock (event_of master.now) }
     requires walked { AreWalked (event_of master.now) (map event_of event.now.overrides.items) after days.old }
+    requires reads { IsOfClock (event_of master.now) clock.old }
     ensures first { IsLeast (λ t. IsStart (event_of master.now) (map event_of event.now.overrides.items) t × IsAfter after t t) result }
     ensures walked { AreWalked (event_of master.now) (map event_of event.now.overrides.items) after days.new }
+    ensures reads { IsOfClock (event_of master.now) clock.new }
 {
-    let given = first_given(event, master, after, days);
+    let given = first_given(event, master, after, days, clock);
     let added = first_added(event, after);
     lesser(given, added)
 }

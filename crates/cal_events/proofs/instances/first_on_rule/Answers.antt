@@ -5,62 +5,65 @@ use Rattle.profile.specs.series.Days.{day_index}
 use Rattle.profile.specs.events.EventRules.{IsOnDay}
 use Rattle.cal_events.specs.Events.{event_of}
 use Rattle.cal_events.proofs.InstanceLemmas.{last_of_rule, first_of_rule, none_of_rule}
+use Rattle.cal_events.proofs.ClockLemmas.{means_by, same_clock}
 use Rattle.cal_events.proofs.Walks.{walked_on, walked_out, walked_back}
 use Rattle.cal_events.proofs.instances.first_on_rule.Goals as goal
 
 pub loop-found-init : goal.loop-found-init
-loop-found-init c = c.pass_given.ensures (event_of c.args.master.now) (map event_of c.args.event.now.overrides.items) c.requires.walked
+loop-found-init c = (c.pass_given.ensures (event_of c.args.master.now) (map event_of c.args.event.now.overrides.items) c.requires.walked, c.requires.reads)
 
-pub start_on-start-requires-clause-day : goal.start_on-start-requires-clause-day
-start_on-start-requires-clause-day c =
+pub start_by-start-requires-clause-day : goal.start_by-start-requires-clause-day
+start_by-start-requires-clause-day c =
     let rule = c.args._rule.now in
-    let step = c.in-Some.ensures rule (c.loop-found.invariant.listed rule c.requires.rule) in
+    let step = c.in-Some.ensures rule (c.loop-found.invariant.0.listed rule c.requires.rule) in
     let last = last_of_rule rule (day_index c.in-Some.found) step.2.0.holds in
     omega (arith, ints, last)
 
 pub put_back-requires : goal.put_back-requires
 put_back-requires c =
     let rule = c.args._rule.now in
-    (c.in-Some.ensures rule (c.loop-found.invariant.listed rule c.requires.rule)).1
+    (c.in-Some.ensures rule (c.loop-found.invariant.0.listed rule c.requires.rule)).1
 
 pub returns-then-is_wanted-clause-first : goal.returns-then-is_wanted-clause-first
 returns-then-is_wanted-clause-first c =
     let d = c.day_and_second-second.result in
     let on : IsOnDay c.args.master.now.times.start.local (day_index d.0) d.1 = (c.day_and_second-second.ensures.second, omega (arith, ints, c.day_and_second-second.ensures.sum, c.day_and_second-second.type_inv)) in
-    let same : to_z w64 (of_z w64 c.start_on-start.result) ≡ c.start_on-start.result = omega (arith, ints, c.start_on-start.ensures.range) in
+    let same : to_z w64 (of_z w64 c.start_by-start.result) ≡ c.start_by-start.result = omega (arith, ints, c.start_by-start.ensures.range) in
     let rule = c.args._rule.now in
-    let walked = c.loop-found.invariant in
+    let walked = c.loop-found.invariant.0 in
     let step = c.in-Some.ensures rule (walked.listed rule c.requires.rule) in
     rw same (first_of_rule (event_of c.args.master.now) (map event_of c.args.event.now.overrides.items) c.args.after rule c.requires.rule c.requires.meaning (day_index d.0) d.1 on c.loop-found.days.from walked.none
-    c.requires.ascending (day_index c.in-Some.found) step.2.0 c.start_on-start.result c.start_on-start.ensures.meaning (rw same at ((c.if-is_wanted.ensures c.args.master.now c.requires.master).0 refl)))
+    c.requires.ascending (day_index c.in-Some.found) step.2.0 c.start_by-start.result (means_by c.args.master.now c.loop-found.clock _ c.start_by-start.result c.loop-found.invariant.1 c.start_by-start.ensures.meaning) (rw same at ((c.if-is_wanted.ensures c.args.master.now c.requires.master).0 refl)))
 
 pub returns-then-is_wanted-clause-walked : goal.returns-then-is_wanted-clause-walked
 returns-then-is_wanted-clause-walked c =
     let d = c.day_and_second-second.result in
     let on : IsOnDay c.args.master.now.times.start.local (day_index d.0) d.1 = (c.day_and_second-second.ensures.second, omega (arith, ints, c.day_and_second-second.ensures.sum, c.day_and_second-second.type_inv)) in
-    let same : to_z w64 (of_z w64 c.start_on-start.result) ≡ c.start_on-start.result = omega (arith, ints, c.start_on-start.ensures.range) in
+    let same : to_z w64 (of_z w64 c.start_by-start.result) ≡ c.start_by-start.result = omega (arith, ints, c.start_by-start.ensures.range) in
     let rule = c.args._rule.now in
-    let walked = c.loop-found.invariant in
+    let walked = c.loop-found.invariant.0 in
     let step = c.in-Some.ensures rule (walked.listed rule c.requires.rule) in
     walked_back (event_of c.args.master.now) (map event_of c.args.event.now.overrides.items) c.args.after rule c.requires.rule c.requires.meaning (day_index d.0) d.1 on c.loop-found.days c.next.new.self walked
-    c.in-Some.found c.start_on-start.result c.put_back.new.self step c.start_on-start.ensures.meaning
+    c.in-Some.found c.start_by-start.result c.put_back.new.self step (means_by c.args.master.now c.loop-found.clock _ c.start_by-start.result c.loop-found.invariant.1 c.start_by-start.ensures.meaning)
     (c.put_back.ensures.days rule c.loop-found.days.from step.0 step.2.0 step.2.1) c.put_back.ensures.from c.put_back.ensures.first (c.put_back.ensures.start ∙ same)
 
 pub loop-found-preserved : goal.loop-found-preserved
 loop-found-preserved c =
     let d = c.day_and_second-second.result in
     let on : IsOnDay c.args.master.now.times.start.local (day_index d.0) d.1 = (c.day_and_second-second.ensures.second, omega (arith, ints, c.day_and_second-second.ensures.sum, c.day_and_second-second.type_inv)) in
-    let same : to_z w64 (of_z w64 c.start_on-start.result) ≡ c.start_on-start.result = omega (arith, ints, c.start_on-start.ensures.range) in
+    let same : to_z w64 (of_z w64 c.start_by-start.result) ≡ c.start_by-start.result = omega (arith, ints, c.start_by-start.ensures.range) in
     let rule = c.args._rule.now in
-    let walked = c.loop-found.invariant in
-    let step = c.in-Some.ensures rule (walked.listed rule c.requires.rule) in
-    walked_on (event_of c.args.master.now) (map event_of c.args.event.now.overrides.items) c.args.after rule c.requires.rule c.requires.meaning (day_index d.0) d.1 on c.loop-found.days c.next.new.self walked
-    c.in-Some.found c.start_on-start.result step c.start_on-start.ensures.meaning (λ w. false≢true ((c.if-is_wanted.ensures c.args.master.now c.requires.master).1 (rw same w)))
+    let walked = c.loop-found.invariant.0 in
+    let step = c.in-Some.ensures rule (walked.listed rule c.requires.rule) in (
+      walked_on (event_of c.args.master.now) (map event_of c.args.event.now.overrides.items) c.args.after rule c.requires.rule c.requires.meaning (day_index d.0) d.1 on c.loop-found.days c.next.new.self walked
+          c.in-Some.found c.start_by-start.result step (means_by c.args.master.now c.loop-found.clock _ c.start_by-start.result c.loop-found.invariant.1 c.start_by-start.ensures.meaning) (λ w. false≢true ((c.if-is_wanted.ensures c.args.master.now c.requires.master).1 (rw same w))),
+      same_clock c.args.master.now c.loop-found.clock c.start_by-start.new.clock c.start_by-start.ensures.zone c.loop-found.invariant.1,
+    )
 
 pub loop-found-smaller : goal.loop-found-smaller
 loop-found-smaller c =
     let rule = c.args._rule.now in
-    let step = c.in-Some.ensures rule (c.loop-found.invariant.listed rule c.requires.rule) in
+    let step = c.in-Some.ensures rule (c.loop-found.invariant.0.listed rule c.requires.rule) in
     let last = last_of_rule rule (day_index c.in-Some.found) step.2.0.holds in
     omega (arith, last, step.2.0.not_before, step.2.1)
 
@@ -69,7 +72,7 @@ returns-clause-first c =
     let d = c.day_and_second-second.result in
     let on : IsOnDay c.args.master.now.times.start.local (day_index d.0) d.1 = (c.day_and_second-second.ensures.second, omega (arith, ints, c.day_and_second-second.ensures.sum, c.day_and_second-second.type_inv)) in
     let rule = c.args._rule.now in
-    let walked = c.loop-found.invariant in
+    let walked = c.loop-found.invariant.0 in
     let step = c.in_default.ensures rule (walked.listed rule c.requires.rule) in
     none_of_rule (event_of c.args.master.now) (map event_of c.args.event.now.overrides.items) c.args.after rule c.requires.rule c.requires.meaning (day_index d.0) d.1 on c.loop-found.days.from walked.none step.2.0
 
@@ -78,6 +81,12 @@ returns-clause-walked c =
     let d = c.day_and_second-second.result in
     let on : IsOnDay c.args.master.now.times.start.local (day_index d.0) d.1 = (c.day_and_second-second.ensures.second, omega (arith, ints, c.day_and_second-second.ensures.sum, c.day_and_second-second.type_inv)) in
     let rule = c.args._rule.now in
-    let walked = c.loop-found.invariant in
+    let walked = c.loop-found.invariant.0 in
     let step = c.in_default.ensures rule (walked.listed rule c.requires.rule) in
     walked_out (event_of c.args.master.now) (map event_of c.args.event.now.overrides.items) c.args.after rule c.requires.rule c.requires.meaning (day_index d.0) d.1 on c.loop-found.days c.next.new.self walked step
+
+pub returns-then-is_wanted-clause-reads : goal.returns-then-is_wanted-clause-reads
+returns-then-is_wanted-clause-reads c = same_clock c.args.master.now c.loop-found.clock c.start_by-start.new.clock c.start_by-start.ensures.zone c.loop-found.invariant.1
+
+pub returns-clause-reads : goal.returns-clause-reads
+returns-clause-reads c = c.loop-found.invariant.1

@@ -3,7 +3,7 @@ use Rattle.std.specs.Prelude.{Contains}
 use Rattle.std.proofs.lemmas.Option.{same_Some}
 use Rattle.cal_events.specs.Events.{event_of}
 use Rattle.cal_events.specs.declared.component.EventComponent.{EventComponent}
-use Rattle.cal_events.specs.Instances.{IsSoonest, IsMovedTo, AreWalked}
+use Rattle.cal_events.specs.Instances.{IsSoonest, IsMovedTo, AreWalked, IsOfClock}
 use Rattle.cal_events.proofs.InstanceLemmas.{first_with_master, first_without}
 use Rattle.cal_events.proofs.instances.first_place.Goals as goal
 
@@ -26,3 +26,11 @@ pub returns-in-None-clause-first : goal.returns-in-None-clause-first
 returns-in-None-clause-first c =
     let moved = subst (λ (l : List EventComponent). IsSoonest (λ p. (o : EventComponent) × Contains l o × IsMovedTo o c.args.after p) c.first_moved-moved.result) c.as_slice.ensures.value c.first_moved-moved.ensures in
     first_without c.args.event.now.overrides.items c.args.after c.args.event.now.master c.in-None.is c.first_moved-moved.result moved
+
+pub returns-in-Some-clause-reads : goal.returns-in-Some-clause-reads
+returns-in-Some-clause-reads c d is =
+    let same = same_Some c.in-Some.master d (sym c.in-Some.is ∙ is) in
+    subst (λ (x : EventComponent). IsOfClock (event_of x) c.first_start-start.new.clock) same c.first_start-start.ensures.reads
+
+pub first_start-start-requires-clause-reads : goal.first_start-start-requires-clause-reads
+first_start-start-requires-clause-reads c = c.requires.reads c.in-Some.master c.in-Some.is
