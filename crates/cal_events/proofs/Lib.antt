@@ -45,5 +45,6 @@ mod ClockLemmas
 mod InOrder
 mod HiddenLemmas
 mod WholeLists
+mod PlaceLemmas
 mod Overlaps
 mod SingleStartLemmas

@@ -54,7 +54,7 @@ placed a b =
       ]
     ]
 
-past : (last : Option ℤ) (a b : ℤ) → IsPastSlot last a → a <ℤ b → IsPastSlot last b
+pub past : (last : Option ℤ) (a b : ℤ) → IsPastSlot last a → a <ℤ b → IsPastSlot last b
 past None a b h l = tt
 past (Some k) a b h l = omega (arith, ints, h, l)
 

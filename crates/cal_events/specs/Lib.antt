@@ -10,6 +10,8 @@ pub mod SaidMeetings
 pub mod Ordered
 pub mod RuleDaysLeft
 pub mod Instances
+pub mod PlaceOrder
+pub mod Places
 pub mod Left
 pub mod GivenWhole
 pub mod Overlapping

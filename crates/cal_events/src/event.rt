@@ -14,6 +14,7 @@ ghost use Rattle.cal_events.specs.Meetings.{instants_said, IsNotOne, IsNamed};
 ghost use Rattle.profile.specs.events.Starts.{IsInstance, IsFirstOverlap};
 ghost use Rattle.cal_events.specs.Instances.{HasGoodClock};
 ghost use Rattle.cal_events.specs.Ordered.{Hides, Adds, AreStartsOf};
+ghost use Rattle.cal_events.specs.Places.{ArePlaces};
 ghost use Rattle.cal_events.specs.Overlapping.{HaveOneEnd, AreDated};
 ghost use Rattle.cal_events.specs.declared.component.EventComponent.{EventComponent};
 
@@ -22,6 +23,7 @@ use crate::instance::Instance;
 use crate::instances::{Instances, is_start};
 use crate::instants::Instants;
 use crate::overlapping::first_sharing;
+use crate::places::Places;
 use crate::reading::read_events;
 use crate::sweep::Span;
 use ical_lines::{Fault, Limits, Refusal, Unfolded};
@@ -39,11 +41,14 @@ pub struct Event {
     pub(crate) hidden: Instants,
     /// The starts that RDATE gives.
     pub(crate) added: Instants,
+    /// Where the overrides lie.
+    pub(crate) places: Places,
     ghost clock: { (component : EventComponent) → master ≡ Some component → HasGoodClock (event_of component) },
     ghost hides: { (component : EventComponent) → master ≡ Some component → Hides (event_of component) (map event_of overrides.items) hidden },
     ghost ends: { HaveOneEnd (record { master = option_map event_of master; overrides = map event_of overrides.items }) },
     ghost dated: { AreDated (record { master = option_map event_of master; overrides = map event_of overrides.items }) },
     ghost adds: { (component : EventComponent) → master ≡ Some component → Adds (event_of component) (map event_of overrides.items) added },
+    ghost placed: { ArePlaces overrides.items places },
 }
 
 impl Event {
@@ -215,11 +220,13 @@ impl Divided {
         } = self;
         let hidden = hidden_of(&master, instants)?;
         let added = added_of(alloc, &master, &hidden)?;
+        let places = Places::of(alloc, &overrides)?;
         Ok(Event {
             master,
             overrides,
             hidden,
             added,
+            places,
         })
     }
 }

@@ -36,7 +36,7 @@ pub(crate) struct Place {
 
 impl Place {
     /// Whether it comes before another.
-    fn is_before(self, other: Place) -> bool
+    pub(crate) fn is_before(self, other: Place) -> bool
         ensures { IsTrue result ↔ IsBefore self other }
     {
         if self.start == other.start {
@@ -56,7 +56,7 @@ pub(crate) struct Bound {
 
 impl Bound {
     /// Whether an instance of that start and that slot is to come.
-    fn admits(self, start: i64, slot: i64) -> bool
+    pub(crate) fn admits(self, start: i64, slot: i64) -> bool
         ensures { IsTrue result ↔ IsAfter self start slot }
     {
         if self.start == start {
@@ -159,16 +159,6 @@ pub(crate) fn is_start(instant: i64, hidden: &Instants) -> bool
         return false;
     }
     !hidden.has(instant)
-}
-
-/// Whether an override stands for an instant.
-fn stands_for(component: &EventComponent, instant: i64) -> bool
-    ensures { IsTrue result ↔ (component.now.recurrence ≡ Some instant) }
-{
-    match component.recurrence {
-        Some(slot) => slot == instant,
-        None => false,
-    }
 }
 
 /// The first start after a bound that RDATE adds.
@@ -302,26 +292,10 @@ fn clock_of(event: &Event) -> Clock
 }
 
 /// The place of the first override that is to come.
-fn first_moved(overrides: &[EventComponent], after: Bound) -> Option<Place>
-    ensures { IsSoonest (λ p. (o : EventComponent) × Contains overrides.now o × IsMovedTo o after p) result }
+fn first_moved(event: &Event, after: Bound) -> Option<Place>
+    ensures { IsSoonest (λ p. (o : EventComponent) × Contains event.now.overrides.items o × IsMovedTo o after p) result }
 {
-    let mut first = None;
-    for component in overrides {
-        first = sooner(first, moved_at(component, after));
-    }
-    first
-}
-
-/// The place of an override, if it is to come.
-fn moved_at(component: &EventComponent, after: Bound) -> Option<Place>
-    ensures { IsSoonest (IsMovedTo component.now after) result }
-{
-    let slot = component.recurrence?;
-    let start = component.times.instant.instant();
-    if after.admits(start, slot) {
-        return Some(Place { start, slot });
-    }
-    None
+    event.places.first(after)
 }
 
 /// The one of two places that comes first, where there are any.
@@ -337,16 +311,12 @@ fn sooner(a: Option<Place>, b: Option<Place>) -> Option<Place>
 }
 
 /// The override that lies at a place.
-fn override_at<'a>(overrides: &'a [EventComponent], place: Place) -> Option<&'a EventComponent>
-    ensures found { IfSome result (λ o. Contains overrides.now o.now × IsAt o.now place) }
-    ensures none { IfNone result ((o : EventComponent) → Contains overrides.now o → IsAt o place → ⊥) }
+fn override_at<'a>(event: &'a Event, place: Place) -> Option<&'a EventComponent>
+    ensures found { IfSome result (λ o. Contains event.now.overrides.items o.now × IsAt o.now place) }
+    ensures none { IfNone result ((o : EventComponent) → Contains event.now.overrides.items o → IsAt o place → ⊥) }
 {
-    for component in overrides {
-        if stands_for(component, place.slot) && component.times.instant.instant() == place.start {
-            return Some(component);
-        }
-    }
-    None
+    let which = event.places.which(place)?;
+    Some(&event.overrides[which])
 }
 
 /// The days of the master's rule that may start at an instant or later.
@@ -399,7 +369,7 @@ fn first_place(
     ensures passed { HasPassed event.now.master event.now.overrides.items after days.new }
     ensures reads { HasClock event.now.master clock.new }
 {
-    let moved = first_moved(event.overrides.as_slice(), after);
+    let moved = first_moved(event, after);
     match &event.master {
         Some(master) => {
             let start = first_start(event, master, after, days, clock);
@@ -447,10 +417,7 @@ fn instance_at<'a>(event: &'a Event, place: Place) -> Instance<'a>
     ensures start { result.start ≡ place.start }
     ensures slot { result.key.slot ≡ place.slot }
 {
-    match (
-        override_at(event.overrides.as_slice(), place),
-        &event.master,
-    ) {
+    match (override_at(event, place), &event.master) {
         (Some(component), _) => {
             instance_from(component, component.times.instant.instant(), place.slot)
         }

@@ -12,6 +12,7 @@ mod instances;
 mod instants;
 mod occurrences;
 mod overlapping;
+mod places;
 mod properties;
 mod reading;
 mod rule_days;

@@ -13,8 +13,7 @@ first_start-start-requires-clause-clock c = c.args.event.now.clock c.in-Some.mas
 pub returns-in-Some-clause-first : goal.returns-in-Some-clause-first
 returns-in-Some-clause-first c =
     let os = c.args.event.now.overrides.items in
-    let moved = subst (λ (l : List EventComponent). IsSoonest (λ p. (o : EventComponent) × Contains l o × IsMovedTo o c.args.after p) c.first_moved-moved.result) c.as_slice.ensures.value c.first_moved-moved.ensures in
-    first_with_master os c.args.after c.args.event.now.master c.in-Some.master c.in-Some.is c.first_start-start.result c.own_place.result c.first_moved-moved.result c.sooner.result c.first_start-start.ensures.first c.own_place.ensures moved c.sooner.ensures
+    first_with_master os c.args.after c.args.event.now.master c.in-Some.master c.in-Some.is c.first_start-start.result c.own_place.result c.first_moved-moved.result c.sooner.result c.first_start-start.ensures.first c.own_place.ensures c.first_moved-moved.ensures c.sooner.ensures
 
 pub returns-in-Some-clause-passed : goal.returns-in-Some-clause-passed
 returns-in-Some-clause-passed c d is =
@@ -24,8 +23,7 @@ returns-in-Some-clause-passed c d is =
 
 pub returns-in-None-clause-first : goal.returns-in-None-clause-first
 returns-in-None-clause-first c =
-    let moved = subst (λ (l : List EventComponent). IsSoonest (λ p. (o : EventComponent) × Contains l o × IsMovedTo o c.args.after p) c.first_moved-moved.result) c.as_slice.ensures.value c.first_moved-moved.ensures in
-    first_without c.args.event.now.overrides.items c.args.after c.args.event.now.master c.in-None.is c.first_moved-moved.result moved
+    first_without c.args.event.now.overrides.items c.args.after c.args.event.now.master c.in-None.is c.first_moved-moved.result c.first_moved-moved.ensures
 
 pub returns-in-Some-clause-reads : goal.returns-in-Some-clause-reads
 returns-in-Some-clause-reads c d is =

@@ -12,14 +12,14 @@ use Rattle.cal_events.proofs.instances.instance_at.Goals as goal
 pub instance_from-requires-in-None-Some : goal.instance_from-requires-in-None-Some
 instance_from-requires-in-None-Some c =
     let event = c.args.event.now in
-    let none = subst (λ (os : List EventComponent). (o : EventComponent) → Contains os o → IsAt o c.args.place → ⊥) c.as_slice.ensures.value c.in-None-Some.ensures.none in
+    let none = c.in-None-Some.ensures.none in
     let there = master_there event.master event.overrides.items c.args.place c.requires none c.in-None-Some.master c.in-None-Some.is-1 in
     (omega (arith, ints, there.1.in_dates), omega (arith, ints, there.1.in_dates))
 
 pub unreachable-requires : goal.unreachable-requires
 unreachable-requires c =
     let event = c.args.event.now in
-    let none = subst (λ (os : List EventComponent). (o : EventComponent) → Contains os o → IsAt o c.args.place → ⊥) c.as_slice.ensures.value c.in-None-None.ensures.none in
+    let none = c.in-None-None.ensures.none in
     nothing_there event.master event.overrides.items c.args.place c.requires none c.in-None-None.is-1
 
 pub returns-in-Some-default-clause-instance : goal.returns-in-Some-default-clause-instance
@@ -31,7 +31,7 @@ returns-in-Some-default-clause-instance c =
     let same : to_z w64 (of_z w64 c.instant.result) ≡ c.instant.result = omega (arith, ints, c.instant.ensures.range) in
     let fits : FitsSigned w64 c.args.place.slot = search rules in
     let slot : to_z w64 (of_z w64 c.args.place.slot) ≡ c.args.place.slot = to_z-of_z fits in
-    let is = subst (λ (os : List EventComponent). Contains os o.now) c.as_slice.ensures.value found.0 in
+    let is = found.0 in
     made_of_override event o.now is (instance_of c.instance_from.result) c.instant.result c.args.place.slot found.1.0 v (rw same at c.instance_from.ensures.start) (rw slot at c.instance_from.ensures.key)
     (subst (λ (t : ℤ). EndsAt (event_of o.now).times t c.instance_from.result.end) same c.instance_from.ensures.ends)
 
@@ -39,7 +39,7 @@ pub returns-in-None-Some-clause-instance : goal.returns-in-None-Some-clause-inst
 returns-in-None-Some-clause-instance c =
     let event = c.args.event.now in
     let m = c.in-None-Some.master in
-    let none = subst (λ (os : List EventComponent). (o : EventComponent) → Contains os o → IsAt o c.args.place → ⊥) c.as_slice.ensures.value c.in-None-Some.ensures.none in
+    let none = c.in-None-Some.ensures.none in
     let there = master_there event.master event.overrides.items c.args.place c.requires none m c.in-None-Some.is-1 in
     let r = c.instance_from-in-None-Some.result in
     let near : FitsSigned w64 c.args.place.start = search rules in

@@ -1,5 +1,7 @@
-use Rattle.std.proofs.Common.{map}
+use Rattle.std.proofs.Common.{List, map, subst}
 use Rattle.cal_events.specs.Events.{event_of}
+use Rattle.cal_events.specs.Places.{ArePlaces}
+use Rattle.cal_events.specs.declared.component.EventComponent.{EventComponent}
 use Rattle.cal_events.proofs.HiddenLemmas.{hides_made, adds_made}
 use Rattle.cal_events.proofs.event.Divided.into_event.Goals as goal
 
@@ -16,4 +18,5 @@ invariant_of-result c =
       adds = λ m is.
           adds_made (event_of m) overrides hidden c.in_ok-added.added (hides_made (event_of m) overrides s.instants.items hidden c.requires.said (c.in_ok-hidden.ensures m is))
           (c.in_ok-added.ensures m is);
+      placed = subst (λ (os : List EventComponent). ArePlaces os c.in_ok-places.places) c.deref.ensures.value c.in_ok-places.ensures;
     }
