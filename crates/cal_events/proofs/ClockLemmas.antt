@@ -1,5 +1,5 @@
 -- What the clocks that an iterator keeps say of DTSTART's zone.
-use Rattle.std.proofs.Common.{◌≡◌, sym, subst, ℤ, pos}
+use Rattle.std.proofs.Common.{◌≡◌, subst, ℤ, pos}
 use Rattle.std.specs.Prelude.{Option, Some, None, option_map}
 use Rattle.profile.specs.series.Zones.{Zone, Constant, Means, IsOneMeaning}
 use Rattle.profile.specs.events.ZonedTimes.{clock_of}

@@ -1,7 +1,7 @@
 -- A calendar while its VEVENTs are read: one more VEVENT, and what overrides hide in the end.
 use Rattle.std.proofs.Common.{◌≡◌, ◌∙◌, ℕ, zero, suc, ◌+◌, ◌-◌, ◌<◌, Bool, true, false, cond, List, [], ◌∷◌, ◌++◌, map, filter, take, length, get_or, subst, sym, refl, ap, inl, inr, ◌⊎◌, arith, ℤ, pos, Ordering}
 use Rattle.std.specs.Prelude.{Option, Some, None, All, Contains, Result, Ok, Err, IfOk, IfErr, is_some, not, ◌&&◌, ◌||◌, ◌==◌}
-use Rattle.std.specs.List.{AllZip, flat_map, filter_map, list_any}
+use Rattle.std.specs.List.{AllZip, flat_map, list_any}
 use Rattle.std.proofs.lemmas.Bool.{true≢false, false≢true, and_parts}
 use Rattle.std.proofs.lemmas.Bool.Decides.{nat_tests}
 use Rattle.std.proofs.lemmas.List.{map-append, take_more, append_assoc, append-nil, get_or-map, get_or_default, length-map, length-append, get_or-append_right}
@@ -23,7 +23,7 @@ use Rattle.ical_lines.specs.declared.fault.Fault.{Fault}
 use Rattle.ical_lines.specs.declared.fault.Fault.TheVariants.{Refused, Memory}
 use Rattle.profile.specs.text.Trees.{Tree}
 use Rattle.profile.specs.checker.Calendars.{SayEvents, SaysCalendar, CalendarFault, two_masters, two_overrides}
-use Rattle.cal_events.specs.Drafts.{IsTwoOf, IsSaid, entry_said, name_said, override_key, override_keys, IsOwn, AreOwnAt, AreDrawn, IsDraft, IsMadeAt, AreShown, recurrence_at, is_shown_in}
+use Rattle.cal_events.specs.Drafts.{IsTwoOf, IsSaid, entry_said, name_said, override_keys, IsOwn, AreOwnAt, AreDrawn, IsDraft, IsMadeAt, AreShown, recurrence_at, is_shown_in}
 use Rattle.cal_events.specs.declared.calendar.Entry.{Entry}
 use Rattle.cal_events.specs.declared.instance.InstanceKey.{InstanceKey}
 use Rattle.cal_events.specs.declared.calendar.Single.{Single}

@@ -1,13 +1,14 @@
 -- Instants in order, and what a search by halves finds among them.
-use Rattle.std.proofs.Common.{◌≡◌, ◌∙◌, ℕ, ◌<◌, ◌≤◌, true, false, List, length, get_or, refl, sym, ap, subst, arith, inl, inr, ℤ, ◌<ℤ◌, ◌≤ℤ◌}
-use Rattle.std.specs.Prelude.{Contains, Some, None, int_lt, IsTrue, ◌↔◌, Result, Ok, Err}
+use Rattle.std.proofs.Common.{◌≡◌, ◌≢◌, ◌∙◌, ℕ, ◌+◌, ◌-◌, ◌<◌, ◌≤◌, true, false, List, length, get_or, refl, sym, ap, subst, arith, inl, inr, ℤ, ◌<ℤ◌, ◌≤ℤ◌}
+use Rattle.std.specs.Prelude.{AllPairs, Contains, Some, None, int_lt, IsTrue, ◌↔◌, Result, Ok, Err}
 use Rattle.std.specs.declared.cmp.Ordering.{Ordering}
 use Rattle.std.specs.declared.cmp.Ordering.TheVariants.{Less, Equal, Greater}
 use Rattle.std.specs.Ordering.{int_cmp, is_lt}
 use Rattle.std.specs.Result.{is_ok}
+use Rattle.std.specs.List.{AllAdjacentBelow}
 use Rattle.std.specs.List.Sorted.{IsSorted, IsSearchInRange, IsBinarySearchResult, IsPartitionedBy, IsPartitionPoint}
 use Rattle.std.specs.FinMap.{int_cmp-IsAntisymmetric}
-use Rattle.std.proofs.lemmas.Bool.{cases_lt, true≢false, false≢true}
+use Rattle.std.proofs.lemmas.Bool.{cases_eq, cases_lt, true≢false, false≢true}
 use Rattle.std.proofs.lemmas.Cmp.{int_ranked, int_cmp_total}
 use Rattle.std.proofs.lemmas.Int.{ints}
 use Rattle.std.proofs.lemmas.List.{get_or_default}
@@ -61,3 +62,23 @@ module _ (xs : List ℤ) (up : IsSorted int_cmp xs) where
 
     pub none_there : length xs ≤ at → IsFirstFrom xs from None
     none_there le = λ t c a. before c.0 t (omega (arith, c.1, le)) c.1 c.2 a
+
+  -- where neighbours differ all do
+  pub all_differ : AllAdjacentBelow ◌≢◌ xs (length xs) → AllPairs ◌≢◌ xs
+  all_differ apart i j d lt w e =
+      let step = far i (i + 1) d (omega arith) (omega (arith, lt, w)) in
+      let rest = far (i + 1) j d (omega (arith, lt)) w in
+      apart i d (omega (arith, lt, w)) (omega (arith, ints, step, rest, e))
+
+pub twin_neighbours : (xs : List ℤ) (next : ℕ) (d c : ℤ) → 1 ≤ next → next < length xs → get_or xs (next - 1) d ≡ get_or xs next c → AllPairs ◌≢◌ xs → ⊥
+twin_neighbours xs next d c low w e differ =
+    differ (next - 1) next c (omega (arith, low)) w (get_or_default xs (next - 1) c d (omega (arith, low, w)) ∙ e)
+
+pub one_more_apart : (xs : List ℤ) (next : ℕ) (d c : ℤ) → 1 ≤ next → next < length xs → AllAdjacentBelow ◌≢◌ xs next → (get_or xs (next - 1) d ≡ get_or xs next c → ⊥) → AllAdjacentBelow ◌≢◌ xs (next + 1)
+one_more_apart xs next d c low w h apart k e v same =
+    elim (cases_eq (k + 1) next) [
+      | inl is ↦
+          let at : k ≡ next - 1 = omega (arith, is) in
+          apart (get_or_default xs (next - 1) d e (omega (arith, low, w)) ∙ sym (ap (λ n. get_or xs n e) at) ∙ same ∙ ap (λ n. get_or xs n e) is ∙ get_or_default xs next e c w)
+      | inr other ↦ h k e (omega (arith, v, other)) same
+    ]

@@ -210,29 +210,6 @@ pub soonest_same : (P Q : Place → Type 0) (o : Option Place) → ((p : Place) 
 soonest_same P Q None f g h = λ t q. h t (g t q)
 soonest_same P Q (Some x) f g h = (f x h.0, λ u q. h.1 u (g u q))
 
--- one more override of a list
-module _ (os : List EventComponent) (bound : Bound) where
-  pub soonest_more : (k : ℕ) (o : EventComponent) (a b r : Option Place) → k < length os → o ≡ get_or os k o → IsSoonest (λ p. (c : EventComponent) × Contains (take k os) c × IsMovedTo c bound p) a
-      → IsSoonest (IsMovedTo o bound) b → IsSooner a b r → IsSoonest (λ p. (c : EventComponent) × Contains (take (k + 1) os) c × IsMovedTo c bound p) r
-  soonest_more k o a b r w e p q s =
-      soonest_same (λ p. ((c : EventComponent) × Contains (take k os) c × IsMovedTo c bound p) ⊎ IsMovedTo o bound p) (λ p. (c : EventComponent) × Contains (take (k + 1) os) c × IsMovedTo c bound p) r
-      (λ p h. elim h [
-        | inl l ↦ (l.0, subst (λ (l' : List EventComponent). Contains l' l.0) (sym grown) (Contains-append_left (take k os) (o ∷ []) l.0 l.1), l.2)
-        | inr m ↦ (o, subst (λ (l' : List EventComponent). Contains l' o) (sym grown) (Contains-push (take k os) o), m)
-      ])
-      (λ p h. elim (Contains-push_cases (take k os) o h.0 (subst (λ (l' : List EventComponent). Contains l' h.0) grown h.1)) [
-        | inl l ↦ inl (h.0, l, h.2)
-        | inr same ↦ inr (subst (λ (c : EventComponent). IsMovedTo c bound p) (sym same) h.2)
-      ])
-      (soonest_of_two (λ p. (c : EventComponent) × Contains (take k os) c × IsMovedTo c bound p) (IsMovedTo o bound) a b r p q s)
-    where
-      grown : take (k + 1) os ≡ take k os ++ o ∷ []
-      grown = take_more os k o w ∙ ap (λ y. take k os ++ y ∷ []) (sym e)
-
-  pub soonest_whole : (k : ℕ) (a : Option Place) → length os ≤ k → IsSoonest (λ p. (c : EventComponent) × Contains (take k os) c × IsMovedTo c bound p) a
-      → IsSoonest (λ p. (c : EventComponent) × Contains os c × IsMovedTo c bound p) a
-  soonest_whole k a w h = subst (λ (l : List EventComponent). IsSoonest (λ p. (c : EventComponent) × Contains l c × IsMovedTo c bound p) a) (take_all k os w) h
-
 -- ---- the starts of a master
 
 module _ (master : Event) (overrides : List Event) (bound : Bound) where

@@ -69,17 +69,17 @@ module _ (ks : List Key) (up : IsSortedBy (λ a b. is_lt (key_cmp a b)) ks) wher
       differ i d (omega arith) (tie (get_or ks i d) (get_or ks (i + 1) d) far' next)
 
 -- what differs in one order differs in another
-pub pairs_distinct : (ks : List Key) → AllPairs ◌≢◌ ks → Distinct ◌≢◌ ks
+pub pairs_distinct : {X : Type 0} (ks : List X) → AllPairs ◌≢◌ ks → Distinct ◌≢◌ ks
 pairs_distinct ks p i j d hi hj ne e =
     elim (cases_order i j) [
       | inl same ↦ ne same
       | inr w ↦ elim w [ inl lt ↦ p i j d lt hj e | inr lt ↦ p j i d lt hi (sym e) ]
     ]
 
-pub distinct_pairs : (ks : List Key) → Distinct ◌≢◌ ks → AllPairs ◌≢◌ ks
+pub distinct_pairs : {X : Type 0} (ks : List X) → Distinct ◌≢◌ ks → AllPairs ◌≢◌ ks
 distinct_pairs ks h i j d lt w e = h i j d (omega arith) w (omega arith) e
 
-pub pairs_permutation : (xs ys : List Key) → IsPermutation xs ys → AllPairs ◌≢◌ xs → AllPairs ◌≢◌ ys
+pub pairs_permutation : {X : Type 0} (xs ys : List X) → IsPermutation xs ys → AllPairs ◌≢◌ xs → AllPairs ◌≢◌ ys
 pairs_permutation xs ys same p = distinct_pairs ys (distinct_permutation ◌≢◌ xs ys same (pairs_distinct xs p))
 
 -- ---- keys that borrow their texts

@@ -1,14 +1,13 @@
 -- The keys of one meeting among keys in order: two searches by halves find them, and their slots ascend.
-use Rattle.std.proofs.Common.{◌≡◌, ◌≢◌, ◌∙◌, ℕ, ◌+◌, ◌<◌, ◌≤◌, Bool, true, false, List, [], ◌∷◌, ◌++◌, length, get_or, take, drop, map, sym, ap, refl, subst, inl, inr, arith, zero, suc, ℤ, ◌<ℤ◌, Ordering, get_or-drop, take-append-drop, length-drop, append-nil}
-use Rattle.std.specs.Prelude.{All, AllPairs, Contains, filter, ◌↔◌}
+use Rattle.std.proofs.Common.{◌≡◌, ◌≢◌, ◌∙◌, ℕ, ◌+◌, ◌<◌, ◌≤◌, Bool, true, false, List, [], ◌∷◌, ◌++◌, length, get_or, take, drop, map, sym, ap, refl, subst, arith, zero, suc, ◌<ℤ◌, Ordering, get_or-drop, take-append-drop, length-drop, append-nil}
+use Rattle.std.specs.Prelude.{AllPairs, Contains, filter}
 use Rattle.std.specs.declared.cmp.Ordering.TheVariants.{Less, Equal, Greater}
 use Rattle.std.specs.Ordering.{is_lt, is_eq, ordering_then, ordering_index, ordering_reverse, nat_cmp, int_cmp}
 use Rattle.std.specs.Cmp.{IsTotalOrder}
 use Rattle.std.specs.Cmp.Lexicographic.{slice_cmp}
-use Rattle.std.specs.List.Sorted.{IsSortedByKey, IsNonDecreasingBy, IsPartitionedBy, IsPartitionPoint}
+use Rattle.std.specs.List.Sorted.{IsNonDecreasingBy, IsPartitionedBy, IsPartitionPoint}
 use Rattle.std.proofs.lemmas.Bool.{true≢false}
 use Rattle.std.proofs.lemmas.Cmp.{on_total, then_total, nat_list_cmp_total, int_ranked}
-use Rattle.std.proofs.lemmas.List.{length-map, get_or-map}
 use Rattle.std.proofs.lemmas.List.Elements.{filter-append, filter_passes}
 use Rattle.std.proofs.lemmas.List.Kept.{AllPairs-filter}
 use Rattle.std.proofs.lemmas.List.Sorted.{searchable_from_sorted, sorted_far, ranks_by}

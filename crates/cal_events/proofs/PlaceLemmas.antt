@@ -1,6 +1,6 @@
 -- The places of overrides: in order, and what two searches by halves find among them.
-use Rattle.std.proofs.Common.{◌≡◌, ◌∙◌, ℕ, zero, suc, ◌+◌, ◌<◌, ◌≤◌, Bool, true, false, not, ◌&&◌, ◌||◌, List, [], ◌∷◌, ◌++◌, length, get_or, take, subst, sym, refl, ap, inl, inr, ◌⊎◌, arith, ℤ, ◌<ℤ◌, Ordering}
-use Rattle.std.specs.Prelude.{Option, Some, None, All, Contains, IsTrue, ◌↔◌, int_lt}
+use Rattle.std.proofs.Common.{◌≡◌, ◌∙◌, ℕ, zero, suc, ◌+◌, ◌<◌, ◌≤◌, Bool, true, false, not, ◌&&◌, ◌||◌, List, [], ◌∷◌, ◌++◌, length, get_or, subst, sym, refl, ap, inl, inr, ◌⊎◌, arith, ℤ, ◌<ℤ◌, Ordering}
+use Rattle.std.specs.Prelude.{Option, Some, None, All, Contains, IsTrue, int_lt}
 use Rattle.std.specs.List.{list_any}
 use Rattle.std.specs.declared.cmp.Ordering.TheVariants.{Less, Equal, Greater}
 use Rattle.std.specs.Ordering.{is_lt, int_eq, int_cmp, nat_cmp, ordering_then}

@@ -1,6 +1,6 @@
 -- Series: what they are of their masters, and that they are one for each.
-use Rattle.std.proofs.Common.{◌≡◌, ◌∙◌, ℕ, zero, suc, true, false, List, [], ◌∷◌, ◌++◌, ◌<◌, length, get_or, subst, sym, refl, ap, inl, inr, ◌⊎◌, arith, ℤ, ◌<ℤ◌, map}
-use Rattle.std.specs.Prelude.{Option, Some, None, All, Contains, is_some, option_map, ◌↔◌}
+use Rattle.std.proofs.Common.{◌≡◌, ◌∙◌, ℕ, zero, suc, true, List, [], ◌∷◌, ◌++◌, ◌<◌, length, get_or, subst, sym, refl, ap, inl, inr, ◌⊎◌, arith, ℤ, ◌<ℤ◌, map}
+use Rattle.std.specs.Prelude.{Option, Some, None, Contains, is_some, option_map}
 use Rattle.std.specs.List.{AllZip}
 use Rattle.std.specs.List.Sorted.{IsPermutation}
 use Rattle.std.proofs.lemmas.Bool.{false≢true}
@@ -13,11 +13,11 @@ use Rattle.profile.specs.series.Rules.{Parts}
 use Rattle.profile.specs.events.Events.{Event, meeting_said}
 use Rattle.profile.specs.events.Meetings.{Meeting as Whole, is_master}
 use Rattle.profile.specs.events.ZonedTimes.{EventTimes}
-use Rattle.profile.specs.events.Starts.{key_at, IsGiven, IsRuleStart, IsStart, IsInstance, EndsAt}
-use Rattle.profile.specs.events.Confirmed.{IsReplaced, IsInstanceAmong, IsOfSeries, AreReplaced, by_its_rule, IsSeries}
+use Rattle.profile.specs.events.Starts.{key_at, IsGiven, IsRuleStart, IsInstance, EndsAt}
+use Rattle.profile.specs.events.Confirmed.{IsReplaced, IsInstanceAmong, IsOfSeries, by_its_rule, IsSeries}
 use Rattle.cal_events.specs.Calendars.{key_in}
 use Rattle.cal_events.specs.Drafts.{entry_said, name_said, override_key, override_keys, IsSaid}
-use Rattle.cal_events.specs.Ruled.{AreSlotsOf, IsByItsRule, IsRuled}
+use Rattle.cal_events.specs.Ruled.{IsByItsRule, IsRuled}
 use Rattle.cal_events.specs.Meetings.{IsNamed}
 use Rattle.cal_events.specs.Overlapping.{HaveOneEnd, AreDated}
 use Rattle.cal_events.specs.Events.{event_of}
@@ -29,7 +29,7 @@ use Rattle.std.specs.List.{filter_map}
 use Rattle.cal_events.proofs.DraftKeys.{some_there, replaced_key, key_replaced, entry_overrides}
 use Rattle.cal_events.proofs.InOneOrder.{later, none_in, one_order}
 use Rattle.cal_events.proofs.OneInstance.{end_one, booked_same}
-use Rattle.cal_events.proofs.OwnSingles.{IsAtStart, of_master, at_start, from_start, master_alone, alone_master, of_both, not_a_master, steady}
+use Rattle.cal_events.proofs.OwnSingles.{of_master, at_start, from_start, master_alone, alone_master, of_both, not_a_master, steady}
 
 -- ---- lists
 

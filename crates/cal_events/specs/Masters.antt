@@ -1,5 +1,5 @@
 -- The series of a calendar while it is made, beside the masters that they are made of.
-use Rattle.std.specs.Prelude.{◌≡◌, All, List, map, true, is_some}
+use Rattle.std.specs.Prelude.{◌≡◌, All, List, true, is_some}
 use Rattle.std.specs.List.{AllZip}
 use Rattle.std.specs.List.Sorted.{IsPermutation}
 use Rattle.profile.specs.checker.Instances.{Key}

@@ -7,7 +7,7 @@ use Rattle.profile.specs.checker.Instances.{Key}
 use Rattle.profile.specs.events.Events.{Event as Said, meeting_said}
 use Rattle.profile.specs.events.Meetings.{Meeting as Whole}
 use Rattle.profile.specs.events.Confirmed.{by_its_rule}
-use Rattle.cal_events.specs.Calendars.{Meeting, key_of, key_in}
+use Rattle.cal_events.specs.Calendars.{Meeting, key_in}
 use Rattle.cal_events.specs.declared.component.EventComponent.{EventComponent}
 use Rattle.cal_events.specs.declared.event.Event.{Event}
 use Rattle.cal_events.specs.declared.instance.InstanceKey.{InstanceKey}

@@ -97,7 +97,8 @@ impl Event {
         let components = read_events(alloc, object, Purpose::Meeting)?;
         judge_meeting(&components)?;
         let divided = Divided::of(alloc, components)?;
-        if has_twins(&divided.instants) {
+        let twins = has_twins(alloc, &divided.instants)?;
+        if twins {
             return Err(Fault::Refused(Refusal::TWO_OVERRIDES));
         }
         Ok(divided.into_event(alloc)?)
@@ -277,28 +278,11 @@ fn starts_of(alloc: Global, instants: &[i64], hidden: &Instants) -> Result<Insta
     Ok(Instants::of(starts))
 }
 
-/// Whether two of the instants are one.
-fn has_twins(instants: &[i64]) -> bool
-    ensures { MatchBool result (AllPairs ◌≢◌ instants.now → ⊥) (AllPairs ◌≢◌ instants.now) }
+/// Whether two of the instants are one. In time n log n; it fails only for memory.
+fn has_twins(alloc: Global, instants: &[i64]) -> Result<bool, AllocError>
+    ensures { IfOk result (λ twins. MatchBool twins (AllPairs ◌≢◌ instants.now → ⊥) (AllPairs ◌≢◌ instants.now)) }
 {
-    for index in 0..instants.len() {
-        if has_earlier_twin(instants, index) {
-            return true;
-        }
-    }
-    false
-}
-
-/// Whether an earlier instant is the one at an index.
-fn has_earlier_twin(instants: &[i64], index: usize) -> bool
-    requires { index < length instants.now }
-    ensures { MatchBool result ((k : ℕ) × (d : ℤ) × (k < index) × (get_or instants.now k d ≡ get_or instants.now index d))
-        ((k : ℕ) (d : ℤ) → k < index → get_or instants.now k d ≢ get_or instants.now index d) }
-{
-    for earlier in 0..index {
-        if instants[earlier] == instants[index] {
-            return true;
-        }
-    }
-    false
+    let mut copy = Vec::new(alloc);
+    copy.extend_from_slice(instants)?;
+    Ok(Instants::of(copy).has_twins())
 }

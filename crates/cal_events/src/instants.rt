@@ -1,6 +1,6 @@
 //! Instants in order, among which one is looked for by halves.
 
-ghost use Rattle.std.specs.Prelude.{◌≡◌, ◌↔◌, Contains, IsTrue};
+ghost use Rattle.std.specs.Prelude.{◌≡◌, ◌≢◌, ◌↔◌, AllPairs, Contains, IsTrue, MatchBool};
 ghost use Rattle.std.specs.List.Sorted.{IsPermutation};
 ghost use Rattle.cal_events.specs.Ordered.{IsFirstFrom};
 
@@ -46,6 +46,19 @@ impl Instants {
         ensures { IsTrue result ↔ Contains self.now instant }
     {
         self.sorted.binary_search(&instant).is_ok()
+    }
+
+    /// Whether two of them are one.
+    pub(crate) fn has_twins(&self) -> bool
+        ensures { MatchBool result (AllPairs ◌≢◌ self.now → ⊥) (AllPairs ◌≢◌ self.now) }
+    {
+        let sorted = self.sorted.as_slice();
+        for next in 1..sorted.len() {
+            if sorted[next - 1] == sorted[next] {
+                return true;
+            }
+        }
+        false
     }
 
     /// The first of them that isn't before an instant.

@@ -1,13 +1,17 @@
-use Rattle.std.proofs.Common.{◌∙◌, get_or, ap, inl, inr, arith}
-use Rattle.std.proofs.lemmas.Bool.{cases_eq}
+use Rattle.std.proofs.Common.{◌≢◌, ◌++◌, ◌∙◌, ap, subst, Bool, List, ℤ, true, false}
+use Rattle.std.specs.Prelude.{AllPairs, MatchBool}
+use Rattle.std.specs.List.Sorted.{IsPermutation}
+use Rattle.std.proofs.lemmas.List.Sorted.{IsPermutation-sym}
+use Rattle.cal_events.proofs.KeyLemmas.{pairs_permutation}
 use Rattle.cal_events.proofs.event.has_twins.Goals as goal
 
-pub returns-then-has_earlier_twin : goal.returns-then-has_earlier_twin
-returns-then-has_earlier_twin c all = let t = c.if-has_earlier_twin.ensures in all t.0 c.loop-index.index t.1 t.2 (omega (arith, c.loop-index-test.true)) t.3
-
-pub loop-index-preserved : goal.loop-index-preserved
-loop-index-preserved c i j d lt below e =
-    elim (cases_eq j c.loop-index.index) [
-      | inl same ↦ c.if-has_earlier_twin.ensures i d (omega (arith, lt, same)) (e ∙ ap (λ k. get_or c.args.instants.now k d) same)
-      | inr other ↦ c.loop-index.invariant i j d lt (omega (arith, below, other)) e
-    ]
+pub returns : goal.returns
+returns c =
+    let own = c.args.instants.now in
+    let sorted = c.of.result in
+    let same = subst (λ (l : List ℤ). IsPermutation l sorted) (c.in_ok-extend_from_slice.ensures.items ∙ ap (λ (l : List ℤ). l ++ own) c.new-copy.ensures.items) c.of.ensures in
+    go own sorted same c.has_twins-2.result c.has_twins-2.ensures
+  where
+    go : (own sorted : List ℤ) → IsPermutation own sorted → (b : Bool) → MatchBool b (AllPairs ◌≢◌ sorted → ⊥) (AllPairs ◌≢◌ sorted) → MatchBool b (AllPairs ◌≢◌ own → ⊥) (AllPairs ◌≢◌ own)
+    go own sorted same true h = λ differ. h (pairs_permutation own sorted same differ)
+    go own sorted same false h = pairs_permutation sorted own (IsPermutation-sym own sorted same) h

@@ -1,9 +1,8 @@
-use Rattle.std.proofs.Common.{◌∙◌, sym, subst, List, map}
-use Rattle.std.specs.Prelude.{Contains}
+use Rattle.std.proofs.Common.{◌∙◌, sym, subst, map}
 use Rattle.std.proofs.lemmas.Option.{same_Some}
 use Rattle.cal_events.specs.Events.{event_of}
 use Rattle.cal_events.specs.declared.component.EventComponent.{EventComponent}
-use Rattle.cal_events.specs.Instances.{IsSoonest, IsMovedTo, AreWalked, IsOfClock}
+use Rattle.cal_events.specs.Instances.{AreWalked, IsOfClock}
 use Rattle.cal_events.proofs.InstanceLemmas.{first_with_master, first_without}
 use Rattle.cal_events.proofs.instances.first_place.Goals as goal
 

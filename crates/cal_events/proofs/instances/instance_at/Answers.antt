@@ -1,8 +1,5 @@
-use Rattle.std.proofs.Common.{◌≡◌, subst, arith, List, ℤ, to_z, of_z, w64, to_z-of_z, rules, FitsSigned}
-use Rattle.std.specs.Prelude.{Contains}
+use Rattle.std.proofs.Common.{◌≡◌, subst, arith, ℤ, to_z, of_z, w64, to_z-of_z, rules, FitsSigned}
 use Rattle.std.proofs.lemmas.Int.{ints}
-use Rattle.cal_events.specs.declared.component.EventComponent.{EventComponent}
-use Rattle.cal_events.specs.Instances.{IsAt}
 use Rattle.profile.specs.events.Starts.{EndsAt}
 use Rattle.cal_events.specs.Events.{event_of}
 use Rattle.cal_events.specs.Calendars.{instance_of}

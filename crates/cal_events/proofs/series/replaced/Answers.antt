@@ -1,10 +1,10 @@
-use Rattle.std.proofs.Common.{◌≡◌, ◌∙◌, ap, subst, sym, map, take, List, ℤ, arith, to_z, of_z, w64, FitsSigned, rules, to_z-of_z}
+use Rattle.std.proofs.Common.{◌≡◌, ◌∙◌, ap, subst, sym, map, arith}
 use Rattle.std.proofs.lemmas.Grind.{common_steps}
 use Rattle.std.proofs.lemmas.List.{take_all}
 use Rattle.profile.specs.events.Events.{meeting_said}
 use Rattle.cal_events.specs.Calendars.{Meeting, key_of}
 use Rattle.cal_events.specs.Events.{event_of}
-use Rattle.cal_events.specs.Ruled.{AreSlotsOf, is_of}
+use Rattle.cal_events.specs.Ruled.{AreSlotsOf}
 use Rattle.cal_events.specs.declared.instance.InstanceKey.{InstanceKey}
 use Rattle.cal_events.proofs.OwnKeys.{own_slots}
 use Rattle.cal_events.proofs.series.replaced.Goals as goal

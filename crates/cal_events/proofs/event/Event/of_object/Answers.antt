@@ -1,5 +1,5 @@
-use Rattle.std.proofs.Common.{◌∙◌, ◌≢◌, ◌<◌, sym, ap, refl, subst, List, map, length, ℤ}
-use Rattle.std.specs.Prelude.{AllPairs, option_map}
+use Rattle.std.proofs.Common.{◌∙◌, ◌≢◌, ◌<◌, sym, ap, refl, subst, Bool, List, map, length, ℤ}
+use Rattle.std.specs.Prelude.{AllPairs, MatchBool, option_map}
 use Rattle.ical_lines.specs.Fault.{RefusesBy}
 use Rattle.ical_tree.specs.Tree.{tree_of}
 use Rattle.profile.specs.events.Meetings.{Meeting as Said, AreOfOne, MeetingFault}
@@ -41,13 +41,13 @@ returns-in_err-divided-clause-stands c =
     (weaker_fault _ _ (MeetingFault (tree_of object))
     (masters_there (tree_of object) (vevents_of object) (vevents_tree object) (map event_of items) c.in_ok-components.ensures.says) c.in_err-divided.ensures.stands)
 
-pub returns-then-has_twins-clause-stands : goal.returns-then-has_twins-clause-stands
-returns-then-has_twins-clause-stands c =
+pub returns-then-twins-clause-stands : goal.returns-then-twins-clause-stands
+returns-then-twins-clause-stands c =
     let object = c.args.object.now in
     let d = c.in_ok-divided.divided in
     twins_there (tree_of object) (vevents_of object) (vevents_tree object) (map event_of c.in_ok-components.components.items) c.in_ok-components.ensures.says
     (map event_of d.overrides.items) d.instants.items c.in_ok-divided.ensures.overrides c.in_ok-divided.ensures.instants
-    (subst (λ (l : List ℤ). AllPairs ◌≢◌ l → ⊥) c.deref-2.ensures.value c.if-has_twins.ensures)
+    (subst (λ (l : List ℤ). AllPairs ◌≢◌ l → ⊥) c.deref-2.ensures.value (subst (λ (b : Bool). MatchBool b (AllPairs ◌≢◌ c.deref-2.result.now → ⊥) (AllPairs ◌≢◌ c.deref-2.result.now)) c.if-twins.true c.in_ok-twins.ensures))
 
 pub into_event-requires-clause-clock : goal.into_event-requires-clause-clock
 into_event-requires-clause-clock c =
@@ -65,7 +65,7 @@ into_event-requires-clause-ends c a b =
     (map event_of d.overrides.items) d.instants.items c.in_ok-divided.ensures.overrides c.in_ok-divided.ensures.instants meeting
     (subst (λ (l : List EventComponent). 0 < length (map event_of l)) c.deref.ensures.value c.in_ok-judge_meeting.ensures.some)
     (subst (λ (l : List EventComponent). AreOfOne (map event_of l)) c.deref.ensures.value c.in_ok-judge_meeting.ensures.one) c.in_ok-divided.ensures.master refl
-    (subst (λ (l : List ℤ). AllPairs ◌≢◌ l) c.deref-2.ensures.value c.if-has_twins.ensures) in
+    (subst (λ (l : List ℤ). AllPairs ◌≢◌ l) c.deref-2.ensures.value (subst (λ (b : Bool). MatchBool b (AllPairs ◌≢◌ c.deref-2.result.now → ⊥) (AllPairs ◌≢◌ c.deref-2.result.now)) c.if-twins.false c.in_ok-twins.ensures)) in
     λ h k start slot. ap (λ (x : Booked). x.end) (one_at (tree_of object) meeting says a b h k start slot)
 
 pub into_event-requires-clause-dated : goal.into_event-requires-clause-dated
@@ -78,7 +78,7 @@ into_event-requires-clause-dated c a =
     (map event_of d.overrides.items) d.instants.items c.in_ok-divided.ensures.overrides c.in_ok-divided.ensures.instants meeting
     (subst (λ (l : List EventComponent). 0 < length (map event_of l)) c.deref.ensures.value c.in_ok-judge_meeting.ensures.some)
     (subst (λ (l : List EventComponent). AreOfOne (map event_of l)) c.deref.ensures.value c.in_ok-judge_meeting.ensures.one) c.in_ok-divided.ensures.master refl
-    (subst (λ (l : List ℤ). AllPairs ◌≢◌ l) c.deref-2.ensures.value c.if-has_twins.ensures) in
+    (subst (λ (l : List ℤ). AllPairs ◌≢◌ l) c.deref-2.ensures.value (subst (λ (b : Bool). MatchBool b (AllPairs ◌≢◌ c.deref-2.result.now → ⊥) (AllPairs ◌≢◌ c.deref-2.result.now)) c.if-twins.false c.in_ok-twins.ensures)) in
     λ h. let x = dated (tree_of object) meeting says a h in (x.0, x.1)
 
 pub returns-clause-says : goal.returns-clause-says
@@ -92,4 +92,4 @@ returns-clause-says c =
     (subst (λ (l : List EventComponent). 0 < length (map event_of l)) c.deref.ensures.value c.in_ok-judge_meeting.ensures.some)
     (subst (λ (l : List EventComponent). AreOfOne (map event_of l)) c.deref.ensures.value c.in_ok-judge_meeting.ensures.one)
     (c.in_ok-divided.ensures.master ∙ ap (λ m. option_to_list (option_map event_of m)) (sym same.0)) (ap (map event_of) same.1)
-    (subst (λ (l : List ℤ). AllPairs ◌≢◌ l) c.deref-2.ensures.value c.if-has_twins.ensures)
+    (subst (λ (l : List ℤ). AllPairs ◌≢◌ l) c.deref-2.ensures.value (subst (λ (b : Bool). MatchBool b (AllPairs ◌≢◌ c.deref-2.result.now → ⊥) (AllPairs ◌≢◌ c.deref-2.result.now)) c.if-twins.false c.in_ok-twins.ensures))

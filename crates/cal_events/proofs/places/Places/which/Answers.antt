@@ -1,4 +1,4 @@
-use Rattle.std.proofs.Common.{◌≡◌, ◌∙◌, sym, ap, subst, List, arith, rules, get_or}
+use Rattle.std.proofs.Common.{◌∙◌, sym, ap, subst, List, arith, rules, get_or}
 use Rattle.std.specs.Prelude.{None}
 use Rattle.std.specs.List.Sorted.{IsSorted}
 use Rattle.std.proofs.lemmas.List.Sorted.{IsPartitionPoint-from_clause}
