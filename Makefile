@@ -35,9 +35,14 @@ bin/text_examples: bin/roombox FORCE
 	@cd crates/text_examples && $(RT) run -- seeks < /dev/null 2> ../../out/build.log || { cat ../../out/build.log; exit 1; }
 	@cp crates/text_examples/out/text_examples bin/text_examples
 
+# Those of events, of which bench takes the jumps to an instance.
+bin/worked_examples: bin/roombox FORCE
+	@cd crates/worked_examples && $(RT) run < /dev/null > /dev/null 2> ../../out/build.log || { cat ../../out/build.log; exit 1; }
+	@cp crates/worked_examples/out/worked_examples bin/worked_examples
+
 # One table: serving, reading, rules and checking, with sizes, times, peak memory and growth. It takes about half a minute.
-bench: bin/roombox bin/text_examples
-	python3 bench/bench.py bin/roombox bin/text_examples
+bench: bin/roombox bin/text_examples bin/worked_examples
+	python3 bench/bench.py bin/roombox bin/text_examples bin/worked_examples
 
 clean:
 	rm -rf bin out crates/*/out

@@ -2,7 +2,7 @@
 growth of the time from a tenth of the size. The peak counts the moment before the program begins too, so it is never less than
 this script's own, about 15 MiB.
 
-    python3 bench/bench.py bin/roombox bin/text_examples
+    python3 bench/bench.py bin/roombox bin/text_examples bin/worked_examples
 """
 
 import os
@@ -81,6 +81,27 @@ RRULE:{rule}
 END:VEVENT
 END:VCALENDAR
 """
+NEW_YORK = """BEGIN:VTIMEZONE
+TZID:America/New_York
+BEGIN:STANDARD
+DTSTART:20071104T020000
+RRULE:FREQ=YEARLY;BYMONTH=11;BYDAY=1SU
+TZOFFSETFROM:-0400
+TZOFFSETTO:-0500
+END:STANDARD
+BEGIN:DAYLIGHT
+DTSTART:20070311T020000
+RRULE:FREQ=YEARLY;BYMONTH=3;BYDAY=2SU
+TZOFFSETFROM:-0500
+TZOFFSETTO:-0400
+END:DAYLIGHT
+END:VTIMEZONE
+"""
+IN_NEW_YORK = SERIES.replace("BEGIN:VEVENT", NEW_YORK + "BEGIN:VEVENT").replace("DTSTART:", "DTSTART;TZID=America/New_York:")
+# The most RDATEs, EXDATEs and overrides of an event in a message.
+MOST_DATES, MOST_OVERRIDES = 366, 199
+# Instants in 2026 and in 9000 that instances are looked for from.
+SOON, LATE = 1_780_000_000, 221_900_000_000
 # Each starts on its own first day.
 RULES = (
     ("instances of a day each", "19700101T090000Z", "FREQ=DAILY"),
@@ -107,6 +128,8 @@ LISTS = (
     ("BYSETPOS", range(1, 37)),
 )
 LISTED = 95_000
+# Events that an overlap is looked for in.
+EVENTS = 2_000
 # The meetings of a room that are revised: an even number, below the limit of a room.
 MEETINGS = 9_000
 # How often a hostile object or line stands in a run, so that the program's own start counts for little.
@@ -227,11 +250,11 @@ def calendar_of_days(count):
     yield crlf("END:VCALENDAR\n")
 
 
-def run(words, stream):
-    """Seconds, peak octets and output of one run."""
+def run(words, stream, folder=None):
+    """Seconds, peak octets and output of one run, in a folder."""
     with tempfile.TemporaryFile() as output:
         begun = time.monotonic()
-        child = subprocess.Popen(words, stdin=stream, stdout=output)
+        child = subprocess.Popen(words, stdin=stream, stdout=output, cwd=folder)
         _, status, usage = os.wait4(child.pid, 0)
         seconds = time.monotonic() - begun
         child.returncode = os.waitstatus_to_exitcode(status)
@@ -263,15 +286,70 @@ def check(program, pieces, count):
     return seconds, peak, size
 
 
-def expand(program, start, rule, count):
-    """The first instances of a series."""
+def expand(program, series, first, count):
+    """The first instances of a series, of which the first is known."""
     with tempfile.TemporaryFile() as stream:
-        stream.write(crlf(SERIES.format(start=start, rule=rule)))
+        stream.write(crlf(series))
         stream.seek(0)
         seconds, peak, status, output = run([program, "expand", "--limit", str(count)], stream)
     lines = output.count(b"\n")
-    if status != 0 or lines != count or not output.startswith(f"{start} {start} 3600\n".encode()):
+    if status != 0 or lines != count or not output.startswith(f"{first} {first} 3600\n".encode()):
         sys.exit(f"expand: status {status}, {lines} lines of {count}, {output[:40]}")
+    return seconds, peak
+
+
+def in_utc(program, start, rule, count):
+    """The first instances of a series in UTC."""
+    return expand(program, SERIES.format(start=start, rule=rule), start, count)
+
+
+def in_new_york(program, count):
+    """The first instances of a daily series in New York. Before the first onset the clocks show what that ends."""
+    return expand(program, IN_NEW_YORK.format(start="19700101T090000", rule="FREQ=DAILY"), "19700101T140000Z", count)
+
+
+def changed_series(dates):
+    """A daily series with so many RDATEs and EXDATEs and a like share of overrides, and how many instances it has."""
+    overrides = dates * MOST_OVERRIDES // MOST_DATES
+    day = lambda number, hour: f"{FIRST + timedelta(days=number):%Y%m%d}T{hour:02}0000Z"
+    listed = lambda hour: ",".join(day(number, hour) for number in range(0, 2 * dates, 2))
+    series = SERIES.format(start=day(0, 9), rule=f"FREQ=DAILY;COUNT={3 * dates}\nRDATE:{listed(15)}\nEXDATE:{listed(9)}")
+    moved = "".join(
+        SERIES[SERIES.index("BEGIN:VEVENT") : SERIES.index("END:VCALENDAR")]
+        .format(start=day(number, 11), rule="")
+        .replace("RRULE:\n", f"RECURRENCE-ID:{day(number, 9)}\n")
+        for number in range(1, 2 * overrides, 2)
+    )
+    return series.replace("END:VCALENDAR", moved + "END:VCALENDAR"), 3 * dates
+
+
+def changed(program, dates):
+    """All instances of such an event, run a few times."""
+    series, count = changed_series(dates)
+    seconds, peak = 0.0, 0
+    with tempfile.TemporaryFile() as stream:
+        stream.write(crlf(series))
+        for _ in range(HOSTILE):
+            stream.seek(0)
+            taken, most, status, output = run([program, "expand", "--limit", str(count + 1)], stream)
+            if status != 0 or output.count(b"\n") != count:
+                sys.exit(f"expand: status {status}, {output.count(b'%c' % 10)} lines of {count}, {output[:40]}")
+            seconds, peak = seconds + taken, max(peak, most)
+    return seconds, peak
+
+
+def overlaps(program, instant):
+    """Events read anew and the first instance from an instant on looked for, as a table of worked examples."""
+    asked = f"overlap {instant} {instant + 86_400}"
+    text = IN_NEW_YORK.format(start="19700101T090000", rule="FREQ=DAILY").replace("\n", "\\r\\n")
+    with tempfile.TemporaryDirectory() as folder:
+        for table in ("messages.txt", "commands.txt", "calendars.txt"):
+            open(os.path.join(folder, table), "w", encoding="ascii").close()
+        with open(os.path.join(folder, "events.txt"), "w", encoding="ascii") as file:
+            file.writelines(f"{number} | text | {text} | {asked}\n" for number in range(EVENTS))
+        seconds, peak, status, output = run([os.path.abspath(program)], None, folder)
+    if status != 0 or output.count(b"\n") != EVENTS or b"none" in output:
+        sys.exit(f"overlaps: status {status}, {output[:80]}")
     return seconds, peak
 
 
@@ -346,7 +424,7 @@ def hostile(program):
     grown("attendees of an object to 64 rooms", (6_000, 60_000), lambda count: serve(program, attendees(count), asked), "octets")
     grown("octets of a line folded at each", (26_000, 260_000), lambda count: serve(program, folds(count), HOSTILE), "octets")
     grown("parameters of a line", (6_500, 65_000), lambda count: check(program, parameters(count), HOSTILE), "octets")
-    listed = lambda count: expand(program, "19700101T090000Z", rule_of_lists(count), LISTED)
+    listed = lambda count: in_utc(program, "19700101T090000Z", rule_of_lists(count), LISTED)
     grown("entries in each list of a rule", (36, 366), listed, LISTED)
 
 
@@ -366,7 +444,12 @@ def main():
     days = lambda count: check(program, calendar_of_days(count), count * (DAYS - 1))
     grown(f"meetings of {DAYS} days checked", (10_000, 100_000), days, "octets")
     for work, start, rule in RULES:
-        grown(work, (9_500, 95_000), lambda count: expand(program, start, rule, count), None)
+        grown(work, (9_500, 95_000), lambda count: in_utc(program, start, rule, count), None)
+    grown("instances of a day each in New York", (9_500, 95_000), lambda count: in_new_york(program, count), None)
+    grown("RDATEs, as many EXDATEs, half overrides", (MOST_DATES // 10, MOST_DATES), lambda count: changed(program, count), None)
+    soon, _ = overlaps(sys.argv[3], SOON)
+    late, peak = overlaps(sys.argv[3], LATE)
+    line("first overlap in 9000 against 2026", EVENTS, late, f"{int(EVENTS / late)}/s", peak, f"{late / soon:.1f}")
     grown("VEVENTs of an event, a zone each", (20, 200), lambda count: zoned(program, count), None)
     seeks(sys.argv[2])
     hostile(program)

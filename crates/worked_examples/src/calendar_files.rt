@@ -1,15 +1,19 @@
 //! What is answered about an object as a calendar.
 
 use crate::certificates::verdict_text;
-use cal_events::{Calendar, ParticipationStatus, Purpose, read_events};
+use cal_events::{Calendar, ParticipationStatus, Purpose, Series, read_events};
 use clash_check::check;
 use example_cases::NoAnswer;
 use example_cases::answers::append;
 use example_cases::spelled::octets_of;
+use example_cases::words::number;
 use ical_lines::{Limits, Unfolded};
 use ical_tree::read_object;
 use ical_values::Address;
 use std::alloc::Global;
+
+/// So many starts of a series are listed at most.
+const LISTED: u32 = 4;
 
 pub fn kept(alloc: Global, octets: &[u8], room: &Address) -> Result<String, NoAnswer> {
     let calendar = Calendar::read(alloc, octets, room)?;
@@ -28,6 +32,37 @@ pub fn counted(alloc: Global, octets: &[u8], room: &Address) -> Result<String, N
     let object = read_object(alloc, &text, Limits::Open)?;
     let calendar = Calendar::of_object(alloc, &object, room)?;
     Ok(calendar.single_count().to_string(alloc)?)
+}
+
+/// The series, each with its width and its first starts at an instant or later.
+pub fn series(
+    alloc: Global,
+    octets: &[u8],
+    room: &Address,
+    from: &str,
+) -> Result<String, NoAnswer> {
+    let from = number(from)?;
+    let calendar = Calendar::read(alloc, octets, room)?;
+    let mut list = calendar.series_count().to_string(alloc)?;
+    for series in calendar.series() {
+        let item = starts(alloc, series, from)?;
+        append(&mut list, ", ", item.as_str())?;
+    }
+    Ok(list)
+}
+
+/// The width of a series, and its first starts at an instant or later, each with its end.
+fn starts(alloc: Global, series: &Series, from: i64) -> Result<String, NoAnswer> {
+    let mut list = series.width().to_string(alloc)?;
+    let mut starts = series.starts(from);
+    for _ in 0..LISTED {
+        let Some(instance) = starts.next() else {
+            break;
+        };
+        let item = format!(in alloc; "{} to {}", instance.start, instance.end)?;
+        append(&mut list, " ", item.as_str())?;
+    }
+    Ok(list)
 }
 
 pub fn answered(alloc: Global, octets: &[u8], room: &Address) -> Result<String, NoAnswer> {

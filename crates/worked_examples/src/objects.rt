@@ -3,6 +3,7 @@
 //!
 //!     kept ROOM               how many singles the calendar has for a room, and their organisers, slots, starts and ends
 //!     counted ROOM            how many singles, where the object was read before
+//!     series ROOM INSTANT     how many series, and of each its width and its first starts from an instant on
 //!     answers ROOM            when each event ends, and what the room answered
 //!     times                   the start and the length of each VEVENT, in seconds
 //!     ends                    the instant at which each VEVENT ends
@@ -15,7 +16,7 @@
 //!     parts ROOM              the parts for a room
 //!     addressed ROOM          whether the message names the room
 
-use crate::calendar_files::{answered, checked, counted, ends, kept, times};
+use crate::calendar_files::{answered, checked, counted, ends, kept, series, times};
 use crate::event_files::{event, instances, overlap};
 use crate::message_files::{addressed, components, message, parts};
 use example_cases::answers::Answers;
@@ -78,6 +79,7 @@ fn room_answer(alloc: Global, octets: &[u8], call: &str, input: &str) -> Result<
     match call {
         "kept" => kept(alloc, octets, &room),
         "counted" => counted(alloc, octets, &room),
+        "series" => series(alloc, octets, &room, text),
         "answers" => answered(alloc, octets, &room),
         "check" => checked(alloc, octets, &room, text),
         "parts" => parts(alloc, octets, &room),
