@@ -1,5 +1,5 @@
 -- What `expand` prints, put together.
-use Rattle.std.proofs.Common.{◌≡◌, ◌∙◌, ap, sym, refl, subst, inl, inr, ◌⊎◌, ℕ, suc, ◌+◌, ◌<◌, List, [], ◌∷◌, ◌++◌, append_assoc, append-nil, length-append, decimal, arith, ℤ, pos, negsuc, ◌+ℤ◌, ◌-ℤ◌, ◌<ℤ◌, ◌≤ℤ◌, unsigned_abs}
+use Rattle.std.proofs.Common.{◌≡◌, ◌∙◌, ap, sym, refl, subst, inl, inr, ◌⊎◌, ℕ, suc, ◌+◌, ◌-◌, ◌<◌, slice_range, take, drop, length, take_all, List, [], ◌∷◌, ◌++◌, append_assoc, append-nil, length-append, decimal, arith, ℤ, pos, negsuc, ◌+ℤ◌, ◌-ℤ◌, ◌<ℤ◌, ◌≤ℤ◌, unsigned_abs}
 use Rattle.std.specs.Prelude.{Option, Some, None, Contains}
 use Rattle.std.specs.List.{AllZip, concat}
 use Rattle.std.specs.Io.KnownBytes.{Appends}
@@ -59,6 +59,15 @@ line_there b before a c after slot start seconds p q is e f g = (
   },
   g ∙ ap (λ l. l ++ (decimal seconds ++ 10 ∷ [])) (f ∙ ap (λ l. l ++ (start ++ 32 ∷ [])) e) ∙ joined before slot (32 ∷ []) start (decimal seconds) (10 ∷ []),
 )
+
+-- what was appended last, once more
+pub appended_again : (xs t : List ℕ) (n m : ℕ) → n ≡ length xs → m ≡ length (xs ++ t) → slice_range (xs ++ t) n m ≡ t
+appended_again xs t n m e f =
+    ap (λ k. slice_range (xs ++ t) k m) e ∙ ap (take (m - length xs)) (behind xs t) ∙ take_all (m - length xs) t (omega (arith, f, length-append xs t))
+  where
+    behind : (xs t : List ℕ) → drop (length xs) (xs ++ t) ≡ t
+    behind [] t = refl
+    behind (x ∷ xs) t = behind xs t
 
 -- and one that it doesn't have
 pub no_line : (b : Booked) (before : List ℕ) → (HasLine b → ⊥) → (line : List ℕ) × IsLineOf b line × (before ≡ before ++ line)

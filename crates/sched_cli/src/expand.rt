@@ -146,8 +146,7 @@ impl InstanceLines {
         let Some(start) = Stamp::of_instant(instance.start) else {
             return Ok(());
         };
-        append_start(&mut self.text, slot)?;
-        append_start(&mut self.text, start)?;
+        append_starts(&mut self.text, slot, start)?;
         let seconds = instance.end.abs_diff(instance.start);
         append_seconds(&mut self.text, seconds)?;
         Ok(())
@@ -165,6 +164,20 @@ impl InstanceLines {
         self.text.clear();
         Ok(())
     }
+}
+
+/// The original start and the start. Where they are one, as for most instances, its text is made once.
+fn append_starts(out: &mut Vec<u8>, slot: Stamp, start: Stamp) -> Result<(), AllocError>
+    ensures { OnOk result ((first : List ℕ) × (second : List ℕ) × WritesStamp first slot × WritesStamp second start
+        × (out.new.items ≡ (out.old.items ++ (first ++ 32 ∷ [])) ++ (second ++ 32 ∷ []))) }
+{
+    let from = out.len();
+    append_start(out, slot)?;
+    if slot == start {
+        out.extend_from_within(from..)?;
+        return Ok(());
+    }
+    append_start(out, start)
 }
 
 /// A start, and what parts it from the next column.

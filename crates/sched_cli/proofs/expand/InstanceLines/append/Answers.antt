@@ -1,4 +1,4 @@
-use Rattle.std.proofs.Common.{◌≡◌, subst, ℤ, to_z, of_z, w64, to_z-of_z, FitsSigned, rules}
+use Rattle.std.proofs.Common.{◌≡◌, ◌++◌, ◌∷◌, [], refl, subst, ℤ, to_z, of_z, w64, to_z-of_z, FitsSigned, rules}
 use Rattle.std.proofs.lemmas.Bool.{false≢true}
 use Rattle.profile.specs.text.Values.{WritesStamp}
 use Rattle.cal_events.specs.Calendars.{instance_of}
@@ -28,9 +28,8 @@ returns c =
     let start : to_z w64 (of_z w64 i.start) ≡ i.start = to_z-of_z start_fits in
     let end_fits : FitsSigned w64 i.end = search rules in
     let end : to_z w64 (of_z w64 i.end) ≡ i.end = to_z-of_z end_fits in
-    let first = c.in_ok-append_start.ensures in
-    let second = c.in_ok-append_start-2.ensures in
-    line_there (instance_of i) c.args.self.now.text.items c.append_start.new.out.items c.append_start-2.new.out.items c.append_seconds.new.out.items first.0 second.0 c.abs_diff-seconds.result
-    (subst (λ (t : ℤ). WritesStamp first.0 t) (rw slot at c.in-Some.ensures.value) first.1)
-    (subst (λ (t : ℤ). WritesStamp second.0 t) (rw start at c.in-Some-of_instant.ensures.value) second.1)
-    (rw start at (rw end at c.abs_diff-seconds.ensures)) first.2 second.2 c.in_ok-append_seconds.ensures
+    let (first, second, writes, also, grown) = c.in_ok-append_starts.ensures in
+    line_there (instance_of i) c.args.self.now.text.items (c.args.self.now.text.items ++ (first ++ 32 ∷ [])) c.append_starts.new.out.items c.append_seconds.new.out.items first second c.abs_diff-seconds.result
+    (subst (λ (t : ℤ). WritesStamp first t) (rw slot at c.in-Some.ensures.value) writes)
+    (subst (λ (t : ℤ). WritesStamp second t) (rw start at c.in-Some-of_instant.ensures.value) also)
+    (rw start at (rw end at c.abs_diff-seconds.ensures)) refl grown c.in_ok-append_seconds.ensures
