@@ -97,7 +97,7 @@ TZOFFSETTO:-0400
 END:DAYLIGHT
 END:VTIMEZONE
 """
-IN_NEW_YORK = SERIES.replace("BEGIN:VEVENT", NEW_YORK + "BEGIN:VEVENT").replace("DTSTART:", "DTSTART;TZID=America/New_York:")
+IN_NEW_YORK = SERIES.replace("DTSTART:", "DTSTART;TZID=America/New_York:").replace("BEGIN:VEVENT", NEW_YORK + "BEGIN:VEVENT")
 # The most RDATEs, EXDATEs and overrides of an event in a message.
 MOST_DATES, MOST_OVERRIDES = 366, 199
 # Instants in 2026 and in 9000 that instances are looked for from.
