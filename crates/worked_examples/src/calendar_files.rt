@@ -1,7 +1,7 @@
 //! What is answered about an object as a calendar.
 
 use crate::certificates::verdict_text;
-use cal_events::{Calendar, ParticipationStatus, Purpose, Series, read_events};
+use cal_events::{Calendar, Instances, ParticipationStatus, Purpose, Series, read_events};
 use clash_check::check;
 use example_cases::NoAnswer;
 use example_cases::answers::append;
@@ -56,13 +56,25 @@ fn starts(alloc: Global, series: &Series, from: i64) -> Result<String, NoAnswer>
     let mut list = series.width().to_string(alloc)?;
     let mut starts = series.starts(from);
     for _ in 0..LISTED {
-        let Some(instance) = starts.next() else {
+        if !add_next(alloc, &mut starts, &mut list)? {
             break;
-        };
-        let item = format!(in alloc; "{} to {}", instance.start, instance.end)?;
-        append(&mut list, " ", item.as_str())?;
+        }
     }
     Ok(list)
+}
+
+/// Adds the next start to a list, if there is one.
+fn add_next(
+    alloc: Global,
+    starts: &mut Instances<'_>,
+    list: &mut String,
+) -> Result<bool, NoAnswer> {
+    let Some(instance) = starts.next() else {
+        return Ok(false);
+    };
+    let item = format!(in alloc; "{} to {}", instance.start, instance.end)?;
+    append(list, " ", item.as_str())?;
+    Ok(true)
 }
 
 pub fn answered(alloc: Global, octets: &[u8], room: &Address) -> Result<String, NoAnswer> {
