@@ -308,7 +308,7 @@ def in_new_york(program, count):
     return expand(program, IN_NEW_YORK.format(start="19700101T090000", rule="FREQ=DAILY"), "19700101T140000Z", count)
 
 
-def changed_series(dates):
+def series_with_exceptions(dates):
     """A daily series with so many RDATEs and EXDATEs and a like share of overrides, and how many instances it has."""
     overrides = dates * MOST_OVERRIDES // MOST_DATES
     day = lambda number, hour: f"{FIRST + timedelta(days=number):%Y%m%d}T{hour:02}0000Z"
@@ -323,9 +323,9 @@ def changed_series(dates):
     return series.replace("END:VCALENDAR", moved + "END:VCALENDAR"), 3 * dates
 
 
-def changed(program, dates):
+def with_exceptions(program, dates):
     """All instances of such an event, run a few times."""
-    series, count = changed_series(dates)
+    series, count = series_with_exceptions(dates)
     seconds, peak = 0.0, 0
     with tempfile.TemporaryFile() as stream:
         stream.write(crlf(series))
@@ -446,7 +446,7 @@ def main():
     for work, start, rule in RULES:
         grown(work, (9_500, 95_000), lambda count: in_utc(program, start, rule, count), None)
     grown("instances of a day each in New York", (9_500, 95_000), lambda count: in_new_york(program, count), None)
-    grown("RDATEs, as many EXDATEs, half overrides", (MOST_DATES // 10, MOST_DATES), lambda count: changed(program, count), None)
+    grown("RDATEs, as many EXDATEs, half overrides", (MOST_DATES // 10, MOST_DATES), lambda count: with_exceptions(program, count), None)
     soon, _ = overlaps(sys.argv[3], SOON)
     late, peak = overlaps(sys.argv[3], LATE)
     line("first overlap in 9000 against 2026", EVENTS, late, f"{int(EVENTS / late)}/s", peak, f"{late / soon:.1f}")
