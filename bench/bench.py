@@ -323,17 +323,17 @@ def series_with_exceptions(dates):
     return series.replace("END:VCALENDAR", moved + "END:VCALENDAR"), 3 * dates
 
 
-def with_exceptions(program, dates):
-    """All instances of such an event, run a few times."""
-    series, count = series_with_exceptions(dates)
+def all_instances(program, series, count):
+    """All instances of an event, of which there are so many, run a few times."""
     seconds, peak = 0.0, 0
     with tempfile.TemporaryFile() as stream:
         stream.write(crlf(series))
         for _ in range(HOSTILE):
             stream.seek(0)
             taken, most, status, output = run([program, "expand", "--limit", str(count + 1)], stream)
-            if status != 0 or output.count(b"\n") != count:
-                sys.exit(f"expand: status {status}, {output.count(b'%c' % 10)} lines of {count}, {output[:40]}")
+            lines = output.count(b"\n")
+            if status != 0 or lines != count:
+                sys.exit(f"expand: status {status}, {lines} lines of {count}, {output[:60]}")
             seconds, peak = seconds + taken, max(peak, most)
     return seconds, peak
 
@@ -353,20 +353,11 @@ def overlaps(program, instant):
     return seconds, peak
 
 
-def zoned(program, count):
-    """All instances of an event of so many VEVENTs, each of which names a zone of its own, run a few times: each zone is read once."""
+def zoned(count):
+    """An event of so many VEVENTs, each of which names a zone of its own: each zone is read once."""
     zones = "".join(ZONE.format(number=number) for number in range(count))
     events = "".join(ZONED.format(number=number, recurrence=f"RECURRENCE-ID:{stamp(number)}\n" if number else "") for number in range(count))
-    seconds, peak = 0.0, 0
-    with tempfile.TemporaryFile() as stream:
-        stream.write(crlf(f"BEGIN:VCALENDAR\nVERSION:2.0\n{zones}{events}END:VCALENDAR\n"))
-        for _ in range(HOSTILE):
-            stream.seek(0)
-            taken, most, status, output = run([program, "expand", "--limit", str(count + 1)], stream)
-            if status != 0 or output.count(b"\n") != count:
-                sys.exit(f"expand in zones: status {status}, {output[:60]}")
-            seconds, peak = seconds + taken, max(peak, most)
-    return seconds, peak
+    return f"BEGIN:VCALENDAR\nVERSION:2.0\n{zones}{events}END:VCALENDAR\n", count
 
 
 def seek(program, start, rule, target):
@@ -446,11 +437,11 @@ def main():
     for work, start, rule in RULES:
         grown(work, (9_500, 95_000), lambda count: in_utc(program, start, rule, count), None)
     grown("instances of a day each in New York", (9_500, 95_000), lambda count: in_new_york(program, count), None)
-    grown("RDATEs, as many EXDATEs, half overrides", (MOST_DATES // 10, MOST_DATES), lambda count: with_exceptions(program, count), None)
+    grown("RDATEs, as many EXDATEs, half overrides", (MOST_DATES // 10, MOST_DATES), lambda count: all_instances(program, *series_with_exceptions(count)), None)
     soon, _ = overlaps(sys.argv[3], SOON)
     late, peak = overlaps(sys.argv[3], LATE)
     line("first overlap in 9000 against 2026", EVENTS, late, f"{int(EVENTS / late)}/s", peak, f"{late / soon:.1f}")
-    grown("VEVENTs of an event, a zone each", (20, 200), lambda count: zoned(program, count), None)
+    grown("VEVENTs of an event, a zone each", (20, 200), lambda count: all_instances(program, *zoned(count)), None)
     seeks(sys.argv[2])
     hostile(program)
     empty = b"BEGIN:VCALENDAR\r\nVERSION:2.0\r\nEND:VCALENDAR\r\n"

@@ -6,7 +6,7 @@ use Rattle.std.specs.declared.cmp.Ordering.TheVariants.{Less, Equal, Greater}
 use Rattle.std.specs.Ordering.{is_lt, int_eq, int_cmp, nat_cmp, ordering_then}
 use Rattle.std.specs.Cmp.{IsTotalOrder}
 use Rattle.std.specs.List.Sorted.{IsPermutation, IsSorted, IsPartitionedBy, IsPartitionPoint}
-use Rattle.std.proofs.lemmas.Bool.{true≢false, false≢true, cases_lt}
+use Rattle.std.proofs.lemmas.Bool.{true≢false, false≢true, and_parts, cases_lt}
 use Rattle.std.proofs.lemmas.Bool.Decides.{Decides-int_eq}
 use Rattle.std.proofs.lemmas.Cmp.{on_total, then_total, nat_cmp_total, int_cmp_total, int_ranked}
 use Rattle.std.proofs.lemmas.Int.{ints}
@@ -38,10 +38,6 @@ both_true : (a b : Bool) → a ≡ true → b ≡ true → (a && b) ≡ true
 both_true true true p q = refl
 both_true true false p q = q
 both_true false b p q = p
-
-parts_true : (a b : Bool) → (a && b) ≡ true → (a ≡ true) × (b ≡ true)
-parts_true true b h = (refl, h)
-parts_true false b h = absurd (false≢true h)
 
 or_left : (a b : Bool) → a ≡ true → (a || b) ≡ true
 or_left true b p = refl
@@ -82,7 +78,7 @@ to_come_is after m (inr (e, p)) = or_right (int_lt after.start m.start) _ (both_
 pub is_after : (after : Bound) (m : Moved) → is_to_come after m ≡ true → IsAfter after m.start m.slot
 is_after after m h = elim (or_parts (int_lt after.start m.start) _ h) [
   | inl l ↦ inl (is_less after.start m.start l)
-  | inr r ↦ let p = parts_true (int_eq after.start m.start) _ r in inr (is_same after.start m.start p.0, is_past after.slot m.slot p.1)
+  | inr r ↦ let p = and_parts (int_eq after.start m.start) _ r in inr (is_same after.start m.start p.0, is_past after.slot m.slot p.1)
 ]
 
 pub left_is : (place : Place) (m : Moved) → IsBefore (place_of m) place → is_left_of place m ≡ true
@@ -92,7 +88,7 @@ left_is place m (inr (e, l)) = or_right (int_lt m.start place.start) _ (both_tru
 pub is_left : (place : Place) (m : Moved) → is_left_of place m ≡ true → IsBefore (place_of m) place
 is_left place m h = elim (or_parts (int_lt m.start place.start) _ h) [
   | inl l ↦ inl (is_less m.start place.start l)
-  | inr r ↦ let p = parts_true (int_eq m.start place.start) _ r in inr (is_same m.start place.start p.0, is_less m.slot place.slot p.1)
+  | inr r ↦ let p = and_parts (int_eq m.start place.start) _ r in inr (is_same m.start place.start p.0, is_less m.slot place.slot p.1)
 ]
 
 pub same_place : (m : Moved) (place : Place) → m.start ≡ place.start → m.slot ≡ place.slot → place_of m ≡ place
@@ -318,7 +314,7 @@ module _ (os : List EventComponent) (ms : List Moved) (are : ArePlaces os ms) wh
   pub has_place : (o : EventComponent) (place : Place) → Contains os o → IsAt o place → (m : Moved) × Contains ms m × (place_of m ≡ place)
   has_place o place (k, w, e) at =
       let f = any_found (is_there place) ms (are.1 k o place w (subst (λ (c : EventComponent). IsAt c place) (sym e) at)) in
-      let p = parts_true (int_eq f.0.start place.start) (int_eq f.0.slot place.slot) f.2 in
+      let p = and_parts (int_eq f.0.start place.start) (int_eq f.0.slot place.slot) f.2 in
       (f.0, f.1, same_place f.0 place (is_same f.0.start place.start p.0) (is_same f.0.slot place.slot p.1))
 
   pub moved_first : (after : Bound) (r : Option Place) → IsSoonest (IsPlaceToCome ms after) r → IsSoonest (λ p. (o : EventComponent) × Contains os o × IsMovedTo o after p) r

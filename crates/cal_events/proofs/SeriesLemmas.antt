@@ -6,7 +6,7 @@ use Rattle.std.specs.List.Sorted.{IsPermutation}
 use Rattle.std.proofs.lemmas.Bool.{false≢true}
 use Rattle.std.proofs.lemmas.Int.{ints}
 use Rattle.std.proofs.lemmas.List.{get_or_default}
-use Rattle.std.proofs.lemmas.List.Elements.{All-contains}
+use Rattle.std.proofs.lemmas.List.Elements.{All-contains, Contains-append_left, Contains-append_right}
 use Rattle.std.proofs.lemmas.List.Sorted.{Contains-permutation, IsPermutation-sym}
 use Rattle.profile.specs.checker.Instances.{Key, Booked}
 use Rattle.profile.specs.series.Rules.{Parts}
@@ -32,15 +32,6 @@ use Rattle.cal_events.proofs.OneInstance.{end_one, booked_same}
 use Rattle.cal_events.proofs.OwnSingles.{of_master, at_start, from_start, master_alone, alone_master, of_both, not_a_master, steady}
 
 -- ---- lists
-
-in_first : {X : Type 0} (xs ys : List X) (x : X) → Contains xs x → Contains (xs ++ ys) x
-in_first [] ys x c = absurd (none_in x c)
-in_first (y ∷ xs) ys x (zero, w, e) = (zero, omega arith, e)
-in_first (y ∷ xs) ys x (suc k, w, e) = later y x (xs ++ ys) (in_first xs ys x (k, omega (arith, w), e))
-
-in_second : {X : Type 0} (xs ys : List X) (x : X) → Contains ys x → Contains (xs ++ ys) x
-in_second [] ys x c = c
-in_second (y ∷ xs) ys x c = later y x (xs ++ ys) (in_second xs ys x c)
 
 in_one_of : {X : Type 0} (xs ys : List X) (x : X) → Contains (xs ++ ys) x → Contains xs x ⊎ Contains ys x
 in_one_of [] ys x c = inr c
@@ -76,13 +67,13 @@ module _ (events : List Event) (master : Event) (is : is_master master ≡ true)
             starts = record {
               given = inl g;
               in_dates = x.starts.in_dates;
-              not_excepted = λ c. x.starts.not_excepted (in_first master.exceptions s.replaced b.start c);
+              not_excepted = λ c. x.starts.not_excepted (Contains-append_left master.exceptions s.replaced b.start c);
               not_overridden = x.starts.not_overridden;
             };
             key = x.key;
             ends = x.ends;
           });
-          shown = λ _ t. x.starts.not_excepted (in_second master.exceptions s.replaced b.start (s.are.all b.start t));
+          shown = λ _ t. x.starts.not_excepted (Contains-append_right master.exceptions s.replaced b.start (s.are.all b.start t));
         },
         record { master = is; rule = r.0; has = r.1; starts = r.2 },
       )
