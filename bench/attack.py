@@ -118,7 +118,8 @@ def refusal(said, functions):
     for name, verdict in VERDICT.findall(said):
         if (not functions or is_in(name, functions)) and verdict != "proved" and not BY_A_CALL.match(verdict):
             at = re.escape("proofs/" + "/".join(name.split("::")[1:]) + "/")
-            errors = re.findall(rf"^(?:\./)?{at}\S+: error: (.*)$", said, re.MULTILINE)
+            # what is wrong may stand on the indented lines below
+            errors = re.findall(rf"^(?:\./)?{at}\S+: error: (.*(?:\n[ \t].*)*)$", said, re.MULTILINE)
             is_named = errors and all(BY_A_NAME.search(it) for it in errors) and "did not prove" not in verdict
             return "by a name alone" if is_named else "by its goals"
     return None

@@ -119,7 +119,7 @@ module _ (meeting : Meeting) (from to : ℤ) where
 
   module _ (old new : Instances) (h : StillLeft meeting from to old) where
     pub none_shares : GivesFirst old None new → (b : Booked) → IsInstance meeting b → SharesInstant b.start b.end from to → ⊥
-    none_shares given b is s = given.1 b (h.all b is s)
+    none_shares given b is s = given.1.0 b (h.all b is s)
 
     module _ (i : Instance) (given : GivesFirst old (Some i) new) where
       abbrev it : Booked

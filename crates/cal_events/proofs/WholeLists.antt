@@ -124,7 +124,7 @@ module _ (meeting : Meeting) (one : (a b : Booked) → IsInstance meeting a → 
   all_left left [] of_meeting (no_more own rest given) = record {
     each = λ k d w. absurd (omega (arith, w));
     ordered = λ i j d l w. absurd (omega (arith, w));
-    whole = λ b h. absurd (given.1 b h);
+    whole = λ b h. absurd (given.1.0 b h);
   }
   all_left left (x ∷ more) of_meeting (one_more own rest i others given later) =
       more_left own rest i others of_meeting given (all_left rest others (ap (λ e. said_meeting e.now) given.0 ∙ of_meeting) later)

@@ -12,10 +12,10 @@ use Rattle.cal_events.specs.declared.instances.Instances.{Instances}
 abbrev pub IsLeft : Instances → Booked → Type 0
 IsLeft instances b = IsInstance (said_meeting instances.event.now) b × IsAfter instances.after b.start b.key.slot
 
--- it gave one that was left and before which none was, and then those are left that come after it; or none was left
+-- it gave one that was left and before which none was, and then those are left that come after it; or none was left, and none is
 abbrev pub GivesFirst : Instances → Option Instance → Instances → Type 0
 GivesFirst old found new =
     (new.event ≡ old.event)
-    × MatchOption found ((b : Booked) → IsLeft old b → ⊥)
+    × MatchOption found (((b : Booked) → IsLeft old b → ⊥) × (new.after ≡ old.after))
     (λ i. IsLeft old (instance_of i) × ((b : Booked) → IsLeft old b → ComesBefore b (instance_of i) → ⊥)
     × (new.after ≡ record { start = i.start; slot = Some i.key.slot }))

@@ -7,7 +7,7 @@ use Rattle.cal_events.proofs.instances.InstancesIterator.next.Goals as goal
 pub returns-in_err-place-clause-steps : goal.returns-in_err-place-clause-steps
 returns-in_err-place-clause-steps c =
     let s = c.args.self.now in
-    rw c.from_residual.ensures (refl, none_left s.event.now s.after c.first_place.result c.first_place.ensures.first c.in_err-place.was)
+    rw c.from_residual.ensures (refl, (none_left s.event.now s.after c.first_place.result c.first_place.ensures.first c.in_err-place.was, refl))
 
 pub invariant_of-self-2 : goal.invariant_of-self-2
 invariant_of-self-2 c =
