@@ -19,8 +19,8 @@ use Rattle.profile.specs.events.EventRules.{EventRuleFault, bad_rule, starts_out
 use Rattle.profile.specs.events.Occurrences.{recurs_beside_recurrence, Entry, EntryFault, entries_of, entries_named, EntriesFault, in_entry, too_many, OccurrenceFault, bad_recurrence, bad_additions, bad_exceptions, recurrence_out, additions_out, two_recurrences, ranged, recurs}
 use Rattle.cal_events.specs.declared.component.Purpose.{Purpose}
 use Rattle.cal_events.specs.declared.component.Purpose.TheVariants.{Request, Cancel, Meeting}
-use Rattle.cal_events.specs.Events.{is_message, has_unread_for, is_fault_for}
-use Rattle.profile.specs.events.Events.{is_recurrence, is_of_instances, is_end_of_event, is_unread_in_message, lacks_start, EventFault, in_times, in_rule, in_occurrences, bad_stamp, bad_uid, bad_organiser, bad_attendee, bad_sequence, no_uid, no_stamp_given, twice, no_organiser}
+use Rattle.cal_events.specs.Events.{is_message, has_unread_for, is_fault_for, is_unread_fault}
+use Rattle.profile.specs.events.Events.{EventFault, in_times, in_rule, in_occurrences, bad_stamp, bad_uid, bad_organiser, bad_attendee, bad_sequence, no_uid, no_stamp_given, twice, no_organiser}
 
 abbrev Lines : Type 0
 Lines = List (List ℕ)
@@ -103,159 +103,6 @@ pub times_refused : (object : Tree) (lines : Lines) (f : Fault) → RefusesBy (E
 times_refused object lines Memory h = tt
 times_refused object lines (Refused r) h = times_number object lines r.number h
 
--- ---- where nothing is left unread: no time names a zone
-
--- of the lines of a message
-abbrev is_read : Lines → Type 0
-is_read lines = list_any is_unread_in_message lines ≡ false
-
--- none of the lines is one that isn't read yet
-read_line : (lines : Lines) (line : List ℕ) → Contains lines line → is_read lines → is_unread_in_message line ≡ false
-read_line lines line (k, w, e) h = go (is_unread_in_message line) refl
-  where
-    go : (b : Bool) → is_unread_in_message line ≡ b → is_unread_in_message line ≡ false
-    go false is = is
-    go true is = absurd (true≢false (sym (list_any_at is_unread_in_message lines k line w (ap is_unread_in_message e ∙ is)) ∙ h))
-
--- a start or an end that is read names no zone
-read_end : (lines : Lines) (line : List ℕ) → Contains lines line → is_end_of_event line ≡ true → is_read lines → is_in_zone line ≡ false
-read_end lines line c end h =
-    let parts = or_parts (is_recurrence line) (is_end_of_event line && is_in_zone line) (read_line lines line c h) in
-    sym (ap (λ b. b && is_in_zone line) end) ∙ parts.1
-
--- a line of a name is one of the lines
-stands : (name : List ℕ) (lines : Lines) (line : List ℕ) → Contains (lines_named name lines) line → Contains lines line × (is_of name line ≡ true)
-stands name lines line c = (
-  All-contains (λ l. Contains lines l) (lines_named name lines) line (All-filter (is_of name) (λ l. Contains lines l) lines (All-contains_itself lines)) c,
-  All-contains (λ l. is_of name l ≡ true) (lines_named name lines) line (filter_passes (is_of name) lines) c,
-)
-
-read_start : (lines : Lines) (line : List ℕ) → Contains (lines_named (codes "DTSTART") lines) line → is_read lines → is_in_zone line ≡ false
-read_start lines line c h =
-    let s = stands (codes "DTSTART") lines line c in
-    read_end lines line s.0 (ap (λ b. b || is_of (codes "DTEND") line) s.1) h
-
-utc_number : (object : Tree) (o : Option (List ℕ)) (kind : TimeKind) (text : List ℕ) (n : ℕ) → is_some o ≡ false → FaultIn object o kind text n → is_event_fault n ≡ true
-utc_number object None kind text n none f = kind_number kind text n f
-utc_number object (Some name) kind text n none f = absurd (true≢false none)
-
-utc_line : (object : Tree) (line : List ℕ) (n : ℕ) → is_in_zone line ≡ false → ZonedTimeFault object line n → is_event_fault n ≡ true
-utc_line object line n none f = utc_number object (line_param (codes "TZID") line) (time_kind line) (line_value line) n none f
-
-read_times : (object : Tree) (lines : Lines) (n : ℕ) → is_read lines → EventTimesFault object lines n → is_event_fault n ≡ true
-read_times object lines n h (bad_start l) = utc_line object l.0 n (read_start lines l.0 l.1 h) l.2
-read_times object lines n h (bad_end l) =
-    let s = stands (codes "DTEND") lines l.0 l.1 in
-    utc_line object l.0 n (read_end lines l.0 s.0 (or_right (is_of (codes "DTSTART") l.0) (is_of (codes "DTEND") l.0) s.1) h) l.2
-read_times object lines n h (bad_duration l) = refl
-read_times object lines n h (ends_early x) = refl
-read_times object lines n h (ends_late x) = refl
-read_times object lines n h (lasts_long l) = refl
-read_times object lines n h (starts_out l) = refl
-read_times object lines n h (ends_out l) = refl
-read_times object lines n h (no_start x) = refl
-read_times object lines n h (times_twice name c x) = refl
-read_times object lines n h (end_and_duration e d) = refl
-
--- a rule that is read stands on no line
-read_rule : (lines : Lines) (line : List ℕ) → Contains (lines_named (codes "RRULE") lines) line → is_read lines → ⊥
-read_rule lines line c h =
-    let s = stands (codes "RRULE") lines line c in
-    let part = or_parts (is_recurrence line) (is_end_of_event line && is_in_zone line) (read_line lines line s.0 h) in
-    true≢false (sym s.1 ∙ (or_parts (is_of (codes "RRULE") line) (is_of_instances line) part.0).0)
-
-read_event_rule : (object : Tree) (lines : Lines) (n : ℕ) → is_read lines → EventRuleFault object lines n → is_event_fault n ≡ true
-read_event_rule object lines n h (bad_rule l) = absurd (read_rule lines l.0 l.1 h)
-read_event_rule object lines n h (starts_outside (start, c, l)) = absurd (read_rule lines l.0 l.1 h)
-read_event_rule object lines n h (two_rules x) = refl
-
--- ---- where no line names an instance
-
-none_of : (name : List ℕ) (p : List ℕ → Bool) → ((line : List ℕ) → p line ≡ false → is_of name line ≡ false) → (lines : Lines) → list_any p lines ≡ false → lines_named name lines ≡ []
-none_of name p w [] h = refl
-none_of name p w (line ∷ lines) h =
-    let q = or_parts (p line) (list_any p lines) h in
-    ap (λ b. cond b (line ∷ lines_named name lines) (lines_named name lines)) (w line q.0) ∙ none_of name p w lines q.1
-
-none_so : (q p : List ℕ → Bool) → ((line : List ℕ) → p line ≡ false → q line ≡ false) → (lines : Lines) → list_any p lines ≡ false → list_any q lines ≡ false
-none_so q p w [] h = refl
-none_so q p w (line ∷ lines) h =
-    let x = or_parts (p line) (list_any p lines) h in ap (λ b. b || list_any q lines) (w line x.0) ∙ none_so q p w lines x.1
-
-empty : {A : Type 0} (xs : List A) (x : A) → xs ≡ [] → Contains xs x → ⊥
-empty xs x e c = go (subst (λ ys. Contains ys x) e c)
-  where
-    go : Contains [] x → ⊥
-    go (k, w, is) = absurd (omega (arith, w))
-
-no_entries : (object : Tree) (name : List ℕ) (lines : Lines) (n : ℕ) → lines_named name lines ≡ [] → EntriesFault object name (entries_named name lines) n → ⊥
-no_entries object name lines n e (in_entry entry c f) = empty (entries_named name lines) entry (ap (flat_map entries_of) e) c
-no_entries object name lines n e (too_many more) =
-    let l : length (entries_named name lines) ≡ 0 = ap (λ (ls : Lines). length (flat_map entries_of ls)) e in
-    let over : 366 < length (entries_named name lines) = more in
-    absurd (omega (arith, l, over))
-
-instance_parts : (line : List ℕ) → is_of_instances line ≡ false
-    → (is_of (codes "RDATE") line ≡ false) × (is_of (codes "EXDATE") line ≡ false) × (is_of (codes "RECURRENCE-ID") line ≡ false)
-instance_parts line h =
-    let a = or_parts (is_of (codes "RDATE") line || is_of (codes "EXDATE") line) (is_of (codes "RECURRENCE-ID") line) h in
-    let b = or_parts (is_of (codes "RDATE") line) (is_of (codes "EXDATE") line) a.0 in (b.0, b.1, a.1)
-
--- no line names an instance
-record Unnamed (lines : Lines) : Type 0 where
-  added : lines_named (codes "RDATE") lines ≡ []
-  taken : lines_named (codes "EXDATE") lines ≡ []
-  named : lines_named (codes "RECURRENCE-ID") lines ≡ []
-  alone : recurs_beside_recurrence lines ≡ false
-
-abbrev names_instances : Lines → Bool
-names_instances lines = list_any is_of_instances lines
-
-unnamed : (lines : Lines) → names_instances lines ≡ false → Unnamed lines
-unnamed lines h =
-    let none : list_any (is_of (codes "RECURRENCE-ID")) lines ≡ false = none_so (is_of (codes "RECURRENCE-ID")) is_of_instances (λ line k. (instance_parts line k).2) lines h in
-    record {
-      added = none_of (codes "RDATE") is_of_instances (λ line k. (instance_parts line k).0) lines h;
-      taken = none_of (codes "EXDATE") is_of_instances (λ line k. (instance_parts line k).1) lines h;
-      named = none_of (codes "RECURRENCE-ID") is_of_instances (λ line k. (instance_parts line k).2) lines h;
-      alone = ap (λ b. b && list_any (λ line. is_of (codes "RRULE") line || is_of (codes "RDATE") line) lines) none;
-    }
-
-unnamed_fault : (object : Tree) (lines : Lines) (n : ℕ) → Unnamed lines → OccurrenceFault object lines n → ⊥
-unnamed_fault object lines n u (bad_recurrence l) = empty _ l.0 u.named l.1
-unnamed_fault object lines n u (bad_additions x) = no_entries object (codes "RDATE") lines n u.added x
-unnamed_fault object lines n u (bad_exceptions x) = no_entries object (codes "EXDATE") lines n u.taken x
-unnamed_fault object lines n u (recurrence_out l) = empty _ l.0 u.named l.1
-unnamed_fault object lines n u (additions_out e c out) = empty (entries_named (codes "RDATE") lines) e (ap (flat_map entries_of) u.added) c
-unnamed_fault object lines n u (two_recurrences t) = let l : length (lines_named (codes "RECURRENCE-ID") lines) ≡ 0 = ap length u.named in absurd (omega (arith, l, t))
-unnamed_fault object lines n u (ranged l) = empty _ l.0 u.named l.1
-unnamed_fault object lines n u (recurs t) = true≢false (sym t ∙ u.alone)
-
--- lines of which none names an instance have no fault of one
-pub no_occurrences : (object : Tree) (lines : Lines) (n : ℕ) → names_instances lines ≡ false → OccurrenceFault object lines n → ⊥
-no_occurrences object lines n h f = unnamed_fault object lines n (unnamed lines h) f
-
--- neither has one in which nothing is left unread
-read_instances : (lines : Lines) → is_read lines → names_instances lines ≡ false
-read_instances lines h =
-    none_so is_of_instances is_unread_in_message (λ line k.
-    (or_parts (is_of (codes "RRULE") line) (is_of_instances line)
-    (or_parts (is_recurrence line) (is_end_of_event line && is_in_zone line) k).0).1) lines h
-
-read_event : (object : Tree) (m : Bool) (lines : Lines) (n : ℕ) → is_read lines → EventFault object m lines n → is_event_fault n ≡ true
-read_event object m lines n h (in_times f) = read_times object lines n h f
-read_event object m lines n h (in_rule f) = read_event_rule object lines n h f
-read_event object m lines n h (in_occurrences f) = absurd (no_occurrences object lines n (read_instances lines h) f)
-read_event object m lines n h (bad_stamp l) = refl
-read_event object m lines n h (bad_uid l) = refl
-read_event object m lines n h (bad_organiser l) = refl
-read_event object m lines n h (bad_attendee l) = refl
-read_event object m lines n h (bad_sequence l) = refl
-read_event object m lines n h (no_uid x) = refl
-read_event object m lines n h (no_stamp_given t x) = refl
-read_event object m lines n h (twice name c x) = refl
-read_event object m lines n h (no_organiser t x) = refl
-
 -- ---- a series
 
 series_wider : (n : ℕ) → is_zoned_event_fault n ≡ true → is_series_event_fault n ≡ true
@@ -312,17 +159,15 @@ component_number object m lines n (no_stamp_given t x) = refl
 component_number object m lines n (twice name c x) = refl
 component_number object m lines n (no_organiser t x) = refl
 
--- ---- what a VEVENT in which nothing is left unread is refused for
+-- ---- what a VEVENT is refused for
 
-pub number_for : (object : Tree) (purpose : Purpose) (lines : Lines) (n : ℕ) → has_unread_for purpose lines ≡ false → EventFault object (is_message purpose) lines n → is_fault_for purpose n ≡ true
-number_for object Request lines n h f = ap (λ b. b || is_unread n) (read_event object true lines n h f)
-number_for object Cancel lines n h f = ap (λ b. b || is_unread n) (read_event object true lines n (or_parts (lacks_start lines) (list_any is_unread_in_message lines) h).1 f)
-number_for object Meeting lines n h f = component_number object false lines n f
+pub number_for : (object : Tree) (purpose : Purpose) (lines : Lines) (n : ℕ) → EventFault object (is_message purpose) lines n → is_fault_for purpose n ≡ true
+number_for object purpose lines n f = ap (λ b. b || is_unread_fault purpose n) (component_number object (is_message purpose) lines n f)
 
-pub refused_for : (object : Tree) (purpose : Purpose) (lines : Lines) → has_unread_for purpose lines ≡ false → (f : Fault) → RefusesBy (EventFault object (is_message purpose) lines) f
+pub refused_for : (object : Tree) (purpose : Purpose) (lines : Lines) → (f : Fault) → RefusesBy (EventFault object (is_message purpose) lines) f
     → RefusesOnly (is_fault_for purpose) f
-refused_for object purpose lines h Memory s = tt
-refused_for object purpose lines h (Refused r) s = number_for object purpose lines r.number h s
+refused_for object purpose lines Memory s = tt
+refused_for object purpose lines (Refused r) s = number_for object purpose lines r.number s
 
 pub unread_for : (purpose : Purpose) (lines : Lines) (n : ℕ) → n ≡ 99 → has_unread_for purpose lines ≡ true → is_fault_for purpose n ≡ true
 unread_for Request lines n e h = ap (is_fault_for Request) e

@@ -93,7 +93,7 @@ pub record IsSound (event : Event) : Type 0 where
   pub starts : IsNamed event.times.start
   pub names : (slot : ℤ) → event.recurrence ≡ Some slot → IsNamed slot
 
-recurrence_named : (object : Tree) (line : Option (List ℕ)) (r : Option ℤ) (slot : ℤ) → BothOrNeither (IsRecurrenceLine object) line r → r ≡ Some slot → IsNamed slot
+pub recurrence_named : (object : Tree) (line : Option (List ℕ)) (r : Option ℤ) (slot : ℤ) → BothOrNeither (IsRecurrenceLine object) line r → r ≡ Some slot → IsNamed slot
 recurrence_named object line r slot h e = go line (subst (BothOrNeither (IsRecurrenceLine object) line) e h)
   where
     go : (l : Option (List ℕ)) → BothOrNeither (IsRecurrenceLine object) l (Some slot) → IsNamed slot
@@ -180,7 +180,7 @@ same_override (o ∷ os) a b d (suc k, w, e) (suc j, v, f) same =
 pub booked_same : (a b : Booked) → a.key ≡ b.key → a.start ≡ b.start → a.end ≡ b.end → a ≡ b
 booked_same a b p q r = λ i. record { key = p i; start = q i; end = r i }
 
-module _ (object : Tree) (meeting : Meeting) (s : SaysMeeting object meeting) where
+module _ (object : Tree) (meeting : Meeting) (s : SaysMeeting object false meeting) where
   sound : All IsSound s.events
   sound = all_sound object (vevents object) s.events s.says
 

@@ -1,5 +1,5 @@
 -- Octets spell at most one event with its instances, and none where a fault stands in them.
-use Rattle.std.proofs.Common.{◌≡◌, ◌∙◌, ℕ, ◌<◌, ◌≤◌, true, false, List, filter, length, sym, ap, subst, arith}
+use Rattle.std.proofs.Common.{◌≡◌, ◌∙◌, ℕ, ◌<◌, ◌≤◌, Bool, true, false, List, filter, length, sym, ap, subst, arith}
 use Rattle.std.specs.Prelude.{Option, Some, None}
 use Rattle.std.specs.Option.{option_to_list}
 use Rattle.std.specs.List.{AllZip}
@@ -18,34 +18,34 @@ use Rattle.cal_events.proofs.Zips.{zip_one, zip_at, zip_length}
 -- ---- an object
 
 -- its VEVENTs say one list of events
-one_list : OneEvent → (object : Tree) (xs ys : List Event) → AllZip (SaysEvent object false) (vevents object) xs → AllZip (SaysEvent object false) (vevents object) ys → xs ≡ ys
-one_list one object xs ys h k = zip_one (SaysEvent object false) (λ lines a b s t. one object false lines a b s t) (vevents object) xs ys h k
+one_list : OneEvent → (object : Tree) (m : Bool) (xs ys : List Event) → AllZip (SaysEvent object m) (vevents object) xs → AllZip (SaysEvent object m) (vevents object) ys → xs ≡ ys
+one_list one object m xs ys h k = zip_one (SaysEvent object m) (λ lines a b s t. one object m lines a b s t) (vevents object) xs ys h k
 
 meeting_same : (a b : Meeting) → a.master ≡ b.master → a.overrides ≡ b.overrides → a ≡ b
 meeting_same a b p q = λ i. record { master = p i; overrides = q i }
 
-pub one_said : OneEvent → (object : Tree) (a b : Meeting) → SaysMeeting object a → SaysMeeting object b → a ≡ b
-one_said one object a b s t =
-    let same = one_list one object s.events t.events s.says t.says in
+pub one_said : OneEvent → (object : Tree) (m : Bool) (a b : Meeting) → SaysMeeting object m a → SaysMeeting object m b → a ≡ b
+one_said one object m a b s t =
+    let same = one_list one object m s.events t.events s.says t.says in
     meeting_same a b (same_option a.master b.master (sym s.master ∙ ap (filter is_master) same ∙ t.master)) (sym s.overrides ∙ ap (filter is_override) same ∙ t.overrides)
 
 at_most : (o : Option Event) → length (option_to_list o) ≤ 1
 at_most None = omega arith
 at_most (Some x) = omega arith
 
-no_meeting_fault : OneEvent → NoFault → (object : Tree) (a : Meeting) (n : ℕ) → SaysMeeting object a → MeetingFault object n → ⊥
-no_meeting_fault one none object a n s (in_event lines c f) =
-    let x = zip_at (SaysEvent object false) (vevents object) s.events lines s.says c in none object false lines x.0 n x.1 f
-no_meeting_fault one none object a n s (two_masters events says more) =
-    let same = one_list one object events s.events says s.says in
+pub no_meeting_fault : OneEvent → NoFault → (object : Tree) (m : Bool) (a : Meeting) (n : ℕ) → SaysMeeting object m a → MeetingFault object m n → ⊥
+no_meeting_fault one none object m a n s (in_event lines c f) =
+    let x = zip_at (SaysEvent object m) (vevents object) s.events lines s.says c in none object m lines x.0 n x.1 f
+no_meeting_fault one none object m a n s (two_masters events says more) =
+    let same = one_list one object m events s.events says s.says in
     let few : length (filter is_master events) ≤ 1 = subst (λ (l : List Event). length l ≤ 1) (sym (ap (filter is_master) same ∙ s.master)) (at_most a.master) in
     absurd (omega (arith, few, more))
-no_meeting_fault one none object a n s (two_overrides events says not) =
-    let same = one_list one object events s.events says s.says in not (subst InstancesDiffer (sym (ap (filter is_override) same ∙ s.overrides)) s.differ)
-no_meeting_fault one none object a n s (two_meetings events says not) =
-    let same = one_list one object events s.events says s.says in not (subst AreOfOne (sym same) s.one)
-no_meeting_fault one none object a n s (no_event h) =
-    let l = zip_length (SaysEvent object false) (vevents object) s.events s.says in
+no_meeting_fault one none object m a n s (two_overrides events says not) =
+    let same = one_list one object m events s.events says s.says in not (subst InstancesDiffer (sym (ap (filter is_override) same ∙ s.overrides)) s.differ)
+no_meeting_fault one none object m a n s (two_meetings events says not) =
+    let same = one_list one object m events s.events says s.says in not (subst AreOfOne (sym same) s.one)
+no_meeting_fault one none object m a n s (no_event h) =
+    let l = zip_length (SaysEvent object m) (vevents object) s.events s.says in
     let e = ap length h in
     let some : 0 < length s.events = s.some in absurd (omega (arith, l, e, some))
 
@@ -54,7 +54,7 @@ no_meeting_fault one none object a n s (no_event h) =
 pub one_spelled : OneTree → OneEvent → (octets : List ℕ) (a b : Meeting) → SpellsMeeting octets a → SpellsMeeting octets b → a ≡ b
 one_spelled tree one octets a b s t =
     let same : s.tree ≡ t.tree = tree 7 7 (logical_lines octets) s.tree t.tree s.object.spelled t.object.spelled in
-    one_said one t.tree a b (subst (λ (x : Tree). SaysMeeting x a) same s.says) t.says
+    one_said one t.tree false a b (subst (λ (x : Tree). SaysMeeting x false a) same s.says) t.says
 
 pub no_fault : OneTree → PairsUp → OneEvent → NoFault → (octets : List ℕ) (a : Meeting) (n : ℕ) → SpellsMeeting octets a → MeetingTextFault octets n → ⊥
 no_fault tree pairs one none octets a n s (in_lines h) = true≢false (sym h ∙ read_fine true octets n s.lines)
@@ -63,4 +63,4 @@ no_fault tree pairs one none octets a n s (no_version t spelled h) = has_version
 no_fault tree pairs one none octets a n s (many_events t spelled h) = has_few_events tree octets s.tree s.object t (spelled, h)
 no_fault tree pairs one none octets a n s (in_vevents t object fault) =
     let same : s.tree ≡ t = tree 7 7 (logical_lines octets) s.tree t s.object.spelled object.spelled in
-    no_meeting_fault one none t a n (subst (λ (x : Tree). SaysMeeting x a) same s.says) fault
+    no_meeting_fault one none t false a n (subst (λ (x : Tree). SaysMeeting x false a) same s.says) fault

@@ -1,9 +1,9 @@
 -- What the types of a VEVENT that was read stand for.
-use Rattle.std.specs.Prelude.{ℕ, Bool, ◌||◌, true, false, List, length, map, filter, option_map, Option, codes, Contains, ◌≡◌, ◌⊎◌, ◌<◌, ℤ, pos, ◌<ℤ◌}
+use Rattle.std.specs.Prelude.{ℕ, Bool, ◌&&◌, ◌||◌, true, false, List, length, map, filter, option_map, Option, codes, Contains, ◌≡◌, ◌⊎◌, ◌<◌, ℤ, pos, ◌<ℤ◌}
 use Rattle.ical_values.specs.Octets.{address_octets, text_octets}
 use Rattle.ical_values.specs.declared.duration.Duration.{Duration}
 use Rattle.std.specs.List.{list_any}
-use Rattle.profile.specs.faults.Faults.{is_event_fault, is_unread, is_meeting_event_fault}
+use Rattle.profile.specs.faults.Faults.{is_unread, is_meeting_event_fault}
 use Rattle.profile.specs.events.Events as profile
 use Rattle.profile.specs.events.Properties as properties
 use Rattle.profile.specs.events.Properties.{length_seconds, time_kind}
@@ -49,11 +49,13 @@ lacks_start_for Meeting lines = false
 abbrev pub has_unread_for : Purpose → List (List ℕ) → Bool
 has_unread_for purpose lines = lacks_start_for purpose lines || list_any (is_unread_for purpose) lines
 
+-- in a message there is what isn't read yet
+abbrev pub is_unread_fault : Purpose → ℕ → Bool
+is_unread_fault purpose n = is_unread n && is_message purpose
+
 -- the numbers of its refusals
 abbrev pub is_fault_for : Purpose → ℕ → Bool
-is_fault_for Request n = is_event_fault n || is_unread n
-is_fault_for Cancel n = is_event_fault n || is_unread n
-is_fault_for Meeting n = is_meeting_event_fault n
+is_fault_for purpose n = is_meeting_event_fault n || is_unread_fault purpose n
 
 abbrev pub participation_of : ParticipationStatus → profile.Participation
 participation_of NeedsAction = profile.NeedsAction

@@ -6,6 +6,7 @@ pub mod Zones
 pub mod Zoned
 pub mod Occurrences
 pub mod Meetings
+pub mod OneMeeting
 pub mod SaidMeetings
 pub mod Ordered
 pub mod RuleDaysLeft

@@ -1,13 +1,12 @@
 //! An event with its instances: its master and its overrides (RFC 5545 3.8.4.4), read from one object whatever its METHOD.
 
-ghost use Rattle.std.specs.Prelude.{◌≡◌, ◌≢◌, ◌↔◌, ◌<◌, ◌≤ℤ◌, ◌⊎◌, ◌++◌, ℕ, List, [], AllPairs, Some, length, get_or, map, filter, option_map, ℤ, IfOk, IfErr, OnOk, MatchBool};
+ghost use Rattle.std.specs.Prelude.{◌≡◌, ◌≢◌, ◌↔◌, ◌<◌, ◌≤ℤ◌, ◌⊎◌, ◌++◌, ℕ, List, [], Some, false, map, option_map, ℤ, IfOk, IfErr};
 ghost use Rattle.std.specs.Option.{option_to_list};
 ghost use Rattle.std.specs.List.{list_all};
 ghost use Rattle.std.specs.List.Sorted.{IsPermutation};
 ghost use Rattle.ical_lines.specs.Fault.{RefusesOnly, RefusesBy};
 ghost use Rattle.ical_tree.specs.Tree.{tree_of};
 ghost use Rattle.profile.specs.checker.Instances.{Booked};
-ghost use Rattle.profile.specs.rooms.Messages.{is_same_meeting};
 ghost use Rattle.profile.specs.events.Meetings.{Meeting, is_master, is_override, AreOfOne, SaysMeeting, SpellsMeeting, MeetingFault, MeetingTextFault, is_meeting_fault};
 ghost use Rattle.cal_events.specs.Events.{event_of};
 ghost use Rattle.cal_events.specs.Meetings.{instants_said, IsNotOne, IsNamed};
@@ -22,11 +21,11 @@ use crate::component::{EventComponent, Purpose, one_event};
 use crate::instance::Instance;
 use crate::instances::{Instances, is_start};
 use crate::instants::Instants;
+use crate::meeting_components::MeetingComponents;
 use crate::overlapping::first_sharing;
 use crate::places::Places;
-use crate::reading::read_events;
 use crate::sweep::Span;
-use ical_lines::{Fault, Limits, Refusal, Unfolded};
+use ical_lines::{Fault, Limits, Unfolded};
 use ical_tree::{Component, one_tree, read_object};
 use std::alloc::{AllocError, Global};
 
@@ -87,21 +86,14 @@ impl Event {
     }
 
     /// The event of an object that was read.
-    /// Refused: as by `EventComponent::read` for a VEVENT; 66 where there is none; 62 for two UIDs or two ORGANIZERs; 53 for two
-    /// VEVENTs without RECURRENCE-ID; 54 for two that stand for one instance.
+    /// Refused: as by `MeetingComponents::read`.
     pub fn of_object(alloc: Global, object: &Component) -> Result<Event, Fault>
-        ensures says { IfOk result (λ event. SaysMeeting (tree_of object.now) (said_meeting event)) }
+        ensures says { IfOk result (λ event. SaysMeeting (tree_of object.now) false (said_meeting event)) }
         ensures refuses { IfErr result (RefusesOnly is_meeting_fault) }
-        ensures stands { IfErr result (RefusesBy (MeetingFault (tree_of object.now))) }
+        ensures stands { IfErr result (RefusesBy (MeetingFault (tree_of object.now) false)) }
     {
-        let components = read_events(alloc, object, Purpose::Meeting)?;
-        judge_meeting(&components)?;
-        let divided = Divided::of(alloc, components)?;
-        let twins = has_twins(alloc, &divided.instants)?;
-        if twins {
-            return Err(Fault::Refused(Refusal::TWO_OVERRIDES));
-        }
-        Ok(divided.into_event(alloc)?)
+        let components = MeetingComponents::read(alloc, object, Purpose::Meeting)?;
+        Ok(components.into_event(alloc)?)
     }
 
     /// The event of a master alone. It fails only for memory.
@@ -111,12 +103,39 @@ impl Event {
         requires dated { AreDated (record { master = Some (event_of master); overrides = [] }) }
         ensures { IfOk result (λ event. (event.master ≡ Some master) × (event.overrides.items ≡ [])) }
     {
-        let divided = Divided {
+        let components = MeetingComponents {
             master: Some(master),
             overrides: Vec::new(alloc),
             instants: Vec::new(alloc),
         };
-        divided.into_event(alloc)
+        components.into_event(alloc)
+    }
+}
+
+impl MeetingComponents {
+    /// The event that they are. It fails only for memory.
+    fn into_event(self, alloc: Global) -> Result<Event, AllocError>
+        requires said { map Some self.instants.items ≡ instants_said (map event_of self.overrides.items) }
+        requires clock { (component : EventComponent) → self.master ≡ Some component → HasGoodClock (event_of component) }
+        requires ends { HaveOneEnd (record { master = option_map event_of self.master; overrides = map event_of self.overrides.items }) }
+        requires dated { AreDated (record { master = option_map event_of self.master; overrides = map event_of self.overrides.items }) }
+        ensures { IfOk result (λ event. (event.master ≡ self.master) × (event.overrides.items ≡ self.overrides.items)) }
+    {
+        let MeetingComponents {
+            master,
+            overrides,
+            instants,
+        } = self;
+        let hidden = hidden_of(&master, instants)?;
+        let added = added_of(alloc, &master, &hidden)?;
+        let places = Places::of(alloc, &overrides)?;
+        Ok(Event {
+            master,
+            overrides,
+            hidden,
+            added,
+            places,
+        })
     }
 }
 
@@ -137,100 +156,6 @@ pub fn one_instance()
     ensures dates { (octets : List ℕ) (meeting : Meeting) (a : Booked) → SpellsMeeting octets meeting → IsInstance meeting a
         → IsNamed a.key.slot × IsNamed a.start × (a.start ≤ℤ a.end) }
 {}
-
-/// Refuses components that aren't those of one meeting.
-/// Refused: 66 where there is none, 62 for two UIDs or two ORGANIZERs.
-fn judge_meeting(components: &[EventComponent]) -> Result<(), Refusal>
-    ensures some { OnOk result (0 < length (map event_of components.now)) }
-    ensures one { OnOk result (AreOfOne (map event_of components.now)) }
-    ensures stands { IfErr result (λ e. IsNotOne (map event_of components.now) e.number) }
-{
-    let Some((first, others)) = components.split_first() else {
-        return Err(Refusal::NO_EVENT);
-    };
-    if !are_one_meeting(first, others) {
-        return Err(Refusal::TWO_MEETINGS);
-    }
-    Ok(())
-}
-
-fn are_one_meeting(first: &EventComponent, others: &[EventComponent]) -> bool
-    ensures { result ≡ list_all (λ other. is_same_meeting (event_of first.now) (event_of other)) others.now }
-{
-    others.iter().all(|other| is_same_meeting(first, other))
-}
-
-/// Whether both are of one UID and one ORGANIZER.
-fn is_same_meeting(a: &EventComponent, b: &EventComponent) -> bool
-    ensures { result ≡ is_same_meeting (event_of a.now) (event_of b.now) }
-{
-    a.uid.as_str() == b.uid.as_str() && a.organiser_text() == b.organiser_text()
-}
-
-/// Components divided by RECURRENCE-ID.
-#[derive(Drop)]
-struct Divided {
-    master: Option<EventComponent>,
-    overrides: Vec<EventComponent>,
-    /// The instants of the overrides, in their order.
-    instants: Vec<i64>,
-}
-
-impl Divided {
-    /// Refused: 53 for two without RECURRENCE-ID.
-    fn of(alloc: Global, components: Vec<EventComponent>) -> Result<Divided, Fault>
-        ensures master { IfOk result (λ d. filter is_master (map event_of components.items) ≡ option_to_list (option_map event_of d.master)) }
-        ensures overrides { IfOk result (λ d. filter is_override (map event_of components.items) ≡ map event_of d.overrides.items) }
-        ensures instants { IfOk result (λ d. map Some d.instants.items ≡ instants_said (map event_of d.overrides.items)) }
-        ensures stands { IfErr result (RefusesBy (λ n. (n ≡ 53) × (1 < length (filter is_master (map event_of components.items))))) }
-    {
-        let mut masters = Vec::new(alloc);
-        let mut overrides = Vec::new(alloc);
-        let mut instants = Vec::new(alloc);
-        for component in components {
-            if let Some(instant) = component.recurrence {
-                instants.push(instant)?;
-                overrides.push(component)?;
-            } else {
-                masters.push(component)?;
-            }
-        }
-        if masters.len() > 1 {
-            return Err(Fault::Refused(Refusal::TWO_MASTERS));
-        }
-        let master = masters.pop();
-        Ok(Divided {
-            master,
-            overrides,
-            instants,
-        })
-    }
-
-    /// The event that they are. It fails only for memory.
-    fn into_event(self, alloc: Global) -> Result<Event, AllocError>
-        requires said { map Some self.instants.items ≡ instants_said (map event_of self.overrides.items) }
-        requires clock { (component : EventComponent) → self.master ≡ Some component → HasGoodClock (event_of component) }
-        requires ends { HaveOneEnd (record { master = option_map event_of self.master; overrides = map event_of self.overrides.items }) }
-        requires dated { AreDated (record { master = option_map event_of self.master; overrides = map event_of self.overrides.items }) }
-        ensures { IfOk result (λ event. (event.master ≡ self.master) × (event.overrides.items ≡ self.overrides.items)) }
-    {
-        let Divided {
-            master,
-            overrides,
-            instants,
-        } = self;
-        let hidden = hidden_of(&master, instants)?;
-        let added = added_of(alloc, &master, &hidden)?;
-        let places = Places::of(alloc, &overrides)?;
-        Ok(Event {
-            master,
-            overrides,
-            hidden,
-            added,
-            places,
-        })
-    }
-}
 
 /// The instants that EXDATE names and these, for which overrides stand.
 fn hidden_of(master: &Option<EventComponent>, instants: Vec<i64>) -> Result<Instants, AllocError>
@@ -276,13 +201,4 @@ fn starts_of(alloc: Global, instants: &[i64], hidden: &Instants) -> Result<Insta
         starts.push(*instant)?;
     }
     Ok(Instants::of(starts))
-}
-
-/// Whether two of the instants are one. In time n log n; it fails only for memory.
-fn has_twins(alloc: Global, instants: &[i64]) -> Result<bool, AllocError>
-    ensures { IfOk result (λ twins. MatchBool twins (AllPairs ◌≢◌ instants.now → ⊥) (AllPairs ◌≢◌ instants.now)) }
-{
-    let mut copy = Vec::new(alloc);
-    copy.extend_from_slice(instants)?;
-    Ok(Instants::of(copy).has_twins())
 }

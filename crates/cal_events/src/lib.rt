@@ -10,6 +10,7 @@ mod event_times;
 pub mod instance;
 mod instances;
 mod instants;
+mod meeting_components;
 mod occurrences;
 mod overlapping;
 mod places;
@@ -29,8 +30,9 @@ pub use event::{Event, one_instance, one_meeting};
 pub use event_times::EventTimes;
 pub use instance::{HORIZON, Instance, InstanceKey, OwnedKey};
 pub use instances::Instances;
+pub use meeting_components::MeetingComponents;
 pub use reading::{
-    one_calendar, one_calendar_text, read_events, refuse_unread_events, series_and_singles_divide,
+    one_calendar, one_calendar_text, refuse_unread_events, series_and_singles_divide,
     singles_are_confirmed,
 };
 pub use series::Series;

@@ -2,7 +2,7 @@
 ghost use Rattle.std.specs.Prelude.{◌≡◌, ◌⊎◌, Some, true, false, codes, option_map, IfOk, IfErr, OnOk, OnErr};
 ghost use Rattle.ical_lines.specs.Text.{line_text};
 ghost use Rattle.std.specs.List.{list_any};
-ghost use Rattle.profile.specs.events.Events.{is_unread_in_message, is_recurrence, is_of_instances, is_end_of_event};
+ghost use Rattle.profile.specs.events.Events.{is_unread_in_message, is_recurrence, is_of_starts, is_time_of_event};
 ghost use Rattle.profile.specs.events.Properties.{is_of, IsMissing, StandsAtMostOnce, StandsTwice};
 ghost use Rattle.cal_events.specs.Events.{is_unread_for, lacks_start_for, has_unread_for};
 
@@ -89,30 +89,30 @@ fn is_unread(line: Line<'_>, purpose: Purpose) -> bool
     }
 }
 
-/// Whether a line of a message isn't read yet: one of a recurrence, or a start or an end in a zone.
+/// Whether a line of a message isn't read yet: one of a recurrence, or a time in a zone.
 fn is_unread_in_message(line: Line<'_>) -> bool
     ensures { result ≡ is_unread_in_message (line_text line.entry) }
 {
-    is_recurrence(line) || (is_end_line(line) && line.param("TZID").is_some())
+    is_recurrence(line) || (is_time_line(line) && line.param("TZID").is_some())
 }
 
-/// Whether a line says how an event recurs, or names single instances of it.
+/// Whether a line says how an event recurs.
 fn is_recurrence(line: Line<'_>) -> bool
     ensures { result ≡ is_recurrence (line_text line.entry) }
 {
-    line.is_named("RRULE") || is_instance_line(line)
+    line.is_named("RRULE") || is_line_of_starts(line)
 }
 
-/// Whether a line names single instances of an event that recurs.
-fn is_instance_line(line: Line<'_>) -> bool
-    ensures { result ≡ is_of_instances (line_text line.entry) }
+/// Whether a line adds starts to an event that recurs, or takes some away.
+fn is_line_of_starts(line: Line<'_>) -> bool
+    ensures { result ≡ is_of_starts (line_text line.entry) }
 {
-    line.is_named("RDATE") || line.is_named("EXDATE") || line.is_named("RECURRENCE-ID")
+    line.is_named("RDATE") || line.is_named("EXDATE")
 }
 
-/// Whether a line says when an event starts or ends.
-fn is_end_line(line: Line<'_>) -> bool
-    ensures { result ≡ is_end_of_event (line_text line.entry) }
+/// Whether a line says when an event starts or ends, or which instance it is.
+fn is_time_line(line: Line<'_>) -> bool
+    ensures { result ≡ is_time_of_event (line_text line.entry) }
 {
-    line.is_named("DTSTART") || line.is_named("DTEND")
+    line.is_named("DTSTART") || line.is_named("DTEND") || line.is_named("RECURRENCE-ID")
 }

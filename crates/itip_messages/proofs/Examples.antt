@@ -1,7 +1,8 @@
 -- Worked examples of the definitions of messages and replies, computed.
 use Rattle.std.proofs.Common.{◌≡◌, ℕ, pos, true, false, List, [], ◌∷◌, Some, None, refl, codes}
 use Rattle.profile.specs.events.Events.{Event, NeedsAction}
-use Rattle.profile.specs.rooms.Messages.{word, object_lines, is_method, is_unread_method, are_one_meeting, names_room}
+use Rattle.profile.specs.events.Meetings.{is_same_meeting}
+use Rattle.profile.specs.rooms.Messages.{word, object_lines, is_method, is_unread_method, names_room}
 
 -- ---- words of a status
 
@@ -65,11 +66,11 @@ meeting uid organiser = record {
   attendees = record { address = codes "mailto:r1@example.com"; participation = NeedsAction } ∷ [];
 }
 
-two_uids_are_two_meetings : are_one_meeting (meeting (codes "a") (codes "mailto:ann@example.com") ∷ meeting (codes "b") (codes "mailto:ann@example.com") ∷ []) ≡ false
+two_uids_are_two_meetings : is_same_meeting (meeting (codes "a") (codes "mailto:ann@example.com")) (meeting (codes "b") (codes "mailto:ann@example.com")) ≡ false
 unfolding meeting
 two_uids_are_two_meetings = refl
 
-two_organisers_are_two_meetings : are_one_meeting (meeting (codes "a") (codes "mailto:ann@example.com") ∷ meeting (codes "a") (codes "mailto:bob@example.com") ∷ []) ≡ false
+two_organisers_are_two_meetings : is_same_meeting (meeting (codes "a") (codes "mailto:ann@example.com")) (meeting (codes "a") (codes "mailto:bob@example.com")) ≡ false
 unfolding meeting
 two_organisers_are_two_meetings = refl
 

@@ -8,6 +8,7 @@ pub mod ReplyReads
 pub mod AnswerReads
 pub mod OneMessage
 pub mod LineLemmas
+pub mod BySlot
 pub mod MessageLemmas
 pub mod TreeLemmas
 pub mod AttendeeSearch

@@ -1,36 +1,41 @@
 -- What the lines of a message say, and what is wrong with them.
-use Rattle.std.proofs.Common.{◌≡◌, ◌∙◌, ℕ, ◌<◌, ◌+◌, Bool, true, false, ◌&&◌, ◌||◌, cond, eqb, ap₂, filter, take, List, [], ◌∷◌, ◌++◌, length, map, get_or, refl, sym, ap, subst, arith, inl, inr, Option, Some, None, IsSome, is_some, option_map}
-use Rattle.ical_lines.specs.Fault.{RefusesBy}
-use Rattle.std.specs.Prelude.{Result, Ok, Err, IfErr, Contains, codes}
-use Rattle.std.specs.List.{list_all, list_any, AllZip}
+use Rattle.std.proofs.Common.{◌≡◌, ◌∙◌, ℕ, zero, suc, ◌<◌, ◌+◌, Bool, true, false, ◌&&◌, ◌||◌, cond, eqb, ap₂, filter, take, List, [], ◌∷◌, ◌++◌, length, map, get_or, refl, sym, ap, subst, arith, inl, inr, Option, Some, None, IsSome, is_some, option_map, unwrap_or}
+use Rattle.ical_lines.specs.Fault.{RefusesBy, RefusesOnly}
+use Rattle.std.specs.Prelude.{◌↔◌, Result, Ok, Err, IfErr, Contains, codes}
+use Rattle.std.specs.Option.{option_to_list}
+use Rattle.std.specs.List.{list_any, AllZip}
 use Rattle.std.specs.Str.{bytes_eq}
-use Rattle.std.proofs.Math.Bool.{or-false}
-use Rattle.std.proofs.lemmas.Bool.{or_parts, or_cases, true≢false}
-use Rattle.std.proofs.lemmas.List.{map-append, append-nil}
-use Rattle.std.proofs.lemmas.List.Elements.{filter_more}
+use Rattle.std.proofs.lemmas.Bool.{or_cases, true≢false}
+use Rattle.std.proofs.lemmas.List.{map-append, append-nil, length-map}
+use Rattle.std.proofs.lemmas.List.Elements.{filter_more, All-contains}
 use Rattle.ical_lines.specs.declared.fault.Fault.{Fault}
 use Rattle.ical_lines.specs.declared.fault.Fault.TheVariants.{Refused, Memory}
 use Rattle.ical_lines.specs.declared.fault.Refusal.{Refusal}
+use Rattle.profile.specs.faults.Faults.{is_between, is_object_fault, is_meeting_event_fault, is_message_fault, is_unread}
 use Rattle.profile.specs.text.Lines.{line_value}
 use Rattle.profile.specs.text.Trees.{Tree, tree_own, vevents}
-use Rattle.profile.specs.events.Events.{Event, SaysEvent, EventFault, is_unread_in_message, lacks_start}
+use Rattle.profile.specs.events.Events.{Event, is_unread_in_message, lacks_start}
+use Rattle.profile.specs.events.Meetings.{Meeting, events_of, SaysMeeting, MeetingFault}
 use Rattle.profile.specs.rooms.Messages as profile
-use Rattle.profile.specs.rooms.Messages.{SaysMessage, NamesMethod, has_unread_in, MethodFault, bad_method, unread_method, MessageFault, in_event, not_yet, no_start_yet, no_event, two_meetings, two_wholes, is_same_meeting, are_one_meeting, is_unread_method, is_method}
-use Rattle.profile.specs.events.Properties.{BothOrNeither, StandsAtMostOnce}
+use Rattle.profile.specs.rooms.Messages.{SaysMessage, NamesMethod, has_unread_in, MethodFault, bad_method, unread_method, MessageFault, in_meeting, not_yet, no_start_yet, is_unread_method, is_method}
+use Rattle.profile.specs.rooms.Messages.{AreParts, AreBySlot, IsPart, IsBody, IsContent, names_room, is_addressed, is_part_for, parts_for, own_revision, cancels, is_cancel, canonical}
+use Rattle.profile.specs.rooms.Revisions as revisions
+use Rattle.profile.specs.events.Properties.{StandsAtMostOnce}
 use Rattle.cal_events.specs.declared.component.EventComponent.{EventComponent}
 use Rattle.cal_events.specs.declared.component.Purpose.{Purpose}
 use Rattle.cal_events.specs.declared.component.Purpose.TheVariants as purposes
-use Rattle.cal_events.specs.Events.{event_of, is_message, has_unread_for, IsUnreadOrFault, IsUnreadOrFaultAmong}
+use Rattle.cal_events.specs.declared.meeting_components.MeetingComponents.{MeetingComponents}
+use Rattle.cal_events.specs.Events.{event_of, is_message, has_unread_for}
+use Rattle.cal_events.specs.OneMeeting.{meeting_of, is_meeting_fault_for, IsUnreadOrNoMeeting}
 use Rattle.cal_events.proofs.EventLemmas.{some_line}
-use Rattle.cal_events.proofs.ReadingLemmas.{unread_among}
-use Rattle.profile.specs.rooms.Revisions as revisions
-use Rattle.profile.specs.rooms.Messages.{AreParts, IsPart, IsBody, IsContent, names_room, is_addressed, cancels, is_cancel, canonical}
-use Rattle.itip_order.specs.Parts.{slot_of}
+use Rattle.cal_events.proofs.InOneOrder.{in_mapped, of_filtered}
+use Rattle.itip_order.proofs.Lists.{any_at, any_from}
 use Rattle.itip_messages.specs.declared.message.Message.{Message}
 use Rattle.itip_messages.specs.declared.message.MessageComponent.{MessageComponent}
 use Rattle.itip_messages.specs.declared.message.Method.{Method}
 use Rattle.itip_messages.specs.declared.message.Method.TheVariants.{Request, Cancel}
-use Rattle.itip_messages.specs.Messages.{method_said, purpose_of, said_by, WordFault, MeetingFault, StandsFor, component_names, is_for, is_part_of, has_part, part_for}
+use Rattle.itip_messages.specs.Messages.{method_said, purpose_of, WordFault, IsDated, IsOfMessage, SaysComponent, event_slot, StandsFor, component_names, is_for, is_part_of, has_part, part_for}
+use Rattle.itip_messages.proofs.BySlot.{kept_by_slot}
 
 abbrev Lines : Type 0
 Lines = List (List ℕ)
@@ -47,31 +52,6 @@ pub word_stands : {T : Type 0} (r : Result T Refusal) (own : Lines) (line : List
 word_stands (Ok x) own line once h = tt
 word_stands (Err e) own line once h = word_stands_at own line e.number once h
 
--- ---- the meetings
-
-all_mapped : (p : Event → Bool) (es : List EventComponent) → list_all (λ e. p (event_of e)) es ≡ list_all p (map event_of es)
-all_mapped p [] = refl
-all_mapped p (e ∷ es) = ap (λ b. p (event_of e) && b) (all_mapped p es)
-
-pub one_meeting_is : (events : List EventComponent) (first : EventComponent) (others : List EventComponent) (b : Bool) → events ≡ first ∷ others
-    → b ≡ list_all (λ other. is_same_meeting (event_of first) (event_of other)) others → are_one_meeting (map event_of events) ≡ b
-one_meeting_is events first others b e h =
-    ap (λ es. are_one_meeting (map event_of es)) e ∙ sym (all_mapped (is_same_meeting (event_of first)) others) ∙ sym h
-
-pub none_said : (object : Tree) (vs : List Lines) → AllZip (SaysEvent object true) vs [] → vs ≡ []
-none_said object [] z = refl
-none_said object (v ∷ vs) z = absurd z
-
-pub meeting_stands : (object : Tree) (vs : List Lines) (events : List Event) (n : ℕ) → vevents object ≡ vs → AllZip (SaysEvent object true) vs events → MeetingFault events n
-    → MessageFault object n
-meeting_stands object vs events n e zip w =
-    let said = subst (λ (xs : List Lines). AllZip (SaysEvent object true) xs events) (sym e) zip in
-    elim w [
-      | inl h ↦ subst (MessageFault object) (sym h.0) (no_event (none_said object (vevents object) (subst (λ (es : List Event). AllZip (SaysEvent object true) (vevents object) es) h.1 said)))
-      | inr (inl h) ↦ subst (MessageFault object) (sym h.0) (two_meetings events said h.1)
-      | inr (inr h) ↦ subst (MessageFault object) (sym h.0) (two_wholes events said h.1 h.2)
-    ]
-
 -- ---- VEVENTs
 
 -- of a method they are a message's
@@ -79,30 +59,66 @@ all_messages : (method : Method) → is_message (purpose_of method) ≡ true
 all_messages Request = refl
 all_messages Cancel = refl
 
-pub in_message : (object : Tree) (method : Method) (purpose : Purpose) (vs : List Lines) (events : List Event) → purpose ≡ purpose_of method → AllZip (SaysEvent object (is_message purpose)) vs events
-    → AllZip (SaysEvent object true) vs events
-in_message object method purpose vs events e zip = subst (λ (b : Bool). AllZip (SaysEvent object b) vs events) (ap is_message e ∙ all_messages method) zip
+pub in_message : (object : Tree) (method : Method) (purpose : Purpose) (meeting : Meeting) → purpose ≡ purpose_of method → SaysMeeting object (is_message purpose) meeting → SaysMeeting object true meeting
+in_message object method purpose meeting e says = subst (λ (b : Bool). SaysMeeting object b meeting) (ap is_message e ∙ all_messages method) says
 
-event_stands : (object : Tree) (method : Method) (vs : List Lines) (lines : Lines) (f : Fault) → NamesMethod (tree_own object) (method_said method) → vevents object ≡ vs → Contains vs lines
-    → RefusesBy (IsUnreadOrFault object (purpose_of method) lines) f → RefusesBy (MessageFault object) f
-event_stands object method vs lines Memory named e h s = tt
-event_stands object method vs lines (Refused r) named e h (inr s) = in_fault object method lines r.number (subst (λ (xs : List Lines). Contains xs lines) (sym e) h) s
+-- what isn't read yet is a line, or the want of a start
+unread_there : (object : Tree) (method : Method) → NamesMethod (tree_own object) (method_said method) → list_any (has_unread_for (purpose_of method)) (vevents object) ≡ true → MessageFault object 99
+unread_there object Request named h = not_yet h
+unread_there object Cancel named h =
+    elim (or_cases (list_any lacks_start (vevents object)) (list_any (list_any is_unread_in_message) (vevents object)) (sym (either (vevents object)) ∙ h)) [
+      | inl none ↦ no_start_yet named none
+      | inr some ↦ not_yet some
+    ]
   where
-    in_fault : (object : Tree) (method : Method) (lines : Lines) (n : ℕ) → Contains (vevents object) lines → EventFault object (is_message (purpose_of method)) lines n → MessageFault object n
-    in_fault object Request lines n c f = in_event lines c f
-    in_fault object Cancel lines n c f = in_event lines c f
-event_stands object Request vs lines (Refused r) named e h (inl u) =
-    subst (MessageFault object) (sym u.0) (not_yet (ap (list_any (list_any is_unread_in_message)) e ∙ unread_among (list_any is_unread_in_message) vs lines h u.1))
-event_stands object Cancel vs lines (Refused r) named e h (inl u) =
-    subst (MessageFault object) (sym u.0) (elim (or_cases (lacks_start lines) (list_any is_unread_in_message lines) u.1) [
-      | inl none ↦ no_start_yet named (ap (list_any lacks_start) e ∙ unread_among lacks_start vs lines h none)
-      | inr some ↦ not_yet (ap (list_any (list_any is_unread_in_message)) e ∙ unread_among (list_any is_unread_in_message) vs lines h some)
-    ])
+    either : (vs : List Lines) → list_any (has_unread_for purposes.Cancel) vs ≡ (list_any lacks_start vs || list_any (list_any is_unread_in_message) vs)
+    either [] = refl
+    either (v ∷ vs) =
+        ap (λ b. (lacks_start v || list_any is_unread_in_message v) || b) (either vs)
+        ∙ four (lacks_start v) (list_any is_unread_in_message v) (list_any lacks_start vs) (list_any (list_any is_unread_in_message) vs)
+      where
+        four : (a b c d : Bool) → ((a || b) || (c || d)) ≡ ((a || c) || (b || d))
+        four true b c d = refl
+        four false true true d = refl
+        four false true false d = refl
+        four false false c d = refl
 
-pub events_stand : (object : Tree) (method : Method) (vs : List Lines) (f : Fault) → NamesMethod (tree_own object) (method_said method) → vevents object ≡ vs
-    → RefusesBy (IsUnreadOrFaultAmong object (purpose_of method) vs) f → RefusesBy (MessageFault object) f
-events_stand object method vs Memory named e s = tt
-events_stand object method vs (Refused r) named e (lines, h, s) = event_stands object method vs lines (Refused r) named e h s
+-- what the VEVENTs of a message are refused for
+pub meeting_stands : (object : Tree) (method : Method) (purpose : Purpose) (f : Fault) → NamesMethod (tree_own object) (method_said method) → purpose ≡ purpose_of method
+    → RefusesBy (IsUnreadOrNoMeeting object purpose) f → RefusesBy (MessageFault object) f
+meeting_stands object method purpose Memory named e s = tt
+meeting_stands object method purpose (Refused r) named e (inl u) =
+    subst (MessageFault object) (sym u.0) (unread_there object method named (ap (λ p. list_any (has_unread_for p) (vevents object)) (sym e) ∙ u.1))
+meeting_stands object method purpose (Refused r) named e (inr s) =
+    in_meeting (subst (λ (b : Bool). MeetingFault object b r.number) (ap is_message e ∙ all_messages method) s)
+
+-- its numbers
+pub meeting_numbers : (method : Method) (purpose : Purpose) (f : Fault) → purpose ≡ purpose_of method → RefusesOnly (is_meeting_fault_for purpose) f → RefusesOnly is_message_fault f
+meeting_numbers method purpose Memory e h = tt
+meeting_numbers method purpose (Refused r) e h = wider method r.number (subst (λ p. is_meeting_fault_for p r.number ≡ true) e h)
+  where
+    wide : (object event unread two one none method_ : Bool) → ((event || unread) || two || one || none) ≡ true → (object || event || two || method_ || one || none || unread) ≡ true
+    wide true event unread two one none method_ h = refl
+    wide false true unread two one none method_ h = refl
+    wide false false unread true one none method_ h = refl
+    wide false false unread false one none true h = refl
+    wide false false unread false true none false h = refl
+    wide false false unread false false true false h = refl
+    wide false false true false false false false h = refl
+    wide false false false false false false false h = absurd (true≢false (sym h))
+
+    of_both : (n : ℕ) → ((is_meeting_event_fault n || (is_unread n && true)) || is_between 53 54 n || eqb n 62 || eqb n 66) ≡ true → is_message_fault n ≡ true
+    of_both n h =
+        wide (is_object_fault n) (is_meeting_event_fault n) (is_unread n) (is_between 53 54 n) (eqb n 62) (eqb n 66) (eqb n 60)
+        (sym (ap (λ b. (is_meeting_event_fault n || b) || is_between 53 54 n || eqb n 62 || eqb n 66) (with_true (is_unread n))) ∙ h)
+      where
+        with_true : (b : Bool) → (b && true) ≡ b
+        with_true true = refl
+        with_true false = refl
+
+    wider : (method : Method) (n : ℕ) → is_meeting_fault_for (purpose_of method) n ≡ true → is_message_fault n ≡ true
+    wider Request n h = of_both n h
+    wider Cancel n h = of_both n h
 
 -- what isn't read yet is a fault
 pub unread_stands : (object : Tree) (vs : List Lines) (f : Fault) → vevents object ≡ vs → RefusesBy (λ n. (n ≡ 99) × (list_any (has_unread_for purposes.Request) vs ≡ true)) f
@@ -110,139 +126,203 @@ pub unread_stands : (object : Tree) (vs : List Lines) (f : Fault) → vevents ob
 unread_stands object vs Memory e s = tt
 unread_stands object vs (Refused r) e s = subst (MessageFault object) (sym s.0) (not_yet (ap (list_any (list_any is_unread_in_message)) e ∙ s.1))
 
-given : {V : Type 0} (R : List ℕ → V → Type 0) (line : Option (List ℕ)) (value : Option V) → is_some line ≡ true → BothOrNeither R line value → is_some value ≡ true
-given R None None h b = h
-given R (Some l) None h b = absurd b
-given R None (Some v) h b = absurd b
-given R (Some l) (Some v) h b = refl
+-- what a method's VEVENTs are read for leaves the same unread
+left_unread : (method : Method) (vs : List Lines) → list_any (has_unread_for (purpose_of method)) vs ≡ list_any (has_unread_in (method_said method)) vs
+left_unread Request vs = refl
+left_unread Cancel vs = refl
+
+-- the object says the message
+pub message_said : (object : Tree) (own : Lines) (vs : List Lines) (method : Method) (purpose : Purpose) (meeting : Meeting) → tree_own object ≡ own → vevents object ≡ vs → NamesMethod own (method_said method)
+    → purpose ≡ purpose_of method → list_any (has_unread_for purpose) vs ≡ false → SaysMeeting object (is_message purpose) meeting → SaysMessage object (record { method = method_said method; meeting = meeting })
+message_said object own vs method purpose meeting mine inner named e read says = record {
+  method = subst (λ (x : Lines). NamesMethod x (method_said method)) (sym mine) named;
+  read = sym (left_unread method (vevents object)) ∙ ap (list_any (has_unread_for (purpose_of method))) inner ∙ ap (λ p. list_any (has_unread_for p) vs) (sym e) ∙ read;
+  says = in_message object method purpose meeting e says;
+}
+
+-- ---- what is known of the VEVENTs of a meeting
+
+pub some_itself : {A : Type 0} (o : Option A) → is_some o ≡ true → IsSome o
+some_itself None h = cc
+some_itself (Some x) h = refl
 
 some_of_map : {A B : Type 0} (f : A → B) (o : Option A) → is_some (option_map f o) ≡ true → IsSome o
 some_of_map f None h = cc
 some_of_map f (Some x) h = refl
 
-some_itself : {A : Type 0} (o : Option A) → is_some o ≡ true → IsSome o
-some_itself None h = cc
-some_itself (Some x) h = refl
+module _ (meeting : Meeting) (m : IsOfMessage meeting) (events : List EventComponent) (are : map event_of events ≡ events_of meeting) where
+  pub there : (e : EventComponent) → Contains events e → Contains (events_of meeting) (event_of e)
+  there e c = subst (λ (l : List Event). Contains l (event_of e)) are (in_mapped event_of events e c)
 
--- the one VEVENT of a message
-pub record OneSaid (object : Tree) (vs : List Lines) (event : EventComponent) : Type 0 where
-  pub lines : Lines
-  pub one : vs ≡ lines ∷ []
-  pub says : SaysEvent object true lines (event_of event)
+  pub stamp_given : (e : EventComponent) → Contains events e → IsSome e.stamp
+  stamp_given e c = some_itself e.stamp (All-contains (λ (x : Event). is_some x.stamp ≡ true) (events_of meeting) (event_of e) m.stamped (there e c))
 
-pub one_said : (object : Tree) (vs : List Lines) (es : List EventComponent) (event : EventComponent) → length es ≡ 1 → event ≡ get_or es 0 event → AllZip (SaysEvent object true) vs (map event_of es) → OneSaid object vs event
-one_said object vs [] event n at zip = absurd (omega (arith, n))
-one_said object vs (e ∷ f ∷ es) event n at zip = absurd (omega (arith, n))
-one_said object [] (e ∷ []) event n at zip = absurd zip
-one_said object (v ∷ w ∷ vs) (e ∷ []) event n at zip = absurd zip.1
-one_said object (v ∷ []) (e ∷ []) event n at zip = record { lines = v; one = refl; says = subst (λ (x : EventComponent). SaysEvent object true v (event_of x)) (sym at) zip.0 }
+  pub slot_dated : (e : EventComponent) → Contains events e → IsDated (event_slot e)
+  slot_dated e c = All-contains (λ (x : Event). IsDated (profile.slot_of x)) (events_of meeting) (event_of e) m.dated (there e c)
 
-pub organiser_given : (object : Tree) (vs : List Lines) (event : EventComponent) → OneSaid object vs event → IsSome event.organiser
-organiser_given object vs event o =
-    let s = o.says.organiser in
-    some_of_map _ event.organiser (given _ s.line (event_of event).organiser (s.stands refl) s.is)
+  pub organiser_given : (e : EventComponent) → Contains events e → IsSome e.organiser
+  organiser_given e c = some_of_map _ e.organiser (All-contains (λ (x : Event). is_some x.organiser ≡ true) (events_of meeting) (event_of e) m.organised (there e c))
 
-pub stamp_given : (object : Tree) (vs : List Lines) (event : EventComponent) → OneSaid object vs event → IsSome event.stamp
-stamp_given object vs event o =
-    let s = o.says.stamp in
-    some_itself event.stamp (given _ s.line (event_of event).stamp (s.stands refl) s.is)
+  pub some_event : 0 < length events
+  some_event = let l = ap length are in let some : 0 < length (events_of meeting) = m.some in omega (arith, l, length-map events event_of, some)
 
--- what a method's VEVENTs are read for leaves the same unread
-left_unread : (method : Method) (lines : Lines) → has_unread_for (purpose_of method) lines ≡ has_unread_in (method_said method) lines
-left_unread Request lines = refl
-left_unread Cancel lines = refl
+-- the master's
+pub master_stamp : (components : MeetingComponents) → IsOfMessage (meeting_of components) → (e : EventComponent) → components.master ≡ Some e → IsSome e.stamp
+master_stamp components m e is =
+    let master : option_map event_of components.master ≡ Some (event_of e) = ap (option_map event_of) is in
+    let first : Contains (events_of (meeting_of components)) (event_of e) = subst (λ (o : Option Event). Contains (option_to_list o ++ map event_of components.overrides.items) (event_of e)) (sym master) (0, omega arith, refl) in
+    some_itself e.stamp (All-contains (λ (x : Event). is_some x.stamp ≡ true) (events_of (meeting_of components)) (event_of e) m.stamped first)
 
--- the object says the message
-pub message_said : (object : Tree) (own : Lines) (vs : List Lines) (method : Method) (event : EventComponent) → tree_own object ≡ own → vevents object ≡ vs → NamesMethod own (method_said method)
-    → list_any (has_unread_for (purpose_of method)) vs ≡ false → OneSaid object vs event → SaysMessage object (said_by method event)
-message_said object own vs method event mine inner named read o = record {
-  method = subst (λ (x : Lines). NamesMethod x (method_said method)) (sym mine) named;
-  lines = o.lines;
-  one = inner ∙ o.one;
-  read = sym (left_unread method o.lines) ∙ (or_parts (has_unread_for (purpose_of method) o.lines) false (subst (λ (xs : List Lines). list_any (has_unread_for (purpose_of method)) xs ≡ false) o.one read)).0;
-  says = o.says;
-}
+-- one organiser, one UID
+module _ (meeting : Meeting) (m : IsOfMessage meeting) (a e : Event) (c : Contains (events_of meeting) a) (d : Contains (events_of meeting) e) where
+  organiser_there : (o p : Option (List ℕ)) (x : List ℕ) → o ≡ Some x → is_some p ≡ true → unwrap_or p [] ≡ unwrap_or o [] → p ≡ Some x
+  organiser_there o None x h s e = absurd (true≢false (sym s))
+  organiser_there o (Some y) x h s e = ap Some (e ∙ ap (λ z. unwrap_or z []) h)
+
+  pub one_organiser : (x : List ℕ) → a.organiser ≡ Some x → e.organiser ≡ Some x
+  one_organiser x h =
+      organiser_there a.organiser e.organiser x h (All-contains (λ (x : Event). is_some x.organiser ≡ true) (events_of meeting) e m.organised d)
+      (ap (λ (p : List ℕ × List ℕ). p.0) (m.one e a d c))
+
+  pub one_uid : (x : List ℕ) → a.uid ≡ x → x ≡ e.uid
+  one_uid x h = sym h ∙ ap (λ (p : List ℕ × List ℕ). p.1) (m.one a e c d)
 
 -- ---- parts
 
--- the one component names the room where the event does
-pub names_said : (room : List ℕ) (message : Message) (said : profile.Message) (s : StandsFor message said) → component_names room s.component ≡ names_room room said.event
-names_said room message said s =
-    ap (list_any (λ a. bytes_eq a.address room)) s.says.attendees
+-- a component names the room where its event does
+names_said : (room : List ℕ) (method : profile.Method) (whole : Option revisions.Revision) (event : Event) (component : MessageComponent) → SaysComponent method whole event component → component_names room component ≡ names_room room event
+names_said room method whole event component s = ap (list_any (λ a. bytes_eq a.address room)) s.attendees
 
--- and nobody where that does
-nobody_said : (message : Message) (said : profile.Message) (s : StandsFor message said) → eqb (length s.component.attendees) 0 ≡ eqb (length said.event.attendees) 0
-nobody_said message said s = ap (λ l. eqb (length l) 0) s.says.attendees
+module _ (room : List ℕ) (message : Message) (said : profile.Message) (same : method_said message.method ≡ said.method) (whole : Option revisions.Revision) where
+  abbrev Says : Event → MessageComponent → Type 0
+  Says = SaysComponent said.method whole
 
--- it addresses the room where the message does
-is_for_said : (room : List ℕ) (message : Message) (said : profile.Message) (s : StandsFor message said) → is_for room message s.component ≡ is_addressed room said
-is_for_said room message said s =
-    ap₂ (λ a b. a || b) (names_said room message said s) (ap₂ (λ m b. is_cancel m && b) s.method (nobody_said message said s))
+  -- it addresses the room where that does
+  for_said : (event : Event) (component : MessageComponent) → Says event component → is_for room message component ≡ profile.is_for room said.method event
+  for_said event component s =
+      ap₂ (λ a b. a || b) (names_said room said.method whole event component s)
+      (ap₂ (λ m n. is_cancel m && n) same (ap (λ l. eqb (length l) 0) s.attendees))
 
-pub addressed : (room : List ℕ) (message : Message) (said : profile.Message) → StandsFor message said → list_any (is_for room message) message.components.items ≡ is_addressed room said
-addressed room message said s =
-    ap (list_any (is_for room message)) s.one ∙ or-false (is_for room message s.component) ∙ is_for_said room message said s
+  -- and is a part where that is
+  part_is : (event : Event) (component : MessageComponent) → Says event component → has_part room message component ≡ is_part_for room said.method event
+  part_is event component s = by_method message.method same
+    where
+      by_method : (m : Method) → method_said m ≡ said.method → is_part_of m (component_names room component || eqb (length component.attendees) 0) ≡ is_part_for room said.method event
+      by_method Request e = ap (λ k. is_part_for room k event) e
+      by_method Cancel e =
+          ap₂ (λ a b. a || b) (names_said room said.method whole event component s) (ap (λ l. eqb (length l) 0) s.attendees) ∙ ap (λ k. is_part_for room k event) e
 
--- where it does, it is a part
-has_part_for : (m : Method) (names nobody : Bool) → (names || (is_cancel (method_said m) && nobody)) ≡ true → is_part_of m (names || nobody) ≡ true
-has_part_for Request names nobody h = refl
-has_part_for Cancel names nobody h = h
+  any_said : (events : List Event) (components : List MessageComponent) → AllZip Says events components → list_any (is_for room message) components ≡ list_any (profile.is_for room said.method) events
+  any_said [] [] z = refl
+  any_said [] (c ∷ cs) z = absurd z
+  any_said (e ∷ es) [] z = absurd z
+  any_said (e ∷ es) (c ∷ cs) z = ap₂ (λ a b. a || b) (for_said e c z.0) (any_said es cs z.1)
 
-pub part_there : (room : List ℕ) (message : Message) (said : profile.Message) (s : StandsFor message said) → is_addressed room said ≡ true → has_part room message s.component ≡ true
-part_there room message said s h =
-    has_part_for message.method (component_names room s.component) (eqb (length s.component.attendees) 0) (is_for_said room message said s ∙ h)
+  kept_zip : (events : List Event) (components : List MessageComponent) → AllZip Says events components
+      → AllZip Says (filter (is_part_for room said.method) events) (filter (has_part room message) components)
+  kept_zip [] [] z = tt
+  kept_zip [] (c ∷ cs) z = absurd z
+  kept_zip (e ∷ es) [] z = absurd z
+  kept_zip (e ∷ es) (c ∷ cs) z =
+      one_kept (is_part_for room said.method e) (has_part room message c) (part_is e c z.0) z.0 (kept_zip es cs z.1)
+    where
+      one_kept : (a b : Bool) → b ≡ a → Says e c → AllZip Says (filter (is_part_for room said.method) es) (filter (has_part room message) cs)
+          → AllZip Says (cond a (e ∷ filter (is_part_for room said.method) es) (filter (is_part_for room said.method) es)) (cond b (c ∷ filter (has_part room message) cs) (filter (has_part room message) cs))
+      one_kept true true h r rest = (r, rest)
+      one_kept true false h r rest = absurd (true≢false (sym h))
+      one_kept false true h r rest = absurd (true≢false h)
+      one_kept false false h r rest = rest
 
--- the parts are that one
-pub parts_there : (room : List ℕ) (message : Message) (said : profile.Message) (s : StandsFor message said) → is_addressed room said ≡ true → filter (has_part room message) message.components.items ≡ s.component ∷ []
-parts_there room message said s h =
-    ap (filter (has_part room message)) s.one ∙ ap (λ b. cond b (s.component ∷ []) []) (part_there room message said s h)
+-- the part that a component is
+body_said : (room : List ℕ) (method : profile.Method) (event : Event) (content : Lines) (octets : List ℕ) (b n : Bool) → cancels method event ≡ b → names_room room event ≡ n → IsContent content event → octets ≡ canonical content
+    → IsBody room method event (cond b [] (cond n content [])) (cond b revisions.Cancelled (cond n (revisions.Set octets) revisions.Absent))
+body_said room method event content octets true n h k when is = (h, refl)
+body_said room method event content octets false true h k when is = (h, k, when, is)
+body_said room method event content octets false false h k when is = (h, k, refl)
 
--- where the message isn't one that cancels, it names the room
-pub named_if_set : (names cancel nobody cancelled : Bool) → (cancel || cancelled) ≡ false → (names || (cancel && nobody)) ≡ true → names ≡ true
-named_if_set true cancel nobody cancelled c h = refl
-named_if_set false false nobody cancelled c h = h
-named_if_set false true nobody cancelled c h = absurd (true≢false c)
+module _ (room : List ℕ) (message : Message) (said : profile.Message) (s : StandsFor message said) where
+  abbrev whole_of : Option revisions.Revision
+  whole_of = option_map own_revision said.meeting.master
 
-body_by : (b names : Bool) (octets : List ℕ) → (b ≡ false → names ≡ true) → cond b revisions.Cancelled (cond names (revisions.Set octets) revisions.Absent) ≡ cond b revisions.Cancelled (revisions.Set octets)
-body_by true names octets h = refl
-body_by false names octets h = ap (λ n. cond n (revisions.Set octets) revisions.Absent) (h refl)
+  abbrev IsPartOf : Event → revisions.Part → Type 0
+  IsPartOf event part = (content : Lines) × IsPart room said event content part
 
-pub body_said : (room : List ℕ) (message : Message) (said : profile.Message) (s : StandsFor message said) → is_addressed room said ≡ true
-    → (part_for room message s.component).body ≡ cond (cancels said) revisions.Cancelled (revisions.Set (canonical s.says.canonical.content))
-body_said room message said s h =
-    let named : cancels said ≡ false → component_names room s.component ≡ true = λ c. names_said room message said s ∙ named_if_set (names_room room said.event) (is_cancel said.method) (eqb (length said.event.attendees) 0) said.event.cancelled c h in
-    body_by s.component.cancelled (component_names room s.component) s.component.canonical.items (λ c. named (sym s.says.cancelled ∙ c))
-    ∙ ap₂ (λ b octets. cond b revisions.Cancelled (revisions.Set octets)) s.says.cancelled s.says.canonical.is
+  abbrev content_of : (event : Event) (component : MessageComponent) → SaysComponent said.method whole_of event component → Lines
+  content_of event component says = cond (cancels said.method event) [] (cond (names_room room event) says.canonical.content [])
 
-is_body : (said : profile.Message) (content : Lines) (b : Bool) → cancels said ≡ b → IsContent content said.event → (body : revisions.Body) → body ≡ cond b revisions.Cancelled (revisions.Set (canonical content))
-    → IsBody said (cond b [] content) body
-is_body said content true c when body e = subst (IsBody said []) (sym e) (c, refl)
-is_body said content false c when body e = subst (IsBody said content) (sym e) (c, when, refl)
+  pub body_is : (event : Event) (component : MessageComponent) (says : SaysComponent said.method whole_of event component)
+      → (part_for room message component).body ≡ cond (cancels said.method event) revisions.Cancelled (cond (names_room room event) (revisions.Set (canonical says.canonical.content)) revisions.Absent)
+  body_is event component says =
+      (λ i. cond (says.cancelled i) revisions.Cancelled (cond (names_said room said.method whole_of event component says i) (revisions.Set (says.canonical.is i)) revisions.Absent))
 
-pub part_said : (room : List ℕ) (message : Message) (said : profile.Message) (s : StandsFor message said) → is_addressed room said ≡ true
-    → IsPart said (cond (cancels said) [] s.says.canonical.content) (part_for room message s.component)
-part_said room message said s h = record {
-  organiser = s.organiser;
-  uid = s.uid;
-  slot = ap slot_of s.says.slot;
-  sequence = s.says.sequence;
-  stamp = s.says.stamp;
-  body = is_body said s.says.canonical.content (cancels said) refl s.says.canonical.when _ (body_said room message said s h);
-}
+  pub part_said : (event : Event) (component : MessageComponent) → Contains (events_of said.meeting) event → (says : SaysComponent said.method whole_of event component)
+      → IsPart room said event (content_of event component says) (part_for room message component)
+  part_said event component c says = record {
+    organiser = s.organiser event c;
+    uid = s.uid event c;
+    slot = says.slot;
+    revision = says.revision;
+    body = subst (λ (x : revisions.Body). IsBody room said.method event (content_of event component says) x) (sym (body_is event component says))
+        (body_said room said.method event says.canonical.content (canonical says.canonical.content) (cancels said.method event) (names_room room event) refl refl says.canonical.when refl);
+  }
 
--- not addressed: no parts
-pub no_parts : (room : List ℕ) (message : Message) (said : profile.Message) (parts : List revisions.Part) (b : Bool) → b ≡ list_any (is_for room message) message.components.items → b ≡ false → parts ≡ []
-    → StandsFor message said → AreParts room said parts
-no_parts room message said parts b is off none s =
-    subst (λ (ps : List revisions.Part). AreParts room said ps) (sym none) (sym (addressed room message said s) ∙ sym is ∙ off)
+  parts_zip : (events : List Event) (components : List MessageComponent) → ((e : Event) → Contains events e → Contains (events_of said.meeting) e) → AllZip (SaysComponent said.method whole_of) events components
+      → AllZip IsPartOf events (map (part_for room message) components)
+  parts_zip [] [] f z = tt
+  parts_zip [] (c ∷ cs) f z = absurd z
+  parts_zip (e ∷ es) [] f z = absurd z
+  parts_zip (e ∷ es) (c ∷ cs) f z =
+      ((content_of e c z.0, part_said e c (f e (zero, omega arith, refl)) z.0), parts_zip es cs (λ x k. f x (suc k.0, omega (arith, k.1), k.2)) z.1)
 
--- addressed: the event's part
-pub one_part : (room : List ℕ) (message : Message) (said : profile.Message) (parts : List revisions.Part) (b : Bool) → b ≡ list_any (is_for room message) message.components.items → b ≡ true
-    → parts ≡ map (part_for room message) (filter (has_part room message) message.components.items) → StandsFor message said → AreParts room said parts
-one_part room message said parts b is on are s =
-    let there : is_addressed room said ≡ true = sym (addressed room message said s) ∙ sym is ∙ on in
-    subst (λ (ps : List revisions.Part). AreParts room said ps) (sym (are ∙ ap (map (part_for room message)) (parts_there room message said s there)))
-    (there, (_, part_said room message said s there))
+  any_same : (p : Event → Bool) (xs ys : List Event) → ((e : Event) → Contains xs e ↔ Contains ys e) → list_any p xs ≡ list_any p ys
+  any_same p xs ys h = go (list_any p xs) (list_any p ys) refl refl
+    where
+      go : (a b : Bool) → list_any p xs ≡ a → list_any p ys ≡ b → a ≡ b
+      go true true e f = refl
+      go true false e f =
+          let found = any_at p xs e in absurd (true≢false (sym (any_from p ys found.0 ((h found.0).0 found.1) found.2) ∙ f))
+      go false true e f =
+          let found = any_at p ys f in absurd (true≢false (sym (any_from p xs found.0 ((h found.0).1 found.1) found.2) ∙ e))
+      go false false e f = refl
+
+  pub addressed : list_any (is_for room message) message.components.items ≡ is_addressed room said
+  addressed =
+      any_said room message said s.method whole_of s.events message.components.items s.each
+      ∙ any_same (profile.is_for room said.method) s.events (events_of said.meeting) s.by_slot.exact
+
+  -- the events that are parts, by their slots, and the components that say them
+  pub kept_said : is_addressed room said ≡ true → AreBySlot (parts_for room said) (filter (is_part_for room said.method) s.events)
+  kept_said h =
+      subst (λ (l : List Event). AreBySlot l (filter (is_part_for room said.method) s.events)) (sym (ap (λ b. cond b (filter (is_part_for room said.method) (events_of said.meeting)) []) h))
+      (kept_by_slot (is_part_for room said.method) (events_of said.meeting) s.events s.by_slot)
+
+  pub kept_components : AllZip (SaysComponent said.method whole_of) (filter (is_part_for room said.method) s.events) (filter (has_part room message) message.components.items)
+  kept_components = kept_zip room message said s.method whole_of s.events message.components.items s.each
+
+  pub kept_among : (e : Event) → Contains (filter (is_part_for room said.method) s.events) e → Contains (events_of said.meeting) e
+  kept_among e c = (s.by_slot.exact e).0 (of_filtered (is_part_for room said.method) s.events e c).0
+
+  -- not addressed: no parts
+  pub no_events : is_addressed room said ≡ false → AreBySlot (parts_for room said) []
+  no_events h =
+      subst (λ (l : List Event). AreBySlot l []) (sym (ap (λ b. cond b (filter (is_part_for room said.method) (events_of said.meeting)) []) h))
+      (record { exact = λ e. ((λ c. c), λ c. c); order = λ i j d l w. absurd (omega (arith, l, w)) })
+
+  pub no_parts : (parts : List revisions.Part) (b : Bool) → b ≡ list_any (is_for room message) message.components.items → b ≡ false → parts ≡ [] → AreParts room said parts
+  no_parts parts b is off none = record {
+    events = [];
+    are = no_events (sym addressed ∙ sym is ∙ off);
+    each = subst (λ (ps : List revisions.Part). AllZip IsPartOf [] ps) (sym none) tt;
+  }
+
+  pub all_parts : (parts : List revisions.Part) (b : Bool) → b ≡ list_any (is_for room message) message.components.items → b ≡ true
+      → parts ≡ map (part_for room message) (filter (has_part room message) message.components.items) → AreParts room said parts
+  all_parts parts b is on are = record {
+    events = filter (is_part_for room said.method) s.events;
+    are = kept_said (sym addressed ∙ sym is ∙ on);
+    each = subst (λ (ps : List revisions.Part). AllZip IsPartOf (filter (is_part_for room said.method) s.events) ps) (sym are)
+        (parts_zip (filter (is_part_for room said.method) s.events) (filter (has_part room message) message.components.items) kept_among kept_components);
+  }
 
 -- ---- the loop over the components
 

@@ -12,7 +12,8 @@ use Rattle.profile.specs.text.Lines.{logical_lines, line_value, is_same_name}
 use Rattle.profile.specs.text.Objects.{SpellsTree, IsObject, has_version, lines_have, count_inside, most_events}
 use Rattle.profile.specs.text.Trees.{Tree, tree_name, tree_own, tree_inside, vevents}
 use Rattle.profile.specs.events.Events.{Event, SaysEvent, EventFault, is_unread_in_message, lacks_start}
-use Rattle.profile.specs.rooms.Messages.{Method, Request, Cancel, Message, method_word, NamesMethod, SaysMessage, SpellsMessage, has_unread_in, MethodFault, two_methods, bad_method, unread_method, no_method, MessageFault, in_method, in_event, not_yet, no_start_yet, no_event, two_meetings, two_wholes, is_unread_method, is_method, are_one_meeting}
+use Rattle.profile.specs.rooms.Messages.{Method, Request, Cancel, Message, method_word, NamesMethod, SaysMessage, SpellsMessage, has_unread_in, MethodFault, two_methods, bad_method, unread_method, no_method, MessageFault, in_method, in_meeting, not_yet, no_start_yet, is_unread_method, is_method}
+use Rattle.cal_events.proofs.OneMeeting.{no_meeting_fault, one_said as one_meeting}
 use Rattle.profile.specs.streams.Streams.{ObjectFault}
 
 abbrev Lines : Type 0
@@ -29,21 +30,6 @@ OneEvent = (object : Tree) (m : Bool) (lines : Lines) (a b : Event) → SaysEven
 
 abbrev NoFault : Type 0
 NoFault = (object : Tree) (m : Bool) (lines : Lines) (a : Event) (n : ℕ) → SaysEvent object m lines a → EventFault object m lines n → ⊥
-
--- ---- lists of one
-
-one_line : (x y : Lines) → x ∷ [] ≡ y ∷ [] → x ≡ y
-one_line x y e = ap (λ xs. get_or xs 0 []) e
-
-one_zip : (object : Tree) (x : Lines) (events : List Event) → AllZip (SaysEvent object true) (x ∷ []) events → length events ≡ 1
-one_zip object x [] h = absurd h
-one_zip object x (y ∷ []) h = refl
-one_zip object x (y ∷ z ∷ zs) h = absurd h.1
-
-one_of_one : (events : List Event) → length events ≡ 1 → are_one_meeting events ≡ true
-one_of_one [] e = refl
-one_of_one (x ∷ []) e = refl
-one_of_one (x ∷ y ∷ events) e = absurd (omega (arith, e))
 
 -- ---- METHOD
 
@@ -94,44 +80,34 @@ no_method_fault own method n s (no_method h) =
 
 one_said : OneEvent → (object : Tree) (a b : Message) → SaysMessage object a → SaysMessage object b → a ≡ b
 one_said one object a b s t =
-    let same : s.lines ≡ t.lines = one_line s.lines t.lines (sym s.one ∙ t.one) in
     let method = one_method (tree_own object) a.method b.method s.method t.method in
-    let event = one object true t.lines a.event b.event (subst (λ (x : Lines). SaysEvent object true x a.event) same s.says) t.says in
-    λ i. record { method = method i; event = event i }
+    let meeting = one_meeting one object true a.meeting b.meeting s.says t.says in
+    λ i. record { method = method i; meeting = meeting i }
+
+-- where none of some has one of two, none has the first, and none has the second
+none_has : (U V : Lines → Bool) (vs : List Lines) → list_any (λ v. U v || V v) vs ≡ false → (list_any U vs ≡ false) × (list_any V vs ≡ false)
+none_has U V [] h = (refl, refl)
+none_has U V (v ∷ vs) h =
+    let here = or_parts (U v || V v) (list_any (λ v. U v || V v) vs) h in
+    let both = or_parts (U v) (V v) here.0 in
+    let rest = none_has U V vs here.1 in
+    (ap (λ b. b || list_any U vs) both.0 ∙ rest.0, ap (λ b. b || list_any V vs) both.1 ∙ rest.1)
 
 -- in what a message has read no line is left unread
-all_read : (method : Method) (lines : Lines) → has_unread_in method lines ≡ false → list_any is_unread_in_message lines ≡ false
-all_read Request lines h = h
-all_read Cancel lines h = (or_parts (lacks_start lines) (list_any is_unread_in_message lines) h).1
+all_read : (method : Method) (vs : List Lines) → list_any (has_unread_in method) vs ≡ false → list_any (list_any is_unread_in_message) vs ≡ false
+all_read Request vs h = h
+all_read Cancel vs h = (none_has lacks_start (list_any is_unread_in_message) vs h).1
 
--- and a CANCEL has its start
-has_start : (method : Method) (lines : Lines) → method ≡ Cancel → has_unread_in method lines ≡ false → lacks_start lines ≡ false
-has_start method lines e h = (or_parts (lacks_start lines) (list_any is_unread_in_message lines) (sym (ap (λ m. has_unread_in m lines) e) ∙ h)).0
+-- and a CANCEL has its starts
+has_start : (method : Method) (vs : List Lines) → method ≡ Cancel → list_any (has_unread_in method) vs ≡ false → list_any lacks_start vs ≡ false
+has_start method vs e h = (none_has lacks_start (list_any is_unread_in_message) vs (sym (ap (λ m. list_any (has_unread_in m) vs) e) ∙ h)).0
 
--- of one VEVENT that has nothing so
-none_of_one : (U : Lines → Bool) (lines : Lines) (all : List Lines) → all ≡ lines ∷ [] → U lines ≡ false → list_any U all ≡ true → ⊥
-none_of_one U lines all one none some =
-    let k : (U lines || false) ≡ true = sym (ap (list_any U) one) ∙ some in
-    true≢false (sym (rw none at k))
-
-no_message_fault : NoFault → (object : Tree) (a : Message) (n : ℕ) → SaysMessage object a → MessageFault object n → ⊥
-no_message_fault sound object a n s (in_method h) = no_method_fault (tree_own object) a.method n s.method h
-no_message_fault sound object a n s (in_event lines at fault) =
-    let e = at_one s.lines lines (subst (λ (xs : List Lines). Contains xs lines) s.one at) in
-    sound object true lines a.event n (subst (λ (x : Lines). SaysEvent object true x a.event) e s.says) fault
-no_message_fault sound object a n s (not_yet h) =
-    none_of_one (list_any is_unread_in_message) s.lines (vevents object) s.one (all_read a.method s.lines s.read) h
-no_message_fault sound object a n s (no_start_yet named h) =
-    let cancel = one_method (tree_own object) a.method Cancel s.method named in
-    none_of_one lacks_start s.lines (vevents object) s.one (has_start a.method s.lines cancel s.read) h
-no_message_fault sound object a n s (no_event h) =
-    let k : 0 ≡ 1 = sym (ap length h) ∙ ap length s.one in absurd (omega (arith, k))
-no_message_fault sound object a n s (two_meetings events zip h) =
-    let one = one_zip object s.lines events (subst (λ (xs : List Lines). AllZip (SaysEvent object true) xs events) s.one zip) in
-    true≢false (sym (one_of_one events one) ∙ h)
-no_message_fault sound object a n s (two_wholes events zip h more) =
-    let one = one_zip object s.lines events (subst (λ (xs : List Lines). AllZip (SaysEvent object true) xs events) s.one zip) in
-    absurd (omega (arith, one, more))
+no_message_fault : OneEvent → NoFault → (object : Tree) (a : Message) (n : ℕ) → SaysMessage object a → MessageFault object n → ⊥
+no_message_fault one sound object a n s (in_method h) = no_method_fault (tree_own object) a.method n s.method h
+no_message_fault one sound object a n s (in_meeting h) = no_meeting_fault one sound object true a.meeting n s.says h
+no_message_fault one sound object a n s (not_yet h) = true≢false (sym h ∙ all_read a.method (vevents object) s.read)
+no_message_fault one sound object a n s (no_start_yet named h) =
+    let cancel = one_method (tree_own object) a.method Cancel s.method named in true≢false (sym h ∙ has_start a.method (vevents object) cancel s.read)
 
 -- ---- octets
 
@@ -140,17 +116,17 @@ one_spelled tree one octets a b s t =
     let same : s.tree ≡ t.tree = tree 7 7 (logical_lines octets) s.tree t.tree s.object.spelled t.object.spelled in
     one_said one t.tree a b (subst (λ (x : Tree). SaysMessage x a) same s.says) t.says
 
-pub no_fault : OneTree → PairsUp → NoFault → (octets : List ℕ) (a : Message) (n : ℕ) → SpellsMessage octets a → ObjectFault n octets → ⊥
-no_fault one pairs sound octets a n s (inl h) = true≢false (sym h ∙ read_fine true octets n s.lines)
-no_fault one pairs sound octets a n s (inr (inl h)) = pairs true s.tree (logical_lines octets) n s.object h
-no_fault one pairs sound octets a n s (inr (inr (inl (t, spelled, inl (e, h))))) =
+pub no_fault : OneTree → PairsUp → OneEvent → NoFault → (octets : List ℕ) (a : Message) (n : ℕ) → SpellsMessage octets a → ObjectFault n octets → ⊥
+no_fault one pairs event sound octets a n s (inl h) = true≢false (sym h ∙ read_fine true octets n s.lines)
+no_fault one pairs event sound octets a n s (inr (inl h)) = pairs true s.tree (logical_lines octets) n s.object h
+no_fault one pairs event sound octets a n s (inr (inr (inl (t, spelled, inl (e, h))))) =
     let same : s.tree ≡ t = one 7 7 (logical_lines octets) s.tree t s.object.spelled spelled in
     true≢false (sym s.object.version ∙ (ap (λ (x : Tree). has_version (tree_own x)) same ∙ h))
-no_fault one pairs sound octets a n s (inr (inr (inl (t, spelled, inr (e, h))))) =
+no_fault one pairs event sound octets a n s (inr (inr (inl (t, spelled, inr (e, h))))) =
     let same : t ≡ s.tree = sym (one 7 7 (logical_lines octets) s.tree t s.object.spelled spelled) in
     let many : most_events < count_inside tree_name tree_own tree_inside (codes "VEVENT") s.tree = subst (λ (x : Tree). most_events < count_inside tree_name tree_own tree_inside (codes "VEVENT") x) same h in
     let over : nat_lt most_events (count_inside tree_name tree_own tree_inside (codes "VEVENT") s.tree) ≡ true = grind (arith, nat_tests) in
     true≢false (sym over ∙ s.object.events)
-no_fault one pairs sound octets a n s (inr (inr (inr r))) =
+no_fault one pairs event sound octets a n s (inr (inr (inr r))) =
     let same : s.tree ≡ r.tree = one 7 7 (logical_lines octets) s.tree r.tree s.object.spelled r.object.spelled in
-    no_message_fault sound r.tree a n (subst (λ (x : Tree). SaysMessage x a) same s.says) r.fault
+    no_message_fault event sound r.tree a n (subst (λ (x : Tree). SaysMessage x a) same s.says) r.fault

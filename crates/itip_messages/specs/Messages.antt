@@ -1,17 +1,18 @@
 -- What a message that was read stands for, and the parts of it.
-use Rattle.std.specs.Prelude.{◌≡◌, ℕ, ◌<◌, ◌⊎◌, ◌||◌, ◌&&◌, ◌==◌, Bool, true, false, List, [], ◌∷◌, length, map, filter, Some, if◌then◌else◌}
+use Rattle.std.specs.Prelude.{◌≡◌, ◌≢◌, ℕ, ◌<◌, ◌⊎◌, ◌||◌, ◌&&◌, ◌==◌, Bool, true, false, List, [], length, map, filter, Contains, All, AllPairs, Option, Some, is_some, option_map, if◌then◌else◌}
 use Rattle.ical_lines.specs.Fault.{RefusesBy}
-use Rattle.std.specs.List.{list_any}
+use Rattle.std.specs.List.{list_any, AllZip}
 use Rattle.std.specs.Str.{bytes_eq}
 use Rattle.profile.specs.text.Trees.{Tree}
 use Rattle.profile.specs.events.Events.{Event, booked_by}
 use Rattle.profile.specs.rooms.Messages as profile
-use Rattle.profile.specs.rooms.Messages.{IsContent, canonical, cancels, is_cancel, SaysMessage, SpellsMessage, MessageTextFault, is_method, is_unread_method, are_one_meeting}
+use Rattle.profile.specs.rooms.Messages.{IsContent, canonical, cancels, is_cancel, raised_to, own_revision, AreBySlot, SaysMessage, SpellsMessage, MessageTextFault, is_method, is_unread_method}
+use Rattle.profile.specs.events.Meetings.{Meeting, AreOfOne, events_of}
+use Rattle.profile.specs.text.Values.{IsClockSeconds}
 use Rattle.profile.specs.rooms.Revisions as revisions
 use Rattle.ical_values.specs.Octets.{text_octets, address_octets}
 use Rattle.ical_lines.specs.declared.fault.Fault.{Fault}
 use Rattle.ical_tree.specs.Reading.{Stands}
-use Rattle.itip_order.specs.declared.part.Slot.TheVariants.{Whole}
 use Rattle.itip_order.specs.Parts.{slot_of, revision_of}
 use Rattle.itip_messages.specs.declared.message.MessageComponent.{MessageComponent}
 use Rattle.cal_events.specs.declared.component.EventComponent.{EventComponent}
@@ -32,35 +33,49 @@ abbrev pub purpose_of : Method → Purpose
 purpose_of Request = purposes.Request
 purpose_of Cancel = purposes.Cancel
 
--- the message of that method that a VEVENT says
-abbrev pub said_by : Method → EventComponent → profile.Message
-said_by method event = record { method = method_said method; event = event_of event }
-
 -- the octets are the event's content, in its one form
 pub record IsCanonical (octets : List ℕ) (event : Event) : Type 0 where
   pub content : List (List ℕ)
   pub when : IsContent content event
   pub is : octets ≡ canonical content
 
--- the component is the whole of the event of this message
-pub record SaysComponent (component : MessageComponent) (said : profile.Message) : Type 0 where
-  pub slot : component.slot ≡ Whole
-  pub sequence : component.revision.sequence ≡ said.event.sequence
-  pub stamp : said.event.stamp ≡ Some component.revision.stamp
-  pub start : component.start ≡ said.event.times.start
-  pub end : component.end ≡ (booked_by said.event).end
-  pub cancelled : component.cancelled ≡ cancels said
-  pub canonical : IsCanonical component.canonical.items said.event
-  pub attendees : component.attendees ≡ said.event.attendees
+-- the slot of a VEVENT
+abbrev pub event_slot : EventComponent → revisions.Slot
+event_slot event = profile.slot_of (event_of event)
 
--- it is that message
+-- the slot can be written as a stamp
+abbrev pub IsDated : revisions.Slot → Type 0
+IsDated revisions.Whole = Unit {0}
+IsDated (revisions.At t) = IsClockSeconds t
+
+-- the component is what an event of such a message says, where the whole meeting in it has this revision
+pub record SaysComponent (method : profile.Method) (whole : Option revisions.Revision) (event : Event) (component : MessageComponent) : Type 0 where
+  pub slot : slot_of component.slot ≡ profile.slot_of event
+  pub dated : IsDated (profile.slot_of event)
+  pub revision : revision_of component.revision ≡ raised_to whole (own_revision event)
+  pub start : component.start ≡ event.times.start
+  pub end : component.end ≡ (booked_by event).end
+  pub cancelled : component.cancelled ≡ cancels method event
+  pub canonical : IsCanonical component.canonical.items event
+  pub attendees : component.attendees ≡ event.attendees
+
+-- it is that message: its components are the events by their slots
 pub record StandsFor (message : Message) (said : profile.Message) : Type 0 where
-  pub component : MessageComponent
   pub method : method_said message.method ≡ said.method
-  pub organiser : said.event.organiser ≡ Some (address_octets message.organiser)
-  pub uid : text_octets message.uid ≡ said.event.uid
-  pub one : message.components.items ≡ component ∷ []
-  pub says : SaysComponent component said
+  pub organiser : (event : Event) → Contains (events_of said.meeting) event → event.organiser ≡ Some (address_octets message.organiser)
+  pub uid : (event : Event) → Contains (events_of said.meeting) event → text_octets message.uid ≡ event.uid
+  pub events : List Event
+  pub by_slot : AreBySlot (events_of said.meeting) events
+  pub each : AllZip (SaysComponent said.method (option_map own_revision said.meeting.master)) events message.components.items
+
+-- the meeting is one that a message says
+pub record IsOfMessage (meeting : Meeting) : Type 0 where
+  pub some : 0 < length (events_of meeting)
+  pub one : AreOfOne (events_of meeting)
+  pub organised : All (λ event. is_some event.organiser ≡ true) (events_of meeting)
+  pub stamped : All (λ event. is_some event.stamp ≡ true) (events_of meeting)
+  pub dated : All (λ event. IsDated (profile.slot_of event)) (events_of meeting)
+  pub differ : AllPairs ◌≢◌ (map profile.slot_of (events_of meeting))
 
 -- the object says a message, and it is that
 abbrev pub IsMessageOf : Tree → Message → Type 0
@@ -77,11 +92,6 @@ ReadFault octets fault = Stands true octets fault ⊎ RefusesBy (MessageTextFaul
 -- what is wrong with the word of a METHOD
 abbrev pub WordFault : List ℕ → ℕ → Type 0
 WordFault word n = ((n ≡ 99) × (is_unread_method word ≡ true)) ⊎ ((n ≡ 60) × (is_method word ≡ false))
-
--- what is wrong with the meetings of some events
-abbrev pub MeetingFault : List Event → ℕ → Type 0
-MeetingFault events n =
-    ((n ≡ 66) × (events ≡ [])) ⊎ (((n ≡ 62) × (are_one_meeting events ≡ false)) ⊎ ((n ≡ 53) × (are_one_meeting events ≡ true) × (1 < length events)))
 
 -- an ATTENDEE line of the component has the room's address
 abbrev pub component_names : List ℕ → MessageComponent → Bool

@@ -1,20 +1,25 @@
 //! A message, read: its method, its meeting, and what each VEVENT says (RFC 5546 1.4, 3.2).
-//! Only REQUEST and CANCEL are read so far.
-ghost use Rattle.std.specs.Prelude.{◌≡◌, ◌++◌, ◌||◌, ◌&&◌, ◌==◌, [], List, true, codes, length, map, unwrap_or, IsTrue, IsSome, IfOk, IfErr, OnOk};
-ghost use Rattle.std.specs.List.{list_all};
+//! Only REQUEST and CANCEL are read so far. The VEVENTs are in the order of their slots: the whole meeting first, and then its instances.
+ghost use Rattle.std.specs.Prelude.{◌≡◌, ◌++◌, ◌||◌, ◌&&◌, ◌==◌, ◌<◌, [], List, Contains, Some, true, codes, length, map, option_map, IsTrue, IsSome, IfOk, IfErr, OnOk};
+ghost use Rattle.std.specs.List.{AllZip};
+ghost use Rattle.std.specs.List.Sorted.{IsPermutation, IsSortedByKey};
 ghost use Rattle.ical_lines.specs.Fault.{RefusesOnly, RefusesBy};
 ghost use Rattle.ical_lines.specs.Text.{line_text};
 ghost use Rattle.ical_tree.specs.Tree.{tree_of};
-ghost use Rattle.ical_values.specs.Octets.{address_octets};
+ghost use Rattle.ical_values.specs.Octets.{address_octets, text_octets};
 ghost use Rattle.profile.specs.faults.Faults.{is_message_fault};
 ghost use Rattle.profile.specs.text.Lines.{line_value, is_same_name};
 ghost use Rattle.profile.specs.text.Values.{duration_text};
-ghost use Rattle.profile.specs.rooms.Messages.{NamesMethod, MethodFault, MessageFault, cancels, method_word, is_cancel, is_same_meeting, is_unread_method};
+ghost use Rattle.profile.specs.rooms.Messages.{NamesMethod, MethodFault, MessageFault, cancels, method_word, is_cancel, is_unread_method, later_of, own_revision, raised_to};
+ghost use Rattle.profile.specs.rooms.Revisions.{slot_cmp};
 ghost use Rattle.cal_events.specs.Events.{event_of};
-ghost use Rattle.itip_messages.specs.Messages.{IsCanonical, IsMessageOf, IsSpelled, MeetingFault, ReadFault, StandsFor, WordFault, component_names, method_said, purpose_of, said_by};
+ghost use Rattle.cal_events.specs.OneMeeting.{meeting_of};
+ghost use Rattle.cal_events.specs.declared.component.EventComponent.{EventComponent};
+ghost use Rattle.itip_order.specs.Parts.{slot_of, revision_of};
+ghost use Rattle.itip_messages.specs.Messages.{IsCanonical, IsDated, IsMessageOf, IsOfMessage, IsSpelled, ReadFault, SaysComponent, StandsFor, WordFault, component_names, event_slot, method_said, purpose_of};
 
 use crate::attendees::Attendees;
-use cal_events::{EventComponent, Purpose, read_events, refuse_unread_events};
+use cal_events::{EventComponent, MeetingComponents, Purpose, refuse_unread_events};
 use ical_lines::{Fault, Limits, Line, Refusal, Unfolded};
 use ical_tree::{Component, Properties, read_object};
 use ical_values::{Address, Duration, Sequence, Stamp, Text};
@@ -81,7 +86,7 @@ impl Method {
 
     /// Whether such a message cancels what a VEVENT of it says: by METHOD, or by STATUS.
     fn cancels(self, event: &EventComponent) -> bool
-        ensures { result ≡ cancels (said_by self event.now) }
+        ensures { result ≡ cancels (method_said self) (event_of event.now) }
     {
         self.is_cancel() || event.cancelled
     }
@@ -90,9 +95,9 @@ impl Method {
 /// What one VEVENT of a message says.
 #[derive(Drop)]
 pub struct MessageComponent {
-    /// The whole meeting; a single start where RECURRENCE-ID is read.
+    /// The instance that RECURRENCE-ID names, else the whole meeting.
     pub slot: Slot,
-    /// SEQUENCE and DTSTAMP.
+    /// SEQUENCE and DTSTAMP, or those of the whole meeting in the message, if they are later.
     pub revision: Revision,
     /// The instant at which it starts.
     pub start: Stamp,
@@ -108,6 +113,35 @@ pub struct MessageComponent {
 }
 
 impl MessageComponent {
+    /// What a VEVENT of such a message says, where the whole meeting in it has this revision. It fails only for memory.
+    fn of(
+        alloc: Global,
+        method: Method,
+        whole: Option<Revision>,
+        event: EventComponent,
+    ) -> Result<MessageComponent, AllocError>
+        requires stamp { IsSome event.stamp }
+        requires dated { IsDated (event_slot event) }
+        ensures { IfOk result (SaysComponent (method_said method) (option_map revision_of whole) (event_of event)) }
+    {
+        let canonical = canonical_body(alloc, &event)?;
+        let slot = slot_in(&event);
+        let revision = raised(whole, own_revision(&event));
+        let end = event.end();
+        let cancelled = method.cancels(&event);
+        let start = event.times.instant;
+        let attendees = Attendees::of(alloc, event.attendees)?;
+        Ok(MessageComponent {
+            slot,
+            revision,
+            start,
+            end,
+            cancelled,
+            canonical,
+            attendees,
+        })
+    }
+
     /// Whether an ATTENDEE line has this address.
     pub fn names(&self, address: &Address) -> bool
         ensures { result ≡ component_names (address_octets address.now) self.now }
@@ -135,8 +169,8 @@ pub struct Message {
 impl Message {
     /// Reads a message.
     /// Refused: 1 to 6 and 20 to 25 for the object, 99 for what isn't read yet, 60 for another METHOD or two, 66
-    /// without a VEVENT, 10 to 16, 50 to 52, 55, 56, 61 and 63 for a VEVENT, 62 for two meetings, 53 for two
-    /// VEVENTs without RECURRENCE-ID.
+    /// without a VEVENT, 10 to 16, 50 to 52, 55, 56, 61, 63 and 65 for a VEVENT, 62 for two meetings, 53 for two
+    /// VEVENTs without RECURRENCE-ID, 54 for two of one instance.
     pub fn read(alloc: Global, bytes: &[u8]) -> Result<Message, Fault>
         ensures spells { IfOk result (IsSpelled bytes.now) }
         ensures refuses { IfErr result (RefusesOnly is_message_fault) }
@@ -172,42 +206,24 @@ impl Message {
     {
         let properties = Properties::of(alloc, object)?;
         let method = Method::of(&properties)?;
-        let mut events = read_events(alloc, object, method.purpose())?;
-        judge_meeting(events.as_slice())?;
-        let event = events.remove(0);
-        Ok(Message::of(alloc, method, event)?)
+        let meeting = MeetingComponents::read(alloc, object, method.purpose())?;
+        Ok(Message::of(alloc, method, meeting)?)
     }
 
-    fn of(alloc: Global, method: Method, event: EventComponent) -> Result<Message, AllocError>
-        requires organiser { IsSome event.organiser }
-        requires stamp { IsSome event.stamp }
-        ensures { IfOk result (λ message. StandsFor message (said_by method event)) }
+    /// The message of that method that the VEVENTs of a meeting are. In time n log n; it fails only for memory.
+    fn of(alloc: Global, method: Method, meeting: MeetingComponents) -> Result<Message, AllocError>
+        requires { IsOfMessage (meeting_of meeting) }
+        ensures { IfOk result (λ message. StandsFor message (record { method = method_said method; meeting = meeting_of meeting })) }
     {
-        let canonical = canonical_body(alloc, &event)?;
-        let end = event.end();
-        let cancelled = method.cancels(&event);
-        let attendees = Attendees::of(alloc, event.attendees)?;
-        let (Some(organiser), Some(stamp)) = (event.organiser, event.stamp) else {
-            unreachable!()
-        };
-        let component = MessageComponent {
-            slot: Slot::Whole,
-            revision: Revision {
-                sequence: event.sequence,
-                stamp,
-            },
-            start: event.times.instant,
-            end,
-            cancelled,
-            canonical,
-            attendees,
-        };
-        let mut components = Vec::new(alloc);
-        components.push(component)?;
+        let whole = whole_revision(&meeting.master);
+        let mut events = meeting.into_events(alloc)?;
+        sort_by_slot(&mut events);
+        let (organiser, uid) = name_of(&events)?;
+        let components = components_of(alloc, method, whole, events)?;
         Ok(Message {
             method,
             organiser,
-            uid: event.uid,
+            uid,
             components,
         })
     }
@@ -233,7 +249,7 @@ impl Message {
         &self.uid
     }
 
-    /// The VEVENTs, in the order of the text.
+    /// The VEVENTs, by their slots: the whole meeting first, and then its instances.
     pub fn components(&self) -> &[MessageComponent]
         ensures { result.now ≡ self.now.components.items }
     {
@@ -250,47 +266,103 @@ fn is_unread_method(word: &str) -> bool
         || word.eq_ignore_ascii_case("REFRESH")
 }
 
-/// Refuses no VEVENT, VEVENTs that aren't one meeting's, or more than one: without RECURRENCE-ID each is the
-/// whole meeting.
-/// Refused: 66 for none, 62 for two UIDs or ORGANIZERs, 53 for two VEVENTs of one meeting.
-fn judge_meeting(events: &[EventComponent]) -> Result<(), Refusal>
-    ensures one { OnOk result (length events.now ≡ 1) }
-    ensures refuses { IfErr result (λ e. IsTrue (is_message_fault e.number)) }
-    ensures stands { IfErr result (λ e. MeetingFault (map event_of events.now) e.number) }
+/// The slot of a VEVENT: the instance that RECURRENCE-ID names, else the whole meeting (RFC 5545 3.8.4.4).
+fn slot_in(event: &EventComponent) -> Slot
+    ensures { slot_of result ≡ event_slot event.now }
 {
-    let Some((first, others)) = events.split_first() else {
-        return Err(Refusal::NO_EVENT);
+    match event.recurrence {
+        Some(instant) => Slot::At(instant),
+        None => Slot::Whole,
+    }
+}
+
+/// Puts VEVENTs in the order of their slots.
+fn sort_by_slot(events: &mut Vec<EventComponent>)
+    ensures same { IsPermutation events.old.items events.new.items }
+    ensures rises { IsSortedByKey event_slot slot_cmp events.new.items }
+{
+    events.sort_unstable_by(|a, b| slot_in(a).cmp(&slot_in(b)));
+}
+
+/// SEQUENCE and DTSTAMP of a VEVENT.
+fn own_revision(event: &EventComponent) -> Revision
+    requires { IsSome event.now.stamp }
+    ensures { revision_of result ≡ own_revision (event_of event.now) }
+{
+    let Some(stamp) = event.stamp else {
+        unreachable!()
     };
-    if !are_one_meeting(first, others) {
-        return Err(Refusal::TWO_MEETINGS);
+    Revision {
+        sequence: event.sequence,
+        stamp,
     }
-    if !others.is_empty() {
-        return Err(Refusal::TWO_MASTERS);
-    }
-    Ok(())
 }
 
-fn are_one_meeting(first: &EventComponent, others: &[EventComponent]) -> bool
-    ensures { result ≡ list_all (λ other. is_same_meeting (event_of first.now) (event_of other)) others.now }
+/// Those of the whole meeting, if that is in the message.
+fn whole_revision(master: &Option<EventComponent>) -> Option<Revision>
+    requires { (event : EventComponent) → master.now ≡ Some event → IsSome event.stamp }
+    ensures { option_map revision_of result ≡ option_map own_revision (option_map event_of master.now) }
 {
-    others.iter().all(|other| is_same_meeting(first, other))
-}
-
-/// Whether both are of the UID of one ORGANIZER.
-fn is_same_meeting(a: &EventComponent, b: &EventComponent) -> bool
-    ensures { result ≡ is_same_meeting (event_of a.now) (event_of b.now) }
-{
-    a.uid.as_str() == b.uid.as_str() && organiser_of(a) == organiser_of(b)
-}
-
-/// The ORGANIZER's address; the empty text where there is none.
-fn organiser_of(event: &EventComponent) -> &str
-    ensures { result.now ≡ unwrap_or (event_of event.now).organiser [] }
-{
-    match &event.organiser {
-        Some(organiser) => organiser.as_str(),
-        None => "",
+    match master {
+        Some(event) => Some(own_revision(event)),
+        None => None,
     }
+}
+
+/// A revision, or that of the whole meeting, if that is later.
+fn raised(whole: Option<Revision>, own: Revision) -> Revision
+    ensures { revision_of result ≡ raised_to (option_map revision_of whole) (revision_of own) }
+{
+    match whole {
+        Some(whole) => later(own, whole),
+        None => own,
+    }
+}
+
+/// The later of two revisions.
+fn later(a: Revision, b: Revision) -> Revision
+    ensures { revision_of result ≡ later_of (revision_of a) (revision_of b) }
+{
+    if a.cmp(&b).is_lt() {
+        return b;
+    }
+    a
+}
+
+/// The ORGANIZER and the UID of the first of some VEVENTs. It fails only for memory.
+fn name_of(events: &[EventComponent]) -> Result<(Address, Text), AllocError>
+    requires some { 0 < length events.now }
+    requires organised { (event : EventComponent) → Contains events.now event → IsSome event.organiser }
+    ensures { IfOk result (λ name. (event : EventComponent) × Contains events.now event
+        × ((event_of event).organiser ≡ Some (address_octets name.0)) × ((event_of event).uid ≡ text_octets name.1)) }
+{
+    let Some(first) = events.first() else {
+        unreachable!()
+    };
+    let Some(organiser) = &first.organiser else {
+        unreachable!()
+    };
+    let organiser = organiser.clone()?;
+    let uid = first.uid.clone()?;
+    Ok((organiser, uid))
+}
+
+/// What some VEVENTs of such a message say, in their order. It fails only for memory.
+fn components_of(
+    alloc: Global,
+    method: Method,
+    whole: Option<Revision>,
+    events: Vec<EventComponent>,
+) -> Result<Vec<MessageComponent>, AllocError>
+    requires stamped { (event : EventComponent) → Contains events.items event → IsSome event.stamp }
+    requires dated { (event : EventComponent) → Contains events.items event → IsDated (event_slot event) }
+    ensures { IfOk result (λ components. AllZip (SaysComponent (method_said method) (option_map revision_of whole)) (map event_of events.items) components.items) }
+{
+    let mut components = Vec::new(alloc);
+    for event in events {
+        components.push(MessageComponent::of(alloc, method, whole, event)?)?;
+    }
+    Ok(components)
 }
 
 /// The lines of a body from DTSTART on, in their one form, unfolded, each ended by CRLF.

@@ -14,7 +14,7 @@ use itip_order::{Body, Part};
 use std::alloc::{AllocError, Global};
 
 impl Message {
-    /// The parts that the message has for a room, in the order of the text; none where it isn't addressed to it.
+    /// The parts that the message has for a room, the whole meeting first and then its instances; none where it isn't addressed to it.
     /// A component that is cancelled has a Cancelled body. Another one that doesn't name the room has an Absent body:
     /// for this room it isn't on.
     pub fn parts(&self, alloc: Global, room: &Address) -> Result<Vec<Part>, AllocError>

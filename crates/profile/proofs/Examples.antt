@@ -10,8 +10,8 @@ use Rattle.profile.specs.checker.Calendars.{CalendarTextFault, in_lines, in_tree
 use Rattle.profile.specs.text.Trees.{Tree, tree, none, more, vevents}
 use Rattle.profile.specs.events.Events.{Event, Participation, Accepted, Declined, NeedsAction, is_unread_in_message, answer_named, booked_by, answer_of}
 use Rattle.profile.specs.events.Properties.{lines_named}
-use Rattle.profile.specs.rooms.Revisions.{Part, Whole, Set, same_meeting}
-use Rattle.profile.specs.rooms.Messages.{Accept, SinglesLimit, Request, Cancel, MethodFault, no_method, has_unread_in, cancels, is_addressed, object_lines, word}
+use Rattle.profile.specs.rooms.Revisions.{Part, Whole, Set, Absent, same_meeting}
+use Rattle.profile.specs.rooms.Messages.{Accept, SinglesLimit, Message, Method, Request, Cancel, MethodFault, no_method, has_unread_in, cancels, is_addressed, parts_for, revision_beside, IsBody, object_lines, word}
 use Rattle.profile.specs.rooms.Rooms.{Answer, Book, Claim, empty_book, is_confirmed}
 use Rattle.profile.specs.rooms.Kept.{IsKept, kept_certificate, first_parts}
 use Rattle.profile.specs.streams.Streams.{Now, Room, moments, rooms, refused_line, AreObjects}
@@ -114,8 +114,11 @@ an_event_of_one_line_is_read = refl
 a_cancelled_status_is_read : has_unread_in Request (codes "STATUS:CANCELLED" ∷ codes "DTSTART:20250310T090000Z" ∷ []) ≡ false
 a_cancelled_status_is_read = refl
 
-an_instance_is_unread : has_unread_in Cancel (codes "DTSTART:20250310T090000Z" ∷ codes "RECURRENCE-ID:20250310T090000Z" ∷ []) ≡ true
-an_instance_is_unread = refl
+an_instance_is_read : has_unread_in Cancel (codes "DTSTART:20250310T090000Z" ∷ codes "RECURRENCE-ID:20250310T090000Z" ∷ []) ≡ false
+an_instance_is_read = refl
+
+an_instance_in_a_zone_is_unread : has_unread_in Request (codes "RECURRENCE-ID;TZID=Z:20250310T090000" ∷ []) ≡ true
+an_instance_in_a_zone_is_unread = refl
 
 -- a REQUEST has to have DTSTART, which is another fault
 a_cancel_without_start_is_unread : has_unread_in Cancel (codes "UID:a" ∷ []) ≡ true
@@ -127,23 +130,61 @@ a_request_without_start_is_not = refl
 abbrev cancelled_event : Event
 cancelled_event = record (event_with NeedsAction NeedsAction) { cancelled = true }
 
-a_cancelled_request_cancels : cancels (record { method = Request; event = cancelled_event }) ≡ true
+a_cancelled_request_cancels : cancels Request cancelled_event ≡ true
 a_cancelled_request_cancels = refl
 
-another_request_does_not : cancels (record { method = Request; event = event_with NeedsAction NeedsAction }) ≡ false
+another_request_does_not : cancels Request (event_with NeedsAction NeedsAction) ≡ false
 another_request_does_not = refl
 
 abbrev event_of_nobody : Event
 event_of_nobody = record (event_with NeedsAction NeedsAction) { attendees = [] }
 
-a_cancel_to_nobody_is_for_each_room : is_addressed (codes "r:2") (record { method = Cancel; event = event_of_nobody }) ≡ true
+-- a message of a whole meeting alone
+abbrev of_one : Method → Event → Message
+of_one method event = record { method = method; meeting = record { master = Some event; overrides = [] } }
+
+a_cancel_to_nobody_is_for_each_room : is_addressed (codes "r:2") (of_one Cancel event_of_nobody) ≡ true
 a_cancel_to_nobody_is_for_each_room = refl
 
-a_request_to_nobody_is_for_none : is_addressed (codes "r:2") (record { method = Request; event = event_of_nobody }) ≡ false
+a_request_to_nobody_is_for_none : is_addressed (codes "r:2") (of_one Request event_of_nobody) ≡ false
 a_request_to_nobody_is_for_none = refl
 
-a_cancel_to_another_is_not_for_it : is_addressed (codes "r:2") (record { method = Cancel; event = event_with NeedsAction NeedsAction }) ≡ false
+a_cancel_to_another_is_not_for_it : is_addressed (codes "r:2") (of_one Cancel (event_with NeedsAction NeedsAction)) ≡ false
 a_cancel_to_another_is_not_for_it = refl
+
+-- a meeting of nobody, and of it one instance, of an earlier revision, to which r:1 is asked
+abbrev whole : Event
+whole = record event_of_nobody { sequence = 2; stamp = Some (pos 50) }
+
+abbrev instance : Event
+instance = record (event_with NeedsAction NeedsAction) { sequence = 1; stamp = Some (pos 60); recurrence = Some (pos 7) }
+
+abbrev of_both : Method → Message
+of_both method = record { method = method; meeting = record { master = Some whole; overrides = instance ∷ [] } }
+
+-- named in one instance alone, a room has a part for each
+a_room_of_one_instance_has_both : parts_for (codes "r:1") (of_both Request) ≡ whole ∷ instance ∷ []
+a_room_of_one_instance_has_both = refl
+
+the_whole_is_absent_for_it : IsBody (codes "r:1") Request whole [] Absent
+the_whole_is_absent_for_it = (refl, refl, refl)
+
+-- of a CANCEL those alone that name it, or nobody
+a_cancel_of_another_instance : parts_for (codes "r:2") (of_both Cancel) ≡ whole ∷ []
+a_cancel_of_another_instance = refl
+
+-- the revision of an instance is no earlier than that of its whole
+raised : revision_beside (Some whole) instance ≡ record { sequence = 2; stamp = pos 50 }
+raised = refl
+
+not_lowered : revision_beside (Some whole) (record instance { sequence = 3 }) ≡ record { sequence = 3; stamp = pos 60 }
+not_lowered = refl
+
+alone_it_has_its_own : revision_beside None instance ≡ record { sequence = 1; stamp = pos 60 }
+alone_it_has_its_own = refl
+
+what_an_instance_books : booked_by instance ≡ record { key = record { organiser = []; uid = codes "a"; slot = pos 7 }; start = pos 100; end = pos 86_501 }
+what_an_instance_books = refl
 
 -- ---- what a room writes
 

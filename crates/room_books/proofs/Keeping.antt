@@ -1,45 +1,38 @@
 -- What the meetings keep is what their book does.
-use Rattle.std.proofs.Common.{◌≡◌, ◌≢◌, ℕ, true, List, [], ◌∷◌, inl, inr, refl, sym, ap, ◌∙◌, subst}
+use Rattle.std.proofs.Common.{◌≡◌, ◌≢◌, ℕ, Bool, true, false, not, ◌&&◌, ◌||◌, cond, List, [], ◌∷◌, ◌++◌, map, inl, inr, refl, sym, ap, ◌∙◌, subst}
+use Rattle.std.specs.Prelude.{if◌then◌else◌}
 use Rattle.std.specs.declared.cmp.Ordering.TheVariants.{Less, Equal}
-use Rattle.std.specs.Ordering.{is_lt, ordering_then}
-use Rattle.std.specs.List.{Contains, flat_map, AllZip, IsDistinct}
+use Rattle.std.specs.Ordering.{is_lt, is_eq, ordering_then}
+use Rattle.std.specs.List.{Contains, flat_map, filter, AllZip, IsDistinct}
 use Rattle.std.specs.Map.{keys_of, values_of}
-use Rattle.std.proofs.lemmas.Bool.{and_parts, and_from}
+use Rattle.std.proofs.lemmas.Bool.{and_parts, and_from, true≢false, false_from_ne_true}
+use Rattle.std.proofs.lemmas.List.{map-append}
 use Rattle.ical_values.proofs.Facts.{is_lt_true}
 use Rattle.itip_order.specs.Registers.{is_ascending, shown, IsView}
 use Rattle.itip_order.proofs.Lasting.{view_one, view_taken}
 use Rattle.itip_order.proofs.Lists.{in_cons, in_head, in_tail, none_in_nil, all_at, filter_at, filter_from}
 use Rattle.itip_order.proofs.Order.{is_eq_true}
 use Rattle.itip_order.proofs.Registers.{ascending_filter, view_of_registers}
-use Rattle.profile.specs.rooms.Kept.{AreKeptOf, AreKept, IsKeptEvent, first_parts}
-use Rattle.profile.specs.rooms.Revisions.{Part, in_view, meeting_cmp, place_cmp, slot_cmp}
+use Rattle.profile.specs.rooms.Kept.{Entry, Shown, Hidden, part_kept, IsKept, IsEntry, AreKeptOf, AreKept, IsKeptEvent, first_parts}
+use Rattle.profile.specs.rooms.Revisions.{Part, Slot, Whole, in_view, is_whole, meeting_cmp, place_cmp, same_meeting, slot_cmp}
 use Rattle.profile.specs.rooms.Rooms.{Claim, Answer, Book, is_accept, is_confirmed, is_set}
 use Rattle.room_books.specs.declared.meeting.MeetingKey.{MeetingKey}
 use Rattle.room_books.specs.declared.meeting.Meeting.{Meeting}
 use Rattle.room_books.specs.Views.{same_key}
-use Rattle.room_books.specs.Standing.{Pairwise, IsText, is_of, of_meeting, answers_of, book_of, standing, IsGiven, Meets, AreKeysOf, Stands}
+use Rattle.room_books.specs.Standing.{Pairwise, IsText, SlotDated, is_of, of_meeting, answers_of, book_of, standing, IsGiven, Meets, AreKeysOf, Stands}
 use Rattle.room_books.specs.Takings.{body_lines}
-use Rattle.room_books.specs.Keeping.{IsEventOf, is_accepted, kept_in, all_kept}
+use Rattle.room_books.specs.Keeping.{IsEntryEvent, accepted_slots, has_slot, entry_of, is_accepted, is_hiding, kept_in, all_kept}
 use Rattle.room_books.proofs.Arrivals.{key_meeting}
 use Rattle.room_books.proofs.Entries.{meeting_at}
 use Rattle.room_books.proofs.Loops.{zip_both, zip_to, zip_from}
 use Rattle.room_books.proofs.Meetings.{same_place_of, view_of}
-use Rattle.room_books.proofs.Pairs.{pairs_from}
-use Rattle.room_books.proofs.AcceptedSlots.{accepted_from, accepted_at}
-
--- ---- two lists side by side
-
-zip_then : {X Y Z : Type 0} (R : X → Y → Type 0) (S : Y → Z → Type 0) (T : X → Z → Type 0) (xs : List X) (ys : List Y) (zs : List Z) → ((x : X) (y : Y) (z : Z) → R x y → S y z → T x z) → AllZip R xs ys → AllZip S ys zs → AllZip T xs zs
-zip_then R S T [] [] zs f p q = q
-zip_then R S T [] (y ∷ ys) zs f p q = absurd p
-zip_then R S T (x ∷ xs) [] zs f p q = absurd p
-zip_then R S T (x ∷ xs) (y ∷ ys) [] f p q = absurd q
-zip_then R S T (x ∷ xs) (y ∷ ys) (z ∷ zs) f p q = (f x y z p.0 q.0, zip_then R S T xs ys zs f p.1 q.1)
+use Rattle.room_books.proofs.Pairs.{pairs_from, map_at, map_from, flat_at, flat_from}
+use Rattle.room_books.proofs.AcceptedSlots.{accepted_from, accepted_at, slot_same}
 
 -- ---- answers and their claims
 
 -- no two of these are to one part
-one_answer : (xs : List Answer) (a b : Answer) → Pairwise (λ a b. a.claim.part ≢ b.claim.part) xs → Contains xs a → Contains xs b → a.claim.part ≡ b.claim.part → a ≡ b
+pub one_answer : (xs : List Answer) (a b : Answer) → Pairwise (λ a b. a.claim.part ≢ b.claim.part) xs → Contains xs a → Contains xs b → a.claim.part ≡ b.claim.part → a ≡ b
 one_answer [] a b p c d e = absurd (none_in_nil a c)
 one_answer (x ∷ xs) a b p c d e = elim (in_cons x xs a c) [
   | inl here ↦ elim (in_cons x xs b d) [
@@ -52,20 +45,30 @@ one_answer (x ∷ xs) a b p c d e = elim (in_cons x xs a c) [
   ]
 ]
 
--- the claim of the part, to which the book has an answer that confirms it
-record IsClaimOf (book : Book) (claim : Claim) (part : Part) : Type 0 where
-  answer : Answer
-  given : Contains book.answers answer
-  confirms : is_confirmed book.taken answer ≡ true
-  to : answer.claim ≡ claim
-  of_part : claim.part ≡ part
+-- the book has an answer that confirms the part
+abbrev HasAnswer : Book → Part → Type 0
+HasAnswer book p = (a : Answer) × Contains book.answers a × (is_confirmed book.taken a ≡ true) × (a.claim.part ≡ p)
 
-claims_for : (book : Book) (ps : List Part) → ((p : Part) → Contains ps p → (a : Answer) × Contains book.answers a × (is_confirmed book.taken a ≡ true) × (a.claim.part ≡ p)) → (claims : List Claim) × AllZip (IsClaimOf book) claims ps
-claims_for book [] h = ([], tt)
-claims_for book (p ∷ ps) h =
-    let a = h p (in_head p ps) in
-    let rest = claims_for book ps (λ q c. h q (in_tail p ps q c)) in
-    (a.0.claim ∷ rest.0, (record { answer = a.0; given = a.1; confirms = a.2; to = refl; of_part = a.3 }, rest.1))
+-- the entry is that of the part, shown by an answer of the book, or hiding
+IsOfEntry : Book → Entry → Bool × Part → Type 0
+IsOfEntry book entry (true, part) = (h : HasAnswer book part) × (entry ≡ Shown h.0.claim)
+IsOfEntry book entry (false, part) = entry ≡ Hidden part
+
+part_there : (book : Book) (entry : Entry) (b : Bool) (part : Part) → IsOfEntry book entry (b, part) → part_kept entry ≡ part
+unfolding IsOfEntry
+part_there book entry true part (h, is) = ap part_kept is ∙ h.3
+part_there book entry false part is = ap part_kept is
+
+entries_for : (book : Book) (ps : List (Bool × Part)) → ((p : Part) → Contains ps (true, p) → HasAnswer book p) → (entries : List Entry) × AllZip (IsOfEntry book) entries ps
+unfolding IsOfEntry
+entries_for book [] h = ([], tt)
+entries_for book ((true, p) ∷ ps) h =
+    let a = h p (in_head (true, p) ps) in
+    let rest = entries_for book ps (λ q c. h q (in_tail (true, p) ps (true, q) c)) in
+    (Shown a.0.claim ∷ rest.0, ((a, refl), rest.1))
+entries_for book ((false, p) ∷ ps) h =
+    let rest = entries_for book ps (λ q c. h q (in_tail (false, p) ps (true, q) c)) in
+    (Hidden p ∷ rest.0, (refl, rest.1))
 
 -- ---- the order of slots
 
@@ -74,20 +77,63 @@ place_less key p q e f l =
     let equal : meeting_cmp p q ≡ Equal = is_eq_true _ (sym (key_meeting key p q e) ∙ f) in
     is_lt_true (slot_cmp p.slot q.slot) (sym (ap (λ o. is_lt (ordering_then o (slot_cmp p.slot q.slot))) equal) ∙ l)
 
-abbrev Rises : Claim → Claim → Type 0
-Rises a b = slot_cmp a.part.slot b.part.slot ≡ Less
+abbrev Rises : Entry → Entry → Type 0
+Rises a b = slot_cmp (part_kept a).slot (part_kept b).slot ≡ Less
 
-claims_rise : (book : Book) (key : MeetingKey) (claims : List Claim) (ps : List Part) → AllZip (IsClaimOf book) claims ps → is_ascending ps ≡ true → ((p : Part) → Contains ps p → is_of key p ≡ true) → Pairwise Rises claims
-claims_rise book key [] ps z up own = tt
-claims_rise book key (c ∷ cs) [] z up own = absurd z
-claims_rise book key (c ∷ cs) (p ∷ ps) z up own =
+abbrev parts_in : List (Bool × Part) → List Part
+parts_in ps = map (λ p. p.1) ps
+
+entries_rise : (book : Book) (key : MeetingKey) (entries : List Entry) (ps : List (Bool × Part)) → AllZip (IsOfEntry book) entries ps → is_ascending (parts_in ps) ≡ true → ((p : Part) → Contains (parts_in ps) p → is_of key p ≡ true) → Pairwise Rises entries
+entries_rise book key [] ps z up own = tt
+entries_rise book key (c ∷ cs) [] z up own = absurd z
+entries_rise book key (c ∷ cs) ((b, p) ∷ ps) z up own =
     let both = and_parts _ _ up in (
       λ d in_cs.
-          let other = zip_to (IsClaimOf book) cs ps d z.1 in_cs in
-          let less = place_less key p other.0 (own p (in_head p ps)) (own other.0 (in_tail p ps other.0 other.1)) (all_at (λ later. is_lt (place_cmp p later)) ps other.0 both.0 other.1) in
-          (λ i. slot_cmp (z.0.of_part i).slot (other.2.of_part i).slot) ∙ less,
-      claims_rise book key cs ps z.1 both.1 (λ q k. own q (in_tail p ps q k)),
+          let other = zip_to (IsOfEntry book) cs ps d z.1 in_cs in
+          let q = other.0.1 in
+          let in_ps : Contains (parts_in ps) q = map_from (λ (x : Bool × Part). x.1) ps other.0 other.1 in
+          let less = place_less key p q (own p (in_head p (parts_in ps))) (own q (in_tail p (parts_in ps) q in_ps)) (all_at (λ later. is_lt (place_cmp p later)) (parts_in ps) q both.0 in_ps) in
+          (λ i. slot_cmp (part_there book c b p z.0 i).slot (part_there book d other.0.0 q other.2 i).slot) ∙ less,
+      entries_rise book key cs ps z.1 both.1 (λ q k. own q (in_tail p (parts_in ps) q k)),
     )
+
+-- ---- what is kept of a part
+
+-- where something is, it is that part, shown or hiding
+entry_at : (hides shown : Bool) (x : Part) (b : Bool) (p : Part) → Contains (entry_of hides shown x) (b, p) → (x ≡ p) × (shown ≡ b) × (b ≡ false → (hides ≡ true) × (is_whole x ≡ false))
+entry_at hides true x b p c = elim (in_cons (true, x) [] (b, p) c) [
+  | inl here ↦ (ap (λ (e : Bool × Part). e.1) here, ap (λ (e : Bool × Part). e.0) here, λ f. absurd (true≢false (ap (λ (e : Bool × Part). e.0) here ∙ f)))
+  | inr none ↦ absurd (none_in_nil (b, p) none)
+]
+entry_at false false x b p c = absurd (none_in_nil (b, p) c)
+entry_at true false x b p c = by_whole (is_whole x) refl c
+  where
+    by_whole : (w : Bool) → is_whole x ≡ w → Contains {X = Bool × Part} (if not w then (false, x) ∷ [] else []) (b, p) → (x ≡ p) × (false ≡ b) × (b ≡ false → (true ≡ true) × (is_whole x ≡ false))
+    by_whole true e k = absurd (none_in_nil (b, p) k)
+    by_whole false e k = elim (in_cons (false, x) [] (b, p) k) [
+      | inl here ↦ (ap (λ (y : Bool × Part). y.1) here, ap (λ (y : Bool × Part). y.0) here, λ f. (refl, e))
+      | inr none ↦ absurd (none_in_nil (b, p) none)
+    ]
+
+-- those of which something is kept
+keeps : Bool → (Part → Bool) → Part → Bool
+keeps hides f p = f p || (hides && not (is_whole p))
+
+parts_kept : (hides : Bool) (f : Part → Bool) (xs : List Part) → parts_in (flat_map (λ p. entry_of hides (f p) p) xs) ≡ filter (keeps hides f) xs
+unfolding keeps
+parts_kept hides f [] = refl
+parts_kept hides f (x ∷ xs) =
+    map-append (λ (e : Bool × Part). e.1) (entry_of hides (f x) x) (flat_map (λ p. entry_of hides (f p) p) xs)
+    ∙ ap (λ l. parts_in (entry_of hides (f x) x) ++ l) (parts_kept hides f xs) ∙ one (f x) hides (is_whole x) (filter (keeps hides f) xs)
+  where
+    one : (s h w : Bool) (rest : List Part) → parts_in (if s then (true, x) ∷ [] else (if h && not w then (false, x) ∷ [] else [])) ++ rest ≡ cond (s || (h && not w)) (x ∷ rest) rest
+    one true h w rest = refl
+    one false true true rest = refl
+    one false true false rest = refl
+    one false false w rest = refl
+
+whole_slot : (q : Part) → is_whole q ≡ true → q.slot ≡ Whole
+whole_slot q h = slot_same q.slot Whole h
 
 -- ---- one meeting
 
@@ -102,65 +148,150 @@ module _ (entries : List (MeetingKey × Meeting)) (book : Book) (key : MeetingKe
   unfolding own
   view = view_of_registers meeting.held own meets.held
 
-  -- a confirmed answer's part is kept
-  kept_from : (a : Answer) → Contains book.answers a → is_of key a.claim.part ≡ true → is_confirmed book.taken a ≡ true → Contains (kept_in meeting) a.claim.part
+  abbrev entry_in : Part → List (Bool × Part)
+  entry_in p = entry_of (is_hiding meeting) (is_accepted meeting p) p
+
+  -- a confirmed answer's part is in the view, and accepted
+  seen_from : (a : Answer) → Contains book.answers a → is_of key a.claim.part ≡ true → is_confirmed book.taken a ≡ true → Contains (shown meeting.held) a.claim.part × (is_accepted meeting a.claim.part ≡ true)
   unfolding own mine
-  kept_from a c o k =
+  seen_from a c o k =
       let both = and_parts _ _ k in
       let seen : in_view own a.claim.part ≡ true = view_of key book.taken a.claim.part o ∙ both.1 in
       let stands = filter_from (λ x. in_view own x.claim.part) mine a (filter_from (λ x. is_of key x.claim.part) book.answers a c o) seen in
-      let g = zip_to (IsGiven key own) (standing own mine) meeting.answers.items a meets.answers stands in
-      filter_from (is_accepted meeting) (shown meeting.held) a.claim.part ((view.exact a.claim.part).1 seen)
-      (accepted_from meeting.answers.items g.0 a.claim.part.slot g.1 g.2.slot (ap is_accept g.2.outcome ∙ both.0))
+      let g = zip_to (IsGiven key own) (standing own mine) meeting.answers.items a meets.answers stands in (
+        (view.exact a.claim.part).1 seen,
+        accepted_from meeting.answers.items g.0 a.claim.part.slot g.1 g.2.slot (ap is_accept g.2.outcome ∙ both.0),
+      )
 
-  kept_own : (p : Part) → Contains (kept_in meeting) p → is_of key p ≡ true
+  shown_own : (p : Part) → Contains (shown meeting.held) p → is_of key p ≡ true
   unfolding own
-  kept_own p c = (filter_at (is_of key) book.taken p (view_taken own p ((view.exact p).0 (filter_at (is_accepted meeting) (shown meeting.held) p c).0))).1
+  shown_own p c = (filter_at (is_of key) book.taken p (view_taken own p ((view.exact p).0 c))).1
 
-  -- a kept part has a confirmed answer
-  kept_at : (p : Part) → Contains (kept_in meeting) p → (a : Answer) × Contains book.answers a × (is_confirmed book.taken a ≡ true) × (a.claim.part ≡ p)
+  -- an accepted slot has a confirmed answer
+  slot_answer : (slot : Slot) → has_slot (accepted_slots meeting.answers.items) slot ≡ true → (a : Answer) × Contains book.answers a × (is_confirmed book.taken a ≡ true) × (a.claim.part.slot ≡ slot) × (is_of key a.claim.part ≡ true) × (in_view own a.claim.part ≡ true)
   unfolding own mine
-  kept_at p c =
-      let from = filter_at (is_accepted meeting) (shown meeting.held) p c in
-      let seen : in_view own p ≡ true = (view.exact p).0 from.0 in
-      let g = accepted_at meeting.answers.items p.slot from.1 in
+  slot_answer slot h =
+      let g = accepted_at meeting.answers.items slot h in
       let z = zip_from (IsGiven key own) (standing own mine) meeting.answers.items g.0 meets.answers g.1 in
       let a = z.0 in
       let stands = filter_at (λ x. in_view own x.claim.part) mine a z.1 in
       let of_it = filter_at (λ x. is_of key x.claim.part) book.answers a stands.0 in
-      let same = view_one own a.claim.part p stands.1 seen (same_place_of key a.claim.part p of_it.1 (kept_own p c) (sym z.2.slot ∙ g.2)) in
-      (a, of_it.0, and_from _ _ (sym (ap is_accept z.2.outcome) ∙ g.3) (sym (view_of key book.taken a.claim.part of_it.1) ∙ stands.1), same)
+      (a, of_it.0, and_from _ _ (sym (ap is_accept z.2.outcome) ∙ g.3) (sym (view_of key book.taken a.claim.part of_it.1) ∙ stands.1), sym z.2.slot ∙ g.2, of_it.1, stands.1)
 
-  meeting_claims : (claims : List Claim) × AllZip (IsClaimOf book) claims (kept_in meeting)
-  meeting_claims = claims_for book (kept_in meeting) kept_at
-
-  meeting_kept : (first : Part) → is_of key first ≡ true → (claims : List Claim) → AllZip (IsClaimOf book) claims (kept_in meeting) → AreKeptOf book first claims
+  -- and so has an accepted part
+  kept_at : (p : Part) → Contains (shown meeting.held) p → is_accepted meeting p ≡ true → HasAnswer book p
   unfolding own
-  meeting_kept first of_first claims z = record {
-    exact = λ claim. (
-      λ c.
-          let p = zip_to (IsClaimOf book) claims (kept_in meeting) claim z c in
-          record {
-            of_meeting = sym (key_meeting key first claim.part of_first) ∙ subst (λ (q : Part). is_of key q ≡ true) (sym p.2.of_part) (kept_own p.0 p.1);
-            answer = p.2.answer;
-            given = p.2.given;
-            to = p.2.to;
-            confirms = p.2.confirms;
-          },
-      λ k.
+  kept_at p c h =
+      let found = slot_answer p.slot h in
+      let seen : in_view own p ≡ true = (view.exact p).0 c in
+      let same = view_one own found.0.claim.part p found.5 seen (same_place_of key found.0.claim.part p found.4 (shown_own p c) found.3) in
+      (found.0, found.1, found.2, same)
+
+  at_entry : (b : Bool) (p : Part) → Contains (kept_in meeting) (b, p) → Contains (shown meeting.held) p × (is_accepted meeting p ≡ b) × (b ≡ false → (is_hiding meeting ≡ true) × (is_whole p ≡ false))
+  at_entry b p c =
+      let found = flat_at entry_in (shown meeting.held) (b, p) c in
+      let e = entry_at (is_hiding meeting) (is_accepted meeting found.0) found.0 b p found.2 in (
+        subst (λ (q : Part). Contains (shown meeting.held) q) e.0 found.1,
+        sym (ap (is_accepted meeting) e.0) ∙ e.1,
+        λ f. let more = e.2 f in (more.0, sym (ap is_whole e.0) ∙ more.1),
+      )
+
+  -- a stamp writes its slot
+  entry_dated : (b : Bool) (p : Part) → Contains (kept_in meeting) (b, p) → SlotDated p.slot
+  unfolding own
+  entry_dated b p c =
+      let seen = (at_entry b p c).0 in st.dated p (filter_at (is_of key) book.taken p (view_taken own p ((view.exact p).0 seen))).0
+
+  from_entry : (b : Bool) (p : Part) → Contains (shown meeting.held) p → Contains (entry_in p) (b, p) → Contains (kept_in meeting) (b, p)
+  from_entry b p c d = flat_from entry_in (shown meeting.held) p (b, p) c d
+
+  meeting_entries : (es : List Entry) × AllZip (IsOfEntry book) es (kept_in meeting)
+  meeting_entries = entries_for book (kept_in meeting) (λ p c. let e = at_entry true p c in kept_at p e.0 e.1)
+
+  -- the whole that is kept, where others hide instances of it
+  whole_kept : (first : Part) → is_of key first ≡ true → is_hiding meeting ≡ true → (claim : Claim) × IsKept book first claim × (is_whole claim.part ≡ true)
+  whole_kept first of_first h =
+      let found = slot_answer Whole h in (
+        found.0.claim,
+        record { of_meeting = sym (key_meeting key first found.0.claim.part of_first) ∙ found.4; answer = found.0; given = found.1; to = refl; confirms = found.2 },
+        ap (λ s. is_eq (slot_cmp s Whole)) found.3,
+      )
+
+  meeting_kept : (first : Part) → is_of key first ≡ true → (es : List Entry) → AllZip (IsOfEntry book) es (kept_in meeting) → AreKeptOf book first es
+  unfolding own IsOfEntry keeps
+  meeting_kept first of_first es z = record {
+    exact = λ entry. (to entry, from entry);
+    order = pairs_from Rises es
+        (entries_rise book key es (kept_in meeting) z
+        (subst (λ (l : List Part). is_ascending l ≡ true) (sym (parts_kept (is_hiding meeting) (is_accepted meeting) (shown meeting.held)))
+        (ascending_filter (keeps (is_hiding meeting) (is_accepted meeting)) (shown meeting.held) view.ascending))
+        (λ p c. let found = map_at (λ (e : Bool × Part). e.1) (kept_in meeting) p c in
+        subst (λ (q : Part). is_of key q ≡ true) found.2 (shown_own found.0.1 (at_entry found.0.0 found.0.1 found.1).0)));
+  }
+    where
+      of_same : {q p : Part} → same_meeting first p ≡ true → q ≡ p → same_meeting first q ≡ true
+      of_same h e = subst (λ (x : Part). same_meeting first x ≡ true) (sym e) h
+
+      of_shown : (claim : Claim) → IsKept book first claim → Contains (shown meeting.held) claim.part × (is_accepted meeting claim.part ≡ true)
+      of_shown claim k =
           let part = ap (λ (c : Claim). c.part) k.to in
           let of_it : is_of key k.answer.claim.part ≡ true = subst (λ (q : Part). is_of key q ≡ true) (sym part) (key_meeting key first claim.part of_first ∙ k.of_meeting) in
-          let p = zip_from (IsClaimOf book) claims (kept_in meeting) k.answer.claim.part z (kept_from k.answer k.given of_it k.confirms) in
-          let same = one_answer book.answers p.2.answer k.answer st.once p.2.given k.given (ap (λ (c : Claim). c.part) p.2.to ∙ p.2.of_part) in
-          subst (Contains claims) (sym p.2.to ∙ ap (λ (a : Answer). a.claim) same ∙ k.to) p.1,
-    );
-    order = pairs_from Rises claims (claims_rise book key claims (kept_in meeting) z (ascending_filter (is_accepted meeting) (shown meeting.held) view.ascending) kept_own);
-  }
+          subst (λ (q : Part). Contains (shown meeting.held) q × (is_accepted meeting q ≡ true)) part (seen_from k.answer k.given of_it k.confirms)
+
+      to_of : (entry : Entry) (b : Bool) (p : Part) → Contains (kept_in meeting) (b, p) → IsOfEntry book entry (b, p) → IsEntry book first entry
+      to_of entry true p c (h, is) =
+          subst (IsEntry book first) (sym is)
+          (record {
+            of_meeting = sym (key_meeting key first h.0.claim.part of_first) ∙ subst (λ (q : Part). is_of key q ≡ true) (sym h.3) (shown_own p (at_entry true p c).0);
+            answer = h.0;
+            given = h.1;
+            to = refl;
+            confirms = h.2;
+          })
+      to_of entry false p c is =
+          let e = at_entry false p c in
+          let more = e.2 refl in
+          let whole = whole_kept first of_first more.0 in
+          subst (IsEntry book first) (sym is)
+          (record {
+            of_meeting = sym (key_meeting key first p of_first) ∙ shown_own p e.0;
+            stands = sym (view_of key book.taken p (shown_own p e.0)) ∙ (view.exact p).0 e.0;
+            instance = more.1;
+            not_accepted = λ claim k same. true≢false (sym (of_shown claim k).1 ∙ ap (is_accepted meeting) same ∙ e.1);
+            whole = whole.0;
+            kept = whole.1;
+            is_whole = whole.2;
+          })
+
+      to : (entry : Entry) → Contains es entry → IsEntry book first entry
+      to entry c = let p = zip_to (IsOfEntry book) es (kept_in meeting) entry z c in to_of entry p.0.0 p.0.1 p.1 p.2
+
+      from : (entry : Entry) → IsEntry book first entry → Contains es entry
+      from (Shown claim) k =
+          let there = of_shown claim k in
+          let own_entry : Contains (entry_in claim.part) (true, claim.part) = subst (λ (b : Bool). Contains (entry_of (is_hiding meeting) b claim.part) (true, claim.part)) (sym there.1) (in_head (true, claim.part) []) in
+          let p = zip_from (IsOfEntry book) es (kept_in meeting) (true, claim.part) z (from_entry true claim.part there.0 own_entry) in
+          let same = one_answer book.answers p.2.0.0 k.answer st.once p.2.0.1 k.given (p.2.0.3 ∙ sym (ap (λ (c : Claim). c.part) k.to)) in
+          subst (Contains es) (p.2.1 ∙ ap Shown (ap (λ (a : Answer). a.claim) same ∙ k.to)) p.1
+      from (Hidden part) k =
+          let of_it : is_of key part ≡ true = key_meeting key first part of_first ∙ k.of_meeting in
+          let seen : Contains (shown meeting.held) part = (view.exact part).1 (view_of key book.taken part of_it ∙ k.stands) in
+          let not_it : is_accepted meeting part ≡ false = false_from_ne_true _ (λ yes.
+          let a = kept_at part seen yes in
+          k.not_accepted a.0.claim (record { of_meeting = of_same k.of_meeting a.3; answer = a.0; given = a.1; to = refl; confirms = a.2 }) a.3) in
+          let whole = of_shown k.whole k.kept in
+          let hides : is_hiding meeting ≡ true = ap (has_slot (accepted_slots meeting.answers.items)) (sym (whole_slot k.whole.part k.is_whole)) ∙ whole.1 in
+          let own_entry : Contains (entry_in part) (false, part) =
+          subst (λ (b : Bool). Contains (entry_of (is_hiding meeting) b part) (false, part)) (sym not_it)
+          (subst (λ (h : Bool). Contains {X = Bool × Part} (if h && not (is_whole part) then (false, part) ∷ [] else []) (false, part)) (sym hides)
+          (subst (λ (w : Bool). Contains {X = Bool × Part} (if true && not w then (false, part) ∷ [] else []) (false, part)) (sym k.instance) (in_head (false, part) []))) in
+          let p = zip_from (IsOfEntry book) es (kept_in meeting) (false, part) z (from_entry false part seen own_entry) in
+          subst (Contains es) p.2 p.1
 
 -- ---- all meetings
 
 abbrev ByMeeting : Book → List (MeetingKey × Meeting) → List Part → Type 0
-ByMeeting book es firsts = (by : List (List Claim)) × AllZip (AreKeptOf book) firsts by × AllZip (IsClaimOf book) (flat_map (λ c. c) by) (all_kept (values_of es))
+ByMeeting book es firsts = (by : List (List Entry)) × AllZip (AreKeptOf book) firsts by × AllZip (IsOfEntry book) (flat_map (λ c. c) by) (all_kept (values_of es))
 
 by_meeting : (entries : List (MeetingKey × Meeting)) (book : Book) → Stands entries book → (es : List (MeetingKey × Meeting)) (firsts : List Part) → AreKeysOf (keys_of es) firsts
     → ((e : MeetingKey × Meeting) → Contains es e → Meets (book_of e.0 book) e.0 e.1) → ByMeeting book es firsts
@@ -169,28 +300,43 @@ by_meeting entries book st [] (p ∷ ps) z m = absurd z
 by_meeting entries book st (e ∷ es) [] z m = absurd z
 by_meeting entries book st (e ∷ es) (p ∷ ps) z m =
     let meets = m e (in_head e es) in
-    let own = meeting_claims entries book e.0 e.1 st meets in
+    let own = meeting_entries entries book e.0 e.1 st meets in
     let rest = by_meeting entries book st es ps z.1 (λ x c. m x (in_tail e es x c)) in (
       own.0 ∷ rest.0,
       (meeting_kept entries book e.0 e.1 st meets p z.0 own.0 own.1, rest.1),
-      zip_both (IsClaimOf book) own.0 (kept_in e.1) (flat_map (λ c. c) rest.0) (all_kept (values_of es)) own.1 rest.2,
+      zip_both (IsOfEntry book) own.0 (kept_in e.1) (flat_map (λ c. c) rest.0) (all_kept (values_of es)) own.1 rest.2,
     )
+
+event_of : (room : List ℕ) (entries : List (MeetingKey × Meeting)) (book : Book) → Stands entries book → (entry : Entry) (b : Bool) (part : Part) (lines : List (List ℕ)) → SlotDated part.slot → IsOfEntry book entry (b, part) → IsEntryEvent room (b, part) lines
+    → IsKeptEvent room entry lines
+unfolding IsOfEntry
+event_of room entries book st entry true part lines dated (h, is) event =
+    let fit = st.fit h.0 h.1 in
+    subst (λ (x : Entry). IsKeptEvent room x lines) (sym is)
+    (event h.0.claim h.3 (fit.content ∙ ap (λ (q : Part). body_lines q.body) h.3) (sym (ap is_set h.3) ∙ st.set h.0 h.1) (subst (λ (q : Part). IsText q.body) h.3 fit.text) dated)
+event_of room entries book st entry false part lines dated is event = subst (λ (x : Entry). IsKeptEvent room x lines) (sym is) (event dated)
 
 -- what is written is what the room keeps
 pub all_are_kept : (room : List ℕ) (entries : List (MeetingKey × Meeting)) (book : Book) → Stands entries book → IsDistinct same_key (keys_of entries) → (events : List (List (List ℕ)))
-    → AllZip (IsEventOf room) (all_kept (values_of entries)) events → (claims : List Claim) × AreKept book claims × AllZip (IsKeptEvent room) claims events
+    → AllZip (IsEntryEvent room) (all_kept (values_of entries)) events → (kept : List Entry) × AreKept book kept × AllZip (IsKeptEvent room) kept events
 all_are_kept room entries book st distinct events z =
     let all = by_meeting entries book st entries (first_parts book.taken) st.order (meeting_at entries book st distinct) in
-    let claims = flat_map (λ c. c) all.0 in (
-      claims,
+    let kept = flat_map (λ c. c) all.0 in (
+      kept,
       record { by_meeting = all.0; each = all.1; are = refl },
-      zip_then (IsClaimOf book) (IsEventOf room) (IsKeptEvent room) claims (all_kept (values_of entries)) events
-          (λ claim part lines c event.
-          let fit = st.fit c.answer c.given in
-          let part_is : c.answer.claim.part ≡ part = ap (λ (x : Claim). x.part) c.to ∙ c.of_part in
-          event claim c.of_part
-          (sym (ap (λ (x : Claim). x.content) c.to) ∙ fit.content ∙ ap (λ (p : Part). body_lines p.body) part_is)
-          (sym (ap is_set part_is) ∙ st.set c.answer c.given)
-          (subst (λ (p : Part). IsText p.body) part_is fit.text))
-          all.2 z,
+      shown_all kept (all_kept (values_of entries)) events (λ p c. in_book p c) all.2 z,
     )
+  where
+    in_book : (p : Bool × Part) → Contains (all_kept (values_of entries)) p → SlotDated p.1.slot
+    in_book p c =
+        let found = flat_at kept_in (values_of entries) p c in
+        let e = map_at (λ (x : MeetingKey × Meeting). x.1) entries found.0 found.1 in
+        entry_dated entries book e.0.0 e.0.1 st (meeting_at entries book st distinct e.0 e.1) p.0 p.1 (subst (λ (m : Meeting). Contains (kept_in m) p) (sym e.2) found.2)
+
+    shown_all : (kept : List Entry) (ps : List (Bool × Part)) (events : List (List (List ℕ))) → ((p : Bool × Part) → Contains ps p → SlotDated p.1.slot) → AllZip (IsOfEntry book) kept ps → AllZip (IsEntryEvent room) ps events → AllZip (IsKeptEvent room) kept events
+    shown_all [] [] events dated y z = z
+    shown_all [] (p ∷ ps) events dated y z = absurd y
+    shown_all (k ∷ ks) [] events dated y z = absurd y
+    shown_all (k ∷ ks) (p ∷ ps) [] dated y z = absurd z
+    shown_all (k ∷ ks) ((b, p) ∷ ps) (e ∷ es) dated y z =
+        (event_of room entries book st k b p e (dated (b, p) (in_head (b, p) ps)) y.0 z.0, shown_all ks ps es (λ q c. dated q (in_tail (b, p) ps q c)) y.1 z.1)

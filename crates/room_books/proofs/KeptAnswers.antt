@@ -1,23 +1,27 @@
--- What a room keeps of an answer reads back as a confirmed event, of the same instance.
-use Rattle.std.proofs.Common.{◌≡◌, ◌∙◌, ℕ, ◌<◌, ◌^◌, Bool, true, false, List, [], ◌∷◌, ◌++◌, codes, decimal, Option, Some, None, sym, ap, subst, arith, length}
-use Rattle.std.specs.Prelude.{◌==◌}
+-- What a room keeps of a part reads back: as a confirmed event of the same instance, or as one that hides it.
+use Rattle.std.proofs.Common.{◌≡◌, ◌∙◌, ℕ, ℤ, ◌<◌, ◌^◌, Bool, true, false, ◌&&◌, not, List, [], ◌∷◌, ◌++◌, codes, decimal, Option, Some, None, inl, inr, refl, sym, ap, ap₂, subst, arith}
+use Rattle.std.specs.Prelude.{if◌then◌else◌, option_map}
+use Rattle.std.specs.Option.{option_to_list}
+use Rattle.std.specs.Ordering.{is_lt}
 use Rattle.std.proofs.lemmas.Bool.{true≢false}
+use Rattle.std.proofs.lemmas.List.Elements.{Contains-append_cases}
 use Rattle.std.specs.List.{list_all, Contains}
 use Rattle.std.specs.Str.{bytes_eq}
 use Rattle.std.proofs.lemmas.Slice.Eq.{bytes_eq-Decides}
 use Rattle.profile.specs.text.Lines.{is_content, line_value, logical_lines}
 use Rattle.profile.specs.text.Trees.{Tree, vevents}
 use Rattle.profile.specs.text.Objects.{is_property}
-use Rattle.profile.specs.text.Values.{IsAddress, SpellsSequence, escaped, lower_case, duration_text}
+use Rattle.profile.specs.text.Values.{IsAddress, IsUid, WritesStamp, escaped, lower_case, duration_text}
 use Rattle.profile.specs.checker.Instances.{Booked}
-use Rattle.profile.specs.events.Events.{Event, SaysEvent, SaysSequence, IsAttendee, booked_by, meeting_said}
+use Rattle.profile.specs.events.Events.{Event, SaysEvent, SaysSequence, IsAttendee, booked_by, is_confirmed, meeting_said}
+use Rattle.profile.specs.events.Meetings.{Meeting, events_of, is_master, is_override, SaysMeeting}
+use Rattle.profile.specs.events.Confirmed.{is_kept}
 use Rattle.profile.specs.events.Properties.{Says, BothOrNeither, StandsAtMostOnce, IsAddressLine, IsUidLine, IsSequenceLine, is_of, lines_named}
 use Rattle.profile.specs.rooms.Messages as messages
-use Rattle.profile.specs.rooms.Messages.{SpellsMessage, IsPart, IsBody, IsContent, cancels, is_cancel, is_addressed, names_room}
-use Rattle.profile.specs.rooms.Revisions.{Body, Set, Absent, Cancelled}
-use Rattle.itip_messages.proofs.MessageLemmas.{named_if_set}
-use Rattle.profile.specs.rooms.Rooms.{Claim, Answer}
-use Rattle.profile.specs.rooms.Kept.{IsKeptEvent}
+use Rattle.profile.specs.rooms.Messages.{SpellsMessage, IsPart, IsBody, IsContent, TellsSlot, own_revision, later_of, raised_to, slot_named, names_room}
+use Rattle.profile.specs.rooms.Revisions.{Part, Slot, Whole, At, Revision, Body, Set, Absent, Cancelled, revision_cmp}
+use Rattle.profile.specs.rooms.Rooms.{Claim, is_set, is_set_body}
+use Rattle.profile.specs.rooms.Kept.{IsEventOf, HidesSlot}
 use Rattle.itip_order.proofs.Lists.{in_head, filter_at, any_at}
 use Rattle.ical_values.proofs.Addresses.{lower_twice}
 use Rattle.ical_values.proofs.Escapes.{read_back}
@@ -29,39 +33,40 @@ use Rattle.ical_values.proofs.ShownValues.{shown_stamp}
 use Rattle.itip_messages.proofs.CleanText.{clean_address, text_address, shown_duration}
 use Rattle.itip_messages.proofs.CleanUids.{clean_text, text_value}
 use Rattle.itip_messages.proofs.ObjectTree.{Lines, vevent_lines}
-use Rattle.room_books.proofs.KeptEvents.{kept_own, kept_event, Spell, kept_says, kept_plain, kept_booked}
+use Rattle.cal_events.specs.Meetings.{IsNamed}
 use Rattle.cal_events.proofs.PlainSingles.{IsPlain}
-use Rattle.room_books.proofs.KeptLines.{kept_content, kept_properties}
+use Rattle.cal_events.proofs.InOneOrder.{of_filtered}
+use Rattle.cal_events.proofs.OneInstance.{recurrence_named}
+use Rattle.room_books.proofs.KeptEvents.{slot_lines, kept_own, hidden_own, kept_event, hidden_event, SpellPart, SpellTimes, SpellSlot, kept_says, hidden_says, kept_confirmed, kept_booked}
+use Rattle.room_books.proofs.KeptLines.{IsCleanSlot, kept_content, kept_properties, hidden_content, hidden_properties}
 use Rattle.room_books.proofs.Loops.{zip_from}
 use Rattle.room_books.proofs.KeptRequests.{clean_value, vevent_among}
 
--- octets ask the room for the claim: the part is that of their event, which isn't cancelled, and books its one instance
-pub record IsAsked (room : List ℕ) (claim : Claim) : Type 0 where
+-- octets ask the room for the part, with this content: it is that of one of the events that they say
+pub record IsAsked (room : List ℕ) (content : Lines) (part : Part) : Type 0 where
   pub octets : List ℕ
   pub given : messages.Message
   pub spells : SpellsMessage octets given
-  pub asks : is_addressed room given ≡ true
-  pub part : IsPart given claim.content claim.part
-  pub set : cancels given ≡ false
-  pub books : claim.singles ≡ booked_by given.event ∷ []
+  pub event : Event
+  pub among : Contains (events_of given.meeting) event
+  pub is_part : IsPart room given event content part
 
--- the body says when it is
-content_is : (given : messages.Message) (content : Lines) (body : Body) → cancels given ≡ false → IsBody given content body → IsContent content given.event
-content_is given content (Set octets) set b = b.1
-content_is given content Absent set b = absurd b
-content_is given content Cancelled set b = absurd (true≢false (sym b.0 ∙ set))
+-- and for the claim: the part, and its one instance, if it is to take place
+pub record IsAskedFor (room : List ℕ) (claim : Claim) : Type 0 where
+  pub asked : IsAsked room claim.content claim.part
+  pub books : claim.singles ≡ (if is_set claim.part then booked_by asked.event ∷ [] else [])
 
--- the lines are a VEVENT that says a confirmed event: the instance and the meeting of the answer
-pub record ReadsBack (room : List ℕ) (answer : Answer) (lines : Lines) : Type 0 where
+-- the lines are a VEVENT that says such an event, of that meeting and slot
+pub record ReadsBack (lines : Lines) (organiser uid : List ℕ) (slot : Slot) : Type 0 where
   pub own : Lines
   pub said : Event
   pub are : lines ≡ vevent_lines own
   pub properties : list_all is_property own ≡ true
   pub content : list_all is_content own ≡ true
   pub says : (object : Tree) → SaysEvent object false own said
-  pub plain : IsPlain room said
-  pub books : answer.claim.singles ≡ booked_by said ∷ []
-  pub meeting : meeting_said said ≡ (answer.claim.part.organiser, answer.claim.part.uid)
+  pub plain : IsPlain said
+  pub meeting : meeting_said said ≡ (organiser, uid)
+  pub slot_is : messages.slot_of said ≡ slot
 
 -- ---- what the lines of the message say
 
@@ -86,52 +91,75 @@ small_sequence : (lines : Lines) (n : ℕ) → SaysSequence lines n → n < 2 ^ 
 small_sequence lines n (None, s, e) = omega (arith, e)
 small_sequence lines n (Some m, s, e) = let g = given (codes "SEQUENCE") false IsSequenceLine lines m s in omega (arith, e, g.is.3)
 
--- the lines of the VEVENT of a message, whose values are clean
+-- an event of a meeting that an object says is one of the object's
+said_among : (object : Tree) (m : Bool) (meeting : Meeting) (s : SaysMeeting object m meeting) (e : Event) → Contains (events_of meeting) e → Contains s.events e
+said_among object m meeting s e c = elim (Contains-append_cases (option_to_list meeting.master) meeting.overrides e c) [
+  | inl master ↦ (of_filtered is_master s.events e (subst (λ (l : List Event). Contains l e) (sym s.master) master)).0
+  | inr other ↦ (of_filtered is_override s.events e (subst (λ (l : List Event). Contains l e) (sym s.overrides) other)).0
+]
+
+-- the lines of a VEVENT of a message, whose values are clean
 record Message (event : Event) : Type 0 where
   object : Tree
   lines : Lines
   says : SaysEvent object true lines event
   clean : (line : List ℕ) → Contains lines line → IsClean (line_value line)
 
-message : (room : List ℕ) (claim : Claim) (a : IsAsked room claim) → Message a.given.event
-message room claim a =
-    let s = a.spells.says in
-    let here : Contains (vevents a.spells.tree) s.lines = subst (λ (l : List Lines). Contains l s.lines) (sym s.one) (in_head s.lines []) in
+message_of : (octets : List ℕ) (given : messages.Message) (spells : SpellsMessage octets given) (event : Event) → Contains (events_of given.meeting) event → Message event
+message_of octets given spells event c =
+    let s = spells.says.says in
+    let found = zip_from (SaysEvent spells.tree true) (vevents spells.tree) s.events event s.says (said_among spells.tree true given.meeting s event c) in
     record {
-      object = a.spells.tree;
-      lines = s.lines;
-      says = s.says;
-      clean = λ line c. clean_value true a.octets line a.spells.lines (vevent_among true a.spells.tree (logical_lines a.octets) s.lines a.spells.object here line c);
+      object = spells.tree;
+      lines = found.0;
+      says = found.2;
+      clean = λ line l. clean_value true octets line spells.lines (vevent_among true spells.tree (logical_lines octets) found.0 spells.object found.1 line l);
     }
 
--- what is known of the organiser and the UID of a part
-record Named (claim : Claim) : Type 0 where
-  organiser : IsTextAddress claim.part.organiser
-  lower : lower_case claim.part.organiser ≡ claim.part.organiser
-  uid : IsTextValue claim.part.uid
+-- what is known of the organiser, the UID and the number of a part
+record Named (part : Part) : Type 0 where
+  organiser : IsTextAddress part.organiser
+  lower : lower_case part.organiser ≡ part.organiser
+  uid : IsTextValue part.uid
+  is_uid : IsUid part.uid
+  small : part.revision.sequence < 2 ^ 31
 
-named : (room : List ℕ) (claim : Claim) → IsAsked room claim → Named claim
-named room claim a =
-    let m = message room claim a in
-    let o = given (codes "ORGANIZER") true IsAddressLine m.lines claim.part.organiser (subst (λ (x : Option (List ℕ)). Says (codes "ORGANIZER") true IsAddressLine m.lines x) a.part.organiser m.says.organiser) in
-    let u = given (codes "UID") true IsUidLine m.lines a.given.event.uid m.says.uid in
-    let is : claim.part.organiser ≡ lower_case (line_value o.line) = o.is.1 in
+small_later : (t : Bool) (a b : Revision) → a.sequence < 2 ^ 31 → b.sequence < 2 ^ 31 → (if t then b else a).sequence < 2 ^ 31
+small_later true a b m n = n
+small_later false a b m n = m
+
+small_raised : (o : Option Event) (own : Revision) → own.sequence < 2 ^ 31 → ((w : Event) → o ≡ Some w → w.sequence < 2 ^ 31) → (raised_to (option_map own_revision o) own).sequence < 2 ^ 31
+small_raised None own m f = m
+small_raised (Some w) own m f = small_later (is_lt (revision_cmp own (own_revision w))) own (own_revision w) m (f w refl)
+
+named : (room : List ℕ) (content : Lines) (part : Part) → IsAsked room content part → Named part
+named room content part a =
+    let m = message_of a.octets a.given a.spells a.event a.among in
+    let o = given (codes "ORGANIZER") true IsAddressLine m.lines part.organiser (subst (λ (x : Option (List ℕ)). Says (codes "ORGANIZER") true IsAddressLine m.lines x) a.is_part.organiser m.says.organiser) in
+    let u = given (codes "UID") true IsUidLine m.lines a.event.uid m.says.uid in
+    let is : part.organiser ≡ lower_case (line_value o.line) = o.is.1 in
     record {
       organiser = subst IsTextAddress (sym is) (text_address (line_value o.line) o.is.0 (m.clean o.line o.stands).utf8);
       lower = subst (λ (x : List ℕ). lower_case x ≡ x) (sym is) (lower_twice (line_value o.line));
-      uid = subst IsTextValue (sym (a.part.uid ∙ u.is.0)) (text_value (line_value u.line) (m.clean u.line u.stands));
+      uid = subst IsTextValue (sym (a.is_part.uid ∙ u.is.0)) (text_value (line_value u.line) (m.clean u.line u.stands));
+      is_uid = subst IsUid (sym a.is_part.uid) u.is.1;
+      small = subst (λ (r : Revision). r.sequence < 2 ^ 31) (sym a.is_part.revision)
+          (small_raised a.given.meeting.master (own_revision a.event) (small_of a.event a.among)
+          (λ w is. small_of w (subst (λ (o : Option Event). Contains (option_to_list o ++ a.given.meeting.overrides) w) (sym is) (in_head w a.given.meeting.overrides))));
     }
+  where
+    small_of : (w : Event) → Contains (events_of a.given.meeting) w → w.sequence < 2 ^ 31
+    small_of w c = let m = message_of a.octets a.given a.spells w c in small_sequence m.lines w.sequence m.says.sequence
 
 -- what is known of the room's address: an attendee of the message has it
-record IsRoom (room : List ℕ) : Type 0 where
-  text : IsTextAddress room
-  lower : lower_case room ≡ room
+pub record IsRoom (room : List ℕ) : Type 0 where
+  pub text : IsTextAddress room
+  pub lower : lower_case room ≡ room
 
-asked_room : (room : List ℕ) (claim : Claim) → IsAsked room claim → IsRoom room
-asked_room room claim a =
-    let m = message room claim a in
-    let event = a.given.event in
-    let named : names_room room event ≡ true = named_if_set (names_room room event) (is_cancel a.given.method) (length event.attendees == 0) event.cancelled a.set a.asks in
+pub asked_room : (room : List ℕ) (content : Lines) (part : Part) (a : IsAsked room content part) → names_room room a.event ≡ true → IsRoom room
+asked_room room content part a named =
+    let m = message_of a.octets a.given a.spells a.event a.among in
+    let event = a.event in
     let found = any_at (λ x. bytes_eq x.address room) event.attendees named in
     let line = zip_from IsAttendee (lines_named (codes "ATTENDEE") m.lines) event.attendees found.0 m.says.attendees found.1 in
     let stands = (filter_at (is_of (codes "ATTENDEE")) m.lines line.0 line.1).0 in
@@ -143,48 +171,174 @@ asked_room room claim a =
       lower = subst (λ (x : List ℕ). lower_case x ≡ x) (sym is) (lower_twice value);
     }
 
--- ---- the kept VEVENT
+-- ---- RECURRENCE-ID, as it is written and read
 
--- a kept VEVENT reads back
-pub reads_back : (room : List ℕ) (answer : Answer) (lines : Lines) → IsAsked room answer.claim → IsKeptEvent room answer.claim lines → ReadsBack room answer lines
-reads_back room answer lines a k =
-    let part = answer.claim.part in
-    let event = a.given.event in
-    let m = message room answer.claim a in
-    let n = named room answer.claim a in
-    let r = asked_room room answer.claim a in
-    let c = content_is a.given answer.claim.content part.body a.set a.part.body in
-    let most = m.says.times.most in
-    let duration = duration_text event.times.length.days event.times.length.seconds in
-    let shown_start = shown_stamp c.start event.times.start c.written in
-    let long = shown_duration event.times.length.days event.times.length.seconds (omega (arith, most)) (omega (arith, most)) in
-    let small : part.revision.sequence < 2 ^ 31 = omega (arith, small_sequence m.lines event.sequence m.says.sequence, a.part.sequence) in
-    let uid = escaped part.uid in
-    let sequence = decimal part.revision.sequence in
-    let spell : Spell event uid sequence k.stamp c.start duration part.organiser room part.revision.stamp = record {
-      uid_is = sym a.part.uid ∙ sym (read_back part.uid);
-      is_uid = (given (codes "UID") true IsUidLine m.lines event.uid m.says.uid).is.1;
-      numbered = subst (SpellsSequence sequence) a.part.sequence (sequence_written part.revision.sequence small);
-      stamped_is = stamp_written k.stamp part.revision.stamp k.written_stamp;
-      starts = stamp_written c.start event.times.start c.written;
-      lasts = duration_written event.times.length.days event.times.length.seconds (omega (arith, most)) (omega (arith, most));
-      most = most;
-      from_1970 = m.says.times.in_dates.1;
-      to_9999 = m.says.times.in_dates.2;
+record SlotTold (recurrence : Option ℤ) (lines : Lines) : Type 0 where
+  text : Option (List ℕ)
+  are : lines ≡ slot_lines text
+  spells : SpellSlot text recurrence
+  clean : IsCleanSlot text
+
+slot_told : (o : Option ℤ) (lines : Lines) → TellsSlot (slot_named o) lines → ((t : ℤ) → o ≡ Some t → IsNamed t) → SlotTold o lines
+slot_told None lines e dated = record { text = None; are = e; spells = tt; clean = tt }
+slot_told (Some t) lines (text, w, e) dated = record {
+  text = Some text;
+  are = e;
+  spells = (stamp_written text t w, dated t refl);
+  clean = clean_shown text (shown_stamp text t w);
+}
+
+-- the instance that an event is of lies in the dates that an event may name
+slot_dated : (event : Event) (m : Message event) (t : ℤ) → event.recurrence ≡ Some t → IsNamed t
+slot_dated event m t is = let s = m.says.occurrences.is in recurrence_named m.object s.line event.recurrence t s.is is
+
+-- ---- a part that is shown
+
+-- a set body says when its event is, and that the room is named
+pub set_body : (room : List ℕ) (method : messages.Method) (event : Event) (content : Lines) (body : Body) → IsBody room method event content body → is_set_body body ≡ true
+    → (IsContent content event) × (names_room room event ≡ true)
+set_body room method event content (Set octets) b set = (b.2, b.1)
+set_body room method event content Absent b set = absurd (true≢false (sym set))
+set_body room method event content Cancelled b set = absurd (true≢false (sym set))
+
+-- it says a confirmed event, of the same instance
+pub record ShowsBack (room : List ℕ) (claim : Claim) (lines : Lines) : Type 0 where
+  pub back : ReadsBack lines claim.part.organiser claim.part.uid claim.part.slot
+  pub kept : is_kept room back.said ≡ true
+  pub books : claim.singles ≡ booked_by back.said ∷ []
+
+part_spelled : (room : List ℕ) (content : Lines) (part : Part) (a : IsAsked room content part) (stamp : List ℕ) → WritesStamp stamp part.revision.stamp → IsRoom room
+    → SpellPart part.uid part.revision.sequence (escaped part.uid) (decimal part.revision.sequence) stamp part.organiser room part.revision.stamp
+part_spelled room content part a stamp w r =
+    let n = named room content part a in
+    record {
+      uid_there = sym (read_back part.uid);
+      is_uid = n.is_uid;
+      numbered = sequence_written part.revision.sequence n.small;
+      stamped_is = stamp_written stamp part.revision.stamp w;
       organised = n.organiser.address;
       lower = n.lower;
       addressed = r.text.address;
       room_lower = r.lower;
-    } in
-    record {
-      own = kept_own uid sequence k.stamp c.start duration part.organiser room;
-      said = kept_event event part.organiser part.revision.stamp room;
-      are = k.is ∙ ap (λ (b : Lines). (codes "BEGIN:VEVENT" ∷ (codes "UID:" ++ uid) ∷ (codes "SEQUENCE:" ++ sequence) ∷ (codes "DTSTAMP:" ++ k.stamp) ∷ []) ++ b ++ ((codes "ORGANIZER:" ++ part.organiser) ∷ (codes "ATTENDEE;PARTSTAT=ACCEPTED:" ++ room) ∷ codes "END:VEVENT" ∷ [])) c.is;
-      properties = kept_properties uid sequence k.stamp c.start duration part.organiser room;
-      content = kept_content uid sequence k.stamp c.start duration part.organiser room (clean_text part.uid n.uid) (clean_shown sequence (shown_decimal part.revision.sequence (omega arith)))
-          (clean_shown k.stamp (shown_stamp k.stamp part.revision.stamp k.written_stamp)) (clean_shown c.start shown_start) (clean_shown duration long) (clean_address part.organiser n.organiser) (clean_address room r.text);
-      says = kept_says event uid sequence k.stamp c.start duration part.organiser room part.revision.stamp spell;
-      plain = kept_plain event uid sequence k.stamp c.start duration part.organiser room part.revision.stamp spell a.spells.tree;
-      books = a.books ∙ ap (λ (b : Booked). b ∷ []) (kept_booked event part.organiser part.revision.stamp room a.part.organiser);
-      meeting = ap (λ (u : List ℕ). (part.organiser, u)) (sym a.part.uid);
     }
+
+pub shows_back : (room : List ℕ) (claim : Claim) (lines : Lines) → IsAskedFor room claim → is_set claim.part ≡ true → IsEventOf room claim.part claim.content (codes "ACCEPTED") lines → ShowsBack room claim lines
+shows_back room claim lines f set k =
+    let part = claim.part in
+    let a = f.asked in
+    let event = a.event in
+    let m = message_of a.octets a.given a.spells event a.among in
+    let n = named room claim.content part a in
+    let b = set_body room a.given.method event claim.content part.body a.is_part.body set in
+    let c = b.0 in
+    let r = asked_room room claim.content part a b.1 in
+    let told = slot_told event.recurrence k.slot (subst (λ (s : Slot). TellsSlot s k.slot) a.is_part.slot k.tells_slot) (slot_dated event m) in
+    let most = m.says.times.most in
+    let duration = duration_text event.times.length.days event.times.length.seconds in
+    let shown_start = shown_stamp c.start event.times.start c.written in
+    let long = shown_duration event.times.length.days event.times.length.seconds (omega (arith, most)) (omega (arith, most)) in
+    let uid = escaped part.uid in
+    let sequence = decimal part.revision.sequence in
+    let number = part.revision.sequence in
+    let spell = part_spelled room claim.content part a k.stamp k.written_stamp r in
+    let spell_event : SpellPart event.uid number uid sequence k.stamp part.organiser room part.revision.stamp = subst (λ (u : List ℕ). SpellPart u number uid sequence k.stamp part.organiser room part.revision.stamp) a.is_part.uid spell in
+    let times : SpellTimes event c.start duration = record {
+      starts = stamp_written c.start event.times.start c.written;
+      lasts = duration_written event.times.length.days event.times.length.seconds (omega (arith, most)) (omega (arith, most));
+      most = most;
+      dated = (m.says.times.in_dates.1, m.says.times.in_dates.2);
+    } in
+    let said = kept_event event event.recurrence number part.organiser part.revision.stamp room in
+    let own = kept_own told.text uid sequence k.stamp c.start duration part.organiser room in
+    let says = kept_says event told.text event.recurrence number uid sequence k.stamp c.start duration part.organiser room part.revision.stamp spell_event times told.spells in
+    record {
+      back = record {
+        own = own;
+        said = said;
+        are = k.is ∙ ap₂ (λ (sl b : Lines). (((codes "BEGIN:VEVENT" ∷ (codes "UID:" ++ uid) ∷ sl) ++ ((codes "SEQUENCE:" ++ sequence) ∷ (codes "DTSTAMP:" ++ k.stamp) ∷ [])) ++ b)
+            ++ ((codes "ORGANIZER:" ++ part.organiser) ∷ (codes "ATTENDEE;PARTSTAT=ACCEPTED:" ++ room) ∷ codes "END:VEVENT" ∷ [])) told.are c.is ∙ joined told.text uid sequence k.stamp c.start duration part.organiser room;
+        properties = kept_properties told.text uid sequence k.stamp c.start duration part.organiser room;
+        content = kept_content told.text uid sequence k.stamp c.start duration part.organiser room told.clean (clean_text part.uid n.uid) (clean_shown sequence (shown_decimal part.revision.sequence (omega arith)))
+            (clean_shown k.stamp (shown_stamp k.stamp part.revision.stamp k.written_stamp)) (clean_shown c.start shown_start) (clean_shown duration long) (clean_address part.organiser n.organiser) (clean_address room r.text);
+        says = says;
+        plain = record {
+          said = (m.object, own, says m.object);
+          once = refl;
+          no_additions = refl;
+          no_exceptions = refl;
+          in_utc = refl;
+          dated = times.dated;
+        };
+        meeting = ap (λ (u : List ℕ). (part.organiser, u)) (sym a.is_part.uid);
+        slot_is = sym a.is_part.slot;
+      };
+      kept = ap (λ x. x && not false) (kept_confirmed event event.recurrence number part.organiser part.revision.stamp room);
+      books = f.books ∙ ap (λ b. if b then booked_by event ∷ [] else []) set ∙ ap (λ (b : Booked). b ∷ []) (kept_booked event number part.organiser part.revision.stamp room a.is_part.organiser);
+    }
+  where
+    joined : (text : Option (List ℕ)) (uid sequence stamp start duration organiser room : List ℕ)
+        → (((codes "BEGIN:VEVENT" ∷ (codes "UID:" ++ uid) ∷ slot_lines text) ++ ((codes "SEQUENCE:" ++ sequence) ∷ (codes "DTSTAMP:" ++ stamp) ∷ [])) ++ ((codes "DTSTART:" ++ start) ∷ (codes "DURATION:" ++ duration) ∷ []))
+        ++ ((codes "ORGANIZER:" ++ organiser) ∷ (codes "ATTENDEE;PARTSTAT=ACCEPTED:" ++ room) ∷ codes "END:VEVENT" ∷ []) ≡ vevent_lines (kept_own text uid sequence stamp start duration organiser room)
+    joined None uid sequence stamp start duration organiser room = refl
+    joined (Some text) uid sequence stamp start duration organiser room = refl
+
+-- ---- a part that hides an instance
+
+pub record HidesBack (room : List ℕ) (part : Part) (lines : Lines) : Type 0 where
+  pub back : ReadsBack lines part.organiser part.uid part.slot
+  pub kept : is_kept room back.said ≡ false
+
+pub hides_back : (room : List ℕ) (content : Lines) (part : Part) (lines hiding : Lines) → IsAsked room content part → IsRoom room → HidesSlot part.slot hiding → IsEventOf room part hiding (codes "DECLINED") lines → HidesBack room part lines
+hides_back room content part lines hiding a r h k =
+    let event = a.event in
+    let m = message_of a.octets a.given a.spells event a.among in
+    let n = named room content part a in
+    let is : slot_named event.recurrence ≡ At h.instant = sym a.is_part.slot ∙ h.at in
+    let dated : IsNamed h.instant = slot_dated event m h.instant (instant_there event.recurrence h.instant is) in
+    let tells : TellsSlot (At h.instant) k.slot = subst (λ (s : Slot). TellsSlot s k.slot) h.at k.tells_slot in
+    let text = tells.0 in
+    let uid = escaped part.uid in
+    let sequence = decimal part.revision.sequence in
+    let number = part.revision.sequence in
+    let said = hidden_event part.uid h.instant number part.organiser part.revision.stamp room in
+    let own = hidden_own uid text sequence k.stamp h.text part.organiser room in
+    let says = hidden_says part.uid h.instant number uid text sequence k.stamp h.text part.organiser room part.revision.stamp (part_spelled room content part a k.stamp k.written_stamp r) (stamp_written text h.instant tells.1)
+    (stamp_written h.text h.instant h.written) dated in
+    record {
+      back = record {
+        own = own;
+        said = said;
+        are = k.is ∙ ap₂ (λ (sl b : Lines). (((codes "BEGIN:VEVENT" ∷ (codes "UID:" ++ uid) ∷ sl) ++ ((codes "SEQUENCE:" ++ sequence) ∷ (codes "DTSTAMP:" ++ k.stamp) ∷ [])) ++ b)
+            ++ ((codes "ORGANIZER:" ++ part.organiser) ∷ (codes "ATTENDEE;PARTSTAT=DECLINED:" ++ room) ∷ codes "END:VEVENT" ∷ [])) tells.2 h.is;
+        properties = hidden_properties uid text sequence k.stamp h.text part.organiser room;
+        content = hidden_content uid text sequence k.stamp h.text part.organiser room (clean_text part.uid n.uid) (clean_shown text (shown_stamp text h.instant tells.1)) (clean_shown sequence (shown_decimal part.revision.sequence (omega arith)))
+            (clean_shown k.stamp (shown_stamp k.stamp part.revision.stamp k.written_stamp)) (clean_shown h.text (shown_stamp h.text h.instant h.written)) (clean_address part.organiser n.organiser) (clean_address room r.text);
+        says = says;
+        plain = record {
+          said = (m.object, own, says m.object);
+          once = refl;
+          no_additions = refl;
+          no_exceptions = refl;
+          in_utc = refl;
+          dated = dated;
+        };
+        meeting = refl;
+        slot_is = sym h.at;
+      };
+      kept = not_kept (is_confirmed room said);
+    }
+  where
+    instant_there : (o : Option ℤ) (t : ℤ) → slot_named o ≡ At t → o ≡ Some t
+    instant_there None t e = cc
+    instant_there (Some u) t e = ap Some (same_At u t e)
+      where
+        instant : Slot → ℤ
+        instant Whole = t
+        instant (At x) = x
+
+        same_At : (u t : ℤ) → At u ≡ At t → u ≡ t
+        same_At u t e = ap instant e
+
+    not_kept : (b : Bool) → (b && not true) ≡ false
+    not_kept true = refl
+    not_kept false = refl

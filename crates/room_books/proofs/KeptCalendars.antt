@@ -1,92 +1,297 @@
 -- The kept calendar spells the confirmed instances, and the kept certificate stands for them.
-use Rattle.std.proofs.Common.{◌≡◌, ◌≢◌, ◌∙◌, ℕ, true, false, List, [], ◌∷◌, ◌++◌, length, map, None, refl, sym, ap, ap₂, subst, arith, suc}
-use Rattle.std.specs.List.{filter, flat_map, list_all, Contains, All, AllPairs, AllZip}
-use Rattle.std.proofs.lemmas.Bool.{and_from}
+use Rattle.std.proofs.Common.{◌≡◌, ◌≢◌, ◌∙◌, ℕ, ℤ, Bool, true, false, not, ◌&&◌, cond, List, [], ◌∷◌, ◌++◌, length, map, Option, Some, None, is_some, inl, inr, refl, sym, ap, ap₂, subst, arith}
+use Rattle.std.specs.Prelude.{◌↔◌, unwrap_or}
+use Rattle.std.specs.Ordering.{is_eq}
+use Rattle.std.specs.List.{filter, flat_map, list_all, list_any, Contains, All, AllZip}
+use Rattle.std.proofs.lemmas.Bool.{and_parts, and_from, true≢false, cases_Bool, both_ways}
 use Rattle.std.proofs.lemmas.List.Elements.{All-nil, All-cons}
 use Rattle.profile.specs.text.Lines.{is_content, logical_lines, reads_as_lines, written}
 use Rattle.profile.specs.text.Objects.{is_property, IsObject}
 use Rattle.profile.specs.text.Trees.{Tree, tree_name, tree_own, tree_inside}
 use Rattle.profile.specs.events.Events.{Event, SaysEvent, booked_by, meeting_said}
-use Rattle.profile.specs.events.Confirmed.{Confirmed, AreConfirmed}
+use Rattle.profile.specs.events.Meetings.{is_master}
+use Rattle.profile.specs.events.Confirmed.{Confirmed, AreConfirmed, IsReplaced, is_kept}
 use Rattle.profile.specs.checker.Calendars.{SaysCalendar, SpellsCalendar, CertificateHolds}
-use Rattle.cal_events.proofs.InOneOrder.{mapped_pairs}
-use Rattle.cal_events.proofs.PlainSingles.{IsPlain, plain_confirmed}
 use Rattle.profile.specs.checker.Instances.{Booked}
-use Rattle.profile.specs.rooms.Messages.{object_lines}
-use Rattle.profile.specs.rooms.Rooms.{Claim, Answer, Book, Delivery, Runs, empty_book, confirmed, is_confirmed}
-use Rattle.profile.specs.rooms.Kept.{AreKept, IsKept, IsKeptEvent, IsKeptCalendar, kept_certificate, first_parts}
-use Rattle.profile.specs.rooms.Revisions.{Part, Whole}
-use Rattle.room_books.specs.Keeping.{kept, claims_of}
-use Rattle.room_books.proofs.KeptClaims.{apart_few, kept_claims}
+use Rattle.profile.specs.rooms.Messages.{object_lines, slot_of, slot_named}
+use Rattle.profile.specs.rooms.Revisions.{Part, Slot, Whole, At, in_view, is_whole, same_meeting, same_part, same_place, slot_cmp}
+use Rattle.profile.specs.rooms.Rooms.{Claim, Answer, Book, Delivery, Runs, empty_book, confirmed, is_confirmed, is_hidden, is_set}
+use Rattle.profile.specs.rooms.Kept.{Entry, Shown, Hidden, part_kept, IsKept, IsEntry, AreKept, IsKeptEvent, IsKeptCalendar, kept_certificate}
 use Rattle.profile.specs.streams.Streams.{IsDelivered}
-use Rattle.std.specs.Prelude.{◌↔◌}
-use Rattle.itip_order.proofs.Lists.{in_head, in_tail, filter_at, filter_from}
-use Rattle.room_books.proofs.Runs.{Good, IsWithin, within_good}
+use Rattle.cal_events.proofs.PlainSingles.{IsPlain, IsLeft, itself, not_kept, replaced, plain_confirmed}
+use Rattle.itip_order.proofs.Lasting.{view_taken}
+use Rattle.itip_order.proofs.Lists.{in_head, in_tail, any_at, any_from}
+use Rattle.itip_order.proofs.Registers.{same_part_is, same_part_refl}
 use Rattle.itip_messages.proofs.ObjectTree.{Lines, vevent_lines, calendar_tree, calendar_vevents, object_spelled}
 use Rattle.itip_messages.proofs.ContentLines.{LinesBack, ReadsLines, no_method, object_content}
-use Rattle.room_books.proofs.KeptAnswers.{IsAsked, ReadsBack, reads_back}
 use Rattle.room_books.specs.Standing.{Pairwise}
-use Rattle.room_books.proofs.Pairs.{flat_at, flat_from}
-use Rattle.room_books.proofs.KeptMeetings.{meeting_of, AnswersApart, meetings_differ, kept_is, firsts_apart, firsts_cover, of_part, grouped, grouped_long, grouped_among, grouped_apart}
+use Rattle.room_books.proofs.AcceptedSlots.{slot_same}
+use Rattle.room_books.proofs.KeptAnswers.{IsAskedFor, shows_back, hides_back, set_body, asked_room, IsRoom}
+use Rattle.room_books.proofs.KeptEntries.{SamePlace, EntriesDiffer, place_there, place_from, meeting_from, own_of, same_left, entries_differ, entry_placed, answer_kept}
+use Rattle.room_books.proofs.KeptMeetings.{meeting_trans}
 use Rattle.room_books.proofs.KeptRuns.{KeepsAll, runs_keep}
-use Rattle.room_books.proofs.Views.{confirmed_all}
-
-abbrev books : Answer → List Booked
-books a = a.claim.singles
+use Rattle.room_books.proofs.Loops.{zip_from, zip_to}
+use Rattle.room_books.proofs.Pairs.{pairs_from}
+use Rattle.room_books.proofs.Same.{AreSame, clear_same}
 
 abbrev without_series : List Booked → Confirmed
 without_series all = record { series = []; singles = all }
 
 -- ---- the VEVENTs
 
+-- the state of what is kept of an entry
+abbrev IsState : List ℕ → Event → Entry → Type 0
+IsState room said (Shown claim) = (is_kept room said ≡ true) × (claim.singles ≡ booked_by said ∷ [])
+IsState room said (Hidden part) = is_kept room said ≡ false
+
+-- the event says the entry
+record SaysEntry (room : List ℕ) (said : Event) (entry : Entry) : Type 0 where
+  meeting : meeting_said said ≡ ((part_kept entry).organiser, (part_kept entry).uid)
+  slot : slot_of said ≡ (part_kept entry).slot
+  state : IsState room said entry
+
 -- all VEVENTs read back
-record AllBack (room : List ℕ) (answers : List Answer) (each : List Lines) : Type 0 where
+record AllBack (room : List ℕ) (entries : List Entry) (each : List Lines) : Type 0 where
   owns : List Lines
   saids : List Event
   are : flat_map (λ lines. lines) each ≡ flat_map vevent_lines owns
   properties : list_all (list_all is_property) owns ≡ true
   content : list_all (list_all is_content) owns ≡ true
   says : (object : Tree) → AllZip (SaysEvent object false) owns saids
-  plain : All (IsPlain room) saids
-  booked : map booked_by saids ≡ flat_map books answers
-  meetings : map meeting_said saids ≡ map meeting_of answers
+  plain : All IsPlain saids
+  entries_are : AllZip (SaysEntry room) saids entries
 
-all_back : (room : List ℕ) (answers : List Answer) (each : List Lines) → ((a : Answer) → Contains answers a → IsAsked room a.claim) → AllZip (λ a. IsKeptEvent room a.claim) answers each → AllBack room answers each
-all_back room [] [] f z = record { owns = []; saids = []; are = refl; properties = refl; content = refl; says = λ _. tt; plain = All-nil (IsPlain room); booked = refl; meetings = refl }
-all_back room [] (lines ∷ each) f z = absurd z
-all_back room (a ∷ answers) [] f z = absurd z
-all_back room (a ∷ answers) (lines ∷ each) f z =
-    let one : ReadsBack room a lines = reads_back room a lines (f a (in_head a answers)) z.0 in
-    let rest = all_back room answers each (λ x c. f x (in_tail a answers x c)) z.1 in
-    record {
-      owns = one.own ∷ rest.owns;
-      saids = one.said ∷ rest.saids;
-      are = ap₂ (λ x y. x ++ y) one.are rest.are;
-      properties = and_from _ _ one.properties rest.properties;
-      content = and_from _ _ one.content rest.content;
-      says = λ object. (one.says object, rest.says object);
-      plain = All-cons (IsPlain room) one.said rest.saids one.plain rest.plain;
-      booked = ap₂ (λ x y. x ++ y) (sym one.books) rest.booked;
-      meetings = ap₂ (λ x y. x ∷ y) one.meeting rest.meetings;
-    }
+record OneBack (room : List ℕ) (entry : Entry) (lines : Lines) : Type 0 where
+  own : Lines
+  said : Event
+  are : lines ≡ vevent_lines own
+  properties : list_all is_property own ≡ true
+  content : list_all is_content own ≡ true
+  says : (object : Tree) → SaysEvent object false own said
+  plain : IsPlain said
+  entry_is : SaysEntry room said entry
+
+module _ (room : List ℕ) (book : Book) (k : KeepsAll room book) where
+  -- a claim that is kept was asked for, and is to take place
+  claim_asked : (first : Part) (claim : Claim) → IsKept book first claim → IsAskedFor room claim
+  claim_asked first claim is = subst (IsAskedFor room) is.to (k.each is.answer is.given)
+
+  claim_set : (first : Part) (claim : Claim) → IsKept book first claim → is_set claim.part ≡ true
+  claim_set first claim is = ap (λ (c : Claim). is_set c.part) (sym is.to) ∙ k.set is.answer is.given
+
+  room_asked : (first : Part) (claim : Claim) → IsKept book first claim → IsRoom room
+  room_asked first claim is =
+      let f = claim_asked first claim is in
+      asked_room room claim.content claim.part f.asked (set_body room f.asked.given.method f.asked.event claim.content claim.part.body f.asked.is_part.body (claim_set first claim is)).1
+
+  one_back : (first : Part) (entry : Entry) (lines : Lines) → IsEntry book first entry → IsKeptEvent room entry lines → OneBack room entry lines
+  one_back first (Shown claim) lines is event =
+      let b = shows_back room claim lines (claim_asked first claim is) (claim_set first claim is) event in
+      record {
+        own = b.back.own;
+        said = b.back.said;
+        are = b.back.are;
+        properties = b.back.properties;
+        content = b.back.content;
+        says = b.back.says;
+        plain = b.back.plain;
+        entry_is = record { meeting = b.back.meeting; slot = b.back.slot_is; state = (b.kept, b.books) };
+      }
+  one_back first (Hidden part) lines is (hiding, h, event) =
+      let a = k.taken part (view_taken book.taken part is.stands) in
+      let b = hides_back room a.0 part lines hiding a.1 (room_asked first is.whole is.kept) h event in
+      record {
+        own = b.back.own;
+        said = b.back.said;
+        are = b.back.are;
+        properties = b.back.properties;
+        content = b.back.content;
+        says = b.back.says;
+        plain = b.back.plain;
+        entry_is = record { meeting = b.back.meeting; slot = b.back.slot_is; state = b.kept };
+      }
+
+  all_back : (entries : List Entry) (each : List Lines) → ((e : Entry) → Contains entries e → (first : Part) × IsEntry book first e) → AllZip (IsKeptEvent room) entries each → AllBack room entries each
+  all_back [] [] f z = record { owns = []; saids = []; are = refl; properties = refl; content = refl; says = λ _. tt; plain = All-nil IsPlain; entries_are = tt }
+  all_back [] (lines ∷ each) f z = absurd z
+  all_back (e ∷ entries) [] f z = absurd z
+  all_back (e ∷ entries) (lines ∷ each) f z =
+      let is = f e (in_head e entries) in
+      let one = one_back is.0 e lines is.1 z.0 in
+      let rest = all_back entries each (λ x c. f x (in_tail e entries x c)) z.1 in
+      record {
+        owns = one.own ∷ rest.owns;
+        saids = one.said ∷ rest.saids;
+        are = ap₂ (λ x y. x ++ y) one.are rest.are;
+        properties = and_from _ _ one.properties rest.properties;
+        content = and_from _ _ one.content rest.content;
+        says = λ object. (one.says object, rest.says object);
+        plain = All-cons IsPlain one.said rest.saids one.plain rest.plain;
+        entries_are = (one.entry_is, rest.entries_are);
+      }
+
+-- ---- each is another instance
+
+saids_differ : (room : List ℕ) (saids : List Event) (entries : List Entry) → AllZip (SaysEntry room) saids entries → Pairwise EntriesDiffer entries → Pairwise (λ a b. meeting_said a ≡ meeting_said b → slot_of a ≢ slot_of b) saids
+saids_differ room [] [] z d = tt
+saids_differ room [] (e ∷ es) z d = absurd z
+saids_differ room (s ∷ ss) [] z d = absurd z
+saids_differ room (s ∷ ss) (e ∷ es) z d = (
+  λ y c same slots.
+      let other = zip_to (SaysEntry room) ss es y z.1 c in
+      let meeting = sym z.0.meeting ∙ same ∙ other.2.meeting in
+      d.0 other.0 other.1 (record { organiser = ap (λ (m : List ℕ × List ℕ). m.0) meeting; uid = ap (λ (m : List ℕ × List ℕ). m.1) meeting; slot = sym z.0.slot ∙ slots ∙ other.2.slot }),
+  saids_differ room ss es z.1 d.1,
+)
+
+-- ---- what is left of each
+
+instant_there : (o : Option ℤ) (t : ℤ) → slot_named o ≡ At t → o ≡ Some t
+instant_there None t e = cc
+instant_there (Some u) t e = ap Some (ap instant e)
+  where
+    instant : Slot → ℤ
+    instant Whole = t
+    instant (At x) = x
+
+whole_there : (o : Option ℤ) → slot_named o ≡ Whole → o ≡ None
+whole_there None e = refl
+whole_there (Some u) e = cc
+
+master_whole : (said : Event) → is_master said ≡ true → said.recurrence ≡ None
+master_whole said h = go said.recurrence h
+  where
+    go : (o : Option ℤ) → not (is_some o) ≡ true → o ≡ None
+    go None e = refl
+    go (Some t) e = absurd (true≢false (sym e))
+
+module _ (room : List ℕ) (book : Book) (k : KeepsAll room book) (entries : List Entry) (are : AreKept book entries) (saids : List Event) (z : AllZip (SaysEntry room) saids entries) where
+  -- the part of an entry was taken, and is in the view
+  in_the_view : (first : Part) (entry : Entry) → IsEntry book first entry → in_view book.taken (part_kept entry) ≡ true
+  in_the_view first (Shown claim) is = subst (λ (c : Claim). in_view book.taken c.part ≡ true) is.to (and_parts _ _ is.confirms).1
+  in_the_view first (Hidden part) is = is.stands
+
+  -- beside a whole that is kept, each other part of its meeting in the view is an entry
+  other_entry : (claim : Claim) → Contains entries (Shown claim) → is_whole claim.part ≡ true → (other : Part) → in_view book.taken other ≡ true → same_meeting claim.part other ≡ true → is_whole other ≡ false
+      → (entry : Entry) × Contains entries entry × (part_kept entry ≡ other)
+  other_entry claim c whole other seen meeting instance =
+      let p = entry_placed book entries are (Shown claim) c in
+      let of_first : same_meeting p.first other ≡ true = meeting_trans p.first claim.part other p.is.of_meeting meeting in
+      let accepts : Answer → Bool = λ a. is_confirmed book.taken a && same_part a.claim.part other in
+      elim (cases_Bool (list_any accepts book.answers)) [
+        | inl there ↦
+            let found = any_at accepts book.answers there in
+            let both = and_parts _ _ found.2 in
+            let same = same_part_is found.0.claim.part other both.1 in
+            (Shown found.0.claim, p.all (Shown found.0.claim) (record { of_meeting = subst (λ (q : Part). same_meeting p.first q ≡ true) (sym same) of_first; answer = found.0; given = found.1; to = refl; confirms = both.0 }), same)
+        | inr none ↦ (
+            Hidden other,
+            p.all (Hidden other) (record {
+              of_meeting = of_first;
+              stands = seen;
+              instance = instance;
+              not_accepted = λ x is same.
+                  both_ways _ none (any_from accepts book.answers is.answer is.given (and_from _ _ is.confirms (ap (λ (c : Claim). same_part c.part other) is.to ∙ ap (λ (q : Part). same_part q other) same ∙ same_part_refl other)));
+              whole = claim;
+              kept = p.is;
+              is_whole = whole;
+            }),
+            refl,
+          )
+      ]
+
+  -- the instance of a shown claim is hidden where another entry is of its slot
+  hidden_by : (claim : Claim) (booked : Booked) (entry : Entry) → Contains entries entry → is_whole claim.part ≡ true → SamePlace (part_kept entry) (record claim.part { slot = At booked.key.slot }) → is_hidden book.taken claim.part booked ≡ true
+  hidden_by claim booked entry c whole place =
+      let p = entry_placed book entries are entry c in
+      let seen = in_the_view p.first entry p.is in
+      and_from _ _ whole (any_from (λ other. in_view book.taken other && same_place other (record claim.part { slot = At booked.key.slot })) book.taken (part_kept entry) (view_taken book.taken (part_kept entry) seen)
+      (and_from _ _ seen (place_from (part_kept entry) (record claim.part { slot = At booked.key.slot }) place)))
+
+  left_shown : (claim : Claim) → Contains entries (Shown claim) → (said : Event) → SaysEntry room said (Shown claim) → IsLeft room saids said (own_of book.taken (Shown claim))
+  left_shown claim c said s =
+      let booked = booked_by said in
+      subst (λ (l : List Booked). IsLeft room saids said (filter (λ b. not (is_hidden book.taken claim.part b)) l)) (sym s.state.1) (by_hidden (is_hidden book.taken claim.part booked) refl)
+    where
+      -- what stands for the instance of a whole
+      stands_for : is_master said ≡ true → IsReplaced saids said said.times.start → is_hidden book.taken claim.part (booked_by said) ≡ true
+      stands_for master r =
+          let found = zip_to (SaysEntry room) saids entries r.override z r.among in
+          let none = master_whole said master in
+          let whole : claim.part.slot ≡ Whole = sym s.slot ∙ ap slot_named none in
+          let meeting = sym found.2.meeting ∙ r.of ∙ s.meeting in
+          let start : (booked_by said).key.slot ≡ said.times.start = ap (λ (o : Option ℤ). unwrap_or o said.times.start) none in
+          hidden_by claim (booked_by said) found.0 found.1 (ap (λ (o : Slot). is_eq (slot_cmp o Whole)) whole)
+          (record {
+            organiser = ap (λ (m : List ℕ × List ℕ). m.0) meeting;
+            uid = ap (λ (m : List ℕ × List ℕ). m.1) meeting;
+            slot = sym found.2.slot ∙ ap slot_named r.is ∙ ap At (sym start);
+          })
+
+      -- and where its instance is hidden, something does
+      stood_for : is_hidden book.taken claim.part (booked_by said) ≡ true → (is_master said ≡ true) × IsReplaced saids said said.times.start
+      stood_for h =
+          let both = and_parts _ _ h in
+          let found = any_at (λ other. in_view book.taken other && same_place other (record claim.part { slot = At (booked_by said).key.slot })) book.taken both.1 in
+          let seen = and_parts _ _ found.2 in
+          let place = place_there found.0 (record claim.part { slot = At (booked_by said).key.slot }) seen.1 in
+          let none : said.recurrence ≡ None = whole_there said.recurrence (s.slot ∙ slot_same claim.part.slot Whole both.0) in
+          let instance : is_whole found.0 ≡ false = ap (λ (o : Slot). is_eq (slot_cmp o Whole)) place.slot in
+          let entry = other_entry claim c both.0 found.0 seen.0 (meeting_from claim.part found.0 (sym place.organiser) (sym place.uid)) instance in
+          let other = zip_from (SaysEntry room) saids entries entry.0 z entry.1 in
+          let start : (booked_by said).key.slot ≡ said.times.start = ap (λ (o : Option ℤ). unwrap_or o said.times.start) none in (
+            ap (λ (o : Option ℤ). not (is_some o)) none,
+            record {
+              override = other.0;
+              among = other.1;
+              of = other.2.meeting ∙ (λ i. ((entry.2 i).organiser, (entry.2 i).uid)) ∙ (λ i. (place.organiser i, place.uid i)) ∙ sym s.meeting;
+              is = instant_there other.0.recurrence said.times.start (other.2.slot ∙ ap (λ (q : Part). q.slot) entry.2 ∙ place.slot ∙ ap At start);
+            },
+          )
+
+      by_hidden : (b : Bool) → is_hidden book.taken claim.part (booked_by said) ≡ b → IsLeft room saids said (filter (λ b. not (is_hidden book.taken claim.part b)) (booked_by said ∷ []))
+      by_hidden true h =
+          let r = stood_for h in
+          subst (IsLeft room saids said) (sym (ap (λ b. cond (not b) (booked_by said ∷ []) []) h)) (replaced r.0 r.1)
+      by_hidden false h =
+          subst (IsLeft room saids said) (sym (ap (λ b. cond (not b) (booked_by said ∷ []) []) h)) (itself s.state.0 (λ master r. both_ways _ h (stands_for master r)))
+
+  left_one : (entry : Entry) → Contains entries entry → (said : Event) → SaysEntry room said entry → IsLeft room saids said (own_of book.taken entry)
+  left_one (Shown claim) c said s = left_shown claim c said s
+  left_one (Hidden part) c said s = not_kept s.state
+
+  left_all : (ss : List Event) (es : List Entry) → AllZip (SaysEntry room) ss es → ((e : Entry) → Contains es e → Contains entries e) → AllZip (IsLeft room saids) ss (map (own_of book.taken) es)
+  left_all [] [] y f = tt
+  left_all [] (e ∷ es) y f = absurd y
+  left_all (s ∷ ss) [] y f = absurd y
+  left_all (s ∷ ss) (e ∷ es) y f = (left_one e (f e (in_head e es)) s y.0, left_all ss es y.1 (λ x c. f x (in_tail e es x c)))
 
 -- ---- the calendar
 
-calendar_spelled : LinesBack → ReadsLines → (room octets : List ℕ) (answers : List Answer) (each : List Lines) → AllBack room answers each → Pairwise AnswersApart answers
-    → octets ≡ written (object_lines None (flat_map (λ lines. lines) each)) → SpellsCalendar room octets (without_series (flat_map books answers))
-calendar_spelled back reads room octets answers each b apart is =
+flat_of_map : (taken : List Part) (es : List Entry) → flat_map (λ l. l) (map (own_of taken) es) ≡ flat_map (own_of taken) es
+flat_of_map taken [] = refl
+flat_of_map taken (e ∷ es) = ap (λ l. own_of taken e ++ l) (flat_of_map taken es)
+
+all_left : Book → List Entry → List Booked
+all_left book entries = flat_map (own_of book.taken) entries
+
+calendar_spelled : LinesBack → ReadsLines → (room : List ℕ) (book : Book) → KeepsAll room book → (octets : List ℕ) (c : IsKeptCalendar room book octets) → SpellsCalendar room octets (without_series (all_left book c.entries))
+unfolding all_left
+calendar_spelled back reads room book keeps octets c =
+    let b = all_back room book keeps c.entries c.events (λ e h. let p = entry_placed book c.entries c.kept e h in (p.first, p.is)) c.each in
     let lines = object_lines None (flat_map vevent_lines b.owns) in
     let content = object_content None b.owns no_method b.content in
-    let whole : octets ≡ written lines = is ∙ ap (λ l. written (object_lines None l)) b.are in
+    let whole : octets ≡ written lines = c.is ∙ ap (λ l. written (object_lines None l)) b.are in
     let logical : logical_lines octets ≡ lines = ap logical_lines whole ∙ back lines content in
     let owns = calendar_vevents None b.owns in
-    let differ : AllPairs (λ a b. meeting_said a ≢ meeting_said b) b.saids = mapped_pairs ◌≢◌ meeting_said b.saids (subst (AllPairs ◌≢◌) (sym b.meetings) (meetings_differ answers apart)) in
-    let says : SaysCalendar room (calendar_tree None b.owns) (without_series (flat_map books answers)) = record {
+    let differ = pairs_from (λ a b. meeting_said a ≡ meeting_said b → slot_of a ≢ slot_of b) b.saids (saids_differ room b.saids c.entries b.entries_are (entries_differ book c.entries c.kept)) in
+    let left = left_all room book keeps c.entries c.kept b.saids b.entries_are b.saids c.entries b.entries_are (λ e h. h) in
+    let says : SaysCalendar room (calendar_tree None b.owns) (without_series (all_left book c.entries)) = record {
       events = b.saids;
       says = subst (λ (l : List Lines). AllZip (SaysEvent (calendar_tree None b.owns) false) l b.saids) (sym owns) (b.says (calendar_tree None b.owns));
-      masters = λ i j d l w m n. differ i j d l w;
-      overrides = λ i j d l w slot m n. differ i j d l w;
-      are = subst (λ (all : List Booked). AreConfirmed room b.saids (without_series all)) b.booked (plain_confirmed room b.saids b.plain);
+      masters = λ i j d l w m n same. differ i j d l w same (ap slot_named m ∙ sym (ap slot_named n));
+      overrides = λ i j d l w slot m n same. differ i j d l w same (ap slot_named m ∙ sym (ap slot_named n));
+      are = subst (λ (all : List Booked). AreConfirmed room b.saids (without_series all)) (flat_of_map book.taken c.entries) (plain_confirmed room b.saids (map (own_of book.taken) c.entries) b.plain left);
     } in
     record {
       lines = ap (reads_as_lines false) whole ∙ reads lines content;
@@ -95,102 +300,39 @@ calendar_spelled back reads room octets answers each b apart is =
       says = says;
     }
 
--- ---- the certificate
-
-one_each : (room : List ℕ) (answers : List Answer) → ((a : Answer) → Contains answers a → IsAsked room a.claim) → length (flat_map books answers) ≡ length answers
-one_each room [] f = refl
-one_each room (a ∷ answers) f =
-    let one = f a (in_head a answers) in
-    let rest = one_each room answers (λ x c. f x (in_tail a answers x c)) in
-    ap (λ l. length (l ++ flat_map books answers)) one.books ∙ ap suc rest
-
--- what is kept: what was confirmed, apart
-record KeptWell (room : List ℕ) (book : Book) : Type 0 where
-  each : (a : Answer) → Contains (kept book) a → IsAsked room a.claim
-  apart : Pairwise AnswersApart (kept book)
-  good : Good (flat_map books (kept book))
-  long : length (confirmed book) ≡ length (flat_map books (kept book))
-  within : IsWithin (flat_map books (kept book)) (confirmed book)
-
-kept_well : (room : List ℕ) (book : Book) → KeepsAll room book → KeptWell room book
-kept_well room book k =
-    let xs = filter (is_confirmed book.taken) book.answers in
-    let parts = first_parts book.taken in
-    let P : List Answer → Type 0 = λ l. (a : Answer) → Contains l a → Contains xs a in
-    let among : P (kept book) = subst P (sym (kept_is book)) (grouped_among parts xs) in
-    let asked : (a : Answer) → Contains xs a → IsAsked room a.claim = λ a c. k.each a (filter_at (is_confirmed book.taken) book.answers a c).0 in
-    let covered = λ (a : Answer) (c : Contains xs a). firsts_cover book.taken a.claim.part (k.sound.known a (filter_at (is_confirmed book.taken) book.answers a c).0) in
-    let long : length (kept book) ≡ length xs = ap length (kept_is book) ∙ grouped_long parts xs (firsts_apart book.taken) covered in
-    let each = λ (a : Answer) (c : Contains (kept book) a). asked a (among a c) in
-    let all : confirmed book ≡ flat_map books xs = confirmed_all book.taken k.whole book.answers in
-    let same : length (confirmed book) ≡ length (flat_map books (kept book)) = ap length all ∙ one_each room xs asked ∙ sym long ∙ sym (one_each room (kept book) each) in
-    let within : IsWithin (flat_map books (kept book)) (confirmed book) = record {
-      among = λ b c.
-          let found = flat_at books (kept book) b c in
-          subst (λ (l : List Booked). Contains l b) (sym all) (flat_from books xs found.0 b (among found.0 found.1) found.2);
-      shorter = omega (arith, same);
-    } in
-    record {
-      each = each;
-      apart = subst (Pairwise AnswersApart) (sym (kept_is book)) (grouped_apart parts xs (firsts_apart book.taken) k.apart);
-      good = within_good (flat_map books (kept book)) (confirmed book) within k.sound.good;
-      long = same;
-      within = within;
-    }
-
--- what is kept are the claims of those answers
-kept_events : (room : List ℕ) (book : Book) → KeepsAll room book → (claims : List Claim) (events : List Lines) → AreKept book claims → AllZip (IsKeptEvent room) claims events
-    → AllZip (λ a. IsKeptEvent room a.claim) (kept book) events
-kept_events room book k claims events are each =
-    let whole : (first : Part) (c : Claim) → IsKept book first c → c.part.slot ≡ Whole = λ first c is. subst (λ (x : Claim). x.part.slot ≡ Whole) is.to (k.each is.answer is.given).part.slot in
-    let same = kept_claims book claims are (λ p c. apart_few book p k.apart) whole in
-    of_claims (kept book) events (subst (λ (cs : List Claim). AllZip (IsKeptEvent room) cs events) same each)
-  where
-    of_claims : (xs : List Answer) (ys : List Lines) → AllZip (IsKeptEvent room) (claims_of xs) ys → AllZip (λ a. IsKeptEvent room a.claim) xs ys
-    of_claims [] [] z = tt
-    of_claims [] (y ∷ ys) z = absurd z
-    of_claims (x ∷ xs) [] z = absurd z
-    of_claims (x ∷ xs) (y ∷ ys) z = (z.0, of_claims xs ys z.1)
+-- what is left is what is confirmed
+all_confirmed : (room : List ℕ) (book : Book) → KeepsAll room book → (entries : List Entry) → AreKept book entries → AreSame (all_left book entries) (confirmed book)
+unfolding all_left
+all_confirmed room book keeps entries are =
+    same_left book.taken entries book.answers
+    (λ claim c. let p = entry_placed book entries are (Shown claim) c in (p.is.answer, p.is.given, p.is.confirms, p.is.to))
+    (λ a c h. answer_kept book entries are a c (keeps.sound.known a c) h)
+    (entries_differ book entries are) keeps.once
 
 -- what is kept passes
 pub keeps_pass : LinesBack → ReadsLines → (room : List ℕ) (book : Book) → KeepsAll room book → (calendar : List ℕ) → IsKeptCalendar room book calendar → CertificateHolds room calendar (kept_certificate book)
-keeps_pass back reads room book keeps calendar k =
-    let well = kept_well room book keeps in
+keeps_pass back reads room book keeps calendar c =
+    let same = all_confirmed room book keeps c.entries c.kept in
     let few = keeps.sound.good.few in
     record {
-      confirmed = without_series (flat_map books (kept book));
-      spells = calendar_spelled back reads room calendar (kept book) k.events (all_back room (kept book) k.events well.each (kept_events room book keeps k.claims k.events k.kept k.each)) well.apart k.is;
+      confirmed = without_series (all_left book c.entries);
+      spells = calendar_spelled back reads room book keeps calendar c;
       stands = record {
         c = record { singles = length (confirmed book) };
         spells = record { claims = omega (arith, few); is = refl };
-        counts = record { singles = well.long; series = refl };
-        clear = well.good.clear;
+        counts = record { singles = sym same.long; series = refl };
+        clear = clear_same (all_left book c.entries) (confirmed book) same keeps.sound.good.clear;
       };
     }
-
--- and what is confirmed is kept
-kept_back : (room : List ℕ) (book : Book) → KeepsAll room book → (b : Booked) → Contains (confirmed book) b → Contains (flat_map books (kept book)) b
-kept_back room book k b c =
-    let xs = filter (is_confirmed book.taken) book.answers in
-    let found = flat_at books xs b (subst (λ (l : List Booked). Contains l b) (confirmed_all book.taken k.whole book.answers) c) in
-    let a = found.0 in
-    let answered = (filter_at (is_confirmed book.taken) book.answers a found.1).0 in
-    let first = firsts_cover book.taken a.claim.part (k.sound.known a answered) in
-    let own : Contains (grouped (first_parts book.taken) xs) a = flat_from (λ p. filter (of_part p) xs) (first_parts book.taken) first.0 a first.1 (filter_from (of_part first.0) xs a found.1 first.2) in
-    flat_from books (kept book) a b (subst (λ (l : List Answer). Contains l a) (sym (kept_is book)) own) found.2
 
 -- the calendar spells what is confirmed, and nothing else
 abbrev pub SpellsConfirmed : List ℕ → Book → List ℕ → Type 0
 SpellsConfirmed room book calendar = (all : List Booked) × SpellsCalendar room calendar (record { series = []; singles = all }) × (length all ≡ length (confirmed book)) × ((b : Booked) → Contains all b ↔ Contains (confirmed book) b)
 
 keeps_same : LinesBack → ReadsLines → (room : List ℕ) (book : Book) → KeepsAll room book → (calendar : List ℕ) → IsKeptCalendar room book calendar → SpellsConfirmed room book calendar
-keeps_same back reads room book keeps calendar k =
-    let well = kept_well room book keeps in (
-      flat_map books (kept book),
-      calendar_spelled back reads room calendar (kept book) k.events (all_back room (kept book) k.events well.each (kept_events room book keeps k.claims k.events k.kept k.each)) well.apart k.is,
-      sym well.long,
-      λ b. ((λ c. well.within.among b c), kept_back room book keeps b),
-    )
+keeps_same back reads room book keeps calendar c =
+    let same = all_confirmed room book keeps c.entries c.kept in
+    (all_left book c.entries, calendar_spelled back reads room book keeps calendar c, same.long, λ b. (same.to b, same.from b))
 
 pub kept_same : LinesBack → ReadsLines → (room : List ℕ) (deliveries : List Delivery) → ((d : Delivery) → Contains deliveries d → IsDelivered room d)
     → (book : Book) → Runs empty_book deliveries book → (calendar : List ℕ) → IsKeptCalendar room book calendar → SpellsConfirmed room book calendar

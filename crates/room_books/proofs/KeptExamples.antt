@@ -1,7 +1,8 @@
 -- A worked run: the octets of one REQUEST are delivered, the room accepts it, and keeps it.
-use Rattle.std.proofs.Common.{false, ◌≡◌, ℕ, pos, true, List, [], ◌∷◌, ◌++◌, codes, Some, None, inl, inr, refl, sym, ap, subst, arith, ◌∙◌, ◌≤◌, length}
+use Rattle.std.proofs.Common.{false, ◌≡◌, ◌≢◌, ℕ, pos, true, List, [], ◌∷◌, ◌++◌, codes, Some, None, inl, inr, refl, sym, ap, subst, arith, ◌∙◌,}
 use Rattle.std.specs.List.{Contains}
 use Rattle.std.specs.Str.{is_utf8, chars}
+use Rattle.std.specs.declared.cmp.Ordering.TheVariants.{Less}
 use Rattle.profile.specs.text.Lines.{logical_lines, reads_as_lines, written}
 use Rattle.profile.specs.text.Values.{SpellsDuration, IsAddress, unescaped}
 use Rattle.std.specs.Fmt.{digits}
@@ -11,17 +12,17 @@ use lib.Utf8.{encode}
 use Rattle.profile.specs.text.Trees.{Tree, tree, none, more, tree_name, tree_own, tree_inside}
 use Rattle.profile.specs.text.Objects.{IsObject}
 use Rattle.profile.specs.checker.Instances.{Booked, IsClear}
-use Rattle.profile.specs.events.Events.{Event, NeedsAction, SaysEvent, booked_by}
+use Rattle.profile.specs.events.Events.{Event, NeedsAction, SaysEvent, booked_by, meeting_said}
 use Rattle.profile.specs.rooms.Messages as messages
 use Rattle.profile.specs.rooms.Messages.{SpellsMessage, IsPart, Request, Accept, canonical, object_lines}
-use Rattle.profile.specs.rooms.Revisions.{Part, Whole, Set}
-use Rattle.profile.specs.rooms.Rooms.{Book, Claim, Delivery, Runs, empty_book, confirmed, answered}
+use Rattle.profile.specs.rooms.Revisions.{Part, Whole, Set, is_whole, slot_cmp}
+use Rattle.profile.specs.rooms.Rooms.{Answer, Book, Claim, Delivery, Runs, empty_book, confirmed, answered}
 use Rattle.profile.specs.streams.Streams.{IsDelivered}
-use Rattle.profile.specs.rooms.Kept.{IsKeptCalendar}
-use Rattle.room_books.specs.Keeping.{kept_of}
-use Rattle.room_books.proofs.KeptClaims.{claims_kept}
+use Rattle.profile.specs.rooms.Kept.{Entry, Shown, Hidden, part_kept, IsEntry, AreKeptOf, IsKeptCalendar}
+use Rattle.room_books.proofs.Pairs.{pairs_from}
 use Rattle.cal_events.proofs.Meanings.{utc_means}
-use Rattle.itip_order.proofs.Lists.{in_cons, none_in_nil}
+use Rattle.itip_order.proofs.Lasting.{view_taken}
+use Rattle.itip_order.proofs.Lists.{in_cons, in_head, none_in_nil}
 use Rattle.ical_values.proofs.Readings.{stamp_written}
 use Rattle.itip_messages.proofs.ReplyExamples.{stamp, start}
 use Rattle.profile.specs.text.Objects.SpellsBody.{nothing, property}
@@ -152,7 +153,11 @@ object = record {
 }
 
 abbrev message : messages.Message
-message = record { method = Request; event = event }
+message = record { method = Request; meeting = record { master = Some event; overrides = [] } }
+
+-- what stands in a list of one is that one
+only : {X : Type 0} (x y : X) → Contains (x ∷ []) y → y ≡ x
+only x y c = elim (in_cons x [] y c) [ inl e ↦ sym e | inr nowhere ↦ absurd (none_in_nil y nowhere) ]
 
 spells : SpellsMessage octets message
 spells = record {
@@ -161,10 +166,16 @@ spells = record {
   object = subst (λ (l : Lines). IsObject tree_name tree_own tree_inside true object_tree l) (sym are_lines) object;
   says = record {
     method = record { line = codes "METHOD:REQUEST"; once = refl; named = refl };
-    lines = own_lines;
-    one = refl;
     read = refl;
-    says = says object_tree;
+    says = record {
+      events = event ∷ [];
+      says = (says object_tree, tt);
+      some = omega arith;
+      one = λ a b first second. ap meeting_said (only event a first ∙ sym (only event b second));
+      master = refl;
+      overrides = refl;
+      differ = pairs_from ◌≢◌ [] tt;
+    };
   };
 }
 
@@ -182,9 +193,9 @@ part = record {
   body = Set (codes "DTSTART:20250310T090000Z\r\nDURATION:PT3600S\r\n");
 }
 
-is_part : IsPart message content part
+is_part : IsPart room message event content part
 unfolding digits
-is_part = record { organiser = refl; uid = refl; slot = refl; sequence = refl; stamp = refl; body = (refl, record { start = codes "20250310T090000Z"; written = start; is = refl }, refl) }
+is_part = record { organiser = refl; uid = refl; slot = refl; revision = refl; body = (refl, refl, record { start = codes "20250310T090000Z"; written = start; is = refl }, refl) }
 
 abbrev claim : Claim
 claim = record { part = part; content = content; singles = booked_by event ∷ [] }
@@ -193,7 +204,16 @@ abbrev delivery : Delivery
 delivery = record { claims = claim ∷ []; moment = pos 1_740_830_500 }
 
 delivered : IsDelivered room delivery
-delivered = record { octets = octets; message = message; spells = spells; are = (refl, record { part = is_part; singles = refl }) }
+delivered = record {
+  octets = octets;
+  message = message;
+  spells = spells;
+  are = record {
+    events = event ∷ [];
+    are = record { exact = λ other. (λ c. c, λ c. c); order = pairs_from (λ a b. slot_cmp (messages.slot_of a) (messages.slot_of b) ≡ Less) (event ∷ []) (λ other nowhere. absurd (none_in_nil other nowhere), tt) };
+    each = (record { part = is_part; singles = refl }, tt);
+  };
+}
 
 abbrev once_taken : Book
 once_taken = record { taken = part ∷ []; answers = answered (pos 1_740_830_500) Accept (claim ∷ []) }
@@ -202,10 +222,7 @@ abbrev taken_again : Book
 taken_again = record { taken = part ∷ part ∷ []; answers = answered (pos 1_740_830_500) Accept (claim ∷ []) }
 
 alone : (b : Booked) → IsClear (b ∷ [])
-alone b x y t c = c.differ (ap (λ (z : Booked). z.key) (only x c.first) ∙ sym (ap (λ (z : Booked). z.key) (only y c.second)))
-  where
-    only : (x : Booked) → Contains (b ∷ []) x → x ≡ b
-    only x c = elim (in_cons b [] x c) [ inl e ↦ sym e | inr nowhere ↦ absurd (none_in_nil x nowhere) ]
+alone b x y t c = c.differ (ap (λ (z : Booked). z.key) (only b x c.first) ∙ sym (ap (λ (z : Booked). z.key) (only b y c.second)))
 
 a_run : Runs empty_book (delivery ∷ delivery ∷ []) taken_again
 a_run = (
@@ -223,15 +240,38 @@ one_confirmed = refl
 abbrev kept_lines : Lines
 kept_lines = vevent_lines (codes "UID:a" ∷ codes "SEQUENCE:0" ∷ codes "DTSTAMP:20250301T120000Z" ∷ codes "DTSTART:20250310T090000Z" ∷ codes "DURATION:PT3600S" ∷ codes "ORGANIZER:mailto:ann@example.com" ∷ codes "ATTENDEE;PARTSTAT=ACCEPTED:mailto:r1@example.com" ∷ [])
 
+-- the part is all that was taken
+taken_part : (p : Part) → Contains taken_again.taken p → p ≡ part
+taken_part p c = elim (in_cons part (part ∷ []) p c) [ inl e ↦ sym e | inr rest ↦ only part p rest ]
+
+-- its claim is all that is shown, and nothing is hidden, as no part of one instance was taken
+all_kept : AreKeptOf taken_again part (Shown claim ∷ [])
+all_kept = record {
+  exact = λ entry. (λ c. subst (IsEntry taken_again part) (sym (only (Shown claim) entry c)) is_shown, of_the_claim entry);
+  order = pairs_from (λ a b. slot_cmp (part_kept a).slot (part_kept b).slot ≡ Less) (Shown claim ∷ []) (λ other nowhere. absurd (none_in_nil other nowhere), tt);
+}
+  where
+    the_answer : Answer
+    the_answer = record { claim = claim; moment = pos 1_740_830_500; outcome = Accept }
+
+    is_shown : IsEntry taken_again part (Shown claim)
+    is_shown = record { of_meeting = refl; answer = the_answer; given = in_head the_answer []; to = refl; confirms = refl }
+
+    of_the_claim : (entry : Entry) → IsEntry taken_again part entry → Contains (Shown claim ∷ []) entry
+    of_the_claim (Shown other) k = subst (λ (c : Claim). Contains (Shown claim ∷ []) (Shown c)) (sym (ap (λ (a : Answer). a.claim) (only the_answer k.answer k.given)) ∙ k.to) (in_head (Shown claim) [])
+    of_the_claim (Hidden other) k = absurd (false≢true (sym k.instance ∙ ap is_whole (taken_part other (view_taken taken_again.taken other k.stands))))
+
 a_kept_calendar : IsKeptCalendar room taken_again (written (object_lines None kept_lines))
 unfolding digits
 a_kept_calendar = record {
-  claims = claim ∷ [];
-  kept = claims_kept taken_again (λ p c. elim (in_cons part [] p c) [ inl e ↦ subst (λ (q : Part). length (kept_of taken_again q) ≤ 1) e (omega arith) | inr nowhere ↦ absurd (none_in_nil p nowhere) ]);
+  entries = Shown claim ∷ [];
+  kept = record { by_meeting = (Shown claim ∷ []) ∷ []; each = (all_kept, tt); are = refl };
   events = kept_lines ∷ [];
   each = (
     record {
+      slot = [];
       stamp = codes "20250301T120000Z";
+      tells_slot = refl;
       written_stamp = stamp;
       is = refl;
     },

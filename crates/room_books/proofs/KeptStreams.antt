@@ -4,7 +4,7 @@ use Rattle.std.specs.List.{Contains}
 use Rattle.profile.specs.rooms.Messages.{Message, SpellsMessage}
 use Rattle.profile.specs.streams.Streams.{Hosted, Takes, AllTake, Answers, AllAnswers, new_box}
 use Rattle.itip_order.proofs.Lists.{in_cons, none_in_nil}
-use Rattle.room_books.proofs.KeptRuns.{KeepsAll, keeps_none, keeps_step, one_asked}
+use Rattle.room_books.proofs.KeptRuns.{KeepsAll, keeps_none, keeps_step, all_asked}
 
 -- what holds of each room that a box hosts
 AllKeep : List Hosted → Type 0
@@ -14,7 +14,7 @@ AllKeep (room ∷ rooms) = KeepsAll room.address room.book × AllKeep rooms
 take_keeps : (moment : ℤ) (message : Message) (object octets : List ℕ) (before after : Hosted) → SpellsMessage object message → Takes moment message before after octets → KeepsAll before.address before.book → KeepsAll after.address after.book
 take_keeps moment message object octets before after s t k =
     subst (λ (a : List ℕ). KeepsAll a after.book) (sym t.same)
-    (keeps_step before.address before.book t.claims moment t.outcome after.book (one_asked before.address object message t.claims s t.are) t.step k)
+    (keeps_step before.address before.book t.claims moment t.outcome after.book (all_asked before.address object message s t.claims t.are) t.step k)
 
 all_take_keep : (moment : ℤ) (message : Message) (object octets : List ℕ) (befores afters : List Hosted) → SpellsMessage object message → AllTake moment message befores afters octets → AllKeep befores → AllKeep afters
 unfolding AllKeep

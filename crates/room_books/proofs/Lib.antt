@@ -18,12 +18,12 @@ pub mod Runs
 pub mod KeptRuns
 pub mod OneAnswer
 pub mod KeptMeetings
-pub mod KeptClaims
 pub mod KeptCalendars
 pub mod KeptStreams
 pub mod KeptAnswers
 pub mod KeptRequests
 pub mod KeptEvents
+pub mod KeptEntries
 pub mod KeptLines
 pub mod KeptExamples
 pub mod Examples

@@ -1,59 +1,108 @@
--- The lines of a part's VEVENT, one behind another.
-use Rattle.std.proofs.Common.{◌≡◌, ℕ, true, List, [], ◌∷◌, ◌++◌, codes, decimal, sym, ap, ◌∙◌, subst}
+-- The lines of the VEVENTs that are kept, one behind another.
+use Rattle.std.proofs.Common.{◌≡◌, ℕ, ℤ, true, false, List, [], ◌∷◌, ◌++◌, codes, decimal, refl, sym, ap, ◌∙◌, subst}
 use Rattle.std.specs.Str.{IsUtf8}
 use Rattle.std.specs.Str.Lines.{lines}
 use Rattle.ical_values.specs.Written.{Appends}
 use Rattle.itip_messages.specs.Replies.{IsStampLine}
 use Rattle.profile.specs.text.Lines.{written, folded}
-use Rattle.profile.specs.rooms.Revisions.{Part, Set}
+use Rattle.profile.specs.rooms.Messages.{TellsSlot}
+use Rattle.profile.specs.rooms.Kept.{IsEventOf}
+use Rattle.profile.specs.rooms.Revisions.{Part, Slot, At, Set}
 use Rattle.profile.specs.rooms.Rooms.{is_set}
-use Rattle.profile.specs.text.Values.{WritesStamp, escaped}
-use Rattle.room_books.specs.Standing.{IsText}
+use Rattle.profile.specs.text.Values.{escaped}
+use Rattle.room_books.specs.Standing.{IsText, SlotDated}
 use Rattle.room_books.specs.Takings.{body_lines}
-use Rattle.room_books.specs.Keeping.{IsEventOf, WritesEvent}
-use Rattle.room_books.proofs.Writing.{push_line, push_lines, no_lines}
+use Rattle.room_books.specs.Keeping.{WritesHead, WritesSlot, WritesEntries}
+use Rattle.room_books.proofs.Writing.{push_line, push_lines, no_lines, one_written_entry}
 
--- a part that isn't to take place has no VEVENT
-pub no_event : (room : List ℕ) (part : Part) (old : List ℕ) → (is_set part ≡ true → ⊥) → WritesEvent room part old old
-no_event room part old h = record { lines = []; event = λ claim e f set text. absurd (h set); is = no_lines old }
+-- a part that isn't to take place isn't shown
+pub no_event : (room : List ℕ) (part : Part) (old : List ℕ) → (is_set part ≡ true → ⊥) → WritesEntries room ((true, part) ∷ []) old old
+no_event room part old h = one_written_entry room (true, part) [] old old (λ claim e f set text dated. absurd (h set)) (no_lines old)
 
-module _ (room : List ℕ) (part : Part) (octets : List ℕ) (body : List (List ℕ)) (set : part.body ≡ Set octets) (text : IsUtf8 octets → body ≡ lines octets) where
-  event_lines : List ℕ → List (List ℕ)
-  event_lines stamp =
-      (codes "BEGIN:VEVENT" ∷ (codes "UID:" ++ escaped part.uid) ∷ (codes "SEQUENCE:" ++ decimal part.revision.sequence) ∷ (codes "DTSTAMP:" ++ stamp) ∷ [])
-      ++ body
-      ++ ((codes "ORGANIZER:" ++ part.organiser) ∷ (codes "ATTENDEE;PARTSTAT=ACCEPTED:" ++ room) ∷ codes "END:VEVENT" ∷ [])
+-- nor is one whose instant no stamp can write
+pub no_hidden : (room : List ℕ) (part : Part) (old : List ℕ) → (SlotDated part.slot → ⊥) → WritesEntries room ((false, part) ∷ []) old old
+no_hidden room part old h = one_written_entry room (false, part) [] old old (λ dated. absurd (h dated)) (no_lines old)
 
-  shows_event : (stamp : List ℕ) → WritesStamp stamp part.revision.stamp → IsEventOf room part (event_lines stamp)
-  unfolding event_lines
-  shows_event stamp w claim e f is utf8 =
-      let content : claim.content ≡ body = f ∙ ap body_lines set ∙ sym (text (subst IsText set utf8)) in
-      record {
-        stamp = stamp;
-        written_stamp = subst (λ (p : Part). WritesStamp stamp p.revision.stamp) (sym e) w;
-        is = λ i. (codes "BEGIN:VEVENT" ∷ (codes "UID:" ++ escaped (sym e i).uid) ∷ (codes "SEQUENCE:" ++ decimal (sym e i).revision.sequence) ∷ (codes "DTSTAMP:" ++ stamp) ∷ [])
-            ++ sym content i
-            ++ ((codes "ORGANIZER:" ++ (sym e i).organiser) ∷ (codes "ATTENDEE;PARTSTAT=ACCEPTED:" ++ room) ∷ codes "END:VEVENT" ∷ []);
-      }
+-- ---- RECURRENCE-ID
 
-  -- the lines are written one after another
-  pub event_written : (o0 o1 o2 o3 o4 o5 o6 o7 o8 : List ℕ) → o1 ≡ o0 ++ folded (codes "BEGIN:VEVENT") → o2 ≡ o1 ++ folded (codes "UID:" ++ escaped part.uid) → o3 ≡ o2 ++ folded (codes "SEQUENCE:" ++ decimal part.revision.sequence)
-      → Appends o3 o4 (IsStampLine (codes "DTSTAMP:") part.revision.stamp) → o5 ≡ o4 ++ written body → o6 ≡ o5 ++ folded (codes "ORGANIZER:" ++ part.organiser) → o7 ≡ o6 ++ folded (codes "ATTENDEE;PARTSTAT=ACCEPTED:" ++ room) → o8 ≡ o7 ++ folded (codes "END:VEVENT")
-      → WritesEvent room part o0 o8
-  unfolding event_lines shows_event
-  event_written o0 o1 o2 o3 o4 o5 o6 o7 o8 h1 h2 h3 h4 h5 h6 h7 h8 =
-      let stamp = h4.1.0 in
-      let head : List (List ℕ) = codes "BEGIN:VEVENT" ∷ (codes "UID:" ++ escaped part.uid) ∷ (codes "SEQUENCE:" ++ decimal part.revision.sequence) ∷ (codes "DTSTAMP:" ++ stamp) ∷ [] in
-      let s1 = push_line o0 o0 o1 (codes "BEGIN:VEVENT") [] (no_lines o0) h1 in
-      let s2 = push_line o0 o1 o2 (codes "UID:" ++ escaped part.uid) (codes "BEGIN:VEVENT" ∷ []) s1 h2 in
-      let s3 = push_line o0 o2 o3 (codes "SEQUENCE:" ++ decimal part.revision.sequence) (codes "BEGIN:VEVENT" ∷ (codes "UID:" ++ escaped part.uid) ∷ []) s2 h3 in
-      let s4 : o4 ≡ o0 ++ written head = push_line o0 o3 o4 (codes "DTSTAMP:" ++ stamp) (codes "BEGIN:VEVENT" ∷ (codes "UID:" ++ escaped part.uid) ∷ (codes "SEQUENCE:" ++ decimal part.revision.sequence) ∷ []) s3 (h4.2 ∙ ap (λ l. o3 ++ l) h4.1.2) in
-      let s5 : o5 ≡ o0 ++ written (head ++ body) = push_lines o0 o4 o5 head (body) s4 h5 in
-      let t1 = push_line o5 o5 o6 (codes "ORGANIZER:" ++ part.organiser) [] (no_lines o5) h6 in
-      let t2 = push_line o5 o6 o7 (codes "ATTENDEE;PARTSTAT=ACCEPTED:" ++ room) ((codes "ORGANIZER:" ++ part.organiser) ∷ []) t1 h7 in
-      let t3 : o8 ≡ o5 ++ written ((codes "ORGANIZER:" ++ part.organiser) ∷ (codes "ATTENDEE;PARTSTAT=ACCEPTED:" ++ room) ∷ codes "END:VEVENT" ∷ []) = push_line o5 o7 o8 (codes "END:VEVENT") ((codes "ORGANIZER:" ++ part.organiser) ∷ (codes "ATTENDEE;PARTSTAT=ACCEPTED:" ++ room) ∷ []) t2 h8 in
-      record {
-        lines = event_lines stamp;
-        event = shows_event stamp h4.1.1;
-        is = push_lines o0 o5 o8 (head ++ body) ((codes "ORGANIZER:" ++ part.organiser) ∷ (codes "ATTENDEE;PARTSTAT=ACCEPTED:" ++ room) ∷ codes "END:VEVENT" ∷ []) s5 t3;
-      }
+pub no_slot : (slot : Slot) (old : List ℕ) → (SlotDated slot → TellsSlot slot []) → WritesSlot slot old old
+no_slot slot old h = record { lines = []; tells = h; is = no_lines old }
+
+pub slot_line : (t : ℤ) (old new : List ℕ) → Appends old new (IsStampLine (codes "RECURRENCE-ID:") t) → WritesSlot (At t) old new
+slot_line t old new a = record {
+  lines = (codes "RECURRENCE-ID:" ++ a.1.0) ∷ [];
+  tells = λ _. (a.1.0, a.1.1, refl);
+  is = push_line old old new (codes "RECURRENCE-ID:" ++ a.1.0) [] (no_lines old) (a.2 ∙ ap (λ l. old ++ l) a.1.2);
+}
+
+-- ---- the head of a VEVENT
+
+pub head_written : (part : Part) (o0 o1 o2 o3 o4 o5 : List ℕ) → o1 ≡ o0 ++ folded (codes "BEGIN:VEVENT") → o2 ≡ o1 ++ folded (codes "UID:" ++ escaped part.uid) → WritesSlot part.slot o2 o3
+    → o4 ≡ o3 ++ folded (codes "SEQUENCE:" ++ decimal part.revision.sequence) → Appends o4 o5 (IsStampLine (codes "DTSTAMP:") part.revision.stamp) → WritesHead part o0 o5
+head_written part o0 o1 o2 o3 o4 o5 h1 h2 w h4 h5 =
+    let stamp = h5.1.0 in
+    let first : List (List ℕ) = codes "BEGIN:VEVENT" ∷ (codes "UID:" ++ escaped part.uid) ∷ [] in
+    let s1 = push_line o0 o0 o1 (codes "BEGIN:VEVENT") [] (no_lines o0) h1 in
+    let s2 : o2 ≡ o0 ++ written first = push_line o0 o1 o2 (codes "UID:" ++ escaped part.uid) (codes "BEGIN:VEVENT" ∷ []) s1 h2 in
+    let s3 : o3 ≡ o0 ++ written (first ++ w.lines) = push_lines o0 o2 o3 first w.lines s2 w.is in
+    let t1 = push_line o3 o3 o4 (codes "SEQUENCE:" ++ decimal part.revision.sequence) [] (no_lines o3) h4 in
+    let t2 : o5 ≡ o3 ++ written ((codes "SEQUENCE:" ++ decimal part.revision.sequence) ∷ (codes "DTSTAMP:" ++ stamp) ∷ []) =
+    push_line o3 o4 o5 (codes "DTSTAMP:" ++ stamp) ((codes "SEQUENCE:" ++ decimal part.revision.sequence) ∷ []) t1 (h5.2 ∙ ap (λ l. o4 ++ l) h5.1.2) in
+    record {
+      slot = w.lines;
+      stamp = stamp;
+      tells = w.tells;
+      stamped = h5.1.1;
+      is = push_lines o0 o3 o5 (first ++ w.lines) ((codes "SEQUENCE:" ++ decimal part.revision.sequence) ∷ (codes "DTSTAMP:" ++ stamp) ∷ []) s3 t2;
+    }
+
+-- ---- a VEVENT
+
+module _ (room : List ℕ) (part : Part) (answer : List ℕ) (o0 o1 : List ℕ) (w : WritesHead part o0 o1) (body : List (List ℕ)) where
+  abbrev last : List (List ℕ)
+  last = (codes "ORGANIZER:" ++ part.organiser) ∷ (codes "ATTENDEE;PARTSTAT=" ++ answer ++ codes ":" ++ room) ∷ codes "END:VEVENT" ∷ []
+
+  abbrev which : List (List ℕ)
+  which = codes "BEGIN:VEVENT" ∷ (codes "UID:" ++ escaped part.uid) ∷ w.slot
+
+  abbrev when : List (List ℕ)
+  when = (codes "SEQUENCE:" ++ decimal part.revision.sequence) ∷ (codes "DTSTAMP:" ++ w.stamp) ∷ []
+
+  abbrev event_lines : List (List ℕ)
+  event_lines = ((which ++ when) ++ body) ++ last
+
+  event_is : SlotDated part.slot → IsEventOf room part body answer event_lines
+  event_is dated = record { slot = w.slot; stamp = w.stamp; tells_slot = w.tells dated; written_stamp = w.stamped; is = refl }
+
+  rest_written : (o2 o3 o4 o5 : List ℕ) → o2 ≡ o1 ++ written body → o3 ≡ o2 ++ folded (codes "ORGANIZER:" ++ part.organiser)
+      → o4 ≡ o3 ++ folded (codes "ATTENDEE;PARTSTAT=" ++ answer ++ codes ":" ++ room) → o5 ≡ o4 ++ folded (codes "END:VEVENT") → o5 ≡ o0 ++ written event_lines
+  rest_written o2 o3 o4 o5 h2 h3 h4 h5 =
+      let t1 = push_line o2 o2 o3 (codes "ORGANIZER:" ++ part.organiser) [] (no_lines o2) h3 in
+      let t2 = push_line o2 o3 o4 (codes "ATTENDEE;PARTSTAT=" ++ answer ++ codes ":" ++ room) ((codes "ORGANIZER:" ++ part.organiser) ∷ []) t1 h4 in
+      let t3 : o5 ≡ o2 ++ written last = push_line o2 o4 o5 (codes "END:VEVENT") ((codes "ORGANIZER:" ++ part.organiser) ∷ (codes "ATTENDEE;PARTSTAT=" ++ answer ++ codes ":" ++ room) ∷ []) t2 h5 in
+      push_lines o0 o2 o5 ((which ++ when) ++ body) last (push_lines o0 o1 o2 (which ++ when) body w.is h2) t3
+
+module _ (room : List ℕ) (part : Part) (o0 o1 o2 o3 o4 o5 : List ℕ) (w : WritesHead part o0 o1) where
+  -- of a part that is shown
+  pub shown_written : (octets : List ℕ) (body : List (List ℕ)) → part.body ≡ Set octets → (IsUtf8 octets → body ≡ lines octets) → o2 ≡ o1 ++ written body → o3 ≡ o2 ++ folded (codes "ORGANIZER:" ++ part.organiser)
+      → o4 ≡ o3 ++ folded (codes "ATTENDEE;PARTSTAT=ACCEPTED:" ++ room) → o5 ≡ o4 ++ folded (codes "END:VEVENT") → WritesEntries room ((true, part) ∷ []) o0 o5
+  shown_written octets body set text h2 h3 h4 h5 =
+      one_written_entry room (true, part) (event_lines room part (codes "ACCEPTED") o0 o1 w body) o0 o5
+      (λ claim e f is utf8 dated.
+      let content : body ≡ claim.content = text (subst IsText set utf8) ∙ sym (ap body_lines set) ∙ sym f in
+      subst (λ (c : List (List ℕ)). IsEventOf room claim.part c (codes "ACCEPTED") (event_lines room part (codes "ACCEPTED") o0 o1 w body)) content
+      (subst (λ (p : Part). IsEventOf room p body (codes "ACCEPTED") (event_lines room part (codes "ACCEPTED") o0 o1 w body)) (sym e) (event_is room part (codes "ACCEPTED") o0 o1 w body dated)))
+      (rest_written room part (codes "ACCEPTED") o0 o1 w body o2 o3 o4 o5 h2 h3 h4 h5)
+
+  -- of one that hides an instance
+  pub hidden_written : (t : ℤ) (p1 p2 : List ℕ) → part.slot ≡ At t → Appends o1 p1 (IsStampLine (codes "DTSTART:") t) → p2 ≡ p1 ++ folded (codes "DURATION:PT0S") → o2 ≡ p2 ++ folded (codes "STATUS:CANCELLED")
+      → o3 ≡ o2 ++ folded (codes "ORGANIZER:" ++ part.organiser) → o4 ≡ o3 ++ folded (codes "ATTENDEE;PARTSTAT=DECLINED:" ++ room) → o5 ≡ o4 ++ folded (codes "END:VEVENT") → WritesEntries room ((false, part) ∷ []) o0 o5
+  hidden_written t p1 p2 at a g1 g2 h3 h4 h5 =
+      let text = a.1.0 in
+      let body : List (List ℕ) = (codes "DTSTART:" ++ text) ∷ codes "DURATION:PT0S" ∷ codes "STATUS:CANCELLED" ∷ [] in
+      let s1 = push_line o1 o1 p1 (codes "DTSTART:" ++ text) [] (no_lines o1) (a.2 ∙ ap (λ l. o1 ++ l) a.1.2) in
+      let s2 = push_line o1 p1 p2 (codes "DURATION:PT0S") ((codes "DTSTART:" ++ text) ∷ []) s1 g1 in
+      let h2 : o2 ≡ o1 ++ written body = push_line o1 p2 o2 (codes "STATUS:CANCELLED") ((codes "DTSTART:" ++ text) ∷ codes "DURATION:PT0S" ∷ []) s2 g2 in
+      one_written_entry room (false, part) (event_lines room part (codes "DECLINED") o0 o1 w body) o0 o5
+      (λ dated. (body, record { instant = t; at = at; text = text; written = a.1.1; is = refl }, event_is room part (codes "DECLINED") o0 o1 w body dated))
+      (rest_written room part (codes "DECLINED") o0 o1 w body o2 o3 o4 o5 h2 h3 h4 h5)

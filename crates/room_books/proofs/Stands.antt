@@ -13,7 +13,7 @@ use Rattle.profile.specs.rooms.Kept.{Replies, ShowsAnswer, first_parts}
 use Rattle.room_books.specs.declared.meeting.MeetingKey.{MeetingKey}
 use Rattle.room_books.specs.declared.meeting.Meeting.{Meeting}
 use Rattle.room_books.specs.Views.{same_key}
-use Rattle.room_books.specs.Standing.{is_of, AreFitting, of_meeting, answers_of, book_of, IsOwn, IsGiven, Meets, MeetsAt, Covers, AreKeysOf, Stands, book_after, standing, IsMeetingAfter, StepsWith}
+use Rattle.room_books.specs.Standing.{SlotDated, is_of, AreFitting, of_meeting, answers_of, book_of, IsOwn, IsGiven, Meets, MeetsAt, Covers, AreKeysOf, Stands, book_after, standing, IsMeetingAfter, StepsWith}
 use Rattle.room_books.proofs.Arrivals.{arrives}
 use Rattle.room_books.proofs.Meetings.{key_from, is_of_same, one_meeting, of_more_other, filter_none, view_of}
 use Rattle.room_books.proofs.Pairs.{pairs_append, map_at}
@@ -146,6 +146,10 @@ module _ (entries entries' : Entries) (book : Book) (k : MeetingKey) (claims : L
         known = sound.known;
         set = λ a c. elim (Contains-append_cases book.answers new a c) [ inl old ↦ st.set a old | inr fresh ↦ (is_new a fresh).set ];
         fit = λ a c. elim (Contains-append_cases book.answers new a c) [ inl old ↦ st.fit a old | inr fresh ↦ fit.fit a.claim (is_new a fresh).among ];
+        dated = λ part c. elim (Contains-append_cases book.taken (parts_of claims) part c) [
+          | inl old ↦ st.dated part old
+          | inr fresh ↦ let found = map_at (λ (x : Claim). x.part) claims part fresh in subst (λ (x : Part). SlotDated x.slot) found.2 (fit.dated found.0 found.1)
+        ];
         once = pairs_append OtherPart book.answers new st.once (new_once moment after.outcome book.taken taken claims fit.differ) across;
         clear = sound.good.clear;
         few = sound.good.few;

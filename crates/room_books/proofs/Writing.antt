@@ -1,12 +1,12 @@
 -- Lines that are written one behind another, and the VEVENTs of parts.
-use Rattle.std.proofs.Common.{◌≡◌, ℕ, Bool, true, false, cond, List, [], ◌∷◌, ◌++◌, None, codes, sym, ap, ◌∙◌, subst, append_assoc, append-nil}
-use Rattle.std.specs.List.{filter, flat_map}
+use Rattle.std.proofs.Common.{◌≡◌, ℕ, Bool, List, [], ◌∷◌, ◌++◌, None, codes, sym, ap, ◌∙◌, subst, append_assoc, append-nil}
+use Rattle.std.specs.List.{flat_map}
 use Rattle.std.proofs.lemmas.Grind.{flat_map-append}
 use Rattle.profile.specs.text.Lines.{written, folded}
 use Rattle.profile.specs.rooms.Messages.{object_lines, opening_lines}
 use Rattle.profile.specs.rooms.Revisions.{Part}
-use Rattle.room_books.specs.Keeping.{IsEventOf, WritesEvent, WritesParts}
-use Rattle.room_books.proofs.Loops.{zip_both, filter_push}
+use Rattle.room_books.specs.Keeping.{IsEntryEvent, WritesEntries}
+use Rattle.room_books.proofs.Loops.{zip_both, flat_push}
 
 -- ---- written lines
 
@@ -29,31 +29,27 @@ pub object_written : (start opened inside closed : List ℕ) (lines : List (List
 object_written start opened inside closed lines none first then last =
     push_line [] inside closed (codes "END:VCALENDAR") (opening_lines None ++ lines) (push_lines [] opened inside (opening_lines None) lines (first ∙ ap (λ o. o ++ written (opening_lines None)) none) then) last
 
--- ---- the VEVENTs of parts
+-- ---- the VEVENTs of what is kept
 
-pub none_written : (room old : List ℕ) → WritesParts room [] old old
+pub none_written : (room old : List ℕ) → WritesEntries room [] old old
 none_written room old = record { events = []; each = tt; is = no_lines old }
 
-one_written_part : (room : List ℕ) (part : Part) (old new : List ℕ) → WritesEvent room part old new → WritesParts room (part ∷ []) old new
-one_written_part room part old new w = record {
-  events = w.lines ∷ [];
-  each = (w.event, tt);
-  is = w.is ∙ ap (λ l. old ++ written l) (sym (append-nil w.lines));
+pub one_written_entry : (room : List ℕ) (entry : Bool × Part) (lines : List (List ℕ)) (old new : List ℕ) → IsEntryEvent room entry lines → new ≡ old ++ written lines → WritesEntries room (entry ∷ []) old new
+one_written_entry room entry lines old new event is = record {
+  events = lines ∷ [];
+  each = (event, tt);
+  is = is ∙ ap (λ l. old ++ written l) (sym (append-nil lines));
 }
 
-pub both_written : (room : List ℕ) (first second : List Part) (old now new : List ℕ) → WritesParts room first old now → WritesParts room second now new → WritesParts room (first ++ second) old new
+pub both_written : (room : List ℕ) (first second : List (Bool × Part)) (old now new : List ℕ) → WritesEntries room first old now → WritesEntries room second now new → WritesEntries room (first ++ second) old new
 both_written room first second old now new a b = record {
   events = a.events ++ b.events;
-  each = zip_both (IsEventOf room) first a.events second b.events a.each b.each;
+  each = zip_both (IsEntryEvent room) first a.events second b.events a.each b.each;
   is = push_lines old now new (flat_map (λ l. l) a.events) (flat_map (λ l. l) b.events) a.is b.is ∙ ap (λ l. old ++ written l) (sym (flat_map-append (λ l. l) a.events b.events));
 }
 
--- one part more that is kept, or that isn't
-pub part_written : (f : Part → Bool) (room : List ℕ) (done : List Part) (part : Part) (old now new : List ℕ) → f part ≡ true → WritesParts room (filter f done) old now → WritesEvent room part now new → WritesParts room (filter f (done ++ part ∷ [])) old new
-part_written f room done part old now new e before w =
-    subst (λ (l : List Part). WritesParts room l old new) (sym (filter_push f done part ∙ ap (λ b. filter f done ++ cond b (part ∷ []) []) e))
-    (both_written room (filter f done) (part ∷ []) old now new before (one_written_part room part now new w))
-
-pub part_passed : (f : Part → Bool) (room : List ℕ) (done : List Part) (part : Part) (old now : List ℕ) → f part ≡ false → WritesParts room (filter f done) old now → WritesParts room (filter f (done ++ part ∷ [])) old now
-part_passed f room done part old now e before =
-    subst (λ (l : List Part). WritesParts room l old now) (sym (filter_push f done part ∙ ap (λ b. filter f done ++ cond b (part ∷ []) []) e ∙ append-nil (filter f done))) before
+-- one part more
+pub part_written : (f : Part → List (Bool × Part)) (room : List ℕ) (done : List Part) (part : Part) (old now new : List ℕ) → WritesEntries room (flat_map f done) old now → WritesEntries room (f part) now new
+    → WritesEntries room (flat_map f (done ++ part ∷ [])) old new
+part_written f room done part old now new before w =
+    subst (λ (l : List (Bool × Part)). WritesEntries room l old new) (sym (flat_push f done part)) (both_written room (flat_map f done) (f part) old now new before w)

@@ -1,5 +1,7 @@
 -- What the components of a message ask of a room.
-use Rattle.std.specs.Prelude.{◌≡◌, ℕ, ℤ, ◌<◌, ◌^◌, List, [], ◌∷◌, Contains, if◌then◌else◌}
+use Rattle.std.specs.Prelude.{◌≡◌, ℕ, ℤ, ◌<◌, ◌^◌, List, [], ◌∷◌, Contains, Option, if◌then◌else◌}
+use Rattle.profile.specs.events.Events.{Event}
+use Rattle.profile.specs.rooms.Revisions.{Revision}
 use Rattle.itip_messages.specs.declared.message.Message.{Message}
 use Rattle.itip_messages.specs.declared.message.MessageComponent.{MessageComponent}
 use Rattle.itip_messages.specs.Messages.{SaysComponent, part_for}
@@ -44,7 +46,7 @@ pub record IsClaimIn (room : List ℕ) (message : Message) (component : MessageC
   pub part_is : part_of claim.part ≡ part_for room message component
   pub singles : claim.singles.items ≡ (if is_set (part_for room message component) then single_in component ∷ [] else [])
   pub start : IsClockSeconds component.start
-  pub short : (said : profile.Message) → SaysComponent component said → length_seconds said.event.times.length < 2 ^ 64
+  pub short : (method : profile.Method) (whole : Option Revision) (event : Event) → SaysComponent method whole event component → length_seconds event.times.length < 2 ^ 64
 
 -- these are the claims of the message, of the meeting of any of them
 pub record AreClaimed (room : List ℕ) (said : profile.Message) (claims : List Claim) : Type 0 where

@@ -1,5 +1,5 @@
 -- What is written of what a room keeps.
-use Rattle.std.specs.Prelude.{◌≡◌, ℕ, Bool, true, List, ◌++◌, ◌&&◌, filter, map}
+use Rattle.std.specs.Prelude.{◌≡◌, ℕ, Bool, true, false, not, List, [], ◌∷◌, ◌++◌, ◌&&◌, codes, decimal, filter, map, if◌then◌else◌}
 use Rattle.std.specs.List.{flat_map, list_any, AllZip}
 use Rattle.std.specs.Ordering.{is_eq}
 use Rattle.std.specs.Str.{IsUtf8}
@@ -8,13 +8,15 @@ use Rattle.itip_order.specs.declared.part.Slot.{Slot}
 use Rattle.itip_order.specs.Parts.{slot_of}
 use Rattle.itip_order.specs.Registers.{shown}
 use Rattle.profile.specs.rooms.Revisions as revisions
-use Rattle.profile.specs.rooms.Revisions.{Part, same_meeting, slot_cmp}
+use Rattle.profile.specs.rooms.Revisions.{Part, is_whole, same_meeting, slot_cmp}
+use Rattle.profile.specs.rooms.Messages.{TellsSlot}
+use Rattle.profile.specs.text.Values.{WritesStamp, escaped}
 use Rattle.profile.specs.rooms.Rooms.{Claim, Answer, Book, is_accept, is_confirmed, is_set}
-use Rattle.profile.specs.rooms.Kept.{first_parts, IsKeptEvent}
+use Rattle.profile.specs.rooms.Kept.{first_parts, Shown, Hidden, IsKeptEvent}
 use Rattle.profile.specs.text.Lines.{written}
 use Rattle.room_books.specs.declared.meeting.Meeting.{Meeting}
 use Rattle.room_books.specs.declared.meeting.Given.{Given}
-use Rattle.room_books.specs.Standing.{IsText}
+use Rattle.room_books.specs.Standing.{IsText, SlotDated}
 use Rattle.room_books.specs.Takings.{body_lines}
 use Rattle.room_books.specs.Views.{outcome_of}
 
@@ -49,20 +51,29 @@ has_slot slots slot = list_any (λ own. is_eq (slot_cmp (slot_of own) slot)) slo
 abbrev pub is_accepted : Meeting → Part → Bool
 is_accepted meeting part = has_slot (accepted_slots meeting.answers.items) part.slot
 
--- the parts in the meeting's view that were accepted, by their slots
-abbrev pub kept_in : Meeting → List Part
-kept_in meeting = filter (is_accepted meeting) (shown meeting.held)
+-- the meeting has accepted its whole, so that its other instances in the view are kept to hide those of it
+abbrev pub is_hiding : Meeting → Bool
+is_hiding meeting = has_slot (accepted_slots meeting.answers.items) revisions.Whole
 
--- those of these meetings, in their order
-abbrev pub all_kept : List Meeting → List Part
+-- what is kept of a part: the part as it is shown (true), or as it hides an instance (false), or nothing
+abbrev pub entry_of : Bool → Bool → Part → List (Bool × Part)
+entry_of hides shown part = if shown then (true, part) ∷ [] else (if hides && not (is_whole part) then (false, part) ∷ [] else [])
+
+-- what is kept of the parts in the meeting's view, by their slots
+abbrev pub kept_in : Meeting → List (Bool × Part)
+kept_in meeting = flat_map (λ part. entry_of (is_hiding meeting) (is_accepted meeting part) part) (shown meeting.held)
+
+-- of these meetings, in their order
+abbrev pub all_kept : List Meeting → List (Bool × Part)
 all_kept meetings = flat_map kept_in meetings
 
 -- ---- what is written
 
--- the lines are those of the VEVENT that is kept of any claim of the part, where the part is to take place
-abbrev pub IsEventOf : List ℕ → Part → List (List ℕ) → Type 0
-IsEventOf room part lines =
-    (claim : Claim) → claim.part ≡ part → claim.content ≡ body_lines part.body → is_set part ≡ true → IsText part.body → IsKeptEvent room claim lines
+-- the lines are those of the VEVENT that is kept of it: of any claim of a part that is shown, where that is to take place
+abbrev pub IsEntryEvent : List ℕ → Bool × Part → List (List ℕ) → Type 0
+IsEntryEvent room (true, part) lines =
+    (claim : Claim) → claim.part ≡ part → claim.content ≡ body_lines part.body → is_set part ≡ true → IsText part.body → SlotDated part.slot → IsKeptEvent room (Shown claim) lines
+IsEntryEvent room (false, part) lines = SlotDated part.slot → IsKeptEvent room (Hidden part) lines
 
 -- new is old and behind it, written, the lines of the body, if it is text
 pub record WritesBody (body old new : List ℕ) : Type 0 where
@@ -70,14 +81,22 @@ pub record WritesBody (body old new : List ℕ) : Type 0 where
   pub text : IsUtf8 body → lines ≡ text_lines body
   pub is : new ≡ old ++ written lines
 
--- new is old and behind it, written, the lines of the part's VEVENT
-pub record WritesEvent (room : List ℕ) (part : Part) (old new : List ℕ) : Type 0 where
+-- new is old and behind it, written, RECURRENCE-ID, if a stamp can write it
+pub record WritesSlot (slot : revisions.Slot) (old new : List ℕ) : Type 0 where
   pub lines : List (List ℕ)
-  pub event : IsEventOf room part lines
+  pub tells : SlotDated slot → TellsSlot slot lines
   pub is : new ≡ old ++ written lines
 
--- new is old and behind it, written, a VEVENT for each of these parts
-pub record WritesParts (room : List ℕ) (parts : List Part) (old new : List ℕ) : Type 0 where
+-- new is old and behind it, written, the lines that say which part it is
+pub record WritesHead (part : Part) (old new : List ℕ) : Type 0 where
+  pub slot : List (List ℕ)
+  pub stamp : List ℕ
+  pub tells : SlotDated part.slot → TellsSlot part.slot slot
+  pub stamped : WritesStamp stamp part.revision.stamp
+  pub is : new ≡ old ++ written ((codes "BEGIN:VEVENT" ∷ (codes "UID:" ++ escaped part.uid) ∷ slot) ++ ((codes "SEQUENCE:" ++ decimal part.revision.sequence) ∷ (codes "DTSTAMP:" ++ stamp) ∷ []))
+
+-- new is old and behind it, written, a VEVENT for each of these
+pub record WritesEntries (room : List ℕ) (entries : List (Bool × Part)) (old new : List ℕ) : Type 0 where
   pub events : List (List (List ℕ))
-  pub each : AllZip (IsEventOf room) parts events
+  pub each : AllZip (IsEntryEvent room) entries events
   pub is : new ≡ old ++ written (flat_map (λ lines. lines) events)

@@ -136,6 +136,7 @@ pub record Stands (entries : List (MeetingKey × Meeting)) (book : Book) : Type 
   pub known : (answer : Answer) → Contains book.answers answer → Contains book.taken answer.claim.part
   pub set : (answer : Answer) → Contains book.answers answer → is_set answer.claim.part ≡ true
   pub fit : (answer : Answer) → Contains book.answers answer → IsFitting answer.claim
+  pub dated : (part : Part) → Contains book.taken part → SlotDated part.slot
   pub once : Pairwise (λ a b. a.claim.part ≢ b.claim.part) book.answers
   pub clear : IsClear (confirmed book)
   pub few : length (confirmed book) ≤ most_singles

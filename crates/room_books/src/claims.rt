@@ -1,6 +1,8 @@
 //! What a message asks of a room: a claim for each of its parts.
 
-ghost use Rattle.std.specs.Prelude.{◌≡◌, ◌<◌, ◌^◌, [], ◌∷◌, filter, IfOk, if◌then◌else◌};
+ghost use Rattle.std.specs.Prelude.{◌≡◌, ◌<◌, ◌^◌, [], ◌∷◌, filter, IfOk, Option, if◌then◌else◌};
+ghost use Rattle.profile.specs.events.Events.{Event};
+ghost use Rattle.profile.specs.rooms.Revisions.{Revision};
 ghost use Rattle.std.specs.List.{AllZip, list_any};
 ghost use Rattle.ical_values.specs.Octets.{address_octets};
 ghost use Rattle.itip_messages.specs.Messages.{StandsFor, SaysComponent, has_part};
@@ -20,9 +22,8 @@ use itip_messages::{Message, MessageComponent};
 use itip_order::{Part, Slot};
 use std::alloc::{AllocError, Global};
 
-/// The claims that a message has for a room, in the order of its text; none where it isn't addressed to it.
+/// The claims that a message has for a room, the whole meeting first and then its instances; none where it isn't addressed to it.
 pub fn claims_of(alloc: Global, message: &Message, room: &Address) -> Result<Vec<Claim>, AllocError>
-    // So far a message stands for one event.
     ensures { IfOk result (λ claims. (said : profile.Message) → StandsFor message.now said → AreClaimed (address_octets room.now) said claims.items) }
 {
     if !message.is_addressed_to(room) {
@@ -78,7 +79,7 @@ fn claim_for(alloc: Global, part: Part, single: Single) -> Result<Claim, AllocEr
 fn single_in(component: &MessageComponent) -> Single
     ensures value { result ≡ single_in component.now }
     ensures start { IsClockSeconds result.span.start }
-    ensures short { (said : profile.Message) → SaysComponent component.now said → length_seconds said.event.times.length < 2 ^ 64 }
+    ensures short { (method : profile.Method) (whole : Option Revision) (event : Event) → SaysComponent method whole event component.now → length_seconds event.times.length < 2 ^ 64 }
 {
     Single {
         slot: original_start(component),

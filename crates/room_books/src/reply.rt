@@ -136,7 +136,7 @@ fn event_of<'a>(room: &'a Address, part: &'a Part, answers: &[&'a Given]) -> Opt
 }
 
 /// The RECURRENCE-ID of a slot, which the whole of a meeting has none of (RFC 5545 3.8.4.4); None where no stamp can write it.
-fn recurrence_of(slot: Slot) -> Option<Option<Stamp>>
+pub(crate) fn recurrence_of(slot: Slot) -> Option<Option<Stamp>>
     ensures slot { IfSome result (λ recurrence. recurrence_slot recurrence ≡ slot_of slot) }
     ensures none { IfNone result (SlotDated (slot_of slot) → ⊥) }
 {

@@ -1,6 +1,6 @@
 //! What a room keeps, as octets: its calendar, and the certificate for it.
 
-ghost use Rattle.std.specs.Prelude.{◌≡◌, ◌++◌, ℕ, IfOk, OnOk};
+ghost use Rattle.std.specs.Prelude.{◌≡◌, ◌++◌, ◌∷◌, [], ℕ, true, false, IfOk, OnOk};
 ghost use Rattle.std.specs.List.Sorted.{IsPermutation, IsSortedByKey};
 ghost use Rattle.std.specs.Str.Lines.{lines};
 ghost use Rattle.indexmap.specs.IndexMap.{values};
@@ -9,14 +9,15 @@ ghost use Rattle.itip_order.specs.Parts.{part_of, slot_of};
 ghost use Rattle.clash_cert.specs.Makings.{HasCount, IsCertificate};
 ghost use Rattle.profile.specs.checker.Certificates.{text_of};
 ghost use Rattle.profile.specs.rooms.Kept.{IsKeptCalendar};
-ghost use Rattle.profile.specs.rooms.Revisions.{slot_cmp};
+ghost use Rattle.profile.specs.rooms.Revisions.{is_whole, slot_cmp};
 ghost use Rattle.profile.specs.rooms.Rooms.{Book};
 ghost use Rattle.profile.specs.text.Lines.{written};
 ghost use Rattle.room_books.specs.Standing.{Stands};
-ghost use Rattle.room_books.specs.Keeping.{WritesBody, WritesEvent, WritesParts, accepted_slots, all_kept, has_slot, kept_in};
+ghost use Rattle.room_books.specs.Keeping.{WritesBody, WritesEntries, WritesHead, WritesSlot, accepted_slots, all_kept, entry_of, has_slot, kept_in};
 
 use crate::decide::{Meetings, keys_differ};
 use crate::meeting::{Given, Meeting};
+use crate::reply::recurrence_of;
 use crate::taking::is_accept;
 use clash_cert::Made;
 use ical_values::Address;
@@ -25,7 +26,8 @@ use itip_order::{Body, Part, Slot};
 use std::alloc::{AllocError, Global};
 use std::str;
 
-/// The kept calendar of a room: each accepted part in the view, the meetings in order of first arrival.
+/// The kept calendar of a room, the meetings in order of first arrival: each accepted part in the view, and what hides instances of an
+/// accepted whole.
 pub(crate) fn calendar_of(
     alloc: Global,
     meetings: &Meetings,
@@ -59,7 +61,7 @@ fn write_meetings(
     meetings: &Meetings,
     room: &Address,
 ) -> Result<(), AllocError>
-    ensures { OnOk result (WritesParts (address_octets room.now) (all_kept (values meetings.now)) object.old object.new) }
+    ensures { OnOk result (WritesEntries (address_octets room.now) (all_kept (values meetings.now)) object.old object.new) }
 {
     for meeting in meetings.values() {
         write_meeting(object, meeting, room)?;
@@ -67,24 +69,44 @@ fn write_meetings(
     Ok(())
 }
 
-/// The VEVENTs of a meeting's parts in the view that were accepted, by their slots. For each part it takes as many steps as the number
-/// of the meeting's parts has binary digits, and those for the octets that are written.
+/// The VEVENTs that are kept of a meeting, by their slots: of the parts in the view that were accepted, and where the whole is one of them,
+/// of each other instance in the view. For each part it takes as many steps as the number of the meeting's parts has binary digits, and those
+/// for the octets that are written.
 fn write_meeting(
     object: &mut ObjectWriter,
     meeting: &Meeting,
     room: &Address,
 ) -> Result<(), AllocError>
-    ensures { OnOk result (WritesParts (address_octets room.now) (kept_in meeting.now) object.old object.new) }
+    ensures { OnOk result (WritesEntries (address_octets room.now) (kept_in meeting.now) object.old object.new) }
 {
     // sorted, since each part looks for its answer, and answers stand in the order in which they were given
     let mut accepted = slots_accepted(object.alloc(), &meeting.answers)?;
     sort_slots(&mut accepted);
+    let hides = is_among(&accepted, Slot::Whole);
     for part in meeting.held.view() {
-        if is_among(&accepted, part.slot) {
-            write_part(object, part, room)?;
-        }
+        let shown = is_among(&accepted, part.slot);
+        write_kept(object, part, shown, hides, room)?;
     }
     Ok(())
+}
+
+/// The VEVENT of a part, if it is kept: where it is shown, or where it hides an instance of the whole.
+fn write_kept(
+    object: &mut ObjectWriter,
+    part: &Part,
+    shown: bool,
+    hides: bool,
+    room: &Address,
+) -> Result<(), AllocError>
+    ensures { OnOk result (WritesEntries (address_octets room.now) (entry_of hides shown (part_of part.now)) object.old object.new) }
+{
+    if shown {
+        return write_part(object, part, room);
+    }
+    match part.slot {
+        Slot::At(_) if hides => write_hidden(object, part, room),
+        _ => Ok(()),
+    }
 }
 
 /// The slots of the answers that accept.
@@ -116,21 +138,65 @@ fn is_among(sorted: &[Slot], slot: Slot) -> bool
     sorted.binary_search(&slot).is_ok()
 }
 
-/// The VEVENT of a part that is to take place: its own lines, and the room as the one attendee.
+/// The VEVENT of a part that is to take place: its own lines, and the room as the one attendee, who has accepted.
 fn write_part(object: &mut ObjectWriter, part: &Part, room: &Address) -> Result<(), AllocError>
-    ensures { OnOk result (WritesEvent (address_octets room.now) (part_of part.now) object.old object.new) }
+    ensures { OnOk result (WritesEntries (address_octets room.now) ((true, part_of part.now) ∷ []) object.old object.new) }
 {
     let Body::Set(body) = &part.body else {
         return Ok(());
     };
-    object.line("BEGIN:VEVENT")?;
-    object.uid(&part.uid)?;
-    object.sequence(part.revision.sequence)?;
-    object.stamp("DTSTAMP:", part.revision.stamp)?;
+    write_head(object, part)?;
     write_body(object, body.as_slice())?;
     object.named("ORGANIZER:", part.organiser.as_str())?;
     object.named("ATTENDEE;PARTSTAT=ACCEPTED:", room.as_str())?;
     object.line("END:VEVENT")?;
+    Ok(())
+}
+
+/// The VEVENT of an instance that isn't to take place: nothing at its original start, cancelled, and the room has declined.
+fn write_hidden(object: &mut ObjectWriter, part: &Part, room: &Address) -> Result<(), AllocError>
+    requires { is_whole (part_of part.now) ≡ false }
+    ensures { OnOk result (WritesEntries (address_octets room.now) ((false, part_of part.now) ∷ []) object.old object.new) }
+{
+    let Some(recurrence) = recurrence_of(part.slot) else {
+        return Ok(());
+    };
+    let Some(start) = recurrence else {
+        return Ok(());
+    };
+    write_head(object, part)?;
+    object.stamp("DTSTART:", start)?;
+    object.line("DURATION:PT0S")?;
+    object.line("STATUS:CANCELLED")?;
+    object.named("ORGANIZER:", part.organiser.as_str())?;
+    object.named("ATTENDEE;PARTSTAT=DECLINED:", room.as_str())?;
+    object.line("END:VEVENT")?;
+    Ok(())
+}
+
+/// The lines of a VEVENT that say which part it is of.
+fn write_head(object: &mut ObjectWriter, part: &Part) -> Result<(), AllocError>
+    ensures { OnOk result (WritesHead (part_of part.now) object.old object.new) }
+{
+    object.line("BEGIN:VEVENT")?;
+    object.uid(&part.uid)?;
+    write_slot(object, part.slot)?;
+    object.sequence(part.revision.sequence)?;
+    object.stamp("DTSTAMP:", part.revision.stamp)?;
+    Ok(())
+}
+
+/// RECURRENCE-ID, for one instance. One at an instant that no stamp can write has none.
+fn write_slot(object: &mut ObjectWriter, slot: Slot) -> Result<(), AllocError>
+    ensures { OnOk result (WritesSlot (slot_of slot) object.old object.new) }
+{
+    let Some(recurrence) = recurrence_of(slot) else {
+        return Ok(());
+    };
+    let Some(stamp) = recurrence else {
+        return Ok(());
+    };
+    object.stamp("RECURRENCE-ID:", stamp)?;
     Ok(())
 }
 

@@ -78,19 +78,19 @@ pub record SaysEvent (object : Tree) (in_message : Bool) (lines : List (List ℕ
 
 -- ---- what a message may not have yet
 
--- the line names single instances of an event that recurs: RDATE, EXDATE, RECURRENCE-ID
-abbrev pub is_of_instances : List ℕ → Bool
-is_of_instances line = is_of (codes "RDATE") line || is_of (codes "EXDATE") line || is_of (codes "RECURRENCE-ID") line
+-- the line adds starts to an event that recurs, or takes some away: RDATE, EXDATE
+abbrev pub is_of_starts : List ℕ → Bool
+is_of_starts line = is_of (codes "RDATE") line || is_of (codes "EXDATE") line
 
 abbrev pub is_recurrence : List ℕ → Bool
-is_recurrence line = is_of (codes "RRULE") line || is_of_instances line
+is_recurrence line = is_of (codes "RRULE") line || is_of_starts line
 
-abbrev pub is_end_of_event : List ℕ → Bool
-is_end_of_event line = is_of (codes "DTSTART") line || is_of (codes "DTEND") line
+abbrev pub is_time_of_event : List ℕ → Bool
+is_time_of_event line = is_of (codes "DTSTART") line || (is_of (codes "DTEND") line || is_of (codes "RECURRENCE-ID") line)
 
--- a recurrence, or a start or an end in a zone
+-- a recurrence, or a time in a zone
 abbrev pub is_unread_in_message : List ℕ → Bool
-is_unread_in_message line = is_recurrence line || (is_end_of_event line && is_in_zone line)
+is_unread_in_message line = is_recurrence line || (is_time_of_event line && is_in_zone line)
 
 -- DTSTART doesn't stand in the lines
 abbrev pub lacks_start : List (List ℕ) → Bool
@@ -98,10 +98,10 @@ lacks_start lines = not (list_any (is_of (codes "DTSTART")) lines)
 
 -- ---- what an event books
 
--- its one instance: the original start is its start (RFC 5545 3.8.4.4); a missing organiser is the empty address
+-- its one instance: the original start is what RECURRENCE-ID says, else its start (RFC 5545 3.8.4.4); a missing organiser is the empty address
 abbrev pub booked_by : Event → Booked
 booked_by event = record {
-  key = record { organiser = unwrap_or event.organiser []; uid = event.uid; slot = event.times.start };
+  key = record { organiser = unwrap_or event.organiser []; uid = event.uid; slot = unwrap_or event.recurrence event.times.start };
   start = event.times.start;
   end = event.times.start +ℤ pos (length_seconds event.times.length);
 }

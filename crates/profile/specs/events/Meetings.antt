@@ -1,7 +1,8 @@
 -- A meeting: what the VEVENTs of an object say of it, its master and its overrides (RFC 5545 3.8.4.4, RFC 5546 3.2). METHOD isn't looked at.
-use Rattle.std.specs.Prelude.{◌≡◌, ◌≢◌, ℕ, ◌<◌, Contains, AllPairs, Bool, true, false, not, ◌||◌, ◌==◌, List, [], length, map, filter, codes, Option, is_some}
+use Rattle.std.specs.Prelude.{◌≡◌, ◌≢◌, ℕ, ◌<◌, Contains, AllPairs, Bool, true, false, not, ◌&&◌, ◌||◌, ◌==◌, List, [], ◌++◌, length, map, filter, codes, Option, is_some, unwrap_or}
 use Rattle.std.specs.Option.{option_to_list}
 use Rattle.std.specs.List.{AllZip}
+use Rattle.std.specs.Str.{bytes_eq}
 use Rattle.profile.specs.faults.Faults.{is_between, is_object_fault, is_meeting_event_fault}
 use Rattle.profile.specs.text.Lines.{logical_lines, text_has, reads_as_lines}
 use Rattle.profile.specs.text.Objects.{SpellsTree, IsObject, has_version, lines_have, count_inside, most_events}
@@ -21,6 +22,14 @@ pub record Meeting : Type 0 where
   pub master : Option Event
   pub overrides : List Event
 
+-- both are of one UID and one ORGANIZER
+abbrev pub is_same_meeting : Event → Event → Bool
+is_same_meeting a b = bytes_eq a.uid b.uid && bytes_eq (unwrap_or a.organiser []) (unwrap_or b.organiser [])
+
+-- its events, the master first
+abbrev pub events_of : Meeting → List Event
+events_of meeting = option_to_list meeting.master ++ meeting.overrides
+
 -- all are of one UID and one ORGANIZER
 abbrev pub AreOfOne : List Event → Type 0
 AreOfOne events = (a b : Event) → Contains events a → Contains events b → meeting_said a ≡ meeting_said b
@@ -29,10 +38,10 @@ AreOfOne events = (a b : Event) → Contains events a → Contains events b → 
 abbrev pub InstancesDiffer : List Event → Type 0
 InstancesDiffer overrides = AllPairs ◌≢◌ (map (λ event. event.recurrence) overrides)
 
--- an object says this meeting
-pub record SaysMeeting (object : Tree) (meeting : Meeting) : Type 0 where
+-- an object says this meeting: as a message, or as a calendar or an event with its instances
+pub record SaysMeeting (object : Tree) (in_message : Bool) (meeting : Meeting) : Type 0 where
   pub events : List Event
-  pub says : AllZip (SaysEvent object false) (vevents object) events
+  pub says : AllZip (SaysEvent object in_message) (vevents object) events
   pub some : 0 < length events
   pub one : AreOfOne events
   pub master : filter is_master events ≡ option_to_list meeting.master
@@ -44,7 +53,7 @@ pub record SpellsMeeting (octets : List ℕ) (meeting : Meeting) : Type 0 where
   pub lines : reads_as_lines true octets ≡ true
   pub tree : Tree
   pub object : IsObject tree_name tree_own tree_inside true tree (logical_lines octets)
-  pub says : SaysMeeting tree meeting
+  pub says : SaysMeeting tree false meeting
 
 -- ---- what can be wrong with it, by the number of its refusal
 
@@ -53,16 +62,16 @@ abbrev pub is_meeting_fault : ℕ → Bool
 is_meeting_fault n = is_object_fault n || is_meeting_event_fault n || is_between 53 54 n || n == 62 || n == 66
 
 -- the fault of this number stands in the VEVENTs of an object
-pub data MeetingFault (object : Tree) : ℕ → Type 0 where
+pub data MeetingFault (object : Tree) (in_message : Bool) : ℕ → Type 0 where
   -- one of them has this fault
-  in_event : {n : ℕ} → (lines : List (List ℕ)) → Contains (vevents object) lines → EventFault object false lines n → MeetingFault object n
-  two_masters : (events : List Event) → AllZip (SaysEvent object false) (vevents object) events → 1 < length (filter is_master events)
-      → MeetingFault object 53
-  two_overrides : (events : List Event) → AllZip (SaysEvent object false) (vevents object) events
-      → (InstancesDiffer (filter is_override events) → ⊥) → MeetingFault object 54
+  in_event : {n : ℕ} → (lines : List (List ℕ)) → Contains (vevents object) lines → EventFault object in_message lines n → MeetingFault object in_message n
+  two_masters : (events : List Event) → AllZip (SaysEvent object in_message) (vevents object) events → 1 < length (filter is_master events)
+      → MeetingFault object in_message 53
+  two_overrides : (events : List Event) → AllZip (SaysEvent object in_message) (vevents object) events
+      → (InstancesDiffer (filter is_override events) → ⊥) → MeetingFault object in_message 54
   -- two UIDs or two ORGANIZERs
-  two_meetings : (events : List Event) → AllZip (SaysEvent object false) (vevents object) events → (AreOfOne events → ⊥) → MeetingFault object 62
-  no_event : vevents object ≡ [] → MeetingFault object 66
+  two_meetings : (events : List Event) → AllZip (SaysEvent object in_message) (vevents object) events → (AreOfOne events → ⊥) → MeetingFault object in_message 62
+  no_event : vevents object ≡ [] → MeetingFault object in_message 66
 
 -- the fault of this number stands in the octets
 pub data MeetingTextFault (octets : List ℕ) : ℕ → Type 0 where
@@ -77,5 +86,5 @@ pub data MeetingTextFault (octets : List ℕ) : ℕ → Type 0 where
   many_events : (t : Tree) → SpellsTree tree_name tree_own tree_inside 7 t (logical_lines octets)
       → most_events < count_inside tree_name tree_own tree_inside (codes "VEVENT") t → MeetingTextFault octets 25
   -- in the VEVENTs of the object that stands there
-  in_vevents : {n : ℕ} → (t : Tree) → IsObject tree_name tree_own tree_inside true t (logical_lines octets) → MeetingFault t n
+  in_vevents : {n : ℕ} → (t : Tree) → IsObject tree_name tree_own tree_inside true t (logical_lines octets) → MeetingFault t false n
       → MeetingTextFault octets n

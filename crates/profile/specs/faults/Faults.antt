@@ -60,7 +60,7 @@ is_calendar_fault n = is_object_fault n || is_meeting_event_fault n || is_betwee
 
 -- a fault of a message: an object, its VEVENTs, its method, its meeting or the want of a VEVENT (RFC 5546 3.2), or what isn't read yet
 abbrev pub is_message_fault : ℕ → Bool
-is_message_fault n = is_object_fault n || is_event_fault n || is_between 53 54 n || n == 60 || n == 62 || n == 66 || is_unread n
+is_message_fault n = is_object_fault n || is_meeting_event_fault n || is_between 53 54 n || n == 60 || n == 62 || n == 66 || is_unread n
 
 -- a fault of a preamble or a configuration
 abbrev pub is_preamble_fault : ℕ → Bool

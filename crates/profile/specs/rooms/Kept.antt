@@ -1,12 +1,12 @@
 -- What a room writes, as octets: its replies, its kept calendar and the certificate for it.
-use Rattle.std.specs.Prelude.{◌≡◌, ℕ, true, not, ◌==◌, ◌↔◌, IsTrue, List, [], ◌∷◌, ◌++◌, length, filter, codes, decimal, Contains, AllPairs, Option, Some, None}
+use Rattle.std.specs.Prelude.{◌≡◌, ◌≢◌, ℕ, ℤ, true, false, not, ◌==◌, ◌↔◌, IsTrue, List, [], ◌∷◌, ◌++◌, length, filter, codes, decimal, Contains, AllPairs, Option, Some, None}
 use Rattle.std.specs.List.{flat_map, AllZip}
 use Rattle.profile.specs.text.Lines.{written}
 use Rattle.profile.specs.text.Values.{WritesStamp, escaped}
 use Rattle.profile.specs.checker.Certificates.{text_of}
-use Rattle.profile.specs.rooms.Revisions.{Part, same_meeting, slot_cmp}
+use Rattle.profile.specs.rooms.Revisions.{Part, Slot, At, in_view, is_whole, same_meeting, slot_cmp}
 use Rattle.std.specs.declared.cmp.Ordering.TheVariants.{Less}
-use Rattle.profile.specs.rooms.Messages.{IsReplyEvent, object_lines}
+use Rattle.profile.specs.rooms.Messages.{IsReplyEvent, TellsSlot, object_lines}
 use Rattle.profile.specs.rooms.Rooms.{Claim, Answer, Book, confirmed, is_confirmed, shown, answers_part}
 
 -- ---- replies
@@ -36,6 +36,16 @@ abbrev pub first_parts : List Part → List Part
 first_parts [] = []
 first_parts (p ∷ ps) = p ∷ filter (λ other. not (same_meeting p other)) (first_parts ps)
 
+-- what stands in a kept calendar: a part that was accepted, as its message claimed it; or a part of one instance that isn't to take place, which
+-- hides that instance of the whole
+pub data Entry : Type 0 where
+  Shown : Claim → Entry
+  Hidden : Part → Entry
+
+abbrev pub part_kept : Entry → Part
+part_kept (Shown claim) = claim.part
+part_kept (Hidden part) = part
+
 -- the room keeps the claim of the meeting that the first part is of: the claim's part is in the view, and was accepted
 pub record IsKept (book : Book) (first : Part) (claim : Claim) : Type 0 where
   pub of_meeting : same_meeting first claim.part ≡ true
@@ -44,31 +54,61 @@ pub record IsKept (book : Book) (first : Part) (claim : Claim) : Type 0 where
   pub to : answer.claim ≡ claim
   pub confirms : is_confirmed book.taken answer ≡ true
 
+-- the part of one instance of that meeting is in the view and wasn't accepted: it is declined, absent or cancelled. It is kept where the
+-- whole of the meeting is
+pub record IsKeptHidden (book : Book) (first part : Part) : Type 0 where
+  pub of_meeting : same_meeting first part ≡ true
+  pub stands : in_view book.taken part ≡ true
+  pub instance : is_whole part ≡ false
+  pub not_accepted : (claim : Claim) → IsKept book first claim → claim.part ≢ part
+  pub whole : Claim
+  pub kept : IsKept book first whole
+  pub is_whole : is_whole whole.part ≡ true
+
+abbrev pub IsEntry : Book → Part → Entry → Type 0
+IsEntry book first (Shown claim) = IsKept book first claim
+IsEntry book first (Hidden part) = IsKeptHidden book first part
+
 -- these are all that it keeps of that meeting, by their slots
-pub record AreKeptOf (book : Book) (first : Part) (claims : List Claim) : Type 0 where
-  pub exact : (claim : Claim) → Contains claims claim ↔ IsKept book first claim
-  pub order : AllPairs (λ a b. slot_cmp a.part.slot b.part.slot ≡ Less) claims
+pub record AreKeptOf (book : Book) (first : Part) (entries : List Entry) : Type 0 where
+  pub exact : (entry : Entry) → Contains entries entry ↔ IsEntry book first entry
+  pub order : AllPairs (λ a b. slot_cmp (part_kept a).slot (part_kept b).slot ≡ Less) entries
 
 -- these are all that it keeps, the meetings in order of first arrival
-pub record AreKept (book : Book) (claims : List Claim) : Type 0 where
-  pub by_meeting : List (List Claim)
+pub record AreKept (book : Book) (entries : List Entry) : Type 0 where
+  pub by_meeting : List (List Entry)
   pub each : AllZip (AreKeptOf book) (first_parts book.taken) by_meeting
-  pub are : claims ≡ flat_map (λ c. c) by_meeting
+  pub are : entries ≡ flat_map (λ c. c) by_meeting
 
--- the lines of a VEVENT of the kept calendar: its part's, when it is, and the room as its one attendee, who has accepted
-pub record IsKeptEvent (room : List ℕ) (claim : Claim) (lines : List (List ℕ)) : Type 0 where
+-- the lines of a VEVENT of the kept calendar: its part's, what says when it is, and the room as its one attendee, who has answered so
+pub record IsEventOf (room : List ℕ) (part : Part) (content : List (List ℕ)) (answer : List ℕ) (lines : List (List ℕ)) : Type 0 where
+  pub slot : List (List ℕ)
   pub stamp : List ℕ
-  pub written_stamp : WritesStamp stamp claim.part.revision.stamp
-  pub is : lines ≡ (codes "BEGIN:VEVENT" ∷ (codes "UID:" ++ escaped claim.part.uid) ∷ (codes "SEQUENCE:" ++ decimal claim.part.revision.sequence) ∷ (codes "DTSTAMP:" ++ stamp) ∷ [])
-      ++ claim.content
-      ++ ((codes "ORGANIZER:" ++ claim.part.organiser) ∷ (codes "ATTENDEE;PARTSTAT=ACCEPTED:" ++ room) ∷ codes "END:VEVENT" ∷ [])
+  pub tells_slot : TellsSlot part.slot slot
+  pub written_stamp : WritesStamp stamp part.revision.stamp
+  pub is : lines ≡ (codes "BEGIN:VEVENT" ∷ (codes "UID:" ++ escaped part.uid) ∷ slot)
+      ++ ((codes "SEQUENCE:" ++ decimal part.revision.sequence) ∷ (codes "DTSTAMP:" ++ stamp) ∷ [])
+      ++ content
+      ++ ((codes "ORGANIZER:" ++ part.organiser) ∷ (codes "ATTENDEE;PARTSTAT=" ++ answer ++ codes ":" ++ room) ∷ codes "END:VEVENT" ∷ [])
+
+-- nothing at that instant, and cancelled
+pub record HidesSlot (slot : Slot) (content : List (List ℕ)) : Type 0 where
+  pub instant : ℤ
+  pub at : slot ≡ At instant
+  pub text : List ℕ
+  pub written : WritesStamp text instant
+  pub is : content ≡ (codes "DTSTART:" ++ text) ∷ codes "DURATION:PT0S" ∷ codes "STATUS:CANCELLED" ∷ []
+
+abbrev pub IsKeptEvent : List ℕ → Entry → List (List ℕ) → Type 0
+IsKeptEvent room (Shown claim) lines = IsEventOf room claim.part claim.content (codes "ACCEPTED") lines
+IsKeptEvent room (Hidden part) lines = (content : List (List ℕ)) × HidesSlot part.slot content × IsEventOf room part content (codes "DECLINED") lines
 
 -- the octets are the room's kept calendar
 pub record IsKeptCalendar (room : List ℕ) (book : Book) (octets : List ℕ) : Type 0 where
-  pub claims : List Claim
-  pub kept : AreKept book claims
+  pub entries : List Entry
+  pub kept : AreKept book entries
   pub events : List (List (List ℕ))
-  pub each : AllZip (IsKeptEvent room) claims events
+  pub each : AllZip (IsKeptEvent room) entries events
   pub is : octets ≡ written (object_lines None (flat_map (λ lines. lines) events))
 
 -- the certificate for it: its count of singles

@@ -1,16 +1,19 @@
--- Messages: their meeting, the parts that they have for a room, and replies (RFC 5546 1.4, 3.2). So far a REQUEST or a CANCEL of one VEVENT.
-use Rattle.std.specs.Prelude.{◌≡◌, ℕ, ◌/◌, ◌%◌, ◌+◌, ◌<◌, Bool, true, false, ◌&&◌, ◌||◌, ◌==◌, if◌then◌else◌, nat_lt, List, [], ◌∷◌, ◌++◌, length, codes, decimal, Contains, Option, Some, None, unwrap_or, ℤ}
-use Rattle.std.specs.List.{flat_map, list_any, list_all, AllZip}
+-- Messages: their meeting, the parts that they have for a room, and replies (RFC 5546 1.4, 3.2). So far a REQUEST or a CANCEL.
+use Rattle.std.specs.Prelude.{◌≡◌, ◌↔◌, ℕ, ◌/◌, ◌%◌, ◌+◌, Bool, true, false, ◌&&◌, ◌||◌, ◌==◌, if◌then◌else◌, nat_lt, List, [], ◌∷◌, ◌++◌, length, filter, codes, decimal, Contains, AllPairs, Option, Some, None, option_map, unwrap_or, ℤ, pos}
+use Rattle.std.specs.List.{flat_map, list_any, AllZip}
 use Rattle.std.specs.Str.{bytes_eq}
 use Rattle.std.specs.Char.{is_ascii_alphabetic, is_ascii_digit}
 use Rattle.profile.specs.text.Lines.{line_value, is_same_name, logical_lines, reads_as_lines}
 use Rattle.profile.specs.text.Objects.{IsObject}
 use Rattle.profile.specs.text.Trees.{Tree, tree_name, tree_own, tree_inside, vevents}
 use Rattle.profile.specs.text.Values.{WritesStamp, duration_text, escaped}
-use Rattle.profile.specs.events.Events.{Event, SaysEvent, EventFault, is_unread_in_message, lacks_start}
+use Rattle.profile.specs.events.Events.{Event, is_unread_in_message, lacks_start}
 use Rattle.profile.specs.events.Properties.{SomeLine, StandsTwice, IsMissing, lines_named}
 use Rattle.profile.specs.checker.Instances.{Key}
-use Rattle.profile.specs.rooms.Revisions.{Part, Slot, Whole, At, Body, Set, Absent, Cancelled}
+use Rattle.std.specs.declared.cmp.Ordering.TheVariants.{Less}
+use Rattle.std.specs.Ordering.{is_lt}
+use Rattle.profile.specs.events.Meetings.{Meeting, events_of, SaysMeeting, MeetingFault}
+use Rattle.profile.specs.rooms.Revisions.{Part, Slot, Whole, At, Revision, Body, Set, Absent, Cancelled, revision_cmp, slot_cmp}
 
 -- ---- what a message says
 
@@ -24,10 +27,10 @@ abbrev pub method_word : Method → List ℕ
 method_word Request = codes "REQUEST"
 method_word Cancel = codes "CANCEL"
 
--- what a message asks for, and what its one VEVENT says
+-- what a message asks for, and the meeting that its VEVENTs say
 pub record Message : Type 0 where
   pub method : Method
-  pub event : Event
+  pub meeting : Meeting
 
 -- METHOD stands once among the lines of a VCALENDAR, and names this one
 pub record NamesMethod (own : List (List ℕ)) (method : Method) : Type 0 where
@@ -40,13 +43,15 @@ abbrev pub has_unread_in : Method → List (List ℕ) → Bool
 has_unread_in Request lines = list_any is_unread_in_message lines
 has_unread_in Cancel lines = lacks_start lines || list_any is_unread_in_message lines
 
--- a VCALENDAR says this message: of its one VEVENT nothing is unread (RFC 5546 3.2.2, 3.2.5)
+-- some VEVENT of the object has something that isn't read yet
+abbrev pub is_unread : Method → Tree → Bool
+is_unread method object = list_any (has_unread_in method) (vevents object)
+
+-- a VCALENDAR says this message: in its VEVENTs nothing is unread (RFC 5546 3.2.2, 3.2.5)
 pub record SaysMessage (object : Tree) (message : Message) : Type 0 where
   pub method : NamesMethod (tree_own object) message.method
-  pub lines : List (List ℕ)
-  pub one : vevents object ≡ lines ∷ []
-  pub read : has_unread_in message.method lines ≡ false
-  pub says : SaysEvent object true lines message.event
+  pub read : is_unread message.method object ≡ false
+  pub says : SaysMeeting object true message.meeting
 
 -- the octets are one VCALENDAR, within the limits of a message, and say this message
 pub record SpellsMessage (octets : List ℕ) (message : Message) : Type 0 where
@@ -72,27 +77,14 @@ pub data MethodFault (own : List (List ℕ)) : ℕ → Type 0 where
   unread_method : SomeLine (codes "METHOD") (λ line. is_unread_method (line_value line) ≡ true) own → MethodFault own 99
   no_method : IsMissing (codes "METHOD") own → MethodFault own 99
 
--- both events are of the UID of one ORGANIZER
-abbrev pub is_same_meeting : Event → Event → Bool
-is_same_meeting a b = bytes_eq a.uid b.uid && bytes_eq (unwrap_or a.organiser []) (unwrap_or b.organiser [])
-
--- all are of the first one's meeting
-abbrev pub are_one_meeting : List Event → Bool
-are_one_meeting [] = true
-are_one_meeting (event ∷ events) = list_all (is_same_meeting event) events
-
 -- the fault of this number stands in the lines of a VCALENDAR or of its VEVENTs
 pub data MessageFault (object : Tree) : ℕ → Type 0 where
   in_method : {n : ℕ} → MethodFault (tree_own object) n → MessageFault object n
-  in_event : {n : ℕ} → (lines : List (List ℕ)) → Contains (vevents object) lines → EventFault object true lines n → MessageFault object n
+  in_meeting : {n : ℕ} → MeetingFault object true n → MessageFault object n
   -- a line of a VEVENT isn't read yet
   not_yet : list_any (list_any is_unread_in_message) (vevents object) ≡ true → MessageFault object 99
   -- neither is a CANCEL without DTSTART
   no_start_yet : NamesMethod (tree_own object) Cancel → list_any lacks_start (vevents object) ≡ true → MessageFault object 99
-  no_event : vevents object ≡ [] → MessageFault object 66
-  two_meetings : (events : List Event) → AllZip (SaysEvent object true) (vevents object) events → are_one_meeting events ≡ false → MessageFault object 62
-  -- without RECURRENCE-ID each VEVENT is the whole meeting
-  two_wholes : (events : List Event) → AllZip (SaysEvent object true) (vevents object) events → are_one_meeting events ≡ true → 1 < length events → MessageFault object 53
 
 -- the octets are one VCALENDAR, within the limits of a message, and the fault of this number stands in it
 pub record MessageTextFault (octets : List ℕ) (n : ℕ) : Type 0 where
@@ -120,35 +112,76 @@ abbrev pub is_cancel : Method → Bool
 is_cancel Request = false
 is_cancel Cancel = true
 
--- the event isn't to take place: METHOD is CANCEL, or STATUS is CANCELLED (RFC 5546 3.2.5, RFC 5545 3.8.1.11)
-abbrev pub cancels : Message → Bool
-cancels message = is_cancel message.method || message.event.cancelled
+-- the event of such a message isn't to take place: METHOD is CANCEL, or STATUS is CANCELLED (RFC 5546 3.2.5, RFC 5545 3.8.1.11)
+abbrev pub cancels : Method → Event → Bool
+cancels method event = is_cancel method || event.cancelled
 
--- the message is addressed to the room: its event names it as ATTENDEE. That a CANCEL without ATTENDEE is addressed to each room is this
--- profile's choice
+-- the event names the room as ATTENDEE. That a CANCEL without ATTENDEE is for each room is this profile's choice
+abbrev pub is_for : List ℕ → Method → Event → Bool
+is_for room method event = names_room room event || (is_cancel method && (length event.attendees == 0))
+
+-- the message is addressed to the room: one of its events is for it
 abbrev pub is_addressed : List ℕ → Message → Bool
-is_addressed room message = names_room room message.event || (is_cancel message.method && (length message.event.attendees == 0))
+is_addressed room message = list_any (is_for room message.method) (events_of message.meeting)
 
--- what the message makes of its slot: it cancels it, or sets it to these lines, which say when its event is
-abbrev pub IsBody : Message → List (List ℕ) → Body → Type 0
-IsBody message content (Set octets) = (cancels message ≡ false) × IsContent content message.event × (octets ≡ canonical content)
-IsBody message content Absent = ⊥
-IsBody message content Cancelled = (cancels message ≡ true) × (content ≡ [])
+-- the events that are parts for a room that the message is addressed to: of a REQUEST each, of a CANCEL those that are for it
+abbrev pub is_part_for : List ℕ → Method → Event → Bool
+is_part_for room Request event = true
+is_part_for room Cancel event = is_for room Cancel event
 
--- the part that the event of a message is, with this content: of the whole meeting
-pub record IsPart (message : Message) (content : List (List ℕ)) (part : Part) : Type 0 where
-  pub organiser : message.event.organiser ≡ Some part.organiser
-  pub uid : part.uid ≡ message.event.uid
-  pub slot : part.slot ≡ Whole
-  pub sequence : part.revision.sequence ≡ message.event.sequence
-  pub stamp : message.event.stamp ≡ Some part.revision.stamp
-  pub body : IsBody message content part.body
+abbrev pub parts_for : List ℕ → Message → List Event
+parts_for room message = if is_addressed room message then filter (is_part_for room message.method) (events_of message.meeting) else []
 
--- the parts that a message has for a room: one where it is addressed to it, else none
-abbrev pub AreParts : List ℕ → Message → List Part → Type 0
-AreParts room message [] = is_addressed room message ≡ false
-AreParts room message (part ∷ []) = (is_addressed room message ≡ true) × ((content : List (List ℕ)) × IsPart message content part)
-AreParts room message (part ∷ other ∷ parts) = ⊥
+-- the instance that RECURRENCE-ID names, else the whole meeting (RFC 5545 3.8.4.4)
+abbrev pub slot_named : Option ℤ → Slot
+slot_named None = Whole
+slot_named (Some instant) = At instant
+
+abbrev pub slot_of : Event → Slot
+slot_of event = slot_named event.recurrence
+
+-- SEQUENCE and DTSTAMP, which stands in each VEVENT of a message
+abbrev pub own_revision : Event → Revision
+own_revision event = record { sequence = event.sequence; stamp = unwrap_or event.stamp (pos 0) }
+
+-- the later of two revisions
+abbrev pub later_of : Revision → Revision → Revision
+later_of a b = if is_lt (revision_cmp a b) then b else a
+
+-- the revision of an event's part: its own, or that of the whole meeting in its message, if that is later; this profile's choice
+abbrev pub raised_to : Option Revision → Revision → Revision
+raised_to None own = own
+raised_to (Some whole) own = later_of own whole
+
+abbrev pub revision_beside : Option Event → Event → Revision
+revision_beside whole event = raised_to (option_map own_revision whole) (own_revision event)
+
+-- what an event of such a message makes of its slot for a room: it cancels it, or sets it to these lines, which say when it is, or is not
+-- for this room
+abbrev pub IsBody : List ℕ → Method → Event → List (List ℕ) → Body → Type 0
+IsBody room method event content (Set octets) =
+    (cancels method event ≡ false) × (names_room room event ≡ true) × IsContent content event × (octets ≡ canonical content)
+IsBody room method event content Absent = (cancels method event ≡ false) × (names_room room event ≡ false) × (content ≡ [])
+IsBody room method event content Cancelled = (cancels method event ≡ true) × (content ≡ [])
+
+-- the part that an event of a message is for a room, with this content
+pub record IsPart (room : List ℕ) (message : Message) (event : Event) (content : List (List ℕ)) (part : Part) : Type 0 where
+  pub organiser : event.organiser ≡ Some part.organiser
+  pub uid : part.uid ≡ event.uid
+  pub slot : part.slot ≡ slot_of event
+  pub revision : part.revision ≡ revision_beside message.meeting.master event
+  pub body : IsBody room message.method event content part.body
+
+-- these are the events, by their slots: the whole first, and then by instant
+pub record AreBySlot (events ordered : List Event) : Type 0 where
+  pub exact : (event : Event) → Contains ordered event ↔ Contains events event
+  pub order : AllPairs (λ a b. slot_cmp (slot_of a) (slot_of b) ≡ Less) ordered
+
+-- the parts that a message has for a room, by their slots; none where it isn't addressed to it
+pub record AreParts (room : List ℕ) (message : Message) (parts : List Part) : Type 0 where
+  pub events : List Event
+  pub are : AreBySlot (parts_for room message) events
+  pub each : AllZip (λ event part. (content : List (List ℕ)) × IsPart room message event content part) events parts
 
 -- ---- replies
 

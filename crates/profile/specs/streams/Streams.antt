@@ -1,14 +1,14 @@
 -- A stream: its preamble, its objects, and what is answered to them. Each object is a message or is refused.
 use Rattle.std.specs.Prelude.{◌≡◌, ◌≢◌, ℕ, ◌+◌, ◌<◌, ◌≤◌, ◌⊎◌, Bool, true, false, IsTrue, List, [], ◌∷◌, ◌++◌, length, map, codes, decimal, Option, if◌then◌else◌, ℤ, AllPairs}
 use Rattle.std.specs.Option.{option_to_list}
-use Rattle.std.specs.List.{flat_map}
+use Rattle.std.specs.List.{flat_map, AllZip}
 use Rattle.std.specs.Str.{is_utf8}
 use Rattle.profile.specs.text.Lines.{logical_lines, text_has}
 use Rattle.profile.specs.text.Objects.{SpellsTree, most_events, count_inside, has_version, lines_have, is_begun, after_object}
 use Rattle.profile.specs.text.Trees.{Tree, tree_name, tree_own, tree_inside}
-use Rattle.profile.specs.events.Events.{booked_by}
-use Rattle.profile.specs.rooms.Messages.{Message, SpellsMessage, MessageTextFault, IsPart, is_addressed, cancels, Outcome}
-use Rattle.profile.specs.rooms.Rooms.{Claim, Book, Delivery, IsStep, empty_book}
+use Rattle.profile.specs.events.Events.{Event, booked_by}
+use Rattle.profile.specs.rooms.Messages.{Message, SpellsMessage, MessageTextFault, IsPart, AreBySlot, parts_for, Outcome}
+use Rattle.profile.specs.rooms.Rooms.{Claim, Book, Delivery, IsStep, empty_book, is_set}
 use Rattle.profile.specs.rooms.Kept.{Replies}
 use Rattle.profile.specs.text.Values.{SpellsStamp, IsAddress, lower_case}
 
@@ -114,16 +114,16 @@ ObjectFault n octets =
 
 -- ---- the answers
 
--- what the event of a message claims: the part that it is, and its one instance, if that is to take place
-pub record IsClaim (message : Message) (claim : Claim) : Type 0 where
-  pub part : IsPart message claim.content claim.part
-  pub singles : claim.singles ≡ (if cancels message then [] else booked_by message.event ∷ [])
+-- what an event of a message claims of a room: the part that it is, and its one instance, if that is to take place
+pub record IsClaim (room : List ℕ) (message : Message) (event : Event) (claim : Claim) : Type 0 where
+  pub part : IsPart room message event claim.content claim.part
+  pub singles : claim.singles ≡ (if is_set claim.part then booked_by event ∷ [] else [])
 
--- what it claims of a room: that where it is addressed to it, else nothing
-abbrev pub AreClaims : List ℕ → Message → List Claim → Type 0
-AreClaims room message [] = is_addressed room message ≡ false
-AreClaims room message (claim ∷ []) = (is_addressed room message ≡ true) × IsClaim message claim
-AreClaims room message (claim ∷ other ∷ claims) = ⊥
+-- what it claims of the room: its parts, by their slots
+pub record AreClaims (room : List ℕ) (message : Message) (claims : List Claim) : Type 0 where
+  pub events : List Event
+  pub are : AreBySlot (parts_for room message) events
+  pub each : AllZip (IsClaim room message) events claims
 
 -- the delivery hands to a room what octets that spell a message claim of it
 pub record IsDelivered (room : List ℕ) (delivery : Delivery) : Type 0 where

@@ -5,4 +5,4 @@ pub returns-clause-one : goal.returns-clause-one
 returns-clause-one c = one_spelled c.one_tree.ensures.one c.one_event.ensures.one
 
 pub returns-clause-or_a_fault : goal.returns-clause-or_a_fault
-returns-clause-or_a_fault c = no_fault c.one_tree.ensures.one c.one_tree.ensures.or_a_fault c.one_event.ensures.or_a_fault
+returns-clause-or_a_fault c = no_fault c.one_tree.ensures.one c.one_tree.ensures.or_a_fault c.one_event.ensures.one c.one_event.ensures.or_a_fault

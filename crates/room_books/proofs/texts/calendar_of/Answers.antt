@@ -11,7 +11,7 @@ returns c = λ book st.
     let w = c.in_ok-write_meetings.ensures in
     let kept = all_are_kept (address_octets c.args.room.now) c.args.meetings.now.entries book st c.keys_differ.ensures w.events w.each in
     record {
-      claims = kept.0;
+      entries = kept.0;
       kept = kept.1;
       events = w.events;
       each = kept.2;

@@ -1,9 +1,9 @@
 -- One meeting more.
-use Rattle.std.proofs.Common.{◌++◌, ◌∷◌, [], List, sym, subst}
+use Rattle.std.proofs.Common.{◌++◌, ◌∷◌, [], List, Bool, sym, subst}
 use Rattle.indexmap.specs.IndexMap.{values}
 use Rattle.ical_values.specs.Octets.{address_octets}
 use Rattle.profile.specs.rooms.Revisions.{Part}
-use Rattle.room_books.specs.Keeping.{WritesParts, kept_in, all_kept}
+use Rattle.room_books.specs.Keeping.{WritesEntries, kept_in, all_kept}
 use Rattle.room_books.proofs.Loops.{walked, flat_push}
 use Rattle.room_books.proofs.Writing.{both_written}
 use Rattle.room_books.proofs.texts.write_meetings.Goals as goal
@@ -15,6 +15,6 @@ loop-meeting-preserved c =
     let meeting = c.in-Some.meeting.now in (
       i.0 ++ meeting ∷ [],
       walked i.0 c.loop-meeting.meeting-iterator c.next.new.self (values c.args.meetings.now) meeting c.in-Some.ensures.steps i.1,
-      subst (λ (l : List Part). WritesParts room l c.args.object.now c.write_meeting.new.object) (sym (flat_push kept_in i.0 meeting))
+      subst (λ (l : List (Bool × Part)). WritesEntries room l c.args.object.now c.write_meeting.new.object) (sym (flat_push kept_in i.0 meeting))
           (both_written room (all_kept i.0) (kept_in meeting) c.args.object.now c.loop-meeting.object c.write_meeting.new.object i.2 c.in_ok-write_meeting.ensures),
     )

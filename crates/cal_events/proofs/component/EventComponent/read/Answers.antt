@@ -24,7 +24,7 @@ returns-clause-refuses c =
     let purpose = c.args.purpose in
     let lines = c.args.properties.now in
     IfErr-weaker _ (RefusesBy (EventFault object (is_message purpose) lines)) (RefusesOnly (is_fault_for purpose))
-    (refused_for object purpose lines c.in_ok-refuse_unread.ensures.read) c.read_values.ensures.stands
+    (refused_for object purpose lines) c.read_values.ensures.stands
 
 pub returns-clause-stands : goal.returns-clause-stands
 returns-clause-stands c =

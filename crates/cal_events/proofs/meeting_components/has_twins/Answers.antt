@@ -3,7 +3,7 @@ use Rattle.std.specs.Prelude.{AllPairs, MatchBool}
 use Rattle.std.specs.List.Sorted.{IsPermutation}
 use Rattle.std.proofs.lemmas.List.Sorted.{IsPermutation-sym}
 use Rattle.cal_events.proofs.KeyLemmas.{pairs_permutation}
-use Rattle.cal_events.proofs.event.has_twins.Goals as goal
+use Rattle.cal_events.proofs.meeting_components.has_twins.Goals as goal
 
 pub returns : goal.returns
 returns c =

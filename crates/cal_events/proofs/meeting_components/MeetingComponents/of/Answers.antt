@@ -3,7 +3,7 @@ use Rattle.std.specs.Prelude.{Some, is_some}
 use Rattle.std.proofs.lemmas.Int.{ints}
 use Rattle.profile.specs.events.Meetings.{is_master, is_override}
 use Rattle.cal_events.proofs.MeetingLemmas.{pushed, passed, instant_pushed}
-use Rattle.cal_events.proofs.event.Divided.of.Goals as goal
+use Rattle.cal_events.proofs.meeting_components.MeetingComponents.of.Goals as goal
 
 pub loop-component-preserved-in-Continue-branch-2 : goal.loop-component-preserved-in-Continue-branch-2
 loop-component-preserved-in-Continue-branch-2 c =

@@ -1,6 +1,6 @@
 use Rattle.std.proofs.Common.{refl, inr}
 use Rattle.cal_events.proofs.MeetingLemmas.{components_not_one, components_one}
-use Rattle.cal_events.proofs.event.judge_meeting.Goals as goal
+use Rattle.cal_events.proofs.meeting_components.judge_meeting.Goals as goal
 
 pub returns-then-not-are_one_meeting-clause-stands : goal.returns-then-not-are_one_meeting-clause-stands
 returns-then-not-are_one_meeting-clause-stands c =

@@ -3,7 +3,7 @@ use Rattle.cal_events.specs.Events.{event_of}
 use Rattle.cal_events.specs.Places.{ArePlaces}
 use Rattle.cal_events.specs.declared.component.EventComponent.{EventComponent}
 use Rattle.cal_events.proofs.HiddenLemmas.{hides_made, adds_made}
-use Rattle.cal_events.proofs.event.Divided.into_event.Goals as goal
+use Rattle.cal_events.proofs.meeting_components.MeetingComponents.into_event.Goals as goal
 
 pub invariant_of-result : goal.invariant_of-result
 invariant_of-result c =

@@ -3,7 +3,7 @@ use Rattle.std.specs.Prelude.{Some}
 use Rattle.profile.specs.events.Meetings.{is_master, is_override}
 use Rattle.cal_events.specs.Events.{event_of}
 use Rattle.cal_events.specs.Meetings.{instants_said}
-use Rattle.cal_events.proofs.event.Divided.of.Given as goal
+use Rattle.cal_events.proofs.meeting_components.MeetingComponents.of.Given as goal
 
 -- those so far are divided
 abbrev pub invariant-loop-component : goal.invariant-loop-component

@@ -1,0 +1,141 @@
+//! The VEVENTs of one meeting (RFC 5545 3.8.4.4, RFC 5546 3.2): of one UID and one ORGANIZER, and each of another slot of it.
+
+ghost use Rattle.std.specs.Prelude.{◌≡◌, ◌≢◌, ◌<◌, Some, true, false, AllPairs, length, map, filter, option_map, IfOk, IfErr, OnOk, MatchBool};
+ghost use Rattle.std.specs.Option.{option_to_list};
+ghost use Rattle.std.specs.List.{list_all, list_any};
+ghost use Rattle.ical_lines.specs.Fault.{RefusesOnly, RefusesBy};
+ghost use Rattle.ical_tree.specs.Tree.{tree_of};
+ghost use Rattle.profile.specs.events.Meetings.{events_of, is_same_meeting, is_master, is_override, AreOfOne, SaysMeeting};
+ghost use Rattle.cal_events.specs.Events.{event_of, is_message, has_unread_for, vevents_of};
+ghost use Rattle.cal_events.specs.Meetings.{instants_said, IsNotOne};
+
+use crate::component::{EventComponent, Purpose};
+use crate::instants::Instants;
+use crate::reading::read_events;
+use ical_lines::{Fault, Refusal};
+use ical_tree::Component;
+use std::alloc::{AllocError, Global};
+
+/// The VEVENTs of one meeting.
+#[derive(Drop)]
+pub struct MeetingComponents {
+    /// The one without RECURRENCE-ID, None where there is none.
+    pub master: Option<EventComponent>,
+    /// Those with one, each for another instance, in the order of the text.
+    pub overrides: Vec<EventComponent>,
+    /// The instances for which they stand, in their order.
+    pub(crate) instants: Vec<i64>,
+}
+
+impl MeetingComponents {
+    ghost use Rattle.cal_events.specs.OneMeeting.{meeting_of, IsUnreadOrNoMeeting, is_meeting_fault_for};
+
+    /// The VEVENTs of an object, read for a purpose.
+    /// Refused: as by `EventComponent::read` for one of them; 66 where there is none; 62 for two UIDs or two ORGANIZERs; 53 for two without
+    /// RECURRENCE-ID; 54 for two that stand for one instance.
+    pub fn read(
+        alloc: Global,
+        object: &Component,
+        purpose: Purpose,
+    ) -> Result<MeetingComponents, Fault>
+        ensures says { IfOk result (λ meeting. SaysMeeting (tree_of object.now) (is_message purpose) (meeting_of meeting)) }
+        ensures read { OnOk result (list_any (has_unread_for purpose) (vevents_of object.now) ≡ false) }
+        ensures instants { IfOk result (λ meeting. map Some meeting.instants.items ≡ instants_said (map event_of meeting.overrides.items)) }
+        ensures refuses { IfErr result (RefusesOnly (is_meeting_fault_for purpose)) }
+        ensures stands { IfErr result (RefusesBy (IsUnreadOrNoMeeting (tree_of object.now) purpose)) }
+    {
+        let components = read_events(alloc, object, purpose)?;
+        judge_meeting(&components)?;
+        let divided = MeetingComponents::of(alloc, components)?;
+        let twins = has_twins(alloc, &divided.instants)?;
+        if twins {
+            return Err(Fault::Refused(Refusal::TWO_OVERRIDES));
+        }
+        Ok(divided)
+    }
+
+    /// These, divided by RECURRENCE-ID.
+    /// Refused: 53 for two without RECURRENCE-ID.
+    fn of(alloc: Global, components: Vec<EventComponent>) -> Result<MeetingComponents, Fault>
+        ensures master { IfOk result (λ d. filter is_master (map event_of components.items) ≡ option_to_list (option_map event_of d.master)) }
+        ensures overrides { IfOk result (λ d. filter is_override (map event_of components.items) ≡ map event_of d.overrides.items) }
+        ensures instants { IfOk result (λ d. map Some d.instants.items ≡ instants_said (map event_of d.overrides.items)) }
+        ensures stands { IfErr result (RefusesBy (λ n. (n ≡ 53) × (1 < length (filter is_master (map event_of components.items))))) }
+    {
+        let mut masters = Vec::new(alloc);
+        let mut overrides = Vec::new(alloc);
+        let mut instants = Vec::new(alloc);
+        for component in components {
+            if let Some(instant) = component.recurrence {
+                instants.push(instant)?;
+                overrides.push(component)?;
+            } else {
+                masters.push(component)?;
+            }
+        }
+        if masters.len() > 1 {
+            return Err(Fault::Refused(Refusal::TWO_MASTERS));
+        }
+        let master = masters.pop();
+        Ok(MeetingComponents {
+            master,
+            overrides,
+            instants,
+        })
+    }
+
+    /// They, the master first. It fails only for memory.
+    pub fn into_events(self, alloc: Global) -> Result<Vec<EventComponent>, AllocError>
+        ensures { IfOk result (λ events. map event_of events.items ≡ events_of (meeting_of self)) }
+    {
+        let MeetingComponents {
+            master,
+            mut overrides,
+            ..
+        } = self;
+        let mut events = Vec::new(alloc);
+        if let Some(master) = master {
+            events.push(master)?;
+        }
+        events.append(&mut overrides)?;
+        Ok(events)
+    }
+}
+
+/// Refuses components that aren't those of one meeting.
+/// Refused: 66 where there is none, 62 for two UIDs or two ORGANIZERs.
+fn judge_meeting(components: &[EventComponent]) -> Result<(), Refusal>
+    ensures some { OnOk result (0 < length (map event_of components.now)) }
+    ensures one { OnOk result (AreOfOne (map event_of components.now)) }
+    ensures stands { IfErr result (λ e. IsNotOne (map event_of components.now) e.number) }
+{
+    let Some((first, others)) = components.split_first() else {
+        return Err(Refusal::NO_EVENT);
+    };
+    if !are_one_meeting(first, others) {
+        return Err(Refusal::TWO_MEETINGS);
+    }
+    Ok(())
+}
+
+fn are_one_meeting(first: &EventComponent, others: &[EventComponent]) -> bool
+    ensures { result ≡ list_all (λ other. is_same_meeting (event_of first.now) (event_of other)) others.now }
+{
+    others.iter().all(|other| is_same_meeting(first, other))
+}
+
+/// Whether both are of one UID and one ORGANIZER.
+fn is_same_meeting(a: &EventComponent, b: &EventComponent) -> bool
+    ensures { result ≡ is_same_meeting (event_of a.now) (event_of b.now) }
+{
+    a.uid.as_str() == b.uid.as_str() && a.organiser_text() == b.organiser_text()
+}
+
+/// Whether two of the instants are one. In time n log n; it fails only for memory.
+fn has_twins(alloc: Global, instants: &[i64]) -> Result<bool, AllocError>
+    ensures { IfOk result (λ twins. MatchBool twins (AllPairs ◌≢◌ instants.now → ⊥) (AllPairs ◌≢◌ instants.now)) }
+{
+    let mut copy = Vec::new(alloc);
+    copy.extend_from_slice(instants)?;
+    Ok(Instants::of(copy).has_twins())
+}

@@ -1,0 +1,193 @@
+-- The events of a message's meeting: what is known of each, and their order by slots.
+use Rattle.std.proofs.Common.{◌≡◌, ◌≢◌, ◌∙◌, ℕ, zero, suc, ◌<◌, ◌+◌, Bool, true, false, not, ◌⊎◌, List, [], ◌∷◌, ◌++◌, length, map, filter, get_or, refl, sym, ap, subst, arith, inl, inr, length-append, ℤ, Option, Some, None, is_some, Ordering}
+use Rattle.std.specs.Prelude.{◌↔◌, Contains, All, AllPairs, option_map}
+use Rattle.std.specs.Option.{option_to_list}
+use Rattle.std.specs.List.{AllZip}
+use Rattle.std.specs.List.Sorted.{IsPermutation, IsSortedByKey}
+use Rattle.std.specs.declared.cmp.Ordering.TheVariants.{Less, Equal, Greater}
+use Rattle.std.specs.Ordering.{is_lt, is_eq, ordering_reverse}
+use Rattle.std.proofs.lemmas.Bool.{true≢false}
+use Rattle.std.proofs.lemmas.Option.{same_Some}
+use Rattle.std.proofs.lemmas.List.{get_or-map, length-map}
+use Rattle.std.proofs.lemmas.List.Elements.{All-append, All-cons, All-nil, All-filter, Contains-append_cases}
+use Rattle.std.proofs.lemmas.List.Filters.{length-filter_both}
+use Rattle.std.proofs.lemmas.List.Kept.{AllPairs-filter}
+use Rattle.std.proofs.lemmas.List.Sorted.{IsPermutation-map, IsPermutation-sym, Contains-permutation, ranks_by, sorted_far}
+use Rattle.profile.specs.text.Trees.{Tree, vevents}
+use Rattle.profile.specs.events.Events.{Event, SaysEvent}
+use Rattle.profile.specs.events.Properties.{BothOrNeither}
+use Rattle.profile.specs.events.Meetings.{Meeting, events_of, is_master, is_override, AreOfOne, InstancesDiffer, SaysMeeting}
+use Rattle.profile.specs.rooms.Messages.{AreBySlot, slot_of, slot_named}
+use Rattle.profile.specs.rooms.Revisions.{Slot, Whole, At, slot_cmp}
+use Rattle.itip_order.proofs.Order.{slot_total}
+use Rattle.std.specs.FinMap.{int_cmp-IsAntisymmetric}
+use Rattle.cal_events.proofs.InOneOrder.{in_mapped, of_mapped, in_filtered, of_filtered, cons_pairs, pairs_mapped, mapped_pairs}
+use Rattle.cal_events.proofs.KeyLemmas.{pairs_permutation}
+use Rattle.cal_events.specs.Events.{event_of}
+use Rattle.cal_events.specs.declared.component.EventComponent.{EventComponent}
+use Rattle.std.proofs.lemmas.Int.{ints}
+use Rattle.cal_events.specs.Meetings.{IsNamed}
+use Rattle.cal_events.proofs.OneInstance.{recurrence_named}
+use Rattle.itip_messages.specs.Messages.{IsDated, IsOfMessage, event_slot}
+
+abbrev Lines : Type 0
+Lines = List (List ℕ)
+
+-- ---- each event of a message has ORGANIZER and DTSTAMP
+
+given : {V : Type 0} (R : List ℕ → V → Type 0) (line : Option (List ℕ)) (value : Option V) → is_some line ≡ true → BothOrNeither R line value → is_some value ≡ true
+given R None None h b = h
+given R (Some l) None h b = absurd b
+given R None (Some v) h b = absurd b
+given R (Some l) (Some v) h b = refl
+
+organised : (object : Tree) (vs : List Lines) (es : List Event) → AllZip (SaysEvent object true) vs es → All (λ e. is_some e.organiser ≡ true) es
+organised object [] [] z = All-nil (λ e. is_some e.organiser ≡ true)
+organised object [] (e ∷ es) z = absurd z
+organised object (v ∷ vs) [] z = absurd z
+organised object (v ∷ vs) (e ∷ es) z =
+    let s = z.0.organiser in
+    All-cons (λ (e : Event). is_some e.organiser ≡ true) e es (given _ s.line e.organiser (s.stands refl) s.is) (organised object vs es z.1)
+
+stamped : (object : Tree) (vs : List Lines) (es : List Event) → AllZip (SaysEvent object true) vs es → All (λ e. is_some e.stamp ≡ true) es
+stamped object [] [] z = All-nil (λ e. is_some e.stamp ≡ true)
+stamped object [] (e ∷ es) z = absurd z
+stamped object (v ∷ vs) [] z = absurd z
+stamped object (v ∷ vs) (e ∷ es) z =
+    let s = z.0.stamp in
+    All-cons (λ (e : Event). is_some e.stamp ≡ true) e es (given _ s.line e.stamp (s.stands refl) s.is) (stamped object vs es z.1)
+
+-- and RECURRENCE-ID names an instant that a stamp writes
+in_stamps : (r : Option ℤ) → ((t : ℤ) → r ≡ Some t → IsNamed t) → IsDated (slot_named r)
+in_stamps None h = tt
+in_stamps (Some t) h = let n = h t refl in (omega (arith, ints, n.0), omega (arith, ints, n.1))
+
+dated : (object : Tree) (vs : List Lines) (es : List Event) → AllZip (SaysEvent object true) vs es → All (λ e. IsDated (slot_of e)) es
+dated object [] [] z = All-nil (λ e. IsDated (slot_of e))
+dated object [] (e ∷ es) z = absurd z
+dated object (v ∷ vs) [] z = absurd z
+dated object (v ∷ vs) (e ∷ es) z =
+    let s = z.0.occurrences.is in
+    All-cons (λ (e : Event). IsDated (slot_of e)) e es (in_stamps e.recurrence (λ t is. recurrence_named object s.line e.recurrence t s.is is)) (dated object vs es z.1)
+
+-- ---- no two are of one slot
+
+of_no_whole : (o : Option ℤ) → is_some o ≡ true → slot_named o ≡ Whole → ⊥
+of_no_whole None h e = true≢false (sym h)
+of_no_whole (Some u) h e = cc
+
+same_instant : (a b : Option ℤ) → slot_named a ≡ slot_named b → a ≡ b
+same_instant None None e = refl
+same_instant None (Some t) e = cc
+same_instant (Some t) None e = cc
+same_instant (Some t) (Some u) e = ap Some (same_At t u e)
+  where
+    instant : ℤ → Slot → ℤ
+    instant d Whole = d
+    instant d (At t) = t
+
+    same_At : (t u : ℤ) → At t ≡ At u → t ≡ u
+    same_At t u e = ap (instant t) e
+
+overrides_differ : (os : List Event) → InstancesDiffer os → AllPairs ◌≢◌ (map slot_of os)
+overrides_differ os h =
+    let R : Option ℤ → Option ℤ → Type 0 = λ a b. slot_named a ≢ slot_named b in
+    let wider : AllPairs R (map (λ (e : Event). e.recurrence) os) = λ i j d l w e. h i j d l w (same_instant _ _ e) in
+    pairs_mapped ◌≢◌ slot_of os (mapped_pairs R (λ (e : Event). e.recurrence) os wider)
+
+slots_differ : (o : Option Event) (os : List Event) → ((e : Event) → o ≡ Some e → is_master e ≡ true) → ((e : Event) → Contains os e → is_override e ≡ true) → InstancesDiffer os
+    → AllPairs ◌≢◌ (map slot_of (option_to_list o ++ os))
+slots_differ None os m n h = overrides_differ os h
+slots_differ (Some e) os m n h =
+    cons_pairs ◌≢◌ (slot_of e) (map slot_of os)
+    (λ s c same.
+    let found = of_mapped slot_of os s c in
+    of_no_whole found.0.recurrence (n found.0 found.1) (found.2 ∙ sym same ∙ whole e.recurrence (m e refl)))
+    (overrides_differ os h)
+  where
+    whole : (r : Option ℤ) → not (is_some r) ≡ true → slot_named r ≡ Whole
+    whole None h = refl
+    whole (Some t) h = absurd (true≢false (sym h))
+
+-- ---- what a message says is a meeting of that kind
+
+pub of_message : (object : Tree) (meeting : Meeting) → SaysMeeting object true meeting → IsOfMessage meeting
+of_message object meeting s =
+    let same : filter is_master s.events ++ filter is_override s.events ≡ events_of meeting = (λ i. s.master i ++ s.overrides i) in
+    let P : List Event → Type 0 = λ es. (e : Event) → Contains es e → Contains s.events e in
+    let among : P (events_of meeting) = subst P same (λ e c. both e (Contains-append_cases (filter is_master s.events) (filter is_override s.events) e c)) in
+    let every : (Q : Event → Type 0) → All Q s.events → All Q (events_of meeting) = λ Q a.
+    subst (All Q) same (All-append Q (filter is_master s.events) (filter is_override s.events) (All-filter is_master Q s.events a) (All-filter is_override Q s.events a)) in
+    let long : length (filter is_override s.events) + length (filter is_master s.events) ≡ length s.events = length-filter_both is_override is_master (λ e. refl) s.events in
+    let sum = length-append (filter is_master s.events) (filter is_override s.events) in
+    let whole = ap length same in
+    let some : 0 < length s.events = s.some in
+    record {
+      some = omega (arith, long, sum, whole, some);
+      one = λ a b c d. s.one a b (among a c) (among b d);
+      organised = every (λ e. is_some e.organiser ≡ true) (organised object (vevents object) s.events s.says);
+      stamped = every (λ e. is_some e.stamp ≡ true) (stamped object (vevents object) s.events s.says);
+      dated = every (λ e. IsDated (slot_of e)) (dated object (vevents object) s.events s.says);
+      differ = slots_differ meeting.master meeting.overrides masters (λ e c. (of_filtered is_override s.events e (subst (λ (l : List Event). Contains l e) (sym s.overrides) c)).1) s.differ;
+    }
+  where
+    both : (e : Event) → Contains (filter is_master s.events) e ⊎ Contains (filter is_override s.events) e → Contains s.events e
+    both e (inl c) = (of_filtered is_master s.events e c).0
+    both e (inr c) = (of_filtered is_override s.events e c).0
+
+    masters : (e : Event) → meeting.master ≡ Some e → is_master e ≡ true
+    masters e is =
+        let one : filter is_master s.events ≡ e ∷ [] = s.master ∙ ap (λ (o : Option Event). option_to_list o) is in
+        (of_filtered is_master s.events e (subst (λ (l : List Event). Contains l e) (sym one) (zero, omega arith, refl))).1
+
+-- ---- in the order of slots
+
+slot_exact : (a b : Slot) → slot_cmp a b ≡ Equal → a ≡ b
+slot_exact Whole Whole e = refl
+slot_exact Whole (At b) e = absurd (true≢false (sym (ap is_eq e)))
+slot_exact (At a) Whole e = absurd (true≢false (sym (ap is_eq e)))
+slot_exact (At a) (At b) e = ap At (int_cmp-IsAntisymmetric a b e)
+
+rises : (r q : Ordering) → r ≡ ordering_reverse q → is_lt q ≡ false → (r ≡ Equal → ⊥) → r ≡ Less
+rises r Less e f n = absurd (true≢false f)
+rises r Equal e f n = absurd (n e)
+rises r Greater e f n = e
+
+pub sorted_by_slot : (meeting : Meeting) → IsOfMessage meeting → (events sorted : List EventComponent) → map event_of events ≡ events_of meeting → IsPermutation events sorted → IsSortedByKey event_slot slot_cmp sorted
+    → AreBySlot (events_of meeting) (map event_of sorted)
+sorted_by_slot meeting m events sorted are same up = record {
+  exact = λ e. (
+    λ c. subst (λ (l : List Event). Contains l e) are (Contains-permutation (map event_of sorted) (map event_of events) e (IsPermutation-sym (map event_of events) (map event_of sorted) moved) c),
+    λ c. Contains-permutation (map event_of events) (map event_of sorted) e moved (subst (λ (l : List Event). Contains l e) (sym are) c),
+  );
+  order = pairs_mapped (λ a b. slot_cmp (slot_of a) (slot_of b) ≡ Less) event_of sorted up_pairs;
+}
+  where
+    moved : IsPermutation (map event_of events) (map event_of sorted)
+    moved = IsPermutation-map event_of events sorted same
+
+    apart : AllPairs (λ (a b : Event). slot_of a ≢ slot_of b) (map event_of sorted)
+    apart = mapped_pairs ◌≢◌ slot_of (map event_of sorted)
+        (pairs_permutation (map slot_of (map event_of events)) (map slot_of (map event_of sorted)) (IsPermutation-map slot_of (map event_of events) (map event_of sorted) moved)
+        (subst (λ (l : List Event). AllPairs ◌≢◌ (map slot_of l)) (sym are) m.differ))
+
+    apart_there : AllPairs (λ (a b : EventComponent). event_slot a ≢ event_slot b) sorted
+    apart_there = mapped_pairs (λ (a b : Event). slot_of a ≢ slot_of b) event_of sorted apart
+
+    up_pairs : AllPairs (λ a b. slot_cmp (event_slot a) (event_slot b) ≡ Less) sorted
+    up_pairs i j d l w =
+        let far = sorted_far (λ x y. is_lt (slot_cmp (event_slot x) (event_slot y))) (ranks_by slot_total event_slot) sorted up i j d (omega arith) w in
+        rises (slot_cmp (event_slot (get_or sorted i d)) (event_slot (get_or sorted j d))) (slot_cmp (event_slot (get_or sorted j d)) (event_slot (get_or sorted i d)))
+        (slot_total.antisymm (event_slot (get_or sorted i d)) (event_slot (get_or sorted j d))) far
+        (λ e. apart_there i j d l w (slot_exact (event_slot (get_or sorted i d)) (event_slot (get_or sorted j d)) e))
+
+-- ---- those that pass a test
+
+pub kept_by_slot : (p : Event → Bool) (events ordered : List Event) → AreBySlot events ordered → AreBySlot (filter p events) (filter p ordered)
+kept_by_slot p events ordered b = record {
+  exact = λ e. (
+    λ c. let from = of_filtered p ordered e c in in_filtered p events e ((b.exact e).0 from.0) from.1,
+    λ c. let from = of_filtered p events e c in in_filtered p ordered e ((b.exact e).1 from.0) from.1,
+  );
+  order = AllPairs-filter (λ a b. slot_cmp (slot_of a) (slot_of b) ≡ Less) p ordered b.order;
+}
