@@ -10,9 +10,10 @@ use Rattle.profile.specs.checker.Calendars.{CalendarTextFault, in_lines, in_tree
 use Rattle.profile.specs.text.Trees.{Tree, tree, none, more, vevents}
 use Rattle.profile.specs.events.Events.{Event, Participation, Accepted, Declined, NeedsAction, is_unread_in_message, answer_named, booked_by, answer_of}
 use Rattle.profile.specs.events.Properties.{lines_named}
-use Rattle.profile.specs.rooms.Revisions.{Part, Whole, Set, Absent, same_meeting}
-use Rattle.profile.specs.rooms.Messages.{Accept, SinglesLimit, Message, Method, Request, Cancel, MethodFault, no_method, has_unread_in, cancels, is_addressed, parts_for, revision_beside, IsBody, object_lines, word}
-use Rattle.profile.specs.rooms.Rooms.{Answer, Book, Claim, empty_book, is_confirmed}
+use Rattle.profile.specs.rooms.Revisions.{Part, Whole, At, Set, Absent, Cancelled, same_meeting}
+use Rattle.profile.specs.events.Meetings.{Method, Request, Add, Cancel, taken_by}
+use Rattle.profile.specs.rooms.Messages.{Accept, SinglesLimit, Message, MethodFault, no_method, has_unread_in, cancels, is_addressed, parts_for, revision_beside, IsBody, object_lines, word}
+use Rattle.profile.specs.rooms.Rooms.{Answer, Book, Claim, empty_book, is_confirmed, wants_whole}
 use Rattle.profile.specs.rooms.Kept.{IsKept, kept_certificate, first_parts}
 use Rattle.profile.specs.streams.Streams.{Now, Room, moments, rooms, refused_line, AreObjects}
 
@@ -173,6 +174,19 @@ the_whole_is_absent_for_it = (refl, refl, refl)
 a_cancel_of_another_instance : parts_for (codes "r:2") (of_both Cancel) ≡ whole ∷ []
 a_cancel_of_another_instance = refl
 
+-- an ADD that names a room anywhere has a part for it for each of its instances, and each is that of its own start
+an_add_has_all_instances : parts_for (codes "r:1") (record { method = Add; meeting = record { master = None; overrides = event_of_nobody ∷ instance ∷ [] } }) ≡ event_of_nobody ∷ instance ∷ []
+an_add_has_all_instances = refl
+
+an_add_takes_its_start : taken_by (Some Add) (instance ∷ []) ≡ record instance { recurrence = Some (pos 100) } ∷ []
+an_add_takes_its_start = refl
+
+an_add_is_no_whole : taken_by (Some Add) (whole ∷ []) ≡ record whole { recurrence = Some (pos 100) } ∷ []
+an_add_is_no_whole = refl
+
+a_request_takes_them_as_they_are : taken_by (Some Request) (whole ∷ instance ∷ []) ≡ whole ∷ instance ∷ []
+a_request_takes_them_as_they_are = refl
+
 -- the revision of an instance is no earlier than that of its whole
 raised : revision_beside (Some whole) instance ≡ record { sequence = 2; stamp = pos 50 }
 raised = refl
@@ -236,6 +250,34 @@ the_declined_is_not_kept k = by_place k.given.0 k.given.1 k.given.2
     by_place zero l at = false≢true (ap (λ a. is_confirmed two_meetings.taken a) at ∙ k.confirms)
     by_place (suc zero) l at = false≢true (ap (λ (a : Answer). same_meeting (part_of (codes "b") 0) a.claim.part) at ∙ ap (λ (c : Claim). same_meeting (part_of (codes "b") 0) c.part) k.to)
     by_place (suc (suc place)) l at = absurd (omega arith)
+
+-- ---- what makes a room ask for a whole meeting
+
+-- an instance of the meeting a
+abbrev instance_part : Part
+instance_part = record (part_of (codes "a") 1) { slot = At (pos 7) }
+
+abbrev instance_claim : Claim
+instance_claim = record (claim_of (codes "a") 1) { part = instance_part }
+
+asked_where_there_is_no_whole : wants_whole true [] (instance_part ∷ []) (instance_claim ∷ []) ≡ true
+asked_where_there_is_no_whole = refl
+
+not_by_another_method : wants_whole false [] (instance_part ∷ []) (instance_claim ∷ []) ≡ false
+not_by_another_method = refl
+
+not_on_a_repeat : wants_whole true (instance_part ∷ []) (instance_part ∷ instance_part ∷ []) (instance_claim ∷ []) ≡ false
+not_on_a_repeat = refl
+
+not_where_there_is_one : wants_whole true (part_of (codes "a") 0 ∷ []) (part_of (codes "a") 0 ∷ instance_part ∷ []) (instance_claim ∷ []) ≡ false
+not_where_there_is_one = refl
+
+-- a whole that was cancelled is one
+nor_where_it_was_cancelled : wants_whole true (record (part_of (codes "a") 0) { body = Cancelled } ∷ []) (record (part_of (codes "a") 0) { body = Cancelled } ∷ instance_part ∷ []) (instance_claim ∷ []) ≡ false
+nor_where_it_was_cancelled = refl
+
+that_of_another_meeting_is_none : wants_whole true (part_of (codes "b") 0 ∷ []) (part_of (codes "b") 0 ∷ instance_part ∷ []) (instance_claim ∷ []) ≡ true
+that_of_another_meeting_is_none = refl
 
 one_single : kept_certificate two_meetings ≡ codes "ROOMCERT 1\nSINGLES 1\nSERIES 0\nDONE\n"
 one_single = ap (λ (d : List ℕ). codes "ROOMCERT 1\nSINGLES " ++ (d ++ codes "\nSERIES 0\nDONE\n")) (decimal_digit 1 (lit< tt))

@@ -1,5 +1,5 @@
--- A meeting: what the VEVENTs of an object say of it, its master and its overrides (RFC 5545 3.8.4.4, RFC 5546 3.2). METHOD isn't looked at.
-use Rattle.std.specs.Prelude.{◌≡◌, ◌≢◌, ℕ, ◌<◌, Contains, AllPairs, Bool, true, false, not, ◌&&◌, ◌||◌, ◌==◌, List, [], ◌++◌, length, map, filter, codes, Option, is_some, unwrap_or}
+-- A meeting: what the VEVENTs of an object say of it, its master and its overrides (RFC 5545 3.8.4.4, RFC 5546 3.2), as METHOD takes them.
+use Rattle.std.specs.Prelude.{◌≡◌, ◌≢◌, ℕ, ◌<◌, Contains, AllPairs, Bool, true, false, not, ◌&&◌, ◌||◌, ◌==◌, List, [], ◌++◌, length, map, filter, codes, Option, None, Some, is_some, unwrap_or}
 use Rattle.std.specs.Option.{option_to_list}
 use Rattle.std.specs.List.{AllZip}
 use Rattle.std.specs.Str.{bytes_eq}
@@ -8,6 +8,12 @@ use Rattle.profile.specs.text.Lines.{logical_lines, text_has, reads_as_lines}
 use Rattle.profile.specs.text.Objects.{SpellsTree, IsObject, has_version, lines_have, count_inside, most_events}
 use Rattle.profile.specs.text.Trees.{Tree, tree_name, tree_own, tree_inside, vevents}
 use Rattle.profile.specs.events.Events.{Event, SaysEvent, EventFault, meeting_said}
+
+-- what a message asks for: that an event take place, that instances be added to one, or that it be cancelled (RFC 5546 1.4)
+pub data Method : Type 0 where
+  Request : Method
+  Add : Method
+  Cancel : Method
 
 -- the event stands for one instance of a meeting: it has a RECURRENCE-ID
 abbrev pub is_override : Event → Bool
@@ -30,6 +36,17 @@ is_same_meeting a b = bytes_eq a.uid b.uid && bytes_eq (unwrap_or a.organiser []
 abbrev pub events_of : Meeting → List Event
 events_of meeting = option_to_list meeting.master ++ meeting.overrides
 
+-- the event as an ADD takes it: the instance of its own start, whatever RECURRENCE-ID says (RFC 5546 3.2.4)
+abbrev pub as_added : Event → Event
+as_added event = record event { recurrence = Some event.times.start }
+
+-- the events of an object as its METHOD takes them; None where METHOD isn't looked at
+abbrev pub taken_by : Option Method → List Event → List Event
+taken_by None events = events
+taken_by (Some Request) events = events
+taken_by (Some Add) events = map as_added events
+taken_by (Some Cancel) events = events
+
 -- all are of one UID and one ORGANIZER
 abbrev pub AreOfOne : List Event → Type 0
 AreOfOne events = (a b : Event) → Contains events a → Contains events b → meeting_said a ≡ meeting_said b
@@ -38,14 +55,14 @@ AreOfOne events = (a b : Event) → Contains events a → Contains events b → 
 abbrev pub InstancesDiffer : List Event → Type 0
 InstancesDiffer overrides = AllPairs ◌≢◌ (map (λ event. event.recurrence) overrides)
 
--- an object says this meeting: as a message, or as a calendar or an event with its instances
-pub record SaysMeeting (object : Tree) (in_message : Bool) (meeting : Meeting) : Type 0 where
+-- an object says this meeting: as a message of this method, or, without one, as an event with its instances
+pub record SaysMeeting (object : Tree) (method : Option Method) (meeting : Meeting) : Type 0 where
   pub events : List Event
-  pub says : AllZip (SaysEvent object in_message) (vevents object) events
+  pub says : AllZip (SaysEvent object (is_some method)) (vevents object) events
   pub some : 0 < length events
   pub one : AreOfOne events
-  pub master : filter is_master events ≡ option_to_list meeting.master
-  pub overrides : filter is_override events ≡ meeting.overrides
+  pub master : filter is_master (taken_by method events) ≡ option_to_list meeting.master
+  pub overrides : filter is_override (taken_by method events) ≡ meeting.overrides
   pub differ : InstancesDiffer meeting.overrides
 
 -- the octets are one VCALENDAR, within the limits of a message, and say this meeting
@@ -53,7 +70,7 @@ pub record SpellsMeeting (octets : List ℕ) (meeting : Meeting) : Type 0 where
   pub lines : reads_as_lines true octets ≡ true
   pub tree : Tree
   pub object : IsObject tree_name tree_own tree_inside true tree (logical_lines octets)
-  pub says : SaysMeeting tree false meeting
+  pub says : SaysMeeting tree None meeting
 
 -- ---- what can be wrong with it, by the number of its refusal
 
@@ -61,17 +78,17 @@ pub record SpellsMeeting (octets : List ℕ) (meeting : Meeting) : Type 0 where
 abbrev pub is_meeting_fault : ℕ → Bool
 is_meeting_fault n = is_object_fault n || is_meeting_event_fault n || is_between 53 54 n || n == 62 || n == 66
 
--- the fault of this number stands in the VEVENTs of an object
-pub data MeetingFault (object : Tree) (in_message : Bool) : ℕ → Type 0 where
+-- the fault of this number stands in the VEVENTs of an object that is taken so
+pub data MeetingFault (object : Tree) (method : Option Method) : ℕ → Type 0 where
   -- one of them has this fault
-  in_event : {n : ℕ} → (lines : List (List ℕ)) → Contains (vevents object) lines → EventFault object in_message lines n → MeetingFault object in_message n
-  two_masters : (events : List Event) → AllZip (SaysEvent object in_message) (vevents object) events → 1 < length (filter is_master events)
-      → MeetingFault object in_message 53
-  two_overrides : (events : List Event) → AllZip (SaysEvent object in_message) (vevents object) events
-      → (InstancesDiffer (filter is_override events) → ⊥) → MeetingFault object in_message 54
+  in_event : {n : ℕ} → (lines : List (List ℕ)) → Contains (vevents object) lines → EventFault object (is_some method) lines n → MeetingFault object method n
+  two_masters : (events : List Event) → AllZip (SaysEvent object (is_some method)) (vevents object) events → 1 < length (filter is_master (taken_by method events))
+      → MeetingFault object method 53
+  two_overrides : (events : List Event) → AllZip (SaysEvent object (is_some method)) (vevents object) events
+      → (InstancesDiffer (filter is_override (taken_by method events)) → ⊥) → MeetingFault object method 54
   -- two UIDs or two ORGANIZERs
-  two_meetings : (events : List Event) → AllZip (SaysEvent object in_message) (vevents object) events → (AreOfOne events → ⊥) → MeetingFault object in_message 62
-  no_event : vevents object ≡ [] → MeetingFault object in_message 66
+  two_meetings : (events : List Event) → AllZip (SaysEvent object (is_some method)) (vevents object) events → (AreOfOne events → ⊥) → MeetingFault object method 62
+  no_event : vevents object ≡ [] → MeetingFault object method 66
 
 -- the fault of this number stands in the octets
 pub data MeetingTextFault (octets : List ℕ) : ℕ → Type 0 where
@@ -86,5 +103,5 @@ pub data MeetingTextFault (octets : List ℕ) : ℕ → Type 0 where
   many_events : (t : Tree) → SpellsTree tree_name tree_own tree_inside 7 t (logical_lines octets)
       → most_events < count_inside tree_name tree_own tree_inside (codes "VEVENT") t → MeetingTextFault octets 25
   -- in the VEVENTs of the object that stands there
-  in_vevents : {n : ℕ} → (t : Tree) → IsObject tree_name tree_own tree_inside true t (logical_lines octets) → MeetingFault t false n
+  in_vevents : {n : ℕ} → (t : Tree) → IsObject tree_name tree_own tree_inside true t (logical_lines octets) → MeetingFault t None n
       → MeetingTextFault octets n

@@ -1,13 +1,13 @@
--- What a room writes, as octets: its replies, its kept calendar and the certificate for it.
-use Rattle.std.specs.Prelude.{◌≡◌, ◌≢◌, ℕ, ℤ, true, false, not, ◌==◌, ◌↔◌, IsTrue, List, [], ◌∷◌, ◌++◌, length, filter, codes, decimal, Contains, AllPairs, Option, Some, None}
+-- What a room writes, as octets: its replies and refreshes, its kept calendar and the certificate for it.
+use Rattle.std.specs.Prelude.{◌≡◌, ◌≢◌, ℕ, ℤ, Bool, true, false, not, ◌==◌, ◌↔◌, IsTrue, List, [], ◌∷◌, ◌++◌, length, filter, codes, decimal, Contains, AllPairs, Option, Some, None}
 use Rattle.std.specs.List.{flat_map, AllZip}
 use Rattle.profile.specs.text.Lines.{written}
 use Rattle.profile.specs.text.Values.{WritesStamp, escaped}
 use Rattle.profile.specs.checker.Certificates.{text_of}
 use Rattle.profile.specs.rooms.Revisions.{Part, Slot, At, in_view, is_whole, same_meeting, slot_cmp}
 use Rattle.std.specs.declared.cmp.Ordering.TheVariants.{Less}
-use Rattle.profile.specs.rooms.Messages.{IsReplyEvent, TellsSlot, object_lines}
-use Rattle.profile.specs.rooms.Rooms.{Claim, Answer, Book, confirmed, is_confirmed, shown, answers_part}
+use Rattle.profile.specs.rooms.Messages.{IsReplyEvent, IsRefreshEvent, TellsSlot, object_lines}
+use Rattle.profile.specs.rooms.Rooms.{Claim, Answer, Book, confirmed, is_confirmed, shown, wants_whole, answers_part}
 
 -- ---- replies
 
@@ -28,6 +28,21 @@ pub record IsReply (room : List ℕ) (book : Book) (claims : List Claim) (octets
 abbrev pub Replies : List ℕ → Book → List Claim → Option (List ℕ) → Type 0
 Replies room book claims None = shown book.taken claims ≡ []
 Replies room book claims (Some octets) = IsTrue (not (length (shown book.taken claims) == 0)) × IsReply room book claims octets
+
+-- ---- refreshes
+
+-- the octets ask, at a moment, for the meeting of one of these claims
+pub record IsRefresh (room : List ℕ) (claims : List Claim) (moment : ℤ) (octets : List ℕ) : Type 0 where
+  pub claim : Claim
+  pub of_them : Contains claims claim
+  pub lines : List (List ℕ)
+  pub shows : IsRefreshEvent room claim.part.organiser claim.part.uid moment lines
+  pub is : octets ≡ written (object_lines (Some (codes "REFRESH")) lines)
+
+-- a refresh comes exactly where the whole meeting is wanted, where these parts were taken before a message with these claims and after it
+abbrev pub Refreshes : List ℕ → Bool → List Part → List Part → List Claim → ℤ → Option (List ℕ) → Type 0
+Refreshes room adds before after claims moment None = wants_whole adds before after claims ≡ false
+Refreshes room adds before after claims moment (Some octets) = (wants_whole adds before after claims ≡ true) × IsRefresh room claims moment octets
 
 -- ---- the kept calendar
 

@@ -1,4 +1,4 @@
--- Messages: their meeting, the parts that they have for a room, and replies (RFC 5546 1.4, 3.2). So far a REQUEST or a CANCEL.
+-- Messages: their meeting, the parts that they have for a room, and replies (RFC 5546 1.4, 3.2). So far a REQUEST, an ADD or a CANCEL.
 use Rattle.std.specs.Prelude.{◌≡◌, ◌↔◌, ℕ, ◌/◌, ◌%◌, ◌+◌, Bool, true, false, ◌&&◌, ◌||◌, ◌==◌, if◌then◌else◌, nat_lt, List, [], ◌∷◌, ◌++◌, length, filter, codes, decimal, Contains, AllPairs, Option, Some, None, option_map, unwrap_or, ℤ, pos}
 use Rattle.std.specs.List.{flat_map, list_any, AllZip}
 use Rattle.std.specs.Str.{bytes_eq}
@@ -12,22 +12,18 @@ use Rattle.profile.specs.events.Properties.{SomeLine, StandsTwice, IsMissing, li
 use Rattle.profile.specs.checker.Instances.{Key}
 use Rattle.std.specs.declared.cmp.Ordering.TheVariants.{Less}
 use Rattle.std.specs.Ordering.{is_lt}
-use Rattle.profile.specs.events.Meetings.{Meeting, events_of, SaysMeeting, MeetingFault}
+use Rattle.profile.specs.events.Meetings.{Method, Request, Add, Cancel, Meeting, events_of, SaysMeeting, MeetingFault}
 use Rattle.profile.specs.rooms.Revisions.{Part, Slot, Whole, At, Revision, Body, Set, Absent, Cancelled, revision_cmp, slot_cmp}
 
 -- ---- what a message says
 
--- what a message asks for: that an event take place, or that it be cancelled (RFC 5546 1.4)
-pub data Method : Type 0 where
-  Request : Method
-  Cancel : Method
-
--- the word of METHOD for it
+-- the word of METHOD for what a message asks for
 abbrev pub method_word : Method → List ℕ
 method_word Request = codes "REQUEST"
+method_word Add = codes "ADD"
 method_word Cancel = codes "CANCEL"
 
--- what a message asks for, and the meeting that its VEVENTs say
+-- what a message asks for, and the meeting that its VEVENTs say by that METHOD
 pub record Message : Type 0 where
   pub method : Method
   pub meeting : Meeting
@@ -41,17 +37,18 @@ pub record NamesMethod (own : List (List ℕ)) (method : Method) : Type 0 where
 -- something in the lines of a VEVENT isn't read yet. A CANCEL without DTSTART, as RFC 5546 3.2.5 allows it, isn't
 abbrev pub has_unread_in : Method → List (List ℕ) → Bool
 has_unread_in Request lines = list_any is_unread_in_message lines
+has_unread_in Add lines = list_any is_unread_in_message lines
 has_unread_in Cancel lines = lacks_start lines || list_any is_unread_in_message lines
 
 -- some VEVENT of the object has something that isn't read yet
 abbrev pub is_unread : Method → Tree → Bool
 is_unread method object = list_any (has_unread_in method) (vevents object)
 
--- a VCALENDAR says this message: in its VEVENTs nothing is unread (RFC 5546 3.2.2, 3.2.5)
+-- a VCALENDAR says this message: in its VEVENTs nothing is unread (RFC 5546 3.2.2, 3.2.4, 3.2.5)
 pub record SaysMessage (object : Tree) (message : Message) : Type 0 where
   pub method : NamesMethod (tree_own object) message.method
   pub read : is_unread message.method object ≡ false
-  pub says : SaysMeeting object true message.meeting
+  pub says : SaysMeeting object (Some message.method) message.meeting
 
 -- the octets are one VCALENDAR, within the limits of a message, and say this message
 pub record SpellsMessage (octets : List ℕ) (message : Message) : Type 0 where
@@ -64,11 +61,12 @@ pub record SpellsMessage (octets : List ℕ) (message : Message) : Type 0 where
 
 -- the words of METHOD that aren't read yet
 abbrev pub is_unread_method : List ℕ → Bool
-is_unread_method word = is_same_name word (codes "ADD") || is_same_name word (codes "REPLY") || is_same_name word (codes "REFRESH")
+is_unread_method word = is_same_name word (codes "REPLY") || is_same_name word (codes "REFRESH")
 
 -- the words of METHOD that are taken here (RFC 5546 1.4); that PUBLISH, COUNTER and DECLINECOUNTER aren't is this profile's choice
 abbrev pub is_method : List ℕ → Bool
-is_method word = is_same_name word (codes "REQUEST") || is_same_name word (codes "CANCEL") || is_unread_method word
+is_method word =
+    is_same_name word (codes "REQUEST") || is_same_name word (codes "ADD") || is_same_name word (codes "CANCEL") || is_unread_method word
 
 -- the fault of this number stands in the VCALENDAR's lines
 pub data MethodFault (own : List (List ℕ)) : ℕ → Type 0 where
@@ -80,7 +78,7 @@ pub data MethodFault (own : List (List ℕ)) : ℕ → Type 0 where
 -- the fault of this number stands in the lines of a VCALENDAR or of its VEVENTs
 pub data MessageFault (object : Tree) : ℕ → Type 0 where
   in_method : {n : ℕ} → MethodFault (tree_own object) n → MessageFault object n
-  in_meeting : {n : ℕ} → MeetingFault object true n → MessageFault object n
+  in_meeting : {n : ℕ} → (method : Method) → NamesMethod (tree_own object) method → MeetingFault object (Some method) n → MessageFault object n
   -- a line of a VEVENT isn't read yet
   not_yet : list_any (list_any is_unread_in_message) (vevents object) ≡ true → MessageFault object 99
   -- neither is a CANCEL without DTSTART
@@ -110,7 +108,13 @@ names_room room event = list_any (λ a. bytes_eq a.address room) event.attendees
 
 abbrev pub is_cancel : Method → Bool
 is_cancel Request = false
+is_cancel Add = false
 is_cancel Cancel = true
+
+abbrev pub is_add : Method → Bool
+is_add Request = false
+is_add Add = true
+is_add Cancel = false
 
 -- the event of such a message isn't to take place: METHOD is CANCEL, or STATUS is CANCELLED (RFC 5546 3.2.5, RFC 5545 3.8.1.11)
 abbrev pub cancels : Method → Event → Bool
@@ -124,15 +128,16 @@ is_for room method event = names_room room event || (is_cancel method && (length
 abbrev pub is_addressed : List ℕ → Message → Bool
 is_addressed room message = list_any (is_for room message.method) (events_of message.meeting)
 
--- the events that are parts for a room that the message is addressed to: of a REQUEST each, of a CANCEL those that are for it
+-- the events that are parts for a room that the message is addressed to: of a CANCEL those that are for it, of another message each
 abbrev pub is_part_for : List ℕ → Method → Event → Bool
 is_part_for room Request event = true
+is_part_for room Add event = true
 is_part_for room Cancel event = is_for room Cancel event
 
 abbrev pub parts_for : List ℕ → Message → List Event
 parts_for room message = if is_addressed room message then filter (is_part_for room message.method) (events_of message.meeting) else []
 
--- the instance that RECURRENCE-ID names, else the whole meeting (RFC 5545 3.8.4.4)
+-- the instance that an event stands for, else the whole meeting (RFC 5545 3.8.4.4)
 abbrev pub slot_named : Option ℤ → Slot
 slot_named None = Whole
 slot_named (Some instant) = At instant
@@ -183,7 +188,7 @@ pub record AreParts (room : List ℕ) (message : Message) (parts : List Part) : 
   pub are : AreBySlot (parts_for room message) events
   pub each : AllZip (λ event part. (content : List (List ℕ)) × IsPart room message event content part) events parts
 
--- ---- replies
+-- ---- replies and refreshes
 
 -- what a room decided
 pub data Outcome : Type 0 where
@@ -249,6 +254,13 @@ pub record IsReplyEvent (room : List ℕ) (part : Part) (moment : ℤ) (outcome 
       ++ ((codes "SEQUENCE:" ++ decimal part.revision.sequence) ∷ (codes "DTSTAMP:" ++ stamp) ∷ (codes "ORGANIZER:" ++ part.organiser)
       ∷ (codes "ATTENDEE;PARTSTAT=" ++ partstat outcome ++ codes ":" ++ room) ∷ status)
       ++ (codes "END:VEVENT" ∷ [])
+
+-- the VEVENT of a REFRESH, by which a room asks for a meeting, at a moment (RFC 5546 3.2.6)
+pub record IsRefreshEvent (room organiser uid : List ℕ) (moment : ℤ) (lines : List (List ℕ)) : Type 0 where
+  pub stamp : List ℕ
+  pub tells_moment : WritesStamp stamp moment
+  pub is : lines ≡ codes "BEGIN:VEVENT" ∷ (codes "UID:" ++ escaped uid) ∷ (codes "DTSTAMP:" ++ stamp) ∷ (codes "ORGANIZER:" ++ organiser)
+      ∷ (codes "ATTENDEE:" ++ room) ∷ codes "END:VEVENT" ∷ []
 
 -- the METHOD line, where there is one
 abbrev pub method_lines : Option (List ℕ) → List (List ℕ)

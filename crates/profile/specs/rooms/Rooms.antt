@@ -3,7 +3,7 @@ use Rattle.std.specs.Prelude.{◌≡◌, ℕ, ◌<◌, ◌≤◌, Bool, true, fa
 use Rattle.std.specs.List.{flat_map, list_any}
 use Rattle.std.specs.declared.cmp.Ordering.TheVariants.{Less}
 use Rattle.profile.specs.checker.Instances.{Key, Booked, IsClash, IsClear, booked_cmp}
-use Rattle.profile.specs.rooms.Revisions.{Part, Body, At, Set, Absent, Cancelled, in_view, is_whole, same_part, same_place}
+use Rattle.profile.specs.rooms.Revisions.{Part, Body, At, Set, Absent, Cancelled, in_view, is_whole, same_meeting, same_part, same_place}
 use Rattle.profile.specs.rooms.Messages.{Outcome, Accept, Busy, SeriesLimit, SinglesLimit}
 
 -- ---- what a room keeps
@@ -62,6 +62,10 @@ is_fresh before after part = in_view after part && not (in_view before part)
 
 abbrev pub is_same : List Part → List Part → Part → Bool
 is_same before after part = in_view after part && in_view before part
+
+-- nothing was ever taken of the whole of the part's meeting
+abbrev pub lacks_whole : List Part → Part → Bool
+lacks_whole taken part = not (list_any (λ other. is_whole other && same_meeting other part) taken)
 
 -- the part is to take place
 abbrev pub is_set_body : Body → Bool
@@ -161,6 +165,10 @@ kind_of before after (c ∷ cs) outcome =
 -- the parts that a reply shows: in the view after, and to take place
 abbrev pub shown : List Part → List Claim → List Claim
 shown after claims = filter (λ c. is_set c.part && in_view after c.part) claims
+
+-- a message that adds instances makes the room ask for the whole meeting: something of it is new, and nothing of the whole was ever taken
+abbrev pub wants_whole : Bool → List Part → List Part → List Claim → Bool
+wants_whole adds before after claims = adds && list_any (λ part. is_fresh before after part && lacks_whole after part) (parts_of claims)
 
 -- an answer to this part
 abbrev pub answers_part : Part → Answer → Bool

@@ -7,9 +7,9 @@ use Rattle.profile.specs.text.Lines.{logical_lines, text_has}
 use Rattle.profile.specs.text.Objects.{SpellsTree, most_events, count_inside, has_version, lines_have, is_begun, after_object}
 use Rattle.profile.specs.text.Trees.{Tree, tree_name, tree_own, tree_inside}
 use Rattle.profile.specs.events.Events.{Event, booked_by}
-use Rattle.profile.specs.rooms.Messages.{Message, SpellsMessage, MessageTextFault, IsPart, AreBySlot, parts_for, Outcome}
+use Rattle.profile.specs.rooms.Messages.{Message, SpellsMessage, MessageTextFault, IsPart, AreBySlot, parts_for, is_add, Outcome}
 use Rattle.profile.specs.rooms.Rooms.{Claim, Book, Delivery, IsStep, empty_book, is_set}
-use Rattle.profile.specs.rooms.Kept.{Replies}
+use Rattle.profile.specs.rooms.Kept.{Replies, Refreshes}
 use Rattle.profile.specs.text.Values.{SpellsStamp, IsAddress, lower_case}
 
 -- ---- the preamble. The format is roombox's own
@@ -137,7 +137,7 @@ pub record Hosted : Type 0 where
   pub address : List ℕ
   pub book : Book
 
--- a room takes the message, and answers these octets
+-- a room takes the message, and answers these octets: its reply, and a refresh behind it
 pub record Takes (moment : ℤ) (message : Message) (before after : Hosted) (octets : List ℕ) : Type 0 where
   pub same : after.address ≡ before.address
   pub claims : List Claim
@@ -146,7 +146,9 @@ pub record Takes (moment : ℤ) (message : Message) (before after : Hosted) (oct
   pub step : IsStep before.book claims moment outcome after.book
   pub reply : Option (List ℕ)
   pub replies : Replies before.address after.book claims reply
-  pub is : octets ≡ flat_map (λ x. x) (option_to_list reply)
+  pub refresh : Option (List ℕ)
+  pub refreshes : Refreshes before.address (is_add message.method) before.book.taken after.book.taken claims moment refresh
+  pub is : octets ≡ flat_map (λ x. x) (option_to_list reply ++ option_to_list refresh)
 
 -- all rooms take it, one after another; their answers stand in the same order
 abbrev pub AllTake : ℤ → Message → List Hosted → List Hosted → List ℕ → Type 0
