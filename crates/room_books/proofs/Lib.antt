@@ -13,6 +13,7 @@ pub mod Own
 pub mod Parts
 pub mod Hiding
 pub mod Wholes
+pub mod Refreshing
 pub mod Confirms
 pub mod Partition
 pub mod Runs
