@@ -36,7 +36,7 @@ use std::alloc::Global;
 #[derive(Clone, Copy, PartialEq, Eq)]
 pub enum Purpose {
     /// A message for an event that is to take place: UID, DTSTAMP, DTSTART and ORGANIZER have to stand. RRULE, RDATE,
-    /// EXDATE, RECURRENCE-ID, and TZID on DTSTART or DTEND aren't read yet.
+    /// EXDATE, and TZID on DTSTART, DTEND or RECURRENCE-ID aren't read yet.
     Request,
     /// A message that adds instances to one: the same.
     Add,

@@ -22,7 +22,7 @@ pub enum Kind {
     Declined(Clash),
     /// Its fresh parts are declined: the room would pass a limit.
     Limit(LimitKind),
-    /// All its fresh parts cancel something.
+    /// It has fresh parts, and none of them is to take place: they cancel something, or aren't for this room.
     Cancelled,
     /// None of its parts is fresh, and one is known already.
     Repeated,

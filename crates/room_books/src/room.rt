@@ -132,7 +132,7 @@ impl Room {
         Ok(answer)
     }
 
-    /// The kept calendar: each accepted part in the view, the meetings in order of first arrival.
+    /// The kept calendar: each accepted part in the view, and what hides instances of an accepted whole, the meetings in order of first arrival.
     pub fn calendar_text(&self) -> Result<Vec<u8>, AllocError>
         ensures { IfOk result (λ text. (book : Book) → Stands self.now.meetings.entries book → IsKeptCalendar (address_octets self.now.address) book text.items) }
     {

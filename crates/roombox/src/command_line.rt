@@ -38,7 +38,7 @@ const CHECK: &str =
     instant, else no and why.\nExample: roombox check kept.ics kept.cert mailto:r1@example.com";
 
 const EXPAND: &str =
-    "Reads one iCalendar object with one VEVENT, and prints its first instances: a line with original start, start and seconds each.\n\
+    "Reads one iCalendar object of one event, and prints its first instances: a line with original start, start and seconds each.\n\
     Example: roombox expand --limit 5 < examples/every-second-tuesday.ics";
 
 /// How many instances are printed where no limit is given.
