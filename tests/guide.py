@@ -17,10 +17,19 @@ PREAMBLE = NOW + ROOM + "\n"
 R1 = "mailto:r1@example.com"
 
 
-def request(uid="a", sequence=0, start="20250310T090000Z", lines=("DTEND:20250310T100000Z",), method="REQUEST", room=R1, stamp="20250101T000000Z"):
+def vevent(uid="a", sequence=0, start="20250310T090000Z", lines=("DURATION:PT1H",), room=R1, stamp="20250101T000000Z", slot=None):
+    named = [f"RECURRENCE-ID:{slot}"] if slot else []
+    event = [f"UID:{uid}", *named, f"SEQUENCE:{sequence}", f"DTSTAMP:{stamp}", "ORGANIZER:mailto:ann@example.com", f"ATTENDEE:{room}", f"DTSTART:{start}", *lines]
+    return ["BEGIN:VEVENT", *event, "END:VEVENT"]
+
+
+def message(method, *events):
     own = [f"METHOD:{method}"] if method else []
-    event = [f"UID:{uid}", f"SEQUENCE:{sequence}", f"DTSTAMP:{stamp}", "ORGANIZER:mailto:ann@example.com", f"ATTENDEE:{room}", f"DTSTART:{start}", *lines]
-    return "\r\n".join(["BEGIN:VCALENDAR", "VERSION:2.0", "PRODID:-//test//EN", *own, "BEGIN:VEVENT", *event, "END:VEVENT", "END:VCALENDAR"]) + "\r\n"
+    return "\r\n".join(["BEGIN:VCALENDAR", "VERSION:2.0", "PRODID:-//test//EN", *own, *(line for event in events for line in event), "END:VCALENDAR"]) + "\r\n"
+
+
+def request(uid="a", sequence=0, start="20250310T090000Z", lines=("DTEND:20250310T100000Z",), method="REQUEST", room=R1, stamp="20250101T000000Z"):
+    return message(method, vevent(uid, sequence, start, lines, room, stamp))
 
 
 def run(program, *words, given=b""):
@@ -34,7 +43,7 @@ def unfolded(text):
 
 
 def answers(program, *objects, preamble=PREAMBLE):
-    """The words of what is answered: ACCEPTED, DECLINED, or a REFUSED line."""
+    """The words of what is answered: ACCEPTED, DECLINED, REFRESH, or a REFUSED line."""
     status, out, said = run(program, given=preamble + "".join(objects))
     words = []
     for line in unfolded(out).splitlines():
@@ -42,6 +51,8 @@ def answers(program, *objects, preamble=PREAMBLE):
             words.append(line.split("=")[1].split(":")[0])
         elif line.startswith("REFUSED"):
             words.append(line)
+        elif line == "METHOD:REFRESH":
+            words.append("REFRESH")
     return words
 
 
@@ -105,6 +116,70 @@ def decisions(cases, program):
     cases.holds("a room that isn't hosted", answers(program, request(room="mailto:r2@example.com")), [])
 
 
+def instances(cases, program):
+    nine, noon, next_day = "20250310T090000Z", "20250310T120000Z", "20250311T090000Z"
+    a, busy = request(), request("b", start="20250310T093000Z", lines=("DURATION:PT1H",))
+    busy_noon, busy_next = request("c", start=noon, lines=("DURATION:PT1H",)), request("d", start=next_day, lines=("DURATION:PT1H",))
+    moved = message("REQUEST", vevent(), vevent(start=next_day, slot=nine))
+    cases.holds("an instance takes the place of the whole's start", answers(program, moved, busy, busy_next), ["ACCEPTED", "ACCEPTED", "ACCEPTED", "DECLINED"])
+    beside = message("REQUEST", vevent(), vevent(start=noon, slot=next_day))
+    cases.holds("an instance beside the whole", answers(program, beside, busy, busy_noon), ["ACCEPTED", "ACCEPTED", "DECLINED", "DECLINED"])
+    cases.holds("instances alone", answers(program, message("REQUEST", vevent(slot=nine), vevent(start=noon, slot=noon)), busy_noon), ["ACCEPTED", "ACCEPTED", "DECLINED"])
+    cases.holds("one decision", answers(program, busy_noon, beside, busy), ["ACCEPTED", "DECLINED", "DECLINED", "ACCEPTED"])
+    cases.holds("two of one meeting that overlap", answers(program, message("REQUEST", vevent(), vevent(slot=noon))), ["DECLINED", "DECLINED"])
+    found = unfolded(run(program, given=PREAMBLE + message("REQUEST", vevent(start=noon, slot=noon), vevent(start=next_day, slot=next_day), vevent()))[1]).split("\r\n")
+    cases.holds("the whole first, then by original start", [line for line in found if line.startswith(("UID", "RECURRENCE-ID"))],
+                ["UID:a", "UID:a", f"RECURRENCE-ID:{noon}", "UID:a", f"RECURRENCE-ID:{next_day}"])
+    elsewhere = message("REQUEST", vevent(sequence=1, room="mailto:r2@example.com"), vevent(sequence=1, start=next_day, slot=nine))
+    cases.holds("a VEVENT that doesn't name the room", answers(program, a, elsewhere, busy, busy_next), ["ACCEPTED", "ACCEPTED", "ACCEPTED", "DECLINED"])
+    cases.holds("a newer whole drops its instances", answers(program, beside, request(sequence=1), busy_noon), ["ACCEPTED", "ACCEPTED", "ACCEPTED", "ACCEPTED"])
+    gone = message("CANCEL", vevent(sequence=1, slot=nine))
+    cases.holds("a CANCEL of an instance", answers(program, a, gone, busy), ["ACCEPTED", "ACCEPTED"])
+    cases.holds("a CANCEL of an instance before the whole", answers(program, gone, a, busy), ["ACCEPTED", "ACCEPTED"])
+    cases.holds("a newer whole drops the CANCEL of an instance", answers(program, a, gone, request(sequence=2), busy), ["ACCEPTED", "ACCEPTED", "DECLINED"])
+    ended = request(sequence=1, method="CANCEL")
+    cases.holds("beside a cancelled whole one of its revision", answers(program, ended, message("REQUEST", vevent(sequence=1, slot=nine))), [])
+    cases.holds("beside a cancelled whole a newer one", answers(program, ended, message("REQUEST", vevent(sequence=2, slot=nine))), ["ACCEPTED"])
+    found = unfolded(run(program, given=PREAMBLE + message("REQUEST", vevent(sequence=3), vevent(start=next_day, slot=nine)))[1]).split("\r\n")
+    cases.holds("an instance has the revision of the whole", [line for line in found if line.startswith("SEQUENCE")], ["SEQUENCE:3", "SEQUENCE:3"])
+    with tempfile.TemporaryDirectory() as folder:
+        calendar, certificate = Path(folder, "r1.ics"), Path(folder, "r1.cert")
+        text = run(program, "keep", R1, given=PREAMBLE + a + gone)[1]
+        cases.holds("a cancelled start in the kept calendar", text.split("\r\n")[12:-2], [
+            "BEGIN:VEVENT", "UID:a", f"RECURRENCE-ID:{nine}", "SEQUENCE:1", "DTSTAMP:20250101T000000Z", f"DTSTART:{nine}", "DURATION:PT0S", "STATUS:CANCELLED",
+            "ORGANIZER:mailto:ann@example.com", "ATTENDEE;PARTSTAT=DECLINED:mailto:r1@example.com", "END:VEVENT"])
+        calendar.write_text(text, newline="")
+        certificate.write_text(run(program, "keep", "--certificate", R1, given=PREAMBLE + a + gone)[1], newline="")
+        cases.holds("its certificate", certificate.read_text(), "ROOMCERT 1\nSINGLES 0\nSERIES 0\nDONE\n")
+        cases.holds("its yes", run(program, "check", calendar, certificate, R1)[:2], (0, "yes\n"))
+
+
+def added(cases, program):
+    nine, noon = "20250310T090000Z", "20250310T120000Z"
+    a, busy = request(), request("b", start="20250310T093000Z", lines=("DURATION:PT1H",))
+    add = message("ADD", vevent(sequence=1))
+    lines = unfolded(run(program, given=PREAMBLE + add)[1]).split("\r\n")
+    cases.holds("the reply to an ADD and the REFRESH behind it", lines, [
+        "BEGIN:VCALENDAR", "VERSION:2.0", "PRODID:-//iTIP room box//EN", "METHOD:REPLY", "BEGIN:VEVENT", "UID:a", f"RECURRENCE-ID:{nine}", "SEQUENCE:1",
+        "DTSTAMP:20250102T000000Z", "ORGANIZER:mailto:ann@example.com", "ATTENDEE;PARTSTAT=ACCEPTED:mailto:r1@example.com", "REQUEST-STATUS:2.0;Success", "END:VEVENT", "END:VCALENDAR",
+        "BEGIN:VCALENDAR", "VERSION:2.0", "PRODID:-//iTIP room box//EN", "METHOD:REFRESH", "BEGIN:VEVENT", "UID:a", "DTSTAMP:20250102T000000Z", "ORGANIZER:mailto:ann@example.com",
+        "ATTENDEE:mailto:r1@example.com", "END:VEVENT", "END:VCALENDAR", ""])
+    found = unfolded(run(program, given=PREAMBLE + message("ADD", vevent(sequence=1, slot=noon)))[1]).split("\r\n")
+    cases.holds("RECURRENCE-ID in an ADD", [line for line in found if line.startswith("RECURRENCE-ID")], [f"RECURRENCE-ID:{nine}"])
+    cases.holds("an ADD repeated", answers(program, add, add), ["ACCEPTED", "REFRESH", "ACCEPTED"])
+    cases.holds("an ADD that is declined", answers(program, busy, add), ["ACCEPTED", "DECLINED", "REFRESH"])
+    cases.holds("an ADD that is cancelled", answers(program, message("ADD", vevent(sequence=1, lines=("DURATION:PT1H", "STATUS:CANCELLED")))), ["REFRESH"])
+    other = message("ADD", vevent(sequence=1), vevent(sequence=1, start=noon, room="mailto:r2@example.com"))
+    cases.holds("an ADD whose new part isn't for this room", answers(program, add, other), ["ACCEPTED", "REFRESH", "ACCEPTED", "REFRESH"])
+    cases.holds("an ADD for another room", answers(program, message("ADD", vevent(sequence=1, room="mailto:r2@example.com"))), [])
+    cases.holds("an ADD to a meeting", answers(program, a, message("ADD", vevent(sequence=1, start=noon))), ["ACCEPTED", "ACCEPTED"])
+    cases.holds("an ADD to a declined meeting", answers(program, busy, a, message("ADD", vevent(sequence=1, start=noon))), ["ACCEPTED", "DECLINED", "ACCEPTED"])
+    cases.holds("an ADD to a cancelled meeting", answers(program, request(method="CANCEL"), add), ["ACCEPTED"])
+    cases.holds("the whole after an ADD", answers(program, add, request(start=noon, lines=("DURATION:PT1H",)), busy), ["ACCEPTED", "REFRESH", "ACCEPTED", "DECLINED"])
+    two = PREAMBLE[:-1] + "room mailto:r2@example.com\n\n"
+    cases.holds("each room asks", answers(program, message("ADD", vevent(sequence=1, lines=("DURATION:PT1H", "ATTENDEE:mailto:r2@example.com"))), preamble=two), ["ACCEPTED", "REFRESH"] * 2)
+
+
 def replies(cases, program):
     lines = unfolded(run(program, given=PREAMBLE + request())[1]).split("\r\n")
     cases.holds("an accepted reply", lines, [
@@ -131,12 +206,21 @@ def refusals(cases, program):
         found = one(text)
         return found[0].rpartition(":")[2] if found and found[0].startswith("REFUSED") else found
 
-    for method in ("ADD", "REPLY", "REFRESH", None):
+    for method in ("REPLY", "REFRESH", None):
         cases.holds(f"METHOD {method}", number(request(method=method)), "99")
     for method in ("PUBLISH", "COUNTER", "DECLINECOUNTER", "FOO"):
         cases.holds(f"METHOD {method}", number(request(method=method)), "60")
     cases.holds("a CANCEL without DTSTART", number(request(method="CANCEL", lines=()).replace("DTSTART:20250310T090000Z\r\n", "")), "99")
     cases.holds("a CANCEL without ORGANIZER", number(request(method="CANCEL").replace("ORGANIZER:mailto:ann@example.com\r\n", "")), "63")
+    slot = "20250310T090000Z"
+    cases.holds("two VEVENTs without RECURRENCE-ID", number(message("REQUEST", vevent(), vevent())), "53")
+    cases.holds("two VEVENTs of one instance", number(message("REQUEST", vevent(slot=slot), vevent(slot=slot))), "54")
+    cases.holds("two VEVENTs of an ADD that start together", number(message("ADD", vevent(slot=slot), vevent())), "54")
+    cases.holds("two UIDs", number(message("REQUEST", vevent(), vevent("b", slot=slot))), "62")
+    cases.holds("RANGE in an ADD", number(message("ADD", vevent(slot=slot)).replace("RECURRENCE-ID:", "RECURRENCE-ID;RANGE=THISANDFUTURE:")), "65")
+    cases.holds("RECURRENCE-ID in a zone", number(message("REQUEST", vevent(slot=slot)).replace("RECURRENCE-ID:", "RECURRENCE-ID;TZID=Europe/Berlin:")), "99")
+    for line in ("RRULE:FREQ=DAILY", "RDATE:20250311T090000Z", "EXDATE:20250310T090000Z"):
+        cases.holds(line, number(request(lines=("DURATION:PT1H", line))), "99")
     cases.holds("TZID", number(request().replace("DTSTART:20250310T090000Z", "DTSTART;TZID=Europe/Berlin:20250310T090000")), "99")
     cases.holds("a whole day", number(request().replace("DTSTART:20250310T090000Z", "DTSTART;VALUE=DATE:20250310")), "55")
     cases.holds("a parameter without =", number(request().replace("ATTENDEE:", "ATTENDEE;X-FOO:")), "2")
@@ -187,7 +271,7 @@ def zones(cases, program):
 
 def main():
     program, cases = str(Path(sys.argv[1]).resolve()), Cases()
-    for part in (preambles, decisions, replies, refusals, kept, zones):
+    for part in (preambles, decisions, instances, added, replies, refusals, kept, zones):
         part(cases, program)
     print(f"{cases.count} cases, {cases.failed} failed")
     return 1 if cases.failed else 0

@@ -100,7 +100,9 @@ def main():
         rows = [
             ("an accepted request", [program, "serve"], read("preamble", "request-a"), [b"", accepted]),
             ("a declined request", [program, "serve"], decline, [b"", accepted, accepted + declined]),
+            ("an ADD", [program, "serve"], read("preamble", "add-n-two"), [b"", read("accepted-n-two-instances", "refresh-n")]),
             ("a kept calendar", [program, "keep", room], decline, [b"", read("calendar-a")]),
+            ("a kept calendar with a hidden start", [program, "keep", room], read("preamble", "cancel-a-instance-sequence-1", "request-a"), [b"", read("calendar-a-hidden")]),
             ("a check", [program, "check", kept, certificate, room], b"", [b"", b"yes\n"]),
         ]
         for name, words, stream, wholes in rows:
