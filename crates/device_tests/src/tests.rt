@@ -11,7 +11,7 @@ const STREAM: &str =
     "now 20250102T000000Z\nroom mailto:r1@example.com\n\nBEGIN:VCALENDAR\r\nVERSION:2.0\r\nMETHOD:REQUEST\r\n\
     BEGIN:VEVENT\r\nUID:a\r\nDTSTAMP:20250101T000000Z\r\nORGANIZER:mailto:ann@example.com\r\n\
     ATTENDEE:mailto:r1@example.com\r\nDTSTART:20250310T090000Z\r\nDURATION:PT1H\r\nEND:VEVENT\r\nEND:VCALENDAR\r\n\
-    BEGIN:VCALENDAR\r\nVERSION:2.0\r\nMETHOD:ADD\r\nEND:VCALENDAR\r\n";
+    BEGIN:VCALENDAR\r\nVERSION:2.0\r\nMETHOD:REFRESH\r\nEND:VCALENDAR\r\n";
 
 const ANSWERS: &str =
     "BEGIN:VCALENDAR\r\nVERSION:2.0\r\nPRODID:-//iTIP room box//EN\r\nMETHOD:REPLY\r\nBEGIN:VEVENT\r\n\
@@ -163,7 +163,7 @@ fn first_answer() -> &'static str {
 
 /// How many octets the preamble and the first object have.
 const FIRST_END: usize = STREAM.len()
-    - "BEGIN:VCALENDAR\r\nVERSION:2.0\r\nMETHOD:ADD\r\nEND:VCALENDAR\r\n".len();
+    - "BEGIN:VCALENDAR\r\nVERSION:2.0\r\nMETHOD:REFRESH\r\nEND:VCALENDAR\r\n".len();
 
 /// Serves `STREAM`, and compares what came of it and what was sent on.
 fn check<R: AllocGlobal + Abort>(
