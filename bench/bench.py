@@ -132,6 +132,8 @@ LISTED = 95_000
 EVENTS = 2_000
 # The meetings of a room that are revised: an even number, below the limit of a room.
 MEETINGS = 9_000
+# How often one instance of a meeting is revised.
+REVISIONS = 1_000
 # How often a hostile object or line stands in a run, so that the program's own start counts for little.
 HOSTILE = 20
 
@@ -187,6 +189,19 @@ def changes(count):
         if cancels:
             message = message.replace("METHOD:REQUEST", "METHOD:CANCEL")
         yield crlf(message.format(number=meeting, room=ROOM.format(0), start=stamp(meeting), extra=""))
+
+
+def overridden(count):
+    """A meeting of so many overrides beside its whole, and then REVISIONS revisions of the last one, which moves to and fro."""
+    vevent = REQUEST[REQUEST.index("BEGIN:VEVENT") : REQUEST.index("END:VCALENDAR")]
+    head, tail = REQUEST[: REQUEST.index("BEGIN:VEVENT")], "END:VCALENDAR\n"
+    one = lambda slot, start, sequence: vevent.replace("SEQUENCE:0", f"SEQUENCE:{sequence}").format(
+        number=0, room=ROOM.format(0), start=stamp(start), extra=f"RECURRENCE-ID:{stamp(slot)}\n" if slot else ""
+    )
+    yield preamble(1)
+    yield crlf(head + "".join(one(slot, slot, 0) for slot in range(count + 1)) + tail)
+    for number in range(REVISIONS):
+        yield crlf(head + one(count, count + 1 - number % 2, number + 1) + tail)
 
 
 def large_objects(count):
@@ -430,6 +445,8 @@ def main():
     grown(f"revisions of {MEETINGS:,} meetings", (10_000, 100_000), revised, None)
     changed = lambda count: serve(program, changes(count), MEETINGS + (count + 1) // 3 + count // 3)
     grown("a third cancels, a third revisions, a third repeats", (10_000, 100_000), changed, None)
+    revised = lambda count: serve(program, overridden(count), count + 1 + REVISIONS)
+    grown("overrides, one revised 1,000 times", (MOST_OVERRIDES // 10, MOST_OVERRIDES), revised, REVISIONS)
     grown("objects of 1 MB with folded lines", (20,), lambda count: serve(program, large_objects(count), count), "octets")
     grown("singles checked", (100_000, 1_000_000), lambda count: check(program, calendar(count), count), "octets")
     days = lambda count: check(program, calendar_of_days(count), count * (DAYS - 1))
