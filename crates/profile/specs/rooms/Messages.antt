@@ -1,18 +1,22 @@
 -- Messages: their meeting, the parts that they have for a room, and replies (RFC 5546 1.4, 3.2). So far a REQUEST, an ADD or a CANCEL.
-use Rattle.std.specs.Prelude.{◌≡◌, ◌↔◌, ℕ, ◌/◌, ◌%◌, ◌+◌, Bool, true, false, ◌&&◌, ◌||◌, ◌==◌, if◌then◌else◌, nat_lt, List, [], ◌∷◌, ◌++◌, length, filter, codes, decimal, Contains, AllPairs, Option, Some, None, option_map, unwrap_or, ℤ, pos}
+use Rattle.std.specs.Prelude.{◌≡◌, ◌↔◌, ℕ, ◌/◌, ◌%◌, ◌+◌, Bool, true, false, ◌&&◌, ◌||◌, ◌==◌, if◌then◌else◌, nat_lt, List, [], ◌∷◌, ◌++◌, length, filter, codes, decimal, Contains, AllPairs, Option, Some, None, option_map, unwrap_or, ℤ, pos, ◌<ℤ◌, not}
 use Rattle.std.specs.List.{flat_map, list_any, AllZip}
+use Rattle.std.specs.Int.Signed.{lt_z}
 use Rattle.std.specs.Str.{bytes_eq}
 use Rattle.std.specs.Char.{is_ascii_alphabetic, is_ascii_digit}
 use Rattle.profile.specs.text.Lines.{line_value, is_same_name, logical_lines, reads_as_lines}
 use Rattle.profile.specs.text.Objects.{IsObject}
 use Rattle.profile.specs.text.Trees.{Tree, tree_name, tree_own, tree_inside, vevents}
-use Rattle.profile.specs.text.Values.{WritesStamp, duration_text, escaped}
-use Rattle.profile.specs.events.Events.{Event, is_unread_in_message, lacks_start}
-use Rattle.profile.specs.events.Properties.{SomeLine, StandsTwice, IsMissing, lines_named}
-use Rattle.profile.specs.checker.Instances.{Key}
+use Rattle.profile.specs.text.Values.{WritesStamp, WritesLocal, duration_text, escaped}
+use Rattle.profile.specs.events.Events.{Method, Request, Add, Cancel, Event}
+use Rattle.profile.specs.events.Properties.{first_second, is_of, SomeLine, StandsTwice, IsMissing, lines_named}
+use Rattle.profile.specs.events.ZonedTimes.{EventTimes}
+use Rattle.profile.specs.series.Zones.{Zone}
+use Rattle.profile.specs.written.WrittenZones.{WritesZone}
+use Rattle.profile.specs.checker.Instances.{Key, horizon}
 use Rattle.std.specs.declared.cmp.Ordering.TheVariants.{Less}
 use Rattle.std.specs.Ordering.{is_lt}
-use Rattle.profile.specs.events.Meetings.{Method, Request, Add, Cancel, Meeting, events_of, SaysMeeting, MeetingFault}
+use Rattle.profile.specs.events.Meetings.{Meeting, events_of, SaysMeeting, MeetingFault}
 use Rattle.profile.specs.rooms.Revisions.{Part, Slot, Whole, At, Revision, Body, Set, Absent, Cancelled, revision_cmp, slot_cmp}
 
 -- ---- what a message says
@@ -34,20 +38,18 @@ pub record NamesMethod (own : List (List ℕ)) (method : Method) : Type 0 where
   pub once : lines_named (codes "METHOD") own ≡ line ∷ []
   pub named : is_same_name (line_value line) (method_word method) ≡ true
 
--- something in the lines of a VEVENT isn't read yet. A CANCEL without DTSTART, as RFC 5546 3.2.5 allows it, isn't
-abbrev pub has_unread_in : Method → List (List ℕ) → Bool
-has_unread_in Request lines = list_any is_unread_in_message lines
-has_unread_in Add lines = list_any is_unread_in_message lines
-has_unread_in Cancel lines = lacks_start lines || list_any is_unread_in_message lines
+-- RRULE stands in the lines of a VEVENT: in a message it isn't read yet
+abbrev pub has_unread : List (List ℕ) → Bool
+has_unread lines = list_any (is_of (codes "RRULE")) lines
 
--- some VEVENT of the object has something that isn't read yet
-abbrev pub is_unread : Method → Tree → Bool
-is_unread method object = list_any (has_unread_in method) (vevents object)
+-- it stands in some VEVENT of the object
+abbrev pub is_unread : Tree → Bool
+is_unread object = list_any has_unread (vevents object)
 
 -- a VCALENDAR says this message: in its VEVENTs nothing is unread (RFC 5546 3.2.2, 3.2.4, 3.2.5)
 pub record SaysMessage (object : Tree) (message : Message) : Type 0 where
   pub method : NamesMethod (tree_own object) message.method
-  pub read : is_unread message.method object ≡ false
+  pub read : is_unread object ≡ false
   pub says : SaysMeeting object (Some message.method) message.meeting
 
 -- the octets are one VCALENDAR, within the limits of a message, and say this message
@@ -79,10 +81,8 @@ pub data MethodFault (own : List (List ℕ)) : ℕ → Type 0 where
 pub data MessageFault (object : Tree) : ℕ → Type 0 where
   in_method : {n : ℕ} → MethodFault (tree_own object) n → MessageFault object n
   in_meeting : {n : ℕ} → (method : Method) → NamesMethod (tree_own object) method → MeetingFault object (Some method) n → MessageFault object n
-  -- a line of a VEVENT isn't read yet
-  not_yet : list_any (list_any is_unread_in_message) (vevents object) ≡ true → MessageFault object 99
-  -- neither is a CANCEL without DTSTART
-  no_start_yet : NamesMethod (tree_own object) Cancel → list_any lacks_start (vevents object) ≡ true → MessageFault object 99
+  -- something in a VEVENT isn't read yet
+  not_yet : is_unread object ≡ true → MessageFault object 99
 
 -- the octets are one VCALENDAR, within the limits of a message, and the fault of this number stands in it
 pub record MessageTextFault (octets : List ℕ) (n : ℕ) : Type 0 where
@@ -92,11 +92,50 @@ pub record MessageTextFault (octets : List ℕ) (n : ℕ) : Type 0 where
 
 -- ---- its parts
 
--- the lines of a VEVENT that say when its event is, in their one form, unfolded and without line ends
+-- DTSTART in UTC, or in a zone, whose name here is `Z` whatever it was
+abbrev pub StartsIn : Option Zone → EventTimes → List ℕ → Type 0
+StartsIn None times line = (text : List ℕ) × WritesStamp text times.start × (line ≡ codes "DTSTART:" ++ text)
+StartsIn (Some zone) times line = (text : List ℕ) × WritesLocal text times.local × (line ≡ codes "DTSTART;TZID=Z:" ++ text)
+
+-- the VTIMEZONE of that name, where there is a zone
+abbrev pub WritesZoneOf : Option Zone → List (List ℕ) → Type 0
+WritesZoneOf None lines = lines ≡ []
+WritesZoneOf (Some zone) lines = WritesZone lines (codes "Z") zone
+
+-- these instants ascending, each once
+pub record AreAscending (instants ascending : List ℤ) : Type 0 where
+  pub exact : (instant : ℤ) → Contains ascending instant ↔ Contains instants instant
+  pub order : AllPairs ◌<ℤ◌ ascending
+
+-- a property that lists these texts, with commas between; none where there are none
+abbrev pub list_lines : List ℕ → List (List ℕ) → List (List ℕ)
+list_lines name [] = []
+list_lines name (text ∷ texts) = (name ++ codes ":" ++ text ++ flat_map (λ other. codes "," ++ other) texts) ∷ []
+
+-- a property that lists these instants, in UTC
+pub record WritesTimes (name : List ℕ) (instants : List ℤ) (lines : List (List ℕ)) : Type 0 where
+  pub ascending : List ℤ
+  pub are : AreAscending instants ascending
+  pub texts : List (List ℕ)
+  pub each : AllZip WritesStamp texts ascending
+  pub is : lines ≡ list_lines name texts
+
+-- the instant lies where a start may
+abbrev pub is_in_dates : ℤ → Bool
+is_in_dates instant = lt_z instant horizon && not (lt_z instant first_second)
+
+-- the lines of a VEVENT that say when its event is, in their one form, unfolded and without line ends: DTSTART, DURATION, RDATE and EXDATE, and
+-- then the VTIMEZONE. Of what EXDATE names that counts which lies where a start may
 pub record IsContent (content : List (List ℕ)) (event : Event) : Type 0 where
   pub start : List ℕ
-  pub written : WritesStamp start event.times.start
-  pub is : content ≡ (codes "DTSTART:" ++ start) ∷ (codes "DURATION:" ++ duration_text event.times.length.days event.times.length.seconds) ∷ []
+  pub starts : StartsIn event.times.zone event.times start
+  pub additions : List (List ℕ)
+  pub adds : WritesTimes (codes "RDATE") event.additions additions
+  pub exceptions : List (List ℕ)
+  pub takes : WritesTimes (codes "EXDATE") (filter is_in_dates event.exceptions) exceptions
+  pub zone : List (List ℕ)
+  pub in_zone : WritesZoneOf event.times.zone zone
+  pub is : content ≡ start ∷ (codes "DURATION:" ++ duration_text event.times.length.days event.times.length.seconds) ∷ (additions ++ exceptions ++ zone)
 
 -- those lines, each ended by CRLF: two bodies are one where these octets are equal, so a day and 24 hours are two; this profile's choice
 abbrev pub canonical : List (List ℕ) → List ℕ

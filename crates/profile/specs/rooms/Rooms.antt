@@ -8,7 +8,7 @@ use Rattle.profile.specs.rooms.Messages.{Outcome, Accept, Busy, SeriesLimit, Sin
 
 -- ---- what a room keeps
 
--- a part of a message, and what it asks for if it is to take place: the lines that say when, without line ends, and single instances so far
+-- a part of a message, and what it asks for if it is to take place: the lines that say when, without line ends, and its instances
 pub record Claim : Type 0 where
   pub part : Part
   pub content : List (List ℕ)
