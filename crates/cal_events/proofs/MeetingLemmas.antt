@@ -1,7 +1,7 @@
 -- The event with its instances that an object says, or the fault that stands there.
 use Rattle.std.proofs.Common.{◌≡◌, ◌≢◌, ◌∙◌, ℕ, zero, suc, ◌<◌, Bool, true, false, ◌&&◌, cond, List, [], ◌∷◌, ◌++◌, length, map, filter, get_or, append-nil, sym, ap, subst, refl, inl, inr, arith, ℤ, pos, ◌||◌}
 use Rattle.std.specs.Option.{option_to_list}
-use Rattle.std.specs.Prelude.{Option, Some, Contains, AllPairs, unwrap_or, Result, Ok, Err, IfOk, IfErr}
+use Rattle.std.specs.Prelude.{Option, Some, None, is_some, Contains, AllPairs, unwrap_or, Result, Ok, Err, IfOk, IfErr}
 use Rattle.std.specs.List.{AllZip, list_all, list_any}
 use Rattle.std.proofs.lemmas.List.Folds.{list_all-map}
 use Rattle.std.specs.Str.{bytes_eq}
@@ -23,7 +23,7 @@ use Rattle.ical_values.proofs.Exits.{err_exit}
 use Rattle.profile.specs.text.Lines.{logical_lines, reads_as_lines}
 use Rattle.profile.specs.text.Trees.{Tree, vevents}
 use Rattle.profile.specs.events.Events.{Event, SaysEvent, meeting_said}
-use Rattle.profile.specs.events.Meetings.{Meeting, is_same_meeting, is_master, is_override, is_meeting_fault, AreOfOne, InstancesDiffer, SaysMeeting, SpellsMeeting, MeetingFault, in_event, two_masters, two_overrides, no_event, two_meetings, MeetingTextFault, in_lines, in_tree, no_version, many_events, in_vevents}
+use Rattle.profile.specs.events.Meetings.{Method, Meeting, taken_by, is_same_meeting, is_master, is_override, is_meeting_fault, AreOfOne, InstancesDiffer, SaysMeeting, SpellsMeeting, MeetingFault, in_event, two_masters, two_overrides, no_event, two_meetings, MeetingTextFault, in_lines, in_tree, no_version, many_events, in_vevents}
 use Rattle.cal_events.proofs.ReadingLemmas.{never, unread_among}
 use Rattle.cal_events.specs.OneMeeting.{IsUnreadOrNoMeeting}
 use Rattle.cal_events.specs.declared.component.Purpose.{Purpose}
@@ -133,25 +133,25 @@ module _ (object : Tree) (vs : List (List (List ℕ))) (same : vevents object �
   among_there purpose n (lines, c, inl (is, h)) = inl (is, ap (list_any (has_unread_for purpose)) same ∙ unread_among (has_unread_for purpose) vs lines c h)
   among_there purpose n (lines, c, inr f) = inr (in_event lines (subst (λ (x : List (List (List ℕ))). Contains x lines) (sym same) c) f)
 
-  module _ (m : Bool) (events : List Event) (zip : AllZip (SaysEvent object m) vs events) where
-    pub said : AllZip (SaysEvent object m) (vevents object) events
-    said = subst (λ (x : List (List (List ℕ))). AllZip (SaysEvent object m) x events) (sym same) zip
+  module _ (m : Option Method) (events : List Event) (zip : AllZip (SaysEvent object (is_some m)) vs events) where
+    pub said : AllZip (SaysEvent object (is_some m)) (vevents object) events
+    said = subst (λ (x : List (List (List ℕ))). AllZip (SaysEvent object (is_some m)) x events) (sym same) zip
 
     pub not_one_there : (n : ℕ) → IsNotOne events n → MeetingFault object m n
     not_one_there n (inl (is, none)) =
-        subst (MeetingFault object m) (sym is) (no_event (none_said object m (vevents object) (subst (λ (es : List Event). AllZip (SaysEvent object m) (vevents object) es) none said)))
+        subst (MeetingFault object m) (sym is) (no_event (none_said object (is_some m) (vevents object) (subst (λ (es : List Event). AllZip (SaysEvent object (is_some m)) (vevents object) es) none said)))
     not_one_there n (inr (is, not)) = subst (MeetingFault object m) (sym is) (two_meetings events said not)
 
-    pub masters_there : (n : ℕ) → (n ≡ 53) × (1 < length (filter is_master events)) → MeetingFault object m n
+    pub masters_there : (n : ℕ) → (n ≡ 53) × (1 < length (filter is_master (taken_by m events))) → MeetingFault object m n
     masters_there n (is, more) = subst (MeetingFault object m) (sym is) (two_masters events said more)
 
-    module _ (overrides : List Event) (instants : List ℤ) (kept : filter is_override events ≡ overrides) (of_them : map Some instants ≡ instants_said overrides) where
+    module _ (overrides : List Event) (instants : List ℤ) (kept : filter is_override (taken_by m events) ≡ overrides) (of_them : map Some instants ≡ instants_said overrides) where
       pub twins_there : (AllPairs ◌≢◌ instants → ⊥) → MeetingFault object m 54
       twins_there not =
           two_overrides events said
           (λ differ. not (some_differ instants (subst (λ (os : List (Option ℤ)). AllPairs ◌≢◌ os) (sym of_them) (subst InstancesDiffer kept differ))))
 
-      pub meeting_there : (whole : Meeting) → 0 < length events → AreOfOne events → filter is_master events ≡ option_to_list whole.master → whole.overrides ≡ overrides
+      pub meeting_there : (whole : Meeting) → 0 < length events → AreOfOne events → filter is_master (taken_by m events) ≡ option_to_list whole.master → whole.overrides ≡ overrides
           → AllPairs ◌≢◌ instants → SaysMeeting object m whole
       meeting_there whole some one master rest differ = record {
         events = events;
@@ -164,7 +164,7 @@ module _ (object : Tree) (vs : List (List (List ℕ))) (same : vevents object �
       }
 
 -- for an event with its instances nothing is left unread
-pub all_read : (object : Tree) (n : ℕ) → IsUnreadOrNoMeeting object purposes.Meeting n → MeetingFault object false n
+pub all_read : (object : Tree) (n : ℕ) → IsUnreadOrNoMeeting object purposes.Meeting n → MeetingFault object None n
 all_read object n (inl (is, h)) = absurd (true≢false (sym h ∙ none (vevents object)))
   where
     none : (vs : List (List (List ℕ))) → list_any (has_unread_for purposes.Meeting) vs ≡ false
@@ -189,11 +189,11 @@ component_wider (Refused r) h = wider (is_object_fault r.number) (is_meeting_eve
 -- ---- octets
 
 pub meeting_spelled : (r : Result declared.Event Fault) (octets : List ℕ) (c : Component) → reads_as_lines true octets ≡ true → IsObjectOf true c (logical_lines octets)
-    → IfOk r (λ event. SaysMeeting (tree_of c) false (said_meeting event)) → IfOk r (λ event. SpellsMeeting octets (said_meeting event))
+    → IfOk r (λ event. SaysMeeting (tree_of c) None (said_meeting event)) → IfOk r (λ event. SpellsMeeting octets (said_meeting event))
 meeting_spelled (Ok event) octets c lines object says = record { lines = lines; tree = tree_of c; object = object_tree true c (logical_lines octets) object; says = says }
 meeting_spelled (Err f) octets c lines object says = tt
 
-pub fault_there : (octets : List ℕ) (c : Component) → IsObjectOf true c (logical_lines octets) → (f : Fault) → RefusesBy (MeetingFault (tree_of c) false) f → RefusesBy (MeetingTextFault octets) f
+pub fault_there : (octets : List ℕ) (c : Component) → IsObjectOf true c (logical_lines octets) → (f : Fault) → RefusesBy (MeetingFault (tree_of c) None) f → RefusesBy (MeetingTextFault octets) f
 fault_there octets c object Memory h = tt
 fault_there octets c object (Refused r) h = in_vevents (tree_of c) (object_tree true c (logical_lines octets) object) h
 

@@ -18,7 +18,7 @@ use Rattle.profile.specs.series.RuleTexts.{RuleFault, unknown, bad_value, no_fre
 use Rattle.profile.specs.events.EventRules.{EventRuleFault, bad_rule, starts_outside, two_rules}
 use Rattle.profile.specs.events.Occurrences.{recurs_beside_recurrence, Entry, EntryFault, entries_of, entries_named, EntriesFault, in_entry, too_many, OccurrenceFault, bad_recurrence, bad_additions, bad_exceptions, recurrence_out, additions_out, two_recurrences, ranged, recurs}
 use Rattle.cal_events.specs.declared.component.Purpose.{Purpose}
-use Rattle.cal_events.specs.declared.component.Purpose.TheVariants.{Request, Cancel, Meeting}
+use Rattle.cal_events.specs.declared.component.Purpose.TheVariants.{Request, Add, Cancel, Meeting}
 use Rattle.cal_events.specs.Events.{is_message, has_unread_for, is_fault_for, is_unread_fault}
 use Rattle.profile.specs.events.Events.{EventFault, in_times, in_rule, in_occurrences, bad_stamp, bad_uid, bad_organiser, bad_attendee, bad_sequence, no_uid, no_stamp_given, twice, no_organiser}
 
@@ -171,6 +171,7 @@ refused_for object purpose lines (Refused r) s = number_for object purpose lines
 
 pub unread_for : (purpose : Purpose) (lines : Lines) (n : ℕ) → n ≡ 99 → has_unread_for purpose lines ≡ true → is_fault_for purpose n ≡ true
 unread_for Request lines n e h = ap (is_fault_for Request) e
+unread_for Add lines n e h = ap (is_fault_for Add) e
 unread_for Cancel lines n e h = ap (is_fault_for Cancel) e
 unread_for Meeting lines n e h = absurd (true≢false (sym h ∙ none lines))
   where

@@ -180,7 +180,7 @@ same_override (o ∷ os) a b d (suc k, w, e) (suc j, v, f) same =
 pub booked_same : (a b : Booked) → a.key ≡ b.key → a.start ≡ b.start → a.end ≡ b.end → a ≡ b
 booked_same a b p q r = λ i. record { key = p i; start = q i; end = r i }
 
-module _ (object : Tree) (meeting : Meeting) (s : SaysMeeting object false meeting) where
+module _ (object : Tree) (meeting : Meeting) (s : SaysMeeting object None meeting) where
   sound : All IsSound s.events
   sound = all_sound object (vevents object) s.events s.says
 

@@ -1,10 +1,11 @@
 -- What the types of a VEVENT that was read stand for.
-use Rattle.std.specs.Prelude.{ℕ, Bool, ◌&&◌, ◌||◌, true, false, List, length, map, filter, option_map, Option, codes, Contains, ◌≡◌, ◌⊎◌, ◌<◌, ℤ, pos, ◌<ℤ◌}
+use Rattle.std.specs.Prelude.{ℕ, Bool, ◌&&◌, ◌||◌, true, false, List, length, map, filter, option_map, Option, None, Some, is_some, codes, Contains, ◌≡◌, ◌⊎◌, ◌<◌, ℤ, pos, ◌<ℤ◌}
 use Rattle.ical_values.specs.Octets.{address_octets, text_octets}
 use Rattle.ical_values.specs.declared.duration.Duration.{Duration}
 use Rattle.std.specs.List.{list_any}
 use Rattle.profile.specs.faults.Faults.{is_unread, is_meeting_event_fault}
 use Rattle.profile.specs.events.Events as profile
+use Rattle.profile.specs.events.Meetings as methods
 use Rattle.profile.specs.events.Properties as properties
 use Rattle.profile.specs.events.Properties.{length_seconds, time_kind}
 use Rattle.profile.specs.text.Trees.{Tree}
@@ -26,23 +27,30 @@ use Rattle.cal_events.specs.declared.component.EventComponent.{EventComponent}
 use Rattle.cal_events.specs.declared.component.ParticipationStatus.{ParticipationStatus}
 use Rattle.cal_events.specs.declared.component.ParticipationStatus.TheVariants.{NeedsAction, Tentative, Accepted, Delegated, Declined}
 use Rattle.cal_events.specs.declared.component.Purpose.{Purpose}
-use Rattle.cal_events.specs.declared.component.Purpose.TheVariants.{Request, Cancel, Meeting}
+use Rattle.cal_events.specs.declared.component.Purpose.TheVariants.{Request, Add, Cancel, Meeting}
+
+-- the method of a message that a VEVENT is read for; METHOD isn't looked at for a calendar
+abbrev pub method_read : Purpose → Option methods.Method
+method_read Request = Some methods.Request
+method_read Add = Some methods.Add
+method_read Cancel = Some methods.Cancel
+method_read Meeting = None
 
 -- a message needs ORGANIZER and DTSTAMP, a calendar doesn't
 abbrev pub is_message : Purpose → Bool
-is_message Request = true
-is_message Cancel = true
-is_message Meeting = false
+is_message purpose = is_some (method_read purpose)
 
 -- what isn't read yet for a purpose
 abbrev pub is_unread_for : Purpose → List ℕ → Bool
 is_unread_for Request = profile.is_unread_in_message
+is_unread_for Add = profile.is_unread_in_message
 is_unread_for Cancel = profile.is_unread_in_message
 is_unread_for Meeting = λ _. false
 
 -- DTSTART is missing, where that isn't read yet
 abbrev pub lacks_start_for : Purpose → List (List ℕ) → Bool
 lacks_start_for Request lines = false
+lacks_start_for Add lines = false
 lacks_start_for Cancel lines = profile.lacks_start lines
 lacks_start_for Meeting lines = false
 

@@ -4,7 +4,7 @@ use Rattle.std.specs.List.{list_any}
 use Rattle.profile.specs.faults.Faults.{is_between}
 use Rattle.profile.specs.events.Meetings.{Meeting, MeetingFault}
 use Rattle.profile.specs.text.Trees.{Tree, vevents}
-use Rattle.cal_events.specs.Events.{event_of, is_message, has_unread_for, is_fault_for}
+use Rattle.cal_events.specs.Events.{event_of, method_read, has_unread_for, is_fault_for}
 use Rattle.cal_events.specs.declared.component.Purpose.{Purpose}
 use Rattle.cal_events.specs.declared.meeting_components.MeetingComponents.{MeetingComponents}
 
@@ -18,4 +18,4 @@ is_meeting_fault_for purpose n = is_fault_for purpose n || is_between 53 54 n ||
 -- the object has something that isn't read yet for a purpose, or a fault of its VEVENTs stands in it
 abbrev pub IsUnreadOrNoMeeting : Tree → Purpose → ℕ → Type 0
 IsUnreadOrNoMeeting object purpose n =
-    ((n ≡ 99) × (list_any (has_unread_for purpose) (vevents object) ≡ true)) ⊎ MeetingFault object (is_message purpose) n
+    ((n ≡ 99) × (list_any (has_unread_for purpose) (vevents object) ≡ true)) ⊎ MeetingFault object (method_read purpose) n

@@ -38,6 +38,8 @@ pub enum Purpose {
     /// A message for an event that is to take place: UID, DTSTAMP, DTSTART and ORGANIZER have to stand. RRULE, RDATE,
     /// EXDATE, RECURRENCE-ID, and TZID on DTSTART or DTEND aren't read yet.
     Request,
+    /// A message that adds instances to one: the same.
+    Add,
     /// A message that cancels an event: the same isn't read yet, nor one without DTSTART.
     Cancel,
     /// A calendar, or an event with its instances: UID and DTSTART have to stand.
@@ -49,7 +51,7 @@ impl Purpose {
     fn is_message(self) -> bool
         ensures { result ≡ is_message self }
     {
-        matches!(self, Purpose::Request | Purpose::Cancel)
+        matches!(self, Purpose::Request | Purpose::Add | Purpose::Cancel)
     }
 }
 

@@ -1,6 +1,6 @@
 //! An event with its instances: its master and its overrides (RFC 5545 3.8.4.4), read from one object whatever its METHOD.
 
-ghost use Rattle.std.specs.Prelude.{◌≡◌, ◌≢◌, ◌↔◌, ◌<◌, ◌≤ℤ◌, ◌⊎◌, ◌++◌, ℕ, List, [], Some, false, map, option_map, ℤ, IfOk, IfErr};
+ghost use Rattle.std.specs.Prelude.{◌≡◌, ◌≢◌, ◌↔◌, ◌<◌, ◌≤ℤ◌, ◌⊎◌, ◌++◌, ℕ, List, [], Some, None, map, option_map, ℤ, IfOk, IfErr};
 ghost use Rattle.std.specs.Option.{option_to_list};
 ghost use Rattle.std.specs.List.{list_all};
 ghost use Rattle.std.specs.List.Sorted.{IsPermutation};
@@ -88,9 +88,9 @@ impl Event {
     /// The event of an object that was read.
     /// Refused: as by `MeetingComponents::read`.
     pub fn of_object(alloc: Global, object: &Component) -> Result<Event, Fault>
-        ensures says { IfOk result (λ event. SaysMeeting (tree_of object.now) false (said_meeting event)) }
+        ensures says { IfOk result (λ event. SaysMeeting (tree_of object.now) None (said_meeting event)) }
         ensures refuses { IfErr result (RefusesOnly is_meeting_fault) }
-        ensures stands { IfErr result (RefusesBy (MeetingFault (tree_of object.now) false)) }
+        ensures stands { IfErr result (RefusesBy (MeetingFault (tree_of object.now) None)) }
     {
         let components = MeetingComponents::read(alloc, object, Purpose::Meeting)?;
         Ok(components.into_event(alloc)?)

@@ -5,8 +5,8 @@ ghost use Rattle.std.specs.Option.{option_to_list};
 ghost use Rattle.std.specs.List.{list_all, list_any};
 ghost use Rattle.ical_lines.specs.Fault.{RefusesOnly, RefusesBy};
 ghost use Rattle.ical_tree.specs.Tree.{tree_of};
-ghost use Rattle.profile.specs.events.Meetings.{events_of, is_same_meeting, is_master, is_override, AreOfOne, SaysMeeting};
-ghost use Rattle.cal_events.specs.Events.{event_of, is_message, has_unread_for, vevents_of};
+ghost use Rattle.profile.specs.events.Meetings.{as_added, events_of, is_same_meeting, is_master, is_override, taken_by, AreOfOne, SaysMeeting};
+ghost use Rattle.cal_events.specs.Events.{event_of, has_unread_for, method_read, vevents_of};
 ghost use Rattle.cal_events.specs.Meetings.{instants_said, IsNotOne};
 
 use crate::component::{EventComponent, Purpose};
@@ -30,7 +30,7 @@ pub struct MeetingComponents {
 impl MeetingComponents {
     ghost use Rattle.cal_events.specs.OneMeeting.{meeting_of, IsUnreadOrNoMeeting, is_meeting_fault_for};
 
-    /// The VEVENTs of an object, read for a purpose.
+    /// The VEVENTs of an object, read for a purpose. Those of an ADD are taken as the instances of their own starts.
     /// Refused: as by `EventComponent::read` for one of them; 66 where there is none; 62 for two UIDs or two ORGANIZERs; 53 for two without
     /// RECURRENCE-ID; 54 for two that stand for one instance.
     pub fn read(
@@ -38,7 +38,7 @@ impl MeetingComponents {
         object: &Component,
         purpose: Purpose,
     ) -> Result<MeetingComponents, Fault>
-        ensures says { IfOk result (λ meeting. SaysMeeting (tree_of object.now) (is_message purpose) (meeting_of meeting)) }
+        ensures says { IfOk result (λ meeting. SaysMeeting (tree_of object.now) (method_read purpose) (meeting_of meeting)) }
         ensures read { OnOk result (list_any (has_unread_for purpose) (vevents_of object.now) ≡ false) }
         ensures instants { IfOk result (λ meeting. map Some meeting.instants.items ≡ instants_said (map event_of meeting.overrides.items)) }
         ensures refuses { IfErr result (RefusesOnly (is_meeting_fault_for purpose)) }
@@ -46,7 +46,8 @@ impl MeetingComponents {
     {
         let components = read_events(alloc, object, purpose)?;
         judge_meeting(&components)?;
-        let divided = MeetingComponents::of(alloc, components)?;
+        let taken = taken_for(alloc, purpose, components)?;
+        let divided = MeetingComponents::of(alloc, taken)?;
         let twins = has_twins(alloc, &divided.instants)?;
         if twins {
             return Err(Fault::Refused(Refusal::TWO_OVERRIDES));
@@ -100,6 +101,44 @@ impl MeetingComponents {
         events.append(&mut overrides)?;
         Ok(events)
     }
+}
+
+/// Components as the method of a message takes them. It fails only for memory.
+fn taken_for(
+    alloc: Global,
+    purpose: Purpose,
+    components: Vec<EventComponent>,
+) -> Result<Vec<EventComponent>, AllocError>
+    ensures { IfOk result (λ taken. map event_of taken.items ≡ taken_by (method_read purpose) (map event_of components.items)) }
+{
+    match purpose {
+        Purpose::Add => all_added(alloc, components),
+        Purpose::Request | Purpose::Cancel | Purpose::Meeting => Ok(components),
+    }
+}
+
+/// Components as an ADD takes them. It fails only for memory.
+fn all_added(
+    alloc: Global,
+    components: Vec<EventComponent>,
+) -> Result<Vec<EventComponent>, AllocError>
+    ensures { IfOk result (λ added. map event_of added.items ≡ map as_added (map event_of components.items)) }
+{
+    let mut added = Vec::new(alloc);
+    for component in components {
+        added.push(as_added(component))?;
+    }
+    Ok(added)
+}
+
+/// A component as an ADD takes it: the instance of its own start, whatever RECURRENCE-ID says (RFC 5546 3.2.4).
+fn as_added(component: EventComponent) -> EventComponent
+    ensures { event_of result ≡ as_added (event_of component) }
+{
+    let start = component.times.instant.instant();
+    let mut added = component;
+    added.recurrence = Some(start);
+    added
 }
 
 /// Refuses components that aren't those of one meeting.

@@ -52,7 +52,7 @@ fn lacks_start_for(event: &Properties<'_>, purpose: Purpose) -> bool
 {
     match purpose {
         Purpose::Cancel => !has_start(event),
-        Purpose::Request | Purpose::Meeting => false,
+        Purpose::Request | Purpose::Add | Purpose::Meeting => false,
     }
 }
 
@@ -84,7 +84,7 @@ fn is_unread(line: Line<'_>, purpose: Purpose) -> bool
     ensures { result ≡ is_unread_for purpose (line_text line.entry) }
 {
     match purpose {
-        Purpose::Request | Purpose::Cancel => is_unread_in_message(line),
+        Purpose::Request | Purpose::Add | Purpose::Cancel => is_unread_in_message(line),
         Purpose::Meeting => false,
     }
 }

@@ -1,4 +1,5 @@
 pub mod Attendees
 pub mod Replies
+pub mod Refreshes
 pub mod Messages
 pub mod ReadBack

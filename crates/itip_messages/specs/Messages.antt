@@ -7,6 +7,7 @@ use Rattle.profile.specs.text.Trees.{Tree}
 use Rattle.profile.specs.events.Events.{Event, booked_by}
 use Rattle.profile.specs.rooms.Messages as profile
 use Rattle.profile.specs.rooms.Messages.{IsContent, canonical, cancels, is_cancel, raised_to, own_revision, AreBySlot, SaysMessage, SpellsMessage, MessageTextFault, is_method, is_unread_method}
+use Rattle.profile.specs.events.Meetings as meetings
 use Rattle.profile.specs.events.Meetings.{Meeting, AreOfOne, events_of}
 use Rattle.profile.specs.text.Values.{IsClockSeconds}
 use Rattle.profile.specs.rooms.Revisions as revisions
@@ -20,17 +21,19 @@ use Rattle.cal_events.specs.declared.component.Purpose.{Purpose}
 use Rattle.cal_events.specs.declared.component.Purpose.TheVariants as purposes
 use Rattle.cal_events.specs.Events.{event_of}
 use Rattle.itip_messages.specs.declared.message.Method.{Method}
-use Rattle.itip_messages.specs.declared.message.Method.TheVariants.{Request, Cancel}
+use Rattle.itip_messages.specs.declared.message.Method.TheVariants.{Request, Add, Cancel}
 use Rattle.itip_messages.specs.declared.message.Message.{Message}
 
 -- what a method stands for
-abbrev pub method_said : Method → profile.Method
-method_said Request = profile.Request
-method_said Cancel = profile.Cancel
+abbrev pub method_said : Method → meetings.Method
+method_said Request = meetings.Request
+method_said Add = meetings.Add
+method_said Cancel = meetings.Cancel
 
 -- what its VEVENTs are read for
 abbrev pub purpose_of : Method → Purpose
 purpose_of Request = purposes.Request
+purpose_of Add = purposes.Add
 purpose_of Cancel = purposes.Cancel
 
 -- the octets are the event's content, in its one form
@@ -49,7 +52,7 @@ IsDated revisions.Whole = Unit {0}
 IsDated (revisions.At t) = IsClockSeconds t
 
 -- the component is what an event of such a message says, where the whole meeting in it has this revision
-pub record SaysComponent (method : profile.Method) (whole : Option revisions.Revision) (event : Event) (component : MessageComponent) : Type 0 where
+pub record SaysComponent (method : meetings.Method) (whole : Option revisions.Revision) (event : Event) (component : MessageComponent) : Type 0 where
   pub slot : slot_of component.slot ≡ profile.slot_of event
   pub dated : IsDated (profile.slot_of event)
   pub revision : revision_of component.revision ≡ raised_to whole (own_revision event)
@@ -105,9 +108,10 @@ cancels_for_all message component = is_cancel (method_said message.method) && (l
 abbrev pub is_for : List ℕ → Message → MessageComponent → Bool
 is_for room message component = component_names room component || cancels_for_all message component
 
--- where it is addressed to the room, the component is a part for it: each of a REQUEST, of a CANCEL one that addresses it
+-- where it is addressed to the room, the component is a part for it: of a CANCEL one that addresses it, of another message each
 abbrev pub is_part_of : Method → Bool → Bool
 is_part_of Request addresses = true
+is_part_of Add addresses = true
 is_part_of Cancel addresses = addresses
 
 abbrev pub has_part : List ℕ → Message → MessageComponent → Bool

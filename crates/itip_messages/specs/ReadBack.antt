@@ -1,4 +1,4 @@
--- What octets of a reply read back as, and which texts can stand in it.
+-- What octets of a reply or a refresh read back as, and which texts can stand in them.
 use Rattle.std.specs.Prelude.{◌≡◌, ℕ, ◌<◌, ◌^◌, not, ◌||◌, ◌==◌, true, false, List, [], ◌∷◌, ◌++◌, codes, Option, None, Some, ℤ}
 use Rattle.std.specs.List.{flat_map, list_all, AllZip}
 use Rattle.std.specs.Str.{IsUtf8}
@@ -6,7 +6,7 @@ use Rattle.profile.specs.text.Lines.{is_control, logical_lines, reads_as_lines}
 use Rattle.profile.specs.text.Objects.{IsObject}
 use Rattle.profile.specs.text.Trees.{Tree, tree_name, tree_own, tree_inside, vevents}
 use Rattle.profile.specs.text.Values.{IsAddress, lower_case}
-use Rattle.profile.specs.events.Events.{IsAttendee, Participation, Accepted, Declined}
+use Rattle.profile.specs.events.Events.{IsAttendee, Participation, NeedsAction, Accepted, Declined}
 use Rattle.profile.specs.events.Properties.{Says, IsUidLine, IsAddressLine, IsSequenceLine, IsStampLine, lines_named}
 use Rattle.profile.specs.checker.Instances.{Key}
 use Rattle.profile.specs.rooms.Revisions.{Part, Slot, Whole, At}
@@ -59,14 +59,14 @@ pub record IsAnswer (room : List ℕ) (lines : List (List ℕ)) : Type 0 where
 abbrev pub IsVevent : List (List ℕ) → List (List ℕ) → Type 0
 IsVevent own lines = lines ≡ codes "BEGIN:VEVENT" ∷ (own ++ codes "END:VEVENT" ∷ [])
 
--- the octets read as the lines of one VCALENDAR whose METHOD is REPLY, round these VEVENTs, each with its own lines
--- (RFC 5545 3.4, RFC 5546 3.2.3)
-pub record ReadsAsReply (octets : List ℕ) (events : List (List (List ℕ))) : Type 0 where
+-- the octets read as the lines of one VCALENDAR whose METHOD is this word, round these VEVENTs, each with its own lines
+-- (RFC 5545 3.4, RFC 5546 3.2.3, 3.2.6)
+pub record ReadsAs (word octets : List ℕ) (events : List (List (List ℕ))) : Type 0 where
   pub reads : reads_as_lines false octets ≡ true
-  pub lines : logical_lines octets ≡ object_lines (Some (codes "REPLY")) (flat_map (λ lines. lines) events)
+  pub lines : logical_lines octets ≡ object_lines (Some word) (flat_map (λ lines. lines) events)
   pub tree : Tree
   pub object : IsObject tree_name tree_own tree_inside false tree (logical_lines octets)
-  pub method : lines_named (codes "METHOD") (tree_own tree) ≡ codes "METHOD:REPLY" ∷ []
+  pub method : lines_named (codes "METHOD") (tree_own tree) ≡ (codes "METHOD:" ++ word) ∷ []
   pub each : AllZip IsVevent (vevents tree) events
 
 -- ---- what each VEVENT says
@@ -96,3 +96,10 @@ pub record SaysAnswer (room : List ℕ) (part : Part) (moment : ℤ) (outcome : 
   pub stamp : Says (codes "DTSTAMP") true IsStampLine own (Some moment)
   pub instance : Says (codes "RECURRENCE-ID") false IsStampLine own (instance_of part.slot)
   pub attendees : AllZip IsAttendee (lines_named (codes "ATTENDEE") own) (record { address = room; participation = participation_of outcome } ∷ [])
+
+-- the own lines of a VEVENT ask for a meeting: each property once, and the room as the one attendee (RFC 5546 3.2.6)
+pub record SaysRefresh (room organiser uid : List ℕ) (moment : ℤ) (own : List (List ℕ)) : Type 0 where
+  pub uid_line : Says (codes "UID") true IsUidLine own (Some uid)
+  pub organiser_line : Says (codes "ORGANIZER") true IsAddressLine own (Some organiser)
+  pub stamp : Says (codes "DTSTAMP") true IsStampLine own (Some moment)
+  pub attendees : AllZip IsAttendee (lines_named (codes "ATTENDEE") own) (record { address = room; participation = NeedsAction } ∷ [])

@@ -1,19 +1,19 @@
-//! What octets say as a message, and what a reply that was written reads back as.
-ghost use Rattle.std.specs.Prelude.{◌≡◌, ◌<◌, ◌^◌, ℕ, ℤ, List, Contains, Some, codes};
+//! What octets say as a message, and what a reply or a refresh that was written reads back as.
+ghost use Rattle.std.specs.Prelude.{◌≡◌, ◌<◌, ◌^◌, ◌∷◌, [], ℕ, ℤ, List, Contains, Some, codes};
 ghost use Rattle.std.specs.List.{flat_map};
-ghost use Rattle.profile.specs.rooms.Messages.{IsReplyEvent, Message, Outcome, SpellsMessage, object_lines};
+ghost use Rattle.profile.specs.rooms.Messages.{IsRefreshEvent, IsReplyEvent, Message, Outcome, SpellsMessage, object_lines};
 ghost use Rattle.profile.specs.rooms.Revisions.{Part};
 ghost use Rattle.profile.specs.text.Values.{IsUid};
 ghost use Rattle.profile.specs.text.Lines.{written};
 ghost use Rattle.profile.specs.streams.Streams.{ObjectFault};
-ghost use Rattle.itip_messages.specs.ReadBack.{IsTextAddress, IsReadAddress, IsAnswer, IsVevent, ReadsAsReply, SaysAnswer};
+ghost use Rattle.itip_messages.specs.ReadBack.{IsTextAddress, IsTextValue, IsReadAddress, IsAnswer, IsVevent, ReadsAs, SaysAnswer, SaysRefresh};
 
 use cal_events::one_event;
 use ical_tree::one_tree;
 
 /// Octets spell at most one message, and none where a fault stands in them. With the contract of `Message::read`: what
 /// is taken is the one message that the octets spell, and what is refused spells none (RFC 5545 3.4, RFC 5546 3.2.2,
-/// 3.2.5).
+/// 3.2.4, 3.2.5).
 pub fn one_message()
     ensures one { (octets : List ℕ) (a b : Message) → SpellsMessage octets a → SpellsMessage octets b → a ≡ b }
     ensures or_a_fault { (octets : List ℕ) (a : Message) (n : ℕ) → SpellsMessage octets a → ObjectFault n octets → ⊥ }
@@ -28,7 +28,7 @@ pub fn one_message()
 pub fn replies_read_back()
     ensures { (room : List ℕ) (events : List (List (List ℕ))) (octets : List ℕ)
         → IsTextAddress room → ((lines : List (List ℕ)) → Contains events lines → IsAnswer room lines)
-        → octets ≡ written (object_lines (Some (codes "REPLY")) (flat_map (λ lines. lines) events)) → ReadsAsReply octets events }
+        → octets ≡ written (object_lines (Some (codes "REPLY")) (flat_map (λ lines. lines) events)) → ReadsAs (codes "REPLY") octets events }
 {
     ical_lines::lines_read_back();
 }
@@ -41,3 +41,17 @@ pub fn answers_read_back()
         → IsReadAddress room → IsReadAddress part.organiser → IsUid part.uid → part.revision.sequence < 2 ^ 31
         → IsReplyEvent room part moment outcome lines → IsVevent own lines → SaysAnswer room part moment outcome own }
 {}
+
+/// Whatever a room asks for: the octets of its REFRESH read as lines, and these spell one VCALENDAR of METHOD REFRESH with one VEVENT, which
+/// says the UID and the organiser of the meeting, the moment as DTSTAMP, and the room as its one attendee (RFC 5545 3.4, RFC 5546
+/// 3.2.6). Owed is what is owed for a reply.
+pub fn refreshes_read_back()
+    ensures reads { (room organiser uid : List ℕ) (moment : ℤ) (lines : List (List ℕ)) (octets : List ℕ)
+        → IsTextAddress room → IsTextAddress organiser → IsTextValue uid → IsRefreshEvent room organiser uid moment lines
+        → octets ≡ written (object_lines (Some (codes "REFRESH")) lines) → ReadsAs (codes "REFRESH") octets (lines ∷ []) }
+    ensures says { (room organiser uid : List ℕ) (moment : ℤ) (lines own : List (List ℕ))
+        → IsReadAddress room → IsReadAddress organiser → IsUid uid
+        → IsRefreshEvent room organiser uid moment lines → IsVevent own lines → SaysRefresh room organiser uid moment own }
+{
+    ical_lines::lines_read_back();
+}

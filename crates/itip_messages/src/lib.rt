@@ -1,15 +1,17 @@
-//! iTIP messages: their parts, and replies (RFC 5546 3.2).
+//! iTIP messages: their parts, replies and refreshes (RFC 5546 3.2).
 #![tactic(auto)]
 
 mod attendees;
 pub mod law;
 pub mod message;
 mod parts;
+mod refresh;
 pub mod reply;
 pub mod writer;
 
 pub use attendees::Attendees;
-pub use law::{answers_read_back, one_message, replies_read_back};
+pub use law::{answers_read_back, one_message, refreshes_read_back, replies_read_back};
 pub use message::{Message, MessageComponent, Method};
+pub use refresh::{Refresh, write_refresh};
 pub use reply::{Conflict, ConflictKey, Decision, ReplyEvent, write_event, write_reply};
 pub use writer::ObjectWriter;

@@ -1,5 +1,5 @@
 //! A message, read: its method, its meeting, and what each VEVENT says (RFC 5546 1.4, 3.2).
-//! Only REQUEST and CANCEL are read so far. The VEVENTs are in the order of their slots: the whole meeting first, and then its instances.
+//! Only REQUEST, ADD and CANCEL are read so far. The VEVENTs are in the order of their slots: the whole meeting first, and then its instances.
 ghost use Rattle.std.specs.Prelude.{◌≡◌, ◌++◌, ◌||◌, ◌&&◌, ◌==◌, ◌<◌, [], List, Contains, Some, true, codes, length, map, option_map, IsTrue, IsSome, IfOk, IfErr, OnOk};
 ghost use Rattle.std.specs.List.{AllZip};
 ghost use Rattle.std.specs.List.Sorted.{IsPermutation, IsSortedByKey};
@@ -10,7 +10,7 @@ ghost use Rattle.ical_values.specs.Octets.{address_octets, text_octets};
 ghost use Rattle.profile.specs.faults.Faults.{is_message_fault};
 ghost use Rattle.profile.specs.text.Lines.{line_value, is_same_name};
 ghost use Rattle.profile.specs.text.Values.{duration_text};
-ghost use Rattle.profile.specs.rooms.Messages.{NamesMethod, MethodFault, MessageFault, cancels, method_word, is_cancel, is_unread_method, later_of, own_revision, raised_to};
+ghost use Rattle.profile.specs.rooms.Messages.{NamesMethod, MethodFault, MessageFault, cancels, method_word, is_add, is_cancel, is_unread_method, later_of, own_revision, raised_to};
 ghost use Rattle.profile.specs.rooms.Revisions.{slot_cmp};
 ghost use Rattle.cal_events.specs.Events.{event_of};
 ghost use Rattle.cal_events.specs.OneMeeting.{meeting_of};
@@ -31,6 +31,8 @@ use std::alloc::{AllocError, Global};
 pub enum Method {
     /// That an event take place (RFC 5546 3.2.2).
     Request,
+    /// That instances be added to one (RFC 5546 3.2.4).
+    Add,
     /// That it be cancelled (RFC 5546 3.2.5).
     Cancel,
 }
@@ -58,6 +60,9 @@ impl Method {
         if word.eq_ignore_ascii_case("REQUEST") {
             return Ok(Method::Request);
         }
+        if word.eq_ignore_ascii_case("ADD") {
+            return Ok(Method::Add);
+        }
         if word.eq_ignore_ascii_case("CANCEL") {
             return Ok(Method::Cancel);
         }
@@ -73,8 +78,16 @@ impl Method {
     {
         match self {
             Method::Request => Purpose::Request,
+            Method::Add => Purpose::Add,
             Method::Cancel => Purpose::Cancel,
         }
+    }
+
+    /// Whether it is ADD.
+    pub fn is_add(self) -> bool
+        ensures { result ≡ is_add (method_said self) }
+    {
+        matches!(self, Method::Add)
     }
 
     /// Whether it is CANCEL.
@@ -95,7 +108,7 @@ impl Method {
 /// What one VEVENT of a message says.
 #[derive(Drop)]
 pub struct MessageComponent {
-    /// The instance that RECURRENCE-ID names, else the whole meeting.
+    /// The instance that RECURRENCE-ID names, in an ADD that of its own start; else the whole meeting.
     pub slot: Slot,
     /// SEQUENCE and DTSTAMP, or those of the whole meeting in the message, if they are later.
     pub revision: Revision,
@@ -261,12 +274,10 @@ impl Message {
 fn is_unread_method(word: &str) -> bool
     ensures { result ≡ is_unread_method word.now }
 {
-    word.eq_ignore_ascii_case("ADD")
-        || word.eq_ignore_ascii_case("REPLY")
-        || word.eq_ignore_ascii_case("REFRESH")
+    word.eq_ignore_ascii_case("REPLY") || word.eq_ignore_ascii_case("REFRESH")
 }
 
-/// The slot of a VEVENT: the instance that RECURRENCE-ID names, else the whole meeting (RFC 5545 3.8.4.4).
+/// The slot of a VEVENT: the instance that it stands for, else the whole meeting (RFC 5545 3.8.4.4).
 fn slot_in(event: &EventComponent) -> Slot
     ensures { slot_of result ≡ event_slot event.now }
 {

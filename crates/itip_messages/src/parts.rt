@@ -1,5 +1,5 @@
-//! The parts of a message for one room: a part for each VEVENT of a REQUEST that names the room anywhere, and for each of a CANCEL
-//! that names it or nobody.
+//! The parts of a message for one room: a part for each VEVENT of a REQUEST or an ADD that names the room anywhere, and for each of a
+//! CANCEL that names it or nobody.
 ghost use Rattle.std.specs.Prelude.{◌≡◌, ◌++◌, map, filter, IfOk};
 ghost use Rattle.std.specs.List.{list_any};
 ghost use Rattle.ical_values.specs.Octets.{address_octets};
@@ -43,13 +43,13 @@ impl Message {
         Ok(parts)
     }
 
-    /// Whether a component is a part for a room, if the message is addressed to it: of a REQUEST each is; of a CANCEL one that
-    /// names it or nobody.
+    /// Whether a component is a part for a room, if the message is addressed to it: of a REQUEST or an ADD each is; of a CANCEL
+    /// one that names it or nobody.
     pub fn has_part(&self, component: &MessageComponent, room: &Address) -> bool
         ensures { result ≡ has_part (address_octets room.now) self.now component.now }
     {
         match self.method() {
-            Method::Request => true,
+            Method::Request | Method::Add => true,
             Method::Cancel => component.names(room) || component.names_nobody(),
         }
     }

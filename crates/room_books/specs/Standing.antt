@@ -11,7 +11,7 @@ use Rattle.profile.specs.text.Values.{IsClockSeconds}
 use Rattle.profile.specs.rooms.Revisions.{Part, Slot, Whole, At, Body, Set, Absent, Cancelled, in_view}
 use Rattle.profile.specs.rooms.Messages.{Outcome}
 use Rattle.profile.specs.rooms.Rooms.{Claim, Answer, Book, Kind, is_set, parts_of, asked, answered, confirmed, confirmed_in, most_singles, IsStep, kind_of}
-use Rattle.profile.specs.rooms.Kept.{Replies, first_parts}
+use Rattle.profile.specs.rooms.Kept.{Replies, Refreshes, first_parts}
 use Rattle.room_books.specs.declared.meeting.MeetingKey.{MeetingKey}
 use Rattle.room_books.specs.declared.meeting.Meeting.{Meeting}
 use Rattle.room_books.specs.declared.meeting.Single.{Single}
@@ -164,7 +164,9 @@ pub record StepsTo (entries : List (MeetingKey × Meeting)) (book : Book) (claim
   pub stands : Stands entries after
   pub kind_is : kind ≡ kind_of book.taken after.taken claims outcome
 
--- and a reply comes exactly where a part is shown: it shows the answers that the book after it has
-pub record StepsWith (room : List ℕ) (entries : List (MeetingKey × Meeting)) (book : Book) (claims : List Claim) (moment : ℤ) (kind : Kind) (reply : Option (List ℕ)) : Type 0 where
+-- and a reply comes exactly where a part is shown: it shows the answers that the book after it has. A refresh comes exactly where the message
+-- adds instances, and the whole is wanted
+pub record StepsWith (room : List ℕ) (entries : List (MeetingKey × Meeting)) (book : Book) (claims : List Claim) (moment : ℤ) (kind : Kind) (reply : Option (List ℕ)) (adds : Bool) (refresh : Option (List ℕ)) : Type 0 where
   pub steps : StepsTo entries book claims moment kind
   pub replies : Replies room steps.after claims reply
+  pub refreshes : Refreshes room adds book.taken steps.after.taken claims moment refresh

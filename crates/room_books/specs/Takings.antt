@@ -45,6 +45,10 @@ octets_in octets = option_map (λ octets. octets.items) octets
 abbrev pub reply_octets : Answer → Option (List ℕ)
 reply_octets answer = octets_in answer.reply
 
+-- and as its refresh
+abbrev pub refresh_octets : Answer → Option (List ℕ)
+refresh_octets answer = octets_in answer.refresh
+
 -- ---- what a message asks for
 
 -- the lines of a body

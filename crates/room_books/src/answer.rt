@@ -38,18 +38,19 @@ pub struct Answer {
     pub kind: Kind,
     /// The REPLY, None where there is nothing to reply.
     pub reply: Option<Vec<u8>>,
-    /// The REFRESH that asks for a meeting, None where the room has it; no message asks for one yet.
+    /// The REFRESH that asks for a meeting (RFC 5546 3.2.6); None unless an ADD brought something new of one of which nothing of the whole was
+    /// ever taken.
     pub refresh: Option<Vec<u8>>,
 }
 
 impl Answer {
-    ghost use Rattle.room_books.specs.Takings.{reply_octets};
+    ghost use Rattle.room_books.specs.Takings.{refresh_octets, reply_octets};
 
     /// An answer that sends nothing.
     pub fn silent(kind: Kind) -> Answer
         ensures kind { result.kind ≡ kind }
         ensures reply { reply_octets result ≡ None }
-        ensures refresh { result.refresh ≡ None }
+        ensures refresh { refresh_octets result ≡ None }
     {
         Answer {
             kind,

@@ -6,6 +6,7 @@ mod claims;
 mod decide;
 mod laws;
 pub mod meeting;
+mod refresh;
 mod reply;
 pub mod room;
 mod slots;

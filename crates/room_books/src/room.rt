@@ -1,7 +1,7 @@
 //! A room takes messages one after another. A message is taken whole or not at all: everything is computed
 //! beside the room, and put into it by the last step.
 
-ghost use Rattle.std.specs.Prelude.{◌≡◌, None, ◌<◌, ◌≤◌, ◌++◌, Some, List, [], length, IfOk, OnOk, OnErr, IsTrue};
+ghost use Rattle.std.specs.Prelude.{◌≡◌, ◌<◌, ◌≤◌, ◌++◌, Some, List, [], length, IfOk, OnOk, OnErr, IsTrue};
 ghost use Rattle.std.specs.List.{IsDistinct};
 ghost use Rattle.std.specs.Map.{lookup};
 ghost use Rattle.indexmap.specs.IndexMap.{keys, insert_entry, IsUnchanged, Updates};
@@ -16,13 +16,14 @@ ghost use Rattle.profile.specs.rooms.Kept.{kept_certificate, IsKeptCalendar};
 ghost use Rattle.room_books.specs.Instants.{AreSeparate, IsPartOf};
 ghost use Rattle.room_books.specs.Views.{same_key, all_confirmed, all_singles, confirmed_at, confirmed_singles, singles_by, others, AreAllApart, IsKeyOf, MayJoin};
 ghost use Rattle.room_books.specs.Timelines.{IsTimelineOf};
-ghost use Rattle.room_books.specs.Takings.{claims_said, kind_view, reply_octets, IsDecision, IsAnswered, IsKindOf};
+ghost use Rattle.room_books.specs.Takings.{claims_said, kind_view, refresh_octets, reply_octets, IsDecision, IsAnswered, IsKindOf};
 ghost use Rattle.room_books.specs.Standing.{Stands, StepsWith, AreFitting, IsMeetingAfter};
 
 use crate::answer::{Answer, Kind};
 use crate::claims::claims_of;
 use crate::decide::{Meetings, decide, keys_differ};
 use crate::meeting::{Given, Meeting, MeetingKey, Outcome, Single, singles_of};
+use crate::refresh::refresh_to;
 use crate::reply::reply_to;
 use crate::taking::{self, Views, candidates, decided, held_after};
 use crate::texts::{calendar_of, certificate_octets};
@@ -109,22 +110,23 @@ impl Room {
         &self.meetings
     }
 
-    /// Takes a message at a moment, and answers it. Where memory is refused nothing has changed.
-    /// So far a message has one part for a room, of the whole of its meeting, or isn't addressed to it.
+    /// Takes a message at a moment, and answers it: with a reply where one of its parts is to take place and is in the view; and with a
+    /// refresh where an ADD brought something new of a meeting of which nothing of the whole was ever taken (RFC 5546 3.2.6).
+    /// Where memory is refused nothing has changed.
     pub fn take(&mut self, message: &Message, now: Stamp) -> Result<Answer, AllocError>
         // From each book that the room stands for it makes a step of the room machine, with the claims of the message.
         ensures steps { IfOk result (λ answer. (said : profile.Message) → StandsFor message.now said → (book : Book) → Stands self.old.meetings.entries book
             → (claims : List Claim) × AreClaims (address_octets self.old.address) said claims
-            × StepsWith (address_octets self.old.address) self.new.meetings.entries book claims now (kind_view answer.kind) (reply_octets answer)) }
+            × StepsWith (address_octets self.old.address) self.new.meetings.entries book claims now (kind_view answer.kind) (reply_octets answer) (profile.is_add said.method) (refresh_octets answer)) }
         ensures address { self.new.address ≡ self.old.address }
-        ensures refresh { IfOk result (λ answer. answer.refresh ≡ None) }
         ensures err { OnErr result (IsUnchanged self.old.meetings self.new.meetings) }
     {
         let claims = claims_of(self.alloc, message, &self.address)?;
         let Some(first) = claims.first() else {
             return Ok(Answer::silent(Kind::NotAddressed));
         };
-        let answer = self.take_claims(&first.part, &claims, now)?;
+        let adds = message.method().is_add();
+        let answer = self.take_claims(&first.part, &claims, adds, now)?;
         Ok(answer)
     }
 
@@ -145,21 +147,21 @@ impl Room {
         Ok(octets)
     }
 
-    /// Takes the claims of a message, of one meeting; the part is the first one's.
+    /// Takes the claims of a message, of one meeting, that adds instances or doesn't; the part is the first one's.
     // Apart from `take`, which pays for all its locals also where a message isn't addressed to the room.
     #[inline(never)]
     fn take_claims(
         &mut self,
         first: &Part,
         claims: &[taking::Claim],
+        adds: bool,
         now: Stamp,
     ) -> Result<Answer, AllocError>
         requires some { 0 < length claims.now }
         ensures steps { IfOk result (λ answer. ((key : MeetingKey) → IsKeyOf (part_of first.now).organiser (part_of first.now).uid key → AreFitting key (claims_said claims.now))
             → (book : Book) → Stands self.old.meetings.entries book
-            → StepsWith (address_octets self.old.address) self.new.meetings.entries book (claims_said claims.now) now (kind_view answer.kind) (reply_octets answer)) }
+            → StepsWith (address_octets self.old.address) self.new.meetings.entries book (claims_said claims.now) now (kind_view answer.kind) (reply_octets answer) adds (refresh_octets answer)) }
         ensures address { self.new.address ≡ self.old.address }
-        ensures refresh { IfOk result (λ answer. answer.refresh ≡ None) }
         ensures err { OnErr result (IsUnchanged self.old.meetings self.new.meetings) }
     {
         keys_differ(&self.meetings);
@@ -167,12 +169,37 @@ impl Room {
         let before = self.singles_before(&key)?;
         let taken = self.meeting_after(&key, first, claims, &before, now)?;
         let reply = reply_to(self.alloc, &self.address, claims, &taken.meeting)?;
+        let refresh = self.refresh_of(&key, first, claims, adds, &taken.meeting.held, now)?;
         self.put(key, taken.meeting, &before)?;
         Ok(Answer {
             kind: taken.kind,
             reply,
-            refresh: None,
+            refresh,
         })
+    }
+
+    /// The REFRESH that asks for a meeting at a moment, where a message with these claims adds instances or doesn't, and this is held after
+    /// it; None where the whole isn't wanted. The part is the first claim's.
+    fn refresh_of(
+        &self,
+        key: &MeetingKey,
+        first: &Part,
+        claims: &[taking::Claim],
+        adds: bool,
+        held: &Held,
+        moment: Stamp,
+    ) -> Result<Option<Vec<u8>>, AllocError>
+    {
+        keys_differ(&self.meetings);
+        let views = Views {
+            before: self.meetings.get(key),
+            after: held,
+        };
+        if !(adds && views.wants_whole(first, claims)) {
+            return Ok(None);
+        }
+        let octets = refresh_to(self.alloc, &self.address, first, moment)?;
+        Ok(Some(octets))
     }
 
     /// What a meeting has confirmed; nothing where it was never heard of.

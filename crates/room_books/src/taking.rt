@@ -161,6 +161,14 @@ impl<'a> Views<'a> {
         false
     }
 
+    /// Whether something of the claims' meeting is new, and nothing of the whole was ever taken. The part is one of the meeting.
+    ///
+    /// The greatest part of the whole is always in the view, whatever it says.
+    pub fn wants_whole(&self, part: &Part, claims: &[Claim]) -> bool
+    {
+        self.any_fresh(claims) && self.after.part_in(part, Slot::Whole).is_none()
+    }
+
     /// The answers to parts that stay in the view, each with the instances that it still confirms. The part is one of the meeting.
     pub fn kept(&self, alloc: Global, part: &Part) -> Result<Vec<Given>, AllocError>
         ensures kept { IfOk result (λ kept. KeepsAll (part_of part.now) (option_copied self.now.before) self.now.after.now kept.items) }

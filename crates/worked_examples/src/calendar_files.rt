@@ -1,7 +1,9 @@
 //! What is answered about an object as a calendar.
 
 use crate::certificates::verdict_text;
-use cal_events::{Calendar, Instances, ParticipationStatus, Purpose, Series, read_events};
+use cal_events::{
+    Calendar, EventComponent, Instances, MeetingComponents, ParticipationStatus, Purpose, Series,
+};
 use clash_check::check;
 use example_cases::NoAnswer;
 use example_cases::answers::append;
@@ -77,11 +79,21 @@ fn add_next(
     Ok(true)
 }
 
-pub fn answered(alloc: Global, octets: &[u8], room: &Address) -> Result<String, NoAnswer> {
+/// What the VEVENTs of a meeting say, the master first.
+fn events_of(
+    alloc: Global,
+    octets: &[u8],
+    purpose: Purpose,
+) -> Result<Vec<EventComponent>, NoAnswer> {
     let text = Unfolded::read(alloc, octets, Limits::Open)?;
     let object = read_object(alloc, &text, Limits::Open)?;
+    let meeting = MeetingComponents::read(alloc, &object, purpose)?;
+    Ok(meeting.into_events(alloc)?)
+}
+
+pub fn answered(alloc: Global, octets: &[u8], room: &Address) -> Result<String, NoAnswer> {
     let mut list = String::new(alloc);
-    for event in &read_events(alloc, &object, Purpose::Request)? {
+    for event in &events_of(alloc, octets, Purpose::Request)? {
         let word = status_word(event.status_of(room));
         let item = format!(in alloc; "ends {} {word}", event.end())?;
         append(&mut list, ", ", item.as_str())?;
@@ -99,10 +111,8 @@ fn status_word(status: Option<ParticipationStatus>) -> &'static str {
 }
 
 pub fn times(alloc: Global, octets: &[u8]) -> Result<String, NoAnswer> {
-    let text = Unfolded::read(alloc, octets, Limits::Open)?;
-    let object = read_object(alloc, &text, Limits::Open)?;
     let mut list = String::new(alloc);
-    for event in &read_events(alloc, &object, Purpose::Meeting)? {
+    for event in &events_of(alloc, octets, Purpose::Meeting)? {
         let times = event.times;
         let item = format!(in alloc; "from {} for {}", times.instant.instant(), times.seconds())?;
         append(&mut list, ", ", item.as_str())?;
@@ -111,10 +121,8 @@ pub fn times(alloc: Global, octets: &[u8]) -> Result<String, NoAnswer> {
 }
 
 pub fn ends(alloc: Global, octets: &[u8]) -> Result<String, NoAnswer> {
-    let text = Unfolded::read(alloc, octets, Limits::Open)?;
-    let object = read_object(alloc, &text, Limits::Open)?;
     let mut list = String::new(alloc);
-    for event in &read_events(alloc, &object, Purpose::Meeting)? {
+    for event in &events_of(alloc, octets, Purpose::Meeting)? {
         let item = event.end().to_string(alloc)?;
         append(&mut list, ", ", item.as_str())?;
     }

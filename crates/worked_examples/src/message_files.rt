@@ -15,6 +15,7 @@ pub fn message(alloc: Global, octets: &[u8]) -> Result<String, NoAnswer> {
     let message = Message::read(alloc, octets)?;
     let method = match message.method() {
         Method::Request => "request",
+        Method::Add => "add",
         Method::Cancel => "cancel",
     };
     let organiser = message.organiser().as_str();

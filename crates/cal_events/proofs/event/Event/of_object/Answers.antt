@@ -1,5 +1,5 @@
 use Rattle.std.proofs.Common.{◌≡◌, sym, subst, ap, true, false, inl, inr, Bool, List, map, ℕ}
-use Rattle.std.specs.Prelude.{option_map}
+use Rattle.std.specs.Prelude.{option_map, None}
 use Rattle.std.specs.Option.{option_to_list}
 use Rattle.std.specs.List.{list_any}
 use Rattle.ical_lines.specs.Fault.{RefusesBy}
@@ -21,8 +21,8 @@ use Rattle.cal_events.proofs.event.Event.of_object.Goals as goal
 pub returns-in_err-components-clause-stands : goal.returns-in_err-components-clause-stands
 returns-in_err-components-clause-stands c =
     let object = tree_of c.args.object.now in
-    err_exit _ (RefusesBy (MeetingFault object false)) _ c.from_residual.ensures.1
-    (weaker_fault _ (IsUnreadOrNoMeeting object Meeting) (MeetingFault object false) (all_read object) c.in_err-components.ensures.stands)
+    err_exit _ (RefusesBy (MeetingFault object None)) _ c.from_residual.ensures.1
+    (weaker_fault _ (IsUnreadOrNoMeeting object Meeting) (MeetingFault object None) (all_read object) c.in_err-components.ensures.stands)
 
 pub into_event-requires-clause-clock : goal.into_event-requires-clause-clock
 into_event-requires-clause-clock c =
@@ -44,4 +44,4 @@ returns-clause-says c =
     let components = c.in_ok-components.components in
     let event = c.in_ok-into_event.field-0 in
     let is : meeting_of components ≡ said_meeting event = λ i. record { master = option_map event_of (sym same.0 i); overrides = map event_of (sym same.1 i) } in
-    subst (SaysMeeting (tree_of c.args.object.now) false) is c.in_ok-components.ensures.says
+    subst (SaysMeeting (tree_of c.args.object.now) None) is c.in_ok-components.ensures.says

@@ -1,4 +1,5 @@
 use Rattle.std.proofs.Common.{true, false, subst, List, ℕ}
+use Rattle.std.specs.Prelude.{None}
 use Rattle.std.proofs.lemmas.Result.{IfErr-weaker}
 use Rattle.ical_lines.specs.Fault.{RefusesBy}
 use Rattle.ical_tree.specs.Tree.{IsObjectOf, tree_of}
@@ -23,5 +24,5 @@ returns-clause-spells c =
 pub returns-clause-stands : goal.returns-clause-stands
 returns-clause-stands c =
     let object = subst (λ (ls : List (List ℕ)). IsObjectOf true c.in_ok-object.object ls) c.in_ok-text.ensures.lines c.in_ok-object.ensures.spelled in
-    IfErr-weaker _ (RefusesBy (MeetingFault (tree_of c.in_ok-object.object) false)) (RefusesBy (MeetingTextFault c.args.bytes.now))
+    IfErr-weaker _ (RefusesBy (MeetingFault (tree_of c.in_ok-object.object) None)) (RefusesBy (MeetingTextFault c.args.bytes.now))
     (fault_there c.args.bytes.now c.in_ok-object.object object) c.of_object.ensures.stands
