@@ -78,7 +78,7 @@ no_need : {A : Type 0} → false ≡ true → A
 no_need h = absurd (true≢false (sym h))
 
 -- the lines of a calendar's VEVENT say this event, in whatever object they stand
-say : (object : Tree) → SaysEvent object false lines said
+say : (object : Tree) → SaysEvent object None lines said
 unfolding lines said unescaped
 say object = record {
   uid = record { line = Some (codes "uid:a"); once = refl; stands = λ _. refl; is = (refl, (omega arith, omega arith)) };

@@ -71,6 +71,25 @@ spelled_by : (line : Option (List ℕ)) (text : RuleText) → BothOrNeither IsRu
 spelled_by None text h = absurd h
 spelled_by (Some x) text h = (x, refl, h)
 
+-- where a start may be missing RRULE isn't read
+pub rule_needs_start : (purpose : Purpose) (lines : List (List ℕ)) → has_unread_for purpose lines ≡ false → may_lack_start (method_read purpose) ≡ true → IsMissing (codes "RRULE") lines
+rule_needs_start Request lines h m = absurd (true≢false (sym m))
+rule_needs_start Add lines h m = absurd (true≢false (sym m))
+rule_needs_start Meeting lines h m = absurd (true≢false (sym m))
+rule_needs_start Cancel lines h m = none lines h
+  where
+    none : (ls : List (List ℕ)) → list_any (is_of (codes "RRULE")) ls ≡ false → lines_named (codes "RRULE") ls ≡ []
+    none [] h = refl
+    none (l ∷ ls) h =
+        let both = or_parts (is_of (codes "RRULE") l) (list_any (is_of (codes "RRULE")) ls) h in
+        ap (λ b. cond b (l ∷ lines_named (codes "RRULE") ls) (lines_named (codes "RRULE") ls)) both.0 ∙ none ls both.1
+
+-- a rule that stands isn't missing
+pub rule_there : (lines : List (List ℕ)) (said : Option RuleText) (text : RuleText) → said ≡ Some text → Says (codes "RRULE") false IsRuleText lines said → IsMissing (codes "RRULE") lines → ⊥
+rule_there lines said text e s missing =
+    let l = spelled_by s.line text (subst (λ (o : Option RuleText). BothOrNeither IsRuleText s.line o) e s.is) in
+    let k : 0 ≡ 1 = sym (ap length missing) ∙ ap length (s.once ∙ ap option_to_list l.1) in absurd (omega (arith, k))
+
 pub outside_stands : (object : Tree) (lines : List (List ℕ)) (times : EventTimes) (said : Option RuleText) (text : RuleText) (n : ℕ) → said ≡ Some text
     → Says (codes "RRULE") false IsRuleText lines said → SaysEventTimes object lines times → (n ≡ 34) × IsOutside (clock_of times.zone) times.local text
     → EventRuleFault object lines n

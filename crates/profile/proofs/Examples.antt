@@ -12,9 +12,9 @@ use Rattle.profile.specs.events.Events.{Method, Request, Add, Cancel, may_lack_s
 use Rattle.profile.specs.events.Properties.{lines_named}
 use Rattle.profile.specs.rooms.Revisions.{Part, Whole, At, Set, Absent, Cancelled, same_meeting}
 use Rattle.profile.specs.events.Meetings.{taken_by}
-use Rattle.profile.specs.rooms.Messages.{Accept, SinglesLimit, Message, MethodFault, no_method, has_unread, list_lines, is_in_dates, cancels, is_addressed, parts_for, revision_beside, IsBody, object_lines, word}
+use Rattle.profile.specs.rooms.Messages.{Accept, SinglesLimit, Message, MethodFault, no_method, has_unread, no_content, list_lines, is_in_dates, cancels, is_addressed, parts_for, revision_beside, IsBody, object_lines, word}
 use Rattle.profile.specs.rooms.Rooms.{Answer, Book, Claim, empty_book, is_confirmed, wants_whole}
-use Rattle.profile.specs.rooms.Kept.{IsKept, kept_certificate, first_parts, before_zone, zone_of, zones_in, renamed}
+use Rattle.profile.specs.rooms.Kept.{IsKept, kept_certificate, first_parts, each_once, renamed}
 use Rattle.profile.specs.streams.Streams.{Now, Room, moments, rooms, refused_line, AreObjects}
 
 -- ---- lists of refusals
@@ -150,7 +150,7 @@ of_both method = record { method = method; meeting = record { master = Some whol
 a_room_of_one_instance_has_both : parts_for (codes "r:1") (of_both Request) ≡ whole ∷ instance ∷ []
 a_room_of_one_instance_has_both = refl
 
-the_whole_is_absent_for_it : IsBody (codes "r:1") Request whole [] Absent
+the_whole_is_absent_for_it : IsBody (codes "r:1") Request whole no_content Absent
 the_whole_is_absent_for_it = (refl, refl, refl)
 
 -- of a CANCEL those alone that name it, or nobody
@@ -199,28 +199,13 @@ nor_year_10000 = refl
 
 -- ---- the zones of a kept calendar
 
-abbrev zone_text : List (List ℕ)
-zone_text = codes "BEGIN:VTIMEZONE" ∷ codes "TZID:Z" ∷ codes "BEGIN:STANDARD" ∷ codes "END:STANDARD" ∷ codes "END:VTIMEZONE" ∷ []
-
-abbrev other_zone : List (List ℕ)
-other_zone = codes "BEGIN:VTIMEZONE" ∷ codes "TZID:Z" ∷ codes "END:VTIMEZONE" ∷ []
-
-abbrev zoned_content : List (List ℕ)
-zoned_content = codes "DTSTART;TZID=Z:20250310T090000" ∷ codes "DURATION:PT1H" ∷ zone_text
-
-what_stands_before : before_zone zoned_content ≡ codes "DTSTART;TZID=Z:20250310T090000" ∷ codes "DURATION:PT1H" ∷ []
-what_stands_before = refl
-
-the_zone_itself : zone_of zoned_content ≡ zone_text
-the_zone_itself = refl
-
 a_start_gets_its_name : renamed (codes "DTSTART;TZID=Z") (codes "DTSTART;TZID=" ++ codes "Z2") (codes "DTSTART;TZID=Z:20250310T090000") ≡ codes "DTSTART;TZID=Z2:20250310T090000"
 a_start_gets_its_name = refl
 
 a_start_in_utc_has_none : renamed (codes "DTSTART;TZID=Z") (codes "DTSTART;TZID=" ++ codes "Z2") (codes "DTSTART:20250310T090000Z") ≡ codes "DTSTART:20250310T090000Z"
 a_start_in_utc_has_none = refl
 
-each_zone_once : zones_in ([] ∷ zone_text ∷ other_zone ∷ zone_text ∷ []) ≡ zone_text ∷ other_zone ∷ []
+each_zone_once : each_once (codes "a" ∷ codes "b" ∷ codes "a" ∷ codes "c" ∷ codes "b" ∷ []) ≡ codes "a" ∷ codes "b" ∷ codes "c" ∷ []
 each_zone_once = refl
 
 -- ---- what a room writes
@@ -245,7 +230,7 @@ part_of uid sequence = record {
 }
 
 abbrev claim_of : List ℕ → ℕ → Claim
-claim_of uid sequence = record { part = part_of uid sequence; content = codes "DTSTART:19700101T000000Z" ∷ codes "DURATION:PT1S" ∷ []; singles = record { key = record { organiser = codes "o:1"; uid = uid; slot = pos 0 }; start = pos 0; end = pos 1 } ∷ [] }
+claim_of uid sequence = record { part = part_of uid sequence; content = record { lines = codes "DTSTART:19700101T000000Z" ∷ codes "DURATION:PT1S" ∷ []; zone = None }; singles = record { key = record { organiser = codes "o:1"; uid = uid; slot = pos 0 }; start = pos 0; end = pos 1 } ∷ [] }
 
 -- b came first and was declined; a was accepted
 abbrev two_meetings : Book

@@ -162,29 +162,29 @@ pub record SaysEventTimes (object : Tree) (lines : List (List ℕ)) (times : Eve
 
 -- ---- the times of a VEVENT that says no start
 
--- times of nothing
-abbrev pub no_times : EventTimes
-no_times = record { zone = None; local = pos 0; start = pos 0; length = record { days = 0; seconds = 0 } }
+-- DTEND, which is read by itself and gives no length, or DURATION, or neither
+abbrev pub LastsAlone : Tree → Option (List ℕ) → Option (List ℕ) → Length → Type 0
+LastsAlone object None None length = length ≡ record { days = 0; seconds = 0 }
+LastsAlone object (Some line) None length = (length ≡ record { days = 0; seconds = 0 }) × ((end : ℤ) × SaysInDates object line end)
+LastsAlone object None (Some line) length = LastsFor line length
+LastsAlone object (Some line) (Some other) length = ⊥
 
--- DTEND, or DURATION, or neither, each read by itself
-abbrev pub LastsAlone : Tree → Option (List ℕ) → Option (List ℕ) → Type 0
-LastsAlone object None None = Unit {0}
-LastsAlone object (Some line) None = (end : ℤ) × SaysInDates object line end
-LastsAlone object None (Some line) = (length : Length) × LastsFor line length × (length_seconds length ≤ longest)
-LastsAlone object (Some line) (Some other) = ⊥
-
-pub record SaysNoStart (object : Tree) (lines : List (List ℕ)) : Type 0 where
+-- its start is 1970-01-01T00:00:00Z, which nothing looks at
+pub record SaysNoStart (object : Tree) (lines : List (List ℕ)) (times : EventTimes) : Type 0 where
   pub missing : IsMissing (codes "DTSTART") lines
   pub end_line : Option (List ℕ)
   pub duration_line : Option (List ℕ)
   pub end_once : StandsAtMostOnce (codes "DTEND") lines end_line
   pub duration_once : StandsAtMostOnce (codes "DURATION") lines duration_line
-  pub lasts : LastsAlone object end_line duration_line
+  pub lasts : LastsAlone object end_line duration_line times.length
+  pub most : length_seconds times.length ≤ longest
+  pub zone : times.zone ≡ None
+  pub local : times.local ≡ pos 0
+  pub start : times.start ≡ pos 0
 
--- the lines say these times; where a start may be missing, and is, those of nothing
+-- the lines say these times, where DTSTART may be missing or not
 abbrev pub SaysTimes : Bool → Tree → List (List ℕ) → EventTimes → Type 0
-SaysTimes may_lack object lines times =
-    SaysEventTimes object lines times ⊎ ((may_lack ≡ true) × SaysNoStart object lines × (times ≡ no_times))
+SaysTimes may_lack object lines times = SaysEventTimes object lines times ⊎ ((may_lack ≡ true) × SaysNoStart object lines times)
 
 -- ---- what can be wrong with the times of a VEVENT
 

@@ -1,5 +1,6 @@
 -- What a room writes, as octets: its replies and refreshes, its kept calendar and the certificate for it.
 use Rattle.std.specs.Prelude.{◌≡◌, ◌≢◌, ℕ, ℤ, Bool, true, false, not, ◌==◌, ◌↔◌, IsTrue, List, [], ◌∷◌, ◌++◌, length, map, filter, take, drop, if◌then◌else◌, ◌+◌, ◌<◌, ◌^◌, codes, decimal, Contains, AllPairs, Option, Some, None}
+use Rattle.std.specs.Option.{option_to_list}
 use Rattle.std.specs.List.{flat_map, AllZip, slice_get}
 use Rattle.std.specs.Str.{bytes_eq}
 use Rattle.profile.specs.text.Lines.{written}
@@ -7,7 +8,7 @@ use Rattle.profile.specs.text.Values.{WritesStamp, escaped}
 use Rattle.profile.specs.checker.Certificates.{text_of}
 use Rattle.profile.specs.rooms.Revisions.{Part, Slot, At, in_view, is_whole, same_meeting, slot_cmp}
 use Rattle.std.specs.declared.cmp.Ordering.TheVariants.{Less}
-use Rattle.profile.specs.rooms.Messages.{IsReplyEvent, IsRefreshEvent, TellsSlot, canonical, object_lines}
+use Rattle.profile.specs.rooms.Messages.{IsReplyEvent, IsRefreshEvent, TellsSlot, zone_text, object_lines, opening_lines}
 use Rattle.profile.specs.rooms.Rooms.{Claim, Answer, Book, confirmed, is_confirmed, shown, wants_whole, answers_part}
 
 -- ---- replies
@@ -113,50 +114,32 @@ pub record IsEventOf (room : List ℕ) (part : Part) (content : List (List ℕ))
 abbrev pub renamed : List ℕ → List ℕ → List ℕ → List ℕ
 renamed old new line = if bytes_eq (take (length old) line) old then new ++ drop (length old) line else line
 
--- a zone's lines begin here
-abbrev pub begins_zone : List ℕ → Bool
-begins_zone line = bytes_eq line (codes "BEGIN:VTIMEZONE")
-
--- the lines of a content before those of its zone, and those
-abbrev pub before_zone : List (List ℕ) → List (List ℕ)
-before_zone [] = []
-before_zone (line ∷ lines) = if begins_zone line then [] else line ∷ before_zone lines
-
-abbrev pub zone_of : List (List ℕ) → List (List ℕ)
-zone_of [] = []
-zone_of (line ∷ lines) = if begins_zone line then line ∷ lines else zone_of lines
-
--- the zone that an entry needs; none where it has no lines
+-- the zone that an entry needs
 abbrev pub zone_kept : Entry → List (List ℕ)
-zone_kept (Shown claim) = zone_of claim.content
+zone_kept (Shown claim) = option_to_list claim.content.zone
 zone_kept (Hidden part) = []
 
--- both are the same lines
-abbrev pub are_same_lines : List (List ℕ) → List (List ℕ) → Bool
-are_same_lines a b = bytes_eq (canonical a) (canonical b)
+-- these, each once, in order of first use
+abbrev pub each_once : List (List ℕ) → List (List ℕ)
+each_once [] = []
+each_once (zone ∷ zones) = zone ∷ filter (λ other. not (bytes_eq zone other)) (each_once zones)
 
--- the zones among these, each once, in order of first use
-abbrev pub zones_in : List (List (List ℕ)) → List (List (List ℕ))
-zones_in [] = []
-zones_in ([] ∷ others) = zones_in others
-zones_in ((line ∷ lines) ∷ others) = (line ∷ lines) ∷ filter (λ other. not (are_same_lines (line ∷ lines) other)) (zones_in others)
-
-abbrev pub zones_kept : List Entry → List (List (List ℕ))
-zones_kept entries = zones_in (map zone_kept entries)
+abbrev pub zones_kept : List Entry → List (List ℕ)
+zones_kept entries = each_once (flat_map zone_kept entries)
 
 -- the name of the zone at a place, counted from 0: Z1, Z2, ..
 abbrev pub zone_name : ℕ → List ℕ
 zone_name place = codes "Z" ++ decimal (place + 1)
 
--- the lines of zones, each under the name of its place; the places begin here
-abbrev pub zone_lines : ℕ → List (List (List ℕ)) → List (List ℕ)
-zone_lines place [] = []
-zone_lines place (zone ∷ zones) = map (renamed (codes "TZID:Z") (codes "TZID:" ++ zone_name place)) zone ++ zone_lines (place + 1) zones
+-- the octets of zones, each under the name of its place; the places begin here
+abbrev pub zone_texts : ℕ → List (List ℕ) → List ℕ
+zone_texts place [] = []
+zone_texts place (zone ∷ zones) = zone_text (zone_name place) zone ++ zone_texts (place + 1) zones
 
 -- the zone of a content has this name among these; without a zone no name counts
-abbrev pub IsNamed : List (List (List ℕ)) → List (List ℕ) → List ℕ → Type 0
-IsNamed zones [] name = Unit {0}
-IsNamed zones (line ∷ lines) name = (place : ℕ) × (slice_get zones place ≡ Some (line ∷ lines)) × (name ≡ zone_name place)
+abbrev pub IsNamed : List (List ℕ) → Option (List ℕ) → List ℕ → Type 0
+IsNamed zones None name = Unit {0}
+IsNamed zones (Some zone) name = (place : ℕ) × (slice_get zones place ≡ Some zone) × (name ≡ zone_name place)
 
 -- ---- its VEVENTs
 
@@ -169,10 +152,10 @@ pub record HidesSlot (slot : Slot) (content : List (List ℕ)) : Type 0 where
   pub is : content ≡ (codes "DTSTART:" ++ text) ∷ codes "DURATION:PT0S" ∷ codes "STATUS:CANCELLED" ∷ []
 
 -- the VEVENT of an entry, where these are the zones of the calendar
-abbrev pub IsKeptEvent : List ℕ → List (List (List ℕ)) → Entry → List (List ℕ) → Type 0
+abbrev pub IsKeptEvent : List ℕ → List (List ℕ) → Entry → List (List ℕ) → Type 0
 IsKeptEvent room zones (Shown claim) lines =
-    (name : List ℕ) × IsNamed zones (zone_of claim.content) name
-    × IsEventOf room claim.part (map (renamed (codes "DTSTART;TZID=Z") (codes "DTSTART;TZID=" ++ name)) (before_zone claim.content)) (codes "ACCEPTED") lines
+    (name : List ℕ) × IsNamed zones claim.content.zone name
+    × IsEventOf room claim.part (map (renamed (codes "DTSTART;TZID=Z") (codes "DTSTART;TZID=" ++ name)) claim.content.lines) (codes "ACCEPTED") lines
 IsKeptEvent room zones (Hidden part) lines = (content : List (List ℕ)) × HidesSlot part.slot content × IsEventOf room part content (codes "DECLINED") lines
 
 -- the octets are the room's kept calendar: its zones, and then its VEVENTs. Numbers below 2 ^ 64 name the zones
@@ -182,7 +165,7 @@ pub record IsKeptCalendar (room : List ℕ) (book : Book) (octets : List ℕ) : 
   pub few : length (zones_kept entries) < 2 ^ 64
   pub events : List (List (List ℕ))
   pub each : AllZip (IsKeptEvent room (zones_kept entries)) entries events
-  pub is : octets ≡ written (object_lines None (zone_lines 0 (zones_kept entries) ++ flat_map (λ lines. lines) events))
+  pub is : octets ≡ written (opening_lines None) ++ zone_texts 0 (zones_kept entries) ++ written (flat_map (λ lines. lines) events ++ codes "END:VCALENDAR" ∷ [])
 
 -- the certificate for it: its count of singles
 abbrev pub kept_certificate : Book → List ℕ

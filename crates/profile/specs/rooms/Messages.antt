@@ -4,15 +4,15 @@ use Rattle.std.specs.List.{flat_map, list_any, AllZip}
 use Rattle.std.specs.Int.Signed.{lt_z}
 use Rattle.std.specs.Str.{bytes_eq}
 use Rattle.std.specs.Char.{is_ascii_alphabetic, is_ascii_digit}
-use Rattle.profile.specs.text.Lines.{line_value, is_same_name, logical_lines, reads_as_lines}
+use Rattle.profile.specs.text.Lines.{line_value, is_same_name, logical_lines, reads_as_lines, written}
 use Rattle.profile.specs.text.Objects.{IsObject}
 use Rattle.profile.specs.text.Trees.{Tree, tree_name, tree_own, tree_inside, vevents}
 use Rattle.profile.specs.text.Values.{WritesStamp, WritesLocal, duration_text, escaped}
 use Rattle.profile.specs.events.Events.{Method, Request, Add, Cancel, Event}
-use Rattle.profile.specs.events.Properties.{first_second, is_of, SomeLine, StandsTwice, IsMissing, lines_named}
+use Rattle.profile.specs.events.Properties.{first_second, is_of, SomeLine, StandsTwice, IsMissing, BothOrNeither, lines_named}
 use Rattle.profile.specs.events.ZonedTimes.{EventTimes}
 use Rattle.profile.specs.series.Zones.{Zone}
-use Rattle.profile.specs.written.WrittenZones.{WritesZone}
+use Rattle.profile.specs.written.WrittenZones.{WritesParts}
 use Rattle.profile.specs.checker.Instances.{Key, horizon}
 use Rattle.std.specs.declared.cmp.Ordering.TheVariants.{Less}
 use Rattle.std.specs.Ordering.{is_lt}
@@ -97,11 +97,6 @@ abbrev pub StartsIn : Option Zone → EventTimes → List ℕ → Type 0
 StartsIn None times line = (text : List ℕ) × WritesStamp text times.start × (line ≡ codes "DTSTART:" ++ text)
 StartsIn (Some zone) times line = (text : List ℕ) × WritesLocal text times.local × (line ≡ codes "DTSTART;TZID=Z:" ++ text)
 
--- the VTIMEZONE of that name, where there is a zone
-abbrev pub WritesZoneOf : Option Zone → List (List ℕ) → Type 0
-WritesZoneOf None lines = lines ≡ []
-WritesZoneOf (Some zone) lines = WritesZone lines (codes "Z") zone
-
 -- these instants ascending, each once
 pub record AreAscending (instants ascending : List ℤ) : Type 0 where
   pub exact : (instant : ℤ) → Contains ascending instant ↔ Contains instants instant
@@ -124,22 +119,39 @@ pub record WritesTimes (name : List ℕ) (instants : List ℤ) (lines : List (Li
 abbrev pub is_in_dates : ℤ → Bool
 is_in_dates instant = lt_z instant horizon && not (lt_z instant first_second)
 
--- the lines of a VEVENT that say when its event is, in their one form, unfolded and without line ends: DTSTART, DURATION, RDATE and EXDATE, and
--- then the VTIMEZONE. Of what EXDATE names that counts which lies where a start may
-pub record IsContent (content : List (List ℕ)) (event : Event) : Type 0 where
+-- what says when an event is, in its one form: the lines of its VEVENT, unfolded and without line ends, where a zone is named `Z`; and the octets
+-- of the VTIMEZONE behind its TZID, where there is a zone
+pub record Content : Type 0 where
+  pub lines : List (List ℕ)
+  pub zone : Option (List ℕ)
+
+-- that of what isn't to take place
+abbrev pub no_content : Content
+no_content = record { lines = []; zone = None }
+
+-- the octets of a zone's VTIMEZONE behind its TZID
+abbrev pub IsZoneRest : Zone → List ℕ → Type 0
+IsZoneRest zone rest = (parts : List (List ℕ)) × WritesParts parts zone × (rest ≡ written (parts ++ codes "END:VTIMEZONE" ∷ []))
+
+-- the VTIMEZONE with these behind its TZID, under a name that needs no escapes
+abbrev pub zone_text : List ℕ → List ℕ → List ℕ
+zone_text name rest = written (codes "BEGIN:VTIMEZONE" ∷ (codes "TZID:" ++ name) ∷ []) ++ rest
+
+-- the content of an event: DTSTART, DURATION, RDATE and EXDATE, and its zone. Of what EXDATE names that counts which lies where a start may
+pub record IsContent (content : Content) (event : Event) : Type 0 where
   pub start : List ℕ
   pub starts : StartsIn event.times.zone event.times start
   pub additions : List (List ℕ)
   pub adds : WritesTimes (codes "RDATE") event.additions additions
   pub exceptions : List (List ℕ)
   pub takes : WritesTimes (codes "EXDATE") (filter is_in_dates event.exceptions) exceptions
-  pub zone : List (List ℕ)
-  pub in_zone : WritesZoneOf event.times.zone zone
-  pub is : content ≡ start ∷ (codes "DURATION:" ++ duration_text event.times.length.days event.times.length.seconds) ∷ (additions ++ exceptions ++ zone)
+  pub are : content.lines ≡ start ∷ (codes "DURATION:" ++ duration_text event.times.length.days event.times.length.seconds) ∷ (additions ++ exceptions)
+  pub in_zone : BothOrNeither IsZoneRest event.times.zone content.zone
 
--- those lines, each ended by CRLF: two bodies are one where these octets are equal, so a day and 24 hours are two; this profile's choice
-abbrev pub canonical : List (List ℕ) → List ℕ
-canonical content = flat_map (λ line. line ++ codes "\r\n") content
+-- the octets of a content: its lines, each ended by CRLF, and then its zone as it is written, no line of which is long enough to be folded.
+-- Two bodies are one where these octets are equal, so a day and 24 hours are two; this profile's choice
+abbrev pub canonical : Content → List ℕ
+canonical content = flat_map (λ line. line ++ codes "\r\n") content.lines ++ unwrap_or (option_map (zone_text (codes "Z")) content.zone) []
 
 -- an ATTENDEE line of the event has the room's address
 abbrev pub names_room : List ℕ → Event → Bool
@@ -200,16 +212,16 @@ raised_to (Some whole) own = later_of own whole
 abbrev pub revision_beside : Option Event → Event → Revision
 revision_beside whole event = raised_to (option_map own_revision whole) (own_revision event)
 
--- what an event of such a message makes of its slot for a room: it cancels it, or sets it to these lines, which say when it is, or is not
+-- what an event of such a message makes of its slot for a room: it cancels it, or sets it to this content, which says when it is, or is not
 -- for this room
-abbrev pub IsBody : List ℕ → Method → Event → List (List ℕ) → Body → Type 0
+abbrev pub IsBody : List ℕ → Method → Event → Content → Body → Type 0
 IsBody room method event content (Set octets) =
     (cancels method event ≡ false) × (names_room room event ≡ true) × IsContent content event × (octets ≡ canonical content)
-IsBody room method event content Absent = (cancels method event ≡ false) × (names_room room event ≡ false) × (content ≡ [])
-IsBody room method event content Cancelled = (cancels method event ≡ true) × (content ≡ [])
+IsBody room method event content Absent = (cancels method event ≡ false) × (names_room room event ≡ false) × (content ≡ no_content)
+IsBody room method event content Cancelled = (cancels method event ≡ true) × (content ≡ no_content)
 
 -- the part that an event of a message is for a room, with this content
-pub record IsPart (room : List ℕ) (message : Message) (event : Event) (content : List (List ℕ)) (part : Part) : Type 0 where
+pub record IsPart (room : List ℕ) (message : Message) (event : Event) (content : Content) (part : Part) : Type 0 where
   pub organiser : event.organiser ≡ Some part.organiser
   pub uid : part.uid ≡ event.uid
   pub slot : part.slot ≡ slot_of event
@@ -225,7 +237,7 @@ pub record AreBySlot (events ordered : List Event) : Type 0 where
 pub record AreParts (room : List ℕ) (message : Message) (parts : List Part) : Type 0 where
   pub events : List Event
   pub are : AreBySlot (parts_for room message) events
-  pub each : AllZip (λ event part. (content : List (List ℕ)) × IsPart room message event content part) events parts
+  pub each : AllZip (λ event part. (content : Content) × IsPart room message event content part) events parts
 
 -- ---- replies and refreshes
 

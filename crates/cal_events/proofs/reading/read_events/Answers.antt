@@ -30,7 +30,7 @@ returns-in_err-read_event-clause-stands c =
 pub loop-component-preserved : goal.loop-component-preserved
 loop-component-preserved c =
     let object = tree_of c.args.object.now in
-    let m = is_message c.args.purpose in
+    let m = method_read c.args.purpose in
     let all = component_children c.args.object.now in
     let i = c.loop-component.component-index in
     let x = c.component-item.result in

@@ -10,4 +10,4 @@ use Rattle.cal_events.proofs.reading.read_events.Given as goal
 abbrev pub invariant-loop-component : goal.invariant-loop-component
 invariant-loop-component l =
     let so_far = events_in (take l.component-index (component_children l.object)) in
-    AllZip (SaysEvent (tree_of l.object) (is_message l.purpose)) so_far (map event_of l.events.items) × (list_any (has_unread_for l.purpose) so_far ≡ false)
+    AllZip (SaysEvent (tree_of l.object) (method_read l.purpose)) so_far (map event_of l.events.items) × (list_any (has_unread_for l.purpose) so_far ≡ false)

@@ -23,7 +23,7 @@ returns-clause-refuses c =
     let object = object_of c.args.zones.now in
     let purpose = c.args.purpose in
     let lines = c.args.properties.now in
-    IfErr-weaker _ (RefusesBy (EventFault object (is_message purpose) lines)) (RefusesOnly (is_fault_for purpose))
+    IfErr-weaker _ (RefusesBy (EventFault object (method_read purpose) lines)) (RefusesOnly (is_fault_for purpose))
     (refused_for object purpose lines) c.read_values.ensures.stands
 
 pub returns-clause-stands : goal.returns-clause-stands
@@ -31,5 +31,5 @@ returns-clause-stands c =
     let object = object_of c.args.zones.now in
     let purpose = c.args.purpose in
     let lines = c.args.properties.now in
-    IfErr-weaker _ (RefusesBy (EventFault object (is_message purpose) lines)) (RefusesBy (IsUnreadOrFault object purpose lines))
-    (λ f h. weaker_fault f (EventFault object (is_message purpose) lines) (IsUnreadOrFault object purpose lines) (λ n x. inr x) h) c.read_values.ensures.stands
+    IfErr-weaker _ (RefusesBy (EventFault object (method_read purpose) lines)) (RefusesBy (IsUnreadOrFault object purpose lines))
+    (λ f h. weaker_fault f (EventFault object (method_read purpose) lines) (IsUnreadOrFault object purpose lines) (λ n x. inr x) h) c.read_values.ensures.stands
