@@ -1,4 +1,5 @@
 -- The clocks of an event's zone: what they show means one instant, and later ones later instants.
+use Rattle.cal_events.proofs.Meanings.{one_meaning}
 use Rattle.std.proofs.Common.{◌≡◌, ◌∙◌, ℕ, ◌≤◌, false, List, [], ◌∷◌, codes, sym, ap, subst, filter, inl, inr, ◌⊎◌, arith, ℤ, pos, negsuc, ◌+ℤ◌, ◌-ℤ◌, ◌<ℤ◌, ◌≤ℤ◌, unsigned_abs}
 use Rattle.std.specs.Prelude.{Option, Some, None, All, option_map}
 use Rattle.std.specs.Option.{option_to_list}
@@ -90,8 +91,8 @@ clock_good object lines event s = elim s.times [
   | inr (_, t) ↦ subst (λ (z : Option Zone). IsOneMeaning (clock_of z) × IsAscending (clock_of z)) (sym t.zone) (one_meaning (Constant (pos 0)) tt, ascends (Constant (pos 0)) tt)
 ]
 
-pub all_clocks : (object : Tree) {m : Option Method} (vs : List Lines) (es : List Event) → AllZip (SaysEvent object m) vs es → All HasGoodClock es
-all_clocks object {m} vs es z = All-from_recursion HasGoodClock es (go vs es z)
+pub all_clocks : (object : Tree) (m : Option Method) (vs : List Lines) (es : List Event) → AllZip (SaysEvent object m) vs es → All HasGoodClock es
+all_clocks object m vs es z = All-from_recursion HasGoodClock es (go vs es z)
   where
     go : (vs : List Lines) (es : List Event) → AllZip (SaysEvent object m) vs es → AllByRecursion HasGoodClock es
     go [] [] z = tt

@@ -22,8 +22,8 @@ use Rattle.ical_tree.proofs.TreeOfLemmas.{object_tree}
 use Rattle.ical_values.proofs.Exits.{err_exit}
 use Rattle.profile.specs.text.Lines.{logical_lines, reads_as_lines}
 use Rattle.profile.specs.text.Trees.{Tree, vevents}
-use Rattle.profile.specs.events.Events.{Event, SaysEvent, meeting_said}
-use Rattle.profile.specs.events.Meetings.{Method, Meeting, taken_by, is_same_meeting, is_master, is_override, is_meeting_fault, AreOfOne, InstancesDiffer, SaysMeeting, SpellsMeeting, MeetingFault, in_event, two_masters, two_overrides, no_event, two_meetings, MeetingTextFault, in_lines, in_tree, no_version, many_events, in_vevents}
+use Rattle.profile.specs.events.Events.{Event, SaysEvent, meeting_said, Method}
+use Rattle.profile.specs.events.Meetings.{Meeting, taken_by, is_same_meeting, is_master, is_override, is_meeting_fault, AreOfOne, InstancesDiffer, SaysMeeting, SpellsMeeting, MeetingFault, in_event, two_masters, two_overrides, no_event, two_meetings, MeetingTextFault, in_lines, in_tree, no_version, many_events, in_vevents}
 use Rattle.cal_events.proofs.ReadingLemmas.{never, unread_among}
 use Rattle.cal_events.specs.OneMeeting.{IsUnreadOrNoMeeting}
 use Rattle.cal_events.specs.declared.component.Purpose.{Purpose}

@@ -16,11 +16,11 @@ use Rattle.profile.specs.events.Properties.{TimeKind, DateTime, Date, Period, Ot
 use Rattle.profile.specs.events.ZonedTimes.{is_in_zone, zone_named, DateOrMalformed, LocalFault, NamedFault, FaultIn, ZonedTimeFault, EventTimesFault, bad_start, bad_end, bad_duration, ends_early, ends_late, lasts_long, starts_out, ends_out, no_start, twice as times_twice, end_and_duration}
 use Rattle.profile.specs.series.RuleTexts.{RuleFault, unknown, bad_value, no_frequency, two_frequencies, twice as rule_twice, apart, two_ends}
 use Rattle.profile.specs.events.EventRules.{EventRuleFault, bad_rule, starts_outside, two_rules}
-use Rattle.profile.specs.events.Occurrences.{recurs_beside_recurrence, Entry, EntryFault, entries_of, entries_named, EntriesFault, in_entry, too_many, OccurrenceFault, bad_recurrence, bad_additions, bad_exceptions, recurrence_out, additions_out, two_recurrences, ranged, recurs}
+use Rattle.profile.specs.events.Occurrences.{recurs_as_instance, Entry, EntryFault, entries_of, entries_named, EntriesFault, in_entry, too_many, OccurrenceFault, bad_recurrence, bad_additions, bad_exceptions, recurrence_out, additions_out, two_recurrences, ranged, recurs}
 use Rattle.cal_events.specs.declared.component.Purpose.{Purpose}
 use Rattle.cal_events.specs.declared.component.Purpose.TheVariants.{Request, Add, Cancel, Meeting}
-use Rattle.cal_events.specs.Events.{is_message, has_unread_for, is_fault_for, is_unread_fault}
-use Rattle.profile.specs.events.Events.{EventFault, in_times, in_rule, in_occurrences, bad_stamp, bad_uid, bad_organiser, bad_attendee, bad_sequence, no_uid, no_stamp_given, twice, no_organiser}
+use Rattle.cal_events.specs.Events.{is_message, has_unread_for, is_fault_for, is_unread_fault, method_read}
+use Rattle.profile.specs.events.Events.{EventFault, in_times, in_rule, in_occurrences, bad_stamp, bad_uid, bad_organiser, bad_attendee, bad_sequence, no_uid, no_stamp_given, twice, no_organiser, Method}
 
 abbrev Lines : Type 0
 Lines = List (List ℕ)
@@ -99,9 +99,9 @@ times_number object lines n (no_start _ h) = refl
 times_number object lines n (times_twice name c h) = refl
 times_number object lines n (end_and_duration e d) = refl
 
-pub times_refused : {may : Bool} (object : Tree) (lines : Lines) (f : Fault) → RefusesBy (EventTimesFault may object lines) f → RefusesOnly is_zoned_event_fault f
-times_refused object lines Memory h = tt
-times_refused object lines (Refused r) h = times_number object lines r.number h
+pub times_refused : (may : Bool) (object : Tree) (lines : Lines) (f : Fault) → RefusesBy (EventTimesFault may object lines) f → RefusesOnly is_zoned_event_fault f
+times_refused may object lines Memory h = tt
+times_refused may object lines (Refused r) h = times_number object lines r.number h
 
 -- ---- a series
 

@@ -1,9 +1,9 @@
 -- The VEVENTs of an object say at most one calendar for a room, and none where a fault stands in them.
-use Rattle.std.proofs.Common.{◌≡◌, ◌∙◌, ℕ, Bool, false, List, filter, subst, sym, ap, inl, inr, arith}
+use Rattle.std.proofs.Common.{◌≡◌, ◌∙◌, ℕ, Bool, false, List, filter, subst, sym, ap, inl, inr, arith, Option, None}
 use Rattle.std.specs.List.{AllZip, flat_map}
 use Rattle.profile.specs.text.Trees.{Tree, vevents}
 use Rattle.profile.specs.checker.Instances.{Booked}
-use Rattle.profile.specs.events.Events.{Event, SaysEvent, EventFault}
+use Rattle.profile.specs.events.Events.{Event, SaysEvent, EventFault, Method}
 use Rattle.profile.specs.events.Confirmed.{Confirmed, IsSingle, AreSingles, IsSeries, is_series, MastersDiffer, OverridesDiffer}
 use Rattle.profile.specs.checker.Calendars.{SaysCalendar, CalendarFault, in_event, two_masters, two_overrides}
 use Rattle.std.proofs.lemmas.Int.{ints}

@@ -14,8 +14,8 @@ use Rattle.ical_tree.proofs.OneLine.{IsFunctional}
 use Rattle.cal_events.proofs.Said.{same_said, said_by}
 use Rattle.cal_events.proofs.Zips.{zip_one, zip_at}
 use Rattle.cal_events.proofs.OneOccurrences.{one_status, one_occurrences, no_occurrence_fault}
-use Rattle.cal_events.proofs.OneEventRule.{OneRule, NoRuleFault, one_event_rule, no_rule_fault}
-use Rattle.cal_events.proofs.OneTimes.{Lines, OneZonedTime, NoTimeFault, OneDuration, NotBoth, IsLone, at_most_one, one_times, no_times_fault}
+use Rattle.cal_events.proofs.OneEventRule.{OneRule, NoRuleFault, one_event_rule, no_rule_fault_by}
+use Rattle.cal_events.proofs.OneTimes.{Lines, OneZonedTime, NoTimeFault, OneDuration, NotBoth, IsLone, at_most_one, one_times_by, no_times_fault_by}
 
 abbrev OneStamp : Type 0
 OneStamp = (text : List ℕ) (a b : ℤ) → SpellsStamp text a → SpellsStamp text b → a ≡ b

@@ -1,5 +1,5 @@
 -- The instances of an event that octets spell: one at each place, in the dates that an event may name. None ends before it starts.
-use Rattle.std.proofs.Common.{◌≡◌, ◌∙◌, ℕ, zero, suc, ◌*◌, ◌<◌, ◌≤◌, true, false, ◌&&◌, nat_le, List, [], ◌∷◌, codes, map, filter, get_or, length, sym, ap, subst, refl, inl, inr, ◌⊎◌, arith, ℤ, pos, ◌+ℤ◌, ◌-ℤ◌, ◌≤ℤ◌, unsigned_abs}
+use Rattle.std.proofs.Common.{◌≡◌, ◌∙◌, ℕ, zero, suc, ◌*◌, ◌<◌, ◌≤◌, true, false, ◌&&◌, nat_le, List, [], ◌∷◌, codes, map, filter, get_or, length, sym, ap, subst, refl, inl, inr, ◌⊎◌, arith, ℤ, pos, ◌+ℤ◌, ◌-ℤ◌, ◌≤ℤ◌, unsigned_abs, Bool}
 use Rattle.std.specs.Prelude.{Option, Some, None, All, Contains}
 use Rattle.std.specs.Option.{option_to_list}
 use Rattle.std.specs.List.{AllZip, AllByRecursion}
@@ -112,8 +112,8 @@ event_sound object lines event s =
       names = λ slot e. recurrence_named object s.occurrences.is.line event.recurrence slot s.occurrences.is.is e;
     }
 
-pub all_sound : (object : Tree) {m : Option Method} (vs : List Lines) (es : List Event) → AllZip (SaysEvent object m) vs es → All IsSound es
-all_sound object {m} vs es z = All-from_recursion IsSound es (go vs es z)
+pub all_sound : (object : Tree) (m : Option Method) (vs : List Lines) (es : List Event) → AllZip (SaysEvent object m) vs es → All IsSound es
+all_sound object m vs es z = All-from_recursion IsSound es (go vs es z)
   where
     go : (vs : List Lines) (es : List Event) → AllZip (SaysEvent object m) vs es → AllByRecursion IsSound es
     go [] [] z = tt
@@ -185,7 +185,7 @@ booked_same a b p q r = λ i. record { key = p i; start = q i; end = r i }
 
 module _ (object : Tree) (meeting : Meeting) (s : SaysMeeting object None meeting) where
   sound : All IsSound s.events
-  sound = all_sound object (vevents object) s.events s.says
+  sound = all_sound object None (vevents object) s.events s.says
 
   master_sound : (m : Event) → meeting.master ≡ Some m → IsSound m
   master_sound m is =

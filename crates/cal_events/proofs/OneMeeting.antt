@@ -8,8 +8,8 @@ use Rattle.ical_lines.proofs.ContentLemmas.{read_fine}
 use Rattle.ical_tree.proofs.OneLine.{same_option}
 use Rattle.profile.specs.text.Lines.{logical_lines}
 use Rattle.profile.specs.text.Trees.{Tree, vevents}
-use Rattle.profile.specs.events.Events.{Event, SaysEvent}
-use Rattle.profile.specs.events.Meetings.{Method, Meeting, taken_by, is_master, is_override, AreOfOne, InstancesDiffer, SaysMeeting, SpellsMeeting, MeetingFault, in_event, two_masters, two_overrides, two_meetings, no_event, MeetingTextFault, in_lines, in_tree, no_version, many_events, in_vevents}
+use Rattle.profile.specs.events.Events.{Event, SaysEvent, Method}
+use Rattle.profile.specs.events.Meetings.{Meeting, taken_by, is_master, is_override, AreOfOne, InstancesDiffer, SaysMeeting, SpellsMeeting, MeetingFault, in_event, two_masters, two_overrides, two_meetings, no_event, MeetingTextFault, in_lines, in_tree, no_version, many_events, in_vevents}
 use Rattle.cal_events.proofs.OneCalendar.{OneEvent, NoFault}
 use Rattle.cal_events.proofs.OneText.{OneTree, PairsUp}
 use Rattle.cal_events.proofs.ObjectFaults.{has_version_only, has_few_events}

@@ -1,7 +1,13 @@
 -- The rule that a text gives from the start of an event on.
-use Rattle.std.proofs.Common.{◌≡◌, ℕ, true, false, List, codes, sym, ap, refl, subst, inr, ℤ, pos, arith, ◌∙◌}
+use Rattle.std.specs.Option.{option_to_list}
+use Rattle.std.specs.List.{list_any}
+use Rattle.profile.specs.events.Events.{may_lack_start}
+use Rattle.cal_events.specs.Events.{has_unread_for, method_read}
+use Rattle.cal_events.specs.declared.component.Purpose.TheVariants.{Request, Add, Cancel, Meeting}
+use Rattle.cal_events.specs.declared.component.Purpose.{Purpose}
+use Rattle.std.proofs.Common.{◌≡◌, ℕ, true, false, List, codes, sym, ap, refl, subst, inr, ℤ, pos, arith, ◌∙◌, cond, length, true≢false, [], ◌∷◌}
 use Rattle.std.specs.Prelude.{Option, Some, None, Result, Ok, Err, IfOk, IfErr, IfSome, IsSome, MatchOption, ◌↔◌}
-use Rattle.std.proofs.lemmas.Bool.{false≢true}
+use Rattle.std.proofs.lemmas.Bool.{false≢true, or_parts}
 use Rattle.ical_lines.specs.Fault.{RefusesBy}
 use Rattle.ical_lines.specs.declared.fault.Fault.{Fault}
 use Rattle.ical_lines.specs.declared.fault.Fault.TheVariants.{Refused}
@@ -11,7 +17,7 @@ use Rattle.profile.specs.text.Trees.{Tree}
 use Rattle.profile.specs.series.Rules.{Parts, RuleText, Until, UntilLocal, UntilInstant, rule_of, is_rule_day}
 use Rattle.profile.specs.series.RuleTexts.{SpellsRule}
 use Rattle.profile.specs.series.Zones.{Zone, Means, NoneFrom, IsLastDay}
-use Rattle.profile.specs.events.Properties.{StandsAtMostOnce, Says, BothOrNeither}
+use Rattle.profile.specs.events.Properties.{StandsAtMostOnce, Says, BothOrNeither, IsMissing, is_of, lines_named}
 use Rattle.profile.specs.events.ZonedTimes.{clock_of, EventTimes, SaysEventTimes}
 use Rattle.profile.specs.events.EventRules.{IsLastAllowed, AllowsNone, IsOnDay, GivesRule, IsOutside, StartsOutside, EventRuleFault, starts_outside}
 use Rattle.cal_events.specs.Zoned.{IsRuleText}

@@ -160,7 +160,7 @@ module _ (object : Tree) (lines : Lines) (said : SaidTimes) (a : AreSaidAlone ob
     where
       too_long : (d : Duration) (line : Option (List ℕ)) → StandsAtMostOnce (codes "DURATION") lines line → LastsGiven line (length_of d) → (x : Extent) → x ≡ For d → ExtentFault x n → EventTimesFault may object lines n
       too_long d line once given (ToEnd s) is f = cc
-      too_long d line once given (For o) is (is_long o l) = long_given object lines (pos 0) o line once (subst (λ (x : Duration). LastsGiven line (length_of x)) (sym (same_For o d is)) given) l
+      too_long d line once given (For o) is (is_long x l) = long_given object lines (pos 0) o line once (subst (λ (x : Duration). LastsGiven line (length_of x)) (sym (same_For o d is)) given) l
         where
           of_extent : Extent → Duration
           of_extent (ToEnd s) = d
@@ -171,7 +171,7 @@ module _ (object : Tree) (lines : Lines) (said : SaidTimes) (a : AreSaidAlone ob
 
       no_fault : (x : Extent) → x ≡ For (record { days = 0; seconds = 0 }) → ExtentFault x n → EventTimesFault may object lines n
       no_fault (ToEnd s) is f = cc
-      no_fault (For o) is (is_long o l) = absurd (omega (arith, ap length_of (of_extent_is is), l))
+      no_fault (For o) is (is_long d l) = let none : length_seconds (length_of o) ≡ 0 = ap (λ x. length_seconds (length_of x)) (of_extent_is is) in absurd (omega (arith, none, l))
         where
           of_extent : Extent → Duration
           of_extent (ToEnd s) = o
@@ -192,11 +192,11 @@ module _ (object : Tree) (lines : Lines) (said : SaidTimes) (a : AreSaidAlone ob
 pub duration_fault : {may : Bool} (object : Tree) (lines : Lines) (line text : List ℕ) (n : ℕ) → StandsAtMostOnce (codes "DURATION") lines (Some line) → text ≡ line_value line
     → (n ≡ 12) ⊎ (n ≡ 51) → (n ≡ 12 → IsNone text) → (n ≡ 12 → SpellsNegative text → ⊥) → (n ≡ 51 → SpellsNegative text ⊎ SpellsLong text)
     → EventTimesFault may object lines n
-duration_fault object lines line text n once e (inl k) none positive long =
+duration_fault {may} object lines line text n once e (inl k) none positive long =
     let none' = subst IsNone e (none k) in
     let no' = subst (λ (t : List ℕ). SpellsNegative t → ⊥) e (positive k) in
     subst (EventTimesFault may object lines) (sym k) (bad_duration (some_line (codes "DURATION") IsNoDuration lines line once (none', no')))
-duration_fault object lines line text n once e (inr k) none positive long =
+duration_fault {may} object lines line text n once e (inr k) none positive long =
     let long' = subst (λ (t : List ℕ). SpellsNegative t ⊎ SpellsLong t) e (long k) in
     subst (EventTimesFault may object lines) (sym k)
     (lasts_long (some_line (codes "DURATION") IsNegativeOrLong lines line once (elim long' [ inl h ↦ inl h | inr h ↦ long_length line h ])))

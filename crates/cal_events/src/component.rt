@@ -1,6 +1,6 @@
 //! One VEVENT, read: its values, judged one property after another in a fixed order, and then
 //! together (RFC 5545 3.6.1).
-ghost use Rattle.std.specs.Prelude.{ℕ, List, [], unwrap_or, ◌≡◌, ◌⊎◌, ◌↔◌, Bool, Some, map, codes, pos, ◌+ℤ◌, option_map, true, false, IfOk, IfErr, OnOk, IsTrue};
+ghost use Rattle.std.specs.Prelude.{ℕ, List, [], unwrap_or, ◌≡◌, ◌⊎◌, ◌↔◌, Bool, Some, map, codes, pos, ◌+ℤ◌, option_map, true, false, IfOk, IfErr, OnOk, IsTrue, Option};
 ghost use Rattle.std.specs.List.{AllZip};
 ghost use Rattle.ical_lines.specs.Fault.{RefusesOnly, RefusesBy};
 ghost use Rattle.ical_lines.specs.Text.{line_text};

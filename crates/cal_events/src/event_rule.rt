@@ -1,6 +1,7 @@
 //! The rule of a VEVENT (RFC 5545 3.3.10, 3.8.5.3): first the text of its RRULE, then the rule that it gives from the event's start on.
 
-ghost use Rattle.std.specs.Prelude.{◌≡◌, ◌<◌, ℕ, List, IfOk, IfErr, MatchOption, Some, option_map};
+ghost use Rattle.profile.specs.events.Properties.{IsMissing};
+ghost use Rattle.std.specs.Prelude.{◌≡◌, ◌<◌, ℕ, List, IfOk, IfErr, MatchOption, Some, option_map, Bool, codes, true};
 ghost use Rattle.ical_lines.specs.Fault.{RefusesBy};
 ghost use Rattle.cal_rules.specs.Views.{until_of};
 ghost use Rattle.cal_zones.specs.Kinds.{zone_of};

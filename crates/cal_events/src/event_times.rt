@@ -167,7 +167,7 @@ impl SaidTimes {
         properties: &Properties<'_>,
     ) -> Result<SaidTimes, Refusal>
         requires zones { AreRead zones.now }
-        requires once { StandsAtMostOnce (codes "DTSTART") properties.now (Some (line_text line.entry)) }
+        requires once { StandsAtMostOnce (codes "DTSTART") properties.now (Some (line_text line)) }
         ensures said { IfOk result (AreSaid (object_of zones.now) properties.now) }
         ensures stands { (may_lack : Bool) → IfErr result (λ e. EventTimesFault may_lack (object_of zones.now) properties.now e.number) }
     {

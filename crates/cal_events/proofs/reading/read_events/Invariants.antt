@@ -2,7 +2,7 @@ use Rattle.std.proofs.Common.{◌≡◌, false, take, map}
 use Rattle.std.specs.List.{list_any, AllZip}
 use Rattle.ical_tree.specs.Tree.{component_children, tree_of}
 use Rattle.profile.specs.events.Events.{SaysEvent}
-use Rattle.cal_events.specs.Events.{event_of, is_message, has_unread_for}
+use Rattle.cal_events.specs.Events.{event_of, is_message, has_unread_for, method_read}
 use Rattle.cal_events.proofs.ReadingLemmas.{events_in}
 use Rattle.cal_events.proofs.reading.read_events.Given as goal
 

@@ -1,4 +1,4 @@
-use Rattle.std.proofs.Common.{◌≡◌, ◌∙◌, ◌<◌, ◌≤◌, ◌++◌, ◌∷◌, [], false, List, length, get_or, take, sym, ap, subst}
+use Rattle.std.proofs.Common.{◌≡◌, ◌∙◌, ◌<◌, ◌≤◌, ◌++◌, ◌∷◌, [], false, List, length, get_or, take, sym, ap, subst, None}
 use Rattle.std.specs.List.{AllZip}
 use Rattle.std.proofs.lemmas.List.{take_all}
 use Rattle.ical_lines.specs.Fault.{RefusesBy}

@@ -1,4 +1,4 @@
-use Rattle.std.proofs.Common.{false, take, List}
+use Rattle.std.proofs.Common.{false, take, List, None}
 use Rattle.std.specs.List.{AllZip}
 use Rattle.ical_tree.specs.Tree.{component_children, tree_of}
 use Rattle.ical_values.specs.Octets.{address_octets}

@@ -2,7 +2,7 @@ use Rattle.std.proofs.Common.{inl, inr}
 use Rattle.std.proofs.lemmas.Result.{IfErr-weaker}
 use Rattle.ical_lines.specs.Fault.{RefusesOnly, RefusesBy}
 use Rattle.profile.specs.events.Events.{EventFault}
-use Rattle.cal_events.specs.Events.{is_message, is_fault_for, IsUnreadOrFault}
+use Rattle.cal_events.specs.Events.{is_message, is_fault_for, IsUnreadOrFault, method_read}
 use Rattle.cal_events.proofs.NumberLemmas.{unread_for, refused_for}
 use Rattle.cal_events.specs.Zones.{object_of}
 use Rattle.cal_events.proofs.ZonedLemmas.{weaker_fault}

@@ -15,7 +15,7 @@ pub returns-in_err-start-clause-stands : goal.returns-in_err-start-clause-stands
 returns-in_err-start-clause-stands c may =
     let object = object_of c.args.zones.now in
     let lines = c.args.properties.now in
-    let line = line_text c.args.line.entry in
+    let line = line_text c.args.line in
     let P = EventTimesFault may object lines in
     refusal_exit _ P _ c.from_residual.ensures.1
     (bad_start (some_line (codes "DTSTART") (λ l. ZonedTimeFault object l _) lines line c.requires.once c.in_err-start.ensures.stands))
@@ -29,7 +29,7 @@ returns-clause-said c =
     let start = c.in_ok-start.start in
     let same : to_z w64 (of_z w64 c.instant-instant.result) ≡ c.instant-instant.result = omega (arith, ints, c.instant-instant.ensures.range) in
     record {
-      line = line_text c.args.line.entry;
+      line = line_text c.args.line;
       once = c.requires.once;
       says = c.in_ok-start.ensures.says;
       means = subst (λ (x : ℤ). Means (clock_of (zone_said start)) start.local x) (sym same) c.instant-instant.ensures.meaning;

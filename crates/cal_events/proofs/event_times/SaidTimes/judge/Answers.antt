@@ -1,10 +1,10 @@
-use Rattle.std.proofs.Common.{◌≡◌, ◌∙◌, Bool, ap, subst, sym, inl, inr, arith, to_z, of_z, w64, rules, ℤ, pos}
+use Rattle.std.proofs.Common.{◌≡◌, ◌∙◌, Bool, ap, subst, sym, inl, inr, arith, refl, to_z, of_z, w64, rules, ℤ, pos, false}
 use Rattle.std.proofs.lemmas.Bool.{false≢true, true≢false}
 use Rattle.std.proofs.lemmas.Int.{ints}
 use Rattle.profile.specs.text.Values.{IsClockSeconds}
 use Rattle.profile.specs.events.ZonedTimes.{EventTimesFault}
 use Rattle.ical_values.proofs.Exits.{refusal_exit}
-use Rattle.cal_events.specs.Events.{times_of}
+use Rattle.cal_events.specs.Events.{zone_said, length_of}
 use Rattle.cal_events.proofs.TimesLemmas.{times_said, alone_said, extent_judged, alone_judged, start_judged, end_judged, alone_out}
 use Rattle.cal_events.proofs.event_times.SaidTimes.judge.Goals as goal
 use Rattle.cal_events.proofs.event_times.SaidTimes.judge.Goals.{then-not-self-via-then-not-self, then-not-self-via-else-not-self+then-not-self-2}
@@ -54,5 +54,5 @@ returns-clause-says c may object lines a =
     let same : c.in-Some.instant ≡ instant = c.in-Some.ensures.value ∙ kept in
     elim a [
       | inl s ↦ inl (times_said object lines said c.in_ok-length.length c.in-Some.instant same s c.in_ok-length.ensures.length c.in_ok-length.ensures.most (search rules) (search rules))
-      | inr (m, alone) ↦ inr (m, alone_said object lines said alone c.in_ok-length.length _ c.in_ok-length.ensures.length c.in_ok-length.ensures.most (search rules) refl alone.zone alone.local (same ∙ alone.instant))
+      | inr (m, alone) ↦ inr (m, alone_said object lines said alone c.in_ok-length.length (record { zone = zone_said said.start; local = said.start.local; start = c.in-Some.instant; length = length_of c.in_ok-length.length }) c.in_ok-length.ensures.length c.in_ok-length.ensures.most (search rules) refl alone.zone alone.local (same ∙ alone.instant))
     ]
