@@ -126,19 +126,19 @@ fn all_added(
 {
     let mut added = Vec::new(alloc);
     for component in components {
-        added.push(as_added(component))?;
+        let mut instance = component;
+        add(&mut instance);
+        added.push(instance)?;
     }
     Ok(added)
 }
 
-/// A component as an ADD takes it: the instance of its own start, whatever RECURRENCE-ID says (RFC 5546 3.2.4).
-fn as_added(component: EventComponent) -> EventComponent
-    ensures { event_of result ≡ as_added (event_of component) }
+/// Takes a component as an ADD does: as the instance of its own start, whatever RECURRENCE-ID says (RFC 5546 3.2.4).
+fn add(component: &mut EventComponent)
+    ensures { event_of component.new ≡ as_added (event_of component.old) }
 {
-    let start = component.times.instant.instant();
-    let mut added = component;
-    added.recurrence = Some(start);
-    added
+    let times = component.times;
+    component.recurrence = Some(times.instant.instant());
 }
 
 /// Refuses components that aren't those of one meeting.

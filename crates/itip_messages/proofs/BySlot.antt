@@ -9,14 +9,15 @@ use Rattle.std.specs.Ordering.{is_lt, is_eq, ordering_reverse}
 use Rattle.std.proofs.lemmas.Bool.{true≢false}
 use Rattle.std.proofs.lemmas.Option.{same_Some}
 use Rattle.std.proofs.lemmas.List.{get_or-map, length-map}
-use Rattle.std.proofs.lemmas.List.Elements.{All-append, All-cons, All-nil, All-filter, Contains-append_cases}
+use Rattle.std.proofs.lemmas.List.Elements.{All-append, All-map, All-cons, All-nil, All-filter, Contains-append_cases}
 use Rattle.std.proofs.lemmas.List.Filters.{length-filter_both}
 use Rattle.std.proofs.lemmas.List.Kept.{AllPairs-filter}
 use Rattle.std.proofs.lemmas.List.Sorted.{IsPermutation-map, IsPermutation-sym, Contains-permutation, ranks_by, sorted_far}
 use Rattle.profile.specs.text.Trees.{Tree, vevents}
 use Rattle.profile.specs.events.Events.{Event, SaysEvent}
 use Rattle.profile.specs.events.Properties.{BothOrNeither}
-use Rattle.profile.specs.events.Meetings.{Meeting, events_of, is_master, is_override, AreOfOne, InstancesDiffer, SaysMeeting}
+use Rattle.profile.specs.events.Events.{meeting_said}
+use Rattle.profile.specs.events.Meetings.{Method, Request, Add, Cancel, Meeting, as_added, taken_by, events_of, is_master, is_override, AreOfOne, InstancesDiffer, SaysMeeting}
 use Rattle.profile.specs.rooms.Messages.{AreBySlot, slot_of, slot_named}
 use Rattle.profile.specs.rooms.Revisions.{Slot, Whole, At, slot_cmp}
 use Rattle.itip_order.proofs.Order.{slot_total}
@@ -70,6 +71,40 @@ dated object (v ∷ vs) (e ∷ es) z =
     let s = z.0.occurrences.is in
     All-cons (λ (e : Event). IsDated (slot_of e)) e es (in_stamps e.recurrence (λ t is. recurrence_named object s.line e.recurrence t s.is is)) (dated object vs es z.1)
 
+-- and so does its own start
+starts_dated : (object : Tree) (vs : List Lines) (es : List Event) → AllZip (SaysEvent object true) vs es → All (λ e. IsDated (slot_of (as_added e))) es
+starts_dated object [] [] z = All-nil (λ e. IsDated (slot_of (as_added e)))
+starts_dated object [] (e ∷ es) z = absurd z
+starts_dated object (v ∷ vs) [] z = absurd z
+starts_dated object (v ∷ vs) (e ∷ es) z =
+    let t = z.0.times in
+    let named : IsNamed e.times.start = (t.in_dates.1, t.in_dates.2) in
+    All-cons (λ (e : Event). IsDated (slot_of (as_added e))) e es (in_stamps (Some e.times.start) (λ t is. subst IsNamed (same_Some e.times.start t is) named)) (starts_dated object vs es z.1)
+
+-- ---- as a method takes them
+
+added_all : (Q : Event → Type 0) (es : List Event) → All (λ e. Q (as_added e)) es → All Q (map as_added es)
+added_all Q es a = All-map Q as_added es a
+
+taken_all : (Q : Event → Type 0) (method : Method) (es : List Event) → All Q es → All (λ e. Q (as_added e)) es → All Q (taken_by (Some method) es)
+taken_all Q Request es a b = a
+taken_all Q Add es a b = added_all Q es b
+taken_all Q Cancel es a b = a
+
+taken_some : (method : Method) (es : List Event) → 0 < length es → 0 < length (taken_by (Some method) es)
+taken_some Request es h = h
+taken_some Add es h = omega (arith, h, length-map es as_added)
+taken_some Cancel es h = h
+
+taken_one : (method : Method) (es : List Event) → AreOfOne es → AreOfOne (taken_by (Some method) es)
+taken_one Request es one = one
+taken_one Add es one =
+    λ a b c d.
+    let x = of_mapped as_added es a c in
+    let y = of_mapped as_added es b d in
+    ap meeting_said (sym x.2) ∙ one x.0 y.0 x.1 y.1 ∙ ap meeting_said y.2
+taken_one Cancel es one = one
+
 -- ---- no two are of one slot
 
 of_no_whole : (o : Option ℤ) → is_some o ≡ true → slot_named o ≡ Whole → ⊥
@@ -111,34 +146,39 @@ slots_differ (Some e) os m n h =
 
 -- ---- what a message says is a meeting of that kind
 
-pub of_message : (object : Tree) (meeting : Meeting) → SaysMeeting object true meeting → IsOfMessage meeting
-of_message object meeting s =
-    let same : filter is_master s.events ++ filter is_override s.events ≡ events_of meeting = (λ i. s.master i ++ s.overrides i) in
-    let P : List Event → Type 0 = λ es. (e : Event) → Contains es e → Contains s.events e in
-    let among : P (events_of meeting) = subst P same (λ e c. both e (Contains-append_cases (filter is_master s.events) (filter is_override s.events) e c)) in
-    let every : (Q : Event → Type 0) → All Q s.events → All Q (events_of meeting) = λ Q a.
-    subst (All Q) same (All-append Q (filter is_master s.events) (filter is_override s.events) (All-filter is_master Q s.events a) (All-filter is_override Q s.events a)) in
-    let long : length (filter is_override s.events) + length (filter is_master s.events) ≡ length s.events = length-filter_both is_override is_master (λ e. refl) s.events in
-    let sum = length-append (filter is_master s.events) (filter is_override s.events) in
+pub of_message : (object : Tree) (method : Method) (meeting : Meeting) → SaysMeeting object (Some method) meeting → IsOfMessage meeting
+of_message object method meeting s =
+    let events = taken_by (Some method) s.events in
+    let same : filter is_master events ++ filter is_override events ≡ events_of meeting = (λ i. s.master i ++ s.overrides i) in
+    let P : List Event → Type 0 = λ es. (e : Event) → Contains es e → Contains events e in
+    let among : P (events_of meeting) = subst P same (λ e c. both e (Contains-append_cases (filter is_master events) (filter is_override events) e c)) in
+    let every : (Q : Event → Type 0) → All Q events → All Q (events_of meeting) = λ Q a.
+    subst (All Q) same (All-append Q (filter is_master events) (filter is_override events) (All-filter is_master Q events a) (All-filter is_override Q events a)) in
+    let long : length (filter is_override events) + length (filter is_master events) ≡ length events = length-filter_both is_override is_master (λ e. refl) events in
+    let sum = length-append (filter is_master events) (filter is_override events) in
     let whole = ap length same in
-    let some : 0 < length s.events = s.some in
+    let some : 0 < length events = taken_some method s.events s.some in
+    let given_organiser = organised object (vevents object) s.events s.says in
+    let given_stamp = stamped object (vevents object) s.events s.says in
     record {
       some = omega (arith, long, sum, whole, some);
-      one = λ a b c d. s.one a b (among a c) (among b d);
-      organised = every (λ e. is_some e.organiser ≡ true) (organised object (vevents object) s.events s.says);
-      stamped = every (λ e. is_some e.stamp ≡ true) (stamped object (vevents object) s.events s.says);
-      dated = every (λ e. IsDated (slot_of e)) (dated object (vevents object) s.events s.says);
-      differ = slots_differ meeting.master meeting.overrides masters (λ e c. (of_filtered is_override s.events e (subst (λ (l : List Event). Contains l e) (sym s.overrides) c)).1) s.differ;
+      one = λ a b c d. taken_one method s.events s.one a b (among a c) (among b d);
+      organised = every (λ e. is_some e.organiser ≡ true) (taken_all (λ e. is_some e.organiser ≡ true) method s.events given_organiser given_organiser);
+      stamped = every (λ e. is_some e.stamp ≡ true) (taken_all (λ e. is_some e.stamp ≡ true) method s.events given_stamp given_stamp);
+      dated = every (λ e. IsDated (slot_of e))
+          (taken_all (λ e. IsDated (slot_of e)) method s.events (dated object (vevents object) s.events s.says) (starts_dated object (vevents object) s.events s.says));
+      differ = slots_differ meeting.master meeting.overrides masters (λ e c. (of_filtered is_override events e (subst (λ (l : List Event). Contains l e) (sym s.overrides) c)).1) s.differ;
     }
   where
-    both : (e : Event) → Contains (filter is_master s.events) e ⊎ Contains (filter is_override s.events) e → Contains s.events e
-    both e (inl c) = (of_filtered is_master s.events e c).0
-    both e (inr c) = (of_filtered is_override s.events e c).0
+    both : (e : Event) → Contains (filter is_master (taken_by (Some method) s.events)) e ⊎ Contains (filter is_override (taken_by (Some method) s.events)) e → Contains (taken_by (Some method) s.events) e
+    both e (inl c) = (of_filtered is_master (taken_by (Some method) s.events) e c).0
+    both e (inr c) = (of_filtered is_override (taken_by (Some method) s.events) e c).0
 
     masters : (e : Event) → meeting.master ≡ Some e → is_master e ≡ true
     masters e is =
-        let one : filter is_master s.events ≡ e ∷ [] = s.master ∙ ap (λ (o : Option Event). option_to_list o) is in
-        (of_filtered is_master s.events e (subst (λ (l : List Event). Contains l e) (sym one) (zero, omega arith, refl))).1
+        let events = taken_by (Some method) s.events in
+        let one : filter is_master events ≡ e ∷ [] = s.master ∙ ap (λ (o : Option Event). option_to_list o) is in
+        (of_filtered is_master events e (subst (λ (l : List Event). Contains l e) (sym one) (zero, omega arith, refl))).1
 
 -- ---- in the order of slots
 

@@ -25,6 +25,9 @@ organiser_line v c = valued (codes "ORGANIZER:") v (lt-ltb 9 (length (codes "ORG
 pub accepted_line : (v : List ℕ) → IsClean v → is_content (codes "ATTENDEE;PARTSTAT=ACCEPTED:" ++ v) ≡ true
 accepted_line v c = valued (codes "ATTENDEE;PARTSTAT=ACCEPTED:") v (lt-ltb 26 (length (codes "ATTENDEE;PARTSTAT=ACCEPTED:" ++ v)) (omega arith)) refl refl refl c
 
+pub attendee_line : (v : List ℕ) → IsClean v → is_content (codes "ATTENDEE:" ++ v) ≡ true
+attendee_line v c = valued (codes "ATTENDEE:") v (lt-ltb 8 (length (codes "ATTENDEE:" ++ v)) (omega arith)) refl refl refl c
+
 -- ---- the content of an event
 
 abbrev pub two_lines : List ℕ → List ℕ → Lines
@@ -63,6 +66,9 @@ no_method = refl
 
 pub reply_method : IsMethod (Some (codes "REPLY"))
 reply_method = let m : is_content (codes "METHOD:REPLY") ≡ true = fixed (codes "METHOD:REPLY") refl refl refl refl in and_from _ _ m refl
+
+pub refresh_method : IsMethod (Some (codes "REFRESH"))
+refresh_method = let m : is_content (codes "METHOD:REFRESH") ≡ true = fixed (codes "METHOD:REFRESH") refl refl refl refl in and_from _ _ m refl
 
 pub object_content : (method : Option (List ℕ)) (owns : List Lines) → IsMethod method → list_all (list_all is_content) owns ≡ true → list_all is_content (object_lines method (flat_map vevent_lines owns)) ≡ true
 object_content method owns m h =

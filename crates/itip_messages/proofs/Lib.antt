@@ -5,6 +5,7 @@ pub mod ContentLines
 pub mod WordText
 pub mod ReplyLines
 pub mod ReplyReads
+pub mod RefreshReads
 pub mod AnswerReads
 pub mod OneMessage
 pub mod LineLemmas

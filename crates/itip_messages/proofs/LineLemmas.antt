@@ -10,7 +10,9 @@ use Rattle.profile.specs.text.Lines.{folded, written}
 use Rattle.profile.specs.rooms.Revisions.{At}
 use Rattle.profile.specs.rooms.Messages.{TellsSlot, opening_lines}
 use Rattle.ical_values.specs.Written.{Appends}
+use Rattle.itip_messages.specs.declared.refresh.Refresh.{Refresh}
 use Rattle.itip_messages.specs.declared.reply.ReplyEvent.{ReplyEvent}
+use Rattle.itip_messages.specs.Refreshes.{IsEventOf, IsRefreshText}
 use Rattle.itip_messages.specs.Replies.{IsStampLine, WritesLines, WritesEvents, IsWrittenEvent, IsReplyText}
 
 -- one line
@@ -59,6 +61,15 @@ joins : (f : List ℕ → List ℕ) (old o1 o2 o3 o4 o5 o6 o7 o8 o9 a b d e g h 
 joins f old o1 o2 o3 o4 o5 o6 o7 o8 o9 a b d e g h k slot status e1 e2 e3 e4 e5 e6 e7 e8 e9 =
     rw (e9, e8, e7, e6, e5, e4, e3, e2, e1) (simp (flat_map-append f, append_assoc, append-nil))
 
+joins_six : (f : List ℕ → List ℕ) (old o1 o2 o3 o4 o5 o6 a b d e g h : List ℕ) → o1 ≡ old ++ f a → o2 ≡ o1 ++ f b → o3 ≡ o2 ++ f d → o4 ≡ o3 ++ f e → o5 ≡ o4 ++ f g → o6 ≡ o5 ++ f h
+    → o6 ≡ old ++ flat_map f (a ∷ b ∷ d ∷ e ∷ g ∷ h ∷ [])
+joins_six f old o1 o2 o3 o4 o5 o6 a b d e g h e1 e2 e3 e4 e5 e6 = rw (e6, e5, e4, e3, e2, e1) (simp (append_assoc, append-nil))
+
+-- the lines of the VEVENT of a refresh
+pub asking_written : (old o1 o2 o3 o4 o5 o6 a b d e g h : List ℕ) → o1 ≡ old ++ folded a → o2 ≡ o1 ++ folded b → o3 ≡ o2 ++ folded d → o4 ≡ o3 ++ folded e → o5 ≡ o4 ++ folded g → o6 ≡ o5 ++ folded h
+    → o6 ≡ old ++ written (a ∷ b ∷ d ∷ e ∷ g ∷ h ∷ [])
+asking_written = joins_six folded
+
 -- the lines of a VEVENT of a reply
 pub event_written : (old o1 o2 o3 o4 o5 o6 o7 o8 o9 a b d e g h k : List ℕ) (slot status : List (List ℕ))
     → o1 ≡ old ++ folded a → o2 ≡ o1 ++ folded b → o3 ≡ o2 ++ written slot → o4 ≡ o3 ++ folded d → o5 ≡ o4 ++ folded e
@@ -89,4 +100,12 @@ reply_written events empty opened mid closed e0 e1 w e2 = record {
   lines = w.0;
   each = w.1;
   is = whole folded (opening_lines (Some (codes "REPLY"))) (flat_map (λ event. event) w.0) (codes "END:VCALENDAR") empty opened mid closed e0 e1 w.2 e2;
+}
+
+-- the whole refresh
+pub refresh_written : (refresh : Refresh) (empty opened mid closed : List ℕ) → empty ≡ [] → opened ≡ empty ++ written (opening_lines (Some (codes "REFRESH"))) → WritesLines opened mid (IsEventOf refresh) → closed ≡ mid ++ folded (codes "END:VCALENDAR") → IsRefreshText refresh closed
+refresh_written refresh empty opened mid closed e0 e1 w e2 = record {
+  lines = w.0;
+  shows = w.1;
+  is = whole folded (opening_lines (Some (codes "REFRESH"))) w.0 (codes "END:VCALENDAR") empty opened mid closed e0 e1 w.2 e2;
 }

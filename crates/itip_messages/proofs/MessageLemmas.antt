@@ -15,6 +15,7 @@ use Rattle.profile.specs.faults.Faults.{is_between, is_object_fault, is_meeting_
 use Rattle.profile.specs.text.Lines.{line_value}
 use Rattle.profile.specs.text.Trees.{Tree, tree_own, vevents}
 use Rattle.profile.specs.events.Events.{Event, is_unread_in_message, lacks_start}
+use Rattle.profile.specs.events.Meetings as meetings
 use Rattle.profile.specs.events.Meetings.{Meeting, events_of, SaysMeeting, MeetingFault}
 use Rattle.profile.specs.rooms.Messages as profile
 use Rattle.profile.specs.rooms.Messages.{SaysMessage, NamesMethod, has_unread_in, MethodFault, bad_method, unread_method, MessageFault, in_meeting, not_yet, no_start_yet, is_unread_method, is_method}
@@ -25,7 +26,7 @@ use Rattle.cal_events.specs.declared.component.EventComponent.{EventComponent}
 use Rattle.cal_events.specs.declared.component.Purpose.{Purpose}
 use Rattle.cal_events.specs.declared.component.Purpose.TheVariants as purposes
 use Rattle.cal_events.specs.declared.meeting_components.MeetingComponents.{MeetingComponents}
-use Rattle.cal_events.specs.Events.{event_of, is_message, has_unread_for}
+use Rattle.cal_events.specs.Events.{event_of, method_read, has_unread_for}
 use Rattle.cal_events.specs.OneMeeting.{meeting_of, is_meeting_fault_for, IsUnreadOrNoMeeting}
 use Rattle.cal_events.proofs.EventLemmas.{some_line}
 use Rattle.cal_events.proofs.InOneOrder.{in_mapped, of_filtered}
@@ -33,7 +34,7 @@ use Rattle.itip_order.proofs.Lists.{any_at, any_from}
 use Rattle.itip_messages.specs.declared.message.Message.{Message}
 use Rattle.itip_messages.specs.declared.message.MessageComponent.{MessageComponent}
 use Rattle.itip_messages.specs.declared.message.Method.{Method}
-use Rattle.itip_messages.specs.declared.message.Method.TheVariants.{Request, Cancel}
+use Rattle.itip_messages.specs.declared.message.Method.TheVariants.{Request, Add, Cancel}
 use Rattle.itip_messages.specs.Messages.{method_said, purpose_of, WordFault, IsDated, IsOfMessage, SaysComponent, event_slot, StandsFor, component_names, is_for, is_part_of, has_part, part_for}
 use Rattle.itip_messages.proofs.BySlot.{kept_by_slot}
 
@@ -54,17 +55,20 @@ word_stands (Err e) own line once h = word_stands_at own line e.number once h
 
 -- ---- VEVENTs
 
--- of a method they are a message's
-all_messages : (method : Method) → is_message (purpose_of method) ≡ true
-all_messages Request = refl
-all_messages Cancel = refl
+-- they are read for the method
+read_for : (method : Method) → method_read (purpose_of method) ≡ Some (method_said method)
+read_for Request = refl
+read_for Add = refl
+read_for Cancel = refl
 
-pub in_message : (object : Tree) (method : Method) (purpose : Purpose) (meeting : Meeting) → purpose ≡ purpose_of method → SaysMeeting object (is_message purpose) meeting → SaysMeeting object true meeting
-in_message object method purpose meeting e says = subst (λ (b : Bool). SaysMeeting object b meeting) (ap is_message e ∙ all_messages method) says
+pub in_message : (object : Tree) (method : Method) (purpose : Purpose) (meeting : Meeting) → purpose ≡ purpose_of method → SaysMeeting object (method_read purpose) meeting
+    → SaysMeeting object (Some (method_said method)) meeting
+in_message object method purpose meeting e says = subst (λ (m : Option meetings.Method). SaysMeeting object m meeting) (ap method_read e ∙ read_for method) says
 
 -- what isn't read yet is a line, or the want of a start
 unread_there : (object : Tree) (method : Method) → NamesMethod (tree_own object) (method_said method) → list_any (has_unread_for (purpose_of method)) (vevents object) ≡ true → MessageFault object 99
 unread_there object Request named h = not_yet h
+unread_there object Add named h = not_yet h
 unread_there object Cancel named h =
     elim (or_cases (list_any lacks_start (vevents object)) (list_any (list_any is_unread_in_message) (vevents object)) (sym (either (vevents object)) ∙ h)) [
       | inl none ↦ no_start_yet named none
@@ -90,7 +94,7 @@ meeting_stands object method purpose Memory named e s = tt
 meeting_stands object method purpose (Refused r) named e (inl u) =
     subst (MessageFault object) (sym u.0) (unread_there object method named (ap (λ p. list_any (has_unread_for p) (vevents object)) (sym e) ∙ u.1))
 meeting_stands object method purpose (Refused r) named e (inr s) =
-    in_meeting (subst (λ (b : Bool). MeetingFault object b r.number) (ap is_message e ∙ all_messages method) s)
+    in_meeting (method_said method) named (subst (λ (m : Option meetings.Method). MeetingFault object m r.number) (ap method_read e ∙ read_for method) s)
 
 -- its numbers
 pub meeting_numbers : (method : Method) (purpose : Purpose) (f : Fault) → purpose ≡ purpose_of method → RefusesOnly (is_meeting_fault_for purpose) f → RefusesOnly is_message_fault f
@@ -118,6 +122,7 @@ meeting_numbers method purpose (Refused r) e h = wider method r.number (subst (�
 
     wider : (method : Method) (n : ℕ) → is_meeting_fault_for (purpose_of method) n ≡ true → is_message_fault n ≡ true
     wider Request n h = of_both n h
+    wider Add n h = of_both n h
     wider Cancel n h = of_both n h
 
 -- what isn't read yet is a fault
@@ -129,11 +134,12 @@ unread_stands object vs (Refused r) e s = subst (MessageFault object) (sym s.0) 
 -- what a method's VEVENTs are read for leaves the same unread
 left_unread : (method : Method) (vs : List Lines) → list_any (has_unread_for (purpose_of method)) vs ≡ list_any (has_unread_in (method_said method)) vs
 left_unread Request vs = refl
+left_unread Add vs = refl
 left_unread Cancel vs = refl
 
 -- the object says the message
 pub message_said : (object : Tree) (own : Lines) (vs : List Lines) (method : Method) (purpose : Purpose) (meeting : Meeting) → tree_own object ≡ own → vevents object ≡ vs → NamesMethod own (method_said method)
-    → purpose ≡ purpose_of method → list_any (has_unread_for purpose) vs ≡ false → SaysMeeting object (is_message purpose) meeting → SaysMessage object (record { method = method_said method; meeting = meeting })
+    → purpose ≡ purpose_of method → list_any (has_unread_for purpose) vs ≡ false → SaysMeeting object (method_read purpose) meeting → SaysMessage object (record { method = method_said method; meeting = meeting })
 message_said object own vs method purpose meeting mine inner named e read says = record {
   method = subst (λ (x : Lines). NamesMethod x (method_said method)) (sym mine) named;
   read = sym (left_unread method (vevents object)) ∙ ap (list_any (has_unread_for (purpose_of method))) inner ∙ ap (λ p. list_any (has_unread_for p) vs) (sym e) ∙ read;
@@ -190,7 +196,7 @@ module _ (meeting : Meeting) (m : IsOfMessage meeting) (a e : Event) (c : Contai
 -- ---- parts
 
 -- a component names the room where its event does
-names_said : (room : List ℕ) (method : profile.Method) (whole : Option revisions.Revision) (event : Event) (component : MessageComponent) → SaysComponent method whole event component → component_names room component ≡ names_room room event
+names_said : (room : List ℕ) (method : meetings.Method) (whole : Option revisions.Revision) (event : Event) (component : MessageComponent) → SaysComponent method whole event component → component_names room component ≡ names_room room event
 names_said room method whole event component s = ap (list_any (λ a. bytes_eq a.address room)) s.attendees
 
 module _ (room : List ℕ) (message : Message) (said : profile.Message) (same : method_said message.method ≡ said.method) (whole : Option revisions.Revision) where
@@ -209,6 +215,7 @@ module _ (room : List ℕ) (message : Message) (said : profile.Message) (same : 
     where
       by_method : (m : Method) → method_said m ≡ said.method → is_part_of m (component_names room component || eqb (length component.attendees) 0) ≡ is_part_for room said.method event
       by_method Request e = ap (λ k. is_part_for room k event) e
+      by_method Add e = ap (λ k. is_part_for room k event) e
       by_method Cancel e =
           ap₂ (λ a b. a || b) (names_said room said.method whole event component s) (ap (λ l. eqb (length l) 0) s.attendees) ∙ ap (λ k. is_part_for room k event) e
 
@@ -234,7 +241,7 @@ module _ (room : List ℕ) (message : Message) (said : profile.Message) (same : 
       one_kept false false h r rest = rest
 
 -- the part that a component is
-body_said : (room : List ℕ) (method : profile.Method) (event : Event) (content : Lines) (octets : List ℕ) (b n : Bool) → cancels method event ≡ b → names_room room event ≡ n → IsContent content event → octets ≡ canonical content
+body_said : (room : List ℕ) (method : meetings.Method) (event : Event) (content : Lines) (octets : List ℕ) (b n : Bool) → cancels method event ≡ b → names_room room event ≡ n → IsContent content event → octets ≡ canonical content
     → IsBody room method event (cond b [] (cond n content [])) (cond b revisions.Cancelled (cond n (revisions.Set octets) revisions.Absent))
 body_said room method event content octets true n h k when is = (h, refl)
 body_said room method event content octets false true h k when is = (h, k, when, is)

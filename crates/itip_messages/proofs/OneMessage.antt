@@ -1,6 +1,6 @@
 -- Octets spell at most one message, and none where a fault stands in them.
 use Rattle.std.proofs.Common.{◌≡◌, ◌∙◌, ℕ, ◌<◌, Bool, true, false, ◌||◌, List, [], ◌∷◌, length, get_or, refl, sym, ap, subst, arith, inl, inr}
-use Rattle.std.specs.Prelude.{Contains, codes, nat_lt}
+use Rattle.std.specs.Prelude.{Contains, codes, nat_lt, Some}
 use Rattle.std.specs.List.{AllZip, list_any}
 use Rattle.std.specs.Str.{str_to_ascii_lowercase}
 use Rattle.std.proofs.lemmas.Bool.{true≢false, or_parts}
@@ -12,7 +12,8 @@ use Rattle.profile.specs.text.Lines.{logical_lines, line_value, is_same_name}
 use Rattle.profile.specs.text.Objects.{SpellsTree, IsObject, has_version, lines_have, count_inside, most_events}
 use Rattle.profile.specs.text.Trees.{Tree, tree_name, tree_own, tree_inside, vevents}
 use Rattle.profile.specs.events.Events.{Event, SaysEvent, EventFault, is_unread_in_message, lacks_start}
-use Rattle.profile.specs.rooms.Messages.{Method, Request, Cancel, Message, method_word, NamesMethod, SaysMessage, SpellsMessage, has_unread_in, MethodFault, two_methods, bad_method, unread_method, no_method, MessageFault, in_method, in_meeting, not_yet, no_start_yet, is_unread_method, is_method}
+use Rattle.profile.specs.events.Meetings.{Method, Request, Add, Cancel, SaysMeeting, MeetingFault}
+use Rattle.profile.specs.rooms.Messages.{Message, method_word, NamesMethod, SaysMessage, SpellsMessage, has_unread_in, MethodFault, two_methods, bad_method, unread_method, no_method, MessageFault, in_method, in_meeting, not_yet, no_start_yet, is_unread_method, is_method}
 use Rattle.cal_events.proofs.OneMeeting.{no_meeting_fault, one_said as one_meeting}
 use Rattle.profile.specs.streams.Streams.{ObjectFault}
 
@@ -40,20 +41,33 @@ by_word P word name b h f = f word ((bytes_eq-Decides (str_to_ascii_lowercase wo
 -- its word is no other one
 not_unread : (method : Method) (word : List ℕ) → is_same_name word (method_word method) ≡ true → is_unread_method word ≡ false
 not_unread Request word h = by_word is_unread_method word (codes "REQUEST") false h (λ x e. rw e refl)
+not_unread Add word h = by_word is_unread_method word (codes "ADD") false h (λ x e. rw e refl)
 not_unread Cancel word h = by_word is_unread_method word (codes "CANCEL") false h (λ x e. rw e refl)
 
 is_taken : (method : Method) (word : List ℕ) → is_same_name word (method_word method) ≡ true → is_method word ≡ true
 is_taken Request word h = by_word is_method word (codes "REQUEST") true h (λ x e. rw e refl)
+is_taken Add word h = by_word is_method word (codes "ADD") true h (λ x e. rw e refl)
 is_taken Cancel word h = by_word is_method word (codes "CANCEL") true h (λ x e. rw e refl)
 
 -- a word names one method
-other_word : (word : List ℕ) → is_same_name word (codes "REQUEST") ≡ true → is_same_name word (codes "CANCEL") ≡ true → ⊥
-other_word word r c = true≢false (sym c ∙ by_word (λ x. is_same_name x (codes "CANCEL")) word (codes "REQUEST") false r (λ x e. rw e refl))
+request_or_cancel : (word : List ℕ) → is_same_name word (codes "REQUEST") ≡ true → is_same_name word (codes "CANCEL") ≡ true → ⊥
+request_or_cancel word r c = true≢false (sym c ∙ by_word (λ x. is_same_name x (codes "CANCEL")) word (codes "REQUEST") false r (λ x e. rw e refl))
+
+request_or_add : (word : List ℕ) → is_same_name word (codes "REQUEST") ≡ true → is_same_name word (codes "ADD") ≡ true → ⊥
+request_or_add word r a = true≢false (sym a ∙ by_word (λ x. is_same_name x (codes "ADD")) word (codes "REQUEST") false r (λ x e. rw e refl))
+
+add_or_cancel : (word : List ℕ) → is_same_name word (codes "ADD") ≡ true → is_same_name word (codes "CANCEL") ≡ true → ⊥
+add_or_cancel word a c = true≢false (sym c ∙ by_word (λ x. is_same_name x (codes "CANCEL")) word (codes "ADD") false a (λ x e. rw e refl))
 
 same_method : (word : List ℕ) (a b : Method) → is_same_name word (method_word a) ≡ true → is_same_name word (method_word b) ≡ true → a ≡ b
 same_method word Request Request h k = refl
-same_method word Request Cancel h k = absurd (other_word word h k)
-same_method word Cancel Request h k = absurd (other_word word k h)
+same_method word Request Add h k = absurd (request_or_add word h k)
+same_method word Request Cancel h k = absurd (request_or_cancel word h k)
+same_method word Add Request h k = absurd (request_or_add word k h)
+same_method word Add Add h k = refl
+same_method word Add Cancel h k = absurd (add_or_cancel word h k)
+same_method word Cancel Request h k = absurd (request_or_cancel word k h)
+same_method word Cancel Add h k = absurd (add_or_cancel word k h)
 same_method word Cancel Cancel h k = refl
 
 one_method : (own : Lines) (a b : Method) → NamesMethod own a → NamesMethod own b → a ≡ b
@@ -81,7 +95,7 @@ no_method_fault own method n s (no_method h) =
 one_said : OneEvent → (object : Tree) (a b : Message) → SaysMessage object a → SaysMessage object b → a ≡ b
 one_said one object a b s t =
     let method = one_method (tree_own object) a.method b.method s.method t.method in
-    let meeting = one_meeting one object true a.meeting b.meeting s.says t.says in
+    let meeting = one_meeting one object (Some b.method) a.meeting b.meeting (subst (λ (m : Method). SaysMeeting object (Some m) a.meeting) method s.says) t.says in
     λ i. record { method = method i; meeting = meeting i }
 
 -- where none of some has one of two, none has the first, and none has the second
@@ -96,6 +110,7 @@ none_has U V (v ∷ vs) h =
 -- in what a message has read no line is left unread
 all_read : (method : Method) (vs : List Lines) → list_any (has_unread_in method) vs ≡ false → list_any (list_any is_unread_in_message) vs ≡ false
 all_read Request vs h = h
+all_read Add vs h = h
 all_read Cancel vs h = (none_has lacks_start (list_any is_unread_in_message) vs h).1
 
 -- and a CANCEL has its starts
@@ -104,7 +119,9 @@ has_start method vs e h = (none_has lacks_start (list_any is_unread_in_message) 
 
 no_message_fault : OneEvent → NoFault → (object : Tree) (a : Message) (n : ℕ) → SaysMessage object a → MessageFault object n → ⊥
 no_message_fault one sound object a n s (in_method h) = no_method_fault (tree_own object) a.method n s.method h
-no_message_fault one sound object a n s (in_meeting h) = no_meeting_fault one sound object true a.meeting n s.says h
+no_message_fault one sound object a n s (in_meeting method named h) =
+    let same = one_method (tree_own object) method a.method named s.method in
+    no_meeting_fault one sound object (Some a.method) a.meeting n s.says (subst (λ (m : Method). MeetingFault object (Some m) n) same h)
 no_message_fault one sound object a n s (not_yet h) = true≢false (sym h ∙ all_read a.method (vevents object) s.read)
 no_message_fault one sound object a n s (no_start_yet named h) =
     let cancel = one_method (tree_own object) a.method Cancel s.method named in true≢false (sym h ∙ has_start a.method (vevents object) cancel s.read)

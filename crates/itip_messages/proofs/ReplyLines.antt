@@ -1,4 +1,4 @@
--- The lines of the VEVENTs of a reply: content lines, and properties.
+-- The lines of the VEVENTs of a reply or a refresh: content lines, and properties.
 use Rattle.std.proofs.Common.{◌≡◌, ◌∙◌, ℕ, true, List, [], ◌∷◌, ◌++◌, length, codes, decimal, refl, sym, ap₂, subst, arith, lt-ltb}
 use Rattle.std.specs.List.{list_all, flat_map, Contains, AllZip}
 use Rattle.std.proofs.lemmas.Bool.{and_from}
@@ -19,14 +19,14 @@ use Rattle.itip_messages.proofs.ContentLines.{uid_line, sequence_line, stamp_lin
 use Rattle.itip_messages.proofs.WordText.{shown_key}
 
 -- content lines, and properties
-record AreOwn (lines : Lines) : Type 0 where
-  content : list_all is_content lines ≡ true
-  properties : list_all is_property lines ≡ true
+pub record AreOwn (lines : Lines) : Type 0 where
+  pub content : list_all is_content lines ≡ true
+  pub properties : list_all is_property lines ≡ true
 
-own_none : AreOwn []
+pub own_none : AreOwn []
 own_none = record { content = refl; properties = refl }
 
-own_more : (line : List ℕ) (lines : Lines) → is_content line ≡ true → is_property line ≡ true → AreOwn lines → AreOwn (line ∷ lines)
+pub own_more : (line : List ℕ) (lines : Lines) → is_content line ≡ true → is_property line ≡ true → AreOwn lines → AreOwn (line ∷ lines)
 own_more line lines c p more = record { content = and_from _ _ c more.content; properties = and_from _ _ p more.properties }
 
 own_both : (a b : Lines) → AreOwn a → AreOwn b → AreOwn (a ++ b)
@@ -77,10 +77,10 @@ status_own SinglesLimit lines e t =
 
 -- ---- VEVENTs
 
-record OneRead (lines : Lines) : Type 0 where
-  own : Lines
-  are : IsVevent own lines
-  good : AreOwn own
+pub record OneRead (lines : Lines) : Type 0 where
+  pub own : Lines
+  pub are : IsVevent own lines
+  pub good : AreOwn own
 
 one_read : (room : List ℕ) (lines : Lines) → IsTextAddress room → IsAnswer room lines → OneRead lines
 one_read room lines r a =
@@ -106,15 +106,23 @@ pub record AllRead (events : List Lines) : Type 0 where
   pub properties : list_all (list_all is_property) owns ≡ true
   pub content : list_all (list_all is_content) owns ≡ true
 
+none_read : AllRead []
+none_read = record { owns = []; each = tt; are = refl; properties = refl; content = refl }
+
+more_read : (lines : Lines) (events : List Lines) → OneRead lines → AllRead events → AllRead (lines ∷ events)
+more_read lines events one rest = record {
+  owns = one.own ∷ rest.owns;
+  each = (one.are, rest.each);
+  are = ap₂ (λ x y. x ++ y) one.are rest.are;
+  properties = and_from _ _ one.good.properties rest.properties;
+  content = and_from _ _ one.good.content rest.content;
+}
+
+-- one VEVENT alone
+pub alone_read : (lines : Lines) → OneRead lines → AllRead (lines ∷ [])
+alone_read lines one = more_read lines [] one none_read
+
 pub all_read : (room : List ℕ) (events : List Lines) → IsTextAddress room → ((lines : Lines) → Contains events lines → IsAnswer room lines) → AllRead events
-all_read room [] r f = record { owns = []; each = tt; are = refl; properties = refl; content = refl }
+all_read room [] r f = none_read
 all_read room (lines ∷ events) r f =
-    let one = one_read room lines r (f lines (in_head lines events)) in
-    let rest = all_read room events r (λ x c. f x (in_tail lines events x c)) in
-    record {
-      owns = one.own ∷ rest.owns;
-      each = (one.are, rest.each);
-      are = ap₂ (λ x y. x ++ y) one.are rest.are;
-      properties = and_from _ _ one.good.properties rest.properties;
-      content = and_from _ _ one.good.content rest.content;
-    }
+    more_read lines events (one_read room lines r (f lines (in_head lines events))) (all_read room events r (λ x c. f x (in_tail lines events x c)))

@@ -5,7 +5,7 @@ use Rattle.std.specs.Option.{option_to_list}
 use Rattle.std.specs.Ordering.{is_lt}
 use Rattle.std.proofs.lemmas.Bool.{true≢false}
 use Rattle.std.proofs.lemmas.List.Elements.{Contains-append_cases}
-use Rattle.std.specs.List.{list_all, Contains}
+use Rattle.std.specs.List.{list_all, AllZip, Contains}
 use Rattle.std.specs.Str.{bytes_eq}
 use Rattle.std.proofs.lemmas.Slice.Eq.{bytes_eq-Decides}
 use Rattle.profile.specs.text.Lines.{is_content, line_value, logical_lines}
@@ -14,7 +14,9 @@ use Rattle.profile.specs.text.Objects.{is_property}
 use Rattle.profile.specs.text.Values.{IsAddress, IsUid, WritesStamp, escaped, lower_case, duration_text}
 use Rattle.profile.specs.checker.Instances.{Booked}
 use Rattle.profile.specs.events.Events.{Event, SaysEvent, SaysSequence, IsAttendee, booked_by, is_confirmed, meeting_said}
-use Rattle.profile.specs.events.Meetings.{Meeting, events_of, is_master, is_override, SaysMeeting}
+use Rattle.profile.specs.events.Meetings.{Method, Request, Add, Cancel, Meeting, as_added, taken_by, events_of, is_master, is_override, SaysMeeting}
+use Rattle.profile.specs.events.ZonedTimes.{SaysEventTimes}
+use Rattle.std.proofs.lemmas.Option.{same_Some}
 use Rattle.profile.specs.events.Confirmed.{is_kept}
 use Rattle.profile.specs.events.Properties.{Says, BothOrNeither, StandsAtMostOnce, IsAddressLine, IsUidLine, IsSequenceLine, is_of, lines_named}
 use Rattle.profile.specs.rooms.Messages as messages
@@ -35,7 +37,7 @@ use Rattle.itip_messages.proofs.CleanUids.{clean_text, text_value}
 use Rattle.itip_messages.proofs.ObjectTree.{Lines, vevent_lines}
 use Rattle.cal_events.specs.Meetings.{IsNamed}
 use Rattle.cal_events.proofs.PlainSingles.{IsPlain}
-use Rattle.cal_events.proofs.InOneOrder.{of_filtered}
+use Rattle.cal_events.proofs.InOneOrder.{of_filtered, of_mapped}
 use Rattle.cal_events.proofs.OneInstance.{recurrence_named}
 use Rattle.room_books.proofs.KeptEvents.{slot_lines, kept_own, hidden_own, kept_event, hidden_event, SpellPart, SpellTimes, SpellSlot, kept_says, hidden_says, kept_confirmed, kept_booked}
 use Rattle.room_books.proofs.KeptLines.{IsCleanSlot, kept_content, kept_properties, hidden_content, hidden_properties}
@@ -91,24 +93,65 @@ small_sequence : (lines : Lines) (n : ℕ) → SaysSequence lines n → n < 2 ^ 
 small_sequence lines n (None, s, e) = omega (arith, e)
 small_sequence lines n (Some m, s, e) = let g = given (codes "SEQUENCE") false IsSequenceLine lines m s in omega (arith, e, g.is.3)
 
--- an event of a meeting that an object says is one of the object's
-said_among : (object : Tree) (m : Bool) (meeting : Meeting) (s : SaysMeeting object m meeting) (e : Event) → Contains (events_of meeting) e → Contains s.events e
+-- an event of a meeting that an object says is one of the object's, as its method takes them
+said_among : (object : Tree) (m : Option Method) (meeting : Meeting) (s : SaysMeeting object m meeting) (e : Event) → Contains (events_of meeting) e → Contains (taken_by m s.events) e
 said_among object m meeting s e c = elim (Contains-append_cases (option_to_list meeting.master) meeting.overrides e c) [
-  | inl master ↦ (of_filtered is_master s.events e (subst (λ (l : List Event). Contains l e) (sym s.master) master)).0
-  | inr other ↦ (of_filtered is_override s.events e (subst (λ (l : List Event). Contains l e) (sym s.overrides) other)).0
+  | inl master ↦ (of_filtered is_master (taken_by m s.events) e (subst (λ (l : List Event). Contains l e) (sym s.master) master)).0
+  | inr other ↦ (of_filtered is_override (taken_by m s.events) e (subst (λ (l : List Event). Contains l e) (sym s.overrides) other)).0
 ]
+
+-- what the lines of a VEVENT of a message say of an event, however its method takes it
+record SaysTaken (object : Tree) (lines : Lines) (event : Event) : Type 0 where
+  organiser : Says (codes "ORGANIZER") true IsAddressLine lines event.organiser
+  uid : Says (codes "UID") true IsUidLine lines (Some event.uid)
+  sequence : SaysSequence lines event.sequence
+  times : SaysEventTimes object lines event.times
+  attendees : AllZip IsAttendee (lines_named (codes "ATTENDEE") lines) event.attendees
+  -- the instance that it is of lies in the dates that an event may name
+  dated : (t : ℤ) → event.recurrence ≡ Some t → IsNamed t
+
+as_said : (object : Tree) (lines : Lines) (event : Event) → SaysEvent object true lines event → SaysTaken object lines event
+as_said object lines event s = record {
+  organiser = s.organiser;
+  uid = s.uid;
+  sequence = s.sequence;
+  times = s.times;
+  attendees = s.attendees;
+  dated = λ t is. recurrence_named object s.occurrences.is.line event.recurrence t s.occurrences.is.is is;
+}
+
+when_added : (object : Tree) (lines : Lines) (event : Event) → SaysEvent object true lines event → SaysTaken object lines (as_added event)
+when_added object lines event s = record {
+  organiser = s.organiser;
+  uid = s.uid;
+  sequence = s.sequence;
+  times = s.times;
+  attendees = s.attendees;
+  dated = λ t is. subst IsNamed (same_Some event.times.start t is) (s.times.in_dates.1, s.times.in_dates.2);
+}
+
+abbrev SaidIn : Tree → List Lines → Event → Type 0
+SaidIn object vs event = (lines : Lines) × Contains vs lines × SaysTaken object lines event
+
+taken_said : (object : Tree) (method : Method) (vs : List Lines) (events : List Event) (e : Event) → AllZip (SaysEvent object true) vs events → Contains (taken_by (Some method) events) e → SaidIn object vs e
+taken_said object Request vs events e z c = let found = zip_from (SaysEvent object true) vs events e z c in (found.0, found.1, as_said object found.0 e found.2)
+taken_said object Cancel vs events e z c = let found = zip_from (SaysEvent object true) vs events e z c in (found.0, found.1, as_said object found.0 e found.2)
+taken_said object Add vs events e z c =
+    let x = of_mapped as_added events e c in
+    let found = zip_from (SaysEvent object true) vs events x.0 z x.1 in
+    (found.0, found.1, subst (SaysTaken object found.0) x.2 (when_added object found.0 x.0 found.2))
 
 -- the lines of a VEVENT of a message, whose values are clean
 record Message (event : Event) : Type 0 where
   object : Tree
   lines : Lines
-  says : SaysEvent object true lines event
+  says : SaysTaken object lines event
   clean : (line : List ℕ) → Contains lines line → IsClean (line_value line)
 
 message_of : (octets : List ℕ) (given : messages.Message) (spells : SpellsMessage octets given) (event : Event) → Contains (events_of given.meeting) event → Message event
 message_of octets given spells event c =
     let s = spells.says.says in
-    let found = zip_from (SaysEvent spells.tree true) (vevents spells.tree) s.events event s.says (said_among spells.tree true given.meeting s event c) in
+    let found = taken_said spells.tree given.method (vevents spells.tree) s.events event s.says (said_among spells.tree (Some given.method) given.meeting s event c) in
     record {
       object = spells.tree;
       lines = found.0;
@@ -190,12 +233,12 @@ slot_told (Some t) lines (text, w, e) dated = record {
 
 -- the instance that an event is of lies in the dates that an event may name
 slot_dated : (event : Event) (m : Message event) (t : ℤ) → event.recurrence ≡ Some t → IsNamed t
-slot_dated event m t is = let s = m.says.occurrences.is in recurrence_named m.object s.line event.recurrence t s.is is
+slot_dated event m t is = m.says.dated t is
 
 -- ---- a part that is shown
 
 -- a set body says when its event is, and that the room is named
-pub set_body : (room : List ℕ) (method : messages.Method) (event : Event) (content : Lines) (body : Body) → IsBody room method event content body → is_set_body body ≡ true
+pub set_body : (room : List ℕ) (method : Method) (event : Event) (content : Lines) (body : Body) → IsBody room method event content body → is_set_body body ≡ true
     → (IsContent content event) × (names_room room event ≡ true)
 set_body room method event content (Set octets) b set = (b.2, b.1)
 set_body room method event content Absent b set = absurd (true≢false (sym set))

@@ -13,8 +13,9 @@ use Rattle.profile.specs.text.Trees.{Tree, tree, none, more, tree_name, tree_own
 use Rattle.profile.specs.text.Objects.{IsObject}
 use Rattle.profile.specs.checker.Instances.{Booked, IsClear}
 use Rattle.profile.specs.events.Events.{Event, NeedsAction, SaysEvent, booked_by, meeting_said}
+use Rattle.profile.specs.events.Meetings.{Request}
 use Rattle.profile.specs.rooms.Messages as messages
-use Rattle.profile.specs.rooms.Messages.{SpellsMessage, IsPart, Request, Accept, canonical, object_lines}
+use Rattle.profile.specs.rooms.Messages.{SpellsMessage, IsPart, Accept, canonical, object_lines}
 use Rattle.profile.specs.rooms.Revisions.{Part, Whole, Set, is_whole, slot_cmp}
 use Rattle.profile.specs.rooms.Rooms.{Answer, Book, Claim, Delivery, Runs, empty_book, confirmed, answered}
 use Rattle.profile.specs.streams.Streams.{IsDelivered}

@@ -12,6 +12,8 @@ pub mod Meetings
 pub mod Own
 pub mod Parts
 pub mod Hiding
+pub mod Wholes
+pub mod Refreshing
 pub mod Confirms
 pub mod Partition
 pub mod Runs

@@ -49,7 +49,7 @@ one_meeting k q p e f =
     let b = is_of_parts q p f in
     key_from k q (a.0 ∙ sym b.0) (a.1 ∙ sym b.1)
 
-meeting_of_key : (k : MeetingKey) (p y : Part) → meeting_cmp y p ≡ Equal → is_of k p ≡ true → is_of k y ≡ true
+pub meeting_of_key : (k : MeetingKey) (p y : Part) → meeting_cmp y p ≡ Equal → is_of k p ≡ true → is_of k y ≡ true
 meeting_of_key k p y e f =
     let meetings = then_equal (octets_cmp y.organiser p.organiser) (octets_cmp y.uid p.uid) e in
     let o : y.organiser ≡ p.organiser = slice_cmp-IsAntisymmetric nat_cmp-IsAntisymmetric _ _ meetings.0 in

@@ -1,17 +1,19 @@
 -- A meeting's own book, when claims of it are taken: what is asked, and what is answered, is what the room's book says.
-use Rattle.std.proofs.Common.{◌≡◌, ◌∙◌, ℤ, Bool, true, not, ◌&&◌, ◌||◌, List, [], ◌∷◌, ◌++◌, length, refl, sym, ap, subst}
+use Rattle.std.proofs.Common.{◌≡◌, ◌∙◌, ℤ, Bool, true, false, cond, not, ◌&&◌, ◌||◌, List, [], ◌∷◌, ◌++◌, length, refl, sym, ap, subst}
 use Rattle.std.specs.Prelude.{nat_lt, if◌then◌else◌}
 use Rattle.std.specs.List.{Contains, list_any}
 use Rattle.std.proofs.lemmas.List.Elements.{filter-append}
 use Rattle.itip_order.proofs.Lists.{in_head, in_tail, filter_at, filter_from}
 use Rattle.profile.specs.rooms.Messages.{Outcome}
-use Rattle.profile.specs.rooms.Revisions.{Part, in_view}
-use Rattle.profile.specs.rooms.Rooms.{Claim, Answer, Book, Withdrawn, Repeated, Stale, kind_of, kind_of_outcome, is_fresh, is_same, is_set, parts_of, asked, answered}
+use Rattle.std.proofs.lemmas.Bool.{and_parts, both_ways, false_from_ne_true}
+use Rattle.itip_order.proofs.Order.{is_eq_true}
+use Rattle.profile.specs.rooms.Revisions.{Part, in_view, is_whole, same_meeting}
+use Rattle.profile.specs.rooms.Rooms.{Claim, Answer, Book, Withdrawn, Repeated, Stale, kind_of, kind_of_outcome, is_fresh, is_same, is_set, lacks_whole, wants_whole, parts_of, asked, answered}
 use Rattle.room_books.specs.declared.meeting.MeetingKey.{MeetingKey}
 use Rattle.room_books.specs.declared.meeting.Meeting.{Meeting}
 use Rattle.room_books.specs.Standing.{is_of, of_meeting, answers_of, book_of, book_after, AreFitting, IsOwn, Stands}
 use Rattle.room_books.proofs.Runs.{new_answer}
-use Rattle.room_books.proofs.Meetings.{view_of, of_more_own, filter_same}
+use Rattle.room_books.proofs.Meetings.{view_of, of_more_own, filter_same, meeting_of_key}
 use Rattle.room_books.proofs.Own.{filter_all}
 use Rattle.room_books.proofs.Pairs.{map_at}
 
@@ -35,6 +37,21 @@ kind_same : (before after before' after' : List Part) (claims : List Claim) (out
 kind_same before after before' after' [] outcome a f s = refl
 kind_same before after before' after' (c ∷ cs) outcome a f s =
     λ i. if nat_lt 0 (length (a i)) then kind_of_outcome outcome else (if f i then Withdrawn else (if s i then Repeated else Stale))
+
+-- the wholes of a part's meeting are among the parts of that meeting
+wholes_own : (k : MeetingKey) (h : List Part) (p : Part) → is_of k p ≡ true → list_any (λ other. is_whole other && same_meeting other p) (of_meeting k h) ≡ list_any (λ other. is_whole other && same_meeting other p) h
+wholes_own k [] p e = refl
+wholes_own k (x ∷ xs) p e = at_test (is_of k x) refl
+  where
+    abbrev of_it : Part → Bool
+    of_it other = is_whole other && same_meeting other p
+
+    not_there : is_of k x ≡ false → of_it x ≡ false
+    not_there other = false_from_ne_true _ (λ h. both_ways _ other (meeting_of_key k p x (is_eq_true _ (and_parts _ _ h).1) e))
+
+    at_test : (b : Bool) → is_of k x ≡ b → list_any of_it (cond b (x ∷ of_meeting k xs) (of_meeting k xs)) ≡ (of_it x || list_any of_it xs)
+    at_test true is = ap (λ b. of_it x || b) (wholes_own k xs p e)
+    at_test false is = wholes_own k xs p e ∙ ap (λ b. b || list_any of_it xs) (sym (not_there is))
 
 module _ (k : MeetingKey) (book : Book) (claims : List Claim) (fit : AreFitting k claims) where
   abbrev own : Book
@@ -79,3 +96,13 @@ module _ (k : MeetingKey) (book : Book) (claims : List Claim) (fit : AreFitting 
       kind_same own.taken now book.taken all claims outcome asked_own
       (any_of (is_fresh own.taken now) (is_fresh book.taken all) (parts_of claims) (λ p c. fresh_own p (each p c)))
       (any_of (is_same own.taken now) (is_same book.taken all) (parts_of claims) (λ p c. same_own p (each p c)))
+
+  lacks_own : (p : Part) → is_of k p ≡ true → lacks_whole now p ≡ lacks_whole all p
+  lacks_own p e = ap (λ t. lacks_whole t p) (sym taken_own) ∙ ap not (wholes_own k all p e)
+
+  pub wants_own : (adds : Bool) → wants_whole adds own.taken now claims ≡ wants_whole adds book.taken all claims
+  wants_own adds =
+      let each = parts_own k claims fit in
+      ap (λ b. adds && b)
+      (any_of (λ p. is_fresh own.taken now p && lacks_whole now p) (λ p. is_fresh book.taken all p && lacks_whole all p) (parts_of claims)
+      (λ p c i. fresh_own p (each p c) i && lacks_own p (each p c) i))

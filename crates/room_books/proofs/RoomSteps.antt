@@ -1,5 +1,5 @@
 -- What holds of all meetings of a room, when one of them is put in its place.
-use Rattle.std.proofs.Common.{◌≡◌, ◌≤◌, ℕ, ℤ, Bool, true, false, cond, List, [], ◌∷◌, ◌++◌, inl, inr, Option, None, Some, refl, sym, ap₂, ◌∙◌, subst, length, arith, length-append, append-nil}
+use Rattle.std.proofs.Common.{◌≡◌, ◌≤◌, ℕ, ℤ, Bool, true, false, ◌&&◌, cond, List, [], ◌∷◌, ◌++◌, inl, inr, Option, None, Some, refl, sym, ap₂, ◌∙◌, subst, length, arith, length-append, append-nil}
 use Rattle.std.specs.List.{Contains, IsDistinct, AllPairs, AllZip}
 use Rattle.std.specs.Prelude.{◌≢◌, if◌then◌else◌, IfOk, Result, Ok, Err}
 use Rattle.std.specs.Map.{lookup, keys_of}
@@ -9,7 +9,7 @@ use Rattle.std.proofs.lemmas.List.{length-map}
 use Rattle.indexmap.specs.IndexMap.{insert_entry}
 use Rattle.itip_order.proofs.Lists.{in_head, in_tail, in_cons, none_in_nil}
 use Rattle.profile.specs.checker.Instances.{Booked, IsClear}
-use Rattle.profile.specs.rooms.Kept.{Replies}
+use Rattle.profile.specs.rooms.Kept.{Replies, Refreshes}
 use Rattle.profile.specs.rooms.Messages as messages
 use Rattle.profile.specs.rooms.Messages.{Accept, Busy, SeriesLimit, SinglesLimit}
 use Rattle.profile.specs.rooms.Rooms.{Book, Decides, Kind, NotAddressed, is_accept}
@@ -91,10 +91,14 @@ answers_join others k outcome kept candidates new d z j =
 
 -- ---- a message that isn't addressed to the room
 
+none_wanted : (adds : Bool) → (adds && false) ≡ false
+none_wanted true = refl
+none_wanted false = refl
+
 -- it is a step that changes nothing
-pub none_steps : (room : List ℕ) (entries : List (MeetingKey × Meeting)) (book : Book) (moment : ℤ) (kind : Kind) (reply : Option (List ℕ)) → Stands entries book → kind ≡ NotAddressed → reply ≡ None
-    → StepsWith room entries book [] moment kind reply
-none_steps room entries book moment kind reply st kind_is reply_is = record {
+pub none_steps : (room : List ℕ) (entries : List (MeetingKey × Meeting)) (book : Book) (moment : ℤ) (kind : Kind) (reply : Option (List ℕ)) (adds : Bool) (refresh : Option (List ℕ)) → Stands entries book → kind ≡ NotAddressed → reply ≡ None
+    → refresh ≡ None → StepsWith room entries book [] moment kind reply adds refresh
+none_steps room entries book moment kind reply adds refresh st kind_is reply_is refresh_is = record {
   steps = record {
     outcome = Accept;
     after = book;
@@ -107,4 +111,5 @@ none_steps room entries book moment kind reply st kind_is reply_is = record {
     kind_is = kind_is;
   };
   replies = subst (Replies room book []) (sym reply_is) refl;
+  refreshes = subst (Refreshes room adds book.taken book.taken [] moment) (sym refresh_is) (none_wanted adds);
 }

@@ -8,8 +8,11 @@ use Rattle.std.proofs.lemmas.List.Elements.{filter-append, Contains-append_cases
 use Rattle.indexmap.specs.IndexMap.{insert_entry}
 use Rattle.itip_order.proofs.Lists.{in_head, in_tail, filter_at}
 use Rattle.profile.specs.rooms.Revisions.{Part, in_view}
-use Rattle.profile.specs.rooms.Rooms.{Claim, Answer, Book, Kind, is_set, parts_of, asked, answered, shown}
-use Rattle.profile.specs.rooms.Kept.{Replies, ShowsAnswer, first_parts}
+use Rattle.profile.specs.rooms.Rooms.{Claim, Answer, Book, Kind, is_set, parts_of, asked, answered, shown, wants_whole}
+use Rattle.profile.specs.rooms.Kept.{Replies, Refreshes, ShowsAnswer, first_parts}
+use Rattle.itip_order.specs.Registers.{StandsFor as HoldsAll}
+use Rattle.room_books.specs.Takings.{StandsAt}
+use Rattle.room_books.proofs.Afters.{stands_at}
 use Rattle.room_books.specs.declared.meeting.MeetingKey.{MeetingKey}
 use Rattle.room_books.specs.declared.meeting.Meeting.{Meeting}
 use Rattle.room_books.specs.Views.{same_key}
@@ -18,7 +21,7 @@ use Rattle.room_books.proofs.Arrivals.{arrives}
 use Rattle.room_books.proofs.Meetings.{key_from, is_of_same, one_meeting, of_more_other, filter_none, view_of}
 use Rattle.room_books.proofs.Pairs.{pairs_append, map_at}
 use Rattle.room_books.proofs.Putting.{booked_list_same}
-use Rattle.room_books.proofs.OwnBook.{own_of}
+use Rattle.room_books.proofs.OwnBook.{own_of, taken_own, wants_own}
 use Rattle.room_books.proofs.Runs.{IsNew, new_answer, step_sound}
 use Rattle.room_books.proofs.SlotsApart.{OtherPart, new_once}
 use Rattle.room_books.proofs.Views.{view_back}
@@ -188,12 +191,20 @@ replies_all room k book claims (Some octets) own r =
       },
     )
 
+-- the whole is wanted by the meeting's own parts where it is by all
+refreshes_all : (room : List ℕ) (k : MeetingKey) (book : Book) (claims : List Claim) → AreFitting k claims → (adds : Bool) (moment : ℤ) (refresh : Option (List ℕ))
+    → Refreshes room adds (of_meeting k book.taken) (of_meeting k book.taken ++ parts_of claims) claims moment refresh → Refreshes room adds book.taken (book.taken ++ parts_of claims) claims moment refresh
+refreshes_all room k book claims fit adds moment None r = sym (wants_own k book claims fit adds) ∙ r
+refreshes_all room k book claims fit adds moment (Some octets) r = (sym (wants_own k book claims fit adds) ∙ r.0, r.1)
+
 -- from the meeting after the claims, put in its place, and the reply by its own book
-pub claims_step : (room : List ℕ) (entries entries' : Entries) (book : Book) (k : MeetingKey) (claims : List Claim) (moment : ℤ) (kind : Kind) (m : Meeting) (reply : Option (List ℕ)) → 0 < length claims
+pub claims_step : (room : List ℕ) (entries entries' : Entries) (book : Book) (k : MeetingKey) (claims : List Claim) (moment : ℤ) (kind : Kind) (m : Meeting) (reply : Option (List ℕ)) (adds : Bool) (refresh : Option (List ℕ)) → 0 < length claims
     → Stands entries book → AreFitting k claims → IsMeetingAfter book k claims moment kind m → entries' ≡ insert_entry same_key entries k m
     → ((q : MeetingKey) → lookup (same_key q) entries' ≡ cond (same_key k q) (Some m) (lookup (same_key q) entries))
-    → ((own : Book) → IsOwn k own → Meets own k m → Replies room own claims reply) → StepsWith room entries' book claims moment kind reply
-claims_step room entries entries' book k claims moment kind m reply some st fit after put updates shows =
+    → ((own : Book) → IsOwn k own → Meets own k m → Replies room own claims reply)
+    → ((before taken : List Part) → StandsAt (lookup (same_key k) entries) before → HoldsAll m.held taken → Refreshes room adds before taken claims moment refresh)
+    → StepsWith room entries' book claims moment kind reply adds refresh
+claims_step room entries entries' book k claims moment kind m reply adds refresh some st fit after put updates shows asks =
     let order : AreKeysOf (keys_of entries') (first_parts (book.taken ++ parts_of claims)) =
     subst (λ (l : Entries). AreKeysOf (keys_of l) (first_parts (book.taken ++ parts_of claims))) (sym put) (arrive_all entries book.taken k m claims some fit st.order) in
     let now : Book = book_after book claims moment after.outcome in
@@ -201,4 +212,7 @@ claims_step room entries entries' book k claims moment kind m reply some st fit 
     record {
       steps = record { outcome = after.outcome; after = now; step = after.step; stands = stands; kind_is = after.kind_is };
       replies = replies_all room k now claims reply fit.of_it (shows (book_of k now) (own_of k entries' now stands) after.meets);
+      refreshes = refreshes_all room k book claims fit adds moment refresh
+          (subst (λ (l : List Part). Refreshes room adds (of_meeting k book.taken) l claims moment refresh) (taken_own k book claims fit)
+          (asks (of_meeting k book.taken) (of_meeting k now.taken) (stands_at k (book_of k book) (lookup (same_key k) entries) (st.meets k)) after.meets.held));
     }

@@ -9,6 +9,7 @@ use Rattle.itip_order.specs.Parts.{part_of}
 use Rattle.itip_order.specs.declared.part.Part.{Part}
 use Rattle.itip_order.specs.declared.part.Slot.{Slot}
 use Rattle.itip_order.specs.declared.part.Slot.TheVariants.{Whole, At}
+use Rattle.profile.specs.events.Meetings.{Method}
 use Rattle.profile.specs.rooms.Messages as profile
 use Rattle.profile.specs.events.Properties.{length_seconds}
 use Rattle.profile.specs.rooms.Rooms.{is_set}
@@ -46,7 +47,7 @@ pub record IsClaimIn (room : List ℕ) (message : Message) (component : MessageC
   pub part_is : part_of claim.part ≡ part_for room message component
   pub singles : claim.singles.items ≡ (if is_set (part_for room message component) then single_in component ∷ [] else [])
   pub start : IsClockSeconds component.start
-  pub short : (method : profile.Method) (whole : Option Revision) (event : Event) → SaysComponent method whole event component → length_seconds event.times.length < 2 ^ 64
+  pub short : (method : Method) (whole : Option Revision) (event : Event) → SaysComponent method whole event component → length_seconds event.times.length < 2 ^ 64
 
 -- these are the claims of the message, of the meeting of any of them
 pub record AreClaimed (room : List ℕ) (said : profile.Message) (claims : List Claim) : Type 0 where

@@ -1,10 +1,10 @@
--- What a reply tells of the parts of a message.
-use Rattle.std.specs.Prelude.{◌≡◌, ℕ, List, ◌++◌, map, codes, Contains, Some}
+-- What a reply tells of the parts of a message, and what a refresh asks for.
+use Rattle.std.specs.Prelude.{◌≡◌, ℕ, ℤ, List, ◌++◌, map, codes, Contains, Some}
 use Rattle.std.specs.List.{flat_map, AllZip}
 use denote.Ref.{Bor}
 use Rattle.ical_values.specs.Octets.{address_octets}
 use Rattle.profile.specs.rooms.Revisions.{Part}
-use Rattle.profile.specs.rooms.Messages.{IsReplyEvent, object_lines}
+use Rattle.profile.specs.rooms.Messages.{IsReplyEvent, IsRefreshEvent, object_lines}
 use Rattle.profile.specs.rooms.Rooms.{shown}
 use Rattle.profile.specs.text.Lines.{written}
 use Rattle.itip_messages.specs.Replies.{Answers, outcome_of as decision_outcome}
@@ -62,3 +62,9 @@ pub record IsReplyOf (room : List ℕ) (answers : List Given) (are : List (Bor C
   pub events : List (List (List ℕ))
   pub each : AreTold room answers are events
   pub is : octets ≡ written (object_lines (Some (codes "REPLY")) (flat_map (λ lines. lines) events))
+
+-- the octets are the REFRESH for the meeting of the part
+pub record IsRefreshOf (room : List ℕ) (part : Part) (moment : ℤ) (octets : List ℕ) : Type 0 where
+  pub lines : List (List ℕ)
+  pub shows : IsRefreshEvent room part.organiser part.uid moment lines
+  pub is : octets ≡ written (object_lines (Some (codes "REFRESH")) lines)

@@ -7,6 +7,7 @@ ghost use Rattle.std.specs.List.{AllZip, list_any};
 ghost use Rattle.ical_values.specs.Octets.{address_octets};
 ghost use Rattle.itip_messages.specs.Messages.{StandsFor, SaysComponent, has_part};
 ghost use Rattle.itip_order.specs.Parts.{part_of};
+ghost use Rattle.profile.specs.events.Meetings.{Method};
 ghost use Rattle.profile.specs.rooms.Messages as profile;
 ghost use Rattle.profile.specs.events.Properties.{length_seconds};
 ghost use Rattle.profile.specs.rooms.Rooms.{is_set};
@@ -79,7 +80,7 @@ fn claim_for(alloc: Global, part: Part, single: Single) -> Result<Claim, AllocEr
 fn single_in(component: &MessageComponent) -> Single
     ensures value { result ≡ single_in component.now }
     ensures start { IsClockSeconds result.span.start }
-    ensures short { (method : profile.Method) (whole : Option Revision) (event : Event) → SaysComponent method whole event component.now → length_seconds event.times.length < 2 ^ 64 }
+    ensures short { (method : Method) (whole : Option Revision) (event : Event) → SaysComponent method whole event component.now → length_seconds event.times.length < 2 ^ 64 }
 {
     Single {
         slot: original_start(component),

@@ -1,5 +1,10 @@
 //! The refresh by which a room asks for a meeting (RFC 5546 3.2.6).
 
+ghost use Rattle.std.specs.Prelude.{IfOk};
+ghost use Rattle.ical_values.specs.Octets.{address_octets};
+ghost use Rattle.itip_order.specs.Parts.{part_of};
+ghost use Rattle.room_books.specs.Replying.{IsRefreshOf};
+
 use ical_values::{Address, Stamp};
 use itip_messages::{Refresh, write_refresh};
 use itip_order::Part;
@@ -12,6 +17,7 @@ pub fn refresh_to(
     part: &Part,
     moment: Stamp,
 ) -> Result<Vec<u8>, AllocError>
+    ensures { IfOk result (λ octets. IsRefreshOf (address_octets room.now) (part_of part.now) moment octets.items) }
 {
     let refresh = Refresh {
         uid: &part.uid,

@@ -7,16 +7,18 @@ ghost use Rattle.std.specs.Map.{lookup};
 ghost use Rattle.indexmap.specs.IndexMap.{keys, insert_entry, IsUnchanged, Updates};
 ghost use Rattle.ical_values.specs.Octets.{address_octets};
 ghost use Rattle.itip_order.specs.Parts.{part_of};
+ghost use Rattle.itip_order.specs.Registers.{StandsFor as HoldsAll};
+ghost use Rattle.profile.specs.rooms.Revisions as revisions;
 ghost use Rattle.profile.specs.checker.Instances.{IsClear};
 ghost use Rattle.itip_messages.specs.Messages.{StandsFor};
 ghost use Rattle.profile.specs.rooms.Messages as profile;
 ghost use Rattle.profile.specs.streams.Streams.{AreClaims};
 ghost use Rattle.profile.specs.rooms.Rooms.{Claim, Book, empty_book};
-ghost use Rattle.profile.specs.rooms.Kept.{kept_certificate, IsKeptCalendar};
+ghost use Rattle.profile.specs.rooms.Kept.{kept_certificate, IsKeptCalendar, Refreshes};
 ghost use Rattle.room_books.specs.Instants.{AreSeparate, IsPartOf};
 ghost use Rattle.room_books.specs.Views.{same_key, all_confirmed, all_singles, confirmed_at, confirmed_singles, singles_by, others, AreAllApart, IsKeyOf, MayJoin};
 ghost use Rattle.room_books.specs.Timelines.{IsTimelineOf};
-ghost use Rattle.room_books.specs.Takings.{claims_said, kind_view, refresh_octets, reply_octets, IsDecision, IsAnswered, IsKindOf};
+ghost use Rattle.room_books.specs.Takings.{claims_said, kind_view, octets_in, refresh_octets, reply_octets, StandsAt, IsDecision, IsAnswered, IsKindOf};
 ghost use Rattle.room_books.specs.Standing.{Stands, StepsWith, AreFitting, IsMeetingAfter};
 
 use crate::answer::{Answer, Kind};
@@ -169,7 +171,7 @@ impl Room {
         let before = self.singles_before(&key)?;
         let taken = self.meeting_after(&key, first, claims, &before, now)?;
         let reply = reply_to(self.alloc, &self.address, claims, &taken.meeting)?;
-        let refresh = self.refresh_of(&key, first, claims, adds, &taken.meeting.held, now)?;
+        let refresh = self.refresh_of(&key, claims, adds, &taken.meeting.held, now)?;
         self.put(key, taken.meeting, &before)?;
         Ok(Answer {
             kind: taken.kind,
@@ -178,27 +180,31 @@ impl Room {
         })
     }
 
-    /// The REFRESH that asks for a meeting at a moment, where a message with these claims adds instances or doesn't, and this is held after
-    /// it; None where the whole isn't wanted. The part is the first claim's.
+    /// The REFRESH after a message with these claims, that adds instances or doesn't, where this is held of their meeting after it; None
+    /// where the whole of it isn't wanted.
     fn refresh_of(
         &self,
         key: &MeetingKey,
-        first: &Part,
         claims: &[taking::Claim],
         adds: bool,
         held: &Held,
         moment: Stamp,
     ) -> Result<Option<Vec<u8>>, AllocError>
+        ensures { IfOk result (λ refresh. (before after : List revisions.Part) → StandsAt (lookup (same_key key.now) self.now.meetings.entries) before → HoldsAll held.now after
+            → Refreshes (address_octets self.now.address) adds before after (claims_said claims.now) moment (octets_in refresh)) }
     {
+        if !adds {
+            return Ok(None);
+        }
         keys_differ(&self.meetings);
         let views = Views {
             before: self.meetings.get(key),
             after: held,
         };
-        if !(adds && views.wants_whole(first, claims)) {
+        let Some(claim) = views.unheard(claims) else {
             return Ok(None);
-        }
-        let octets = refresh_to(self.alloc, &self.address, first, moment)?;
+        };
+        let octets = refresh_to(self.alloc, &self.address, &claim.part, moment)?;
         Ok(Some(octets))
     }
 

@@ -1,6 +1,6 @@
 //! What a message does to its meeting: computed beside the room, and put into it by the last step.
 
-ghost use Rattle.std.specs.Prelude.{◌≡◌, ◌++◌, List, IfOk, IfSome, option_copied};
+ghost use Rattle.std.specs.Prelude.{◌≡◌, ◌&&◌, ◌++◌, Contains, List, IfOk, IfSome, is_some, option_copied};
 ghost use Rattle.std.specs.List.{AllZip, list_any};
 ghost use Rattle.profile.specs.rooms.Revisions as revisions;
 ghost use Rattle.profile.specs.rooms.Rooms as rooms;
@@ -161,12 +161,26 @@ impl<'a> Views<'a> {
         false
     }
 
-    /// Whether something of the claims' meeting is new, and nothing of the whole was ever taken. The part is one of the meeting.
-    ///
-    /// The greatest part of the whole is always in the view, whatever it says.
-    pub fn wants_whole(&self, part: &Part, claims: &[Claim]) -> bool
+    /// The first claim whose part is fresh where nothing of the whole was ever taken, if there is one.
+    pub fn unheard<'b>(&self, claims: &'b [Claim]) -> Option<&'b Claim>
+        ensures found { IfSome result (λ claim. Contains claims.now claim.now) }
+        ensures wanted { (before after : List revisions.Part) → StandsAt (option_copied self.now.before) before → StandsFor self.now.after.now after
+            → is_some result ≡ list_any (λ part. rooms.is_fresh before after part && rooms.lacks_whole after part) (parts_said claims.now) }
     {
-        self.any_fresh(claims) && self.after.part_in(part, Slot::Whole).is_none()
+        for claim in claims {
+            if self.is_unheard(&claim.part) {
+                return Some(claim);
+            }
+        }
+        None
+    }
+
+    /// Whether a part is fresh, and nothing of the whole of its meeting was ever taken.
+    fn is_unheard(&self, part: &Part) -> bool
+        ensures { (before after : List revisions.Part) → StandsAt (option_copied self.now.before) before → StandsFor self.now.after.now after
+            → result ≡ (rooms.is_fresh before after (part_of part.now) && rooms.lacks_whole after (part_of part.now)) }
+    {
+        self.is_fresh(part) && lacks_whole(self.after, part)
     }
 
     /// The answers to parts that stay in the view, each with the instances that it still confirms. The part is one of the meeting.
@@ -186,6 +200,13 @@ impl<'a> Views<'a> {
         }
         Ok(kept)
     }
+}
+
+/// Whether nothing was ever taken of the whole of a part's meeting. The greatest part of the whole is in the view, whatever it says.
+fn lacks_whole(held: &Held, part: &Part) -> bool
+    ensures { (history : List revisions.Part) → StandsFor held.now history → result ≡ rooms.lacks_whole history (part_of part.now) }
+{
+    held.part_in(part, Slot::Whole).is_none()
 }
 
 fn kind_of_outcome(outcome: &Outcome) -> Result<Kind, AllocError>

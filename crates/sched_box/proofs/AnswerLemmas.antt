@@ -9,7 +9,7 @@ use Rattle.itip_messages.specs.declared.message.Message.{Message}
 use Rattle.profile.specs.rooms.Messages as profile
 use Rattle.profile.specs.rooms.Rooms as machine
 use Rattle.profile.specs.rooms.Rooms.{Book, Claim, IsStep}
-use Rattle.profile.specs.rooms.Kept.{Replies}
+use Rattle.profile.specs.rooms.Kept.{Replies, Refreshes}
 use Rattle.profile.specs.streams.Streams.{AllTake, AreClaims, Hosted, ObjectFault, refused_line}
 use Rattle.room_books.specs.Standing.{Stands, StepsWith}
 use Rattle.room_books.specs.declared.room.Room.{Room}
@@ -18,19 +18,22 @@ use Rattle.sched_box.specs.Answering.{room_addresses, AreHosted, RoomTakes, Room
 
 -- ---- one room
 
-sent_is : (reply : Option (List ℕ)) → sent_octets reply ≡ flat_map (λ x. x) (option_to_list reply)
-sent_is None = refl
-sent_is (Some x) = sym (append-nil x)
+sent_is : (reply refresh : Option (List ℕ)) → sent_octets reply ++ sent_octets refresh ≡ flat_map (λ x. x) (option_to_list reply ++ option_to_list refresh)
+sent_is None None = refl
+sent_is None (Some y) = sym (append-nil y)
+sent_is (Some x) None = refl
+sent_is (Some x) (Some y) = ap (λ z. x ++ z) (sym (append-nil y))
 
-pub room_takes : (moment : ℤ) (message : Message) (old new : Room) (kind : machine.Kind) (reply : Option (List ℕ))
+pub room_takes : (moment : ℤ) (message : Message) (old new : Room) (kind : machine.Kind) (reply refresh : Option (List ℕ))
     → ((said : profile.Message) → StandsFor message said → (book : Book) → Stands old.meetings.entries book
-    → (claims : List Claim) × AreClaims (address_octets old.address) said claims × StepsWith (address_octets old.address) new.meetings.entries book claims moment kind reply)
-    → new.address ≡ old.address → RoomTakes moment message old new (sent_octets reply)
-room_takes moment message old new kind reply steps same said stands before has =
+    → (claims : List Claim) × AreClaims (address_octets old.address) said claims × StepsWith (address_octets old.address) new.meetings.entries book claims moment kind reply (profile.is_add said.method) refresh)
+    → new.address ≡ old.address → RoomTakes moment message old new (sent_octets reply ++ sent_octets refresh)
+room_takes moment message old new kind reply refresh steps same said stands before has =
     let room = address_octets old.address in
     let (claims, are, with') = steps said stands before.book has.stands in
     let P : List ℕ → Type 0 = λ a. AreClaims a said claims in
-    let Q : List ℕ → Type 0 = λ a. Replies a with'.steps.after claims reply in (
+    let Q : List ℕ → Type 0 = λ a. Replies a with'.steps.after claims reply in
+    let R : List ℕ → Type 0 = λ a. Refreshes a (profile.is_add said.method) before.book.taken with'.steps.after.taken claims moment refresh in (
       record { address = before.address; book = with'.steps.after },
       record { at = has.at ∙ ap address_octets (sym same); stands = with'.steps.stands },
       record {
@@ -41,7 +44,9 @@ room_takes moment message old new kind reply steps same said stands before has =
         step = with'.steps.step;
         reply = reply;
         replies = subst Q (sym has.at) with'.replies;
-        is = sent_is reply;
+        refresh = refresh;
+        refreshes = subst R (sym has.at) with'.refreshes;
+        is = sent_is reply refresh;
       },
     )
 
@@ -151,7 +156,7 @@ pub put_back : (len : ℕ) (xs ys : List Room) → len ≡ length ys → length 
 put_back len xs ys len_is long =
     ap (λ z. take len (xs ++ z)) (drop_all (length xs) ys (omega arith)) ∙ ap (take len) (append-nil xs) ∙ take_all len xs (omega arith)
 
-pub sent_all : {A E : Type 0} (r : Result A E) (P : List ℕ → Type 0) (start mid new first second : List ℕ) → mid ≡ start ++ first → second ≡ [] → P first → OnOk r (new ≡ mid ++ second)
+pub sent_all : {A E : Type 0} (r : Result A E) (P : List ℕ → Type 0) (start mid new first second : List ℕ) → mid ≡ start ++ first → P (first ++ second) → OnOk r (new ≡ mid ++ second)
     → OnOk r ((x : List ℕ) × (new ≡ start ++ x) × P x)
-sent_all (Ok u) P start mid new first second is none p e = (first, e ∙ ap (λ z. mid ++ z) none ∙ append-nil mid ∙ is, p)
-sent_all (Err f) P start mid new first second is none p e = tt
+sent_all (Ok u) P start mid new first second is p e = (first ++ second, e ∙ ap (λ z. z ++ second) is ∙ append_assoc start first second, p)
+sent_all (Err f) P start mid new first second is p e = tt

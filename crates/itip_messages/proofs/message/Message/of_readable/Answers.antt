@@ -34,7 +34,7 @@ pub of-requires-3 : goal.of-requires-3
 of-requires-3 c =
     let object = tree_of c.args.object.now in
     let meeting = meeting_of c.in_ok-meeting.meeting in
-    of_message object meeting (in_message object c.in_ok-method.method _ meeting c.purpose.ensures c.in_ok-meeting.ensures.says)
+    of_message object (method_said c.in_ok-method.method) meeting (in_message object c.in_ok-method.method _ meeting c.purpose.ensures c.in_ok-meeting.ensures.says)
 
 pub returns-clause-says : goal.returns-clause-says
 returns-clause-says c =

@@ -17,7 +17,7 @@ returns-in_default-clause-steps c = λ message says book st.
     let none : claims ≡ [] = none_first claims (subst (λ (l : List Claim). None ≡ slice_get l 0) c.deref.ensures.value c.in_default.ensures.value) in (
       [],
       subst (λ (l : List Claim). AreClaims room message (claims_said l)) none (c.in_ok-claims.ensures message says).are,
-      none_steps room c.args.self.now.meetings.entries book c.args.now (kind_view c.silent.result.kind) _ st (ap kind_view c.silent.ensures.kind) c.silent.ensures.reply,
+      none_steps room c.args.self.now.meetings.entries book c.args.now (kind_view c.silent.result.kind) _ _ _ st (ap kind_view c.silent.ensures.kind) c.silent.ensures.reply c.silent.ensures.refresh,
     )
 
 pub returns-clause-steps : goal.returns-clause-steps
