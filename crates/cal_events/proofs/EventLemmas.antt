@@ -123,7 +123,7 @@ attendee_pushed all left rest done line old new a e s h zip n is = (
       (push_zip IsAttendee done (map attendee_of old) line (attendee_of a) zip is),
 )
 
-pub attendee_fault : (object : Tree) (m : Bool) (all left rest done : List (List ℕ)) (line : List ℕ) (f : Fault)
+pub attendee_fault : (object : Tree) (m : Option Method) (all left rest done : List (List ℕ)) (line : List ℕ) (f : Fault)
     → lines_named (codes "ATTENDEE") all ≡ done ++ lines_named (codes "ATTENDEE") left → left ≡ line ∷ rest → is_of (codes "ATTENDEE") line ≡ true
     → RefusesBy (λ n. (n ≡ 15) × IsNoAddress line) f → RefusesBy (EventFault object m all) f
 attendee_fault object m all left rest done line Memory e s h w = tt

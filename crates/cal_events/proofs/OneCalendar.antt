@@ -20,7 +20,7 @@ abbrev pub NoFault : Type 0
 NoFault = (object : Tree) (m : Option Method) (lines : List (List ℕ)) (a : Event) (n : ℕ) → SaysEvent object m lines a → EventFault object m lines n → ⊥
 
 pub same_events : OneEvent → (object : Tree) (a b : List Event) → AllZip (SaysEvent object None) (vevents object) a → AllZip (SaysEvent object None) (vevents object) b → a ≡ b
-same_events one object a b s t = zip_one (SaysEvent object None) (λ lines x y h k. one object false lines x y h k) (vevents object) a b s t
+same_events one object a b s t = zip_one (SaysEvent object None) (λ lines x y h k. one object None lines x y h k) (vevents object) a b s t
 
 never_first : (x : Booked) → ComesBefore x x → ⊥
 never_first x (inl l) = absurd (omega (arith, ints, l))
@@ -53,6 +53,6 @@ one_calendar one room object a b s t =
 
 pub no_fault : OneEvent → NoFault → (room : List ℕ) (object : Tree) (a : Confirmed) (n : ℕ) → SaysCalendar room object a → CalendarFault object n → ⊥
 no_fault one sound room object a n s (in_event lines at fault) =
-    let e = zip_at (SaysEvent object None) (vevents object) s.events lines s.says at in sound object false lines e.0 n e.1 fault
+    let e = zip_at (SaysEvent object None) (vevents object) s.events lines s.says at in sound object None lines e.0 n e.1 fault
 no_fault one sound room object a n s (two_masters events says twins) = twins (subst MastersDiffer (same_events one object s.events events s.says says) s.masters)
 no_fault one sound room object a n s (two_overrides events says twins) = twins (subst OverridesDiffer (same_events one object s.events events s.says says) s.overrides)

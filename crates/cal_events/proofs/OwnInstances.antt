@@ -1,5 +1,5 @@
 -- The instances of an event by itself that has no rule: what its starts, or its own start, make.
-use Rattle.std.proofs.Common.{◌≡◌, ◌∙◌, ℕ, zero, suc, true, List, [], ◌∷◌, map, subst, sym, refl, ap, inl, inr, arith, ℤ, ◌<ℤ◌, ◌≤ℤ◌}
+use Rattle.std.proofs.Common.{◌≡◌, ◌∙◌, ℕ, ◌<◌, ◌+◌, zero, suc, true, List, [], ◌∷◌, ◌++◌, length, take, get_or, map, subst, sym, refl, ap, inl, inr, arith, ℤ, pos, ◌<ℤ◌, ◌≤ℤ◌}
 use Rattle.std.specs.Prelude.{Option, Some, None, All, AllPairs, Contains, is_some}
 use Rattle.std.specs.List.{AllZip}
 use Rattle.std.proofs.lemmas.Bool.{true≢false}
@@ -15,6 +15,8 @@ use Rattle.profile.specs.events.Confirmed.{alone}
 use Rattle.cal_events.specs.OwnInstances.{booked_at, IsMade, IsTimely}
 use Rattle.cal_events.specs.SingleStarts.{IsSingleStart, IsOnRule, AreSingleStarts}
 use Rattle.cal_events.specs.declared.instance.Single.{Single}
+use Rattle.std.proofs.lemmas.List.{take_more}
+use Rattle.cal_events.proofs.EventLemmas.{push_zip}
 use Rattle.cal_events.proofs.InOneOrder.{later, none_in, head_pairs, tail_pairs, cons_pairs}
 use Rattle.cal_events.proofs.OwnSingles.{IsAtStart, alone_master, master_alone, alone_override, override_alone, one_by_key}
 
@@ -113,3 +115,12 @@ module _ (event : Event) (t : IsTimely event) where
         starts = m.starts;
         ends = subst (λ (u : ℤ). EndsAt event.times u s.span.end) (sym m.starts) m.ends;
       })
+
+-- ---- one start more
+
+pub made_more : (event : Event) (xs : List ℤ) (k : ℕ) (old new : List Single) (s : Single) → k < length xs → AllZip (λ start single. IsMade event start start single) (take k xs) old → new ≡ old ++ s ∷ []
+    → IsMade event (get_or xs k (pos 0)) (get_or xs k (pos 0)) s → AllZip (λ start single. IsMade event start start single) (take (k + 1) xs) new
+made_more event xs k old new s w z is m =
+    subst (λ (l : List Single). AllZip (λ start single. IsMade event start start single) (take (k + 1) xs) l) (sym is)
+    (subst (λ (l : List ℤ). AllZip (λ start single. IsMade event start start single) l (old ++ s ∷ [])) (sym (take_more xs k (pos 0) w))
+    (push_zip (λ start single. IsMade event start start single) (take k xs) old (get_or xs k (pos 0)) s z m))

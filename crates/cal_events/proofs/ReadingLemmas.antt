@@ -89,7 +89,7 @@ unread_among U vs lines (k, w, e) h = list_any_at U vs k lines w (ap U e ∙ h)
 
 -- ---- events, and entries
 
-pub event_pushed : (object : Tree) (m : Bool) (vs : List Lines) (lines : Lines) (old new : List EventComponent) (event : EventComponent)
+pub event_pushed : (object : Tree) (m : Option Method) (vs : List Lines) (lines : Lines) (old new : List EventComponent) (event : EventComponent)
     → AllZip (SaysEvent object m) vs (map event_of old) → SaysEvent object m lines (event_of event) → new ≡ old ++ event ∷ []
     → AllZip (SaysEvent object m) (vs ++ lines ∷ []) (map event_of new)
 event_pushed object m vs lines old new event zip says n =

@@ -4,15 +4,15 @@ use Rattle.std.specs.Prelude.{Option, Some, None, ◌⊎◌, IsTrue}
 use Rattle.std.proofs.lemmas.Int.{ints}
 use Rattle.profile.specs.text.Trees.{Tree}
 use Rattle.profile.specs.text.Lines.{line_value}
-use Rattle.profile.specs.text.Values.{SpellsDuration, SpellsNegative, SpellsLong}
+use Rattle.profile.specs.text.Values.{IsClockSeconds, SpellsDuration, SpellsNegative, SpellsLong}
 use Rattle.profile.specs.events.Properties.{Length, StandsAtMostOnce, SomeLine, length_seconds, IsNoDuration, IsNegativeOrLong}
-use Rattle.profile.specs.events.ZonedTimes.{EventTimes, LastsSo, LastsAlone, SaysNoStart, SaysInstant, SaysInDates, SaysOutOfDates, SaysEventTimes, EventTimesFault, bad_duration, ends_early, ends_late, ends_out, lasts_long, starts_out}
+use Rattle.profile.specs.events.ZonedTimes.{EventTimes, LastsSo, LastsAlone, SaysNoStart, SaysInstant, SaysInDates, SaysOutOfDates, SaysEventTimes, SaysTimes, EventTimesFault, bad_duration, ends_early, ends_late, ends_out, lasts_long, starts_out}
 use Rattle.cal_events.specs.declared.event_times.Extent.{Extent}
 use Rattle.cal_events.specs.declared.event_times.Extent.TheVariants.{ToEnd, For}
 use Rattle.cal_events.specs.declared.event_times.SaidTimes.{SaidTimes}
 use Rattle.ical_values.specs.declared.duration.Duration.{Duration}
 use Rattle.cal_events.specs.Events.{length_of, zone_said, GivesLength, ExtentFault, ends_early as lies_before, ends_late as lies_late, lasts_long as is_long}
-use Rattle.cal_events.specs.Zoned.{LastsGiven, EndsSo, IsExtentIn, IsAlone, AreSaid, AreSaidAlone}
+use Rattle.cal_events.specs.Zoned.{LastsGiven, EndsSo, IsExtentIn, IsAlone, AreSaid, AreSaidAlone, AreSaidBy}
 use Rattle.cal_events.proofs.EventLemmas.{some_line, IsNone, long_length}
 
 abbrev Lines : Type 0
@@ -33,7 +33,7 @@ lasted : (object : Tree) (start : ℤ) (d : Duration) (line : Option (List ℕ))
 lasted object start d None is = is
 lasted object start d (Some line) is = is
 
-abbrev judged : SaidTimes → ℤ → Duration → EventTimes
+abbrev pub judged : SaidTimes → ℤ → Duration → EventTimes
 judged said start length = record { zone = zone_said said.start; local = said.start.local; start = start; length = length_of length }
 
 -- the line says that instant, and it lies in the dates
@@ -156,11 +156,11 @@ module _ (object : Tree) (lines : Lines) (said : SaidTimes) (a : AreSaidAlone ob
       }
 
   pub alone_judged : {may : Bool} (n : ℕ) → ExtentFault said.extent n → EventTimesFault may object lines n
-  alone_judged {may} n h = go a.read a.extent a.alone
+  alone_judged {may} number h = go a.read a.extent a.alone
     where
-      too_long : (d : Duration) (line : Option (List ℕ)) → StandsAtMostOnce (codes "DURATION") lines line → LastsGiven line (length_of d) → (x : Extent) → x ≡ For d → ExtentFault x n → EventTimesFault may object lines n
-      too_long d line once given (ToEnd s) is f = cc
-      too_long d line once given (For o) is (is_long x l) = long_given object lines (pos 0) o line once (subst (λ (x : Duration). LastsGiven line (length_of x)) (sym (same_For o d is)) given) l
+      too_long : (d : Duration) (line : Option (List ℕ)) → StandsAtMostOnce (codes "DURATION") lines line → LastsGiven line (length_of d) → (x : Extent) (n : ℕ) → x ≡ For d → ExtentFault x n → EventTimesFault may object lines n
+      too_long d line once given (ToEnd s) n is f = cc
+      too_long d line once given (For o) n is (is_long x l) = long_given object lines (pos 0) o line once (subst (λ (x : Duration). LastsGiven line (length_of x)) (sym (same_For o d is)) given) l
         where
           of_extent : Extent → Duration
           of_extent (ToEnd s) = d
@@ -169,9 +169,9 @@ module _ (object : Tree) (lines : Lines) (said : SaidTimes) (a : AreSaidAlone ob
           same_For : (o d : Duration) → For o ≡ For d → o ≡ d
           same_For o d e = ap of_extent e
 
-      no_fault : (x : Extent) → x ≡ For (record { days = 0; seconds = 0 }) → ExtentFault x n → EventTimesFault may object lines n
-      no_fault (ToEnd s) is f = cc
-      no_fault (For o) is (is_long d l) = let none : length_seconds (length_of o) ≡ 0 = ap (λ x. length_seconds (length_of x)) (of_extent_is is) in absurd (omega (arith, none, l))
+      no_fault : (x : Extent) (n : ℕ) → x ≡ For (record { days = 0; seconds = 0 }) → ExtentFault x n → EventTimesFault may object lines n
+      no_fault (ToEnd s) n is f = cc
+      no_fault (For o) n is (is_long d l) = let none : length_seconds (length_of o) ≡ 0 = ap (λ x. length_seconds (length_of x)) (of_extent_is is) in absurd (omega (arith, none, l))
         where
           of_extent : Extent → Duration
           of_extent (ToEnd s) = o
@@ -180,12 +180,38 @@ module _ (object : Tree) (lines : Lines) (said : SaidTimes) (a : AreSaidAlone ob
           of_extent_is : For o ≡ For (record { days = 0; seconds = 0 }) → o ≡ record { days = 0; seconds = 0 }
           of_extent_is e = ap of_extent e
 
-      go : (read : Extent) → IsExtentIn object lines (pos 0) said.ends_in read → IsAlone read said.extent → EventTimesFault may object lines n
-      go (ToEnd s) r is = no_fault said.extent is h
-      go (For d) (line, none, once, given, no_end) is = too_long d line once given said.extent is h
+      go : (read : Extent) → IsExtentIn object lines (pos 0) said.ends_in read → IsAlone read said.extent → EventTimesFault may object lines number
+      go (ToEnd s) r is = no_fault said.extent number is h
+      go (For d) (line, none, once, given, no_end) is = too_long d line once given said.extent number is h
 
   pub alone_out : {may : Bool} → said.ends_in ≡ false → EventTimesFault may object lines 52
   alone_out outside = end_out object lines (pos 0) said.ends_in a.read a.extent outside
+
+-- ---- with a start or without
+
+module _ (may : Bool) (object : Tree) (lines : Lines) (said : SaidTimes) where
+  pub extent_judged_by : (n : ℕ) → AreSaidBy may object lines said → ExtentFault said.extent n → EventTimesFault may object lines n
+  extent_judged_by n (inl s) h = extent_judged object lines said n s h
+  extent_judged_by n (inr (_, alone)) h = alone_judged object lines said alone n h
+
+  pub start_judged_by : AreSaidBy may object lines said → said.starts_in ≡ false → EventTimesFault may object lines 52
+  start_judged_by (inl s) outside = start_judged object lines said s outside
+  start_judged_by (inr (_, alone)) outside = absurd (true≢false (sym alone.starts ∙ outside))
+
+  pub end_judged_by : AreSaidBy may object lines said → said.ends_in ≡ false → EventTimesFault may object lines 52
+  end_judged_by (inl s) outside = end_judged object lines said s outside
+  end_judged_by (inr (_, alone)) outside = alone_out object lines said alone outside
+
+  -- what lies in the dates has a stamp
+  pub within_clock : AreSaidBy may object lines said → IsTrue said.starts_in → IsClockSeconds said.instant
+  within_clock (inl s) starts = let dates = s.starts.0 starts in (omega (arith, ints, dates.1), omega (arith, ints, dates.2))
+  within_clock (inr (_, alone)) starts = subst IsClockSeconds (sym alone.instant) (omega (arith, ints), omega (arith, ints))
+
+  pub times_said_by : (length : Duration) (start : ℤ) → start ≡ said.instant → AreSaidBy may object lines said → GivesLength said.extent length → length_seconds (length_of length) ≤ 31_622_400
+      → IsTrue said.starts_in → IsTrue said.ends_in → SaysTimes may object lines (judged said start length)
+  times_said_by length start same (inl s) gives most starts ends = inl (times_said object lines said length start same s gives most starts ends)
+  times_said_by length start same (inr (m, alone)) gives most starts ends =
+      inr (m, alone_said object lines said alone length (judged said start length) gives most ends refl alone.zone alone.local (same ∙ alone.instant))
 
 -- ---- DURATION alone
 

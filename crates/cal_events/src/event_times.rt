@@ -153,7 +153,8 @@ impl SaidTimes {
         ensures said { IfOk result (AreSaidBy may_lack (object_of zones.now) properties.now) }
         ensures stands { IfErr result (λ e. EventTimesFault may_lack (object_of zones.now) properties.now e.number) }
     {
-        match optional(properties, "DTSTART")? {
+        let line = optional(properties, "DTSTART")?;
+        match line {
             Some(line) => SaidTimes::from_start(line, zones, properties),
             None if may_lack => SaidTimes::without_start(zones, properties),
             None => Err(Refusal::BAD_PROPERTY),

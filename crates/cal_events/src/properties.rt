@@ -38,12 +38,22 @@ pub(crate) fn refuse_unread(event: &Properties<'_>, purpose: Purpose) -> Result<
     ensures refuses { IfErr result (λ e. e.number ≡ 99) }
     ensures unread { OnErr result (has_unread_for purpose event.now ≡ true) }
 {
-    for line in event.lines() {
-        if is_unread(*line, purpose) {
-            return Err(Refusal::NOT_YET);
-        }
+    if has_unread_line(event, purpose) {
+        return Err(Refusal::NOT_YET);
     }
     Ok(())
+}
+
+/// Whether a VEVENT has a line that isn't read yet for a purpose.
+fn has_unread_line(event: &Properties<'_>, purpose: Purpose) -> bool
+    ensures { result ≡ has_unread_for purpose event.now }
+{
+    for line in event.lines() {
+        if is_unread(*line, purpose) {
+            return true;
+        }
+    }
+    false
 }
 
 /// Whether a line isn't read yet for a purpose: in a message RRULE.

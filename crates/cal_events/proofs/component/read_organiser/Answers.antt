@@ -7,7 +7,7 @@ use Rattle.profile.specs.text.Values.{IsAddress}
 use Rattle.profile.specs.events.Events.{EventFault}
 use Rattle.profile.specs.events.Properties.{IsNoAddress}
 use Rattle.profile.specs.events.Events.{twice, bad_organiser, no_organiser}
-use Rattle.cal_events.specs.Events.{is_message, method_read}
+use Rattle.cal_events.specs.Events.{method_read}
 use Rattle.cal_events.proofs.EventLemmas.{by_number, some_line}
 use Rattle.ical_values.proofs.Exits.{err_exit}
 use Rattle.cal_events.proofs.component.read_organiser.Goals as goal

@@ -6,7 +6,7 @@ use Rattle.profile.specs.text.Lines.{line_value}
 use Rattle.profile.specs.events.Events.{EventFault}
 use Rattle.profile.specs.events.Properties.{IsNoStamp}
 use Rattle.profile.specs.events.Events.{twice, bad_stamp, no_stamp_given}
-use Rattle.cal_events.specs.Events.{is_message, method_read}
+use Rattle.cal_events.specs.Events.{method_read}
 use Rattle.cal_events.proofs.EventLemmas.{some_line}
 use Rattle.ical_values.proofs.Exits.{refusal_exit}
 use Rattle.cal_events.proofs.component.read_stamp.Goals as goal

@@ -86,7 +86,7 @@ returns-in_err-said-clause-stands c =
     let m = method_read c.args.purpose in
     let lines = c.args.properties.now in
     err_exit _ (RefusesBy (EventFault object m lines)) _ c.from_residual-in_err-said.ensures.1
-    (in_times (subst (λ (b : Bool). EventTimesFault b object lines _) c.may_lack_start.ensures c.in_err-said.ensures.stands))
+    (in_times (subst (λ (b : Bool). EventTimesFault b object lines c.in_err-said.field-0.0.number) c.may_lack_start.ensures c.in_err-said.ensures.stands))
 
 pub returns-in_err-said_rule-clause-stands : goal.returns-in_err-said_rule-clause-stands
 returns-in_err-said_rule-clause-stands c =
