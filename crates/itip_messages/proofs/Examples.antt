@@ -42,8 +42,14 @@ a_cancel_is_read = refl
 a_cancel_is_a_method : is_method (codes "Cancel") ≡ true
 a_cancel_is_a_method = refl
 
-an_addition_is_not_read_yet : is_unread_method (codes "ADD") ≡ true
-an_addition_is_not_read_yet = refl
+an_addition_is_read : is_unread_method (codes "ADD") ≡ false
+an_addition_is_read = refl
+
+an_addition_is_a_method : is_method (codes "Add") ≡ true
+an_addition_is_a_method = refl
+
+a_refresh_is_not_read_yet : is_unread_method (codes "REFRESH") ≡ true
+a_refresh_is_not_read_yet = refl
 
 publish_asks_for_nothing : is_method (codes "PUBLISH") ≡ false
 publish_asks_for_nothing = refl

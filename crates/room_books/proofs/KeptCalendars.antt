@@ -185,19 +185,19 @@ module _ (room : List ℕ) (book : Book) (k : KeepsAll room book) (entries : Lis
             let same = same_part_is found.0.claim.part other both.1 in
             (Shown found.0.claim, p.all (Shown found.0.claim) (record { of_meeting = subst (λ (q : Part). same_meeting p.first q ≡ true) (sym same) of_first; answer = found.0; given = found.1; to = refl; confirms = both.0 }), same)
         | inr none ↦ (
-            Hidden other,
-            p.all (Hidden other) (record {
-              of_meeting = of_first;
-              stands = seen;
-              instance = instance;
-              not_accepted = λ x is same.
-                  both_ways _ none (any_from accepts book.answers is.answer is.given (and_from _ _ is.confirms (ap (λ (c : Claim). same_part c.part other) is.to ∙ ap (λ (q : Part). same_part q other) same ∙ same_part_refl other)));
-              whole = claim;
-              kept = p.is;
-              is_whole = whole;
-            }),
-            refl,
-          )
+          Hidden other,
+          p.all (Hidden other) (record {
+            of_meeting = of_first;
+            stands = seen;
+            instance = instance;
+            not_accepted = λ x is same.
+                both_ways _ none (any_from accepts book.answers is.answer is.given (and_from _ _ is.confirms (ap (λ (c : Claim). same_part c.part other) is.to ∙ ap (λ (q : Part). same_part q other) same ∙ same_part_refl other)));
+            whole = claim;
+            kept = p.is;
+            is_whole = whole;
+          }),
+          refl,
+        )
       ]
 
   -- the instance of a shown claim is hidden where another entry is of its slot

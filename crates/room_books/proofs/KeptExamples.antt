@@ -1,5 +1,5 @@
 -- A worked run: the octets of one REQUEST are delivered, the room accepts it, and keeps it.
-use Rattle.std.proofs.Common.{false, ◌≡◌, ◌≢◌, ℕ, pos, true, List, [], ◌∷◌, ◌++◌, codes, Some, None, inl, inr, refl, sym, ap, subst, arith, ◌∙◌,}
+use Rattle.std.proofs.Common.{false, ◌≡◌, ◌≢◌, ℕ, pos, true, List, [], ◌∷◌, ◌++◌, codes, Some, None, inl, inr, refl, sym, ap, subst, arith, ◌∙◌}
 use Rattle.std.specs.List.{Contains}
 use Rattle.std.specs.Str.{is_utf8, chars}
 use Rattle.std.specs.declared.cmp.Ordering.TheVariants.{Less}

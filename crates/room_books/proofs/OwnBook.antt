@@ -7,7 +7,7 @@ use Rattle.itip_order.proofs.Lists.{in_head, in_tail, filter_at, filter_from}
 use Rattle.profile.specs.rooms.Messages.{Outcome}
 use Rattle.std.proofs.lemmas.Bool.{and_parts, both_ways, false_from_ne_true}
 use Rattle.itip_order.proofs.Order.{is_eq_true}
-use Rattle.profile.specs.rooms.Revisions.{Part, in_view, is_whole, same_meeting}
+use Rattle.profile.specs.rooms.Revisions.{Part, in_view, is_whole, same_meeting, meeting_cmp}
 use Rattle.profile.specs.rooms.Rooms.{Claim, Answer, Book, Withdrawn, Repeated, Stale, kind_of, kind_of_outcome, is_fresh, is_same, is_set, lacks_whole, wants_whole, parts_of, asked, answered}
 use Rattle.room_books.specs.declared.meeting.MeetingKey.{MeetingKey}
 use Rattle.room_books.specs.declared.meeting.Meeting.{Meeting}
@@ -41,17 +41,15 @@ kind_same before after before' after' (c ∷ cs) outcome a f s =
 -- the wholes of a part's meeting are among the parts of that meeting
 wholes_own : (k : MeetingKey) (h : List Part) (p : Part) → is_of k p ≡ true → list_any (λ other. is_whole other && same_meeting other p) (of_meeting k h) ≡ list_any (λ other. is_whole other && same_meeting other p) h
 wholes_own k [] p e = refl
-wholes_own k (x ∷ xs) p e = at_test (is_of k x) refl
+wholes_own k (x ∷ xs) p e = at_test (is_of k x) refl (wholes_own k xs p e)
   where
-    abbrev of_it : Part → Bool
-    of_it other = is_whole other && same_meeting other p
+    not_there : is_of k x ≡ false → (is_whole x && same_meeting x p) ≡ false
+    not_there other = false_from_ne_true (is_whole x && same_meeting x p) (λ h. both_ways (is_of k x) other (meeting_of_key k p x (is_eq_true (meeting_cmp x p) (and_parts (is_whole x) (same_meeting x p) h).1) e))
 
-    not_there : is_of k x ≡ false → of_it x ≡ false
-    not_there other = false_from_ne_true _ (λ h. both_ways _ other (meeting_of_key k p x (is_eq_true _ (and_parts _ _ h).1) e))
-
-    at_test : (b : Bool) → is_of k x ≡ b → list_any of_it (cond b (x ∷ of_meeting k xs) (of_meeting k xs)) ≡ (of_it x || list_any of_it xs)
-    at_test true is = ap (λ b. of_it x || b) (wholes_own k xs p e)
-    at_test false is = wholes_own k xs p e ∙ ap (λ b. b || list_any of_it xs) (sym (not_there is))
+    at_test : (b : Bool) → is_of k x ≡ b
+        → list_any (λ other. is_whole other && same_meeting other p) (of_meeting k xs) ≡ list_any (λ other. is_whole other && same_meeting other p) xs → list_any (λ other. is_whole other && same_meeting other p) (cond b (x ∷ of_meeting k xs) (of_meeting k xs)) ≡ ((is_whole x && same_meeting x p) || list_any (λ other. is_whole other && same_meeting other p) xs)
+    at_test true is rest = ap (λ b. (is_whole x && same_meeting x p) || b) rest
+    at_test false is rest = rest ∙ ap (λ b. b || list_any (λ other. is_whole other && same_meeting other p) xs) (sym (not_there is))
 
 module _ (k : MeetingKey) (book : Book) (claims : List Claim) (fit : AreFitting k claims) where
   abbrev own : Book

@@ -1,11 +1,15 @@
 -- The first claim says of which meeting all are.
-use Rattle.std.proofs.Common.{◌≡◌, ◌∙◌, List, [], None, Some, sym, ap, subst}
+use Rattle.std.proofs.Common.{◌≡◌, ◌∙◌, Bool, List, [], None, Some, sym, ap, subst}
 use Rattle.std.specs.Prelude.{slice_get}
 use Rattle.ical_values.specs.Octets.{address_octets}
 use Rattle.profile.specs.streams.Streams.{AreClaims}
 use Rattle.room_books.specs.declared.taking.Claim.{Claim}
 use Rattle.room_books.specs.Claiming.{AreClaimed}
-use Rattle.room_books.specs.Takings.{claims_said, kind_view}
+use Rattle.room_books.specs.Takings.{claims_said, kind_view, reply_octets, refresh_octets}
+use Rattle.room_books.specs.Standing.{StepsWith}
+use Rattle.itip_messages.specs.Messages.{method_said}
+use Rattle.itip_messages.specs.declared.message.Method.{Method}
+use Rattle.profile.specs.rooms.Messages.{is_add}
 use Rattle.room_books.proofs.Claiming.{first_in, none_first}
 use Rattle.room_books.proofs.RoomSteps.{none_steps}
 use Rattle.room_books.proofs.room.Room.take.Goals as goal
@@ -29,5 +33,7 @@ returns-clause-steps c = λ message says book st.
     let is : Some first ≡ slice_get claims 0 = subst (λ (l : List Claim). Some first ≡ slice_get l 0) (c.deref.ensures.value ∙ sym c.deref-2.ensures.value) c.in-Some.ensures.value in (
       claims_said claims,
       claimed.are,
-      c.in_ok-answer.ensures.steps (λ key k. claimed.fit key first (first_in claims first is) k) book st,
+      subst (λ (adds : Bool). StepsWith room c.take_claims.new.self.meetings.entries book (claims_said claims) c.args.now (kind_view c.in_ok-answer.answer.kind) (reply_octets c.in_ok-answer.answer) adds (refresh_octets c.in_ok-answer.answer))
+          (c.is_add-adds.ensures ∙ ap (λ (m : Method). is_add (method_said m)) c.method.ensures ∙ ap is_add says.method)
+          (c.in_ok-answer.ensures.steps (λ key k. claimed.fit key first (first_in claims first is) k) book st),
     )
