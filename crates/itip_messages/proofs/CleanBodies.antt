@@ -17,11 +17,11 @@ use Rattle.std.proofs.lemmas.Str.{scalars-chars}
 use lib.Utf8.{scalars}
 use Rattle.profile.specs.text.Lines.{is_control, fold_break, fold_from, next_column, folded, written}
 use Rattle.ical_lines.proofs.CleanLines.{IsClean, is_shown, clean_shown}
+use Rattle.itip_messages.specs.Bodies.{crlf_lines}
 
 abbrev pub Lines : Type 0
 Lines = List (List ℕ)
 
--- lines, each ended by CRLF
 -- each line is UTF-8, without control octets
 abbrev pub AreClean : Lines → Type 0
 AreClean [] = Unit {0}

@@ -2,6 +2,10 @@ pub mod CleanText
 pub mod CleanUids
 pub mod ObjectTree
 pub mod ContentLines
+pub mod WrittenOctets
+pub mod CleanBodies
+pub mod TimeLists
+pub mod ZonePlaces
 pub mod WordText
 pub mod ReplyLines
 pub mod ReplyReads

@@ -23,7 +23,8 @@ use Rattle.profile.specs.rooms.Kept.{renamed}
 use Rattle.ical_lines.proofs.CleanLines.{is_shown, shown_append, clean_shown}
 use Rattle.ical_values.proofs.ShownValues.{shown_local, shown_offset}
 use Rattle.itip_messages.proofs.WrittenOctets.{IsTimeTest, both_pass, stamp_passes, local_passes, duration_passes, rule_lines_shown}
-use Rattle.itip_messages.proofs.CleanBodies.{Lines, AreClean, crlf_lines, clean_each_shown, clean_take, written_utf8, utf8_ended, IsBodyOf, body_ended}
+use Rattle.itip_messages.specs.Bodies.{IsCutAtZone, crlf_lines, zone_octets}
+use Rattle.itip_messages.proofs.CleanBodies.{Lines, AreClean, clean_each_shown, clean_take, written_utf8, utf8_ended, IsBodyOf, body_ended}
 
 -- ---- the lines of a content
 
@@ -140,10 +141,6 @@ zone_with name rest h short =
 pub zone_behind : (rest : List ℕ) → zone_text (codes "Z") rest ≡ zone_head ++ rest
 zone_behind rest = zone_with (codes "Z") rest refl (omega arith)
 
--- the octets of the zone, none where there is no zone
-abbrev pub zone_octets : Option (List ℕ) → List ℕ
-zone_octets zone = unwrap_or (option_map (zone_text (codes "Z")) zone) []
-
 zone_utf8_by : (zone : Option Zone) (rest : Option (List ℕ)) → BothOrNeither IsZoneRest zone rest → IsUtf8 (zone_octets rest)
 zone_utf8_by None None b = utf8_ended [] tt
 zone_utf8_by (Some zone) (Some rest) b =
@@ -189,12 +186,6 @@ pub zone_begins : (content : Content) (event : Event) → IsContent content even
 zone_begins content event c =
     let n = length (crlf_lines content.lines) in
     past_lines content.lines (early_lines content event c) (zone_octets content.zone) ∙ ap (λ k. n + k) (first_b content.zone) ∙ (omega arith)
-
--- what stands before that place, and from it on
-pub record IsCutAtZone (content : Content) (place : ℕ) : Type 0 where
-  pub inside : place ≤ length (canonical content)
-  pub before : take place (canonical content) ≡ crlf_lines content.lines
-  pub after : drop place (canonical content) ≡ zone_octets content.zone
 
 pub cut_at_zone : (content : Content) (event : Event) → IsContent content event → (place : ℕ) → position_or_len is_b (canonical content) ≡ place → IsCutAtZone content place
 cut_at_zone content event c place e =

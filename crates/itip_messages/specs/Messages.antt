@@ -12,7 +12,7 @@ use Rattle.cal_events.specs.OwnInstances.{booked_at}
 use Rattle.itip_messages.specs.Bodies.{IsCanonical, IsReady}
 use Rattle.profile.specs.rooms.Messages as profile
 use Rattle.profile.specs.rooms.Messages.{IsContent, canonical, cancels, is_cancel, raised_to, own_revision, AreBySlot, SaysMessage, SpellsMessage, MessageTextFault, is_method, is_unread_method}
-use Rattle.profile.specs.events.Meetings as meetings
+use Rattle.profile.specs.events.Events as events
 use Rattle.profile.specs.events.Meetings.{Meeting, AreOfOne, events_of}
 use Rattle.profile.specs.text.Values.{IsClockSeconds}
 use Rattle.profile.specs.rooms.Revisions as revisions
@@ -30,10 +30,10 @@ use Rattle.itip_messages.specs.declared.message.Method.TheVariants.{Request, Add
 use Rattle.itip_messages.specs.declared.message.Message.{Message}
 
 -- what a method stands for
-abbrev pub method_said : Method → meetings.Method
-method_said Request = meetings.Request
-method_said Add = meetings.Add
-method_said Cancel = meetings.Cancel
+abbrev pub method_said : Method → events.Method
+method_said Request = events.Request
+method_said Add = events.Add
+method_said Cancel = events.Cancel
 
 -- what its VEVENTs are read for
 abbrev pub purpose_of : Method → Purpose
@@ -51,7 +51,7 @@ IsDated revisions.Whole = Unit {0}
 IsDated (revisions.At t) = IsClockSeconds t
 
 -- the component is what an event of such a message says, where the whole meeting in it has this revision
-pub record SaysComponent (method : meetings.Method) (whole : Option revisions.Revision) (event : Event) (component : MessageComponent) : Type 0 where
+pub record SaysComponent (method : events.Method) (whole : Option revisions.Revision) (event : Event) (component : MessageComponent) : Type 0 where
   pub slot : slot_of component.slot ≡ profile.slot_of event
   pub dated : IsDated (profile.slot_of event)
   pub revision : revision_of component.revision ≡ raised_to whole (own_revision event)
