@@ -100,7 +100,7 @@ no_rule lines times rule h s = go s.line rule (sym (no_rule_line lines h) ∙ s.
     go (Some l) rule e b = let k : 0 ≡ 1 = ap length e in absurd (omega (arith, k))
 
 inside_named : (object : Tree) (entry : Entry) (t : ℤ) → IsInside object entry t → IsNamed t
-inside_named object (line, text) t (_, (_, (_, (_, dates)))) = (dates.1, dates.2)
+inside_named object (line, text) t (_, _, _, _, dates) = (dates.1, dates.2)
 
 listed : (object : Tree) (entries : List Entry) (instants : List ℤ) → AllZip (IsInside object) entries instants → (t : ℤ) → Contains instants t → IsNamed t
 listed object [] [] z t c = absurd (none_in t c)
