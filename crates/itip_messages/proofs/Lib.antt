@@ -6,7 +6,7 @@ pub mod WrittenOctets
 pub mod CleanBodies
 pub mod TimeLists
 pub mod ZonePlaces
-mod BodyLemmas
+pub mod BodyLemmas
 pub mod WordText
 pub mod ReplyLines
 pub mod ReplyReads

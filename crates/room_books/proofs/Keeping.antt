@@ -20,7 +20,7 @@ use Rattle.room_books.specs.declared.meeting.MeetingKey.{MeetingKey}
 use Rattle.room_books.specs.declared.meeting.Meeting.{Meeting}
 use Rattle.room_books.specs.Views.{same_key}
 use Rattle.room_books.specs.Standing.{Pairwise, IsText, SlotDated, is_of, of_meeting, answers_of, book_of, standing, IsGiven, Meets, AreKeysOf, Stands}
-use Rattle.room_books.specs.Takings.{body_lines}
+use Rattle.room_books.specs.Takings.{body_content}
 use Rattle.room_books.specs.Keeping.{IsEntryEvent, accepted_slots, has_slot, entry_of, is_accepted, is_hiding, kept_in, all_kept}
 use Rattle.room_books.proofs.Arrivals.{key_meeting}
 use Rattle.room_books.proofs.Entries.{meeting_at}
@@ -313,7 +313,7 @@ unfolding IsOfEntry
 event_of room entries book st entry true part lines dated (h, is) event =
     let fit = st.fit h.0 h.1 in
     subst (λ (x : Entry). IsKeptEvent room x lines) (sym is)
-    (event h.0.claim h.3 (fit.content ∙ ap (λ (q : Part). body_lines q.body) h.3) (sym (ap is_set h.3) ∙ st.set h.0 h.1) (subst (λ (q : Part). IsText q.body) h.3 fit.text) dated)
+    (event h.0.claim h.3 (fit.content ∙ ap (λ (q : Part). body_content q.body) h.3) (sym (ap is_set h.3) ∙ st.set h.0 h.1) (subst (λ (q : Part). IsText q.body) h.3 fit.text) dated)
 event_of room entries book st entry false part lines dated is event = subst (λ (x : Entry). IsKeptEvent room x lines) (sym is) (event dated)
 
 -- what is written is what the room keeps

@@ -24,6 +24,12 @@ pub mod KeptCalendars
 pub mod KeptStreams
 pub mod KeptAnswers
 pub mod KeptRequests
+pub mod ZoneNames
+pub mod KeptZones
+pub mod ZonedStarts
+pub mod ZonesIn
+pub mod KeptOwn
+pub mod KeptWhen
 pub mod KeptEvents
 pub mod KeptEntries
 pub mod KeptLines

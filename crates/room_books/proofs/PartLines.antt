@@ -11,7 +11,7 @@ use Rattle.profile.specs.rooms.Revisions.{Part, Slot, At, Set}
 use Rattle.profile.specs.rooms.Rooms.{is_set}
 use Rattle.profile.specs.text.Values.{escaped}
 use Rattle.room_books.specs.Standing.{IsText, SlotDated}
-use Rattle.room_books.specs.Takings.{body_lines}
+use Rattle.room_books.specs.Takings.{body_content}
 use Rattle.room_books.specs.Keeping.{WritesHead, WritesSlot, WritesEntries}
 use Rattle.room_books.proofs.Writing.{push_line, push_lines, no_lines, one_written_entry}
 
@@ -89,7 +89,7 @@ module _ (room : List ℕ) (part : Part) (o0 o1 o2 o3 o4 o5 : List ℕ) (w : Wri
   shown_written octets body set text h2 h3 h4 h5 =
       one_written_entry room (true, part) (event_lines room part (codes "ACCEPTED") o0 o1 w body) o0 o5
       (λ claim e f is utf8 dated.
-      let content : body ≡ claim.content = text (subst IsText set utf8) ∙ sym (ap body_lines set) ∙ sym f in
+      let content : body ≡ claim.content = text (subst IsText set utf8) ∙ sym (ap body_content set) ∙ sym f in
       subst (λ (c : List (List ℕ)). IsEventOf room claim.part c (codes "ACCEPTED") (event_lines room part (codes "ACCEPTED") o0 o1 w body)) content
       (subst (λ (p : Part). IsEventOf room p body (codes "ACCEPTED") (event_lines room part (codes "ACCEPTED") o0 o1 w body)) (sym e) (event_is room part (codes "ACCEPTED") o0 o1 w body dated)))
       (rest_written room part (codes "ACCEPTED") o0 o1 w body o2 o3 o4 o5 h2 h3 h4 h5)

@@ -17,7 +17,7 @@ use Rattle.profile.specs.text.Lines.{written}
 use Rattle.room_books.specs.declared.meeting.Meeting.{Meeting}
 use Rattle.room_books.specs.declared.meeting.Given.{Given}
 use Rattle.room_books.specs.Standing.{IsText, SlotDated}
-use Rattle.room_books.specs.Takings.{body_lines}
+use Rattle.room_books.specs.Takings.{body_content}
 use Rattle.room_books.specs.Views.{outcome_of}
 
 -- ---- by the book
@@ -72,7 +72,7 @@ all_kept meetings = flat_map kept_in meetings
 -- the lines are those of the VEVENT that is kept of it: of any claim of a part that is shown, where that is to take place
 abbrev pub IsEntryEvent : List ℕ → Bool × Part → List (List ℕ) → Type 0
 IsEntryEvent room (true, part) lines =
-    (claim : Claim) → claim.part ≡ part → claim.content ≡ body_lines part.body → is_set part ≡ true → IsText part.body → SlotDated part.slot → IsKeptEvent room (Shown claim) lines
+    (claim : Claim) → claim.part ≡ part → claim.content ≡ body_content part.body → is_set part ≡ true → IsText part.body → SlotDated part.slot → IsKeptEvent room (Shown claim) lines
 IsEntryEvent room (false, part) lines = SlotDated part.slot → IsKeptEvent room (Hidden part) lines
 
 -- new is old and behind it, written, the lines of the body, if it is text
