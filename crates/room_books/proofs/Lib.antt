@@ -25,6 +25,7 @@ pub mod KeptStreams
 pub mod KeptAnswers
 pub mod KeptRequests
 pub mod ZoneNames
+pub mod ZonesOnce
 pub mod KeptZones
 pub mod ZonedStarts
 pub mod ZonesIn

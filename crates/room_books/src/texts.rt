@@ -19,10 +19,12 @@ use crate::decide::{Meetings, keys_differ};
 use crate::meeting::{Given, Meeting};
 use crate::reply::recurrence_of;
 use crate::taking::is_accept;
+use crate::zones::Zones;
 use clash_cert::Made;
 use ical_values::Address;
-use itip_messages::ObjectWriter;
+use itip_messages::{ObjectWriter, zone_lines};
 use itip_order::{Body, Part, Slot};
+use itoa::Buffer;
 use std::alloc::{AllocError, Global};
 use std::str;
 
@@ -36,10 +38,16 @@ pub(crate) fn calendar_of(
     ensures { IfOk result (λ text. (book : Book) → Stands meetings.now.entries book → IsKeptCalendar (address_octets room.now) book text.items) }
 {
     keys_differ(meetings);
+    // the zones go first, and are known last
+    let mut zones = Zones::new(alloc);
+    let mut events = ObjectWriter::new(alloc);
+    write_meetings(&mut events, &mut zones, meetings, room)?;
+    events.end_calendar()?;
+    let events = events.finish();
     let mut object = ObjectWriter::new(alloc);
     object.begin_calendar(None)?;
-    write_meetings(&mut object, meetings, room)?;
-    object.end_calendar()?;
+    zones.write(&mut object)?;
+    object.octets(events.as_slice())?;
     Ok(object.finish())
 }
 
@@ -58,13 +66,14 @@ pub(crate) fn certificate_octets(alloc: Global, made: &Made) -> Result<Vec<u8>, 
 /// The VEVENTs of all meetings, in order of first arrival. Each meeting is gone through once.
 fn write_meetings(
     object: &mut ObjectWriter,
+    zones: &mut Zones,
     meetings: &Meetings,
     room: &Address,
 ) -> Result<(), AllocError>
     ensures { OnOk result (WritesEntries (address_octets room.now) (all_kept (values meetings.now)) object.old object.new) }
 {
     for meeting in meetings.values() {
-        write_meeting(object, meeting, room)?;
+        write_meeting(object, zones, meeting, room)?;
     }
     Ok(())
 }
@@ -74,6 +83,7 @@ fn write_meetings(
 /// for the octets that are written.
 fn write_meeting(
     object: &mut ObjectWriter,
+    zones: &mut Zones,
     meeting: &Meeting,
     room: &Address,
 ) -> Result<(), AllocError>
@@ -85,7 +95,7 @@ fn write_meeting(
     let hides = is_among(&accepted, Slot::Whole);
     for part in meeting.held.view() {
         let shown = is_among(&accepted, part.slot);
-        write_kept(object, part, shown, hides, room)?;
+        write_kept(object, zones, part, shown, hides, room)?;
     }
     Ok(())
 }
@@ -93,6 +103,7 @@ fn write_meeting(
 /// The VEVENT of a part, if it is kept: where it is shown, or where it hides an instance of the whole.
 fn write_kept(
     object: &mut ObjectWriter,
+    zones: &mut Zones,
     part: &Part,
     shown: bool,
     hides: bool,
@@ -101,7 +112,7 @@ fn write_kept(
     ensures { OnOk result (WritesEntries (address_octets room.now) (entry_of hides shown (part_of part.now)) object.old object.new) }
 {
     if shown {
-        return write_part(object, part, room);
+        return write_part(object, zones, part, room);
     }
     match part.slot {
         Slot::At(_) if hides => write_hidden(object, part, room),
@@ -139,14 +150,19 @@ fn is_among(sorted: &[Slot], slot: Slot) -> bool
 }
 
 /// The VEVENT of a part that is to take place: its own lines, and the room as the one attendee, who has accepted.
-fn write_part(object: &mut ObjectWriter, part: &Part, room: &Address) -> Result<(), AllocError>
+fn write_part(
+    object: &mut ObjectWriter,
+    zones: &mut Zones,
+    part: &Part,
+    room: &Address,
+) -> Result<(), AllocError>
     ensures { OnOk result (WritesEntries (address_octets room.now) ((true, part_of part.now) ∷ []) object.old object.new) }
 {
     let Body::Set(body) = &part.body else {
         return Ok(());
     };
     write_head(object, part)?;
-    write_body(object, body.as_slice())?;
+    write_body(object, zones, body.as_slice())?;
     object.named("ORGANIZER:", part.organiser.as_str())?;
     object.named("ATTENDEE;PARTSTAT=ACCEPTED:", room.as_str())?;
     object.line("END:VEVENT")?;
@@ -200,14 +216,20 @@ fn write_slot(object: &mut ObjectWriter, slot: Slot) -> Result<(), AllocError>
     Ok(())
 }
 
-/// The lines of a canonical body, each folded as it is written. One that isn't UTF-8 has none.
-fn write_body(object: &mut ObjectWriter, body: &[u8]) -> Result<(), AllocError>
+/// The lines of a body, each folded as it is written, with DTSTART in the zone under its number in the calendar. A body that isn't
+/// UTF-8 has none.
+fn write_body(object: &mut ObjectWriter, zones: &mut Zones, body: &[u8]) -> Result<(), AllocError>
     ensures { OnOk result (WritesBody body.now object.old object.new) }
 {
-    let Ok(text) = str::from_utf8(body) else {
+    let (lines, zone) = body.split_at(zone_lines(body));
+    let Ok(text) = str::from_utf8(lines) else {
         return Ok(());
     };
-    write_lines(object, text)
+    if zone.is_empty() {
+        return write_lines(object, text);
+    }
+    let number = zones.number_of(zone)?;
+    write_in_zone(object, text, number)
 }
 
 /// The lines of a text, each folded as it is written.
@@ -218,4 +240,25 @@ fn write_lines(object: &mut ObjectWriter, text: &str) -> Result<(), AllocError>
         object.line(line)?;
     }
     Ok(())
+}
+
+/// The same, where DTSTART is in the zone of this number.
+fn write_in_zone(object: &mut ObjectWriter, text: &str, number: usize) -> Result<(), AllocError> {
+    let start = start_in(object.alloc(), number)?;
+    for line in text.lines() {
+        match line.strip_prefix("DTSTART;TZID=Z") {
+            Some(rest) => object.named(start.as_str(), rest)?,
+            None => object.line(line)?,
+        }
+    }
+    Ok(())
+}
+
+/// How DTSTART begins in the zone of this number.
+fn start_in(alloc: Global, number: usize) -> Result<String, AllocError> {
+    let mut digits = Buffer::new();
+    let mut start = String::new(alloc);
+    start.push_str("DTSTART;TZID=Z")?;
+    start.push_str(digits.format(number))?;
+    Ok(start)
 }

@@ -7,7 +7,6 @@ ghost use Rattle.room_books.specs.Timelines.{AreBusy, HoldsInstants, IsPlaceAfte
 ghost use Rattle.room_books.specs.Instants.{AreSeparate};
 ghost use Rattle.std.specs.Vec.{vec_len, vec_capacity};
 
-
 use cal_events::{HORIZON, Single, Span};
 use std::alloc::{AllocError, Global};
 
