@@ -28,6 +28,9 @@ use itoa::Buffer;
 use std::alloc::{AllocError, Global};
 use std::str;
 
+/// How the VTIMEZONE of a body begins.
+const ZONE_HEAD: &[u8] = b"BEGIN:VTIMEZONE\r\nTZID:Z\r\n";
+
 /// The kept calendar of a room, the meetings in order of first arrival: each accepted part in the view, and what hides instances of an
 /// accepted whole.
 pub(crate) fn calendar_of(
@@ -225,10 +228,10 @@ fn write_body(object: &mut ObjectWriter, zones: &mut Zones, body: &[u8]) -> Resu
     let Ok(text) = str::from_utf8(lines) else {
         return Ok(());
     };
-    if zone.is_empty() {
+    let Some(rest) = zone.strip_prefix(ZONE_HEAD) else {
         return write_lines(object, text);
-    }
-    let number = zones.number_of(zone)?;
+    };
+    let number = zones.number_of(rest)?;
     write_in_zone(object, text, number)
 }
 
