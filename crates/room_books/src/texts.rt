@@ -153,7 +153,7 @@ fn write_part(object: &mut ObjectWriter, part: &Part, room: &Address) -> Result<
     Ok(())
 }
 
-/// The VEVENT of an instance that isn't to take place: nothing at its original start, cancelled, and the room has declined.
+/// The VEVENT of an instance that the room hasn't accepted: nothing at its original start, cancelled, and the room has declined.
 fn write_hidden(object: &mut ObjectWriter, part: &Part, room: &Address) -> Result<(), AllocError>
     requires { is_whole (part_of part.now) ≡ false }
     ensures { OnOk result (WritesEntries (address_octets room.now) ((false, part_of part.now) ∷ []) object.old object.new) }
