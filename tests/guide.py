@@ -210,7 +210,8 @@ def refusals(cases, program):
         cases.holds(f"METHOD {method}", number(request(method=method)), "99")
     for method in ("PUBLISH", "COUNTER", "DECLINECOUNTER", "FOO"):
         cases.holds(f"METHOD {method}", number(request(method=method)), "60")
-    cases.holds("a CANCEL without DTSTART", number(request(method="CANCEL", lines=()).replace("DTSTART:20250310T090000Z\r\n", "")), "99")
+    cases.holds("a CANCEL without DTSTART", one(request(method="CANCEL", lines=()).replace("DTSTART:20250310T090000Z\r\n", "")), [])
+    cases.holds("a REQUEST without DTSTART", number(request(lines=()).replace("DTSTART:20250310T090000Z\r\n", "")), "61")
     cases.holds("a CANCEL without ORGANIZER", number(request(method="CANCEL").replace("ORGANIZER:mailto:ann@example.com\r\n", "")), "63")
     slot = "20250310T090000Z"
     cases.holds("two VEVENTs without RECURRENCE-ID", number(message("REQUEST", vevent(), vevent())), "53")
@@ -218,10 +219,17 @@ def refusals(cases, program):
     cases.holds("two VEVENTs of an ADD that start together", number(message("ADD", vevent(slot=slot), vevent())), "54")
     cases.holds("two UIDs", number(message("REQUEST", vevent(), vevent("b", slot=slot))), "62")
     cases.holds("RANGE in an ADD", number(message("ADD", vevent(slot=slot)).replace("RECURRENCE-ID:", "RECURRENCE-ID;RANGE=THISANDFUTURE:")), "65")
-    cases.holds("RECURRENCE-ID in a zone", number(message("REQUEST", vevent(slot=slot)).replace("RECURRENCE-ID:", "RECURRENCE-ID;TZID=Europe/Berlin:")), "99")
-    for line in ("RRULE:FREQ=DAILY", "RDATE:20250311T090000Z", "EXDATE:20250310T090000Z"):
-        cases.holds(line, number(request(lines=("DURATION:PT1H", line))), "99")
-    cases.holds("TZID", number(request().replace("DTSTART:20250310T090000Z", "DTSTART;TZID=Europe/Berlin:20250310T090000")), "99")
+    berlin = "RECURRENCE-ID;TZID=Europe/Berlin:20250310T100000"
+    cases.holds("RECURRENCE-ID in a zone that isn't there", number(message("REQUEST", vevent(slot=slot)).replace("RECURRENCE-ID:" + slot, berlin)), "43")
+    cases.holds("RRULE", number(request(lines=("DURATION:PT1H", "RRULE:FREQ=DAILY"))), "99")
+    cases.holds("TZID of a zone that isn't there", number(request().replace("DTSTART:20250310T090000Z", "DTSTART;TZID=Europe/Berlin:20250310T090000")), "43")
+    cases.holds("a UTC time with TZID", number(request().replace("DTSTART:", "DTSTART;TZID=Europe/Berlin:")), "11")
+    cases.holds("a period in RDATE", number(request(lines=("DURATION:PT1H", "RDATE;VALUE=PERIOD:20250311T090000Z/PT1H"))), "56")
+    many = ",".join(f"20250311T{hour:02}{minute:02}00Z" for hour in range(7) for minute in range(60))[:17 * 367 - 1]
+    cases.holds("367 times of RDATE", number(request(lines=("DURATION:PT0S", "RDATE:" + many))), "56")
+    cases.holds("366 times of RDATE", one(request(lines=("DURATION:PT0S", "RDATE:" + many[:17 * 366 - 1]))), ["ACCEPTED"])
+    cases.holds("RDATE in an ADD", number(message("ADD", vevent(lines=("DURATION:PT1H", "RDATE:20250311T090000Z")))), "67")
+    cases.holds("RDATE beside RECURRENCE-ID", number(message("REQUEST", vevent(slot=slot, lines=("DURATION:PT1H", "RDATE:20250311T090000Z")))), "67")
     cases.holds("a whole day", number(request().replace("DTSTART:20250310T090000Z", "DTSTART;VALUE=DATE:20250310")), "55")
     cases.holds("a parameter without =", number(request().replace("ATTENDEE:", "ATTENDEE;X-FOO:")), "2")
     cases.holds("a mail before it", number("Content-Type: text/calendar\r\n\r\n" + request()), "23")
@@ -269,9 +277,48 @@ def zones(cases, program):
     cases.holds("a cancelled event", expanded("", "DTSTART:20250310T090000Z\r\nDURATION:PT1H\r\nSTATUS:CANCELLED")[:2], (0, "20250310T090000Z 20250310T090000Z 3600\n"))
 
 
+def zone_of(name, standard, daylight):
+    """A VTIMEZONE with the two changes of today: month, day of the week, hour of each, and the offsets."""
+    part = lambda kind, month, day, hour, before, after: [f"BEGIN:{kind}", f"DTSTART:19700101T{hour:02}0000", f"RRULE:FREQ=YEARLY;BYMONTH={month};BYDAY={day}", f"TZOFFSETFROM:{before}", f"TZOFFSETTO:{after}", f"END:{kind}"]
+    return ["BEGIN:VTIMEZONE", f"TZID:{name}", *part("STANDARD", *standard), *part("DAYLIGHT", *daylight), "END:VTIMEZONE"]
+
+
+def times_in_zones(cases, program):
+    europe = ((10, "-1SU", 3, "+0200", "+0100"), (3, "-1SU", 2, "+0100", "+0200"))
+    america = ((11, "1SU", 2, "-0400", "-0500"), (3, "2SU", 2, "-0500", "-0400"))
+    berlin, paris, york = zone_of("Berlin", *europe), zone_of("Paris", *europe), zone_of("York", *america)
+
+    def timed(uid, zone, name, start, lines=("DURATION:PT1H",), slot=None, sequence=0, method="REQUEST"):
+        event = [line.replace("DTSTART:", f"DTSTART;TZID={name}:") for line in vevent(uid, sequence, start, lines, slot=slot)]
+        return message(method, zone, event)
+
+    def tried(what, wanted, *objects):
+        cases.holds(what, answers(program, *objects), wanted)
+
+    morning = timed("a", berlin, "Berlin", "20250310T100000")
+    tried("10:00 in Berlin is 09:00Z", ["ACCEPTED", "DECLINED", "ACCEPTED"], morning, request("b", start="20250310T093000Z"), request("c", start="20250310T100000Z", lines=("DURATION:PT1H",)))
+    tried("the other name of a zone is the same part", ["ACCEPTED", "ACCEPTED"], morning, timed("a", paris, "Paris", "20250310T100000"))
+    tried("a listed time in a zone", ["ACCEPTED", "DECLINED"], timed("a", berlin, "Berlin", "20250310T100000", ("DURATION:PT1H", "RDATE;TZID=Berlin:20250311T100000")), request("b", start="20250311T093000Z", lines=("DURATION:PT1H",)))
+    tried("an excepted time in a zone", ["ACCEPTED", "ACCEPTED"], timed("a", berlin, "Berlin", "20250310T100000", ("DURATION:PT1H", "RDATE;TZID=Berlin:20250311T100000", "EXDATE:20250311T090000Z")), request("b", start="20250311T093000Z", lines=("DURATION:PT1H",)))
+    tried("two of a list overlap", ["DECLINED"], timed("a", berlin, "Berlin", "20250310T100000", ("DURATION:PT1H", "RDATE:20250310T093000Z")))
+    tried("the first of two instants", ["ACCEPTED", "DECLINED", "ACCEPTED"], timed("a", berlin, "Berlin", "20251026T023000", ("DURATION:PT30M",)), request("b", start="20251026T003000Z", lines=("DURATION:PT30M",)), request("c", start="20251026T013000Z", lines=("DURATION:PT30M",)))
+    tried("a listed instance is moved", ["ACCEPTED", "ACCEPTED", "ACCEPTED", "DECLINED"],
+          message("REQUEST", vevent("a", lines=("DURATION:PT1H", "RDATE:20250311T090000Z")), vevent("a", start="20250311T150000Z", slot="20250311T090000Z")), request("b", start="20250311T090000Z", lines=("DURATION:PT1H",)),
+          request("c", start="20250311T150000Z", lines=("DURATION:PT1H",)))
+    tried("an added instance in a zone", ["ACCEPTED", "ACCEPTED", "DECLINED"], morning, timed("a", berlin, "Berlin", "20250317T100000", sequence=1, method="ADD"), request("b", start="20250317T090000Z", lines=("DURATION:PT1H",)))
+    tried("a CANCEL without DTSTART frees", ["ACCEPTED", "ACCEPTED"], morning, request("a", 1, method="CANCEL", lines=()).replace("DTSTART:20250310T090000Z\r\n", ""), request("b"))
+    stream = PREAMBLE + morning + timed("n", york, "York", "20250312T100000") + timed("p", paris, "Paris", "20250311T100000", ("DURATION:P1D", "RDATE:20250316T090000Z,20250315T090000Z,20250316T090000Z", "EXDATE:19600101T000000Z,20250315T090000Z"))
+    lines = unfolded(run(program, "keep", R1, given=stream)[1]).split("\r\n")
+    cases.holds("each zone once, in order of first use", [line for line in lines if line.startswith("TZID:") or "TZID=" in line],
+                ["TZID:Z1", "TZID:Z2", "DTSTART;TZID=Z1:20250310T100000", "DTSTART;TZID=Z2:20250312T100000", "DTSTART;TZID=Z1:20250311T100000"])
+    cases.holds("lists in UTC, ascending, each once", [line for line in lines if line.startswith(("RDATE", "EXDATE", "DURATION"))],
+                ["DURATION:PT3600S", "DURATION:PT3600S", "DURATION:P1D", "RDATE:20250315T090000Z,20250316T090000Z", "EXDATE:20250315T090000Z"])
+    cases.holds("and how many", run(program, "keep", "--certificate", R1, given=stream)[1], "ROOMCERT 1\nSINGLES 4\nSERIES 0\nDONE\n")
+
+
 def main():
     program, cases = str(Path(sys.argv[1]).resolve()), Cases()
-    for part in (preambles, decisions, instances, added, replies, refusals, kept, zones):
+    for part in (preambles, decisions, instances, added, replies, refusals, kept, zones, times_in_zones):
         part(cases, program)
     print(f"{cases.count} cases, {cases.failed} failed")
     return 1 if cases.failed else 0

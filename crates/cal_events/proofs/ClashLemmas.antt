@@ -8,7 +8,7 @@ use Rattle.profile.specs.checker.Instances.{Booked, IsClear, IsWithin}
 use Rattle.cal_events.specs.declared.sweep.Span.{Span}
 use Rattle.cal_events.specs.declared.sweep.Overlap.{Overlap}
 use Rattle.cal_events.specs.declared.calendar.Entry.{Entry}
-use Rattle.cal_events.specs.declared.calendar.Single.{Single}
+use Rattle.cal_events.specs.declared.calendar.PlacedSingle.{PlacedSingle as Single}
 use Rattle.cal_events.specs.Calendars.{booked_in, span_of, HaveDifferentKeys}
 use Rattle.cal_events.specs.Clashes.{Names}
 use Rattle.cal_events.specs.Sweep.{span_at, AreApart, IsOverlap}

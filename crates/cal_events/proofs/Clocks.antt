@@ -1,4 +1,5 @@
 -- The clocks of an event's zone: what they show means one instant, and later ones later instants.
+use Rattle.cal_events.proofs.Meanings.{one_meaning}
 use Rattle.std.proofs.Common.{◌≡◌, ◌∙◌, ℕ, ◌≤◌, false, List, [], ◌∷◌, codes, sym, ap, subst, filter, inl, inr, ◌⊎◌, arith, ℤ, pos, negsuc, ◌+ℤ◌, ◌-ℤ◌, ◌<ℤ◌, ◌≤ℤ◌, unsigned_abs}
 use Rattle.std.specs.Prelude.{Option, Some, None, All, option_map}
 use Rattle.std.specs.Option.{option_to_list}
@@ -7,10 +8,10 @@ use Rattle.std.proofs.lemmas.Int.{ints}
 use Rattle.std.proofs.lemmas.List.Elements.{All-from_recursion, All-filter}
 use Rattle.profile.specs.text.Lines.{line_value, line_param}
 use Rattle.profile.specs.text.Trees.{Tree}
-use Rattle.profile.specs.series.Zones.{Zone, Constant, Single, Pair, Observance, IsZoneOnset, InForce, Since, Until, Means}
+use Rattle.profile.specs.series.Zones.{Zone, Constant, Single, Pair, Observance, IsZoneOnset, InForce, Since, Until, IsOneMeaning, Means}
 use Rattle.profile.specs.series.ZoneTexts.{AreMatched}
 use Rattle.profile.specs.events.ZonedTimes.{zone_named, SaysZoneOf, SpellsZoned, SaysZonedText, clock_of}
-use Rattle.profile.specs.events.Events.{Event, SaysEvent}
+use Rattle.profile.specs.events.Events.{Method, Event, SaysEvent}
 use Rattle.profile.specs.events.Meetings.{is_master}
 use Rattle.cal_events.specs.Events.{event_of}
 use Rattle.cal_events.specs.declared.component.EventComponent.{EventComponent}
@@ -83,15 +84,17 @@ clock_ascends object line text (Some zone) local h = spelled (line_param (codes 
     spelled None says = absurd says
     spelled (Some name) says = named (zone_named name object) says.1
 
-pub clock_good : (object : Tree) (lines : Lines) (event : Event) → SaysEvent object false lines event → HasGoodClock event
-clock_good object lines event s =
-    let t = s.times in
-    (clock_one object t.line (line_value t.line) event.times.zone event.times.local t.says, clock_ascends object t.line (line_value t.line) event.times.zone event.times.local t.says)
+pub clock_good : (object : Tree) {m : Option Method} (lines : Lines) (event : Event) → SaysEvent object m lines event → HasGoodClock event
+clock_good object lines event s = elim s.times [
+  | inl t ↦
+      (clock_one object t.line (line_value t.line) event.times.zone event.times.local t.says, clock_ascends object t.line (line_value t.line) event.times.zone event.times.local t.says)
+  | inr (_, t) ↦ subst (λ (z : Option Zone). IsOneMeaning (clock_of z) × IsAscending (clock_of z)) (sym t.zone) (one_meaning (Constant (pos 0)) tt, ascends (Constant (pos 0)) tt)
+]
 
-pub all_clocks : (object : Tree) (vs : List Lines) (es : List Event) → AllZip (SaysEvent object false) vs es → All HasGoodClock es
-all_clocks object vs es z = All-from_recursion HasGoodClock es (go vs es z)
+pub all_clocks : (object : Tree) (m : Option Method) (vs : List Lines) (es : List Event) → AllZip (SaysEvent object m) vs es → All HasGoodClock es
+all_clocks object m vs es z = All-from_recursion HasGoodClock es (go vs es z)
   where
-    go : (vs : List Lines) (es : List Event) → AllZip (SaysEvent object false) vs es → AllByRecursion HasGoodClock es
+    go : (vs : List Lines) (es : List Event) → AllZip (SaysEvent object m) vs es → AllByRecursion HasGoodClock es
     go [] [] z = tt
     go [] (e ∷ es) z = absurd z
     go (v ∷ vs) [] z = absurd z

@@ -173,7 +173,7 @@ module _ (events : List Event) (masters : MastersDiffer events) (overrides : Ove
 all_said : (object : Tree) (events : List Event) → SayEvents object events → All IsSaid events
 all_said object events z = All-from_recursion IsSaid events (go (vevents object) events z)
   where
-    go : (vs : List (List (List ℕ))) (es : List Event) → AllZip (SaysEvent object false) vs es → AllByRecursion IsSaid es
+    go : (vs : List (List (List ℕ))) (es : List Event) → AllZip (SaysEvent object None) vs es → AllByRecursion IsSaid es
     go [] [] z = tt
     go [] (e ∷ es) z = absurd z
     go (v ∷ vs) [] z = absurd z

@@ -26,7 +26,7 @@ use Rattle.profile.specs.checker.Calendars.{SayEvents, SaysCalendar, CalendarFau
 use Rattle.cal_events.specs.Drafts.{IsTwoOf, IsSaid, entry_said, name_said, override_keys, IsOwn, AreOwnAt, AreDrawn, IsDraft, IsMadeAt, AreShown, recurrence_at, is_shown_in}
 use Rattle.cal_events.specs.declared.calendar.Entry.{Entry}
 use Rattle.cal_events.specs.declared.instance.InstanceKey.{InstanceKey}
-use Rattle.cal_events.specs.declared.calendar.Single.{Single}
+use Rattle.cal_events.specs.declared.calendar.PlacedSingle.{PlacedSingle as Single}
 use Rattle.cal_events.specs.declared.draft.Draft.{Draft}
 use Rattle.cal_events.specs.Events.{event_of}
 use Rattle.cal_events.proofs.InOneOrder.{later, in_mapped, of_mapped, in_filtered, of_filtered, pairs_mapped, mapped_pairs}

@@ -1,14 +1,14 @@
 -- What the lines of a VEVENT say, worked by the definitions alone.
 use Rattle.std.proofs.Common.{◌≡◌, true, false, List, [], ◌∷◌, ◌<◌, length, codes, inl, inr, refl, ap, arith, ℕ, pos, sym}
 use Rattle.std.specs.Prelude.{Some, None}
-use Rattle.std.specs.List.{list_any}
 use Rattle.std.proofs.lemmas.Bool.{true≢false}
 use Rattle.std.proofs.lemmas.Int.{ints}
 use Rattle.profile.specs.series.Days.{days_before_year, days_of_months}
 use Rattle.profile.specs.text.Values.{SpellsStamp, SpellsDuration, unescaped}
 use Rattle.profile.specs.text.Trees.{Tree}
-use Rattle.profile.specs.events.Events.{Event, Accepted, Declined, SaysEvent, EventFault, booked_by, is_confirmed, is_unread_in_message, no_organiser}
+use Rattle.profile.specs.events.Events.{Event, Accepted, Declined, Request, SaysEvent, EventFault, is_confirmed, no_organiser}
 use Rattle.profile.specs.events.Properties.{IsDateText, TimeFault}
+use Rattle.profile.specs.events.ZonedTimes.{SaysNoStart}
 use Rattle.cal_events.proofs.Meanings.{utc_means}
 
 -- 2025-03-10T09:00:00Z is 1,741,597,200
@@ -78,7 +78,7 @@ no_need : {A : Type 0} → false ≡ true → A
 no_need h = absurd (true≢false (sym h))
 
 -- the lines of a calendar's VEVENT say this event, in whatever object they stand
-say : (object : Tree) → SaysEvent object false lines said
+say : (object : Tree) → SaysEvent object None lines said
 unfolding lines said unescaped
 say object = record {
   uid = record { line = Some (codes "uid:a"); once = refl; stands = λ _. refl; is = (refl, (omega arith, omega arith)) };
@@ -86,7 +86,7 @@ say object = record {
   stamp = record { line = None; once = refl; stands = no_need; is = tt };
   sequence = (None, record { line = None; once = refl; stands = no_need; is = tt }, refl);
   status = (None, refl, refl);
-  times = record {
+  times = inl (record {
     line = codes "DTSTART;VALUE=date-time:20250310T090000Z";
     once = refl;
     says = (refl, nine);
@@ -98,7 +98,7 @@ say object = record {
     lasts = ninety_minutes;
     most = omega arith;
     in_dates = (omega (arith, ints), omega (arith, ints), omega (arith, ints));
-  };
+  });
   rule = record { line = None; once = refl; stands = no_need; is = tt };
   occurrences = record {
     is = record { line = None; once = refl; stands = no_need; is = tt };
@@ -118,12 +118,8 @@ accepts : is_confirmed (codes "mailto:room@example.com") said ≡ true
 unfolding said
 accepts = refl
 
-books : booked_by said ≡ record { key = record { organiser = []; uid = codes "a"; slot = pos 1_741_597_200 }; start = pos 1_741_597_200; end = pos 1_741_602_600 }
-unfolding said
-books = refl
-
 -- a message lacks an organiser there
-lacks : (object : Tree) → EventFault object true lines 63
+lacks : (object : Tree) → EventFault object (Some Request) lines 63
 unfolding lines
 lacks object = no_organiser refl refl
 
@@ -150,7 +146,17 @@ a_utc_time_as_a_date = inr (no_date (codes "20250310T090000Z") (omega arith), re
 a_floating_time_as_a_date : TimeFault (codes "DTSTART;VALUE=DATE:20250310T090000") 11
 a_floating_time_as_a_date = inr (no_date (codes "20250310T090000") (omega arith), refl)
 
--- what isn't read yet in a message
-unread : (is_unread_in_message (codes "DTSTART;TZID=Europe/Paris:20250310T090000") ≡ true) × (is_unread_in_message (codes "Rrule:FREQ=DAILY") ≡ true) × (list_any is_unread_in_message lines ≡ false)
-unfolding lines
-unread = (refl, refl, refl)
+-- a CANCEL may lack its start: then its times are those of nothing
+no_start_said : (object : Tree) → SaysNoStart object (codes "UID:a" ∷ codes "DURATION:PT90M" ∷ []) (record { zone = None; local = pos 0; start = pos 0; length = record { days = 0; seconds = 5_400 } })
+no_start_said object = record {
+  missing = refl;
+  end_line = None;
+  duration_line = Some (codes "DURATION:PT90M");
+  end_once = refl;
+  duration_once = refl;
+  lasts = ninety_minutes;
+  most = omega arith;
+  zone = refl;
+  local = refl;
+  start = refl;
+}

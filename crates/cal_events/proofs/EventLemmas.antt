@@ -1,5 +1,5 @@
 -- What the readers of a VEVENT's properties say, put together.
-use Rattle.std.proofs.Common.{◌≡◌, ℕ, zero, suc, ◌+◌, ◌<◌, Bool, true, false, eqb, List, [], ◌∷◌, ◌++◌, length, get_or, drop, drop-cons, add-one, append_assoc, cond, map, codes, subst, sym, refl, ap, ◌∙◌, inl, inr, arith, ℤ}
+use Rattle.std.proofs.Common.{◌≡◌, ℕ, zero, suc, ◌+◌, ◌<◌, Bool, true, false, eqb, List, [], ◌∷◌, ◌++◌, length, get_or, drop, drop-cons, add-one, append_assoc, cond, map, codes, subst, sym, refl, ap, ◌∙◌, inl, inr, arith, ℤ, Option}
 use Rattle.std.specs.Prelude.{Option, Some, None, Result, Ok, Err, is_ok, is_some, IfOk, OnOk, OnErr, IfSome, IfNone, Contains, IsTrue, ◌↔◌}
 use Rattle.std.specs.List.{AllZip, find}
 use Rattle.std.proofs.lemmas.List.{map-append}
@@ -17,7 +17,7 @@ use Rattle.cal_events.specs.declared.component.Attendee.{Attendee}
 use Rattle.profile.specs.text.Lines.{line_value}
 use Rattle.profile.specs.text.Values.{SpellsDate, SpellsLocal, SpellsStamp, SpellsSequence, SpellsDuration, SpellsLong, IsUid, unescaped}
 use Rattle.profile.specs.text.Trees.{Tree}
-use Rattle.profile.specs.events.Events.{SaysSequence, EventFault, IsAttendee, bad_attendee}
+use Rattle.profile.specs.events.Events.{SaysSequence, EventFault, IsAttendee, bad_attendee, Method}
 use Rattle.profile.specs.events.Properties.{is_of, lines_named, StandsAtMostOnce, SomeLine, Says, IsUidLine, TimeKind, DateTime, time_kind, IsDateText, IsLocalText, KindFault, IsNegativeOrLong, IsNoAddress}
 use Rattle.cal_events.specs.Events.{attendee_of, IsTime}
 use Rattle.ical_tree.proofs.OneLine.{the_line}
@@ -123,7 +123,7 @@ attendee_pushed all left rest done line old new a e s h zip n is = (
       (push_zip IsAttendee done (map attendee_of old) line (attendee_of a) zip is),
 )
 
-pub attendee_fault : (object : Tree) (m : Bool) (all left rest done : List (List ℕ)) (line : List ℕ) (f : Fault)
+pub attendee_fault : (object : Tree) (m : Option Method) (all left rest done : List (List ℕ)) (line : List ℕ) (f : Fault)
     → lines_named (codes "ATTENDEE") all ≡ done ++ lines_named (codes "ATTENDEE") left → left ≡ line ∷ rest → is_of (codes "ATTENDEE") line ≡ true
     → RefusesBy (λ n. (n ≡ 15) × IsNoAddress line) f → RefusesBy (EventFault object m all) f
 attendee_fault object m all left rest done line Memory e s h w = tt

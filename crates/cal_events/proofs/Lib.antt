@@ -48,3 +48,4 @@ mod WholeLists
 mod PlaceLemmas
 mod Overlaps
 mod SingleStartLemmas
+pub mod OwnInstances

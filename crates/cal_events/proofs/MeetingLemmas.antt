@@ -22,8 +22,8 @@ use Rattle.ical_tree.proofs.TreeOfLemmas.{object_tree}
 use Rattle.ical_values.proofs.Exits.{err_exit}
 use Rattle.profile.specs.text.Lines.{logical_lines, reads_as_lines}
 use Rattle.profile.specs.text.Trees.{Tree, vevents}
-use Rattle.profile.specs.events.Events.{Event, SaysEvent, meeting_said}
-use Rattle.profile.specs.events.Meetings.{Method, Meeting, taken_by, is_same_meeting, is_master, is_override, is_meeting_fault, AreOfOne, InstancesDiffer, SaysMeeting, SpellsMeeting, MeetingFault, in_event, two_masters, two_overrides, no_event, two_meetings, MeetingTextFault, in_lines, in_tree, no_version, many_events, in_vevents}
+use Rattle.profile.specs.events.Events.{Event, SaysEvent, meeting_said, Method}
+use Rattle.profile.specs.events.Meetings.{Meeting, taken_by, is_same_meeting, is_master, is_override, is_meeting_fault, AreOfOne, InstancesDiffer, SaysMeeting, SpellsMeeting, MeetingFault, in_event, two_masters, two_overrides, no_event, two_meetings, MeetingTextFault, in_lines, in_tree, no_version, many_events, in_vevents}
 use Rattle.cal_events.proofs.ReadingLemmas.{never, unread_among}
 use Rattle.cal_events.specs.OneMeeting.{IsUnreadOrNoMeeting}
 use Rattle.cal_events.specs.declared.component.Purpose.{Purpose}
@@ -124,7 +124,7 @@ instant_pushed ts more os new t x r e m n =
 
 -- ---- an object
 
-none_said : (object : Tree) (m : Bool) (vs : List (List (List ℕ))) → AllZip (SaysEvent object m) vs [] → vs ≡ []
+none_said : (object : Tree) (m : Option Method) (vs : List (List (List ℕ))) → AllZip (SaysEvent object m) vs [] → vs ≡ []
 none_said object m [] z = refl
 none_said object m (v ∷ vs) z = absurd z
 
@@ -133,13 +133,13 @@ module _ (object : Tree) (vs : List (List (List ℕ))) (same : vevents object �
   among_there purpose n (lines, c, inl (is, h)) = inl (is, ap (list_any (has_unread_for purpose)) same ∙ unread_among (has_unread_for purpose) vs lines c h)
   among_there purpose n (lines, c, inr f) = inr (in_event lines (subst (λ (x : List (List (List ℕ))). Contains x lines) (sym same) c) f)
 
-  module _ (m : Option Method) (events : List Event) (zip : AllZip (SaysEvent object (is_some m)) vs events) where
-    pub said : AllZip (SaysEvent object (is_some m)) (vevents object) events
-    said = subst (λ (x : List (List (List ℕ))). AllZip (SaysEvent object (is_some m)) x events) (sym same) zip
+  module _ (m : Option Method) (events : List Event) (zip : AllZip (SaysEvent object m) vs events) where
+    pub said : AllZip (SaysEvent object m) (vevents object) events
+    said = subst (λ (x : List (List (List ℕ))). AllZip (SaysEvent object m) x events) (sym same) zip
 
     pub not_one_there : (n : ℕ) → IsNotOne events n → MeetingFault object m n
     not_one_there n (inl (is, none)) =
-        subst (MeetingFault object m) (sym is) (no_event (none_said object (is_some m) (vevents object) (subst (λ (es : List Event). AllZip (SaysEvent object (is_some m)) (vevents object) es) none said)))
+        subst (MeetingFault object m) (sym is) (no_event (none_said object m (vevents object) (subst (λ (es : List Event). AllZip (SaysEvent object m) (vevents object) es) none said)))
     not_one_there n (inr (is, not)) = subst (MeetingFault object m) (sym is) (two_meetings events said not)
 
     pub masters_there : (n : ℕ) → (n ≡ 53) × (1 < length (filter is_master (taken_by m events))) → MeetingFault object m n

@@ -16,11 +16,11 @@ use Rattle.profile.specs.events.Properties.{TimeKind, DateTime, Date, Period, Ot
 use Rattle.profile.specs.events.ZonedTimes.{is_in_zone, zone_named, DateOrMalformed, LocalFault, NamedFault, FaultIn, ZonedTimeFault, EventTimesFault, bad_start, bad_end, bad_duration, ends_early, ends_late, lasts_long, starts_out, ends_out, no_start, twice as times_twice, end_and_duration}
 use Rattle.profile.specs.series.RuleTexts.{RuleFault, unknown, bad_value, no_frequency, two_frequencies, twice as rule_twice, apart, two_ends}
 use Rattle.profile.specs.events.EventRules.{EventRuleFault, bad_rule, starts_outside, two_rules}
-use Rattle.profile.specs.events.Occurrences.{recurs_beside_recurrence, Entry, EntryFault, entries_of, entries_named, EntriesFault, in_entry, too_many, OccurrenceFault, bad_recurrence, bad_additions, bad_exceptions, recurrence_out, additions_out, two_recurrences, ranged, recurs}
+use Rattle.profile.specs.events.Occurrences.{recurs_as_instance, Entry, EntryFault, entries_of, entries_named, EntriesFault, in_entry, too_many, OccurrenceFault, bad_recurrence, bad_additions, bad_exceptions, recurrence_out, additions_out, two_recurrences, ranged, recurs}
 use Rattle.cal_events.specs.declared.component.Purpose.{Purpose}
 use Rattle.cal_events.specs.declared.component.Purpose.TheVariants.{Request, Add, Cancel, Meeting}
-use Rattle.cal_events.specs.Events.{is_message, has_unread_for, is_fault_for, is_unread_fault}
-use Rattle.profile.specs.events.Events.{EventFault, in_times, in_rule, in_occurrences, bad_stamp, bad_uid, bad_organiser, bad_attendee, bad_sequence, no_uid, no_stamp_given, twice, no_organiser}
+use Rattle.cal_events.specs.Events.{is_message, has_unread_for, is_fault_for, is_unread_fault, method_read}
+use Rattle.profile.specs.events.Events.{EventFault, in_times, in_rule, in_occurrences, bad_stamp, bad_uid, bad_organiser, bad_attendee, bad_sequence, no_uid, no_stamp_given, twice, no_organiser, Method}
 
 abbrev Lines : Type 0
 Lines = List (List ℕ)
@@ -86,7 +86,7 @@ line_number object line n f = text_number object (line_param (codes "TZID") line
 
 -- ---- the times, and the event
 
-pub times_number : (object : Tree) (lines : Lines) (n : ℕ) → EventTimesFault object lines n → is_zoned_event_fault n ≡ true
+pub times_number : {may : Bool} (object : Tree) (lines : Lines) (n : ℕ) → EventTimesFault may object lines n → is_zoned_event_fault n ≡ true
 times_number object lines n (bad_start l) = line_number object l.0 n l.2
 times_number object lines n (bad_end l) = line_number object l.0 n l.2
 times_number object lines n (bad_duration l) = refl
@@ -95,13 +95,13 @@ times_number object lines n (ends_late x) = refl
 times_number object lines n (lasts_long l) = refl
 times_number object lines n (starts_out l) = refl
 times_number object lines n (ends_out l) = refl
-times_number object lines n (no_start h) = refl
+times_number object lines n (no_start _ h) = refl
 times_number object lines n (times_twice name c h) = refl
 times_number object lines n (end_and_duration e d) = refl
 
-pub times_refused : (object : Tree) (lines : Lines) (f : Fault) → RefusesBy (EventTimesFault object lines) f → RefusesOnly is_zoned_event_fault f
-times_refused object lines Memory h = tt
-times_refused object lines (Refused r) h = times_number object lines r.number h
+pub times_refused : (may : Bool) (object : Tree) (lines : Lines) (f : Fault) → RefusesBy (EventTimesFault may object lines) f → RefusesOnly is_zoned_event_fault f
+times_refused may object lines Memory h = tt
+times_refused may object lines (Refused r) h = times_number object lines r.number h
 
 -- ---- a series
 
@@ -135,7 +135,7 @@ entries_number : (object : Tree) (name : List ℕ) (es : List Entry) (n : ℕ) �
 entries_number object name es n (in_entry e c f) = entry_number object name e n f
 entries_number object name es n (too_many more) = refl
 
-occurrence_number : (object : Tree) (lines : Lines) (n : ℕ) → OccurrenceFault object lines n → is_meeting_event_fault n ≡ true
+occurrence_number : {added : Bool} (object : Tree) (lines : Lines) (n : ℕ) → OccurrenceFault added object lines n → is_meeting_event_fault n ≡ true
 occurrence_number object lines n (bad_recurrence l) = meeting_wider n (series_wider n (line_number object l.0 n l.2))
 occurrence_number object lines n (bad_additions f) = entries_number object (codes "RDATE") (entries_named (codes "RDATE") lines) n f
 occurrence_number object lines n (bad_exceptions f) = entries_number object (codes "EXDATE") (entries_named (codes "EXDATE") lines) n f
@@ -145,7 +145,7 @@ occurrence_number object lines n (two_recurrences t) = refl
 occurrence_number object lines n (ranged l) = refl
 occurrence_number object lines n (recurs t) = refl
 
-component_number : (object : Tree) (m : Bool) (lines : Lines) (n : ℕ) → EventFault object m lines n → is_meeting_event_fault n ≡ true
+component_number : (object : Tree) (m : Option Method) (lines : Lines) (n : ℕ) → EventFault object m lines n → is_meeting_event_fault n ≡ true
 component_number object m lines n (in_times f) = meeting_wider n (series_wider n (times_number object lines n f))
 component_number object m lines n (in_rule f) = meeting_wider n (rule_number object lines n f)
 component_number object m lines n (in_occurrences f) = occurrence_number object lines n f
@@ -161,10 +161,10 @@ component_number object m lines n (no_organiser t x) = refl
 
 -- ---- what a VEVENT is refused for
 
-pub number_for : (object : Tree) (purpose : Purpose) (lines : Lines) (n : ℕ) → EventFault object (is_message purpose) lines n → is_fault_for purpose n ≡ true
-number_for object purpose lines n f = ap (λ b. b || is_unread_fault purpose n) (component_number object (is_message purpose) lines n f)
+pub number_for : (object : Tree) (purpose : Purpose) (lines : Lines) (n : ℕ) → EventFault object (method_read purpose) lines n → is_fault_for purpose n ≡ true
+number_for object purpose lines n f = ap (λ b. b || is_unread_fault purpose n) (component_number object (method_read purpose) lines n f)
 
-pub refused_for : (object : Tree) (purpose : Purpose) (lines : Lines) → (f : Fault) → RefusesBy (EventFault object (is_message purpose) lines) f
+pub refused_for : (object : Tree) (purpose : Purpose) (lines : Lines) → (f : Fault) → RefusesBy (EventFault object (method_read purpose) lines) f
     → RefusesOnly (is_fault_for purpose) f
 refused_for object purpose lines Memory s = tt
 refused_for object purpose lines (Refused r) s = number_for object purpose lines r.number s

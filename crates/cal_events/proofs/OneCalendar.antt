@@ -1,9 +1,9 @@
 -- The VEVENTs of an object say at most one calendar for a room, and none where a fault stands in them.
-use Rattle.std.proofs.Common.{◌≡◌, ◌∙◌, ℕ, Bool, false, List, filter, subst, sym, ap, inl, inr, arith}
+use Rattle.std.proofs.Common.{◌≡◌, ◌∙◌, ℕ, Bool, false, List, filter, subst, sym, ap, inl, inr, arith, Option, None}
 use Rattle.std.specs.List.{AllZip, flat_map}
 use Rattle.profile.specs.text.Trees.{Tree, vevents}
 use Rattle.profile.specs.checker.Instances.{Booked}
-use Rattle.profile.specs.events.Events.{Event, SaysEvent, EventFault}
+use Rattle.profile.specs.events.Events.{Event, SaysEvent, EventFault, Method}
 use Rattle.profile.specs.events.Confirmed.{Confirmed, IsSingle, AreSingles, IsSeries, is_series, MastersDiffer, OverridesDiffer}
 use Rattle.profile.specs.checker.Calendars.{SaysCalendar, CalendarFault, in_event, two_masters, two_overrides}
 use Rattle.std.proofs.lemmas.Int.{ints}
@@ -14,13 +14,13 @@ use Rattle.cal_events.proofs.SeriesLemmas.{one_series}
 use Rattle.cal_events.proofs.Zips.{zip_one, zip_at}
 
 abbrev pub OneEvent : Type 0
-OneEvent = (object : Tree) (m : Bool) (lines : List (List ℕ)) (a b : Event) → SaysEvent object m lines a → SaysEvent object m lines b → a ≡ b
+OneEvent = (object : Tree) (m : Option Method) (lines : List (List ℕ)) (a b : Event) → SaysEvent object m lines a → SaysEvent object m lines b → a ≡ b
 
 abbrev pub NoFault : Type 0
-NoFault = (object : Tree) (m : Bool) (lines : List (List ℕ)) (a : Event) (n : ℕ) → SaysEvent object m lines a → EventFault object m lines n → ⊥
+NoFault = (object : Tree) (m : Option Method) (lines : List (List ℕ)) (a : Event) (n : ℕ) → SaysEvent object m lines a → EventFault object m lines n → ⊥
 
-pub same_events : OneEvent → (object : Tree) (a b : List Event) → AllZip (SaysEvent object false) (vevents object) a → AllZip (SaysEvent object false) (vevents object) b → a ≡ b
-same_events one object a b s t = zip_one (SaysEvent object false) (λ lines x y h k. one object false lines x y h k) (vevents object) a b s t
+pub same_events : OneEvent → (object : Tree) (a b : List Event) → AllZip (SaysEvent object None) (vevents object) a → AllZip (SaysEvent object None) (vevents object) b → a ≡ b
+same_events one object a b s t = zip_one (SaysEvent object None) (λ lines x y h k. one object None lines x y h k) (vevents object) a b s t
 
 never_first : (x : Booked) → ComesBefore x x → ⊥
 never_first x (inl l) = absurd (omega (arith, ints, l))
@@ -53,6 +53,6 @@ one_calendar one room object a b s t =
 
 pub no_fault : OneEvent → NoFault → (room : List ℕ) (object : Tree) (a : Confirmed) (n : ℕ) → SaysCalendar room object a → CalendarFault object n → ⊥
 no_fault one sound room object a n s (in_event lines at fault) =
-    let e = zip_at (SaysEvent object false) (vevents object) s.events lines s.says at in sound object false lines e.0 n e.1 fault
+    let e = zip_at (SaysEvent object None) (vevents object) s.events lines s.says at in sound object None lines e.0 n e.1 fault
 no_fault one sound room object a n s (two_masters events says twins) = twins (subst MastersDiffer (same_events one object s.events events s.says says) s.masters)
 no_fault one sound room object a n s (two_overrides events says twins) = twins (subst OverridesDiffer (same_events one object s.events events s.says says) s.overrides)

@@ -8,14 +8,14 @@ use Rattle.std.proofs.lemmas.Option.{same_Some}
 use Rattle.profile.specs.text.Lines.{line_value}
 use Rattle.profile.specs.text.Values.{SpellsStamp, SpellsSequence, IsUid, unescaped}
 use Rattle.profile.specs.text.Trees.{Tree}
-use Rattle.profile.specs.events.Events.{SaysEvent, Event, Attendee, IsAttendee, EventFault, single_names, in_times, in_rule, in_occurrences, bad_stamp, bad_uid, bad_organiser, bad_attendee, bad_sequence, no_uid, no_stamp_given, twice, no_organiser}
+use Rattle.profile.specs.events.Events.{Method, SaysEvent, Event, Attendee, IsAttendee, EventFault, single_names, in_times, in_rule, in_occurrences, bad_stamp, bad_uid, bad_organiser, bad_attendee, bad_sequence, no_uid, no_stamp_given, twice, no_organiser}
 use Rattle.profile.specs.events.Properties.{lines_named, IsMissing, Says, IsUidLine, IsAddressLine, IsStampLine, IsSequenceLine, IsNoStamp, IsNoAddress, IsNoSequence, TimeKind, DateTime, Date, Period, Other, time_kind, IsDateText, IsLocalText, UnfixedOrMalformed, KindFault, TimeFault}
 use Rattle.ical_tree.proofs.OneLine.{IsFunctional}
 use Rattle.cal_events.proofs.Said.{same_said, said_by}
 use Rattle.cal_events.proofs.Zips.{zip_one, zip_at}
 use Rattle.cal_events.proofs.OneOccurrences.{one_status, one_occurrences, no_occurrence_fault}
-use Rattle.cal_events.proofs.OneEventRule.{OneRule, NoRuleFault, one_event_rule, no_rule_fault}
-use Rattle.cal_events.proofs.OneTimes.{Lines, OneZonedTime, NoTimeFault, OneDuration, NotBoth, IsLone, at_most_one, one_times, no_times_fault}
+use Rattle.cal_events.proofs.OneEventRule.{OneRule, NoRuleFault, one_event_rule, no_rule_fault_by}
+use Rattle.cal_events.proofs.OneTimes.{Lines, OneZonedTime, NoTimeFault, OneDuration, NotBoth, IsLone, at_most_one, one_times_by, no_times_fault_by}
 
 abbrev OneStamp : Type 0
 OneStamp = (text : List ℕ) (a b : ℤ) → SpellsStamp text a → SpellsStamp text b → a ≡ b
@@ -59,18 +59,18 @@ event_same a b p q r s c o t w x y u = λ i. record {
   attendees = u i;
 }
 
-pub one_event : OneStamp → OneDuration → OneSequence → OneZonedTime → OneRule → (object : Tree) (m : Bool) (lines : Lines) (a b : Event) → SaysEvent object m lines a → SaysEvent object m lines b → a ≡ b
+pub one_event : OneStamp → OneDuration → OneSequence → OneZonedTime → OneRule → (object : Tree) (m : Option Method) (lines : Lines) (a b : Event) → SaysEvent object m lines a → SaysEvent object m lines b → a ≡ b
 one_event one two three zoned rules object m lines a b s t =
     let same = one_occurrences zoned object lines a.recurrence b.recurrence a.additions b.additions a.exceptions b.exceptions s.occurrences t.occurrences in
     let given = same_said IsSequenceLine (codes "SEQUENCE") false lines s.sequence.0 t.sequence.0 (sequence_one three) s.sequence.1 t.sequence.1 in
     event_same a b
     (same_Some a.uid b.uid (same_said IsUidLine (codes "UID") true lines (Some a.uid) (Some b.uid) uid_one s.uid t.uid))
-    (same_said IsAddressLine (codes "ORGANIZER") m lines a.organiser b.organiser address_one s.organiser t.organiser)
-    (same_said IsStampLine (codes "DTSTAMP") m lines a.stamp b.stamp (stamp_one one) s.stamp t.stamp)
+    (same_said IsAddressLine (codes "ORGANIZER") (is_some m) lines a.organiser b.organiser address_one s.organiser t.organiser)
+    (same_said IsStampLine (codes "DTSTAMP") (is_some m) lines a.stamp b.stamp (stamp_one one) s.stamp t.stamp)
     (s.sequence.2 ∙ ap (λ (o : Option ℕ). unwrap_or o 0) given ∙ sym t.sequence.2)
     (one_status lines a.cancelled b.cancelled s.status t.status)
     same.0
-    (one_times zoned two object lines a.times b.times s.times t.times)
+    (one_times_by zoned two object lines a.times b.times s.times t.times)
     (one_event_rule zoned two rules object lines a.times b.times a.rule b.rule s.times t.times s.rule t.rule)
     same.1
     same.2
@@ -102,7 +102,7 @@ stands_some R name m lines v s t missing = go s.line (sym s.once ∙ missing) (s
     go None h k = true≢false (sym k)
     go (Some x) h k = cc
 
-all_lone : (object : Tree) (m : Bool) (lines : Lines) (e : Event) → SaysEvent object m lines e → All (IsLone lines) single_names
+all_lone : (object : Tree) (m : Option Method) (lines : Lines) (e : Event) → SaysEvent object m lines e → All (IsLone lines) single_names
 all_lone object m lines e s =
     All-from_recursion (IsLone lines) single_names (
       at_most_one (codes "UID") lines s.uid.line s.uid.once,
@@ -118,18 +118,18 @@ all_lone object m lines e s =
       ),
     )
 
-module _ (two : OneDuration) (apart : NotBoth) (zoned : OneZonedTime) (sound : NoTimeFault) (rules : OneRule) (faultless : NoRuleFault) (object : Tree) (m : Bool) (lines : Lines) (event : Event) (s : SaysEvent object m lines event) where
+module _ (two : OneDuration) (apart : NotBoth) (zoned : OneZonedTime) (sound : NoTimeFault) (rules : OneRule) (faultless : NoRuleFault) (object : Tree) (m : Option Method) (lines : Lines) (event : Event) (s : SaysEvent object m lines event) where
   pub no_fault : (n : ℕ) → EventFault object m lines n → ⊥
-  no_fault n (in_times f) = no_times_fault zoned sound two apart object lines event.times s.times n f
-  no_fault n (in_rule f) = no_rule_fault zoned rules faultless object lines event.times event.rule s.times s.rule n f
+  no_fault n (in_times f) = no_times_fault_by zoned sound two apart object lines event.times s.times n f
+  no_fault n (in_rule f) = no_rule_fault_by zoned rules faultless object lines event.times event.rule s.times s.rule n f
   no_fault n (in_occurrences f) = no_occurrence_fault zoned sound object lines event.recurrence event.additions event.exceptions s.occurrences n f
-  no_fault n (bad_stamp l) = let f = said_by IsStampLine (λ line. IsNoStamp (line_value line)) (codes "DTSTAMP") m lines event.stamp s.stamp l in l.2 f.0 f.1
+  no_fault n (bad_stamp l) = let f = said_by IsStampLine (λ line. IsNoStamp (line_value line)) (codes "DTSTAMP") (is_some m) lines event.stamp s.stamp l in l.2 f.0 f.1
   no_fault n (bad_uid l) =
       let f = said_by IsUidLine (λ line. IsUid (unescaped (line_value line)) → ⊥) (codes "UID") true lines (Some event.uid) s.uid l in l.2 (subst IsUid f.1.0 f.1.1)
-  no_fault n (bad_organiser l) = let f = said_by IsAddressLine IsNoAddress (codes "ORGANIZER") m lines event.organiser s.organiser l in l.2 f.1.0
+  no_fault n (bad_organiser l) = let f = said_by IsAddressLine IsNoAddress (codes "ORGANIZER") (is_some m) lines event.organiser s.organiser l in l.2 f.1.0
   no_fault n (bad_attendee l) = let f = zip_at IsAttendee (lines_named (codes "ATTENDEE") lines) event.attendees l.0 s.attendees l.1 in l.2 f.1.0.0
   no_fault n (bad_sequence l) = let f = said_by IsSequenceLine IsNoSequence (codes "SEQUENCE") false lines s.sequence.0 s.sequence.1 l in l.2 f.0 f.1
   no_fault n (no_uid h) = stands_some IsUidLine (codes "UID") true lines (Some event.uid) s.uid refl h
-  no_fault n (no_stamp_given t h) = stands_some IsStampLine (codes "DTSTAMP") m lines event.stamp s.stamp t h
+  no_fault n (no_stamp_given t h) = stands_some IsStampLine (codes "DTSTAMP") (is_some m) lines event.stamp s.stamp t h
   no_fault n (twice name c h) = let l = All-contains (IsLone lines) single_names name (all_lone object m lines event s) c in absurd (omega arith)
-  no_fault n (no_organiser t h) = stands_some IsAddressLine (codes "ORGANIZER") m lines event.organiser s.organiser t h
+  no_fault n (no_organiser t h) = stands_some IsAddressLine (codes "ORGANIZER") (is_some m) lines event.organiser s.organiser t h

@@ -10,10 +10,10 @@ use Rattle.profile.specs.text.Trees.{Tree}
 use Rattle.profile.specs.series.Rules.{Parts, RuleText, Until, UntilDay, UntilLocal, UntilInstant, rule_of, is_rule_day, is_counted}
 use Rattle.profile.specs.series.RuleTexts.{SpellsRule, RuleFault}
 use Rattle.profile.specs.series.Zones.{Zone, IsOneMeaning, NoneFrom, IsLastDay}
-use Rattle.profile.specs.events.ZonedTimes.{SaysZonedTime, clock_of, is_in_zone, first_local, EventTimes, SaysEventTimes}
+use Rattle.profile.specs.events.ZonedTimes.{SaysZonedTime, clock_of, is_in_zone, first_local, EventTimes, SaysEventTimes, SaysTimes}
 use Rattle.profile.specs.events.EventRules.{IsLastAllowed, AllowsNone, IsOnDay, GivesRule, IsRuleLine, SaysEventRule, IsOutside, EventRuleFault, bad_rule, starts_outside, two_rules}
 use Rattle.ical_tree.proofs.OneLine.{IsFunctional, only_line}
-use Rattle.cal_events.proofs.OneTimes.{Lines, OneZonedTime, OneDuration, at_most_one, clock_one, one_times}
+use Rattle.cal_events.proofs.OneTimes.{Lines, OneZonedTime, OneDuration, at_most_one, clock_one, one_times_by, clock_by, none_there}
 use Rattle.cal_events.proofs.Said.{same_said, said_by}
 
 abbrev pub OneRule : Type 0
@@ -65,11 +65,11 @@ rule_one rules times one line a b (text, spelled, g) (other, said, h) =
     same_given (clock_of times.zone) times.local one other a b
     (subst (λ (t : RuleText). GivesRule (clock_of times.zone) times.local t a) (rules (line_value line) text other spelled said) g) h
 
-pub one_event_rule : OneZonedTime → OneDuration → OneRule → (object : Tree) (lines : Lines) (s t : EventTimes) (a b : Option Parts) → SaysEventTimes object lines s → SaysEventTimes object lines t
+pub one_event_rule : OneZonedTime → OneDuration → OneRule → {may : Bool} (object : Tree) (lines : Lines) (s t : EventTimes) (a b : Option Parts) → SaysTimes may object lines s → SaysTimes may object lines t
     → SaysEventRule lines s a → SaysEventRule lines t b → a ≡ b
 one_event_rule zoned two rules object lines s t a b h k p q =
-    let e = one_times zoned two object lines s t h k in
-    same_said (IsRuleLine t) (codes "RRULE") false lines a b (rule_one rules t (clock_one object k.line (line_value k.line) t.zone t.local k.says))
+    let e = one_times_by zoned two object lines s t h k in
+    same_said (IsRuleLine t) (codes "RRULE") false lines a b (rule_one rules t (clock_by object lines t k))
     (subst (λ (x : EventTimes). SaysEventRule lines x a) e p) q
 
 -- ---- no fault stands where a rule is said
@@ -119,3 +119,11 @@ module _ (zoned : OneZonedTime) (rules : OneRule) (none : NoRuleFault) (object :
       (subst (λ (t : RuleText). IsOutside (clock_of times.zone) times.local t) text
       (subst (λ (x : ℤ). IsOutside (clock_of times.zone) x out.text) z.1 (subst (λ (x : Option Zone). IsOutside (clock_of x) out.local out.text) z.0 out.outside)))
   no_rule_fault n (two_rules h) = let l = at_most_one (codes "RRULE") lines r.line r.once in absurd (omega (arith, l, h))
+
+pub no_rule_fault_by : OneZonedTime → OneRule → NoRuleFault → {may : Bool} (object : Tree) (lines : Lines) (times : EventTimes) (rule : Option Parts) → SaysTimes may object lines times → SaysEventRule lines times rule
+    → (n : ℕ) → EventRuleFault object lines n → ⊥
+no_rule_fault_by zoned rules none object lines times rule (inl s) r n f = no_rule_fault zoned rules none object lines times rule s r n f
+no_rule_fault_by zoned rules none object lines times rule (inr (_, s)) r n (bad_rule l) =
+    let f = said_by (IsRuleLine times) _ (codes "RRULE") false lines rule r l in none (line_value l.0) n f.1.0 l.2.stands f.1.1
+no_rule_fault_by zoned rules none object lines times rule (inr (_, s)) r n (starts_outside l) = none_there _ lines s.missing l
+no_rule_fault_by zoned rules none object lines times rule (inr (_, s)) r n (two_rules h) = let l = at_most_one (codes "RRULE") lines r.line r.once in absurd (omega (arith, l, h))

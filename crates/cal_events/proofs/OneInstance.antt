@@ -1,5 +1,5 @@
 -- The instances of an event that octets spell: one at each place, in the dates that an event may name. None ends before it starts.
-use Rattle.std.proofs.Common.{◌≡◌, ◌∙◌, ℕ, zero, suc, ◌*◌, ◌<◌, ◌≤◌, true, false, ◌&&◌, nat_le, List, [], ◌∷◌, codes, map, filter, get_or, length, sym, ap, subst, refl, inl, inr, ◌⊎◌, arith, ℤ, pos, ◌+ℤ◌, ◌-ℤ◌, ◌≤ℤ◌, unsigned_abs}
+use Rattle.std.proofs.Common.{◌≡◌, ◌∙◌, ℕ, zero, suc, ◌*◌, ◌<◌, ◌≤◌, true, false, ◌&&◌, nat_le, List, [], ◌∷◌, codes, map, filter, get_or, length, sym, ap, subst, refl, inl, inr, ◌⊎◌, arith, ℤ, pos, ◌+ℤ◌, ◌-ℤ◌, ◌≤ℤ◌, unsigned_abs, Bool}
 use Rattle.std.specs.Prelude.{Option, Some, None, All, Contains}
 use Rattle.std.specs.Option.{option_to_list}
 use Rattle.std.specs.List.{AllZip, AllByRecursion}
@@ -14,24 +14,19 @@ use Rattle.profile.specs.series.Zones.{Zone, Constant, Single, Pair, Observance,
 use Rattle.profile.specs.series.ZoneTexts.{AreMatched, AreSpaced, HasForm, pair, IsRuleOnset, PartsSay, year_pattern}
 use Rattle.profile.specs.checker.Instances.{Key, Booked}
 use Rattle.profile.specs.events.Properties.{BothOrNeither}
-use Rattle.profile.specs.events.ZonedTimes.{zone_named, SaysZoneOf, SpellsZoned, SaysZonedText, clock_of, EventTimes}
+use Rattle.profile.specs.events.ZonedTimes.{zone_named, SaysZoneOf, SpellsZoned, SaysZonedText, clock_of, EventTimes, SaysTimes}
 use Rattle.profile.specs.events.Occurrences.{IsRecurrenceLine}
-use Rattle.profile.specs.events.Events.{Event, SaysEvent}
+use Rattle.profile.specs.events.Events.{Method, Event, SaysEvent}
 use Rattle.profile.specs.events.Meetings.{Meeting, is_master, is_override, InstancesDiffer, SaysMeeting}
 use Rattle.profile.specs.events.Starts.{IsDaysLater, EndsAt, IsOverridden, IsOfMaster, IsOfOverride, IsInstance, key_at}
 use Rattle.cal_events.specs.Meetings.{IsNamed}
+use Rattle.cal_events.specs.OwnInstances.{IsSteady}
 use Rattle.cal_zones.proofs.Zones.{unique, once_constant, once_single, once_pair}
 use Rattle.cal_events.proofs.Meanings.{one_meaning}
 use Rattle.cal_events.proofs.OneTimes.{Lines}
 use Rattle.cal_events.proofs.Clocks.{ReadsWith, near, single_in_force, pair_in_force, single_reads, pair_reads, constant_reads}
 
 -- ---- the clocks of a zone
-
--- at each instant they have one offset, a local time means one instant, and it isn't much later with another offset
-pub record IsSteady (z : Zone) : Type 0 where
-  pub offset : IsOneOffset z
-  pub meaning : IsOneMeaning z
-  pub keeps : (t offset local u : ℤ) → IsOffsetAt z t offset → Means z local u → (local -ℤ offset) ≤ℤ (u +ℤ pos 43_200)
 
 stays : (x y offset local u : ℤ) → (x ≤ℤ (y +ℤ pos 43_200)) × (y ≤ℤ (x +ℤ pos 43_200)) → (offset ≡ x) ⊎ (offset ≡ y) → ReadsWith x y local u → (local -ℤ offset) ≤ℤ (u +ℤ pos 43_200)
 stays x y offset local u n (inl e) (inl p) = omega (arith, ints, e, p)
@@ -100,19 +95,27 @@ recurrence_named object line r slot h e = go line (subst (BothOrNeither (IsRecur
     go None h = absurd h
     go (Some l) (_, (_, _, _, _, dates)) = (dates.1, dates.2)
 
-pub event_sound : (object : Tree) (lines : Lines) (event : Event) → SaysEvent object false lines event → IsSound event
+-- its clocks, and where it starts
+times_sound : {may : Bool} (object : Tree) (lines : Lines) (times : EventTimes) → SaysTimes may object lines times → IsSteady (clock_of times.zone) × IsNamed times.start
+times_sound object lines times (inl t) = (clock_steady object t.line (line_value t.line) times.zone times.local t.says, (t.in_dates.1, t.in_dates.2))
+times_sound object lines times (inr (_, t)) = (
+  subst (λ (z : Option Zone). IsSteady (clock_of z)) (sym t.zone) utc_steady,
+  subst IsNamed (sym t.start) (omega (arith, ints), omega (arith, ints)),
+)
+
+pub event_sound : (object : Tree) {m : Option Method} (lines : Lines) (event : Event) → SaysEvent object m lines event → IsSound event
 event_sound object lines event s =
-    let t = s.times in
+    let t = times_sound object lines event.times s.times in
     record {
-      steady = clock_steady object t.line (line_value t.line) event.times.zone event.times.local t.says;
-      starts = (t.in_dates.1, t.in_dates.2);
+      steady = t.0;
+      starts = t.1;
       names = λ slot e. recurrence_named object s.occurrences.is.line event.recurrence slot s.occurrences.is.is e;
     }
 
-all_sound : (object : Tree) (vs : List Lines) (es : List Event) → AllZip (SaysEvent object false) vs es → All IsSound es
-all_sound object vs es z = All-from_recursion IsSound es (go vs es z)
+pub all_sound : (object : Tree) (m : Option Method) (vs : List Lines) (es : List Event) → AllZip (SaysEvent object m) vs es → All IsSound es
+all_sound object m vs es z = All-from_recursion IsSound es (go vs es z)
   where
-    go : (vs : List Lines) (es : List Event) → AllZip (SaysEvent object false) vs es → AllByRecursion IsSound es
+    go : (vs : List Lines) (es : List Event) → AllZip (SaysEvent object m) vs es → AllByRecursion IsSound es
     go [] [] z = tt
     go [] (e ∷ es) z = absurd z
     go (v ∷ vs) [] z = absurd z
@@ -182,7 +185,7 @@ booked_same a b p q r = λ i. record { key = p i; start = q i; end = r i }
 
 module _ (object : Tree) (meeting : Meeting) (s : SaysMeeting object None meeting) where
   sound : All IsSound s.events
-  sound = all_sound object (vevents object) s.events s.says
+  sound = all_sound object None (vevents object) s.events s.says
 
   master_sound : (m : Event) → meeting.master ≡ Some m → IsSound m
   master_sound m is =

@@ -29,7 +29,7 @@ listed_one one object name (line, text) a b h k = text_instant one object line t
 lists_one : OneZonedTime → (object : Tree) (name : List ℕ) (entries : List Entry) (a b : List ℤ) → Lists object name entries a → Lists object name entries b → a ≡ b
 lists_one one object name entries a b h k = zip_one (IsListed object name) (listed_one one object name) entries a b h.0 k.0
 
-pub one_occurrences : OneZonedTime → (object : Tree) (lines : Lines) (r q : Option ℤ) (a b e f : List ℤ) → SaysOccurrences object lines r a e → SaysOccurrences object lines q b f
+pub one_occurrences : OneZonedTime → {added : Bool} (object : Tree) (lines : Lines) (r q : Option ℤ) (a b e f : List ℤ) → SaysOccurrences added object lines r a e → SaysOccurrences added object lines q b f
     → (r ≡ q) × (a ≡ b) × (e ≡ f)
 one_occurrences one object lines r q a b e f s t = (
   same_said (IsRecurrenceLine object) (codes "RECURRENCE-ID") false lines r q (recurrence_one one object) s.is t.is,
@@ -55,8 +55,8 @@ no_entries_fault none object name entries ts s n (too_many more) =
 inside_or_out : OneZonedTime → (object : Tree) (e : Entry) (t : ℤ) → IsInside object e t → IsOutside object e → ⊥
 inside_or_out one object (line, text) t (zone, local, says, means, dates) out = text_not_out one object line text zone local t says means dates out
 
-module _ (one : OneZonedTime) (none : NoTimeFault) (object : Tree) (lines : Lines) (recurrence : Option ℤ) (additions exceptions : List ℤ) (s : SaysOccurrences object lines recurrence additions exceptions) where
-  pub no_occurrence_fault : (n : ℕ) → OccurrenceFault object lines n → ⊥
+module _ (one : OneZonedTime) (none : NoTimeFault) {added : Bool} (object : Tree) (lines : Lines) (recurrence : Option ℤ) (additions exceptions : List ℤ) (s : SaysOccurrences added object lines recurrence additions exceptions) where
+  pub no_occurrence_fault : (n : ℕ) → OccurrenceFault added object lines n → ⊥
   no_occurrence_fault n (bad_recurrence l) =
       let f = said_by (IsRecurrenceLine object) (λ line. ZonedTimeFault object line n) (codes "RECURRENCE-ID") false lines recurrence s.is l in
       none object l.0 (line_value l.0) f.1.1.0 f.1.1.1 n f.1.1.2 l.2

@@ -1,6 +1,7 @@
 -- The lines of a VEVENT say its times in at most one way, and not at all where a fault stands in them.
-use Rattle.std.proofs.Common.{◌≡◌, ℕ, ◌+◌, ◌*◌, ◌≤◌, List, length, codes, subst, sym, ap, ◌∙◌, inl, inr, arith, ℤ, pos, ◌+ℤ◌, ◌<ℤ◌}
+use Rattle.std.proofs.Common.{◌≡◌, ℕ, ◌+◌, ◌*◌, ◌≤◌, Bool, true, false, List, length, codes, subst, sym, ap, ◌∙◌, inl, inr, arith, ℤ, pos, ◌+ℤ◌, ◌<ℤ◌}
 use Rattle.std.specs.Prelude.{Option, Some, None, All}
+use Rattle.std.proofs.lemmas.Bool.{true≢false}
 use Rattle.std.proofs.lemmas.Int.{ints}
 use Rattle.std.proofs.lemmas.List.Elements.{All-from_recursion, All-contains}
 use Rattle.std.proofs.lemmas.Option.{same_Some}
@@ -8,8 +9,8 @@ use Rattle.profile.specs.text.Lines.{line_value, line_param}
 use Rattle.profile.specs.text.Trees.{Tree}
 use Rattle.profile.specs.text.Values.{SpellsDuration, SpellsNegative}
 use Rattle.profile.specs.series.Zones.{Zone, Constant, IsOneMeaning, Means}
-use Rattle.profile.specs.events.Properties.{lines_named, StandsAtMostOnce, SomeLine, Length, length_seconds, LastsFor, IsNegativeOrLong}
-use Rattle.profile.specs.events.ZonedTimes.{zone_named, is_in_zone, SaysZoneOf, SpellsZoned, SaysZonedText, SaysZonedTime, clock_of, SaysInstant, IsInDates, SaysInDates, SaysOutOfDates, ZonedTextFault, EventTimes, LastsUntil, LastsSo, SaysEventTimes, StartAndEndLie, names_of_times, EventTimesFault, bad_start, bad_end, bad_duration, ends_early, ends_late, lasts_long, starts_out, ends_out, no_start, twice, end_and_duration}
+use Rattle.profile.specs.events.Properties.{lines_named, IsMissing, StandsAtMostOnce, SomeLine, Length, length_seconds, LastsFor, IsNegativeOrLong}
+use Rattle.profile.specs.events.ZonedTimes.{zone_named, is_in_zone, SaysZoneOf, SpellsZoned, SaysZonedText, SaysZonedTime, clock_of, SaysInstant, IsInDates, SaysInDates, SaysOutOfDates, ZonedTextFault, EventTimes, LastsUntil, LastsSo, LastsAlone, SaysEventTimes, SaysNoStart, SaysTimes, StartAndEndLie, names_of_times, EventTimesFault, bad_start, bad_end, bad_duration, ends_early, ends_late, lasts_long, starts_out, ends_out, no_start, twice, end_and_duration}
 use Rattle.profile.specs.events.Occurrences.{IsOutside}
 use Rattle.ical_tree.proofs.OneLine.{IsFunctional, same_option, only_line}
 use Rattle.cal_events.proofs.Meanings.{one_meaning}
@@ -118,6 +119,37 @@ one_times one two object lines a b s t =
     (subst (λ (l : List ℕ). LastsSo object a.start s.end_line s.duration_line a.length) line s.lasts))) in
     times_same a b e.0 e.1 start (same_length one two object b.start t.end_line t.duration_line a.length b.length lasts t.lasts)
 
+-- without a start
+
+same_alone : OneDuration → (object : Tree) (e d : Option (List ℕ)) (a b : Length) → LastsAlone object e d a → LastsAlone object e d b → a ≡ b
+same_alone two object None None a b h k = h ∙ sym k
+same_alone two object None (Some l) a b h k = length_one two l a b h k
+same_alone two object (Some l) None a b h k = h.0 ∙ sym k.0
+same_alone two object (Some l) (Some o) a b h k = absurd h
+
+one_alone : OneDuration → (object : Tree) (lines : Lines) (a b : EventTimes) → SaysNoStart object lines a → SaysNoStart object lines b → a ≡ b
+one_alone two object lines a b s t =
+    let end = same_line (codes "DTEND") lines s.end_line t.end_line s.end_once t.end_once in
+    let duration = same_line (codes "DURATION") lines s.duration_line t.duration_line s.duration_once t.duration_once in
+    let lasts : LastsAlone object t.end_line t.duration_line a.length =
+    subst (λ (d : Option (List ℕ)). LastsAlone object t.end_line d a.length) duration (subst (λ (x : Option (List ℕ)). LastsAlone object x s.duration_line a.length) end s.lasts) in
+    times_same a b (s.zone ∙ sym t.zone) (s.local ∙ sym t.local) (s.start ∙ sym t.start) (same_alone two object t.end_line t.duration_line a.length b.length lasts t.lasts)
+
+-- a start stands, or is missing
+there_or_missing : (lines : Lines) (line : List ℕ) → StandsAtMostOnce (codes "DTSTART") lines (Some line) → IsMissing (codes "DTSTART") lines → ⊥
+there_or_missing lines line once missing = let k : 0 ≡ 1 = sym (ap length missing) ∙ ap length once in absurd (omega (arith, k))
+
+pub one_times_by : OneZonedTime → OneDuration → {may : Bool} (object : Tree) (lines : Lines) (a b : EventTimes) → SaysTimes may object lines a → SaysTimes may object lines b → a ≡ b
+one_times_by one two object lines a b (inl s) (inl t) = one_times one two object lines a b s t
+one_times_by one two object lines a b (inl s) (inr (_, t)) = absurd (there_or_missing lines s.line s.once t.missing)
+one_times_by one two object lines a b (inr (_, s)) (inl t) = absurd (there_or_missing lines t.line t.once s.missing)
+one_times_by one two object lines a b (inr (_, s)) (inr (_, t)) = one_alone two object lines a b s t
+
+-- the clocks of an event's times show a local time at one instant
+pub clock_by : {may : Bool} (object : Tree) (lines : Lines) (t : EventTimes) → SaysTimes may object lines t → IsOneMeaning (clock_of t.zone)
+clock_by object lines t (inl s) = clock_one object s.line (line_value s.line) t.zone t.local s.says
+clock_by object lines t (inr (_, s)) = subst (λ (z : Option Zone). IsOneMeaning (clock_of z)) (sym s.zone) (one_meaning (Constant (pos 0)) tt)
+
 -- ---- no fault stands where times are said
 
 module _ (one : OneZonedTime) (none : NoTimeFault) (two : OneDuration) (apart : NotBoth) (object : Tree) (lines : Lines) (times : EventTimes) (s : SaysEventTimes object lines times) where
@@ -159,7 +191,7 @@ module _ (one : OneZonedTime) (none : NoTimeFault) (two : OneDuration) (apart : 
         (at_most_one (codes "DTEND") lines s.end_line s.end_once, (at_most_one (codes "DURATION") lines s.duration_line s.duration_once, tt)),
       )
 
-  pub no_times_fault : (n : ℕ) → EventTimesFault object lines n → ⊥
+  pub no_times_fault : {may : Bool} (n : ℕ) → EventTimesFault may object lines n → ⊥
   no_times_fault n (bad_start l) = none object l.0 (line_value l.0) times.zone times.local n (subst (λ (x : List ℕ). SaysZonedTime object x times.zone times.local) (start_is _ l) s.says) l.2
   no_times_fault n (bad_end l) = let until = end_said _ l in none object l.0 (line_value l.0) until.1.0 until.1.1 n until.1.2 l.2
   no_times_fault n (bad_duration l) = l.2.0 times.length.days times.length.seconds (duration_said _ l)
@@ -177,7 +209,7 @@ module _ (one : OneZonedTime) (none : NoTimeFault) (two : OneDuration) (apart : 
   no_times_fault n (starts_out l) =
       not_out one object s.line times.zone times.local times.start s.says s.means s.in_dates (subst (λ (x : List ℕ). SaysOutOfDates object x) (sym (start_is _ l)) l.2)
   no_times_fault n (ends_out l) = let until = end_said _ l in not_out one object l.0 until.1.0 until.1.1 _ until.1.2 until.1.3 until.1.4 l.2
-  no_times_fault n (no_start h) = let k : 0 ≡ 1 = sym (ap length h) ∙ ap length s.once in absurd (omega (arith, k))
+  no_times_fault n (no_start _ h) = let k : 0 ≡ 1 = sym (ap length h) ∙ ap length s.once in absurd (omega (arith, k))
   no_times_fault n (twice name c h) = let l = All-contains (IsLone lines) names_of_times name all_lone c in absurd (omega arith)
   no_times_fault n (end_and_duration e d) =
       go s.end_line s.duration_line (only_line (codes "DTEND") lines s.end_line e.0 s.end_once e.1) (only_line (codes "DURATION") lines s.duration_line d.0 s.duration_once d.1) s.lasts
@@ -186,3 +218,60 @@ module _ (one : OneZonedTime) (none : NoTimeFault) (two : OneDuration) (apart : 
       go None y h k is = cc
       go (Some x) None h k is = cc
       go (Some x) (Some y) h k is = is
+
+-- nor where no start is said
+
+pub none_there : (P : List ℕ → Type 0) (lines : Lines) → IsMissing (codes "DTSTART") lines → SomeLine (codes "DTSTART") P lines → ⊥
+none_there P lines missing (line, there, _) = let k : length (lines_named (codes "DTSTART") lines) ≡ 0 = ap length missing in absurd (omega (arith, k, there.1))
+
+module _ (one : OneZonedTime) (none : NoTimeFault) (two : OneDuration) (apart : NotBoth) (object : Tree) (lines : Lines) (times : EventTimes) (s : SaysNoStart object lines times) where
+  end_alone : (P : List ℕ → Type 0) (l : SomeLine (codes "DTEND") P lines) → (end : ℤ) × SaysInDates object l.0 end
+  end_alone P l = go s.end_line s.duration_line (only_line (codes "DTEND") lines s.end_line l.0 s.end_once l.1) s.lasts
+    where
+      go : (e d : Option (List ℕ)) → e ≡ Some l.0 → LastsAlone object e d times.length → (end : ℤ) × SaysInDates object l.0 end
+      go None d h lasts = cc
+      go (Some x) (Some o) h lasts = absurd lasts
+      go (Some x) None h lasts = subst (λ (y : List ℕ). (end : ℤ) × SaysInDates object y end) (same_Some x l.0 h) lasts.1
+
+  duration_alone : (P : List ℕ → Type 0) (l : SomeLine (codes "DURATION") P lines) → LastsFor l.0 times.length
+  duration_alone P l = go s.end_line s.duration_line (only_line (codes "DURATION") lines s.duration_line l.0 s.duration_once l.1) s.lasts
+    where
+      go : (e d : Option (List ℕ)) → d ≡ Some l.0 → LastsAlone object e d times.length → LastsFor l.0 times.length
+      go e None h lasts = cc
+      go (Some x) (Some o) h lasts = absurd lasts
+      go None (Some o) h lasts = subst (λ (y : List ℕ). LastsFor y times.length) (same_Some o l.0 h) lasts
+
+  none_twice : All (IsLone lines) names_of_times
+  none_twice =
+      All-from_recursion (IsLone lines) names_of_times (
+        at_most_one (codes "DTSTART") lines None s.missing,
+        (at_most_one (codes "DTEND") lines s.end_line s.end_once, (at_most_one (codes "DURATION") lines s.duration_line s.duration_once, tt)),
+      )
+
+  no_alone_fault : {may : Bool} → may ≡ true → (n : ℕ) → EventTimesFault may object lines n → ⊥
+  no_alone_fault m n (bad_start l) = none_there _ lines s.missing l
+  no_alone_fault m n (bad_end l) = let until = end_alone _ l in none object l.0 (line_value l.0) until.1.0 until.1.1 n until.1.2 l.2
+  no_alone_fault m n (bad_duration l) = l.2.0 times.length.days times.length.seconds (duration_alone _ l)
+  no_alone_fault m n (ends_early (start, end, first, last, r)) = none_there _ lines s.missing first
+  no_alone_fault m n (ends_late (start, end, first, last, r)) = none_there _ lines s.missing first
+  no_alone_fault m n (lasts_long (line, at, inl negative)) =
+      apart (line_value line) times.length.days times.length.seconds (duration_alone IsNegativeOrLong (line, at, inl negative)) negative
+  no_alone_fault m n (lasts_long (line, at, inr (length, lasts, long))) =
+      let e = length_one two line times.length length (duration_alone IsNegativeOrLong (line, at, inr (length, lasts, long))) lasts in
+      let most : length_seconds length ≤ 31_622_400 = subst (λ (x : Length). length_seconds x ≤ 31_622_400) e s.most in
+      absurd (omega arith)
+  no_alone_fault m n (starts_out l) = none_there _ lines s.missing l
+  no_alone_fault m n (ends_out l) = let until = end_alone _ l in not_out one object l.0 until.1.0 until.1.1 _ until.1.2 until.1.3 until.1.4 l.2
+  no_alone_fault m n (no_start needed h) = true≢false (sym m ∙ needed)
+  no_alone_fault m n (twice name c h) = let l = All-contains (IsLone lines) names_of_times name none_twice c in absurd (omega arith)
+  no_alone_fault m n (end_and_duration e d) =
+      go s.end_line s.duration_line (only_line (codes "DTEND") lines s.end_line e.0 s.end_once e.1) (only_line (codes "DURATION") lines s.duration_line d.0 s.duration_once d.1) s.lasts
+    where
+      go : (x y : Option (List ℕ)) → x ≡ Some e.0 → y ≡ Some d.0 → LastsAlone object x y times.length → ⊥
+      go None y h k is = cc
+      go (Some x) None h k is = cc
+      go (Some x) (Some y) h k is = is
+
+pub no_times_fault_by : OneZonedTime → NoTimeFault → OneDuration → NotBoth → {may : Bool} (object : Tree) (lines : Lines) (times : EventTimes) → SaysTimes may object lines times → (n : ℕ) → EventTimesFault may object lines n → ⊥
+no_times_fault_by one none two apart object lines times (inl s) n f = no_times_fault one none two apart object lines times s n f
+no_times_fault_by one none two apart object lines times (inr (m, s)) n f = no_alone_fault one none two apart object lines times s m n f

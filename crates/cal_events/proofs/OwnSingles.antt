@@ -14,9 +14,10 @@ use Rattle.profile.specs.events.Confirmed.{alone, is_kept}
 use Rattle.cal_events.specs.Calendars.{booked_as}
 use Rattle.cal_events.specs.Drafts.{IsSaid, IsOwn, AreOwnAt, IsMadeAt}
 use Rattle.cal_events.specs.SingleStarts.{IsSingleStart, AreSingleStarts}
-use Rattle.cal_events.specs.declared.calendar.Single.{Single}
+use Rattle.cal_events.specs.declared.calendar.PlacedSingle.{PlacedSingle as Single}
 use Rattle.cal_events.proofs.InOneOrder.{first_or_later, later, none_in, head_pairs, tail_pairs, cons_pairs}
-use Rattle.cal_events.proofs.OneInstance.{IsSteady, event_sound, end_one, booked_same}
+use Rattle.cal_events.specs.OwnInstances.{IsSteady}
+use Rattle.cal_events.proofs.OneInstance.{event_sound, end_one, booked_same}
 
 -- ---- an event by itself
 
@@ -105,20 +106,23 @@ pub steady : (event : Event) → IsSaid event → IsSteady (clock_of event.times
 steady event (object, lines, says) = (event_sound object lines event says).steady
 
 -- two instances of one event with one key are one
-pub one_of_key : (event : Event) (a b : Booked) → IsSaid event → IsInstance (alone event) a → IsInstance (alone event) b → a.key ≡ b.key → a ≡ b
-one_of_key event a b said h k same = go (of_both event)
+pub one_by_key : (event : Event) (a b : Booked) → IsSteady (clock_of event.times.zone) → IsInstance (alone event) a → IsInstance (alone event) b → a.key ≡ b.key → a ≡ b
+one_by_key event a b clock h k same = go (of_both event)
   where
     go : (event.recurrence ≡ None) ⊎ ((slot : ℤ) × (event.recurrence ≡ Some slot)) → a ≡ b
     go (inl e) =
         let x = master_alone event a e h in
         let y = master_alone event b e k in
         let start : a.start ≡ b.start = ap (λ (key : Key). key.slot) (sym x.key ∙ same ∙ y.key) in
-        booked_same a b same start (end_one event.times b.start a.end b.end (steady event said) (subst (λ (t : ℤ). EndsAt event.times t a.end) start x.ends) y.ends)
+        booked_same a b same start (end_one event.times b.start a.end b.end clock (subst (λ (t : ℤ). EndsAt event.times t a.end) start x.ends) y.ends)
     go (inr (slot, e)) =
         let x = override_alone event a slot e h in
         let y = override_alone event b slot e k in
         let start : a.start ≡ b.start = x.starts ∙ sym y.starts in
-        booked_same a b same start (end_one event.times b.start a.end b.end (steady event said) (subst (λ (t : ℤ). EndsAt event.times t a.end) start x.ends) y.ends)
+        booked_same a b same start (end_one event.times b.start a.end b.end clock (subst (λ (t : ℤ). EndsAt event.times t a.end) start x.ends) y.ends)
+
+pub one_of_key : (event : Event) (a b : Booked) → IsSaid event → IsInstance (alone event) a → IsInstance (alone event) b → a.key ≡ b.key → a ≡ b
+one_of_key event a b said h k same = one_by_key event a b (steady event said) h k same
 
 -- ---- what the starts of a master make
 

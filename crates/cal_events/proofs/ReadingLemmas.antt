@@ -1,5 +1,5 @@
 -- An object's VEVENTs, what they say, and the calendar's entries.
-use Rattle.std.proofs.Common.{◌≡◌, ℕ, zero, ◌+◌, ◌<◌, Bool, true, false, cond, List, [], ◌∷◌, ◌++◌, ◌||◌, length, map, filter, get_or, take, drop, subst, sym, refl, ap, inl, inr, ◌∙◌, arith}
+use Rattle.std.proofs.Common.{◌≡◌, ℕ, zero, ◌+◌, ◌<◌, Bool, true, false, cond, List, [], ◌∷◌, ◌++◌, ◌||◌, length, map, filter, get_or, take, drop, subst, sym, refl, ap, inl, inr, ◌∙◌, arith, Option}
 use Rattle.ical_lines.specs.Fault.{RefusesBy}
 use Rattle.std.specs.Prelude.{Contains}
 use Rattle.std.proofs.lemmas.Bool.{true≢false}
@@ -13,7 +13,7 @@ use Rattle.ical_tree.specs.Tree.{component_lines}
 use Rattle.ical_tree.specs.declared.component.Component.{Component}
 use Rattle.ical_tree.proofs.OneLine.{at_place}
 use Rattle.profile.specs.text.Trees.{Tree, vevents}
-use Rattle.profile.specs.events.Events.{Event, SaysEvent}
+use Rattle.profile.specs.events.Events.{Event, SaysEvent, Method}
 use Rattle.profile.specs.checker.Calendars.{CalendarFault, in_event}
 use Rattle.cal_events.specs.declared.component.Purpose.TheVariants.{Meeting}
 use Rattle.cal_events.specs.declared.component.EventComponent.{EventComponent}
@@ -89,7 +89,7 @@ unread_among U vs lines (k, w, e) h = list_any_at U vs k lines w (ap U e ∙ h)
 
 -- ---- events, and entries
 
-pub event_pushed : (object : Tree) (m : Bool) (vs : List Lines) (lines : Lines) (old new : List EventComponent) (event : EventComponent)
+pub event_pushed : (object : Tree) (m : Option Method) (vs : List Lines) (lines : Lines) (old new : List EventComponent) (event : EventComponent)
     → AllZip (SaysEvent object m) vs (map event_of old) → SaysEvent object m lines (event_of event) → new ≡ old ++ event ∷ []
     → AllZip (SaysEvent object m) (vs ++ lines ∷ []) (map event_of new)
 event_pushed object m vs lines old new event zip says n =

@@ -1,5 +1,5 @@
 -- What RECURRENCE-ID says, judged.
-use Rattle.std.proofs.Common.{◌≡◌, ℕ, true, false, List, codes, sym, ap, ◌∙◌}
+use Rattle.std.proofs.Common.{◌≡◌, ℕ, Bool, true, false, List, codes, sym, ap, ◌∙◌}
 use Rattle.std.specs.Prelude.{Option, Some, None, is_some, option_map}
 use Rattle.std.proofs.lemmas.Bool.{true≢false}
 use denote.Ref.{Bor}
@@ -13,10 +13,10 @@ use Rattle.cal_events.specs.declared.occurrences.SaidInstant.{SaidInstant}
 use Rattle.cal_events.proofs.EventLemmas.{some_line}
 
 -- it lies outside of the dates
-pub recurrence_out_there : (object : Tree) (lines : List (List ℕ)) (said : SaidInstant) → IsRecurrenceSaid object lines (Some said) → said.in_dates ≡ false → OccurrenceFault object lines 52
-recurrence_out_there object lines said s out = go s.line s.once s.is
+pub recurrence_out_there : {added : Bool} (object : Tree) (lines : List (List ℕ)) (said : SaidInstant) → IsRecurrenceSaid object lines (Some said) → said.in_dates ≡ false → OccurrenceFault added object lines 52
+recurrence_out_there {added} object lines said s out = go s.line s.once s.is
   where
-    go : (l : Option (List ℕ)) → StandsAtMostOnce (codes "RECURRENCE-ID") lines l → BothOrNeither (IsRecurrenceSo object) l (Some said) → OccurrenceFault object lines 52
+    go : (l : Option (List ℕ)) → StandsAtMostOnce (codes "RECURRENCE-ID") lines l → BothOrNeither (IsRecurrenceSo object) l (Some said) → OccurrenceFault added object lines 52
     go None once h = absurd h
     go (Some line) once h =
         recurrence_out (some_line (codes "RECURRENCE-ID") (SaysOutOfDates object) lines line once

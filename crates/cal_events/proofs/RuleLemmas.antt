@@ -1,7 +1,13 @@
 -- The rule that a text gives from the start of an event on.
-use Rattle.std.proofs.Common.{◌≡◌, ℕ, true, false, List, codes, sym, ap, refl, subst, inr, ℤ, pos, arith, ◌∙◌}
+use Rattle.std.specs.Option.{option_to_list}
+use Rattle.std.specs.List.{list_any}
+use Rattle.profile.specs.events.Events.{may_lack_start}
+use Rattle.cal_events.specs.Events.{has_unread_for, method_read}
+use Rattle.cal_events.specs.declared.component.Purpose.TheVariants.{Request, Add, Cancel, Meeting}
+use Rattle.cal_events.specs.declared.component.Purpose.{Purpose}
+use Rattle.std.proofs.Common.{◌≡◌, ℕ, true, false, List, codes, sym, ap, refl, subst, inr, ℤ, pos, arith, ◌∙◌, cond, length, true≢false, [], ◌∷◌}
 use Rattle.std.specs.Prelude.{Option, Some, None, Result, Ok, Err, IfOk, IfErr, IfSome, IsSome, MatchOption, ◌↔◌}
-use Rattle.std.proofs.lemmas.Bool.{false≢true}
+use Rattle.std.proofs.lemmas.Bool.{false≢true, or_parts}
 use Rattle.ical_lines.specs.Fault.{RefusesBy}
 use Rattle.ical_lines.specs.declared.fault.Fault.{Fault}
 use Rattle.ical_lines.specs.declared.fault.Fault.TheVariants.{Refused}
@@ -11,7 +17,7 @@ use Rattle.profile.specs.text.Trees.{Tree}
 use Rattle.profile.specs.series.Rules.{Parts, RuleText, Until, UntilLocal, UntilInstant, rule_of, is_rule_day}
 use Rattle.profile.specs.series.RuleTexts.{SpellsRule}
 use Rattle.profile.specs.series.Zones.{Zone, Means, NoneFrom, IsLastDay}
-use Rattle.profile.specs.events.Properties.{StandsAtMostOnce, Says, BothOrNeither}
+use Rattle.profile.specs.events.Properties.{StandsAtMostOnce, Says, BothOrNeither, IsMissing, is_of, lines_named}
 use Rattle.profile.specs.events.ZonedTimes.{clock_of, EventTimes, SaysEventTimes}
 use Rattle.profile.specs.events.EventRules.{IsLastAllowed, AllowsNone, IsOnDay, GivesRule, IsOutside, StartsOutside, EventRuleFault, starts_outside}
 use Rattle.cal_events.specs.Zoned.{IsRuleText}
@@ -70,6 +76,25 @@ module _ (zone : Zone) (local : ℤ) (text : RuleText) (day second last : ℕ) (
 spelled_by : (line : Option (List ℕ)) (text : RuleText) → BothOrNeither IsRuleText line (Some text) → (x : List ℕ) × (line ≡ Some x) × SpellsRule (line_value x) text
 spelled_by None text h = absurd h
 spelled_by (Some x) text h = (x, refl, h)
+
+-- where a start may be missing RRULE isn't read
+pub rule_needs_start : (purpose : Purpose) (lines : List (List ℕ)) → has_unread_for purpose lines ≡ false → may_lack_start (method_read purpose) ≡ true → IsMissing (codes "RRULE") lines
+rule_needs_start Request lines h m = absurd (true≢false (sym m))
+rule_needs_start Add lines h m = absurd (true≢false (sym m))
+rule_needs_start Meeting lines h m = absurd (true≢false (sym m))
+rule_needs_start Cancel lines h m = none lines h
+  where
+    none : (ls : List (List ℕ)) → list_any (is_of (codes "RRULE")) ls ≡ false → lines_named (codes "RRULE") ls ≡ []
+    none [] h = refl
+    none (l ∷ ls) h =
+        let both = or_parts (is_of (codes "RRULE") l) (list_any (is_of (codes "RRULE")) ls) h in
+        ap (λ b. cond b (l ∷ lines_named (codes "RRULE") ls) (lines_named (codes "RRULE") ls)) both.0 ∙ none ls both.1
+
+-- a rule that stands isn't missing
+pub rule_there : (lines : List (List ℕ)) (said : Option RuleText) (text : RuleText) → said ≡ Some text → Says (codes "RRULE") false IsRuleText lines said → IsMissing (codes "RRULE") lines → ⊥
+rule_there lines said text e s missing =
+    let l = spelled_by s.line text (subst (λ (o : Option RuleText). BothOrNeither IsRuleText s.line o) e s.is) in
+    let k : 0 ≡ 1 = sym (ap length missing) ∙ ap length (s.once ∙ ap option_to_list l.1) in absurd (omega (arith, k))
 
 pub outside_stands : (object : Tree) (lines : List (List ℕ)) (times : EventTimes) (said : Option RuleText) (text : RuleText) (n : ℕ) → said ≡ Some text
     → Says (codes "RRULE") false IsRuleText lines said → SaysEventTimes object lines times → (n ≡ 34) × IsOutside (clock_of times.zone) times.local text

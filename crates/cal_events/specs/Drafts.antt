@@ -11,7 +11,7 @@ use Rattle.profile.specs.events.Confirmed.{alone, is_kept, is_series, IsOfSeries
 use Rattle.cal_events.specs.Events.{event_of}
 use Rattle.cal_events.specs.Calendars.{Meeting, key_of, key_in, meeting_of, meeting_at, booked_as}
 use Rattle.cal_events.specs.declared.calendar.Entry.{Entry}
-use Rattle.cal_events.specs.declared.calendar.Single.{Single}
+use Rattle.cal_events.specs.declared.calendar.PlacedSingle.{PlacedSingle as Single}
 use Rattle.cal_events.specs.declared.draft.Draft.{Draft}
 use Rattle.cal_events.specs.declared.instance.InstanceKey.{InstanceKey}
 
@@ -26,7 +26,7 @@ name_said event = (meeting_said event, event.recurrence)
 
 -- some VEVENT says the event
 abbrev pub IsSaid : Event → Type 0
-IsSaid event = (object : Tree) × (lines : List (List ℕ)) × SaysEvent object false lines event
+IsSaid event = (object : Tree) × (lines : List (List ℕ)) × SaysEvent object None lines event
 
 -- ---- singles, without a look at what overrides hide
 

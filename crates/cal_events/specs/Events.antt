@@ -5,7 +5,6 @@ use Rattle.ical_values.specs.declared.duration.Duration.{Duration}
 use Rattle.std.specs.List.{list_any}
 use Rattle.profile.specs.faults.Faults.{is_unread, is_meeting_event_fault}
 use Rattle.profile.specs.events.Events as profile
-use Rattle.profile.specs.events.Meetings as methods
 use Rattle.profile.specs.events.Properties as properties
 use Rattle.profile.specs.events.Properties.{length_seconds, time_kind}
 use Rattle.profile.specs.text.Trees.{Tree}
@@ -30,32 +29,25 @@ use Rattle.cal_events.specs.declared.component.Purpose.{Purpose}
 use Rattle.cal_events.specs.declared.component.Purpose.TheVariants.{Request, Add, Cancel, Meeting}
 
 -- the method of a message that a VEVENT is read for; METHOD isn't looked at for a calendar
-abbrev pub method_read : Purpose → Option methods.Method
-method_read Request = Some methods.Request
-method_read Add = Some methods.Add
-method_read Cancel = Some methods.Cancel
+abbrev pub method_read : Purpose → Option profile.Method
+method_read Request = Some profile.Request
+method_read Add = Some profile.Add
+method_read Cancel = Some profile.Cancel
 method_read Meeting = None
 
 -- a message needs ORGANIZER and DTSTAMP, a calendar doesn't
 abbrev pub is_message : Purpose → Bool
 is_message purpose = is_some (method_read purpose)
 
--- what isn't read yet for a purpose
+-- what isn't read yet for a purpose: in a message RRULE
 abbrev pub is_unread_for : Purpose → List ℕ → Bool
-is_unread_for Request = profile.is_unread_in_message
-is_unread_for Add = profile.is_unread_in_message
-is_unread_for Cancel = profile.is_unread_in_message
-is_unread_for Meeting = λ _. false
-
--- DTSTART is missing, where that isn't read yet
-abbrev pub lacks_start_for : Purpose → List (List ℕ) → Bool
-lacks_start_for Request lines = false
-lacks_start_for Add lines = false
-lacks_start_for Cancel lines = profile.lacks_start lines
-lacks_start_for Meeting lines = false
+is_unread_for Request line = properties.is_of (codes "RRULE") line
+is_unread_for Add line = properties.is_of (codes "RRULE") line
+is_unread_for Cancel line = properties.is_of (codes "RRULE") line
+is_unread_for Meeting line = false
 
 abbrev pub has_unread_for : Purpose → List (List ℕ) → Bool
-has_unread_for purpose lines = lacks_start_for purpose lines || list_any (is_unread_for purpose) lines
+has_unread_for purpose lines = list_any (is_unread_for purpose) lines
 
 -- in a message there is what isn't read yet
 abbrev pub is_unread_fault : Purpose → ℕ → Bool
@@ -133,7 +125,7 @@ vevents_of object = map component_lines (filter is_vevent (component_children ob
 -- a VEVENT that is read for a purpose has a fault, or a line that isn't read yet
 abbrev pub IsUnreadOrFault : Tree → Purpose → List (List ℕ) → ℕ → Type 0
 IsUnreadOrFault object purpose lines n =
-    ((n ≡ 99) × (has_unread_for purpose lines ≡ true)) ⊎ profile.EventFault object (is_message purpose) lines n
+    ((n ≡ 99) × (has_unread_for purpose lines ≡ true)) ⊎ profile.EventFault object (method_read purpose) lines n
 
 -- one of these VEVENTs has
 abbrev pub IsUnreadOrFaultAmong : Tree → Purpose → List (List (List ℕ)) → ℕ → Type 0

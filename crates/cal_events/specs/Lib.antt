@@ -22,3 +22,4 @@ pub mod Drafts
 pub mod Ruled
 pub mod SaidSeries
 pub mod Masters
+pub mod OwnInstances

@@ -1,11 +1,11 @@
 -- What the readers of times in zones see of components.
-use Rattle.std.specs.Prelude.{◌≡◌, ◌↔◌, ℕ, Bool, true, false, IsTrue, List, codes, Option, Some, None, ℤ, pos, negsuc, ◌≤ℤ◌, ◌+ℤ◌}
+use Rattle.std.specs.Prelude.{◌≡◌, ◌↔◌, ◌⊎◌, ℕ, Bool, true, false, IsTrue, List, codes, Option, Some, None, ℤ, pos, negsuc, ◌≤ℤ◌, ◌+ℤ◌}
 use Rattle.profile.specs.text.Trees.{Tree}
 use Rattle.profile.specs.series.Zones.{Zone, Means}
 use Rattle.profile.specs.text.Lines.{line_value}
 use Rattle.profile.specs.series.Rules.{RuleText}
 use Rattle.profile.specs.series.RuleTexts.{SpellsRule}
-use Rattle.profile.specs.events.Properties.{Length, LastsFor, StandsAtMostOnce, Says}
+use Rattle.profile.specs.events.Properties.{Length, LastsFor, StandsAtMostOnce, IsMissing, Says}
 use Rattle.profile.specs.events.ZonedTimes.{is_in_zone, IsInDates, SaysZonedTime, clock_of}
 use Rattle.cal_events.specs.Events.{length_of, zone_said}
 use Rattle.cal_events.specs.declared.event_rule.SaidRule.{SaidRule}
@@ -41,6 +41,26 @@ pub record AreSaid (object : Tree) (lines : List (List ℕ)) (said : SaidTimes) 
   pub means : Means (clock_of (zone_said said.start)) said.start.local said.instant
   pub starts : IsTrue said.starts_in ↔ IsInDates (is_in_zone line) said.start.local said.instant
   pub extent : IsExtentIn object lines said.instant said.ends_in said.extent
+
+-- where there is no start, an end gives no length
+abbrev pub IsAlone : Extent → Extent → Type 0
+IsAlone (ToEnd seconds) alone = alone ≡ For (record { days = 0; seconds = 0 })
+IsAlone (For duration) alone = alone ≡ For duration
+
+-- what DTEND and DURATION say without DTSTART
+pub record AreSaidAlone (object : Tree) (lines : List (List ℕ)) (said : SaidTimes) : Type 0 where
+  pub missing : IsMissing (codes "DTSTART") lines
+  pub zone : zone_said said.start ≡ None
+  pub local : said.start.local ≡ pos 0
+  pub instant : said.instant ≡ pos 0
+  pub starts : said.starts_in ≡ true
+  pub read : Extent
+  pub extent : IsExtentIn object lines (pos 0) said.ends_in read
+  pub alone : IsAlone read said.extent
+
+-- what the three say, where DTSTART may be missing or not
+abbrev pub AreSaidBy : Bool → Tree → List (List ℕ) → SaidTimes → Type 0
+AreSaidBy may_lack object lines said = AreSaid object lines said ⊎ ((may_lack ≡ true) × AreSaidAlone object lines said)
 
 -- a line of RRULE spells this rule
 abbrev pub IsRuleText : List ℕ → RuleText → Type 0

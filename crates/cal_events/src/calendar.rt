@@ -39,7 +39,7 @@ impl Entry {
 
 /// A single: an instance of the VEVENT at a place among the calendar's.
 #[derive(Clone, Copy)]
-pub(crate) struct Single {
+pub(crate) struct PlacedSingle {
     pub(crate) entry: usize,
     pub(crate) slot: i64,
     pub(crate) start: i64,
@@ -50,7 +50,7 @@ pub(crate) struct Single {
 #[derive(Drop)]
 pub struct Calendar {
     pub(crate) entries: Vec<Entry>,
-    pub(crate) singles: Vec<Single>,
+    pub(crate) singles: Vec<PlacedSingle>,
     pub(crate) series: Vec<Series>,
 }
 
@@ -71,7 +71,7 @@ impl Model for Calendar {
 #[derive(Drop)]
 pub struct Singles<'a> {
     entries: &'a [Entry],
-    singles: &'a [Single],
+    singles: &'a [PlacedSingle],
     ghost within: { AreWithin entries.now singles.now },
 }
 
@@ -139,7 +139,7 @@ impl Calendar {
     }
 }
 
-impl Single {
+impl PlacedSingle {
     /// The instance, of one of these VEVENTs.
     fn lend<'a>(&self, entries: &'a [Entry]) -> Instance<'a>
         requires { self.now.entry < length entries.now }
@@ -183,7 +183,7 @@ impl<'a> Iterator for Singles<'a> {
 }
 
 /// The span of each single, in order.
-fn spans_of(alloc: Global, singles: &[Single]) -> Result<Vec<Span>, AllocError>
+fn spans_of(alloc: Global, singles: &[PlacedSingle]) -> Result<Vec<Span>, AllocError>
     ensures { IfOk result (λ v. v.items ≡ map span_of singles.now) }
 {
     let mut spans = Vec::new(alloc);

@@ -1,6 +1,6 @@
 //! One VEVENT, read: its values, judged one property after another in a fixed order, and then
 //! together (RFC 5545 3.6.1).
-ghost use Rattle.std.specs.Prelude.{ℕ, List, [], unwrap_or, ◌≡◌, ◌⊎◌, ◌↔◌, Bool, Some, map, codes, pos, ◌+ℤ◌, option_map, true, false, IfOk, IfErr, OnOk, IsTrue};
+ghost use Rattle.std.specs.Prelude.{ℕ, List, [], unwrap_or, ◌≡◌, ◌⊎◌, ◌↔◌, Bool, Some, map, codes, pos, ◌+ℤ◌, option_map, true, false, IfOk, IfErr, OnOk, IsTrue, Option};
 ghost use Rattle.std.specs.List.{AllZip};
 ghost use Rattle.ical_lines.specs.Fault.{RefusesOnly, RefusesBy};
 ghost use Rattle.ical_lines.specs.Text.{line_text};
@@ -8,11 +8,11 @@ ghost use Rattle.ical_values.specs.Octets.{address_octets, text_octets};
 ghost use Rattle.profile.specs.text.Trees.{Tree};
 ghost use Rattle.profile.specs.faults.Faults.{is_event_fault};
 ghost use Rattle.profile.specs.text.Values.{SpellsStamp};
-ghost use Rattle.profile.specs.events.Events.{Event, answer_named, answer_of, SaysSequence, SaysEvent, IsAttendee, EventFault};
+ghost use Rattle.profile.specs.events.Events.{Event, Method, adds_instances, may_lack_start, answer_named, answer_of, SaysSequence, SaysEvent, IsAttendee, EventFault};
 ghost use Rattle.profile.specs.events.Occurrences.{SaysStatus};
 ghost use Rattle.profile.specs.events.Properties.{StandsTwice, length_seconds, lines_named, malformed_number, Says, IsUidLine, IsAddressLine, IsStampLine, IsDateText, IsLocalText, IsNoAddress, UnfixedOrMalformed, time_kind, DateTime, KindFault, TimeFault};
 ghost use Rattle.cal_events.specs.Zones.{object_of, AreRead};
-ghost use Rattle.cal_events.specs.Events.{is_message, has_unread_for, is_fault_for, IsUnreadOrFault, participation_of, attendee_of, length_of, event_of, said_kind, IsTime};
+ghost use Rattle.cal_events.specs.Events.{is_message, method_read, has_unread_for, is_fault_for, IsUnreadOrFault, participation_of, attendee_of, length_of, event_of, said_kind, IsTime};
 
 use crate::event_rule::SaidRule;
 use crate::event_times::{EventTimes, SaidTimes, seconds_of};
@@ -35,12 +35,11 @@ use std::alloc::Global;
 /// What a VEVENT is read for: this says which properties have to stand, and which aren't read yet.
 #[derive(Clone, Copy, PartialEq, Eq)]
 pub enum Purpose {
-    /// A message for an event that is to take place: UID, DTSTAMP, DTSTART and ORGANIZER have to stand. RRULE, RDATE,
-    /// EXDATE, and TZID on DTSTART, DTEND or RECURRENCE-ID aren't read yet.
+    /// A message for an event that is to take place: UID, DTSTAMP, DTSTART and ORGANIZER have to stand. RRULE isn't read yet.
     Request,
-    /// A message that adds instances to one: the same.
+    /// A message that adds instances to one: the same, and none of them recurs.
     Add,
-    /// A message that cancels an event: the same isn't read yet, nor one without DTSTART.
+    /// A message that cancels an event: the same, but DTSTART may be missing (RFC 5546 3.2.5).
     Cancel,
     /// A calendar, or an event with its instances: UID and DTSTART have to stand.
     Meeting,
@@ -52,6 +51,20 @@ impl Purpose {
         ensures { result ≡ is_message self }
     {
         matches!(self, Purpose::Request | Purpose::Add | Purpose::Cancel)
+    }
+
+    /// Whether each VEVENT is an instance that is added.
+    fn adds_instances(self) -> bool
+        ensures { result ≡ adds_instances (method_read self) }
+    {
+        matches!(self, Purpose::Add)
+    }
+
+    /// Whether DTSTART may be missing.
+    fn may_lack_start(self) -> bool
+        ensures { result ≡ may_lack_start (method_read self) }
+    {
+        matches!(self, Purpose::Cancel)
     }
 }
 
@@ -120,7 +133,7 @@ impl EventComponent {
     /// and 14 to 16 for a value, 61 and 63 for one that is missing or stands twice; as by `SaidInstant::read_recurrence` for
     /// RECURRENCE-ID; as by `SaidTimes::read` for DTSTART, DTEND and DURATION; 61 and 30 to 33 for RRULE; as by
     /// `SaidInstants::read` for RDATE and EXDATE; 15 for an ATTENDEE; as by `SaidTimes::judge` for the times together; 52 for a
-    /// RECURRENCE-ID or an RDATE outside of the dates that an event may name; 67 for RRULE or RDATE beside RECURRENCE-ID; 34 for
+    /// RECURRENCE-ID or an RDATE outside of the dates that an event may name; 67 for RRULE or RDATE in a single instance; 34 for
     /// a DTSTART that isn't one of the rule's days.
     pub(crate) fn read(
         alloc: Global,
@@ -129,7 +142,7 @@ impl EventComponent {
         purpose: Purpose,
     ) -> Result<EventComponent, Fault>
         requires zones { AreRead zones.now }
-        ensures says { IfOk result (λ event. SaysEvent (object_of zones.now) (is_message purpose) properties.now (event_of event)) }
+        ensures says { IfOk result (λ event. SaysEvent (object_of zones.now) (method_read purpose) properties.now (event_of event)) }
         ensures read { OnOk result (has_unread_for purpose properties.now ≡ false) }
         ensures refuses { IfErr result (RefusesOnly (is_fault_for purpose)) }
         ensures stands { IfErr result (RefusesBy (IsUnreadOrFault (object_of zones.now) purpose properties.now)) }
@@ -146,8 +159,9 @@ impl EventComponent {
         purpose: Purpose,
     ) -> Result<EventComponent, Fault>
         requires zones { AreRead zones.now }
-        ensures says { IfOk result (λ event. SaysEvent (object_of zones.now) (is_message purpose) properties.now (event_of event)) }
-        ensures stands { IfErr result (RefusesBy (EventFault (object_of zones.now) (is_message purpose) properties.now)) }
+        requires read { has_unread_for purpose properties.now ≡ false }
+        ensures says { IfOk result (λ event. SaysEvent (object_of zones.now) (method_read purpose) properties.now (event_of event)) }
+        ensures stands { IfErr result (RefusesBy (EventFault (object_of zones.now) (method_read purpose) properties.now)) }
     {
         let uid = read_uid(alloc, properties)?;
         let organiser = read_organiser(alloc, properties, purpose)?;
@@ -155,7 +169,7 @@ impl EventComponent {
         let sequence = read_sequence(properties)?;
         let cancelled = read_cancelled(properties)?;
         let said_recurrence = SaidInstant::read_recurrence(zones, properties)?;
-        let said = SaidTimes::read(zones, properties)?;
+        let said = SaidTimes::read(zones, properties, purpose.may_lack_start())?;
         let said_rule = SaidRule::read(alloc, properties)?;
         let said_additions = SaidInstants::read(alloc, zones, properties, Listing::Additions)?;
         let said_exceptions = SaidInstants::read(alloc, zones, properties, Listing::Exceptions)?;
@@ -163,7 +177,7 @@ impl EventComponent {
         let times = said.judge()?;
         let recurrence = judge_recurrence(said_recurrence)?;
         let additions = said_additions.judge()?;
-        refuse_recurring_instance(properties)?;
+        refuse_recurring_instance(properties, purpose.adds_instances())?;
         let rule = said_rule.judge(&times)?;
         Ok(EventComponent {
             uid,
@@ -218,10 +232,10 @@ impl EventComponent {
 /// The lines of a VEVENT of an object say at most one event, and none where a fault stands in them. A start or an end
 /// without TZID has at most one fault.
 pub fn one_event()
-    ensures one { (object : Tree) (in_message : Bool) (lines : List (List ℕ)) (a b : Event)
-        → SaysEvent object in_message lines a → SaysEvent object in_message lines b → a ≡ b }
-    ensures or_a_fault { (object : Tree) (in_message : Bool) (lines : List (List ℕ)) (a : Event) (n : ℕ)
-        → SaysEvent object in_message lines a → EventFault object in_message lines n → ⊥ }
+    ensures one { (object : Tree) (method : Option Method) (lines : List (List ℕ)) (a b : Event)
+        → SaysEvent object method lines a → SaysEvent object method lines b → a ≡ b }
+    ensures or_a_fault { (object : Tree) (method : Option Method) (lines : List (List ℕ)) (a : Event) (n : ℕ)
+        → SaysEvent object method lines a → EventFault object method lines n → ⊥ }
     ensures one_number { (line : List ℕ) (m n : ℕ) → TimeFault line m → TimeFault line n → m ≡ n }
 {
     one_stamp();
@@ -234,7 +248,7 @@ pub fn one_event()
 fn read_uid(alloc: Global, properties: &Properties<'_>) -> Result<Text, Fault>
     ensures reads { IfOk result (λ uid. Says (codes "UID") true IsUidLine properties.now (Some (text_octets uid))) }
     ensures refuses { IfErr result (RefusesOnly is_event_fault) }
-    ensures stands { (object : Tree) (in_message : Bool) → IfErr result (RefusesBy (EventFault object in_message properties.now)) }
+    ensures stands { (object : Tree) (method : Option Method) → IfErr result (RefusesBy (EventFault object method properties.now)) }
 {
     let line = required(properties, "UID")?;
     Text::read_uid(alloc, line.value())
@@ -247,7 +261,7 @@ fn read_organiser(
 ) -> Result<Option<Address>, Fault>
     ensures reads { IfOk result (λ found. Says (codes "ORGANIZER") (is_message purpose) IsAddressLine properties.now (option_map address_octets found)) }
     ensures refuses { IfErr result (RefusesOnly is_event_fault) }
-    ensures stands { (object : Tree) → IfErr result (RefusesBy (EventFault object (is_message purpose) properties.now)) }
+    ensures stands { (object : Tree) → IfErr result (RefusesBy (EventFault object (method_read purpose) properties.now)) }
 {
     match optional(properties, "ORGANIZER")? {
         Some(line) => Ok(Some(Address::read(alloc, line.value())?)),
@@ -259,7 +273,7 @@ fn read_organiser(
 fn read_stamp(properties: &Properties<'_>, purpose: Purpose) -> Result<Option<Stamp>, Refusal>
     ensures reads { IfOk result (λ found. Says (codes "DTSTAMP") (is_message purpose) IsStampLine properties.now found) }
     ensures refuses { IfErr result (λ e. IsTrue (is_event_fault e.number)) }
-    ensures stands { (object : Tree) → IfErr result (λ e. EventFault object (is_message purpose) properties.now e.number) }
+    ensures stands { (object : Tree) → IfErr result (λ e. EventFault object (method_read purpose) properties.now e.number) }
 {
     match optional(properties, "DTSTAMP")? {
         Some(line) => Ok(Some(Stamp::read(line.value())?)),
@@ -271,7 +285,7 @@ fn read_stamp(properties: &Properties<'_>, purpose: Purpose) -> Result<Option<St
 fn read_sequence(properties: &Properties<'_>) -> Result<Sequence, Refusal>
     ensures reads { IfOk result (SaysSequence properties.now) }
     ensures refuses { IfErr result (λ e. IsTrue (is_event_fault e.number)) }
-    ensures stands { (object : Tree) (in_message : Bool) → IfErr result (λ e. EventFault object in_message properties.now e.number) }
+    ensures stands { (object : Tree) (method : Option Method) → IfErr result (λ e. EventFault object method properties.now e.number) }
 {
     match optional(properties, "SEQUENCE")? {
         Some(line) => Sequence::read(line.value()),
@@ -385,7 +399,7 @@ pub(crate) fn is_date(text: &str) -> bool
 fn read_attendees(alloc: Global, properties: &Properties<'_>) -> Result<Vec<Attendee>, Fault>
     ensures reads { IfOk result (λ v. AllZip IsAttendee (lines_named (codes "ATTENDEE") properties.now) (map attendee_of v.items)) }
     ensures refuses { IfErr result (RefusesOnly is_event_fault) }
-    ensures stands { (object : Tree) (in_message : Bool) → IfErr result (RefusesBy (EventFault object in_message properties.now)) }
+    ensures stands { (object : Tree) (method : Option Method) → IfErr result (RefusesBy (EventFault object method properties.now)) }
 {
     let mut attendees = Vec::new(alloc);
     for line in properties.lines() {

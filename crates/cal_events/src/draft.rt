@@ -12,9 +12,9 @@ ghost use Rattle.cal_events.specs.Events.{event_of};
 ghost use Rattle.cal_events.specs.Calendars.{key_of, AreWithin};
 ghost use Rattle.cal_events.specs.Drafts.{entry_said, name_said, AreOwnAt, IsDraft, IsSaid, AreSorted, AreInOrder, master_keys, override_keys, is_shown_in, AreShown, IsTwoOf};
 ghost use Rattle.cal_events.specs.Masters.{AreMasters, AreSeriesOf, AreRuled};
-ghost use Rattle.cal_events.specs.declared.calendar.Single.{Single};
+ghost use Rattle.cal_events.specs.declared.calendar.PlacedSingle.{PlacedSingle};
 
-use crate::calendar::{Calendar, Entry, Single};
+use crate::calendar::{Calendar, Entry, PlacedSingle};
 use crate::component::{EventComponent, ParticipationStatus};
 use crate::instance::InstanceKey;
 use crate::series::Series;
@@ -27,7 +27,7 @@ use std::alloc::{AllocError, Global};
 #[derive(Drop)]
 pub(crate) struct Draft {
     entries: Vec<Entry>,
-    singles: Vec<Single>,
+    singles: Vec<PlacedSingle>,
     series: Vec<EventComponent>,
 }
 
@@ -96,9 +96,9 @@ impl Draft {
 fn shown(
     alloc: Global,
     entries: &[Entry],
-    singles: Vec<Single>,
+    singles: Vec<PlacedSingle>,
     masters: Vec<EventComponent>,
-) -> Result<(Vec<Single>, Vec<Series>), Fault>
+) -> Result<(Vec<PlacedSingle>, Vec<Series>), Fault>
     requires within { AreWithin entries.now singles.items }
     requires masters { AreMasters masters.items }
     ensures differ { IfOk result (λ _. AllPairs ◌≢◌ (override_keys entries.now)) }
@@ -137,9 +137,9 @@ fn series_of(
 fn without_hidden(
     alloc: Global,
     entries: &[Entry],
-    singles: Vec<Single>,
+    singles: Vec<PlacedSingle>,
     overrides: &[InstanceKey<'_>],
-) -> Result<Vec<Single>, AllocError>
+) -> Result<Vec<PlacedSingle>, AllocError>
     requires within { AreWithin entries.now singles.items }
     requires sorted { AreInOrder overrides.now }
     ensures { IfOk result (λ left. left.items ≡ filter (is_shown_in entries.now (map key_of overrides.now)) singles.items) }
@@ -196,13 +196,13 @@ fn organiser_of(alloc: Global, event: &EventComponent) -> Result<Address, AllocE
 /// Appends the singles of an event, which stands at that place, by start.
 fn add_singles(
     alloc: Global,
-    singles: &mut Vec<Single>,
+    singles: &mut Vec<PlacedSingle>,
     entry: usize,
     event: &EventComponent,
 ) -> Result<(), AllocError>
     requires { IsSaid (event_of event.now) }
     ensures { (room : List ℕ) → is_kept room (event_of event.now) ≡ true
-        → OnOk result ((own : List Single) × (singles.new.items ≡ singles.old.items ++ own) × AreOwnAt room entry (event_of event.now) own) }
+        → OnOk result ((own : List PlacedSingle) × (singles.new.items ≡ singles.old.items ++ own) × AreOwnAt room entry (event_of event.now) own) }
 {
     match event.recurrence {
         Some(slot) => {
@@ -220,12 +220,12 @@ fn add_singles(
 }
 
 /// The instance of an event at a start, with that slot.
-fn single_at(entry: usize, event: &EventComponent, slot: i64, start: i64) -> Single
+fn single_at(entry: usize, event: &EventComponent, slot: i64, start: i64) -> PlacedSingle
     requires { IsNearEpoch start }
     ensures place { (result.entry ≡ entry) × (result.slot ≡ slot) × (result.start ≡ start) }
     ensures ends { EndsAt (event_of event.now).times start result.end }
 {
-    Single {
+    PlacedSingle {
         entry,
         slot,
         start,
@@ -274,7 +274,7 @@ fn has_equal_neighbours(sorted: &[InstanceKey<'_>]) -> bool
 }
 
 /// Whether a single is an override's, or no override stands for its start.
-fn is_shown(entries: &[Entry], overrides: &[InstanceKey<'_>], single: Single) -> bool
+fn is_shown(entries: &[Entry], overrides: &[InstanceKey<'_>], single: PlacedSingle) -> bool
     requires within { single.entry < length entries.now }
     requires sorted { AreInOrder overrides.now }
     ensures { result ≡ is_shown_in entries.now (map key_of overrides.now) single }

@@ -1,22 +1,22 @@
 //! When an event starts and how long it lasts (RFC 5545 3.6.1): first its three properties as they are said, in UTC or
 //! where TZID names a zone, then all of them together.
 
-ghost use Rattle.std.specs.Prelude.{◌≡◌, ◌↔◌, ◌≤◌, ◌^◌, ℕ, List, Some, pos, ◌+ℤ◌, ◌-ℤ◌, ◌<ℤ◌, ◌≤ℤ◌, IfOk, IfErr, IsTrue};
+ghost use Rattle.std.specs.Prelude.{◌≡◌, ◌↔◌, ◌≤◌, ◌^◌, ℕ, Bool, List, Some, codes, pos, ◌+ℤ◌, ◌-ℤ◌, ◌<ℤ◌, ◌≤ℤ◌, IfOk, IfErr, IsTrue};
 ghost use Rattle.ical_lines.specs.Text.{line_text};
 ghost use Rattle.profile.specs.text.Trees.{Tree};
 ghost use Rattle.profile.specs.series.Zones.{IsNearEpoch, Means};
 ghost use Rattle.profile.specs.events.Starts.{IsDaysLater, EndsAt, IsWidth};
 ghost use Rattle.cal_zones.specs.Kinds.{zone_of};
 ghost use Rattle.profile.specs.faults.Faults.{is_event_fault};
-ghost use Rattle.profile.specs.events.Properties.{length_seconds};
-ghost use Rattle.profile.specs.events.ZonedTimes.{is_in_zone, IsInDates, ZonedTimeFault, SaysEventTimes, EventTimesFault};
+ghost use Rattle.profile.specs.events.Properties.{length_seconds, StandsAtMostOnce, IsMissing};
+ghost use Rattle.profile.specs.events.ZonedTimes.{is_in_zone, IsInDates, ZonedTimeFault, SaysTimes, EventTimesFault};
 ghost use Rattle.cal_events.specs.Events.{times_of, length_of, GivesLength, ExtentFault};
 ghost use Rattle.cal_events.specs.Zones.{object_of, AreRead};
 ghost use Rattle.cal_events.specs.Overlapping.{LastAtMost};
-ghost use Rattle.cal_events.specs.Zoned.{EndsSo, IsExtentIn, AreSaid, IsInYears};
+ghost use Rattle.cal_events.specs.Zoned.{EndsSo, IsExtentIn, IsAlone, AreSaid, AreSaidAlone, AreSaidBy, IsInYears};
 
 use crate::instance::HORIZON;
-use crate::properties::{optional, required};
+use crate::properties::optional;
 use crate::zoned::ZonedTime;
 use crate::zones::Zones;
 use cal_zones::Zone;
@@ -113,6 +113,21 @@ enum Extent {
     For(Duration),
 }
 
+impl Extent {
+    /// Without a start: an end gives no length.
+    fn alone(self) -> Extent
+        ensures { IsAlone self result }
+    {
+        match self {
+            Extent::ToEnd(_) => Extent::For(Duration {
+                days: 0,
+                seconds: 0,
+            }),
+            Extent::For(duration) => Extent::For(duration),
+        }
+    }
+}
+
 /// What DTSTART, DTEND and DURATION say, each judged alone.
 #[derive(Clone, Copy)]
 pub(crate) struct SaidTimes {
@@ -126,18 +141,37 @@ pub(crate) struct SaidTimes {
 }
 
 impl SaidTimes {
-    /// Reads the start of a VEVENT, and its end or its length, where they may name these zones.
-    /// Refused: 61 where DTSTART is missing, one of the three stands twice, or DTEND beside DURATION; as by
+    /// Reads the start of a VEVENT, which may be missing or not, and its end or its length, where they may name these zones.
+    /// Refused: 61 where DTSTART is missing and may not, one of the three stands twice, or DTEND beside DURATION; as by
     /// `ZonedTime::read` for the two times; 12 and 51 for DURATION.
     pub(crate) fn read(
         zones: &Zones<'_, '_>,
         properties: &Properties<'_>,
+        may_lack: bool,
     ) -> Result<SaidTimes, Refusal>
         requires zones { AreRead zones.now }
-        ensures said { IfOk result (AreSaid (object_of zones.now) properties.now) }
-        ensures stands { IfErr result (λ e. EventTimesFault (object_of zones.now) properties.now e.number) }
+        ensures said { IfOk result (AreSaidBy may_lack (object_of zones.now) properties.now) }
+        ensures stands { IfErr result (λ e. EventTimesFault may_lack (object_of zones.now) properties.now e.number) }
     {
-        let line = required(properties, "DTSTART")?;
+        let line = optional(properties, "DTSTART")?;
+        match line {
+            Some(line) => SaidTimes::from_start(line, zones, properties),
+            None if may_lack => SaidTimes::without_start(zones, properties),
+            None => Err(Refusal::BAD_PROPERTY),
+        }
+    }
+
+    /// What they say with this line of DTSTART.
+    fn from_start(
+        line: Line<'_>,
+        zones: &Zones<'_, '_>,
+        properties: &Properties<'_>,
+    ) -> Result<SaidTimes, Refusal>
+        requires zones { AreRead zones.now }
+        requires once { StandsAtMostOnce (codes "DTSTART") properties.now (Some (line_text line)) }
+        ensures said { IfOk result (AreSaid (object_of zones.now) properties.now) }
+        ensures stands { (may_lack : Bool) → IfErr result (λ e. EventTimesFault may_lack (object_of zones.now) properties.now e.number) }
+    {
         let start = ZonedTime::read(line, zones)?;
         let instant = start.instant();
         let in_zone = is_in_zone(line);
@@ -152,14 +186,34 @@ impl SaidTimes {
         })
     }
 
+    /// What they say without DTSTART: an end is read, and gives no length.
+    fn without_start(
+        zones: &Zones<'_, '_>,
+        properties: &Properties<'_>,
+    ) -> Result<SaidTimes, Refusal>
+        requires zones { AreRead zones.now }
+        requires missing { IsMissing (codes "DTSTART") properties.now }
+        ensures said { IfOk result (AreSaidAlone (object_of zones.now) properties.now) }
+        ensures stands { (may_lack : Bool) → IfErr result (λ e. EventTimesFault may_lack (object_of zones.now) properties.now e.number) }
+    {
+        let (extent, ends_in) = read_extent(zones, properties, 0)?;
+        Ok(SaidTimes {
+            start: ZonedTime::epoch(),
+            instant: 0,
+            extent: extent.alone(),
+            starts_in: true,
+            ends_in,
+        })
+    }
+
     /// Judges the times together.
     /// Refused: 50 where the event ends before it starts, 51 past 366 days, 52 where DTSTART or DTEND lies outside of the
     /// local years 1970 to 9999 (in UTC from 1969-12-31 on), or not before 10000-01-01T00:00:00Z.
     pub(crate) fn judge(self) -> Result<EventTimes, Refusal>
-        ensures says { (object : Tree) (lines : List (List ℕ)) → AreSaid object lines self
-            → IfOk result (λ times. SaysEventTimes object lines (times_of times)) }
-        ensures stands { (object : Tree) (lines : List (List ℕ)) → AreSaid object lines self
-            → IfErr result (λ e. EventTimesFault object lines e.number) }
+        ensures says { (may_lack : Bool) (object : Tree) (lines : List (List ℕ)) → AreSaidBy may_lack object lines self
+            → IfOk result (λ times. SaysTimes may_lack object lines (times_of times)) }
+        ensures stands { (may_lack : Bool) (object : Tree) (lines : List (List ℕ)) → AreSaidBy may_lack object lines self
+            → IfErr result (λ e. EventTimesFault may_lack object lines e.number) }
     {
         let length = judge_extent(self.extent)?;
         if !self.starts_in || !self.ends_in {
@@ -200,7 +254,7 @@ fn read_extent(
     requires zones { AreRead zones.now }
     requires start { IsNearEpoch start }
     ensures reads { IfOk result (λ read. IsExtentIn (object_of zones.now) properties.now start read.1 read.0) }
-    ensures stands { IfErr result (λ e. EventTimesFault (object_of zones.now) properties.now e.number) }
+    ensures stands { (may_lack : Bool) → IfErr result (λ e. EventTimesFault may_lack (object_of zones.now) properties.now e.number) }
 {
     let end = optional(properties, "DTEND")?;
     let duration = optional(properties, "DURATION")?;

@@ -2,6 +2,7 @@
 ghost use Rattle.std.specs.Prelude.{◌≡◌};
 ghost use Rattle.cal_events.specs.Calendars.{key_of, owned_key_of};
 
+use crate::sweep::Span;
 use ical_values::{Address, Text};
 
 /// The instant from which on nothing is compared: 10000-01-01T00:00:00Z, in seconds from
@@ -23,6 +24,14 @@ pub struct Instance<'a> {
     pub key: InstanceKey<'a>,
     pub start: i64,
     pub end: i64,
+}
+
+/// An instance of an event that is known: its original start (RFC 5545 3.8.4.4), and when it takes place. Seconds from
+/// 1970-01-01T00:00:00Z.
+#[derive(Clone, Copy, PartialEq, Eq)]
+pub struct Single {
+    pub slot: i64,
+    pub span: Span,
 }
 
 /// A key that owns its texts.

@@ -13,6 +13,7 @@ mod instants;
 mod meeting_components;
 mod occurrences;
 mod overlapping;
+mod own_instances;
 mod places;
 mod properties;
 mod reading;
@@ -28,7 +29,7 @@ pub use calendar::{Calendar, Singles};
 pub use component::{Attendee, EventComponent, ParticipationStatus, Purpose, one_event};
 pub use event::{Event, one_instance, one_meeting};
 pub use event_times::EventTimes;
-pub use instance::{HORIZON, Instance, InstanceKey, OwnedKey};
+pub use instance::{HORIZON, Instance, InstanceKey, OwnedKey, Single};
 pub use instances::Instances;
 pub use meeting_components::MeetingComponents;
 pub use reading::{

@@ -1,14 +1,14 @@
 //! Which instance of a meeting a VEVENT stands for (RECURRENCE-ID, RFC 5545 3.8.4.4), and which starts it adds to those of its
 //! rule and which it takes away (RDATE 3.8.5.2, EXDATE 3.8.5.1): first as they are said, then judged together with the rest.
 
-ghost use Rattle.std.specs.Prelude.{◌≡◌, ◌⊎◌, ◌<◌, ◌∷◌, ◌++◌, ◌==◌, ◌||◌, [], List, ℕ, codes, true, false, IfOk, IfErr, OnOk, OnErr};
+ghost use Rattle.std.specs.Prelude.{◌≡◌, ◌⊎◌, ◌<◌, ◌∷◌, ◌++◌, ◌==◌, ◌||◌, [], List, ℕ, Bool, codes, true, false, IfOk, IfErr, OnOk, OnErr};
 ghost use Rattle.std.specs.List.{AllZip, list_any};
 ghost use Rattle.ical_lines.specs.Fault.{RefusesBy};
 ghost use Rattle.ical_lines.specs.Text.{line_text};
 ghost use Rattle.profile.specs.text.Trees.{Tree};
 ghost use Rattle.profile.specs.events.Properties.{is_of, Says};
 ghost use Rattle.profile.specs.events.ZonedTimes.{ZonedTextFault};
-ghost use Rattle.profile.specs.events.Occurrences.{Entry, IsRecurrenceLine, is_period, entries_of, entries_named, Lists, IsInside, EntriesFault, OccurrenceFault, recurs_beside_recurrence};
+ghost use Rattle.profile.specs.events.Occurrences.{Entry, IsRecurrenceLine, is_period, entries_of, entries_named, Lists, IsInside, EntriesFault, OccurrenceFault, recurs_as_instance};
 ghost use Rattle.cal_events.specs.Zones.{object_of, AreRead};
 ghost use Rattle.cal_events.specs.Occurrences.{name_of, SaysSo, IsRecurrenceSaid, AreListed};
 
@@ -96,7 +96,7 @@ impl SaidInstant {
     ) -> Result<Option<SaidInstant>, Refusal>
         requires zones { AreRead zones.now }
         ensures said { IfOk result (IsRecurrenceSaid (object_of zones.now) properties.now) }
-        ensures stands { IfErr result (λ e. OccurrenceFault (object_of zones.now) properties.now e.number) }
+        ensures stands { (added : Bool) → IfErr result (λ e. OccurrenceFault added (object_of zones.now) properties.now e.number) }
     {
         let Some(line) = optional(properties, "RECURRENCE-ID")? else {
             return Ok(None);
@@ -114,7 +114,7 @@ pub(crate) fn judge_recurrence(said: Option<SaidInstant>) -> Result<Option<i64>,
     ensures says { (object : Tree) (lines : List (List ℕ)) → IsRecurrenceSaid object lines said
         → IfOk result (Says (codes "RECURRENCE-ID") false (IsRecurrenceLine object) lines) }
     ensures stands { (object : Tree) (lines : List (List ℕ)) → IsRecurrenceSaid object lines said
-        → IfErr result (λ e. OccurrenceFault object lines e.number) }
+        → (added : Bool) → IfErr result (λ e. OccurrenceFault added object lines e.number) }
 {
     match said {
         Some(said) if !said.in_dates => Err(Refusal::OUT_OF_DATES),
@@ -123,14 +123,17 @@ pub(crate) fn judge_recurrence(said: Option<SaidInstant>) -> Result<Option<i64>,
     }
 }
 
-/// Refuses RRULE or RDATE beside RECURRENCE-ID: a single instance doesn't recur.
+/// Refuses RRULE or RDATE in a VEVENT that is a single instance, by its RECURRENCE-ID or as one that is added: an instance doesn't recur.
 /// Refused: 67.
-pub(crate) fn refuse_recurring_instance(properties: &Properties<'_>) -> Result<(), Refusal>
-    ensures alone { OnOk result (recurs_beside_recurrence properties.now ≡ false) }
-    ensures recurs { OnErr result (recurs_beside_recurrence properties.now ≡ true) }
+pub(crate) fn refuse_recurring_instance(
+    properties: &Properties<'_>,
+    added: bool,
+) -> Result<(), Refusal>
+    ensures alone { OnOk result (recurs_as_instance added properties.now ≡ false) }
+    ensures recurs { OnErr result (recurs_as_instance added properties.now ≡ true) }
     ensures number { IfErr result (λ e. e.number ≡ 67) }
 {
-    if has_recurrence(properties) && recurs(properties) {
+    if (added || has_recurrence(properties)) && recurs(properties) {
         return Err(Refusal::RECURRING_INSTANCE);
     }
     Ok(())
@@ -243,7 +246,7 @@ impl SaidInstants {
             → IfOk result (λ v. Lists object (codes "RDATE") (entries_named (codes "RDATE") lines) v.items
             × AllZip (IsInside object) (entries_named (codes "RDATE") lines) v.items) }
         ensures stands { (object : Tree) (lines : List (List ℕ)) → AreListed object (codes "RDATE") (entries_named (codes "RDATE") lines) self
-            → IfErr result (λ e. OccurrenceFault object lines e.number) }
+            → (added : Bool) → IfErr result (λ e. OccurrenceFault added object lines e.number) }
     {
         if !self.in_dates {
             return Err(Refusal::OUT_OF_DATES);

@@ -11,7 +11,7 @@ ghost use Rattle.profile.specs.events.Confirmed.{Confirmed, IsConfirmed, IsInSer
 ghost use Rattle.profile.specs.text.Trees.{Tree};
 ghost use Rattle.ical_tree.specs.Tree.{component_lines, tree_of};
 ghost use Rattle.cal_events.specs.Zones.{object_of, AreRead};
-ghost use Rattle.cal_events.specs.Events.{IsUnreadOrFault, IsUnreadOrFaultAmong, is_message, has_unread_for, is_fault_for, event_of, vevents_of};
+ghost use Rattle.cal_events.specs.Events.{IsUnreadOrFault, IsUnreadOrFaultAmong, method_read, has_unread_for, is_fault_for, event_of, vevents_of};
 
 use crate::calendar::Calendar;
 use crate::component::{EventComponent, Purpose, one_event};
@@ -135,7 +135,7 @@ fn read_event(
     purpose: Purpose,
 ) -> Result<EventComponent, Fault>
     requires zones { AreRead zones.now }
-    ensures says { IfOk result (λ event. SaysEvent (object_of zones.now) (is_message purpose) (component_lines component.now) (event_of event)) }
+    ensures says { IfOk result (λ event. SaysEvent (object_of zones.now) (method_read purpose) (component_lines component.now) (event_of event)) }
     ensures read { OnOk result (has_unread_for purpose (component_lines component.now) ≡ false) }
     ensures refuses { IfErr result (RefusesOnly (is_fault_for purpose)) }
     ensures stands { IfErr result (RefusesBy (IsUnreadOrFault (object_of zones.now) purpose (component_lines component.now))) }
@@ -151,7 +151,7 @@ pub fn read_events(
     object: &Component,
     purpose: Purpose,
 ) -> Result<Vec<EventComponent>, Fault>
-    ensures says { IfOk result (λ events. AllZip (SaysEvent (tree_of object.now) (is_message purpose)) (vevents_of object.now) (map event_of events.items)) }
+    ensures says { IfOk result (λ events. AllZip (SaysEvent (tree_of object.now) (method_read purpose)) (vevents_of object.now) (map event_of events.items)) }
     ensures read { OnOk result (list_any (has_unread_for purpose) (vevents_of object.now) ≡ false) }
     ensures refuses { IfErr result (RefusesOnly (is_fault_for purpose)) }
     ensures stands { IfErr result (RefusesBy (IsUnreadOrFaultAmong (tree_of object.now) purpose (vevents_of object.now))) }

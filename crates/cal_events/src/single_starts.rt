@@ -1,5 +1,5 @@
 //! The starts of a master that belong to no series (RFC 5545 3.8.5.2, 3.8.5.1).
-ghost use Rattle.std.specs.Prelude.{◌≡◌, ◌↔◌, ℤ, Contains, IsTrue, IfOk};
+ghost use Rattle.std.specs.Prelude.{◌≡◌, ◌↔◌, ℤ, true, is_some, Contains, IsTrue, IfOk};
 ghost use Rattle.std.specs.List.Sorted.{IsPermutation};
 ghost use Rattle.cal_events.specs.Events.{event_of};
 ghost use Rattle.cal_events.specs.Instances.{HasGoodClock};
@@ -14,7 +14,7 @@ use std::alloc::{AllocError, Global};
 /// The starts of a master, by itself, that no rule gives: DTSTART where there is no rule, and RDATEs; ascending, each once. What EXDATE names
 /// is none. It fails only for memory.
 pub(crate) fn single_starts(alloc: Global, master: &EventComponent) -> Result<Vec<i64>, AllocError>
-    requires { HasGoodClock (event_of master.now) }
+    requires { is_some master.now.rule ≡ true → HasGoodClock (event_of master.now) }
     ensures { IfOk result (λ starts. AreSingleStarts (event_of master.now) starts.items) }
 {
     let hidden = Instants::of(copied(alloc, &master.exceptions)?);
@@ -57,7 +57,7 @@ fn is_last(starts: &[i64], instant: i64) -> bool
 
 /// Whether a candidate is a start that no rule gives.
 fn is_single(master: &EventComponent, hidden: &Instants, instant: i64) -> bool
-    requires clock { HasGoodClock (event_of master.now) }
+    requires clock { is_some master.now.rule ≡ true → HasGoodClock (event_of master.now) }
     requires hidden { IsPermutation master.now.exceptions.items hidden.now }
     ensures { IsTrue result ↔ IsLeftOver (event_of master.now) instant }
 {
@@ -66,7 +66,7 @@ fn is_single(master: &EventComponent, hidden: &Instants, instant: i64) -> bool
 
 /// Whether the master's rule gives a start at an instant, which EXDATE doesn't name. Looks at the days near it alone.
 fn is_on_rule(master: &EventComponent, instant: i64) -> bool
-    requires clock { HasGoodClock (event_of master.now) }
+    requires clock { is_some master.now.rule ≡ true → HasGoodClock (event_of master.now) }
     requires named { IsNamed instant }
     requires not_excepted { Contains master.now.exceptions.items instant → ⊥ }
     ensures { IsTrue result ↔ IsOnRule (event_of master.now) instant }

@@ -1,6 +1,6 @@
 //! A time with its zone, as a start or an end: TZID names a VTIMEZONE of the object that the line stands in
 //! (RFC 5545 3.2.19, 3.3.5, 3.6.5, 3.8.3.1). A VTIMEZONE that no line names isn't read.
-ghost use Rattle.std.specs.Prelude.{◌≡◌, ℕ, List, Option, None, Some, ℤ, IfOk, IfErr};
+ghost use Rattle.std.specs.Prelude.{◌≡◌, ℕ, List, Option, None, Some, ℤ, pos, IfOk, IfErr};
 ghost use Rattle.ical_lines.specs.Text.{line_text};
 ghost use Rattle.profile.specs.text.Trees.{Tree};
 ghost use Rattle.profile.specs.text.Values.{SpellsLocal};
@@ -73,6 +73,17 @@ impl ZonedTime {
         match self.zone {
             Some(zone) => zone,
             None => Zone::utc(),
+        }
+    }
+
+    /// 1970-01-01T00:00:00Z.
+    pub(crate) fn epoch() -> ZonedTime
+        ensures zone { zone_said result ≡ None }
+        ensures local { result.local ≡ pos 0 }
+    {
+        ZonedTime {
+            local: LocalTime::of_seconds(0).unwrap(),
+            zone: None,
         }
     }
 

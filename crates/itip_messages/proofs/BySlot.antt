@@ -1,12 +1,12 @@
 -- The events of a message's meeting: what is known of each, and their order by slots.
-use Rattle.std.proofs.Common.{◌≡◌, ◌≢◌, ◌∙◌, ℕ, zero, suc, ◌<◌, ◌+◌, Bool, true, false, not, ◌⊎◌, List, [], ◌∷◌, ◌++◌, length, map, filter, get_or, refl, sym, ap, subst, arith, inl, inr, length-append, ℤ, Option, Some, None, is_some, Ordering}
+use Rattle.std.proofs.Common.{cond, codes, ◌||◌, ◌≡◌, ◌≢◌, ◌∙◌, ℕ, zero, suc, ◌<◌, ◌+◌, Bool, true, false, not, ◌⊎◌, List, [], ◌∷◌, ◌++◌, length, map, filter, get_or, refl, sym, ap, subst, arith, inl, inr, length-append, ℤ, Option, Some, None, is_some, Ordering}
 use Rattle.std.specs.Prelude.{◌↔◌, Contains, All, AllPairs, option_map}
 use Rattle.std.specs.Option.{option_to_list}
-use Rattle.std.specs.List.{AllZip}
+use Rattle.std.specs.List.{list_any, AllZip}
 use Rattle.std.specs.List.Sorted.{IsPermutation, IsSortedByKey}
 use Rattle.std.specs.declared.cmp.Ordering.TheVariants.{Less, Equal, Greater}
 use Rattle.std.specs.Ordering.{is_lt, is_eq, ordering_reverse}
-use Rattle.std.proofs.lemmas.Bool.{true≢false}
+use Rattle.std.proofs.lemmas.Bool.{true≢false, or_parts}
 use Rattle.std.proofs.lemmas.Option.{same_Some}
 use Rattle.std.proofs.lemmas.List.{get_or-map, length-map}
 use Rattle.std.proofs.lemmas.List.Elements.{All-append, All-map, All-cons, All-nil, All-filter, Contains-append_cases}
@@ -14,21 +14,26 @@ use Rattle.std.proofs.lemmas.List.Filters.{length-filter_both}
 use Rattle.std.proofs.lemmas.List.Kept.{AllPairs-filter}
 use Rattle.std.proofs.lemmas.List.Sorted.{IsPermutation-map, IsPermutation-sym, Contains-permutation, ranks_by, sorted_far}
 use Rattle.profile.specs.text.Trees.{Tree, vevents}
-use Rattle.profile.specs.events.Events.{Event, SaysEvent}
-use Rattle.profile.specs.events.Properties.{BothOrNeither}
+use Rattle.profile.specs.events.Events.{Method, Request, Add, Cancel, Event, SaysEvent}
+use Rattle.profile.specs.events.Properties.{BothOrNeither, is_of, lines_named}
+use Rattle.profile.specs.events.EventRules.{IsRuleLine, SaysEventRule}
+use Rattle.profile.specs.events.Occurrences.{Entry, IsInside}
+use Rattle.profile.specs.events.ZonedTimes.{EventTimes}
+use Rattle.profile.specs.series.Rules.{Parts}
 use Rattle.profile.specs.events.Events.{meeting_said}
-use Rattle.profile.specs.events.Meetings.{Method, Request, Add, Cancel, Meeting, as_added, taken_by, events_of, is_master, is_override, AreOfOne, InstancesDiffer, SaysMeeting}
-use Rattle.profile.specs.rooms.Messages.{AreBySlot, slot_of, slot_named}
+use Rattle.profile.specs.events.Meetings.{Meeting, as_added, taken_by, events_of, is_master, is_override, AreOfOne, InstancesDiffer, SaysMeeting}
+use Rattle.profile.specs.rooms.Messages.{AreBySlot, has_unread, slot_of, slot_named}
 use Rattle.profile.specs.rooms.Revisions.{Slot, Whole, At, slot_cmp}
 use Rattle.itip_order.proofs.Order.{slot_total}
 use Rattle.std.specs.FinMap.{int_cmp-IsAntisymmetric}
-use Rattle.cal_events.proofs.InOneOrder.{in_mapped, of_mapped, in_filtered, of_filtered, cons_pairs, pairs_mapped, mapped_pairs}
+use Rattle.cal_events.proofs.InOneOrder.{none_in, in_mapped, of_mapped, in_filtered, of_filtered, cons_pairs, pairs_mapped, mapped_pairs}
 use Rattle.cal_events.proofs.KeyLemmas.{pairs_permutation}
 use Rattle.cal_events.specs.Events.{event_of}
 use Rattle.cal_events.specs.declared.component.EventComponent.{EventComponent}
 use Rattle.std.proofs.lemmas.Int.{ints}
 use Rattle.cal_events.specs.Meetings.{IsNamed}
-use Rattle.cal_events.proofs.OneInstance.{recurrence_named}
+use Rattle.cal_events.proofs.OneInstance.{event_sound}
+use Rattle.itip_messages.specs.Bodies.{IsReady}
 use Rattle.itip_messages.specs.Messages.{IsDated, IsOfMessage, event_slot}
 
 abbrev Lines : Type 0
@@ -42,44 +47,89 @@ given R (Some l) None h b = absurd b
 given R None (Some v) h b = absurd b
 given R (Some l) (Some v) h b = refl
 
-organised : (object : Tree) (vs : List Lines) (es : List Event) → AllZip (SaysEvent object true) vs es → All (λ e. is_some e.organiser ≡ true) es
-organised object [] [] z = All-nil (λ e. is_some e.organiser ≡ true)
-organised object [] (e ∷ es) z = absurd z
-organised object (v ∷ vs) [] z = absurd z
-organised object (v ∷ vs) (e ∷ es) z =
+organised : (object : Tree) (m : Method) (vs : List Lines) (es : List Event) → AllZip (SaysEvent object (Some m)) vs es → All (λ e. is_some e.organiser ≡ true) es
+organised object m [] [] z = All-nil (λ e. is_some e.organiser ≡ true)
+organised object m [] (e ∷ es) z = absurd z
+organised object m (v ∷ vs) [] z = absurd z
+organised object m (v ∷ vs) (e ∷ es) z =
     let s = z.0.organiser in
-    All-cons (λ (e : Event). is_some e.organiser ≡ true) e es (given _ s.line e.organiser (s.stands refl) s.is) (organised object vs es z.1)
+    All-cons (λ (e : Event). is_some e.organiser ≡ true) e es (given _ s.line e.organiser (s.stands refl) s.is) (organised object m vs es z.1)
 
-stamped : (object : Tree) (vs : List Lines) (es : List Event) → AllZip (SaysEvent object true) vs es → All (λ e. is_some e.stamp ≡ true) es
-stamped object [] [] z = All-nil (λ e. is_some e.stamp ≡ true)
-stamped object [] (e ∷ es) z = absurd z
-stamped object (v ∷ vs) [] z = absurd z
-stamped object (v ∷ vs) (e ∷ es) z =
+stamped : (object : Tree) (m : Method) (vs : List Lines) (es : List Event) → AllZip (SaysEvent object (Some m)) vs es → All (λ e. is_some e.stamp ≡ true) es
+stamped object m [] [] z = All-nil (λ e. is_some e.stamp ≡ true)
+stamped object m [] (e ∷ es) z = absurd z
+stamped object m (v ∷ vs) [] z = absurd z
+stamped object m (v ∷ vs) (e ∷ es) z =
     let s = z.0.stamp in
-    All-cons (λ (e : Event). is_some e.stamp ≡ true) e es (given _ s.line e.stamp (s.stands refl) s.is) (stamped object vs es z.1)
+    All-cons (λ (e : Event). is_some e.stamp ≡ true) e es (given _ s.line e.stamp (s.stands refl) s.is) (stamped object m vs es z.1)
 
 -- and RECURRENCE-ID names an instant that a stamp writes
 in_stamps : (r : Option ℤ) → ((t : ℤ) → r ≡ Some t → IsNamed t) → IsDated (slot_named r)
 in_stamps None h = tt
 in_stamps (Some t) h = let n = h t refl in (omega (arith, ints, n.0), omega (arith, ints, n.1))
 
-dated : (object : Tree) (vs : List Lines) (es : List Event) → AllZip (SaysEvent object true) vs es → All (λ e. IsDated (slot_of e)) es
-dated object [] [] z = All-nil (λ e. IsDated (slot_of e))
-dated object [] (e ∷ es) z = absurd z
-dated object (v ∷ vs) [] z = absurd z
-dated object (v ∷ vs) (e ∷ es) z =
-    let s = z.0.occurrences.is in
-    All-cons (λ (e : Event). IsDated (slot_of e)) e es (in_stamps e.recurrence (λ t is. recurrence_named object s.line e.recurrence t s.is is)) (dated object vs es z.1)
+dated : (object : Tree) (m : Method) (vs : List Lines) (es : List Event) → AllZip (SaysEvent object (Some m)) vs es → All (λ e. IsDated (slot_of e)) es
+dated object m [] [] z = All-nil (λ e. IsDated (slot_of e))
+dated object m [] (e ∷ es) z = absurd z
+dated object m (v ∷ vs) [] z = absurd z
+dated object m (v ∷ vs) (e ∷ es) z =
+    All-cons (λ (e : Event). IsDated (slot_of e)) e es (in_stamps e.recurrence (event_sound object v e z.0).names) (dated object m vs es z.1)
 
 -- and so does its own start
-starts_dated : (object : Tree) (vs : List Lines) (es : List Event) → AllZip (SaysEvent object true) vs es → All (λ e. IsDated (slot_of (as_added e))) es
-starts_dated object [] [] z = All-nil (λ e. IsDated (slot_of (as_added e)))
-starts_dated object [] (e ∷ es) z = absurd z
-starts_dated object (v ∷ vs) [] z = absurd z
-starts_dated object (v ∷ vs) (e ∷ es) z =
-    let t = z.0.times in
-    let named : IsNamed e.times.start = (t.in_dates.1, t.in_dates.2) in
-    All-cons (λ (e : Event). IsDated (slot_of (as_added e))) e es (in_stamps (Some e.times.start) (λ t is. subst IsNamed (same_Some e.times.start t is) named)) (starts_dated object vs es z.1)
+starts_dated : (object : Tree) (m : Method) (vs : List Lines) (es : List Event) → AllZip (SaysEvent object (Some m)) vs es → All (λ e. IsDated (slot_of (as_added e))) es
+starts_dated object m [] [] z = All-nil (λ e. IsDated (slot_of (as_added e)))
+starts_dated object m [] (e ∷ es) z = absurd z
+starts_dated object m (v ∷ vs) [] z = absurd z
+starts_dated object m (v ∷ vs) (e ∷ es) z =
+    All-cons (λ (e : Event). IsDated (slot_of (as_added e))) e es (in_stamps (Some e.times.start) (λ t is. subst IsNamed (same_Some e.times.start t is) (event_sound object v e z.0).starts)) (starts_dated object m vs es z.1)
+
+-- and it has no rule, and says only instants that a stamp writes
+no_rule_line : (lines : Lines) → has_unread lines ≡ false → lines_named (codes "RRULE") lines ≡ []
+no_rule_line [] h = refl
+no_rule_line (line ∷ lines) h =
+    let both = or_parts (is_of (codes "RRULE") line) (has_unread lines) h in
+    let rest = lines_named (codes "RRULE") lines in
+    ap (λ b. cond b (line ∷ rest) rest) both.0 ∙ no_rule_line lines both.1
+
+no_rule : (lines : Lines) (times : EventTimes) (rule : Option Parts) → has_unread lines ≡ false → SaysEventRule lines times rule → rule ≡ None
+no_rule lines times rule h s = go s.line rule (sym (no_rule_line lines h) ∙ s.once) s.is
+  where
+    go : (line : Option (List ℕ)) (rule : Option Parts) → [] ≡ option_to_list line → BothOrNeither (IsRuleLine times) line rule → rule ≡ None
+    go None None e b = refl
+    go None (Some r) e b = absurd b
+    go (Some l) rule e b = let k : 0 ≡ 1 = ap length e in absurd (omega (arith, k))
+
+inside_named : (object : Tree) (entry : Entry) (t : ℤ) → IsInside object entry t → IsNamed t
+inside_named object (line, text) t (_, _, _, _, dates) = (dates.1, dates.2)
+
+listed : (object : Tree) (entries : List Entry) (instants : List ℤ) → AllZip (IsInside object) entries instants → (t : ℤ) → Contains instants t → IsNamed t
+listed object [] [] z t c = absurd (none_in t c)
+listed object [] (x ∷ xs) z t c = absurd z
+listed object (e ∷ es) [] z t c = absurd z
+listed object (e ∷ es) (x ∷ xs) z t (zero, w, same) = subst IsNamed same (inside_named object e x z.0)
+listed object (e ∷ es) (x ∷ xs) z t (suc k, w, same) = listed object es xs z.1 t (k, omega (arith, w), same)
+
+event_ready : (object : Tree) (m : Method) (lines : Lines) (event : Event) → SaysEvent object (Some m) lines event → has_unread lines ≡ false → IsReady event
+event_ready object m lines event s h =
+    let sound = event_sound object lines event s in
+    record {
+      once = no_rule lines event.times event.rule h s.rule;
+      timely = record { steady = sound.steady; starts = sound.starts };
+      listed = listed object _ event.additions s.occurrences.inside;
+    }
+
+ready : (object : Tree) (m : Method) (vs : List Lines) (es : List Event) → AllZip (SaysEvent object (Some m)) vs es → list_any has_unread vs ≡ false → All IsReady es
+ready object m [] [] z h = All-nil IsReady
+ready object m [] (e ∷ es) z h = absurd z
+ready object m (v ∷ vs) [] z h = absurd z
+ready object m (v ∷ vs) (e ∷ es) z h =
+    let both = or_parts (has_unread v) (list_any has_unread vs) h in
+    All-cons IsReady e es (event_ready object m v e z.0 both.0) (ready object m vs es z.1 both.1)
+
+-- also as an instance that is added
+ready_added : (es : List Event) → All IsReady es → All (λ e. IsReady (as_added e)) es
+ready_added es a k e w =
+    let r = a k e w in record { once = r.once; timely = record { steady = r.timely.steady; starts = r.timely.starts }; listed = r.listed }
 
 -- ---- as a method takes them
 
@@ -146,8 +196,8 @@ slots_differ (Some e) os m n h =
 
 -- ---- what a message says is a meeting of that kind
 
-pub of_message : (object : Tree) (method : Method) (meeting : Meeting) → SaysMeeting object (Some method) meeting → IsOfMessage meeting
-of_message object method meeting s =
+pub of_message : (object : Tree) (method : Method) (meeting : Meeting) → SaysMeeting object (Some method) meeting → list_any has_unread (vevents object) ≡ false → IsOfMessage meeting
+of_message object method meeting s h =
     let events = taken_by (Some method) s.events in
     let same : filter is_master events ++ filter is_override events ≡ events_of meeting = (λ i. s.master i ++ s.overrides i) in
     let P : List Event → Type 0 = λ es. (e : Event) → Contains es e → Contains events e in
@@ -158,15 +208,17 @@ of_message object method meeting s =
     let sum = length-append (filter is_master events) (filter is_override events) in
     let whole = ap length same in
     let some : 0 < length events = taken_some method s.events s.some in
-    let given_organiser = organised object (vevents object) s.events s.says in
-    let given_stamp = stamped object (vevents object) s.events s.says in
+    let given_organiser = organised object method (vevents object) s.events s.says in
+    let all_ready = ready object method (vevents object) s.events s.says h in
+    let given_stamp = stamped object method (vevents object) s.events s.says in
     record {
       some = omega (arith, long, sum, whole, some);
       one = λ a b c d. taken_one method s.events s.one a b (among a c) (among b d);
       organised = every (λ e. is_some e.organiser ≡ true) (taken_all (λ e. is_some e.organiser ≡ true) method s.events given_organiser given_organiser);
       stamped = every (λ e. is_some e.stamp ≡ true) (taken_all (λ e. is_some e.stamp ≡ true) method s.events given_stamp given_stamp);
       dated = every (λ e. IsDated (slot_of e))
-          (taken_all (λ e. IsDated (slot_of e)) method s.events (dated object (vevents object) s.events s.says) (starts_dated object (vevents object) s.events s.says));
+          (taken_all (λ e. IsDated (slot_of e)) method s.events (dated object method (vevents object) s.events s.says) (starts_dated object method (vevents object) s.events s.says));
+      ready = every IsReady (taken_all IsReady method s.events all_ready (ready_added s.events all_ready));
       differ = slots_differ meeting.master meeting.overrides masters (λ e c. (of_filtered is_override events e (subst (λ (l : List Event). Contains l e) (sym s.overrides) c)).1) s.differ;
     }
   where

@@ -28,17 +28,6 @@ accepted_line v c = valued (codes "ATTENDEE;PARTSTAT=ACCEPTED:") v (lt-ltb 26 (l
 pub attendee_line : (v : List ℕ) → IsClean v → is_content (codes "ATTENDEE:" ++ v) ≡ true
 attendee_line v c = valued (codes "ATTENDEE:") v (lt-ltb 8 (length (codes "ATTENDEE:" ++ v)) (omega arith)) refl refl refl c
 
--- ---- the content of an event
-
-abbrev pub two_lines : List ℕ → List ℕ → Lines
-two_lines start duration = (codes "DTSTART:" ++ start) ∷ (codes "DURATION:" ++ duration) ∷ []
-
-pub two_octets : (start duration : List ℕ) → codes "DTSTART:" ++ start ++ codes "\r\nDURATION:" ++ duration ++ codes "\r\n" ≡ canonical (two_lines start duration)
-two_octets start duration = regroup (codes "DTSTART:") start (codes "\r\n") (codes "DURATION:") duration
-  where
-    regroup : (a s e m d : List ℕ) → (((a ++ s) ++ (e ++ m)) ++ d) ++ e ≡ ((a ++ s) ++ e) ++ (((m ++ d) ++ e) ++ [])
-    regroup a s e m d = simp (append_assoc, append-nil)
-
 -- ---- the lines of an object
 
 vevents_content : (owns : List Lines) → list_all (list_all is_content) owns ≡ true → list_all is_content (flat_map vevent_lines owns) ≡ true

@@ -2,6 +2,11 @@ pub mod CleanText
 pub mod CleanUids
 pub mod ObjectTree
 pub mod ContentLines
+pub mod WrittenOctets
+pub mod CleanBodies
+pub mod TimeLists
+pub mod ZonePlaces
+pub mod BodyLemmas
 pub mod WordText
 pub mod ReplyLines
 pub mod ReplyReads

@@ -14,12 +14,12 @@ use Rattle.ical_lines.specs.declared.fault.Refusal.{Refusal}
 use Rattle.profile.specs.faults.Faults.{is_between, is_object_fault, is_meeting_event_fault, is_message_fault, is_unread}
 use Rattle.profile.specs.text.Lines.{line_value}
 use Rattle.profile.specs.text.Trees.{Tree, tree_own, vevents}
-use Rattle.profile.specs.events.Events.{Event, is_unread_in_message, lacks_start}
-use Rattle.profile.specs.events.Meetings as meetings
+use Rattle.profile.specs.events.Events as events
+use Rattle.profile.specs.events.Events.{Event}
 use Rattle.profile.specs.events.Meetings.{Meeting, events_of, SaysMeeting, MeetingFault}
 use Rattle.profile.specs.rooms.Messages as profile
-use Rattle.profile.specs.rooms.Messages.{SaysMessage, NamesMethod, has_unread_in, MethodFault, bad_method, unread_method, MessageFault, in_meeting, not_yet, no_start_yet, is_unread_method, is_method}
-use Rattle.profile.specs.rooms.Messages.{AreParts, AreBySlot, IsPart, IsBody, IsContent, names_room, is_addressed, is_part_for, parts_for, own_revision, cancels, is_cancel, canonical}
+use Rattle.profile.specs.rooms.Messages.{SaysMessage, NamesMethod, has_unread, MethodFault, bad_method, unread_method, MessageFault, in_meeting, not_yet, is_unread_method, is_method}
+use Rattle.profile.specs.rooms.Messages.{AreParts, AreBySlot, Content, no_content, IsPart, IsBody, IsContent, names_room, is_addressed, is_part_for, parts_for, own_revision, cancels, is_cancel, canonical}
 use Rattle.profile.specs.rooms.Revisions as revisions
 use Rattle.profile.specs.events.Properties.{StandsAtMostOnce}
 use Rattle.cal_events.specs.declared.component.EventComponent.{EventComponent}
@@ -35,6 +35,7 @@ use Rattle.itip_messages.specs.declared.message.Message.{Message}
 use Rattle.itip_messages.specs.declared.message.MessageComponent.{MessageComponent}
 use Rattle.itip_messages.specs.declared.message.Method.{Method}
 use Rattle.itip_messages.specs.declared.message.Method.TheVariants.{Request, Add, Cancel}
+use Rattle.itip_messages.specs.Bodies.{IsReady}
 use Rattle.itip_messages.specs.Messages.{method_said, purpose_of, WordFault, IsDated, IsOfMessage, SaysComponent, event_slot, StandsFor, component_names, is_for, is_part_of, has_part, part_for}
 use Rattle.itip_messages.proofs.BySlot.{kept_by_slot}
 
@@ -63,38 +64,25 @@ read_for Cancel = refl
 
 pub in_message : (object : Tree) (method : Method) (purpose : Purpose) (meeting : Meeting) → purpose ≡ purpose_of method → SaysMeeting object (method_read purpose) meeting
     → SaysMeeting object (Some (method_said method)) meeting
-in_message object method purpose meeting e says = subst (λ (m : Option meetings.Method). SaysMeeting object m meeting) (ap method_read e ∙ read_for method) says
+in_message object method purpose meeting e says = subst (λ (m : Option events.Method). SaysMeeting object m meeting) (ap method_read e ∙ read_for method) says
 
--- what isn't read yet is a line, or the want of a start
-unread_there : (object : Tree) (method : Method) → NamesMethod (tree_own object) (method_said method) → list_any (has_unread_for (purpose_of method)) (vevents object) ≡ true → MessageFault object 99
-unread_there object Request named h = not_yet h
-unread_there object Add named h = not_yet h
-unread_there object Cancel named h =
-    elim (or_cases (list_any lacks_start (vevents object)) (list_any (list_any is_unread_in_message) (vevents object)) (sym (either (vevents object)) ∙ h)) [
-      | inl none ↦ no_start_yet named none
-      | inr some ↦ not_yet some
-    ]
-  where
-    either : (vs : List Lines) → list_any (has_unread_for purposes.Cancel) vs ≡ (list_any lacks_start vs || list_any (list_any is_unread_in_message) vs)
-    either [] = refl
-    either (v ∷ vs) =
-        ap (λ b. (lacks_start v || list_any is_unread_in_message v) || b) (either vs)
-        ∙ four (lacks_start v) (list_any is_unread_in_message v) (list_any lacks_start vs) (list_any (list_any is_unread_in_message) vs)
-      where
-        four : (a b c d : Bool) → ((a || b) || (c || d)) ≡ ((a || c) || (b || d))
-        four true b c d = refl
-        four false true true d = refl
-        four false true false d = refl
-        four false false c d = refl
+-- what isn't read yet for a method is what isn't read yet in a message
+unread_for : (method : Method) (vs : List Lines) → list_any (has_unread_for (purpose_of method)) vs ≡ list_any has_unread vs
+unread_for Request vs = refl
+unread_for Add vs = refl
+unread_for Cancel vs = refl
+
+pub all_read : (method : Method) (purpose : Purpose) (vs : List Lines) → purpose ≡ purpose_of method → list_any (has_unread_for purpose) vs ≡ false → list_any has_unread vs ≡ false
+all_read method purpose vs e h = sym (unread_for method vs) ∙ ap (λ p. list_any (has_unread_for p) vs) (sym e) ∙ h
 
 -- what the VEVENTs of a message are refused for
 pub meeting_stands : (object : Tree) (method : Method) (purpose : Purpose) (f : Fault) → NamesMethod (tree_own object) (method_said method) → purpose ≡ purpose_of method
     → RefusesBy (IsUnreadOrNoMeeting object purpose) f → RefusesBy (MessageFault object) f
 meeting_stands object method purpose Memory named e s = tt
 meeting_stands object method purpose (Refused r) named e (inl u) =
-    subst (MessageFault object) (sym u.0) (unread_there object method named (ap (λ p. list_any (has_unread_for p) (vevents object)) (sym e) ∙ u.1))
+    subst (MessageFault object) (sym u.0) (not_yet (sym (unread_for method (vevents object)) ∙ ap (λ p. list_any (has_unread_for p) (vevents object)) (sym e) ∙ u.1))
 meeting_stands object method purpose (Refused r) named e (inr s) =
-    in_meeting (method_said method) named (subst (λ (m : Option meetings.Method). MeetingFault object m r.number) (ap method_read e ∙ read_for method) s)
+    in_meeting (method_said method) named (subst (λ (m : Option events.Method). MeetingFault object m r.number) (ap method_read e ∙ read_for method) s)
 
 -- its numbers
 pub meeting_numbers : (method : Method) (purpose : Purpose) (f : Fault) → purpose ≡ purpose_of method → RefusesOnly (is_meeting_fault_for purpose) f → RefusesOnly is_message_fault f
@@ -129,20 +117,14 @@ meeting_numbers method purpose (Refused r) e h = wider method r.number (subst (�
 pub unread_stands : (object : Tree) (vs : List Lines) (f : Fault) → vevents object ≡ vs → RefusesBy (λ n. (n ≡ 99) × (list_any (has_unread_for purposes.Request) vs ≡ true)) f
     → RefusesBy (MessageFault object) f
 unread_stands object vs Memory e s = tt
-unread_stands object vs (Refused r) e s = subst (MessageFault object) (sym s.0) (not_yet (ap (list_any (list_any is_unread_in_message)) e ∙ s.1))
-
--- what a method's VEVENTs are read for leaves the same unread
-left_unread : (method : Method) (vs : List Lines) → list_any (has_unread_for (purpose_of method)) vs ≡ list_any (has_unread_in (method_said method)) vs
-left_unread Request vs = refl
-left_unread Add vs = refl
-left_unread Cancel vs = refl
+unread_stands object vs (Refused r) e s = subst (MessageFault object) (sym s.0) (not_yet (ap (list_any has_unread) e ∙ s.1))
 
 -- the object says the message
 pub message_said : (object : Tree) (own : Lines) (vs : List Lines) (method : Method) (purpose : Purpose) (meeting : Meeting) → tree_own object ≡ own → vevents object ≡ vs → NamesMethod own (method_said method)
     → purpose ≡ purpose_of method → list_any (has_unread_for purpose) vs ≡ false → SaysMeeting object (method_read purpose) meeting → SaysMessage object (record { method = method_said method; meeting = meeting })
 message_said object own vs method purpose meeting mine inner named e read says = record {
   method = subst (λ (x : Lines). NamesMethod x (method_said method)) (sym mine) named;
-  read = sym (left_unread method (vevents object)) ∙ ap (list_any (has_unread_for (purpose_of method))) inner ∙ ap (λ p. list_any (has_unread_for p) vs) (sym e) ∙ read;
+  read = ap (list_any has_unread) inner ∙ all_read method purpose vs e read;
   says = in_message object method purpose meeting e says;
 }
 
@@ -165,6 +147,9 @@ module _ (meeting : Meeting) (m : IsOfMessage meeting) (events : List EventCompo
 
   pub slot_dated : (e : EventComponent) → Contains events e → IsDated (event_slot e)
   slot_dated e c = All-contains (λ (x : Event). IsDated (profile.slot_of x)) (events_of meeting) (event_of e) m.dated (there e c)
+
+  pub event_is_ready : (e : EventComponent) → Contains events e → IsReady (event_of e)
+  event_is_ready e c = All-contains IsReady (events_of meeting) (event_of e) m.ready (there e c)
 
   pub organiser_given : (e : EventComponent) → Contains events e → IsSome e.organiser
   organiser_given e c = some_of_map _ e.organiser (All-contains (λ (x : Event). is_some x.organiser ≡ true) (events_of meeting) (event_of e) m.organised (there e c))
@@ -196,7 +181,7 @@ module _ (meeting : Meeting) (m : IsOfMessage meeting) (a e : Event) (c : Contai
 -- ---- parts
 
 -- a component names the room where its event does
-names_said : (room : List ℕ) (method : meetings.Method) (whole : Option revisions.Revision) (event : Event) (component : MessageComponent) → SaysComponent method whole event component → component_names room component ≡ names_room room event
+names_said : (room : List ℕ) (method : events.Method) (whole : Option revisions.Revision) (event : Event) (component : MessageComponent) → SaysComponent method whole event component → component_names room component ≡ names_room room event
 names_said room method whole event component s = ap (list_any (λ a. bytes_eq a.address room)) s.attendees
 
 module _ (room : List ℕ) (message : Message) (said : profile.Message) (same : method_said message.method ≡ said.method) (whole : Option revisions.Revision) where
@@ -241,8 +226,8 @@ module _ (room : List ℕ) (message : Message) (said : profile.Message) (same : 
       one_kept false false h r rest = rest
 
 -- the part that a component is
-body_said : (room : List ℕ) (method : meetings.Method) (event : Event) (content : Lines) (octets : List ℕ) (b n : Bool) → cancels method event ≡ b → names_room room event ≡ n → IsContent content event → octets ≡ canonical content
-    → IsBody room method event (cond b [] (cond n content [])) (cond b revisions.Cancelled (cond n (revisions.Set octets) revisions.Absent))
+body_said : (room : List ℕ) (method : events.Method) (event : Event) (content : Content) (octets : List ℕ) (b n : Bool) → cancels method event ≡ b → names_room room event ≡ n → IsContent content event → octets ≡ canonical content
+    → IsBody room method event (cond b no_content (cond n content no_content)) (cond b revisions.Cancelled (cond n (revisions.Set octets) revisions.Absent))
 body_said room method event content octets true n h k when is = (h, refl)
 body_said room method event content octets false true h k when is = (h, k, when, is)
 body_said room method event content octets false false h k when is = (h, k, refl)
@@ -252,10 +237,10 @@ module _ (room : List ℕ) (message : Message) (said : profile.Message) (s : Sta
   whole_of = option_map own_revision said.meeting.master
 
   abbrev IsPartOf : Event → revisions.Part → Type 0
-  IsPartOf event part = (content : Lines) × IsPart room said event content part
+  IsPartOf event part = (content : Content) × IsPart room said event content part
 
-  abbrev content_of : (event : Event) (component : MessageComponent) → SaysComponent said.method whole_of event component → Lines
-  content_of event component says = cond (cancels said.method event) [] (cond (names_room room event) says.canonical.content [])
+  abbrev content_of : (event : Event) (component : MessageComponent) → SaysComponent said.method whole_of event component → Content
+  content_of event component says = cond (cancels said.method event) no_content (cond (names_room room event) says.canonical.content no_content)
 
   pub body_is : (event : Event) (component : MessageComponent) (says : SaysComponent said.method whole_of event component)
       → (part_for room message component).body ≡ cond (cancels said.method event) revisions.Cancelled (cond (names_room room event) (revisions.Set (canonical says.canonical.content)) revisions.Absent)

@@ -1,6 +1,6 @@
 -- Octets spell at most one message, and none where a fault stands in them.
 use Rattle.std.proofs.Common.{◌≡◌, ◌∙◌, ℕ, ◌<◌, Bool, true, false, ◌||◌, List, [], ◌∷◌, length, get_or, refl, sym, ap, subst, arith, inl, inr}
-use Rattle.std.specs.Prelude.{Contains, codes, nat_lt, Some}
+use Rattle.std.specs.Prelude.{Contains, codes, nat_lt, Option, Some}
 use Rattle.std.specs.List.{AllZip, list_any}
 use Rattle.std.specs.Str.{str_to_ascii_lowercase}
 use Rattle.std.proofs.lemmas.Bool.{true≢false, or_parts}
@@ -11,9 +11,9 @@ use Rattle.ical_tree.proofs.OneLine.{at_one}
 use Rattle.profile.specs.text.Lines.{logical_lines, line_value, is_same_name}
 use Rattle.profile.specs.text.Objects.{SpellsTree, IsObject, has_version, lines_have, count_inside, most_events}
 use Rattle.profile.specs.text.Trees.{Tree, tree_name, tree_own, tree_inside, vevents}
-use Rattle.profile.specs.events.Events.{Event, SaysEvent, EventFault, is_unread_in_message, lacks_start}
-use Rattle.profile.specs.events.Meetings.{Method, Request, Add, Cancel, SaysMeeting, MeetingFault}
-use Rattle.profile.specs.rooms.Messages.{Message, method_word, NamesMethod, SaysMessage, SpellsMessage, has_unread_in, MethodFault, two_methods, bad_method, unread_method, no_method, MessageFault, in_method, in_meeting, not_yet, no_start_yet, is_unread_method, is_method}
+use Rattle.profile.specs.events.Events.{Method, Request, Add, Cancel, Event, SaysEvent, EventFault}
+use Rattle.profile.specs.events.Meetings.{SaysMeeting, MeetingFault}
+use Rattle.profile.specs.rooms.Messages.{Message, method_word, NamesMethod, SaysMessage, SpellsMessage, MethodFault, two_methods, bad_method, unread_method, no_method, MessageFault, in_method, in_meeting, not_yet, is_unread_method, is_method}
 use Rattle.cal_events.proofs.OneMeeting.{no_meeting_fault, one_said as one_meeting}
 use Rattle.profile.specs.streams.Streams.{ObjectFault}
 
@@ -27,10 +27,10 @@ abbrev PairsUp : Type 0
 PairsUp = (bounded : Bool) (t : Tree) (lines : Lines) (n : ℕ) → IsObject tree_name tree_own tree_inside bounded t lines → lines_have n lines ≡ true → ⊥
 
 abbrev OneEvent : Type 0
-OneEvent = (object : Tree) (m : Bool) (lines : Lines) (a b : Event) → SaysEvent object m lines a → SaysEvent object m lines b → a ≡ b
+OneEvent = (object : Tree) (m : Option Method) (lines : Lines) (a b : Event) → SaysEvent object m lines a → SaysEvent object m lines b → a ≡ b
 
 abbrev NoFault : Type 0
-NoFault = (object : Tree) (m : Bool) (lines : Lines) (a : Event) (n : ℕ) → SaysEvent object m lines a → EventFault object m lines n → ⊥
+NoFault = (object : Tree) (m : Option Method) (lines : Lines) (a : Event) (n : ℕ) → SaysEvent object m lines a → EventFault object m lines n → ⊥
 
 -- ---- METHOD
 
@@ -98,33 +98,12 @@ one_said one object a b s t =
     let meeting = one_meeting one object (Some b.method) a.meeting b.meeting (subst (λ (m : Method). SaysMeeting object (Some m) a.meeting) method s.says) t.says in
     λ i. record { method = method i; meeting = meeting i }
 
--- where none of some has one of two, none has the first, and none has the second
-none_has : (U V : Lines → Bool) (vs : List Lines) → list_any (λ v. U v || V v) vs ≡ false → (list_any U vs ≡ false) × (list_any V vs ≡ false)
-none_has U V [] h = (refl, refl)
-none_has U V (v ∷ vs) h =
-    let here = or_parts (U v || V v) (list_any (λ v. U v || V v) vs) h in
-    let both = or_parts (U v) (V v) here.0 in
-    let rest = none_has U V vs here.1 in
-    (ap (λ b. b || list_any U vs) both.0 ∙ rest.0, ap (λ b. b || list_any V vs) both.1 ∙ rest.1)
-
--- in what a message has read no line is left unread
-all_read : (method : Method) (vs : List Lines) → list_any (has_unread_in method) vs ≡ false → list_any (list_any is_unread_in_message) vs ≡ false
-all_read Request vs h = h
-all_read Add vs h = h
-all_read Cancel vs h = (none_has lacks_start (list_any is_unread_in_message) vs h).1
-
--- and a CANCEL has its starts
-has_start : (method : Method) (vs : List Lines) → method ≡ Cancel → list_any (has_unread_in method) vs ≡ false → list_any lacks_start vs ≡ false
-has_start method vs e h = (none_has lacks_start (list_any is_unread_in_message) vs (sym (ap (λ m. list_any (has_unread_in m) vs) e) ∙ h)).0
-
 no_message_fault : OneEvent → NoFault → (object : Tree) (a : Message) (n : ℕ) → SaysMessage object a → MessageFault object n → ⊥
 no_message_fault one sound object a n s (in_method h) = no_method_fault (tree_own object) a.method n s.method h
 no_message_fault one sound object a n s (in_meeting method named h) =
     let same = one_method (tree_own object) method a.method named s.method in
     no_meeting_fault one sound object (Some a.method) a.meeting n s.says (subst (λ (m : Method). MeetingFault object (Some m) n) same h)
-no_message_fault one sound object a n s (not_yet h) = true≢false (sym h ∙ all_read a.method (vevents object) s.read)
-no_message_fault one sound object a n s (no_start_yet named h) =
-    let cancel = one_method (tree_own object) a.method Cancel s.method named in true≢false (sym h ∙ has_start a.method (vevents object) cancel s.read)
+no_message_fault one sound object a n s (not_yet h) = true≢false (sym h ∙ s.read)
 
 -- ---- octets
 

@@ -3,3 +3,4 @@ pub mod Replies
 pub mod Refreshes
 pub mod Messages
 pub mod ReadBack
+pub mod Bodies

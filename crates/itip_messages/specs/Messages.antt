@@ -4,10 +4,15 @@ use Rattle.ical_lines.specs.Fault.{RefusesBy}
 use Rattle.std.specs.List.{list_any, AllZip}
 use Rattle.std.specs.Str.{bytes_eq}
 use Rattle.profile.specs.text.Trees.{Tree}
-use Rattle.profile.specs.events.Events.{Event, booked_by}
+use Rattle.profile.specs.events.Events.{Event}
+use Rattle.profile.specs.events.Properties.{first_second}
+use Rattle.profile.specs.events.Starts.{AreInstancesFrom}
+use Rattle.profile.specs.events.Confirmed.{alone}
+use Rattle.cal_events.specs.OwnInstances.{booked_at}
+use Rattle.itip_messages.specs.Bodies.{IsCanonical, IsReady}
 use Rattle.profile.specs.rooms.Messages as profile
 use Rattle.profile.specs.rooms.Messages.{IsContent, canonical, cancels, is_cancel, raised_to, own_revision, AreBySlot, SaysMessage, SpellsMessage, MessageTextFault, is_method, is_unread_method}
-use Rattle.profile.specs.events.Meetings as meetings
+use Rattle.profile.specs.events.Events as events
 use Rattle.profile.specs.events.Meetings.{Meeting, AreOfOne, events_of}
 use Rattle.profile.specs.text.Values.{IsClockSeconds}
 use Rattle.profile.specs.rooms.Revisions as revisions
@@ -25,22 +30,16 @@ use Rattle.itip_messages.specs.declared.message.Method.TheVariants.{Request, Add
 use Rattle.itip_messages.specs.declared.message.Message.{Message}
 
 -- what a method stands for
-abbrev pub method_said : Method → meetings.Method
-method_said Request = meetings.Request
-method_said Add = meetings.Add
-method_said Cancel = meetings.Cancel
+abbrev pub method_said : Method → events.Method
+method_said Request = events.Request
+method_said Add = events.Add
+method_said Cancel = events.Cancel
 
 -- what its VEVENTs are read for
 abbrev pub purpose_of : Method → Purpose
 purpose_of Request = purposes.Request
 purpose_of Add = purposes.Add
 purpose_of Cancel = purposes.Cancel
-
--- the octets are the event's content, in its one form
-pub record IsCanonical (octets : List ℕ) (event : Event) : Type 0 where
-  pub content : List (List ℕ)
-  pub when : IsContent content event
-  pub is : octets ≡ canonical content
 
 -- the slot of a VEVENT
 abbrev pub event_slot : EventComponent → revisions.Slot
@@ -52,12 +51,12 @@ IsDated revisions.Whole = Unit {0}
 IsDated (revisions.At t) = IsClockSeconds t
 
 -- the component is what an event of such a message says, where the whole meeting in it has this revision
-pub record SaysComponent (method : meetings.Method) (whole : Option revisions.Revision) (event : Event) (component : MessageComponent) : Type 0 where
+pub record SaysComponent (method : events.Method) (whole : Option revisions.Revision) (event : Event) (component : MessageComponent) : Type 0 where
   pub slot : slot_of component.slot ≡ profile.slot_of event
   pub dated : IsDated (profile.slot_of event)
   pub revision : revision_of component.revision ≡ raised_to whole (own_revision event)
-  pub start : component.start ≡ event.times.start
-  pub end : component.end ≡ (booked_by event).end
+  pub ready : IsReady event
+  pub singles : AreInstancesFrom (alone event) first_second (map (booked_at event) component.singles.items)
   pub cancelled : component.cancelled ≡ cancels method event
   pub canonical : IsCanonical component.canonical.items event
   pub attendees : component.attendees ≡ event.attendees
@@ -78,6 +77,7 @@ pub record IsOfMessage (meeting : Meeting) : Type 0 where
   pub organised : All (λ event. is_some event.organiser ≡ true) (events_of meeting)
   pub stamped : All (λ event. is_some event.stamp ≡ true) (events_of meeting)
   pub dated : All (λ event. IsDated (profile.slot_of event)) (events_of meeting)
+  pub ready : All IsReady (events_of meeting)
   pub differ : AllPairs ◌≢◌ (map profile.slot_of (events_of meeting))
 
 -- the object says a message, and it is that

@@ -2,6 +2,7 @@
 #![tactic(auto)]
 
 mod attendees;
+mod body;
 pub mod law;
 pub mod message;
 mod parts;
@@ -10,6 +11,7 @@ pub mod reply;
 pub mod writer;
 
 pub use attendees::Attendees;
+pub use body::zone_lines;
 pub use law::{answers_read_back, one_message, refreshes_read_back, replies_read_back};
 pub use message::{Message, MessageComponent, Method};
 pub use refresh::{Refresh, write_refresh};

@@ -9,20 +9,21 @@ ghost use Rattle.ical_tree.specs.Tree.{tree_of};
 ghost use Rattle.ical_values.specs.Octets.{address_octets, text_octets};
 ghost use Rattle.profile.specs.faults.Faults.{is_message_fault};
 ghost use Rattle.profile.specs.text.Lines.{line_value, is_same_name};
-ghost use Rattle.profile.specs.text.Values.{duration_text};
 ghost use Rattle.profile.specs.rooms.Messages.{NamesMethod, MethodFault, MessageFault, cancels, method_word, is_add, is_cancel, is_unread_method, later_of, own_revision, raised_to};
 ghost use Rattle.profile.specs.rooms.Revisions.{slot_cmp};
 ghost use Rattle.cal_events.specs.Events.{event_of};
 ghost use Rattle.cal_events.specs.OneMeeting.{meeting_of};
 ghost use Rattle.cal_events.specs.declared.component.EventComponent.{EventComponent};
 ghost use Rattle.itip_order.specs.Parts.{slot_of, revision_of};
-ghost use Rattle.itip_messages.specs.Messages.{IsCanonical, IsDated, IsMessageOf, IsOfMessage, IsSpelled, ReadFault, SaysComponent, StandsFor, WordFault, component_names, event_slot, method_said, purpose_of};
+ghost use Rattle.itip_messages.specs.Bodies.{IsReady};
+ghost use Rattle.itip_messages.specs.Messages.{IsDated, IsMessageOf, IsOfMessage, IsSpelled, ReadFault, SaysComponent, StandsFor, WordFault, component_names, event_slot, method_said, purpose_of};
 
 use crate::attendees::Attendees;
-use cal_events::{EventComponent, MeetingComponents, Purpose, refuse_unread_events};
+use crate::body::canonical_body;
+use cal_events::{EventComponent, MeetingComponents, Purpose, Single, refuse_unread_events};
 use ical_lines::{Fault, Limits, Line, Refusal, Unfolded};
 use ical_tree::{Component, Properties, read_object};
-use ical_values::{Address, Duration, Sequence, Stamp, Text};
+use ical_values::{Address, Text};
 use itip_order::{Revision, Slot};
 use std::alloc::{AllocError, Global};
 
@@ -112,14 +113,11 @@ pub struct MessageComponent {
     pub slot: Slot,
     /// SEQUENCE and DTSTAMP, or those of the whole meeting in the message, if they are later.
     pub revision: Revision,
-    /// The instant at which it starts.
-    pub start: Stamp,
-    /// The first second after it, in seconds from 1970-01-01T00:00:00Z.
-    pub end: i64,
+    /// Its instances by start, each once, whichever of them other components stand for.
+    pub singles: Vec<Single>,
     /// Whether it isn't to take place: METHOD is CANCEL, or its STATUS is CANCELLED (RFC 5545 3.8.1.11).
     pub cancelled: bool,
-    /// The body's lines in their one form, unfolded, each ended by CRLF: two bodies are the same where
-    /// these octets are.
+    /// The body in its one form, and its VTIMEZONE behind it: two bodies are the same where these octets are.
     pub canonical: Vec<u8>,
     /// The ATTENDEE lines in the order of the text.
     pub attendees: Attendees,
@@ -135,20 +133,19 @@ impl MessageComponent {
     ) -> Result<MessageComponent, AllocError>
         requires stamp { IsSome event.stamp }
         requires dated { IsDated (event_slot event) }
+        requires ready { IsReady (event_of event) }
         ensures { IfOk result (SaysComponent (method_said method) (option_map revision_of whole) (event_of event)) }
     {
         let canonical = canonical_body(alloc, &event)?;
         let slot = slot_in(&event);
         let revision = raised(whole, own_revision(&event));
-        let end = event.end();
+        let singles = event.singles(alloc)?;
         let cancelled = method.cancels(&event);
-        let start = event.times.instant;
         let attendees = Attendees::of(alloc, event.attendees)?;
         Ok(MessageComponent {
             slot,
             revision,
-            start,
-            end,
+            singles,
             cancelled,
             canonical,
             attendees,
@@ -182,7 +179,7 @@ pub struct Message {
 impl Message {
     /// Reads a message.
     /// Refused: 1 to 6 and 20 to 25 for the object, 99 for what isn't read yet, 60 for another METHOD or two, 66
-    /// without a VEVENT, 10 to 16, 50 to 52, 55, 56, 61, 63 and 65 for a VEVENT, 62 for two meetings, 53 for two
+    /// without a VEVENT, 10 to 16, 40 to 43, 50 to 52, 55, 56, 61, 63, 65 and 67 for a VEVENT, 62 for two meetings, 53 for two
     /// VEVENTs without RECURRENCE-ID, 54 for two of one instance.
     pub fn read(alloc: Global, bytes: &[u8]) -> Result<Message, Fault>
         ensures spells { IfOk result (IsSpelled bytes.now) }
@@ -367,6 +364,7 @@ fn components_of(
 ) -> Result<Vec<MessageComponent>, AllocError>
     requires stamped { (event : EventComponent) → Contains events.items event → IsSome event.stamp }
     requires dated { (event : EventComponent) → Contains events.items event → IsDated (event_slot event) }
+    requires ready { (event : EventComponent) → Contains events.items event → IsReady (event_of event) }
     ensures { IfOk result (λ components. AllZip (SaysComponent (method_said method) (option_map revision_of whole)) (map event_of events.items) components.items) }
 {
     let mut components = Vec::new(alloc);
@@ -374,22 +372,4 @@ fn components_of(
         components.push(MessageComponent::of(alloc, method, whole, event)?)?;
     }
     Ok(components)
-}
-
-/// The lines of a body from DTSTART on, in their one form, unfolded, each ended by CRLF.
-fn canonical_body(alloc: Global, event: &EventComponent) -> Result<Vec<u8>, AllocError>
-    ensures { IfOk result (λ body. IsCanonical body.items (event_of event.now)) }
-{
-    let mut body = Vec::from_slice(alloc, b"DTSTART:")?;
-    event.times.instant.write(&mut body)?;
-    body.extend_from_slice(b"\r\nDURATION:")?;
-    write_length(event.times.length, &mut body)?;
-    body.extend_from_slice(b"\r\n")?;
-    Ok(body)
-}
-
-fn write_length(length: Duration, body: &mut Vec<u8>) -> Result<(), AllocError>
-    ensures { OnOk result (body.new.items ≡ body.old.items ++ duration_text length.days length.seconds) }
-{
-    length.write(body)
 }

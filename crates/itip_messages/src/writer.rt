@@ -107,6 +107,14 @@ impl ObjectWriter {
         write_line(&mut self.octets, text)
     }
 
+    /// Octets, as they stand.
+    pub fn octets(&mut self, octets: &[u8]) -> Result<(), AllocError>
+        ensures ok { OnOk result (self.new ≡ self.old ++ octets.now) }
+        ensures err { OnErr result (self.new ≡ self.old) }
+    {
+        self.octets.extend_from_slice(octets)
+    }
+
     /// A line of two pieces: a name with its parameters and colon, and a value that is written as it stands.
     pub fn named(&mut self, name: &str, value: &str) -> Result<(), AllocError>
         ensures ok { OnOk result (self.new ≡ self.old ++ folded (name.now ++ value.now)) }

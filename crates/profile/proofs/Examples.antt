@@ -1,20 +1,20 @@
 -- Worked examples of definitions, computed. Those of the other files stand beside the crates that meet them: Lines in ical_lines,
 -- Objects in ical_tree, Days and Values in cal_days and ical_values, Instances in cal_events, Certificates in clash_cert,
 -- Revisions in itip_order, Messages in itip_messages, Rooms in room_books.
-use Rattle.std.proofs.Common.{◌≡◌, ◌<◌, ◌∙◌, ℕ, zero, suc, pos, true, false, List, [], ◌∷◌, ◌++◌, Some, None, refl, codes, ap, arith, get_or, lit<}
+use Rattle.std.proofs.Common.{◌≡◌, ◌<◌, ◌∙◌, ℕ, zero, suc, pos, negsuc, true, false, List, [], ◌∷◌, ◌++◌, Some, None, refl, codes, ap, arith, get_or, lit<}
 use Rattle.std.proofs.lemmas.Bool.{false≢true}
 use Rattle.std.proofs.lemmas.Fmt.{decimal_digit}
 use Rattle.profile.specs.faults.Faults.{is_event_fault, is_calendar_fault, is_message_fault}
 use Rattle.profile.specs.text.Lines.{line_param}
 use Rattle.profile.specs.checker.Calendars.{CalendarTextFault, in_lines, in_tree}
 use Rattle.profile.specs.text.Trees.{Tree, tree, none, more, vevents}
-use Rattle.profile.specs.events.Events.{Event, Participation, Accepted, Declined, NeedsAction, is_unread_in_message, answer_named, booked_by, answer_of}
+use Rattle.profile.specs.events.Events.{Method, Request, Add, Cancel, may_lack_start, Event, Participation, Accepted, Declined, NeedsAction, answer_named, answer_of}
 use Rattle.profile.specs.events.Properties.{lines_named}
 use Rattle.profile.specs.rooms.Revisions.{Part, Whole, At, Set, Absent, Cancelled, same_meeting}
-use Rattle.profile.specs.events.Meetings.{Method, Request, Add, Cancel, taken_by}
-use Rattle.profile.specs.rooms.Messages.{Accept, SinglesLimit, Message, MethodFault, no_method, has_unread_in, cancels, is_addressed, parts_for, revision_beside, IsBody, object_lines, word}
+use Rattle.profile.specs.events.Meetings.{taken_by}
+use Rattle.profile.specs.rooms.Messages.{Accept, SinglesLimit, Message, MethodFault, no_method, has_unread, no_content, list_lines, is_in_dates, cancels, is_addressed, parts_for, revision_beside, IsBody, object_lines, word}
 use Rattle.profile.specs.rooms.Rooms.{Answer, Book, Claim, empty_book, is_confirmed, wants_whole}
-use Rattle.profile.specs.rooms.Kept.{IsKept, kept_certificate, first_parts}
+use Rattle.profile.specs.rooms.Kept.{IsKept, kept_certificate, first_parts, each_once, renamed}
 use Rattle.profile.specs.streams.Streams.{Now, Room, moments, rooms, refused_line, AreObjects}
 
 -- ---- lists of refusals
@@ -65,12 +65,6 @@ no_octets_are_no_calendar = in_tree refl
 uids : lines_named (codes "UID") (codes "uid:a" ∷ codes "SUMMARY:UID:b" ∷ codes "UID;X=1:c" ∷ []) ≡ codes "uid:a" ∷ codes "UID;X=1:c" ∷ []
 uids = refl
 
-a_rule_is_unread : is_unread_in_message (codes "RRULE:FREQ=DAILY") ≡ true
-a_rule_is_unread = refl
-
-a_start_in_a_zone_is_unread : is_unread_in_message (codes "DTSTART;TZID=Z:20250310T090000") ≡ true
-a_start_in_a_zone_is_unread = refl
-
 the_word_is_caseless : answer_named (line_param (codes "PARTSTAT") (codes "ATTENDEE;RSVP=TRUE;PARTSTAT=accepted:mailto:r1@example.com")) ≡ Accepted
 the_word_is_caseless = refl
 
@@ -93,10 +87,6 @@ event_with first second = record {
   attendees = record { address = codes "r:1"; participation = first } ∷ record { address = codes "r:1"; participation = second } ∷ [];
 }
 
--- without ORGANIZER it is the empty address's
-what_it_books : booked_by (event_with Accepted Declined) ≡ record { key = record { organiser = []; uid = codes "a"; slot = pos 100 }; start = pos 100; end = pos 86_501 }
-what_it_books = refl
-
 -- of two lines of one address the first counts
 the_first_line_accepts : answer_of (codes "r:1") (event_with Accepted Declined) ≡ Some Accepted
 the_first_line_accepts = refl
@@ -109,24 +99,17 @@ another_room_has_nothing = refl
 
 -- ---- messages
 
-an_event_of_one_line_is_read : has_unread_in Request (codes "DTSTART:20250310T090000Z" ∷ []) ≡ false
-an_event_of_one_line_is_read = refl
+a_rule_is_unread : has_unread (codes "DTSTART:20250310T090000Z" ∷ codes "RRULE:FREQ=DAILY" ∷ []) ≡ true
+a_rule_is_unread = refl
 
-a_cancelled_status_is_read : has_unread_in Request (codes "STATUS:CANCELLED" ∷ codes "DTSTART:20250310T090000Z" ∷ []) ≡ false
-a_cancelled_status_is_read = refl
+a_list_in_a_zone_is_read : has_unread (codes "DTSTART;TZID=Z:20250310T090000" ∷ codes "RDATE;TZID=Z:20250311T090000" ∷ []) ≡ false
+a_list_in_a_zone_is_read = refl
 
-an_instance_is_read : has_unread_in Cancel (codes "DTSTART:20250310T090000Z" ∷ codes "RECURRENCE-ID:20250310T090000Z" ∷ []) ≡ false
-an_instance_is_read = refl
+a_cancel_may_lack_its_start : may_lack_start (Some Cancel) ≡ true
+a_cancel_may_lack_its_start = refl
 
-an_instance_in_a_zone_is_unread : has_unread_in Request (codes "RECURRENCE-ID;TZID=Z:20250310T090000" ∷ []) ≡ true
-an_instance_in_a_zone_is_unread = refl
-
--- a REQUEST has to have DTSTART, which is another fault
-a_cancel_without_start_is_unread : has_unread_in Cancel (codes "UID:a" ∷ []) ≡ true
-a_cancel_without_start_is_unread = refl
-
-a_request_without_start_is_not : has_unread_in Request (codes "UID:a" ∷ []) ≡ false
-a_request_without_start_is_not = refl
+a_request_may_not : may_lack_start (Some Request) ≡ false
+a_request_may_not = refl
 
 abbrev cancelled_event : Event
 cancelled_event = record (event_with NeedsAction NeedsAction) { cancelled = true }
@@ -167,7 +150,7 @@ of_both method = record { method = method; meeting = record { master = Some whol
 a_room_of_one_instance_has_both : parts_for (codes "r:1") (of_both Request) ≡ whole ∷ instance ∷ []
 a_room_of_one_instance_has_both = refl
 
-the_whole_is_absent_for_it : IsBody (codes "r:1") Request whole [] Absent
+the_whole_is_absent_for_it : IsBody (codes "r:1") Request whole no_content Absent
 the_whole_is_absent_for_it = (refl, refl, refl)
 
 -- of a CANCEL those alone that name it, or nobody
@@ -197,8 +180,33 @@ not_lowered = refl
 alone_it_has_its_own : revision_beside None instance ≡ record { sequence = 1; stamp = pos 60 }
 alone_it_has_its_own = refl
 
-what_an_instance_books : booked_by instance ≡ record { key = record { organiser = []; uid = codes "a"; slot = pos 7 }; start = pos 100; end = pos 86_501 }
-what_an_instance_books = refl
+-- ---- what says when an event is
+
+a_list_of_two : list_lines (codes "RDATE") (codes "20250310T090000Z" ∷ codes "20250311T090000Z" ∷ []) ≡ codes "RDATE:20250310T090000Z,20250311T090000Z" ∷ []
+a_list_of_two = refl
+
+no_list : list_lines (codes "EXDATE") [] ≡ []
+no_list = refl
+
+the_first_second_counts : is_in_dates (negsuc 86_399) ≡ true
+the_first_second_counts = refl
+
+the_one_before_does_not : is_in_dates (negsuc 86_400) ≡ false
+the_one_before_does_not = refl
+
+nor_year_10000 : is_in_dates (pos 253_402_300_800) ≡ false
+nor_year_10000 = refl
+
+-- ---- the zones of a kept calendar
+
+a_start_gets_its_name : renamed (codes "DTSTART;TZID=Z") (codes "DTSTART;TZID=" ++ codes "Z2") (codes "DTSTART;TZID=Z:20250310T090000") ≡ codes "DTSTART;TZID=Z2:20250310T090000"
+a_start_gets_its_name = refl
+
+a_start_in_utc_has_none : renamed (codes "DTSTART;TZID=Z") (codes "DTSTART;TZID=" ++ codes "Z2") (codes "DTSTART:20250310T090000Z") ≡ codes "DTSTART:20250310T090000Z"
+a_start_in_utc_has_none = refl
+
+each_zone_once : each_once (codes "a" ∷ codes "b" ∷ codes "a" ∷ codes "c" ∷ codes "b" ∷ []) ≡ codes "a" ∷ codes "b" ∷ codes "c" ∷ []
+each_zone_once = refl
 
 -- ---- what a room writes
 
@@ -222,7 +230,7 @@ part_of uid sequence = record {
 }
 
 abbrev claim_of : List ℕ → ℕ → Claim
-claim_of uid sequence = record { part = part_of uid sequence; content = codes "DTSTART:19700101T000000Z" ∷ codes "DURATION:PT1S" ∷ []; singles = record { key = record { organiser = codes "o:1"; uid = uid; slot = pos 0 }; start = pos 0; end = pos 1 } ∷ [] }
+claim_of uid sequence = record { part = part_of uid sequence; content = record { lines = codes "DTSTART:19700101T000000Z" ∷ codes "DURATION:PT1S" ∷ []; zone = None }; singles = record { key = record { organiser = codes "o:1"; uid = uid; slot = pos 0 }; start = pos 0; end = pos 1 } ∷ [] }
 
 -- b came first and was declined; a was accepted
 abbrev two_meetings : Book

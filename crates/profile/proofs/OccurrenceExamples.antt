@@ -7,7 +7,7 @@ use Rattle.profile.specs.series.Days.{days_before_year, days_of_months}
 use Rattle.profile.specs.text.Trees.{Tree}
 use Rattle.profile.specs.text.Values.{SpellsStamp}
 use Rattle.profile.specs.series.Zones.{Constant, Means}
-use Rattle.profile.specs.events.Occurrences.{SaysStatus, has_range, entries_named, is_period, IsListed, IsInside, recurs_beside_recurrence, SaysOccurrences, OccurrenceFault, bad_additions, recurs, in_entry}
+use Rattle.profile.specs.events.Occurrences.{SaysStatus, has_range, entries_named, is_period, IsListed, IsInside, recurs_as_instance, SaysOccurrences, OccurrenceFault, bad_additions, recurs, in_entry}
 
 -- ---- STATUS
 
@@ -75,7 +75,7 @@ at_nine = inl (record { shown = (pos 0, refl, omega (arith, ints)); least = λ o
 lines : List (List ℕ)
 lines = codes "UID:a" ∷ codes "RDATE:20250310T090000Z,20250310T090000Z" ∷ codes "EXDATE:20250310T090000Z" ∷ []
 
-say : (object : Tree) → SaysOccurrences object lines None (pos 1_741_597_200 ∷ pos 1_741_597_200 ∷ []) (pos 1_741_597_200 ∷ [])
+say : (object : Tree) → SaysOccurrences false object lines None (pos 1_741_597_200 ∷ pos 1_741_597_200 ∷ []) (pos 1_741_597_200 ∷ [])
 unfolding lines
 say object =
     let added : IsListed object (codes "RDATE") (codes "RDATE:20250310T090000Z,20250310T090000Z", codes "20250310T090000Z") (pos 1_741_597_200) = (refl, (None, pos 1_741_597_200, (refl, nine), at_nine)) in
@@ -92,14 +92,21 @@ say object =
 -- ---- faults
 
 -- RDATE beside RECURRENCE-ID is 67, EXDATE isn't
-a_recurring_instance : (object : Tree) → OccurrenceFault object (codes "RECURRENCE-ID:20250310T090000Z" ∷ codes "RDATE:20250310T090000Z" ∷ []) 67
+a_recurring_instance : (object : Tree) → OccurrenceFault false object (codes "RECURRENCE-ID:20250310T090000Z" ∷ codes "RDATE:20250310T090000Z" ∷ []) 67
 a_recurring_instance object = recurs refl
 
-a_single_instance : recurs_beside_recurrence (codes "RECURRENCE-ID:20250310T090000Z" ∷ codes "EXDATE:20250310T090000Z" ∷ []) ≡ false
+a_single_instance : recurs_as_instance false (codes "RECURRENCE-ID:20250310T090000Z" ∷ codes "EXDATE:20250310T090000Z" ∷ []) ≡ false
 a_single_instance = refl
 
-a_series_alone : recurs_beside_recurrence (codes "RRULE:FREQ=DAILY" ∷ codes "RDATE:20250310T090000Z" ∷ []) ≡ false
+-- of what is added neither may recur
+an_added_instance : (object : Tree) → OccurrenceFault true object (codes "RDATE:20250310T090000Z" ∷ []) 67
+an_added_instance object = recurs refl
+
+an_added_one_with_exceptions : recurs_as_instance true (codes "EXDATE:20250310T090000Z" ∷ []) ≡ false
+an_added_one_with_exceptions = refl
+
+a_series_alone : recurs_as_instance false (codes "RRULE:FREQ=DAILY" ∷ codes "RDATE:20250310T090000Z" ∷ []) ≡ false
 a_series_alone = refl
 
-periods_are_56 : (object : Tree) → OccurrenceFault object (codes "RDATE:20250310T090000Z,20250310T090000Z/PT1H" ∷ []) 56
+periods_are_56 : (object : Tree) → OccurrenceFault false object (codes "RDATE:20250310T090000Z,20250310T090000Z/PT1H" ∷ []) 56
 periods_are_56 object = bad_additions (in_entry (codes "RDATE:20250310T090000Z,20250310T090000Z/PT1H", codes "20250310T090000Z/PT1H") (1, omega arith, refl) (inl (refl, refl)))

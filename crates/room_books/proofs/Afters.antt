@@ -13,7 +13,7 @@ use Rattle.profile.specs.rooms.Revisions.{Part, in_view}
 use Rattle.profile.specs.rooms.Rooms.{Answer, Book, Claim, Decides, is_confirmed, is_hidden, is_fresh, is_set, left_of, confirmed_in, parts_of, asked, answered}
 use Rattle.room_books.specs.declared.meeting.MeetingKey.{MeetingKey}
 use Rattle.room_books.specs.declared.meeting.Meeting.{Meeting}
-use Rattle.room_books.specs.declared.meeting.Single.{Single}
+use Rattle.cal_events.specs.declared.instance.Single.{Single}
 use Rattle.room_books.specs.declared.meeting.Given.{Given}
 use Rattle.room_books.specs.Takings.{OutcomeDated, StandsAt}
 use Rattle.room_books.specs.Views.{booked_of}

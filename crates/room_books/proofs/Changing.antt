@@ -4,7 +4,7 @@ use Rattle.std.specs.List.{Contains}
 use Rattle.std.specs.Vec.{vec_len, vec_capacity}
 use Rattle.std.proofs.Math.Seq.{drop-cons}
 use Rattle.itip_order.proofs.Lists.{in_tail}
-use Rattle.room_books.specs.declared.meeting.Single.{Single}
+use Rattle.cal_events.specs.declared.instance.Single.{Single}
 use Rattle.room_books.specs.declared.timeline.Timeline.{Timeline}
 use Rattle.room_books.specs.Instants.{AreSeparate}
 use Rattle.room_books.specs.Timelines.{busy_in, IsFreeAmong, IsChanged, IsTaken, IsPut}

@@ -1,11 +1,12 @@
 -- The claims of a message: at most one, of the part and the instance of its event.
-use Rattle.std.proofs.Common.{◌≡◌, ◌≢◌, ◌∙◌, ℕ, ℤ, ◌<◌, ◌+◌, ◌^◌, Bool, true, false, cond, List, [], ◌∷◌, ◌++◌, take, length, get_or, map, Result, Ok, Err, IfOk, inl, inr, Option, None, Some, refl, sym, ap, subst}
-use Rattle.std.specs.Prelude.{slice_get, if◌then◌else◌, unwrap_or, option_map, AllPairs}
+use Rattle.std.proofs.Common.{arith, ◌⊎◌, ◌<ℤ◌, ◌≤ℤ◌, ◌≡◌, ◌≢◌, ◌∙◌, ℕ, ℤ, ◌<◌, ◌+◌, ◌^◌, Bool, true, false, cond, List, [], ◌∷◌, ◌++◌, take, length, get_or, map, Result, Ok, Err, IfOk, inl, inr, Option, None, Some, refl, sym, ap, subst}
+use Rattle.std.specs.Prelude.{slice_get, if◌then◌else◌, unwrap_or, option_map, All, AllPairs}
 use Rattle.std.specs.declared.cmp.Ordering.TheVariants.{Less, Equal}
 use Rattle.std.specs.List.{AllZip, Contains, filter, list_any}
 use Rattle.std.proofs.lemmas.Cmp.{tied_itself}
 use Rattle.std.proofs.lemmas.List.{append-nil}
-use Rattle.std.proofs.lemmas.List.Elements.{filter_more}
+use Rattle.std.proofs.lemmas.List.Elements.{All-contains, All-tail, filter_more}
+use Rattle.std.proofs.lemmas.Int.{ints}
 use Rattle.std.proofs.lemmas.Option.{slice_get_within, unwrap_or-slice_get}
 use Rattle.ical_values.specs.Octets.{address_octets, text_octets}
 use Rattle.cal_events.proofs.InOneOrder.{head_pairs, tail_pairs}
@@ -14,25 +15,28 @@ use Rattle.itip_messages.specs.declared.message.MessageComponent.{MessageCompone
 use Rattle.itip_messages.specs.Messages.{StandsFor, SaysComponent, IsDated, is_for, has_part, part_for}
 use Rattle.itip_messages.proofs.MessageLemmas.{addressed, body_is, part_said, kept_said, kept_components, kept_among, no_events}
 use Rattle.itip_order.specs.Parts.{part_of, slot_of}
-use Rattle.itip_order.specs.declared.part.Slot.{Slot as OwnSlot}
-use Rattle.itip_order.specs.declared.part.Slot.TheVariants as own
 use Rattle.itip_order.proofs.Lists.{in_cons, in_head, in_tail, none_in_nil}
 use Rattle.itip_order.proofs.Order.{slot_total}
-use Rattle.profile.specs.checker.Instances.{Booked}
-use Rattle.profile.specs.events.Events.{Event, booked_by}
+use Rattle.profile.specs.checker.Instances.{Key, Booked}
+use Rattle.profile.specs.events.Events.{Event}
+use Rattle.profile.specs.events.Properties.{first_second}
+use Rattle.profile.specs.events.Starts.{AreInstancesFrom, ComesBefore, IsInstance, key_at}
+use Rattle.profile.specs.events.Confirmed.{alone}
+use Rattle.cal_events.specs.OwnInstances.{booked_at, IsTimely}
+use Rattle.cal_events.proofs.OwnSingles.{master_alone, of_both, one_by_key, override_alone}
+use Rattle.itip_messages.proofs.BodyLemmas.{clock_named}
 use Rattle.profile.specs.events.Meetings.{events_of}
-use Rattle.profile.specs.events.Properties.{length_seconds}
 use Rattle.profile.specs.rooms.Messages as profile
-use Rattle.profile.specs.rooms.Messages.{IsPart, canonical, cancels, is_addressed, is_part_for, names_room, own_revision}
+use Rattle.profile.specs.rooms.Messages.{Content, IsPart, canonical, no_content, cancels, is_addressed, is_part_for, names_room, own_revision}
 use Rattle.profile.specs.rooms.Revisions.{Part, Slot, Body, Whole, At, Set, Absent, Cancelled, slot_cmp}
 use Rattle.profile.specs.rooms.Rooms as rooms
 use Rattle.profile.specs.rooms.Rooms.{is_set}
-use Rattle.profile.specs.streams.Streams.{IsClaim}
+use Rattle.profile.specs.streams.Streams.{AsksFor, IsClaim}
 use Rattle.profile.specs.text.Values.{IsClockSeconds}
-use Rattle.room_books.specs.declared.meeting.Single.{Single}
+use Rattle.cal_events.specs.declared.instance.Single.{Single}
 use Rattle.room_books.specs.declared.taking.Claim.{Claim}
-use Rattle.room_books.specs.Claiming.{instant_of, original_start, single_in, IsClaimIn, AreClaimed}
-use Rattle.room_books.specs.Takings.{body_lines, booked_in, claim_said, claims_said}
+use Rattle.room_books.specs.Claiming.{IsClaimIn, AreClaimed}
+use Rattle.room_books.specs.Takings.{body_content, booked_in, claim_said, claims_said}
 use Rattle.room_books.specs.Standing.{Pairwise, IsFitting, IsText, IsOfSlot, SlotDated}
 use Rattle.room_books.proofs.Bodies.{body_of}
 use Rattle.room_books.proofs.Loops.{zip_push, one_more}
@@ -52,7 +56,7 @@ zip_more {X} {Y} R items all i x ys new y same h e is z r =
 
 -- what a part asks for with these instances
 abbrev said : Part → List Single → rooms.Claim
-said part singles = record { part = part; content = body_lines part.body; singles = map (booked_in part) singles }
+said part singles = record { part = part; content = body_content part.body; singles = map (booked_in part) singles }
 
 -- the first claim of a list is one of it
 pub first_in : (claims : List Claim) (claim : Claim) → Some claim ≡ slice_get claims 0 → Contains claims claim
@@ -80,39 +84,68 @@ zip_skip {X} {Y} R p items all i x ys same h e fails z =
     subst (λ (l : List X). AllZip R (filter p (take (i + 1) l)) ys) same
     (subst (λ (l : List X). AllZip R l ys) (sym none) (subst (λ (l : List X). AllZip R (filter p (take i l)) ys) (sym same) z))
 
+-- ---- the instances of an event by itself
+
+-- whose instance it is
+pub record IsOwn (event : Event) (b : Booked) : Type 0 where
+  pub key : b.key ≡ key_at event b.key.slot
+  pub slot : IsOfSlot (profile.slot_of event) b.key.slot
+  pub start : IsClockSeconds b.start
+  pub slot_at : IsClockSeconds b.key.slot
+
+module _ (event : Event) (timely : IsTimely event) (dated : IsDated (profile.slot_of event)) where
+  -- it starts at its slot, or its slot is that of the event
+  own_instance : (b : Booked) → IsInstance (alone event) b → IsOwn event b
+  own_instance b h = go (of_both event)
+    where
+      go : (event.recurrence ≡ None) ⊎ ((slot : ℤ) × (event.recurrence ≡ Some slot)) → IsOwn event b
+      go (inl e) =
+          let x = master_alone event b e h in
+          let same : b.key.slot ≡ b.start = ap (λ (k : Key). k.slot) x.key in
+          let start = clock_named b.start x.starts.in_dates in
+          record {
+            key = x.key ∙ ap (key_at event) (sym same);
+            slot = subst (λ (r : Option ℤ). IsOfSlot (profile.slot_named r) b.key.slot) (sym e) tt;
+            start = start;
+            slot_at = subst IsClockSeconds (sym same) start;
+          }
+      go (inr (slot, e)) =
+          let x = override_alone event b slot e h in
+          record {
+            key = x.key;
+            slot = subst (λ (r : Option ℤ). IsOfSlot (profile.slot_named r) b.key.slot) (sym x.slot) refl;
+            start = subst IsClockSeconds (sym x.starts) (clock_named event.times.start timely.starts);
+            slot_at = subst (λ (r : Option ℤ). IsDated (profile.slot_named r)) x.slot dated;
+          }
+
+  abbrev IsHere : Booked → Type 0
+  IsHere b = IsInstance (alone event) b × (first_second ≤ℤ b.start)
+
+  -- no two have one slot
+  own_apart : (own : List Booked) → All IsHere own → AllPairs ComesBefore own → Pairwise (λ (a b : Booked). a.key.slot ≢ b.key.slot) own
+  own_apart [] h up = tt
+  own_apart (b ∷ bs) h up = (
+    λ y c same.
+        let here = All-contains IsHere (b ∷ bs) b h (in_head b bs) in
+        let there = All-contains IsHere (b ∷ bs) y h (in_tail b bs y c) in
+        let one : b ≡ y = one_by_key event b y timely.steady here.0 there.0 ((own_instance b here.0).key ∙ ap (key_at event) same ∙ sym (own_instance y there.0).key) in
+        never_before_itself y (subst (λ (x : Booked). ComesBefore x y) one (head_pairs ComesBefore b y bs up c)),
+    own_apart bs (All-tail IsHere b bs h) (tail_pairs ComesBefore b bs up),
+  )
+    where
+      never_before_itself : (y : Booked) → ComesBefore y y → ⊥
+      never_before_itself y (inl l) = omega (arith, ints, l)
+      never_before_itself y (inr l) = let w : y.key.slot <ℤ y.key.slot = l.1 in omega (arith, ints, w)
+
 -- ---- the claim of one component
-
--- the instant of a slot, or the start
-slot_is : (o : OwnSlot) (r : Option ℤ) (start : ℤ) → slot_of o ≡ profile.slot_named r → instant_of o start ≡ unwrap_or r start
-slot_is own.Whole None start e = refl
-slot_is own.Whole (Some t) start e = cc
-slot_is (own.At t) None start e = cc
-slot_is (own.At t) (Some u) start e = ap instant e
-  where
-    instant : Slot → ℤ
-    instant Whole = start
-    instant (At x) = x
-
--- and a stamp writes it
-dated_at : (o : OwnSlot) (start : ℤ) → IsDated (slot_of o) → IsClockSeconds start → IsClockSeconds (instant_of o start)
-dated_at own.Whole start d s = s
-dated_at (own.At t) start d s = d
-
--- where the part is one instance, its slot is that
-of_slot : (o : OwnSlot) (start : ℤ) → IsOfSlot (slot_of o) (instant_of o start)
-of_slot own.Whole start = tt
-of_slot (own.At t) start = refl
 
 module _ (room : List ℕ) (message : Message) (given : profile.Message) (s : StandsFor message given) (event : Event) (component : MessageComponent) (among : Contains (events_of given.meeting) event)
     (says : SaysComponent given.method (option_map own_revision given.meeting.master) event component) (claim : Claim) (x : IsClaimIn room message component claim) where
   abbrev part : Part
   part = part_for room message component
 
-  abbrev content : List (List ℕ)
+  abbrev content : Content
   content = says.canonical.content
-
-  abbrev single : Single
-  single = single_in component
 
   abbrev off : Bool
   off = cancels given.method event
@@ -120,68 +153,68 @@ module _ (room : List ℕ) (message : Message) (given : profile.Message) (s : St
   abbrev named : Bool
   named = names_room room event
 
-  own_start : original_start component ≡ unwrap_or event.recurrence component.start
-  own_start = slot_is component.slot event.recurrence component.start says.slot
-
-  long : length_seconds event.times.length < 2 ^ 64
-  long = x.short given.method (option_map own_revision given.meeting.master) event says
-
-  -- what the body's lines read as, whether it is cancelled, absent or set
-  lines_are : (b n : Bool) (body : Body) → body ≡ cond b Cancelled (cond n (Set (canonical content)) Absent) → body_lines body ≡ cond b [] (cond n content [])
-  lines_are true n body e = ap body_lines e
-  lines_are false true body e = ap body_lines e ∙ (body_of event content says.canonical.when long).read
-  lines_are false false body e = ap body_lines e
+  -- what the body reads as, whether it is cancelled, absent or set
+  content_is : (b n : Bool) (body : Body) → body ≡ cond b Cancelled (cond n (Set (canonical content)) Absent) → body_content body ≡ cond b no_content (cond n content no_content)
+  content_is true n body e = ap body_content e
+  content_is false true body e = ap body_content e ∙ (body_of content event says.canonical.when).read
+  content_is false false body e = ap body_content e
 
   texts : (b n : Bool) (body : Body) → body ≡ cond b Cancelled (cond n (Set (canonical content)) Absent) → IsText body
   texts true n body e = subst IsText (sym e) tt
-  texts false true body e = subst IsText (sym e) (body_of event content says.canonical.when long).utf8
+  texts false true body e = subst IsText (sym e) (body_of content event says.canonical.when).utf8
   texts false false body e = subst IsText (sym e) tt
 
   body_there : part.body ≡ cond off Cancelled (cond named (Set (canonical content)) Absent)
   body_there = body_is room message given s event component says
 
   -- the instances that it asks for
-  abbrev asked_for : List Single
-  asked_for = if is_set part then single ∷ [] else []
+  abbrev asked_for : Bool → List Single
+  asked_for b = if b then component.singles.items else []
 
-  asks : claim_said claim ≡ said part asked_for
+  asks : claim_said claim ≡ said part (asked_for (is_set part))
   asks = λ i. said (x.part_is i) (x.singles i)
 
-  booked_is : booked_in part single ≡ booked_by event
-  booked_is =
+  booked_is : (single : Single) → booked_in part single ≡ booked_at event single
+  booked_is single =
       let organiser : address_octets message.organiser ≡ unwrap_or event.organiser [] = ap (λ o. unwrap_or o []) (sym (s.organiser event among)) in
-      let slot : original_start component ≡ unwrap_or event.recurrence event.times.start = own_start ∙ ap (unwrap_or event.recurrence) says.start in
-      λ i. record { key = record { organiser = organiser i; uid = s.uid event among i; slot = slot i }; start = says.start i; end = says.end i }
+      λ i. record { key = record { organiser = organiser i; uid = s.uid event among i; slot = single.slot }; start = single.span.start; end = single.span.end }
 
-  mapped : (b : Bool) → map (booked_in part) (if b then single ∷ [] else []) ≡ (if b then booked_by event ∷ [] else [])
-  mapped true = ap (λ y. y ∷ []) booked_is
-  mapped false = refl
+  all_booked : (singles : List Single) → map (booked_in part) singles ≡ map (booked_at event) singles
+  all_booked [] = refl
+  all_booked (y ∷ ys) = λ i. booked_is y i ∷ all_booked ys i
+
+  -- they are all that the event has by itself
+  are_all : AreInstancesFrom (alone event) first_second (map (booked_in part) component.singles.items)
+  are_all = subst (AreInstancesFrom (alone event) first_second) (sym (all_booked component.singles.items)) says.singles
+
+  asks_for : (b : Bool) → AsksFor b event (map (booked_in part) (asked_for b))
+  asks_for true = are_all
+  asks_for false = refl
 
   pub is_claim : IsClaim room given event (claim_said claim)
   is_claim = subst (IsClaim room given event) (sym asks) (record {
-    part = subst (λ (c : List (List ℕ)). IsPart room given event c part) (sym (lines_are off named part.body body_there)) (part_said room message given s event component among says);
-    singles = mapped (is_set part);
+    part = subst (λ (c : Content). IsPart room given event c part) (sym (content_is off named part.body body_there)) (part_said room message given s event component among says);
+    singles = asks_for (is_set part);
   })
 
-  -- at most one instance fits
-  fits_with : (singles : List Single) → ((y : Booked) → Contains (map (booked_in part) singles) y → booked_in part single ≡ y) → Pairwise (λ a b. a.key.slot ≢ b.key.slot) (map (booked_in part) singles) → IsFitting (said part singles)
-  fits_with singles only_it apart = record {
+  fits_with : (singles : List Single) → ((y : Booked) → Contains (map (booked_in part) singles) y → IsOwn event y) → Pairwise (λ (a b : Booked). a.key.slot ≢ b.key.slot) (map (booked_in part) singles) → IsFitting (said part singles)
+  fits_with singles own apart = record {
     content = refl;
     text = texts off named part.body body_there;
-    organiser = λ y c. subst (λ (z : Booked). z.key.organiser ≡ part.organiser) (only_it y c) refl;
-    uid = λ y c. subst (λ (z : Booked). z.key.uid ≡ part.uid) (only_it y c) refl;
-    slot = λ y c. subst (λ (z : Booked). IsOfSlot part.slot z.key.slot) (only_it y c) (of_slot component.slot component.start);
+    organiser = λ y c. ap (λ (k : Key). k.organiser) (own y c).key ∙ ap (λ o. unwrap_or o []) (s.organiser event among);
+    uid = λ y c. ap (λ (k : Key). k.uid) (own y c).key ∙ sym (s.uid event among);
+    slot = λ y c. subst (λ (o : Slot). IsOfSlot o y.key.slot) (sym says.slot) (own y c).slot;
     differ = apart;
-    starts = λ y c. subst (λ (z : Booked). IsClockSeconds z.start) (only_it y c) x.start;
-    slots = λ y c. subst (λ (z : Booked). IsClockSeconds z.key.slot) (only_it y c) (dated_at component.slot component.start dated x.start);
+    starts = λ y c. (own y c).start;
+    slots = λ y c. (own y c).slot_at;
   }
-    where
-      dated : IsDated (slot_of component.slot)
-      dated = subst IsDated (sym says.slot) says.dated
 
-  fits_by : (b : Bool) → IsFitting (said part (if b then single ∷ [] else []))
+  fits_by : (b : Bool) → IsFitting (said part (asked_for b))
   fits_by false = fits_with [] (λ y c. absurd (none_in_nil y c)) tt
-  fits_by true = fits_with (single ∷ []) (λ y c. elim (in_cons (booked_in part single) [] y c) [ inl here ↦ here | inr none ↦ absurd (none_in_nil y none) ]) ((λ y c. absurd (none_in_nil y c)), tt)
+  fits_by true =
+      let all = map (booked_in part) component.singles.items in
+      let timely = says.ready.timely in
+      fits_with component.singles.items (λ y c. own_instance event timely says.dated y (All-contains (IsHere event timely says.dated) all y are_all.each c).0) (own_apart event timely says.dated all are_all.each are_all.ordered)
 
   pub fits : IsFitting (claim_said claim)
   fits = subst IsFitting (sym asks) (fits_by (is_set part))

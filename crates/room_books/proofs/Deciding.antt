@@ -21,7 +21,7 @@ use Rattle.cal_events.specs.declared.sweep.Overlap.{Overlap as Found}
 use Rattle.profile.specs.checker.Instances.{Key, Booked, IsWithin, IsClear, key_cmp, booked_cmp}
 use Rattle.profile.specs.rooms.Rooms.{NamesClash}
 use Rattle.room_books.specs.declared.meeting.MeetingKey.{MeetingKey}
-use Rattle.room_books.specs.declared.meeting.Single.{Single}
+use Rattle.cal_events.specs.declared.instance.Single.{Single}
 use Rattle.room_books.specs.Instants.{HaveInstant, IsLater, Overlap, AreSeparate}
 use Rattle.room_books.specs.Views.{booked_of, booked_list, slots_of, spans_of, span_of, IsFree}
 use Rattle.room_books.proofs.Places.{in_booked, booked_from, slots_at}

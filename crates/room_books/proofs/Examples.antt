@@ -2,7 +2,7 @@
 use Rattle.std.proofs.Common.{◌≡◌, ℕ, pos, [], ◌∷◌, refl}
 use Rattle.profile.specs.checker.Instances.{Key, Booked}
 use Rattle.profile.specs.rooms.Revisions.{Part, Whole, At, Body, Set, Absent, Cancelled}
-use Rattle.profile.specs.rooms.Messages.{Accept, Busy, SinglesLimit}
+use Rattle.profile.specs.rooms.Messages.{no_content, Accept, Busy, SinglesLimit}
 use Rattle.profile.specs.rooms.Rooms.{Claim, Book, confirmed, asked, kind_of, shown, answered, Accepted, Declined, Repeated, Stale, NotAddressed}
 use Rattle.room_books.specs.Keeping.{kept}
 
@@ -23,7 +23,7 @@ abbrev booked_at : ℕ → ℕ → ℕ → Booked
 booked_at uid start end = record { key = key_of uid start; start = pos start; end = pos end }
 
 abbrev claim_at : ℕ → ℕ → ℕ → ℕ → Claim
-claim_at uid sequence start end = record { part = part_at uid sequence; content = []; singles = booked_at uid start end ∷ [] }
+claim_at uid sequence start end = record { part = part_at uid sequence; content = no_content; singles = booked_at uid start end ∷ [] }
 
 -- the first request, from nine to ten, was accepted at eight
 abbrev first : Claim
@@ -119,7 +119,7 @@ another_meeting_hides_nothing = refl
 
 -- the instance of nine o'clock, moved to noon and accepted there, holds the room at noon alone
 abbrev noon : Claim
-noon = record { part = slot_part 49 32400 (Set (83 ∷ [])); content = []; singles = record { key = key_of 49 32400; start = pos 43200; end = pos 46800 } ∷ [] }
+noon = record { part = slot_part 49 32400 (Set (83 ∷ [])); content = no_content; singles = record { key = key_of 49 32400; start = pos 43200; end = pos 46800 } ∷ [] }
 
 the_moved_is_where_it_went : confirmed (record { taken = first.part ∷ noon.part ∷ []; answers = answered (pos 28800) Accept (first ∷ noon ∷ []) }) ≡ noon.singles
 the_moved_is_where_it_went = refl

@@ -5,6 +5,7 @@ use Rattle.std.specs.declared.cmp.Ordering.TheVariants.{Less, Equal}
 use Rattle.std.specs.Ordering.{is_lt, is_eq, ordering_then}
 use Rattle.std.specs.List.{Contains, flat_map, filter, AllZip, IsDistinct}
 use Rattle.std.specs.Map.{keys_of, values_of}
+use Rattle.std.specs.Option.{option_to_list}
 use Rattle.std.proofs.lemmas.Bool.{and_parts, and_from, true≢false, false_from_ne_true}
 use Rattle.std.proofs.lemmas.List.{map-append}
 use Rattle.ical_values.proofs.Facts.{is_lt_true}
@@ -13,15 +14,16 @@ use Rattle.itip_order.proofs.Lasting.{view_one, view_taken}
 use Rattle.itip_order.proofs.Lists.{in_cons, in_head, in_tail, none_in_nil, all_at, filter_at, filter_from}
 use Rattle.itip_order.proofs.Order.{is_eq_true}
 use Rattle.itip_order.proofs.Registers.{ascending_filter, view_of_registers}
-use Rattle.profile.specs.rooms.Kept.{Entry, Shown, Hidden, part_kept, IsKept, IsEntry, AreKeptOf, AreKept, IsKeptEvent, first_parts}
+use Rattle.profile.specs.rooms.Kept.{Entry, Shown, Hidden, part_kept, IsKept, IsEntry, AreKeptOf, AreKept, IsKeptEvent, first_parts, zone_kept}
+use Rattle.profile.specs.rooms.Messages.{Content}
 use Rattle.profile.specs.rooms.Revisions.{Part, Slot, Whole, in_view, is_whole, meeting_cmp, place_cmp, same_meeting, slot_cmp}
 use Rattle.profile.specs.rooms.Rooms.{Claim, Answer, Book, is_accept, is_confirmed, is_set}
 use Rattle.room_books.specs.declared.meeting.MeetingKey.{MeetingKey}
 use Rattle.room_books.specs.declared.meeting.Meeting.{Meeting}
 use Rattle.room_books.specs.Views.{same_key}
 use Rattle.room_books.specs.Standing.{Pairwise, IsText, SlotDated, is_of, of_meeting, answers_of, book_of, standing, IsGiven, Meets, AreKeysOf, Stands}
-use Rattle.room_books.specs.Takings.{body_lines}
-use Rattle.room_books.specs.Keeping.{IsEntryEvent, accepted_slots, has_slot, entry_of, is_accepted, is_hiding, kept_in, all_kept}
+use Rattle.room_books.specs.Takings.{body_content}
+use Rattle.room_books.specs.Keeping.{IsEntryEvent, accepted_slots, has_slot, entry_of, is_accepted, is_hiding, kept_in, all_kept, zone_of_entry}
 use Rattle.room_books.proofs.Arrivals.{key_meeting}
 use Rattle.room_books.proofs.Entries.{meeting_at}
 use Rattle.room_books.proofs.Loops.{zip_both, zip_to, zip_from}
@@ -307,24 +309,39 @@ by_meeting entries book st (e ∷ es) (p ∷ ps) z m =
       zip_both (IsOfEntry book) own.0 (kept_in e.1) (flat_map (λ c. c) rest.0) (all_kept (values_of es)) own.1 rest.2,
     )
 
-event_of : (room : List ℕ) (entries : List (MeetingKey × Meeting)) (book : Book) → Stands entries book → (entry : Entry) (b : Bool) (part : Part) (lines : List (List ℕ)) → SlotDated part.slot → IsOfEntry book entry (b, part) → IsEntryEvent room (b, part) lines
-    → IsKeptEvent room entry lines
+event_of : (room : List ℕ) (zones : List (List ℕ)) (entries : List (MeetingKey × Meeting)) (book : Book) → Stands entries book → (entry : Entry) (b : Bool) (part : Part) (lines : List (List ℕ)) → SlotDated part.slot → IsOfEntry book entry (b, part)
+    → IsEntryEvent room zones (b, part) lines → IsKeptEvent room zones entry lines
 unfolding IsOfEntry
-event_of room entries book st entry true part lines dated (h, is) event =
+event_of room zones entries book st entry true part lines dated (h, is) event =
     let fit = st.fit h.0 h.1 in
-    subst (λ (x : Entry). IsKeptEvent room x lines) (sym is)
-    (event h.0.claim h.3 (fit.content ∙ ap (λ (q : Part). body_lines q.body) h.3) (sym (ap is_set h.3) ∙ st.set h.0 h.1) (subst (λ (q : Part). IsText q.body) h.3 fit.text) dated)
-event_of room entries book st entry false part lines dated is event = subst (λ (x : Entry). IsKeptEvent room x lines) (sym is) (event dated)
+    subst (λ (x : Entry). IsKeptEvent room zones x lines) (sym is)
+    (event h.0.claim h.3 (fit.content ∙ ap (λ (q : Part). body_content q.body) h.3) (sym (ap is_set h.3) ∙ st.set h.0 h.1) (subst (λ (q : Part). IsText q.body) h.3 fit.text) dated)
+event_of room zones entries book st entry false part lines dated is event = subst (λ (x : Entry). IsKeptEvent room zones x lines) (sym is) (event dated)
+
+-- an entry's zone is that of its part
+zone_of : (entries : List (MeetingKey × Meeting)) (book : Book) → Stands entries book → (entry : Entry) (b : Bool) (part : Part) → IsOfEntry book entry (b, part) → zone_kept entry ≡ zone_of_entry (b, part)
+unfolding IsOfEntry
+zone_of entries book st entry true part (h, is) =
+    ap zone_kept is ∙ ap (λ (c : Content). option_to_list c.zone) ((st.fit h.0 h.1).content ∙ ap (λ (q : Part). body_content q.body) h.3)
+zone_of entries book st entry false part is = ap zone_kept is
+
+zones_of : (entries : List (MeetingKey × Meeting)) (book : Book) → Stands entries book → (kept : List Entry) (ps : List (Bool × Part)) → AllZip (IsOfEntry book) kept ps → flat_map zone_kept kept ≡ flat_map zone_of_entry ps
+zones_of entries book st [] [] z = refl
+zones_of entries book st [] (p ∷ ps) z = absurd z
+zones_of entries book st (k ∷ ks) [] z = absurd z
+zones_of entries book st (k ∷ ks) ((b, p) ∷ ps) z = λ i. zone_of entries book st k b p z.0 i ++ zones_of entries book st ks ps z.1 i
 
 -- what is written is what the room keeps
-pub all_are_kept : (room : List ℕ) (entries : List (MeetingKey × Meeting)) (book : Book) → Stands entries book → IsDistinct same_key (keys_of entries) → (events : List (List (List ℕ)))
-    → AllZip (IsEntryEvent room) (all_kept (values_of entries)) events → (kept : List Entry) × AreKept book kept × AllZip (IsKeptEvent room) kept events
-all_are_kept room entries book st distinct events z =
+pub all_are_kept : (room : List ℕ) (zones : List (List ℕ)) (entries : List (MeetingKey × Meeting)) (book : Book) → Stands entries book → IsDistinct same_key (keys_of entries) → (events : List (List (List ℕ)))
+    → AllZip (IsEntryEvent room zones) (all_kept (values_of entries)) events
+    → (kept : List Entry) × AreKept book kept × AllZip (IsKeptEvent room zones) kept events × (flat_map zone_kept kept ≡ flat_map zone_of_entry (all_kept (values_of entries)))
+all_are_kept room zones entries book st distinct events z =
     let all = by_meeting entries book st entries (first_parts book.taken) st.order (meeting_at entries book st distinct) in
     let kept = flat_map (λ c. c) all.0 in (
       kept,
       record { by_meeting = all.0; each = all.1; are = refl },
       shown_all kept (all_kept (values_of entries)) events (λ p c. in_book p c) all.2 z,
+      zones_of entries book st kept (all_kept (values_of entries)) all.2,
     )
   where
     in_book : (p : Bool × Part) → Contains (all_kept (values_of entries)) p → SlotDated p.1.slot
@@ -333,10 +350,10 @@ all_are_kept room entries book st distinct events z =
         let e = map_at (λ (x : MeetingKey × Meeting). x.1) entries found.0 found.1 in
         entry_dated entries book e.0.0 e.0.1 st (meeting_at entries book st distinct e.0 e.1) p.0 p.1 (subst (λ (m : Meeting). Contains (kept_in m) p) (sym e.2) found.2)
 
-    shown_all : (kept : List Entry) (ps : List (Bool × Part)) (events : List (List (List ℕ))) → ((p : Bool × Part) → Contains ps p → SlotDated p.1.slot) → AllZip (IsOfEntry book) kept ps → AllZip (IsEntryEvent room) ps events → AllZip (IsKeptEvent room) kept events
+    shown_all : (kept : List Entry) (ps : List (Bool × Part)) (events : List (List (List ℕ))) → ((p : Bool × Part) → Contains ps p → SlotDated p.1.slot) → AllZip (IsOfEntry book) kept ps → AllZip (IsEntryEvent room zones) ps events → AllZip (IsKeptEvent room zones) kept events
     shown_all [] [] events dated y z = z
     shown_all [] (p ∷ ps) events dated y z = absurd y
     shown_all (k ∷ ks) [] events dated y z = absurd y
     shown_all (k ∷ ks) (p ∷ ps) [] dated y z = absurd z
     shown_all (k ∷ ks) ((b, p) ∷ ps) (e ∷ es) dated y z =
-        (event_of room entries book st k b p e (dated (b, p) (in_head (b, p) ps)) y.0 z.0, shown_all ks ps es (λ q c. dated q (in_tail (b, p) ps q c)) y.1 z.1)
+        (event_of room zones entries book st k b p e (dated (b, p) (in_head (b, p) ps)) y.0 z.0, shown_all ks ps es (λ q c. dated q (in_tail (b, p) ps q c)) y.1 z.1)

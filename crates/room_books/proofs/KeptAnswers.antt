@@ -1,51 +1,58 @@
--- What a room keeps of a part reads back: as a confirmed event of the same instance, or as one that hides it.
-use Rattle.std.proofs.Common.{◌≡◌, ◌∙◌, ℕ, ℤ, ◌<◌, ◌^◌, Bool, true, false, ◌&&◌, not, List, [], ◌∷◌, ◌++◌, codes, decimal, Option, Some, None, inl, inr, refl, sym, ap, ap₂, subst, arith}
+-- What a room keeps of a part reads back: as a confirmed event of the same instances, or as one that hides one.
+use Rattle.std.proofs.Common.{◌≡◌, ◌∙◌, ℕ, ℤ, ◌<◌, ◌^◌, Bool, true, false, ◌&&◌, ◌||◌, not, List, [], ◌∷◌, ◌++◌, codes, decimal, Option, Some, None, inl, inr, refl, sym, ap, ap₂, subst, arith, append_assoc}
 use Rattle.std.specs.Prelude.{if◌then◌else◌, option_map}
 use Rattle.std.specs.Option.{option_to_list}
 use Rattle.std.specs.Ordering.{is_lt}
-use Rattle.std.proofs.lemmas.Bool.{true≢false}
-use Rattle.std.proofs.lemmas.List.Elements.{Contains-append_cases}
+use Rattle.std.proofs.lemmas.Bool.{true≢false, or_from}
+use Rattle.std.proofs.lemmas.List.Elements.{All-contains, Contains-append_cases}
 use Rattle.std.specs.List.{list_all, AllZip, Contains}
 use Rattle.std.specs.Str.{bytes_eq}
 use Rattle.std.proofs.lemmas.Slice.Eq.{bytes_eq-Decides}
-use Rattle.profile.specs.text.Lines.{is_content, line_value, logical_lines}
+use Rattle.profile.specs.text.Lines.{is_content, line_value, line_param, logical_lines}
 use Rattle.profile.specs.text.Trees.{Tree, vevents}
 use Rattle.profile.specs.text.Objects.{is_property}
-use Rattle.profile.specs.text.Values.{IsAddress, IsUid, WritesStamp, escaped, lower_case, duration_text}
-use Rattle.profile.specs.checker.Instances.{Booked}
-use Rattle.profile.specs.events.Events.{Event, SaysEvent, SaysSequence, IsAttendee, booked_by, is_confirmed, meeting_said}
-use Rattle.profile.specs.events.Meetings.{Method, Request, Add, Cancel, Meeting, as_added, taken_by, events_of, is_master, is_override, SaysMeeting}
-use Rattle.profile.specs.events.ZonedTimes.{SaysEventTimes}
+use Rattle.profile.specs.text.Values.{IsAddress, IsUid, WritesStamp, escaped, lower_case}
+use Rattle.profile.specs.events.Events.{Method, Request, Add, Cancel, Event, SaysEvent, SaysSequence, IsAttendee, is_confirmed, meeting_said, adds_instances}
+use Rattle.profile.specs.events.Meetings.{Meeting, as_added, taken_by, events_of, is_master, is_override, SaysMeeting}
+use Rattle.profile.specs.events.ZonedTimes.{EventTimes, SaysTimes, SpellsZoned, SaysZoneOf, zone_named}
+use Rattle.profile.specs.series.Zones.{Zone}
+use Rattle.profile.specs.series.ZoneTexts.{SaysZone}
 use Rattle.std.proofs.lemmas.Option.{same_Some}
 use Rattle.profile.specs.events.Confirmed.{is_kept}
 use Rattle.profile.specs.events.Properties.{Says, BothOrNeither, StandsAtMostOnce, IsAddressLine, IsUidLine, IsSequenceLine, is_of, lines_named}
 use Rattle.profile.specs.rooms.Messages as messages
-use Rattle.profile.specs.rooms.Messages.{SpellsMessage, IsPart, IsBody, IsContent, TellsSlot, own_revision, later_of, raised_to, slot_named, names_room}
+use Rattle.profile.specs.rooms.Messages.{Content, SpellsMessage, IsPart, IsBody, IsContent, IsZoneRest, TellsSlot, cancels, own_revision, later_of, raised_to, slot_named, names_room}
 use Rattle.profile.specs.rooms.Revisions.{Part, Slot, Whole, At, Revision, Body, Set, Absent, Cancelled, revision_cmp}
 use Rattle.profile.specs.rooms.Rooms.{Claim, is_set, is_set_body}
-use Rattle.profile.specs.rooms.Kept.{IsEventOf, HidesSlot}
+use Rattle.profile.specs.rooms.Kept.{IsEventOf, IsKeptEvent, IsNamed as HasName, HidesSlot, Shown}
+use Rattle.profile.specs.streams.Streams.{AsksFor}
 use Rattle.itip_order.proofs.Lists.{in_head, filter_at, any_at}
 use Rattle.ical_values.proofs.Addresses.{lower_twice}
 use Rattle.ical_values.proofs.Escapes.{read_back}
 use Rattle.ical_values.proofs.Readings.{stamp_written, sequence_written}
-use Rattle.ical_values.proofs.Spans.{duration_written}
+use Rattle.itip_messages.specs.Bodies.{IsReady}
 use Rattle.itip_messages.specs.ReadBack.{IsTextAddress, IsTextValue}
 use Rattle.ical_lines.proofs.CleanLines.{IsClean, clean_shown, shown_decimal}
 use Rattle.ical_values.proofs.ShownValues.{shown_stamp}
-use Rattle.itip_messages.proofs.CleanText.{clean_address, text_address, shown_duration}
+use Rattle.itip_messages.proofs.BySlot.{of_message}
+use Rattle.itip_messages.proofs.CleanText.{clean_address, text_address}
 use Rattle.itip_messages.proofs.CleanUids.{clean_text, text_value}
-use Rattle.itip_messages.proofs.ObjectTree.{Lines, vevent_lines}
+use Rattle.itip_messages.proofs.ZonePlaces.{named_lines}
 use Rattle.cal_events.specs.Meetings.{IsNamed}
-use Rattle.cal_events.proofs.PlainSingles.{IsPlain}
 use Rattle.cal_events.proofs.InOneOrder.{of_filtered, of_mapped}
-use Rattle.cal_events.proofs.OneInstance.{recurrence_named}
-use Rattle.room_books.proofs.KeptEvents.{slot_lines, kept_own, hidden_own, kept_event, hidden_event, SpellPart, SpellTimes, SpellSlot, kept_says, hidden_says, kept_confirmed, kept_booked}
-use Rattle.room_books.proofs.KeptLines.{IsCleanSlot, kept_content, kept_properties, hidden_content, hidden_properties}
+use Rattle.cal_events.proofs.OneInstance.{event_sound}
+use Rattle.room_books.proofs.KeptOwn.{SpellPart, SpellSlot, slot_lines, own_front, own_back, own_lines, when_lines, zoned_event, zoned_says}
+use Rattle.room_books.proofs.KeptWhen.{EventFacts, IsCleanSlot, duration_clean, duration_of, event_facts, own_content, own_properties, when_of}
+use Rattle.room_books.proofs.KeptEvents.{hidden_own, hidden_event, hidden_says, kept_confirmed}
+use Rattle.room_books.proofs.KeptInstances.{AreAllOf, kept_all}
+use Rattle.room_books.proofs.KeptLines.{hidden_content, hidden_properties}
+use Rattle.room_books.proofs.KeptZones.{Lines, IsKeptTree, vevent_lines}
 use Rattle.room_books.proofs.Loops.{zip_from}
 use Rattle.room_books.proofs.KeptRequests.{clean_value, vevent_among}
+use Rattle.room_books.proofs.ZonedStarts.{IsSaid, name_means, name_plain}
 
 -- octets ask the room for the part, with this content: it is that of one of the events that they say
-pub record IsAsked (room : List ℕ) (content : Lines) (part : Part) : Type 0 where
+pub record IsAsked (room : List ℕ) (content : Content) (part : Part) : Type 0 where
   pub octets : List ℕ
   pub given : messages.Message
   pub spells : SpellsMessage octets given
@@ -53,20 +60,20 @@ pub record IsAsked (room : List ℕ) (content : Lines) (part : Part) : Type 0 wh
   pub among : Contains (events_of given.meeting) event
   pub is_part : IsPart room given event content part
 
--- and for the claim: the part, and its one instance, if it is to take place
+-- and for the claim: the part, and its instances, if it is to take place
 pub record IsAskedFor (room : List ℕ) (claim : Claim) : Type 0 where
   pub asked : IsAsked room claim.content claim.part
-  pub books : claim.singles ≡ (if is_set claim.part then booked_by asked.event ∷ [] else [])
+  pub books : AsksFor (is_set claim.part) asked.event claim.singles
 
--- the lines are a VEVENT that says such an event, of that meeting and slot
-pub record ReadsBack (lines : Lines) (organiser uid : List ℕ) (slot : Slot) : Type 0 where
+-- the lines are a VEVENT that says such an event beside these zones, of that meeting and slot
+pub record ReadsBack (zones : List (List ℕ)) (lines : Lines) (organiser uid : List ℕ) (slot : Slot) : Type 0 where
   pub own : Lines
   pub said : Event
   pub are : lines ≡ vevent_lines own
   pub properties : list_all is_property own ≡ true
   pub content : list_all is_content own ≡ true
-  pub says : (object : Tree) → SaysEvent object false own said
-  pub plain : IsPlain said
+  pub says : (owns : List Lines) (k : IsKeptTree zones owns) → SaysEvent k.kept None own said
+  pub once : said.rule ≡ None
   pub meeting : meeting_said said ≡ (organiser, uid)
   pub slot_is : messages.slot_of said ≡ slot
 
@@ -101,54 +108,77 @@ said_among object m meeting s e c = elim (Contains-append_cases (option_to_list 
 ]
 
 -- what the lines of a VEVENT of a message say of an event, however its method takes it
-record SaysTaken (object : Tree) (lines : Lines) (event : Event) : Type 0 where
+record SaysTaken (object : Tree) (method : Method) (lines : Lines) (event : Event) : Type 0 where
   organiser : Says (codes "ORGANIZER") true IsAddressLine lines event.organiser
   uid : Says (codes "UID") true IsUidLine lines (Some event.uid)
   sequence : SaysSequence lines event.sequence
-  times : SaysEventTimes object lines event.times
   attendees : AllZip IsAttendee (lines_named (codes "ATTENDEE") lines) event.attendees
+  -- the zone of its start is one that some VTIMEZONE says
+  zone : IsSaid event.times.zone
+  facts : cancels method event ≡ false → EventFacts event (adds_instances (Some method))
   -- the instance that it is of lies in the dates that an event may name
   dated : (t : ℤ) → event.recurrence ≡ Some t → IsNamed t
 
-as_said : (object : Tree) (lines : Lines) (event : Event) → SaysEvent object true lines event → SaysTaken object lines event
-as_said object lines event s = record {
+zone_there : (object : Tree) (name : Option (List ℕ)) (text : List ℕ) (zone : Option Zone) (local : ℤ) → SpellsZoned object name text zone local → IsSaid zone
+zone_there object None text None local s = tt
+zone_there object (Some n) text (Some z) local s = of_part (zone_named n object) s.1
+  where
+    of_part : (o : Option Tree) → SaysZoneOf o z → (t : Tree) × SaysZone t z
+    of_part None s = absurd s
+    of_part (Some t) s = (t, s)
+zone_there object None text (Some z) local s = absurd s
+zone_there object (Some n) text None local s = absurd s
+
+zone_said : (may_lack : Bool) (object : Tree) (lines : Lines) (times : EventTimes) → SaysTimes may_lack object lines times → IsSaid times.zone
+zone_said may_lack object lines times (inl t) = zone_there object (line_param (codes "TZID") t.line) (line_value t.line) times.zone times.local t.says.1
+zone_said may_lack object lines times (inr lacks) = subst IsSaid (sym lacks.1.zone) tt
+
+as_said : (object : Tree) (method : Method) (lines : Lines) (event : Event) → SaysEvent object (Some method) lines event → SaysTaken object method lines event
+as_said object method lines event s = record {
   organiser = s.organiser;
   uid = s.uid;
   sequence = s.sequence;
-  times = s.times;
   attendees = s.attendees;
-  dated = λ t is. recurrence_named object s.occurrences.is.line event.recurrence t s.occurrences.is.is is;
+  zone = zone_said _ object lines event.times s.times;
+  facts = event_facts object method lines event s;
+  dated = (event_sound object lines event s).names;
 }
 
-when_added : (object : Tree) (lines : Lines) (event : Event) → SaysEvent object true lines event → SaysTaken object lines (as_added event)
+-- what is known of an event is known of it as an instance that is added
+facts_added : (event : Event) → EventFacts event true → EventFacts (as_added event) true
+facts_added event f = record { means = f.means; dated = f.dated; most = f.most; added_in = f.added_in; few_added = f.few_added; few_taken = f.few_taken; single = λ h. f.single refl }
+
+when_added : (object : Tree) (lines : Lines) (event : Event) → SaysEvent object (Some Add) lines event → SaysTaken object Add lines (as_added event)
 when_added object lines event s = record {
   organiser = s.organiser;
   uid = s.uid;
   sequence = s.sequence;
-  times = s.times;
   attendees = s.attendees;
-  dated = λ t is. subst IsNamed (same_Some event.times.start t is) (s.times.in_dates.1, s.times.in_dates.2);
+  zone = zone_said _ object lines event.times s.times;
+  facts = λ h. facts_added event (event_facts object Add lines event s h);
+  dated = λ t is. subst IsNamed (same_Some event.times.start t is) (event_sound object lines event s).starts;
 }
 
-abbrev SaidIn : Tree → List Lines → Event → Type 0
-SaidIn object vs event = (lines : Lines) × Contains vs lines × SaysTaken object lines event
+abbrev SaidIn : Tree → Method → List Lines → Event → Type 0
+SaidIn object method vs event = (lines : Lines) × Contains vs lines × SaysTaken object method lines event
 
-taken_said : (object : Tree) (method : Method) (vs : List Lines) (events : List Event) (e : Event) → AllZip (SaysEvent object true) vs events → Contains (taken_by (Some method) events) e → SaidIn object vs e
-taken_said object Request vs events e z c = let found = zip_from (SaysEvent object true) vs events e z c in (found.0, found.1, as_said object found.0 e found.2)
-taken_said object Cancel vs events e z c = let found = zip_from (SaysEvent object true) vs events e z c in (found.0, found.1, as_said object found.0 e found.2)
+taken_said : (object : Tree) (method : Method) (vs : List Lines) (events : List Event) (e : Event) → AllZip (SaysEvent object (Some method)) vs events → Contains (taken_by (Some method) events) e → SaidIn object method vs e
+taken_said object Request vs events e z c = let found = zip_from (SaysEvent object (Some Request)) vs events e z c in (found.0, found.1, as_said object Request found.0 e found.2)
+taken_said object Cancel vs events e z c = let found = zip_from (SaysEvent object (Some Cancel)) vs events e z c in (found.0, found.1, as_said object Cancel found.0 e found.2)
 taken_said object Add vs events e z c =
     let x = of_mapped as_added events e c in
-    let found = zip_from (SaysEvent object true) vs events x.0 z x.1 in
-    (found.0, found.1, subst (SaysTaken object found.0) x.2 (when_added object found.0 x.0 found.2))
+    let found = zip_from (SaysEvent object (Some Add)) vs events x.0 z x.1 in
+    (found.0, found.1, subst (SaysTaken object Add found.0) x.2 (when_added object found.0 x.0 found.2))
 
 -- the lines of a VEVENT of a message, whose values are clean
-record Message (event : Event) : Type 0 where
+record Message (method : Method) (event : Event) : Type 0 where
   object : Tree
   lines : Lines
-  says : SaysTaken object lines event
+  says : SaysTaken object method lines event
   clean : (line : List ℕ) → Contains lines line → IsClean (line_value line)
+  ready : IsReady event
 
-message_of : (octets : List ℕ) (given : messages.Message) (spells : SpellsMessage octets given) (event : Event) → Contains (events_of given.meeting) event → Message event
+message_of : (octets : List ℕ) (given : messages.Message) (spells : SpellsMessage octets given) (event : Event) → Contains (events_of given.meeting) event → Message given.method event
 message_of octets given spells event c =
     let s = spells.says.says in
     let found = taken_said spells.tree given.method (vevents spells.tree) s.events event s.says (said_among spells.tree (Some given.method) given.meeting s event c) in
@@ -157,6 +187,7 @@ message_of octets given spells event c =
       lines = found.0;
       says = found.2;
       clean = λ line l. clean_value true octets line spells.lines (vevent_among true spells.tree (logical_lines octets) found.0 spells.object found.1 line l);
+      ready = All-contains IsReady (events_of given.meeting) event (of_message spells.tree given.method given.meeting s spells.says.read).ready c;
     }
 
 -- what is known of the organiser, the UID and the number of a part
@@ -175,7 +206,7 @@ small_raised : (o : Option Event) (own : Revision) → own.sequence < 2 ^ 31 →
 small_raised None own m f = m
 small_raised (Some w) own m f = small_later (is_lt (revision_cmp own (own_revision w))) own (own_revision w) m (f w refl)
 
-named : (room : List ℕ) (content : Lines) (part : Part) → IsAsked room content part → Named part
+named : (room : List ℕ) (content : Content) (part : Part) → IsAsked room content part → Named part
 named room content part a =
     let m = message_of a.octets a.given a.spells a.event a.among in
     let o = given (codes "ORGANIZER") true IsAddressLine m.lines part.organiser (subst (λ (x : Option (List ℕ)). Says (codes "ORGANIZER") true IsAddressLine m.lines x) a.is_part.organiser m.says.organiser) in
@@ -199,7 +230,7 @@ pub record IsRoom (room : List ℕ) : Type 0 where
   pub text : IsTextAddress room
   pub lower : lower_case room ≡ room
 
-pub asked_room : (room : List ℕ) (content : Lines) (part : Part) (a : IsAsked room content part) → names_room room a.event ≡ true → IsRoom room
+pub asked_room : (room : List ℕ) (content : Content) (part : Part) (a : IsAsked room content part) → names_room room a.event ≡ true → IsRoom room
 asked_room room content part a named =
     let m = message_of a.octets a.given a.spells a.event a.among in
     let event = a.event in
@@ -231,26 +262,30 @@ slot_told (Some t) lines (text, w, e) dated = record {
   clean = clean_shown text (shown_stamp text t w);
 }
 
--- the instance that an event is of lies in the dates that an event may name
-slot_dated : (event : Event) (m : Message event) (t : ℤ) → event.recurrence ≡ Some t → IsNamed t
-slot_dated event m t is = m.says.dated t is
-
 -- ---- a part that is shown
 
--- a set body says when its event is, and that the room is named
-pub set_body : (room : List ℕ) (method : Method) (event : Event) (content : Lines) (body : Body) → IsBody room method event content body → is_set_body body ≡ true
-    → (IsContent content event) × (names_room room event ≡ true)
-set_body room method event content (Set octets) b set = (b.2, b.1)
+-- a set body says when its event is, that the room is named, and that nothing cancels it
+pub record IsSetBody (room : List ℕ) (method : Method) (event : Event) (content : Content) : Type 0 where
+  pub when : IsContent content event
+  pub names : names_room room event ≡ true
+  pub stays : cancels method event ≡ false
+
+pub set_body : (room : List ℕ) (method : Method) (event : Event) (content : Content) (body : Body) → IsBody room method event content body → is_set_body body ≡ true → IsSetBody room method event content
+set_body room method event content (Set octets) b set = record { when = b.2; names = b.1; stays = b.0 }
 set_body room method event content Absent b set = absurd (true≢false (sym set))
 set_body room method event content Cancelled b set = absurd (true≢false (sym set))
 
--- it says a confirmed event, of the same instance
-pub record ShowsBack (room : List ℕ) (claim : Claim) (lines : Lines) : Type 0 where
-  pub back : ReadsBack lines claim.part.organiser claim.part.uid claim.part.slot
-  pub kept : is_kept room back.said ≡ true
-  pub books : claim.singles ≡ booked_by back.said ∷ []
+-- the zone of its start is one that some VTIMEZONE says
+pub set_zone : (room : List ℕ) (content : Content) (part : Part) (a : IsAsked room content part) → IsSaid a.event.times.zone
+set_zone room content part a = (message_of a.octets a.given a.spells a.event a.among).says.zone
 
-part_spelled : (room : List ℕ) (content : Lines) (part : Part) (a : IsAsked room content part) (stamp : List ℕ) → WritesStamp stamp part.revision.stamp → IsRoom room
+-- it says a confirmed event, of the same instances
+pub record ShowsBack (room : List ℕ) (zones : List (List ℕ)) (claim : Claim) (lines : Lines) : Type 0 where
+  pub back : ReadsBack zones lines claim.part.organiser claim.part.uid claim.part.slot
+  pub kept : is_kept room back.said ≡ true
+  pub books : AreAllOf back.said claim.singles
+
+part_spelled : (room : List ℕ) (content : Content) (part : Part) (a : IsAsked room content part) (stamp : List ℕ) → WritesStamp stamp part.revision.stamp → IsRoom room
     → SpellPart part.uid part.revision.sequence (escaped part.uid) (decimal part.revision.sequence) stamp part.organiser room part.revision.stamp
 part_spelled room content part a stamp w r =
     let n = named room content part a in
@@ -265,79 +300,67 @@ part_spelled room content part a stamp w r =
       room_lower = r.lower;
     }
 
-pub shows_back : (room : List ℕ) (claim : Claim) (lines : Lines) → IsAskedFor room claim → is_set claim.part ≡ true → IsEventOf room claim.part claim.content (codes "ACCEPTED") lines → ShowsBack room claim lines
-shows_back room claim lines f set k =
+pub shows_back : (room : List ℕ) (zones : List (List ℕ)) (claim : Claim) (lines : Lines) → IsAskedFor room claim → is_set claim.part ≡ true → IsKeptEvent room zones (Shown claim) lines → ShowsBack room zones claim lines
+shows_back room zones claim lines f set (name, given_name, k) =
     let part = claim.part in
     let a = f.asked in
     let event = a.event in
     let m = message_of a.octets a.given a.spells event a.among in
     let n = named room claim.content part a in
     let b = set_body room a.given.method event claim.content part.body a.is_part.body set in
-    let c = b.0 in
-    let r = asked_room room claim.content part a b.1 in
-    let told = slot_told event.recurrence k.slot (subst (λ (s : Slot). TellsSlot s k.slot) a.is_part.slot k.tells_slot) (slot_dated event m) in
-    let most = m.says.times.most in
-    let duration = duration_text event.times.length.days event.times.length.seconds in
-    let shown_start = shown_stamp c.start event.times.start c.written in
-    let long = shown_duration event.times.length.days event.times.length.seconds (omega (arith, most)) (omega (arith, most)) in
+    let c = b.when in
+    let r = asked_room room claim.content part a b.names in
+    let told = slot_told event.recurrence k.slot (subst (λ (s : Slot). TellsSlot s k.slot) a.is_part.slot k.tells_slot) m.says.dated in
+    let plain = name_plain zones claim.content event c name given_name in
+    let l = named_lines name claim.content event c in
+    let w = when_of name claim.content event c l plain (adds_instances (Some a.given.method)) (m.says.facts b.stays) event.recurrence (or_from_right (adds_instances (Some a.given.method))) in
+    let duration = duration_of event in
     let uid = escaped part.uid in
     let sequence = decimal part.revision.sequence in
     let number = part.revision.sequence in
     let spell = part_spelled room claim.content part a k.stamp k.written_stamp r in
     let spell_event : SpellPart event.uid number uid sequence k.stamp part.organiser room part.revision.stamp = subst (λ (u : List ℕ). SpellPart u number uid sequence k.stamp part.organiser room part.revision.stamp) a.is_part.uid spell in
-    let times : SpellTimes event c.start duration = record {
-      starts = stamp_written c.start event.times.start c.written;
-      lasts = duration_written event.times.length.days event.times.length.seconds (omega (arith, most)) (omega (arith, most));
-      most = most;
-      dated = (m.says.times.in_dates.1, m.says.times.in_dates.2);
-    } in
-    let said = kept_event event event.recurrence number part.organiser part.revision.stamp room in
-    let own = kept_own told.text uid sequence k.stamp c.start duration part.organiser room in
-    let says = kept_says event told.text event.recurrence number uid sequence k.stamp c.start duration part.organiser room part.revision.stamp spell_event times told.spells in
+    let said = zoned_event event event.recurrence number part.organiser part.revision.stamp room w.adds.ascending w.takes.ascending in
+    let when = when_lines l.start duration c.additions c.exceptions in
+    let own = own_lines told.text uid sequence k.stamp when part.organiser room in
     record {
       back = record {
         own = own;
         said = said;
         are = k.is ∙ ap₂ (λ (sl b : Lines). (((codes "BEGIN:VEVENT" ∷ (codes "UID:" ++ uid) ∷ sl) ++ ((codes "SEQUENCE:" ++ sequence) ∷ (codes "DTSTAMP:" ++ k.stamp) ∷ [])) ++ b)
-            ++ ((codes "ORGANIZER:" ++ part.organiser) ∷ (codes "ATTENDEE;PARTSTAT=ACCEPTED:" ++ room) ∷ codes "END:VEVENT" ∷ [])) told.are c.is ∙ joined told.text uid sequence k.stamp c.start duration part.organiser room;
-        properties = kept_properties told.text uid sequence k.stamp c.start duration part.organiser room;
-        content = kept_content told.text uid sequence k.stamp c.start duration part.organiser room told.clean (clean_text part.uid n.uid) (clean_shown sequence (shown_decimal part.revision.sequence (omega arith)))
-            (clean_shown k.stamp (shown_stamp k.stamp part.revision.stamp k.written_stamp)) (clean_shown c.start shown_start) (clean_shown duration long) (clean_address part.organiser n.organiser) (clean_address room r.text);
-        says = says;
-        plain = record {
-          said = (m.object, own, says m.object);
-          once = refl;
-          no_additions = refl;
-          no_exceptions = refl;
-          in_utc = refl;
-          dated = times.dated;
-        };
+            ++ ((codes "ORGANIZER:" ++ part.organiser) ∷ (codes "ATTENDEE;PARTSTAT=ACCEPTED:" ++ room) ∷ codes "END:VEVENT" ∷ [])) told.are l.are
+            ∙ ap (λ (x : Lines). codes "BEGIN:VEVENT" ∷ x) (sym (append_assoc (own_front told.text uid sequence k.stamp ++ when) (own_back part.organiser room) (codes "END:VEVENT" ∷ [])));
+        properties = own_properties name event event.recurrence l.start duration c.additions c.exceptions event.additions _ w told.text uid sequence k.stamp part.organiser room;
+        content = own_content name event event.recurrence l.start duration c.additions c.exceptions event.additions _ w told.text uid sequence k.stamp part.organiser room told.clean (clean_text part.uid n.uid)
+            (clean_shown sequence (shown_decimal part.revision.sequence (omega arith))) (clean_shown k.stamp (shown_stamp k.stamp part.revision.stamp k.written_stamp)) (duration_clean event) (clean_address part.organiser n.organiser) (clean_address room r.text);
+        says = λ owns t. zoned_says name event told.text event.recurrence number uid sequence k.stamp l.start duration part.organiser room part.revision.stamp c.additions c.exceptions event.additions _ spell_event w told.spells t.kept
+            (name_means zones owns t claim.content event c m.says.zone name given_name);
+        once = refl;
         meeting = ap (λ (u : List ℕ). (part.organiser, u)) (sym a.is_part.uid);
         slot_is = sym a.is_part.slot;
       };
-      kept = ap (λ x. x && not false) (kept_confirmed event event.recurrence number part.organiser part.revision.stamp room);
-      books = f.books ∙ ap (λ b. if b then booked_by event ∷ [] else []) set ∙ ap (λ (b : Booked). b ∷ []) (kept_booked event number part.organiser part.revision.stamp room a.is_part.organiser);
+      kept = ap (λ x. x && not false) (kept_confirmed event event.recurrence number part.organiser part.revision.stamp room w.adds.ascending w.takes.ascending);
+      books = kept_all event number part.organiser part.revision.stamp room w.adds.ascending w.takes.ascending a.is_part.organiser m.ready.once m.ready.timely w.adds.are w.takes.are claim.singles
+          (subst (λ b. AsksFor b event claim.singles) set f.books);
     }
   where
-    joined : (text : Option (List ℕ)) (uid sequence stamp start duration organiser room : List ℕ)
-        → (((codes "BEGIN:VEVENT" ∷ (codes "UID:" ++ uid) ∷ slot_lines text) ++ ((codes "SEQUENCE:" ++ sequence) ∷ (codes "DTSTAMP:" ++ stamp) ∷ [])) ++ ((codes "DTSTART:" ++ start) ∷ (codes "DURATION:" ++ duration) ∷ []))
-        ++ ((codes "ORGANIZER:" ++ organiser) ∷ (codes "ATTENDEE;PARTSTAT=ACCEPTED:" ++ room) ∷ codes "END:VEVENT" ∷ []) ≡ vevent_lines (kept_own text uid sequence stamp start duration organiser room)
-    joined None uid sequence stamp start duration organiser room = refl
-    joined (Some text) uid sequence stamp start duration organiser room = refl
+    or_from_right : (x : Bool) {y : Bool} → y ≡ true → (x || y) ≡ true
+    or_from_right true h = refl
+    or_from_right false h = h
 
 -- ---- a part that hides an instance
 
-pub record HidesBack (room : List ℕ) (part : Part) (lines : Lines) : Type 0 where
-  pub back : ReadsBack lines part.organiser part.uid part.slot
+pub record HidesBack (room : List ℕ) (zones : List (List ℕ)) (part : Part) (lines : Lines) : Type 0 where
+  pub back : ReadsBack zones lines part.organiser part.uid part.slot
   pub kept : is_kept room back.said ≡ false
 
-pub hides_back : (room : List ℕ) (content : Lines) (part : Part) (lines hiding : Lines) → IsAsked room content part → IsRoom room → HidesSlot part.slot hiding → IsEventOf room part hiding (codes "DECLINED") lines → HidesBack room part lines
-hides_back room content part lines hiding a r h k =
+pub hides_back : (room : List ℕ) (zones : List (List ℕ)) (content : Content) (part : Part) (lines hiding : Lines) → IsAsked room content part → IsRoom room → HidesSlot part.slot hiding → IsEventOf room part hiding (codes "DECLINED") lines → HidesBack room zones part lines
+hides_back room zones content part lines hiding a r h k =
     let event = a.event in
     let m = message_of a.octets a.given a.spells event a.among in
     let n = named room content part a in
     let is : slot_named event.recurrence ≡ At h.instant = sym a.is_part.slot ∙ h.at in
-    let dated : IsNamed h.instant = slot_dated event m h.instant (instant_there event.recurrence h.instant is) in
+    let dated : IsNamed h.instant = m.says.dated h.instant (instant_there event.recurrence h.instant is) in
     let tells : TellsSlot (At h.instant) k.slot = subst (λ (s : Slot). TellsSlot s k.slot) h.at k.tells_slot in
     let text = tells.0 in
     let uid = escaped part.uid in
@@ -345,7 +368,7 @@ hides_back room content part lines hiding a r h k =
     let number = part.revision.sequence in
     let said = hidden_event part.uid h.instant number part.organiser part.revision.stamp room in
     let own = hidden_own uid text sequence k.stamp h.text part.organiser room in
-    let says = hidden_says part.uid h.instant number uid text sequence k.stamp h.text part.organiser room part.revision.stamp (part_spelled room content part a k.stamp k.written_stamp r) (stamp_written text h.instant tells.1)
+    let says : (object : Tree) → SaysEvent object None own said = hidden_says part.uid h.instant number uid text sequence k.stamp h.text part.organiser room part.revision.stamp (part_spelled room content part a k.stamp k.written_stamp r) (stamp_written text h.instant tells.1)
     (stamp_written h.text h.instant h.written) dated in
     record {
       back = record {
@@ -356,15 +379,8 @@ hides_back room content part lines hiding a r h k =
         properties = hidden_properties uid text sequence k.stamp h.text part.organiser room;
         content = hidden_content uid text sequence k.stamp h.text part.organiser room (clean_text part.uid n.uid) (clean_shown text (shown_stamp text h.instant tells.1)) (clean_shown sequence (shown_decimal part.revision.sequence (omega arith)))
             (clean_shown k.stamp (shown_stamp k.stamp part.revision.stamp k.written_stamp)) (clean_shown h.text (shown_stamp h.text h.instant h.written)) (clean_address part.organiser n.organiser) (clean_address room r.text);
-        says = says;
-        plain = record {
-          said = (m.object, own, says m.object);
-          once = refl;
-          no_additions = refl;
-          no_exceptions = refl;
-          in_utc = refl;
-          dated = dated;
-        };
+        says = λ owns t. says t.kept;
+        once = refl;
         meeting = refl;
         slot_is = sym h.at;
       };

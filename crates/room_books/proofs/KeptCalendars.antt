@@ -1,38 +1,42 @@
 -- The kept calendar spells the confirmed instances, and the kept certificate stands for them.
-use Rattle.std.proofs.Common.{◌≡◌, ◌≢◌, ◌∙◌, ℕ, ℤ, Bool, true, false, not, ◌&&◌, cond, List, [], ◌∷◌, ◌++◌, length, map, Option, Some, None, is_some, inl, inr, refl, sym, ap, ap₂, subst, arith}
-use Rattle.std.specs.Prelude.{◌↔◌, unwrap_or}
+use Rattle.std.proofs.Common.{◌≡◌, ◌≢◌, ◌∙◌, ℕ, ℤ, true, false, not, ◌&&◌, List, [], ◌∷◌, ◌++◌, length, map, codes, Option, Some, None, is_some, inl, inr, refl, sym, ap, ap₂, subst, arith, Bool}
+use Rattle.std.specs.Prelude.{◌↔◌}
 use Rattle.std.specs.Ordering.{is_eq}
 use Rattle.std.specs.List.{filter, flat_map, list_all, list_any, Contains, All, AllZip}
 use Rattle.std.proofs.lemmas.Bool.{and_parts, and_from, true≢false, cases_Bool, both_ways}
-use Rattle.std.proofs.lemmas.List.Elements.{All-nil, All-cons}
+use Rattle.std.proofs.lemmas.List.Elements.{All-nil, All-cons, All-tail}
 use Rattle.profile.specs.text.Lines.{is_content, logical_lines, reads_as_lines, written}
 use Rattle.profile.specs.text.Objects.{is_property, IsObject}
-use Rattle.profile.specs.text.Trees.{Tree, tree_name, tree_own, tree_inside}
-use Rattle.profile.specs.events.Events.{Event, SaysEvent, booked_by, meeting_said}
+use Rattle.profile.specs.text.Trees.{tree_name, tree_own, tree_inside}
+use Rattle.profile.specs.events.Events.{Event, SaysEvent, meeting_said}
 use Rattle.profile.specs.events.Meetings.{is_master}
-use Rattle.profile.specs.events.Confirmed.{Confirmed, AreConfirmed, IsReplaced, is_kept}
+use Rattle.profile.specs.events.Starts.{IsInstance}
+use Rattle.profile.specs.events.Confirmed.{Confirmed, AreConfirmed, AreSingles, IsReplaced, alone, is_kept}
 use Rattle.profile.specs.checker.Calendars.{SaysCalendar, SpellsCalendar, CertificateHolds}
-use Rattle.profile.specs.checker.Instances.{Booked}
-use Rattle.profile.specs.rooms.Messages.{object_lines, slot_of, slot_named}
+use Rattle.profile.specs.checker.Instances.{Booked, Key}
+use Rattle.profile.specs.rooms.Messages.{opening_lines, slot_of, slot_named}
 use Rattle.profile.specs.rooms.Revisions.{Part, Slot, Whole, At, in_view, is_whole, same_meeting, same_part, same_place, slot_cmp}
 use Rattle.profile.specs.rooms.Rooms.{Claim, Answer, Book, Delivery, Runs, empty_book, confirmed, is_confirmed, is_hidden, is_set}
-use Rattle.profile.specs.rooms.Kept.{Entry, Shown, Hidden, part_kept, IsKept, IsEntry, AreKept, IsKeptEvent, IsKeptCalendar, kept_certificate}
+use Rattle.profile.specs.rooms.Kept.{Entry, Shown, Hidden, part_kept, IsKept, IsEntry, AreKept, IsKeptEvent, IsKeptCalendar, kept_certificate, zone_texts, zones_kept}
 use Rattle.profile.specs.streams.Streams.{IsDelivered}
-use Rattle.cal_events.proofs.PlainSingles.{IsPlain, IsLeft, itself, not_kept, replaced, plain_confirmed}
+use Rattle.cal_events.proofs.OwnSingles.{master_alone}
+use Rattle.cal_events.proofs.PlainSingles.{IsOnce, once_confirmed}
 use Rattle.itip_order.proofs.Lasting.{view_taken}
 use Rattle.itip_order.proofs.Lists.{in_head, in_tail, any_at, any_from}
 use Rattle.itip_order.proofs.Registers.{same_part_is, same_part_refl}
-use Rattle.itip_messages.proofs.ObjectTree.{Lines, vevent_lines, calendar_tree, calendar_vevents, object_spelled}
-use Rattle.itip_messages.proofs.ContentLines.{LinesBack, ReadsLines, no_method, object_content}
+use Rattle.itip_messages.proofs.ContentLines.{ReadsLines}
 use Rattle.room_books.specs.Standing.{Pairwise}
 use Rattle.room_books.proofs.AcceptedSlots.{slot_same}
-use Rattle.room_books.proofs.KeptAnswers.{IsAskedFor, shows_back, hides_back, set_body, asked_room, IsRoom}
+use Rattle.room_books.proofs.KeptAnswers.{IsAskedFor, shows_back, hides_back, set_body, set_zone, asked_room, IsRoom}
 use Rattle.room_books.proofs.KeptEntries.{SamePlace, EntriesDiffer, place_there, place_from, meeting_from, own_of, same_left, entries_differ, entry_placed, answer_kept}
+use Rattle.room_books.proofs.KeptInstances.{AreAllOf, none_left, singles_left}
 use Rattle.room_books.proofs.KeptMeetings.{meeting_trans}
 use Rattle.room_books.proofs.KeptRuns.{KeepsAll, runs_keep}
+use Rattle.room_books.proofs.KeptZones.{Lines, LinesBack, ZoneBack, IsKeptTree, kept_spelled, vevent_lines}
 use Rattle.room_books.proofs.Loops.{zip_from, zip_to}
 use Rattle.room_books.proofs.Pairs.{pairs_from}
 use Rattle.room_books.proofs.Same.{AreSame, clear_same}
+use Rattle.room_books.proofs.ZonesIn.{HasZone, HaveZones, has_zone, zones_kept_are}
 
 abbrev without_series : List Booked → Confirmed
 without_series all = record { series = []; singles = all }
@@ -41,7 +45,7 @@ without_series all = record { series = []; singles = all }
 
 -- the state of what is kept of an entry
 abbrev IsState : List ℕ → Event → Entry → Type 0
-IsState room said (Shown claim) = (is_kept room said ≡ true) × (claim.singles ≡ booked_by said ∷ [])
+IsState room said (Shown claim) = (is_kept room said ≡ true) × AreAllOf said claim.singles
 IsState room said (Hidden part) = is_kept room said ≡ false
 
 -- the event says the entry
@@ -51,24 +55,24 @@ record SaysEntry (room : List ℕ) (said : Event) (entry : Entry) : Type 0 where
   state : IsState room said entry
 
 -- all VEVENTs read back
-record AllBack (room : List ℕ) (entries : List Entry) (each : List Lines) : Type 0 where
+record AllBack (room : List ℕ) (zones : List (List ℕ)) (entries : List Entry) (each : List Lines) : Type 0 where
   owns : List Lines
   saids : List Event
   are : flat_map (λ lines. lines) each ≡ flat_map vevent_lines owns
   properties : list_all (list_all is_property) owns ≡ true
   content : list_all (list_all is_content) owns ≡ true
-  says : (object : Tree) → AllZip (SaysEvent object false) owns saids
-  plain : All IsPlain saids
+  says : (all : List Lines) (k : IsKeptTree zones all) → AllZip (SaysEvent k.kept None) owns saids
+  once : All IsOnce saids
   entries_are : AllZip (SaysEntry room) saids entries
 
-record OneBack (room : List ℕ) (entry : Entry) (lines : Lines) : Type 0 where
+record OneBack (room : List ℕ) (zones : List (List ℕ)) (entry : Entry) (lines : Lines) : Type 0 where
   own : Lines
   said : Event
   are : lines ≡ vevent_lines own
   properties : list_all is_property own ≡ true
   content : list_all is_content own ≡ true
-  says : (object : Tree) → SaysEvent object false own said
-  plain : IsPlain said
+  says : (all : List Lines) (k : IsKeptTree zones all) → SaysEvent k.kept None own said
+  once : IsOnce said
   entry_is : SaysEntry room said entry
 
 module _ (room : List ℕ) (book : Book) (k : KeepsAll room book) where
@@ -82,53 +86,61 @@ module _ (room : List ℕ) (book : Book) (k : KeepsAll room book) where
   room_asked : (first : Part) (claim : Claim) → IsKept book first claim → IsRoom room
   room_asked first claim is =
       let f = claim_asked first claim is in
-      asked_room room claim.content claim.part f.asked (set_body room f.asked.given.method f.asked.event claim.content claim.part.body f.asked.is_part.body (claim_set first claim is)).1
+      asked_room room claim.content claim.part f.asked (set_body room f.asked.given.method f.asked.event claim.content claim.part.body f.asked.is_part.body (claim_set first claim is)).names
 
-  one_back : (first : Part) (entry : Entry) (lines : Lines) → IsEntry book first entry → IsKeptEvent room entry lines → OneBack room entry lines
-  one_back first (Shown claim) lines is event =
-      let b = shows_back room claim lines (claim_asked first claim is) (claim_set first claim is) event in
-      record {
-        own = b.back.own;
-        said = b.back.said;
-        are = b.back.are;
-        properties = b.back.properties;
-        content = b.back.content;
-        says = b.back.says;
-        plain = b.back.plain;
-        entry_is = record { meeting = b.back.meeting; slot = b.back.slot_is; state = (b.kept, b.books) };
-      }
-  one_back first (Hidden part) lines is (hiding, h, event) =
-      let a = k.taken part (view_taken book.taken part is.stands) in
-      let b = hides_back room a.0 part lines hiding a.1 (room_asked first is.whole is.kept) h event in
-      record {
-        own = b.back.own;
-        said = b.back.said;
-        are = b.back.are;
-        properties = b.back.properties;
-        content = b.back.content;
-        says = b.back.says;
-        plain = b.back.plain;
-        entry_is = record { meeting = b.back.meeting; slot = b.back.slot_is; state = b.kept };
-      }
+  -- its zone is one that some VTIMEZONE says
+  zone_asked : (first : Part) (claim : Claim) → IsKept book first claim → HasZone claim.content.zone
+  zone_asked first claim is =
+      let a = (claim_asked first claim is).asked in
+      let set = set_body room a.given.method a.event claim.content claim.part.body a.is_part.body (claim_set first claim is) in
+      has_zone claim.content a.event set.when (set_zone room claim.content claim.part a)
 
-  all_back : (entries : List Entry) (each : List Lines) → ((e : Entry) → Contains entries e → (first : Part) × IsEntry book first e) → AllZip (IsKeptEvent room) entries each → AllBack room entries each
-  all_back [] [] f z = record { owns = []; saids = []; are = refl; properties = refl; content = refl; says = λ _. tt; plain = All-nil IsPlain; entries_are = tt }
-  all_back [] (lines ∷ each) f z = absurd z
-  all_back (e ∷ entries) [] f z = absurd z
-  all_back (e ∷ entries) (lines ∷ each) f z =
-      let is = f e (in_head e entries) in
-      let one = one_back is.0 e lines is.1 z.0 in
-      let rest = all_back entries each (λ x c. f x (in_tail e entries x c)) z.1 in
-      record {
-        owns = one.own ∷ rest.owns;
-        saids = one.said ∷ rest.saids;
-        are = ap₂ (λ x y. x ++ y) one.are rest.are;
-        properties = and_from _ _ one.properties rest.properties;
-        content = and_from _ _ one.content rest.content;
-        says = λ object. (one.says object, rest.says object);
-        plain = All-cons IsPlain one.said rest.saids one.plain rest.plain;
-        entries_are = (one.entry_is, rest.entries_are);
-      }
+  module _ (zones : List (List ℕ)) where
+    one_back : (first : Part) (entry : Entry) (lines : Lines) → IsEntry book first entry → IsKeptEvent room zones entry lines → OneBack room zones entry lines
+    one_back first (Shown claim) lines is event =
+        let b = shows_back room zones claim lines (claim_asked first claim is) (claim_set first claim is) event in
+        record {
+          own = b.back.own;
+          said = b.back.said;
+          are = b.back.are;
+          properties = b.back.properties;
+          content = b.back.content;
+          says = b.back.says;
+          once = b.back.once;
+          entry_is = record { meeting = b.back.meeting; slot = b.back.slot_is; state = (b.kept, b.books) };
+        }
+    one_back first (Hidden part) lines is (hiding, h, event) =
+        let a = k.taken part (view_taken book.taken part is.stands) in
+        let b = hides_back room zones a.0 part lines hiding a.1 (room_asked first is.whole is.kept) h event in
+        record {
+          own = b.back.own;
+          said = b.back.said;
+          are = b.back.are;
+          properties = b.back.properties;
+          content = b.back.content;
+          says = b.back.says;
+          once = b.back.once;
+          entry_is = record { meeting = b.back.meeting; slot = b.back.slot_is; state = b.kept };
+        }
+
+    all_back : (entries : List Entry) (each : List Lines) → ((e : Entry) → Contains entries e → (first : Part) × IsEntry book first e) → AllZip (IsKeptEvent room zones) entries each → AllBack room zones entries each
+    all_back [] [] f z = record { owns = []; saids = []; are = refl; properties = refl; content = refl; says = λ _ _. tt; once = All-nil IsOnce; entries_are = tt }
+    all_back [] (lines ∷ each) f z = absurd z
+    all_back (e ∷ entries) [] f z = absurd z
+    all_back (e ∷ entries) (lines ∷ each) f z =
+        let is = f e (in_head e entries) in
+        let one = one_back is.0 e lines is.1 z.0 in
+        let rest = all_back entries each (λ x c. f x (in_tail e entries x c)) z.1 in
+        record {
+          owns = one.own ∷ rest.owns;
+          saids = one.said ∷ rest.saids;
+          are = ap₂ (λ x y. x ++ y) one.are rest.are;
+          properties = and_from _ _ one.properties rest.properties;
+          content = and_from _ _ one.content rest.content;
+          says = λ all t. (one.says all t, rest.says all t);
+          once = All-cons IsOnce one.said rest.saids one.once rest.once;
+          entries_are = (one.entry_is, rest.entries_are);
+        }
 
 -- ---- each is another instance
 
@@ -208,63 +220,63 @@ module _ (room : List ℕ) (book : Book) (k : KeepsAll room book) (entries : Lis
       and_from _ _ whole (any_from (λ other. in_view book.taken other && same_place other (record claim.part { slot = At booked.key.slot })) book.taken (part_kept entry) (view_taken book.taken (part_kept entry) seen)
       (and_from _ _ seen (place_from (part_kept entry) (record claim.part { slot = At booked.key.slot }) place)))
 
-  left_shown : (claim : Claim) → Contains entries (Shown claim) → (said : Event) → SaysEntry room said (Shown claim) → IsLeft room saids said (own_of book.taken (Shown claim))
-  left_shown claim c said s =
-      let booked = booked_by said in
-      subst (λ (l : List Booked). IsLeft room saids said (filter (λ b. not (is_hidden book.taken claim.part b)) l)) (sym s.state.1) (by_hidden (is_hidden book.taken claim.part booked) refl)
+  left_shown : (claim : Claim) → Contains entries (Shown claim) → (said : Event) → IsOnce said → SaysEntry room said (Shown claim) → AreSingles room saids said (own_of book.taken (Shown claim))
+  left_shown claim c said once s =
+      singles_left room saids said (is_hidden book.taken claim.part) claim.singles s.state.0 once s.state.1 (record {
+        stands = λ b own h. stood_for b own h;
+        hides = stands_for;
+        master = λ b h. ap (λ (o : Option ℤ). not (is_some o)) (whole_said b h);
+      })
     where
-      -- what stands for the instance of a whole
-      stands_for : is_master said ≡ true → IsReplaced saids said said.times.start → is_hidden book.taken claim.part (booked_by said) ≡ true
-      stands_for master r =
+      -- an instance of a master is at its slot
+      at_slot : (b : Booked) → IsInstance (alone said) b → said.recurrence ≡ None → b.key.slot ≡ b.start
+      at_slot b own none = ap (λ (k : Key). k.slot) (master_alone said b none own).key
+
+      -- what stands for an instance of the whole
+      stands_for : (b : Booked) → IsInstance (alone said) b → is_master said ≡ true → IsReplaced saids said b.start → is_hidden book.taken claim.part b ≡ true
+      stands_for b own master r =
           let found = zip_to (SaysEntry room) saids entries r.override z r.among in
           let none = master_whole said master in
           let whole : claim.part.slot ≡ Whole = sym s.slot ∙ ap slot_named none in
           let meeting = sym found.2.meeting ∙ r.of ∙ s.meeting in
-          let start : (booked_by said).key.slot ≡ said.times.start = ap (λ (o : Option ℤ). unwrap_or o said.times.start) none in
-          hidden_by claim (booked_by said) found.0 found.1 (ap (λ (o : Slot). is_eq (slot_cmp o Whole)) whole)
+          hidden_by claim b found.0 found.1 (ap (λ (o : Slot). is_eq (slot_cmp o Whole)) whole)
           (record {
             organiser = ap (λ (m : List ℕ × List ℕ). m.0) meeting;
             uid = ap (λ (m : List ℕ × List ℕ). m.1) meeting;
-            slot = sym found.2.slot ∙ ap slot_named r.is ∙ ap At (sym start);
+            slot = sym found.2.slot ∙ ap slot_named r.is ∙ ap At (sym (at_slot b own none));
           })
 
-      -- and where its instance is hidden, something does
-      stood_for : is_hidden book.taken claim.part (booked_by said) ≡ true → (is_master said ≡ true) × IsReplaced saids said said.times.start
-      stood_for h =
+      -- where an instance is hidden, the event is of the whole
+      whole_said : (b : Booked) → is_hidden book.taken claim.part b ≡ true → said.recurrence ≡ None
+      whole_said b h = whole_there said.recurrence (s.slot ∙ slot_same claim.part.slot Whole (and_parts _ _ h).0)
+
+      -- and something stands for it
+      stood_for : (b : Booked) → IsInstance (alone said) b → is_hidden book.taken claim.part b ≡ true → IsReplaced saids said b.start
+      stood_for b own h =
           let both = and_parts _ _ h in
-          let found = any_at (λ other. in_view book.taken other && same_place other (record claim.part { slot = At (booked_by said).key.slot })) book.taken both.1 in
+          let found = any_at (λ other. in_view book.taken other && same_place other (record claim.part { slot = At b.key.slot })) book.taken both.1 in
           let seen = and_parts _ _ found.2 in
-          let place = place_there found.0 (record claim.part { slot = At (booked_by said).key.slot }) seen.1 in
-          let none : said.recurrence ≡ None = whole_there said.recurrence (s.slot ∙ slot_same claim.part.slot Whole both.0) in
+          let place = place_there found.0 (record claim.part { slot = At b.key.slot }) seen.1 in
+          let none = whole_said b h in
           let instance : is_whole found.0 ≡ false = ap (λ (o : Slot). is_eq (slot_cmp o Whole)) place.slot in
           let entry = other_entry claim c both.0 found.0 seen.0 (meeting_from claim.part found.0 (sym place.organiser) (sym place.uid)) instance in
           let other = zip_from (SaysEntry room) saids entries entry.0 z entry.1 in
-          let start : (booked_by said).key.slot ≡ said.times.start = ap (λ (o : Option ℤ). unwrap_or o said.times.start) none in (
-            ap (λ (o : Option ℤ). not (is_some o)) none,
-            record {
-              override = other.0;
-              among = other.1;
-              of = other.2.meeting ∙ (λ i. ((entry.2 i).organiser, (entry.2 i).uid)) ∙ (λ i. (place.organiser i, place.uid i)) ∙ sym s.meeting;
-              is = instant_there other.0.recurrence said.times.start (other.2.slot ∙ ap (λ (q : Part). q.slot) entry.2 ∙ place.slot ∙ ap At start);
-            },
-          )
+          record {
+            override = other.0;
+            among = other.1;
+            of = other.2.meeting ∙ (λ i. ((entry.2 i).organiser, (entry.2 i).uid)) ∙ (λ i. (place.organiser i, place.uid i)) ∙ sym s.meeting;
+            is = instant_there other.0.recurrence b.start (other.2.slot ∙ ap (λ (q : Part). q.slot) entry.2 ∙ place.slot ∙ ap At (at_slot b own none));
+          }
 
-      by_hidden : (b : Bool) → is_hidden book.taken claim.part (booked_by said) ≡ b → IsLeft room saids said (filter (λ b. not (is_hidden book.taken claim.part b)) (booked_by said ∷ []))
-      by_hidden true h =
-          let r = stood_for h in
-          subst (IsLeft room saids said) (sym (ap (λ b. cond (not b) (booked_by said ∷ []) []) h)) (replaced r.0 r.1)
-      by_hidden false h =
-          subst (IsLeft room saids said) (sym (ap (λ b. cond (not b) (booked_by said ∷ []) []) h)) (itself s.state.0 (λ master r. both_ways _ h (stands_for master r)))
+  left_one : (entry : Entry) → Contains entries entry → (said : Event) → IsOnce said → SaysEntry room said entry → AreSingles room saids said (own_of book.taken entry)
+  left_one (Shown claim) c said once s = left_shown claim c said once s
+  left_one (Hidden part) c said once s = none_left room saids said s.state
 
-  left_one : (entry : Entry) → Contains entries entry → (said : Event) → SaysEntry room said entry → IsLeft room saids said (own_of book.taken entry)
-  left_one (Shown claim) c said s = left_shown claim c said s
-  left_one (Hidden part) c said s = not_kept s.state
-
-  left_all : (ss : List Event) (es : List Entry) → AllZip (SaysEntry room) ss es → ((e : Entry) → Contains es e → Contains entries e) → AllZip (IsLeft room saids) ss (map (own_of book.taken) es)
-  left_all [] [] y f = tt
-  left_all [] (e ∷ es) y f = absurd y
-  left_all (s ∷ ss) [] y f = absurd y
-  left_all (s ∷ ss) (e ∷ es) y f = (left_one e (f e (in_head e es)) s y.0, left_all ss es y.1 (λ x c. f x (in_tail e es x c)))
+  left_all : (ss : List Event) (es : List Entry) → AllZip (SaysEntry room) ss es → All IsOnce ss → ((e : Entry) → Contains es e → Contains entries e) → AllZip (AreSingles room saids) ss (map (own_of book.taken) es)
+  left_all [] [] y h f = tt
+  left_all [] (e ∷ es) y h f = absurd y
+  left_all (s ∷ ss) [] y h f = absurd y
+  left_all (s ∷ ss) (e ∷ es) y h f = (left_one e (f e (in_head e es)) s (h 0 s (omega arith)) y.0, left_all ss es y.1 (All-tail IsOnce s ss h) (λ x c. f x (in_tail e es x c)))
 
 -- ---- the calendar
 
@@ -275,30 +287,31 @@ flat_of_map taken (e ∷ es) = ap (λ l. own_of taken e ++ l) (flat_of_map taken
 all_left : Book → List Entry → List Booked
 all_left book entries = flat_map (own_of book.taken) entries
 
-calendar_spelled : LinesBack → ReadsLines → (room : List ℕ) (book : Book) → KeepsAll room book → (octets : List ℕ) (c : IsKeptCalendar room book octets) → SpellsCalendar room octets (without_series (all_left book c.entries))
-unfolding all_left
-calendar_spelled back reads room book keeps octets c =
-    let b = all_back room book keeps c.entries c.events (λ e h. let p = entry_placed book c.entries c.kept e h in (p.first, p.is)) c.each in
-    let lines = object_lines None (flat_map vevent_lines b.owns) in
-    let content = object_content None b.owns no_method b.content in
-    let whole : octets ≡ written lines = c.is ∙ ap (λ l. written (object_lines None l)) b.are in
-    let logical : logical_lines octets ≡ lines = ap logical_lines whole ∙ back lines content in
-    let owns = calendar_vevents None b.owns in
-    let differ = pairs_from (λ a b. meeting_said a ≡ meeting_said b → slot_of a ≢ slot_of b) b.saids (saids_differ room b.saids c.entries b.entries_are (entries_differ book c.entries c.kept)) in
-    let left = left_all room book keeps c.entries c.kept b.saids b.entries_are b.saids c.entries b.entries_are (λ e h. h) in
-    let says : SaysCalendar room (calendar_tree None b.owns) (without_series (all_left book c.entries)) = record {
-      events = b.saids;
-      says = subst (λ (l : List Lines). AllZip (SaysEvent (calendar_tree None b.owns) false) l b.saids) (sym owns) (b.says (calendar_tree None b.owns));
-      masters = λ i j d l w m n same. differ i j d l w same (ap slot_named m ∙ sym (ap slot_named n));
-      overrides = λ i j d l w slot m n same. differ i j d l w same (ap slot_named m ∙ sym (ap slot_named n));
-      are = subst (λ (all : List Booked). AreConfirmed room b.saids (without_series all)) (flat_of_map book.taken c.entries) (plain_confirmed room b.saids (map (own_of book.taken) c.entries) b.plain left);
-    } in
-    record {
-      lines = ap (reads_as_lines false) whole ∙ reads lines content;
-      tree = calendar_tree None b.owns;
-      object = subst (λ (l : Lines). IsObject tree_name tree_own tree_inside false (calendar_tree None b.owns) l) (sym logical) (object_spelled None b.owns b.properties);
-      says = says;
-    }
+module _ (back : LinesBack) (reads : ReadsLines) (zone_back : ZoneBack) where
+  calendar_spelled : (room : List ℕ) (book : Book) → KeepsAll room book → (octets : List ℕ) (c : IsKeptCalendar room book octets) → SpellsCalendar room octets (without_series (all_left book c.entries))
+  unfolding all_left
+  calendar_spelled room book keeps octets c =
+      let zones = zones_kept c.entries in
+      let b = all_back room book keeps zones c.entries c.events (λ e h. let p = entry_placed book c.entries c.kept e h in (p.first, p.is)) c.each in
+      let have : HaveZones c.entries = λ claim h. let p = entry_placed book c.entries c.kept (Shown claim) h in zone_asked room book keeps p.first claim p.is in
+      let t = kept_spelled back zone_back zones b.owns (zones_kept_are c.entries have) c.few b.properties b.content in
+      let whole : octets ≡ written t.lines = c.is ∙ ap (λ l. written (opening_lines None) ++ zone_texts 0 zones ++ written (l ++ codes "END:VCALENDAR" ∷ [])) b.are ∙ t.text in
+      let logical : logical_lines octets ≡ t.lines = ap logical_lines whole ∙ back t.lines t.content in
+      let differ = pairs_from (λ a b. meeting_said a ≡ meeting_said b → slot_of a ≢ slot_of b) b.saids (saids_differ room b.saids c.entries b.entries_are (entries_differ book c.entries c.kept)) in
+      let left = left_all room book keeps c.entries c.kept b.saids b.entries_are b.saids c.entries b.entries_are b.once (λ e h. h) in
+      let says : SaysCalendar room t.kept (without_series (all_left book c.entries)) = record {
+        events = b.saids;
+        says = subst (λ (l : List Lines). AllZip (SaysEvent t.kept None) l b.saids) (sym t.events) (b.says b.owns t);
+        masters = λ i j d l w m n same. differ i j d l w same (ap slot_named m ∙ sym (ap slot_named n));
+        overrides = λ i j d l w slot m n same. differ i j d l w same (ap slot_named m ∙ sym (ap slot_named n));
+        are = subst (λ (all : List Booked). AreConfirmed room b.saids (without_series all)) (flat_of_map book.taken c.entries) (once_confirmed room b.saids (map (own_of book.taken) c.entries) b.once left);
+      } in
+      record {
+        lines = ap (reads_as_lines false) whole ∙ reads t.lines t.content;
+        tree = t.kept;
+        object = subst (λ (l : Lines). IsObject tree_name tree_own tree_inside false t.kept l) (sym logical) t.object;
+        says = says;
+      }
 
 -- what is left is what is confirmed
 all_confirmed : (room : List ℕ) (book : Book) → KeepsAll room book → (entries : List Entry) → AreKept book entries → AreSame (all_left book entries) (confirmed book)
@@ -310,13 +323,13 @@ all_confirmed room book keeps entries are =
     (entries_differ book entries are) keeps.once
 
 -- what is kept passes
-pub keeps_pass : LinesBack → ReadsLines → (room : List ℕ) (book : Book) → KeepsAll room book → (calendar : List ℕ) → IsKeptCalendar room book calendar → CertificateHolds room calendar (kept_certificate book)
-keeps_pass back reads room book keeps calendar c =
+pub keeps_pass : LinesBack → ReadsLines → ZoneBack → (room : List ℕ) (book : Book) → KeepsAll room book → (calendar : List ℕ) → IsKeptCalendar room book calendar → CertificateHolds room calendar (kept_certificate book)
+keeps_pass back reads zone_back room book keeps calendar c =
     let same = all_confirmed room book keeps c.entries c.kept in
     let few = keeps.sound.good.few in
     record {
       confirmed = without_series (all_left book c.entries);
-      spells = calendar_spelled back reads room book keeps calendar c;
+      spells = calendar_spelled back reads zone_back room book keeps calendar c;
       stands = record {
         c = record { singles = length (confirmed book) };
         spells = record { claims = omega (arith, few); is = refl };
@@ -329,16 +342,16 @@ keeps_pass back reads room book keeps calendar c =
 abbrev pub SpellsConfirmed : List ℕ → Book → List ℕ → Type 0
 SpellsConfirmed room book calendar = (all : List Booked) × SpellsCalendar room calendar (record { series = []; singles = all }) × (length all ≡ length (confirmed book)) × ((b : Booked) → Contains all b ↔ Contains (confirmed book) b)
 
-keeps_same : LinesBack → ReadsLines → (room : List ℕ) (book : Book) → KeepsAll room book → (calendar : List ℕ) → IsKeptCalendar room book calendar → SpellsConfirmed room book calendar
-keeps_same back reads room book keeps calendar c =
+keeps_same : LinesBack → ReadsLines → ZoneBack → (room : List ℕ) (book : Book) → KeepsAll room book → (calendar : List ℕ) → IsKeptCalendar room book calendar → SpellsConfirmed room book calendar
+keeps_same back reads zone_back room book keeps calendar c =
     let same = all_confirmed room book keeps c.entries c.kept in
-    (all_left book c.entries, calendar_spelled back reads room book keeps calendar c, same.long, λ b. (same.to b, same.from b))
+    (all_left book c.entries, calendar_spelled back reads zone_back room book keeps calendar c, same.long, λ b. (same.to b, same.from b))
 
-pub kept_same : LinesBack → ReadsLines → (room : List ℕ) (deliveries : List Delivery) → ((d : Delivery) → Contains deliveries d → IsDelivered room d)
+pub kept_same : LinesBack → ReadsLines → ZoneBack → (room : List ℕ) (deliveries : List Delivery) → ((d : Delivery) → Contains deliveries d → IsDelivered room d)
     → (book : Book) → Runs empty_book deliveries book → (calendar : List ℕ) → IsKeptCalendar room book calendar → SpellsConfirmed room book calendar
-kept_same back reads room deliveries f book runs = keeps_same back reads room book (runs_keep room deliveries book f runs)
+kept_same back reads zone_back room deliveries f book runs = keeps_same back reads zone_back room book (runs_keep room deliveries book f runs)
 
 -- whatever messages come, what is kept after them passes
-pub kept_passes : LinesBack → ReadsLines → (room : List ℕ) (deliveries : List Delivery) → ((d : Delivery) → Contains deliveries d → IsDelivered room d)
+pub kept_passes : LinesBack → ReadsLines → ZoneBack → (room : List ℕ) (deliveries : List Delivery) → ((d : Delivery) → Contains deliveries d → IsDelivered room d)
     → (book : Book) → Runs empty_book deliveries book → (calendar : List ℕ) → IsKeptCalendar room book calendar → CertificateHolds room calendar (kept_certificate book)
-kept_passes back reads room deliveries f book runs = keeps_pass back reads room book (runs_keep room deliveries book f runs)
+kept_passes back reads zone_back room deliveries f book runs = keeps_pass back reads zone_back room book (runs_keep room deliveries book f runs)

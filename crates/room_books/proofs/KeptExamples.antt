@@ -1,5 +1,5 @@
 -- A worked run: the octets of one REQUEST are delivered, the room accepts it, and keeps it.
-use Rattle.std.proofs.Common.{false, ◌≡◌, ◌≢◌, ℕ, pos, true, List, [], ◌∷◌, ◌++◌, codes, Some, None, inl, inr, refl, sym, ap, subst, arith, ◌∙◌}
+use Rattle.std.proofs.Common.{false, ◌≡◌, ◌≢◌, ℕ, ◌⊎◌, pos, ◌+ℤ◌, ◌≤ℤ◌, ◌<ℤ◌, true, List, [], ◌∷◌, ◌++◌, codes, Some, None, inl, inr, refl, sym, ap, subst, arith, ◌∙◌}
 use Rattle.std.specs.List.{Contains}
 use Rattle.std.specs.Str.{is_utf8, chars}
 use Rattle.std.specs.declared.cmp.Ordering.TheVariants.{Less}
@@ -12,10 +12,12 @@ use lib.Utf8.{encode}
 use Rattle.profile.specs.text.Trees.{Tree, tree, none, more, tree_name, tree_own, tree_inside}
 use Rattle.profile.specs.text.Objects.{IsObject}
 use Rattle.profile.specs.checker.Instances.{Booked, IsClear}
-use Rattle.profile.specs.events.Events.{Event, NeedsAction, SaysEvent, booked_by, meeting_said}
-use Rattle.profile.specs.events.Meetings.{Request}
+use Rattle.profile.specs.events.Events.{Event, NeedsAction, Request, SaysEvent, meeting_said}
+use Rattle.profile.specs.events.Properties.{first_second}
+use Rattle.profile.specs.events.Starts.{AreInstancesFrom, ComesBefore, EndsAt, IsInstance, key_at}
+use Rattle.profile.specs.events.Confirmed.{alone}
 use Rattle.profile.specs.rooms.Messages as messages
-use Rattle.profile.specs.rooms.Messages.{SpellsMessage, IsPart, Accept, canonical, object_lines}
+use Rattle.profile.specs.rooms.Messages.{Content, SpellsMessage, IsContent, IsPart, WritesTimes, Accept, opening_lines}
 use Rattle.profile.specs.rooms.Revisions.{Part, Whole, Set, is_whole, slot_cmp}
 use Rattle.profile.specs.rooms.Rooms.{Answer, Book, Claim, Delivery, Runs, empty_book, confirmed, answered}
 use Rattle.profile.specs.streams.Streams.{IsDelivered}
@@ -27,6 +29,10 @@ use Rattle.itip_order.proofs.Lists.{in_cons, in_head, none_in_nil}
 use Rattle.ical_values.proofs.Readings.{stamp_written}
 use Rattle.itip_messages.proofs.ReplyExamples.{stamp, start}
 use Rattle.profile.specs.text.Objects.SpellsBody.{nothing, property}
+use Rattle.cal_events.proofs.OneInstance.{booked_same}
+use Rattle.cal_events.proofs.OwnSingles.{IsAtStart, alone_master, master_alone}
+use Rattle.std.proofs.lemmas.List.Elements.{All-cons, All-nil}
+use Rattle.itip_messages.specs.Bodies.{crlf_lines}
 use Rattle.itip_messages.proofs.ObjectTree.{Lines, vevent_lines, parts_more}
 
 -- ---- the message
@@ -45,7 +51,7 @@ abbrev lines : Lines
 lines = codes "BEGIN:VCALENDAR" ∷ (head_lines ++ (vevent_lines own_lines ++ codes "END:VCALENDAR" ∷ []))
 
 abbrev octets : List ℕ
-octets = canonical lines
+octets = crlf_lines lines
 
 abbrev event : Event
 event = record {
@@ -95,7 +101,7 @@ ann = (codes "mailto", codes "ann@example.com", refl, refl, refl, omega arith)
 the_room : IsAddress room
 the_room = (codes "mailto", codes "r1@example.com", refl, refl, refl, omega arith)
 
-says : (object : Tree) → SaysEvent object true own_lines event
+says : (object : Tree) → SaysEvent object (Some Request) own_lines event
 unfolding unescaped
 says object = record {
   uid = record { line = Some (codes "UID:a"); once = refl; stands = λ _. refl; is = (refl, (omega arith, omega arith)) };
@@ -103,7 +109,7 @@ says object = record {
   stamp = record { line = Some (codes "DTSTAMP:20250301T120000Z"); once = refl; stands = λ _. refl; is = stamp_written _ _ stamp };
   sequence = (None, record { line = None; once = refl; stands = λ h. absurd (false≢true h); is = tt }, refl);
   status = (None, refl, refl);
-  times = record {
+  times = inl (record {
     line = codes "DTSTART:20250310T090000Z";
     once = refl;
     says = (refl, stamp_written _ _ start);
@@ -115,7 +121,7 @@ says object = record {
     lasts = an_hour;
     most = omega arith;
     in_dates = (omega (arith, ints), omega (arith, ints), omega (arith, ints));
-  };
+  });
   rule = record { line = None; once = refl; stands = λ h. absurd (false≢true h); is = tt };
   occurrences = record {
     is = record { line = None; once = refl; stands = λ h. absurd (false≢true h); is = tt };
@@ -182,8 +188,8 @@ spells = record {
 
 -- ---- the run: the message comes, and comes again
 
-abbrev content : Lines
-content = codes "DTSTART:20250310T090000Z" ∷ codes "DURATION:PT3600S" ∷ []
+abbrev content : Content
+content = record { lines = codes "DTSTART:20250310T090000Z" ∷ codes "DURATION:PT3600S" ∷ []; zone = None }
 
 abbrev part : Part
 part = record {
@@ -194,12 +200,70 @@ part = record {
   body = Set (codes "DTSTART:20250310T090000Z\r\nDURATION:PT3600S\r\n");
 }
 
-is_part : IsPart room message event content part
+none_listed : (name : List ℕ) → WritesTimes name [] []
+none_listed name = record {
+  ascending = [];
+  are = record { exact = λ t. (λ c. c, λ c. c); order = pairs_from ◌<ℤ◌ [] tt };
+  texts = [];
+  each = tt;
+  is = refl;
+}
+
+is_content : IsContent content event
 unfolding digits
-is_part = record { organiser = refl; uid = refl; slot = refl; revision = refl; body = (refl, refl, record { start = codes "20250310T090000Z"; written = start; is = refl }, refl) }
+is_content = record {
+  start = codes "DTSTART:20250310T090000Z";
+  starts = (codes "20250310T090000Z", start, refl);
+  additions = [];
+  adds = none_listed (codes "RDATE");
+  exceptions = [];
+  takes = none_listed (codes "EXDATE");
+  are = refl;
+  in_zone = tt;
+}
+
+is_part : IsPart room message event content part
+is_part = record { organiser = refl; uid = refl; slot = refl; revision = refl; body = (refl, refl, is_content, refl) }
+
+-- its one instance
+
+abbrev booked : Booked
+booked = record { key = record { organiser = codes "mailto:ann@example.com"; uid = codes "a"; slot = pos 1_741_597_200 }; start = pos 1_741_597_200; end = pos 1_741_600_800 }
+
+its_own : IsAtStart event booked
+its_own = record {
+  starts = record {
+    given = inl refl;
+    in_dates = (omega (arith, ints), omega (arith, ints));
+    not_excepted = none_in_nil (pos 1_741_597_200);
+    not_overridden = none_in_nil (Some (pos 1_741_597_200));
+  };
+  key = refl;
+  ends = (pos 1_741_597_200, inl (refl, refl), refl);
+}
+
+no_other : (b : Booked) → IsAtStart event b → b ≡ booked
+no_other b s =
+    let start = at_start s.starts.given in
+    booked_same b booked (s.key ∙ ap (key_at event) start) start (at_end s.ends start)
+  where
+    at_start : (b.start ≡ pos 1_741_597_200) ⊎ Contains [] b.start → b.start ≡ pos 1_741_597_200
+    at_start (inl e) = e
+    at_start (inr c) = absurd (none_in_nil b.start c)
+
+    at_end : EndsAt event.times b.start b.end → b.start ≡ pos 1_741_597_200 → b.end ≡ pos 1_741_600_800
+    at_end (later, inl d, e) start = e ∙ ap (λ t. t +ℤ pos 3600) (d.1 ∙ start)
+    at_end (later, inr d, e) start = absurd (omega (arith, d.0))
+
+all_booked : AreInstancesFrom (alone event) first_second (booked ∷ [])
+all_booked = record {
+  each = All-cons (λ b. IsInstance (alone event) b × (first_second ≤ℤ b.start)) booked [] (alone_master event booked refl its_own, omega (arith, ints)) (All-nil (λ b. IsInstance (alone event) b × (first_second ≤ℤ b.start)));
+  ordered = pairs_from ComesBefore (booked ∷ []) (λ b nowhere. absurd (none_in_nil b nowhere), tt);
+  all = λ b is from. subst (λ (x : Booked). Contains (booked ∷ []) x) (sym (no_other b (master_alone event b refl is))) (in_head booked []);
+}
 
 abbrev claim : Claim
-claim = record { part = part; content = content; singles = booked_by event ∷ [] }
+claim = record { part = part; content = content; singles = booked ∷ [] }
 
 abbrev delivery : Delivery
 delivery = record { claims = claim ∷ []; moment = pos 1_740_830_500 }
@@ -212,7 +276,7 @@ delivered = record {
   are = record {
     events = event ∷ [];
     are = record { exact = λ other. (λ c. c, λ c. c); order = pairs_from (λ a b. slot_cmp (messages.slot_of a) (messages.slot_of b) ≡ Less) (event ∷ []) (λ other nowhere. absurd (none_in_nil other nowhere), tt) };
-    each = (record { part = is_part; singles = refl }, tt);
+    each = (record { part = is_part; singles = all_booked }, tt);
   };
 }
 
@@ -222,18 +286,18 @@ once_taken = record { taken = part ∷ []; answers = answered (pos 1_740_830_500
 abbrev taken_again : Book
 taken_again = record { taken = part ∷ part ∷ []; answers = answered (pos 1_740_830_500) Accept (claim ∷ []) }
 
-alone : (b : Booked) → IsClear (b ∷ [])
-alone b x y t c = c.differ (ap (λ (z : Booked). z.key) (only b x c.first) ∙ sym (ap (λ (z : Booked). z.key) (only b y c.second)))
+clear_alone : (b : Booked) → IsClear (b ∷ [])
+clear_alone b x y t c = c.differ (ap (λ (z : Booked). z.key) (only b x c.first) ∙ sym (ap (λ (z : Booked). z.key) (only b y c.second)))
 
 a_run : Runs empty_book (delivery ∷ delivery ∷ []) taken_again
 a_run = (
   once_taken,
   Accept,
-  record { taken = refl; answers = refl; decided = λ _. (omega arith, alone (booked_by event)) },
+  record { taken = refl; answers = refl; decided = λ _. (omega arith, clear_alone booked) },
   (taken_again, Accept, record { taken = refl; answers = refl; decided = λ h. absurd (false≢true h) }, refl),
 )
 
-one_confirmed : confirmed taken_again ≡ booked_by event ∷ []
+one_confirmed : confirmed taken_again ≡ booked ∷ []
 one_confirmed = refl
 
 -- ---- what is kept
@@ -262,20 +326,25 @@ all_kept = record {
     of_the_claim (Shown other) k = subst (λ (c : Claim). Contains (Shown claim ∷ []) (Shown c)) (sym (ap (λ (a : Answer). a.claim) (only the_answer k.answer k.given)) ∙ k.to) (in_head (Shown claim) [])
     of_the_claim (Hidden other) k = absurd (false≢true (sym k.instance ∙ ap is_whole (taken_part other (view_taken taken_again.taken other k.stands))))
 
-a_kept_calendar : IsKeptCalendar room taken_again (written (object_lines None kept_lines))
-unfolding digits
+a_kept_calendar : IsKeptCalendar room taken_again (written (opening_lines None) ++ written (kept_lines ++ codes "END:VCALENDAR" ∷ []))
+unfolding digits encode chars
 a_kept_calendar = record {
   entries = Shown claim ∷ [];
   kept = record { by_meeting = (Shown claim ∷ []) ∷ []; each = (all_kept, tt); are = refl };
+  few = omega arith;
   events = kept_lines ∷ [];
   each = (
-    record {
-      slot = [];
-      stamp = codes "20250301T120000Z";
-      tells_slot = refl;
-      written_stamp = stamp;
-      is = refl;
-    },
+    (
+      codes "Z",
+      tt,
+      record {
+        slot = [];
+        stamp = codes "20250301T120000Z";
+        tells_slot = refl;
+        written_stamp = stamp;
+        is = refl;
+      },
+    ),
     tt,
   );
   is = refl;

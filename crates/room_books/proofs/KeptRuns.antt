@@ -8,7 +8,7 @@ use Rattle.std.proofs.lemmas.Cmp.{tied_itself}
 use Rattle.std.proofs.lemmas.List.Elements.{Contains-append_cases}
 use Rattle.profile.specs.events.Events.{Event}
 use Rattle.profile.specs.events.Meetings.{events_of}
-use Rattle.profile.specs.rooms.Messages.{Message, Outcome, SpellsMessage, is_addressed, is_part_for, slot_of}
+use Rattle.profile.specs.rooms.Messages.{Content, Message, Outcome, SpellsMessage, is_addressed, is_part_for, slot_of}
 use Rattle.profile.specs.rooms.Revisions.{Part, Slot, in_view, slot_cmp}
 use Rattle.profile.specs.rooms.Rooms.{Claim, Answer, Book, empty_book, is_set, parts_of, asked, answered, IsStep, Delivery, Runs}
 use Rattle.profile.specs.streams.Streams.{IsDelivered, IsClaim, AreClaims}
@@ -91,7 +91,7 @@ delivered_asked room d h = all_asked room h.octets h.message h.spells d.claims h
 -- what holds of each book that is reached
 pub record KeepsAll (room : List ℕ) (book : Book) : Type 0 where
   pub sound : IsSound book
-  pub taken : (p : Part) → Contains book.taken p → (content : List (List ℕ)) × IsAsked room content p
+  pub taken : (p : Part) → Contains book.taken p → (content : Content) × IsAsked room content p
   pub each : (a : Answer) → Contains book.answers a → IsAskedFor room a.claim
   pub set : (a : Answer) → Contains book.answers a → is_set a.claim.part ≡ true
   pub once : Pairwise OtherPart book.answers
@@ -112,7 +112,7 @@ keeps_step room before claims moment outcome after all s k =
         | inl old ↦ k.taken p old
         | inr fresh ↦
             let found = map_at (λ (x : Claim). x.part) claims p fresh in
-            subst (λ (q : Part). (content : List (List ℕ)) × IsAsked room content q) found.2 (found.0.content, (all.each found.0 found.1).asked)
+            subst (λ (q : Part). (content : Content) × IsAsked room content q) found.2 (found.0.content, (all.each found.0 found.1).asked)
       ];
       each = λ a c. elim (split a c) [ inl old ↦ k.each a old | inr fresh ↦ all.each a.claim (is_new a fresh).among ];
       set = λ a c. elim (split a c) [ inl old ↦ k.set a old | inr fresh ↦ (is_new a fresh).set ];

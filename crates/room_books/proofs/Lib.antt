@@ -24,7 +24,16 @@ pub mod KeptCalendars
 pub mod KeptStreams
 pub mod KeptAnswers
 pub mod KeptRequests
+pub mod ZoneNames
+pub mod ZonesOnce
+pub mod ZoneSets
+pub mod KeptZones
+pub mod ZonedStarts
+pub mod ZonesIn
+pub mod KeptOwn
+pub mod KeptWhen
 pub mod KeptEvents
+pub mod KeptInstances
 pub mod KeptEntries
 pub mod KeptLines
 pub mod KeptExamples
@@ -35,6 +44,7 @@ pub mod Writing
 pub mod AcceptedSlots
 pub mod Keeping
 pub mod PartLines
+pub mod NamedLines
 pub mod Replying
 pub mod Claiming
 pub mod Bodies

@@ -14,7 +14,7 @@ use Rattle.profile.specs.rooms.Revisions.{Part, in_view, same_place}
 use Rattle.profile.specs.rooms.Rooms.{Answer, Book, is_accept, is_hidden, left_of, confirmed_in}
 use Rattle.room_books.specs.declared.meeting.MeetingKey.{MeetingKey}
 use Rattle.room_books.specs.declared.meeting.Meeting.{Meeting}
-use Rattle.room_books.specs.declared.meeting.Single.{Single}
+use Rattle.cal_events.specs.declared.instance.Single.{Single}
 use Rattle.room_books.specs.declared.meeting.Given.{Given}
 use Rattle.room_books.specs.Takings.{IsStill, IsViewed, left_in, booked_in}
 use Rattle.room_books.specs.Views.{booked_of, booked_list}

@@ -17,7 +17,7 @@ use Rattle.profile.specs.rooms.Rooms.{Answer, Book, Claim, is_accept, is_hidden,
 use Rattle.room_books.specs.declared.meeting.MeetingKey.{MeetingKey}
 use Rattle.room_books.specs.declared.meeting.Outcome.{Outcome}
 use Rattle.room_books.specs.declared.meeting.Outcome.TheVariants.{Accepted}
-use Rattle.room_books.specs.declared.meeting.Single.{Single}
+use Rattle.cal_events.specs.declared.instance.Single.{Single}
 use Rattle.room_books.specs.declared.meeting.Given.{Given}
 use Rattle.room_books.specs.declared.taking.Claim.{Claim as Asking}
 use Rattle.room_books.specs.Takings.{claim_said, booked_in, IsAccepted, IsDecided}

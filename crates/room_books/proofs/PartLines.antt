@@ -1,27 +1,32 @@
 -- The lines of the VEVENTs that are kept, one behind another.
 use Rattle.std.proofs.Common.{◌≡◌, ℕ, ℤ, true, false, List, [], ◌∷◌, ◌++◌, codes, decimal, refl, sym, ap, ◌∙◌, subst}
-use Rattle.std.specs.Str.{IsUtf8}
-use Rattle.std.specs.Str.Lines.{lines}
+use Rattle.std.specs.Option.{option_to_list}
 use Rattle.ical_values.specs.Written.{Appends}
 use Rattle.itip_messages.specs.Replies.{IsStampLine}
 use Rattle.profile.specs.text.Lines.{written, folded}
-use Rattle.profile.specs.rooms.Messages.{TellsSlot}
-use Rattle.profile.specs.rooms.Kept.{IsEventOf}
-use Rattle.profile.specs.rooms.Revisions.{Part, Slot, At, Set}
-use Rattle.profile.specs.rooms.Rooms.{is_set}
+use Rattle.profile.specs.rooms.Messages.{Content, TellsSlot}
+use Rattle.profile.specs.rooms.Kept.{IsEventOf, IsNamed}
+use Rattle.profile.specs.rooms.Revisions.{Part, Slot, At, Body, Set, Absent, Cancelled}
+use Rattle.profile.specs.rooms.Rooms.{is_set, is_set_body}
 use Rattle.profile.specs.text.Values.{escaped}
 use Rattle.room_books.specs.Standing.{IsText, SlotDated}
-use Rattle.room_books.specs.Takings.{body_lines}
-use Rattle.room_books.specs.Keeping.{WritesHead, WritesSlot, WritesEntries}
+use Rattle.room_books.specs.Takings.{body_content, content_in}
+use Rattle.room_books.specs.Keeping.{WritesBody, WritesHead, WritesSlot, WritesEntries, named_lines}
+use Rattle.room_books.specs.Zoning.{with_zones}
 use Rattle.room_books.proofs.Writing.{push_line, push_lines, no_lines, one_written_entry}
 
 -- a part that isn't to take place isn't shown
-pub no_event : (room : List ℕ) (part : Part) (old : List ℕ) → (is_set part ≡ true → ⊥) → WritesEntries room ((true, part) ∷ []) old old
-no_event room part old h = one_written_entry room (true, part) [] old old (λ claim e f set text dated. absurd (h set)) (no_lines old)
+pub no_event : (room : List ℕ) (part : Part) (zones : List (List ℕ)) (old : List ℕ) → (is_set part ≡ true → ⊥) → WritesEntries room ((true, part) ∷ []) zones zones old old
+no_event room part zones old h = one_written_entry room (true, part) [] zones zones old old (no_zone part.body h) (λ claim e f set text dated. absurd (h set)) (no_lines old)
+  where
+    no_zone : (body : Body) → (is_set_body body ≡ true → ⊥) → zones ≡ with_zones zones (option_to_list (body_content body).zone)
+    no_zone (Set octets) h = absurd (h refl)
+    no_zone Absent h = refl
+    no_zone Cancelled h = refl
 
 -- nor is one whose instant no stamp can write
-pub no_hidden : (room : List ℕ) (part : Part) (old : List ℕ) → (SlotDated part.slot → ⊥) → WritesEntries room ((false, part) ∷ []) old old
-no_hidden room part old h = one_written_entry room (false, part) [] old old (λ dated. absurd (h dated)) (no_lines old)
+pub no_hidden : (room : List ℕ) (part : Part) (zones : List (List ℕ)) (old : List ℕ) → (SlotDated part.slot → ⊥) → WritesEntries room ((false, part) ∷ []) zones zones old old
+no_hidden room part zones old h = one_written_entry room (false, part) [] zones zones old old refl (λ dated. absurd (h dated)) (no_lines old)
 
 -- ---- RECURRENCE-ID
 
@@ -84,25 +89,30 @@ module _ (room : List ℕ) (part : Part) (answer : List ℕ) (o0 o1 : List ℕ) 
 
 module _ (room : List ℕ) (part : Part) (o0 o1 o2 o3 o4 o5 : List ℕ) (w : WritesHead part o0 o1) where
   -- of a part that is shown
-  pub shown_written : (octets : List ℕ) (body : List (List ℕ)) → part.body ≡ Set octets → (IsUtf8 octets → body ≡ lines octets) → o2 ≡ o1 ++ written body → o3 ≡ o2 ++ folded (codes "ORGANIZER:" ++ part.organiser)
-      → o4 ≡ o3 ++ folded (codes "ATTENDEE;PARTSTAT=ACCEPTED:" ++ room) → o5 ≡ o4 ++ folded (codes "END:VEVENT") → WritesEntries room ((true, part) ∷ []) o0 o5
-  shown_written octets body set text h2 h3 h4 h5 =
-      one_written_entry room (true, part) (event_lines room part (codes "ACCEPTED") o0 o1 w body) o0 o5
+  pub shown_written : (octets : List ℕ) (zones_old zones_new : List (List ℕ)) → part.body ≡ Set octets → WritesBody octets zones_old zones_new o1 o2 → o3 ≡ o2 ++ folded (codes "ORGANIZER:" ++ part.organiser)
+      → o4 ≡ o3 ++ folded (codes "ATTENDEE;PARTSTAT=ACCEPTED:" ++ room) → o5 ≡ o4 ++ folded (codes "END:VEVENT") → WritesEntries room ((true, part) ∷ []) zones_old zones_new o0 o5
+  shown_written octets zones_old zones_new set b h3 h4 h5 =
+      let own = event_lines room part (codes "ACCEPTED") o0 o1 w b.lines in
+      one_written_entry room (true, part) own zones_old zones_new o0 o5
+      (b.zones ∙ ap (λ body. with_zones zones_old (option_to_list (body_content body).zone)) (sym set))
       (λ claim e f is utf8 dated.
-      let content : body ≡ claim.content = text (subst IsText set utf8) ∙ sym (ap body_lines set) ∙ sym f in
-      subst (λ (c : List (List ℕ)). IsEventOf room claim.part c (codes "ACCEPTED") (event_lines room part (codes "ACCEPTED") o0 o1 w body)) content
-      (subst (λ (p : Part). IsEventOf room p body (codes "ACCEPTED") (event_lines room part (codes "ACCEPTED") o0 o1 w body)) (sym e) (event_is room part (codes "ACCEPTED") o0 o1 w body dated)))
-      (rest_written room part (codes "ACCEPTED") o0 o1 w body o2 o3 o4 o5 h2 h3 h4 h5)
+      let content : content_in octets ≡ claim.content = sym (ap body_content set) ∙ sym f in
+      let zone : IsNamed zones_new claim.content.zone b.name = subst (λ (c : Content). IsNamed zones_new c.zone b.name) content b.named in
+      let lines : b.lines ≡ named_lines b.name claim.content.lines = b.text (subst IsText set utf8) ∙ ap (λ (c : Content). named_lines b.name c.lines) content in
+      let event : IsEventOf room part (named_lines b.name claim.content.lines) (codes "ACCEPTED") own =
+      subst (λ (c : List (List ℕ)). IsEventOf room part c (codes "ACCEPTED") own) lines (event_is room part (codes "ACCEPTED") o0 o1 w b.lines dated) in
+      (b.name, zone, subst (λ (p : Part). IsEventOf room p (named_lines b.name claim.content.lines) (codes "ACCEPTED") own) (sym e) event))
+      (rest_written room part (codes "ACCEPTED") o0 o1 w b.lines o2 o3 o4 o5 b.is h3 h4 h5)
 
   -- of one that hides an instance
-  pub hidden_written : (t : ℤ) (p1 p2 : List ℕ) → part.slot ≡ At t → Appends o1 p1 (IsStampLine (codes "DTSTART:") t) → p2 ≡ p1 ++ folded (codes "DURATION:PT0S") → o2 ≡ p2 ++ folded (codes "STATUS:CANCELLED")
-      → o3 ≡ o2 ++ folded (codes "ORGANIZER:" ++ part.organiser) → o4 ≡ o3 ++ folded (codes "ATTENDEE;PARTSTAT=DECLINED:" ++ room) → o5 ≡ o4 ++ folded (codes "END:VEVENT") → WritesEntries room ((false, part) ∷ []) o0 o5
-  hidden_written t p1 p2 at a g1 g2 h3 h4 h5 =
+  pub hidden_written : (t : ℤ) (p1 p2 : List ℕ) (zones : List (List ℕ)) → part.slot ≡ At t → Appends o1 p1 (IsStampLine (codes "DTSTART:") t) → p2 ≡ p1 ++ folded (codes "DURATION:PT0S") → o2 ≡ p2 ++ folded (codes "STATUS:CANCELLED")
+      → o3 ≡ o2 ++ folded (codes "ORGANIZER:" ++ part.organiser) → o4 ≡ o3 ++ folded (codes "ATTENDEE;PARTSTAT=DECLINED:" ++ room) → o5 ≡ o4 ++ folded (codes "END:VEVENT") → WritesEntries room ((false, part) ∷ []) zones zones o0 o5
+  hidden_written t p1 p2 zones at a g1 g2 h3 h4 h5 =
       let text = a.1.0 in
       let body : List (List ℕ) = (codes "DTSTART:" ++ text) ∷ codes "DURATION:PT0S" ∷ codes "STATUS:CANCELLED" ∷ [] in
       let s1 = push_line o1 o1 p1 (codes "DTSTART:" ++ text) [] (no_lines o1) (a.2 ∙ ap (λ l. o1 ++ l) a.1.2) in
       let s2 = push_line o1 p1 p2 (codes "DURATION:PT0S") ((codes "DTSTART:" ++ text) ∷ []) s1 g1 in
       let h2 : o2 ≡ o1 ++ written body = push_line o1 p2 o2 (codes "STATUS:CANCELLED") ((codes "DTSTART:" ++ text) ∷ codes "DURATION:PT0S" ∷ []) s2 g2 in
-      one_written_entry room (false, part) (event_lines room part (codes "DECLINED") o0 o1 w body) o0 o5
+      one_written_entry room (false, part) (event_lines room part (codes "DECLINED") o0 o1 w body) zones zones o0 o5 refl
       (λ dated. (body, record { instant = t; at = at; text = text; written = a.1.1; is = refl }, event_is room part (codes "DECLINED") o0 o1 w body dated))
       (rest_written room part (codes "DECLINED") o0 o1 w body o2 o3 o4 o5 h2 h3 h4 h5)

@@ -19,7 +19,7 @@ use Rattle.room_books.specs.Standing.{Stands, StepsWith}
 use Rattle.room_books.specs.Takings.{IsDecided, IsDecision}
 use Rattle.room_books.specs.declared.meeting.MeetingKey.{MeetingKey}
 use Rattle.room_books.specs.declared.meeting.Meeting.{Meeting}
-use Rattle.room_books.specs.declared.meeting.Single.{Single}
+use Rattle.cal_events.specs.declared.instance.Single.{Single}
 use Rattle.room_books.specs.Instants.{AreSeparate, IsPartOf}
 use Rattle.room_books.specs.Views.{same_key, booked_of, booked_list, all_singles, confirmed_singles, singles_by, slots_of, outcome_of, others, all_confirmed, AreAllApart, MayJoin}
 use Rattle.room_books.proofs.Places.{others_count}

@@ -10,7 +10,7 @@ use Rattle.profile.specs.rooms.Revisions.{Part, Slot, Whole, At, slot_cmp, same_
 use Rattle.profile.specs.rooms.Messages.{Outcome}
 use Rattle.profile.specs.rooms.Rooms.{Answer, Claim, is_confirmed, is_hidden, is_set, is_fresh, left_of, confirmed_in, asked, answered}
 use Rattle.room_books.specs.declared.meeting.MeetingKey.{MeetingKey}
-use Rattle.room_books.specs.declared.meeting.Single.{Single}
+use Rattle.cal_events.specs.declared.instance.Single.{Single}
 use Rattle.room_books.specs.Standing.{is_of, IsOfSlot, IsFitting, Pairwise}
 use Rattle.room_books.specs.Views.{booked_of, booked_list, slots_of}
 use Rattle.room_books.proofs.Meetings.{same_place_of}

@@ -14,7 +14,7 @@ use Rattle.std.proofs.Math.Seq.{drop-cons}
 use Rattle.itip_order.proofs.Lists.{none_in_nil, in_head, in_tail, in_cons, any_at, any_from}
 use Rattle.profile.specs.checker.Instances.{horizon}
 use Rattle.cal_events.specs.declared.sweep.Span.{Span}
-use Rattle.room_books.specs.declared.meeting.Single.{Single}
+use Rattle.cal_events.specs.declared.instance.Single.{Single}
 use Rattle.room_books.specs.declared.timeline.Busy.{Busy}
 use Rattle.room_books.specs.Instants.{HaveInstant, Overlap, AreSeparate}
 use Rattle.room_books.specs.Timelines.{HoldsInstants, holds_instants, same_single, has_single, same_busy, has_busy, busy_in, is_place, AreBusy, IsPlaceAfter, is_beside, starts_before, IsSharedIn, AreTaken, IsFreeAmong, IsFreeBut, AreAt, IsChanged, IsTaken, IsPut}

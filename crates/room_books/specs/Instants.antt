@@ -2,7 +2,7 @@
 use Rattle.std.specs.Prelude.{◌≡◌, ◌≤◌, ℤ, ◌≤ℤ◌, ◌<ℤ◌, ◌⊎◌, List, length, Contains, AllPairs}
 use Rattle.profile.specs.checker.Instances.{IsWithin, horizon}
 use Rattle.cal_events.specs.declared.sweep.Span.{Span}
-use Rattle.room_books.specs.declared.meeting.Single.{Single}
+use Rattle.cal_events.specs.declared.instance.Single.{Single}
 
 -- an instant of both, before the horizon
 pub record HaveInstant (a b : Span) (t : ℤ) : Type 0 where

@@ -1,6 +1,7 @@
 -- What is written of what a room keeps.
-use Rattle.std.specs.Prelude.{◌≡◌, ℕ, Bool, true, false, not, List, [], ◌∷◌, ◌++◌, ◌&&◌, codes, decimal, filter, map, if◌then◌else◌}
+use Rattle.std.specs.Prelude.{◌≡◌, ℕ, Bool, true, false, not, List, [], ◌∷◌, ◌++◌, ◌&&◌, codes, decimal, filter, map, if◌then◌else◌, Option, None, Some}
 use Rattle.std.specs.List.{flat_map, list_any, AllZip}
+use Rattle.std.specs.Option.{option_to_list}
 use Rattle.std.specs.Ordering.{is_eq}
 use Rattle.std.specs.Str.{IsUtf8}
 use Rattle.std.specs.Str.Lines.{lines as text_lines}
@@ -12,13 +13,14 @@ use Rattle.profile.specs.rooms.Revisions.{Part, is_whole, same_meeting, slot_cmp
 use Rattle.profile.specs.rooms.Messages.{TellsSlot}
 use Rattle.profile.specs.text.Values.{WritesStamp, escaped}
 use Rattle.profile.specs.rooms.Rooms.{Claim, Answer, Book, is_accept, is_confirmed, is_set}
-use Rattle.profile.specs.rooms.Kept.{first_parts, Shown, Hidden, IsKeptEvent}
+use Rattle.profile.specs.rooms.Kept.{first_parts, renamed, Shown, Hidden, IsKeptEvent, IsNamed}
 use Rattle.profile.specs.text.Lines.{written}
 use Rattle.room_books.specs.declared.meeting.Meeting.{Meeting}
 use Rattle.room_books.specs.declared.meeting.Given.{Given}
 use Rattle.room_books.specs.Standing.{IsText, SlotDated}
-use Rattle.room_books.specs.Takings.{body_lines}
+use Rattle.room_books.specs.Takings.{body_content, content_in}
 use Rattle.room_books.specs.Views.{outcome_of}
+use Rattle.room_books.specs.Zoning.{with_zones}
 
 -- ---- by the book
 
@@ -67,18 +69,43 @@ kept_in meeting = flat_map (λ part. entry_of (is_hiding meeting) (is_accepted m
 abbrev pub all_kept : List Meeting → List (Bool × Part)
 all_kept meetings = flat_map kept_in meetings
 
+-- the zone that what is kept of a part needs
+abbrev pub zone_of_entry : Bool × Part → List (List ℕ)
+zone_of_entry (true, part) = option_to_list (body_content part.body).zone
+zone_of_entry (false, part) = []
+
 -- ---- what is written
 
--- the lines are those of the VEVENT that is kept of it: of any claim of a part that is shown, where that is to take place
-abbrev pub IsEntryEvent : List ℕ → Bool × Part → List (List ℕ) → Type 0
-IsEntryEvent room (true, part) lines =
-    (claim : Claim) → claim.part ≡ part → claim.content ≡ body_lines part.body → is_set part ≡ true → IsText part.body → SlotDated part.slot → IsKeptEvent room (Shown claim) lines
-IsEntryEvent room (false, part) lines = SlotDated part.slot → IsKeptEvent room (Hidden part) lines
+-- the lines are those of the VEVENT that is kept of it, where these are the zones: of any claim of a part that is shown, where that is to take
+-- place
+abbrev pub IsEntryEvent : List ℕ → List (List ℕ) → Bool × Part → List (List ℕ) → Type 0
+IsEntryEvent room zones (true, part) lines =
+    (claim : Claim) → claim.part ≡ part → claim.content ≡ body_content part.body → is_set part ≡ true → IsText part.body → SlotDated part.slot
+    → IsKeptEvent room zones (Shown claim) lines
+IsEntryEvent room zones (false, part) lines = SlotDated part.slot → IsKeptEvent room zones (Hidden part) lines
 
--- new is old and behind it, written, the lines of the body, if it is text
-pub record WritesBody (body old new : List ℕ) : Type 0 where
+-- the lines with DTSTART in the zone of this name
+abbrev pub named_lines : List ℕ → List (List ℕ) → List (List ℕ)
+named_lines name lines = map (renamed (codes "DTSTART;TZID=Z") (codes "DTSTART;TZID=" ++ name)) lines
+
+-- the name of the zone with this number; without a zone that of a body
+abbrev pub name_of : Option ℕ → List ℕ
+name_of None = codes "Z"
+name_of (Some number) = codes "Z" ++ decimal number
+
+-- new is old and behind it, written, the lines of the octets, if they are text, in the zone with this number
+pub record WritesText (number : Option ℕ) (octets old new : List ℕ) : Type 0 where
   pub lines : List (List ℕ)
-  pub text : IsUtf8 body → lines ≡ text_lines body
+  pub text : IsUtf8 octets → lines ≡ named_lines (name_of number) (text_lines octets)
+  pub is : new ≡ old ++ written lines
+
+-- the body's zone is behind the zones if it is new; and new is old and behind it, written, the lines of the body, if it is text, in that zone
+pub record WritesBody (body : List ℕ) (zones_old zones_new : List (List ℕ)) (old new : List ℕ) : Type 0 where
+  pub zones : zones_new ≡ with_zones zones_old (option_to_list (content_in body).zone)
+  pub name : List ℕ
+  pub named : IsNamed zones_new (content_in body).zone name
+  pub lines : List (List ℕ)
+  pub text : IsUtf8 body → lines ≡ named_lines name (content_in body).lines
   pub is : new ≡ old ++ written lines
 
 -- new is old and behind it, written, RECURRENCE-ID, if a stamp can write it
@@ -95,8 +122,9 @@ pub record WritesHead (part : Part) (old new : List ℕ) : Type 0 where
   pub stamped : WritesStamp stamp part.revision.stamp
   pub is : new ≡ old ++ written ((codes "BEGIN:VEVENT" ∷ (codes "UID:" ++ escaped part.uid) ∷ slot) ++ ((codes "SEQUENCE:" ++ decimal part.revision.sequence) ∷ (codes "DTSTAMP:" ++ stamp) ∷ []))
 
--- new is old and behind it, written, a VEVENT for each of these
-pub record WritesEntries (room : List ℕ) (entries : List (Bool × Part)) (old new : List ℕ) : Type 0 where
+-- the zones of these are behind the zones if they are new; and new is old and behind it, written, a VEVENT for each of these
+pub record WritesEntries (room : List ℕ) (entries : List (Bool × Part)) (zones_old zones_new : List (List ℕ)) (old new : List ℕ) : Type 0 where
+  pub zones : zones_new ≡ with_zones zones_old (flat_map zone_of_entry entries)
   pub events : List (List (List ℕ))
-  pub each : AllZip (IsEntryEvent room) entries events
+  pub each : AllZip (IsEntryEvent room zones_new) entries events
   pub is : new ≡ old ++ written (flat_map (λ lines. lines) events)

@@ -4,6 +4,7 @@ pub mod Takings
 pub mod Standing
 pub mod Timelines
 pub mod Keeping
+pub mod Zoning
 pub mod Replying
 pub mod Claiming
 pub mod BySlot

@@ -14,9 +14,9 @@ use Rattle.profile.specs.rooms.Rooms.{Claim, Answer, Book, Kind, is_set, parts_o
 use Rattle.profile.specs.rooms.Kept.{Replies, Refreshes, first_parts}
 use Rattle.room_books.specs.declared.meeting.MeetingKey.{MeetingKey}
 use Rattle.room_books.specs.declared.meeting.Meeting.{Meeting}
-use Rattle.room_books.specs.declared.meeting.Single.{Single}
+use Rattle.cal_events.specs.declared.instance.Single.{Single}
 use Rattle.room_books.specs.declared.meeting.Given.{Given}
-use Rattle.room_books.specs.Takings.{body_lines, OutcomeDated}
+use Rattle.room_books.specs.Takings.{body_content, OutcomeDated}
 use Rattle.room_books.specs.Views.{same_key, booked_list, outcome_of}
 
 -- ---- claims
@@ -43,7 +43,7 @@ IsOfSlot (At t) slot = slot ≡ t
 
 -- what a claim asks for is of its part: the content its body's, the instances of its meeting and slot, each once
 pub record IsFitting (claim : Claim) : Type 0 where
-  pub content : claim.content ≡ body_lines claim.part.body
+  pub content : claim.content ≡ body_content claim.part.body
   pub text : IsText claim.part.body
   pub organiser : (b : Booked) → Contains claim.singles b → b.key.organiser ≡ claim.part.organiser
   pub uid : (b : Booked) → Contains claim.singles b → b.key.uid ≡ claim.part.uid

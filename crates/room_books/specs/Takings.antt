@@ -1,6 +1,6 @@
 -- What a message does to its meeting.
-use Rattle.std.specs.Prelude.{◌≡◌, ◌≢◌, ◌⊎◌, ◌++◌, ℕ, ℤ, true, false, not, nat_lt, IsTrue, if◌then◌else◌, List, [], length, map, filter, AllPairs, Option, Some, None, option_map, is_some, Vec}
-use Rattle.std.specs.List.{AllZip}
+use Rattle.std.specs.Prelude.{◌≡◌, ◌≢◌, ◌⊎◌, ◌++◌, ℕ, ℤ, true, false, not, nat_lt, IsTrue, if◌then◌else◌, List, [], ◌∷◌, take, drop, ◌==◌, length, map, filter, AllPairs, Option, Some, None, option_map, is_some, Vec}
+use Rattle.std.specs.List.{AllZip, position_or_len}
 use denote.Ref.{Bor}
 use Rattle.profile.specs.text.Values.{IsClockSeconds}
 use Rattle.cal_events.specs.Calendars.{owned_key_of}
@@ -15,7 +15,7 @@ use Rattle.room_books.specs.declared.answer.Kind.{Kind}
 use Rattle.room_books.specs.declared.answer.Kind.TheVariants as kind
 use Rattle.room_books.specs.declared.answer.LimitKind.TheVariants.{Series, Singles}
 use Rattle.room_books.specs.declared.meeting.Meeting.{Meeting}
-use Rattle.room_books.specs.declared.meeting.Single.{Single}
+use Rattle.cal_events.specs.declared.instance.Single.{Single}
 use Rattle.room_books.specs.declared.meeting.Given.{Given}
 use Rattle.room_books.specs.declared.meeting.Outcome.{Outcome}
 use Rattle.room_books.specs.declared.taking.Claim.{Claim}
@@ -23,6 +23,7 @@ use Rattle.room_books.specs.declared.meeting.MeetingKey.{MeetingKey}
 use Rattle.room_books.specs.Views.{outcome_of, all_singles, booked_list, slots_of, MayJoin}
 use Rattle.room_books.specs.Instants.{IsPartOf}
 use Rattle.std.specs.Str.Lines.{lines}
+use Rattle.profile.specs.rooms.Messages.{Content, no_content}
 
 -- ---- what is told
 
@@ -51,11 +52,23 @@ refresh_octets answer = octets_in answer.refresh
 
 -- ---- what a message asks for
 
--- the lines of a body
-abbrev pub body_lines : revisions.Body → List (List ℕ)
-body_lines (revisions.Set octets) = lines octets
-body_lines revisions.Absent = []
-body_lines revisions.Cancelled = []
+-- where the octets of the VTIMEZONE begin in those of a body: at the first `B`, else at their end
+abbrev pub zone_place : List ℕ → ℕ
+zone_place octets = position_or_len (λ c. c == 66) octets
+
+-- what stands behind `BEGIN:VTIMEZONE`, `TZID:Z` and their line ends; None without a VTIMEZONE
+abbrev pub zone_rest : List ℕ → Option (List ℕ)
+zone_rest [] = None
+zone_rest (c ∷ octets) = Some (drop 25 (c ∷ octets))
+
+-- the octets of a body as a content: its lines, and its zone
+abbrev pub content_in : List ℕ → Content
+content_in octets = record { lines = lines (take (zone_place octets) octets); zone = zone_rest (drop (zone_place octets) octets) }
+
+abbrev pub body_content : revisions.Body → Content
+body_content (revisions.Set octets) = content_in octets
+body_content revisions.Absent = no_content
+body_content revisions.Cancelled = no_content
 
 -- an instance of a part's meeting
 abbrev pub booked_in : revisions.Part → Single → Booked
@@ -68,7 +81,7 @@ booked_in part single = record {
 abbrev pub claim_said : Claim → rooms.Claim
 claim_said claim = record {
   part = part_of claim.part;
-  content = body_lines (part_of claim.part).body;
+  content = body_content (part_of claim.part).body;
   singles = map (booked_in (part_of claim.part)) claim.singles.items;
 }
 

@@ -4,7 +4,7 @@ use Rattle.std.specs.Ordering.{int_eq}
 use Rattle.std.specs.List.{list_any}
 use Rattle.profile.specs.checker.Instances.{horizon}
 use Rattle.cal_events.specs.declared.sweep.Span.{Span}
-use Rattle.room_books.specs.declared.meeting.Single.{Single}
+use Rattle.cal_events.specs.declared.instance.Single.{Single}
 use Rattle.room_books.specs.declared.timeline.Busy.{Busy}
 use Rattle.room_books.specs.Instants.{HaveInstant, Overlap}
 

@@ -11,7 +11,7 @@ use Rattle.cal_events.specs.declared.sweep.Span.{Span}
 use Rattle.room_books.specs.Instants.{HaveInstant, Overlap, AreSeparate}
 use Rattle.room_books.specs.declared.answer.LimitKind.TheVariants.{Series, Singles}
 use Rattle.room_books.specs.declared.meeting.MeetingKey.{MeetingKey}
-use Rattle.room_books.specs.declared.meeting.Single.{Single}
+use Rattle.cal_events.specs.declared.instance.Single.{Single}
 use Rattle.room_books.specs.declared.meeting.Given.{Given}
 use Rattle.room_books.specs.declared.meeting.Meeting.{Meeting}
 use Rattle.room_books.specs.declared.meeting.Outcome.{Outcome}

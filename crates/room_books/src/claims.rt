@@ -1,26 +1,19 @@
 //! What a message asks of a room: a claim for each of its parts.
 
 ghost use Rattle.std.specs.Prelude.{◌≡◌, ◌<◌, ◌^◌, [], ◌∷◌, filter, IfOk, Option, if◌then◌else◌};
-ghost use Rattle.profile.specs.events.Events.{Event};
-ghost use Rattle.profile.specs.rooms.Revisions.{Revision};
 ghost use Rattle.std.specs.List.{AllZip, list_any};
 ghost use Rattle.ical_values.specs.Octets.{address_octets};
-ghost use Rattle.itip_messages.specs.Messages.{StandsFor, SaysComponent, has_part};
+ghost use Rattle.itip_messages.specs.Messages.{StandsFor, has_part};
 ghost use Rattle.itip_order.specs.Parts.{part_of};
-ghost use Rattle.profile.specs.events.Meetings.{Method};
 ghost use Rattle.profile.specs.rooms.Messages as profile;
-ghost use Rattle.profile.specs.events.Properties.{length_seconds};
 ghost use Rattle.profile.specs.rooms.Rooms.{is_set};
-ghost use Rattle.profile.specs.text.Values.{IsClockSeconds};
-ghost use Rattle.room_books.specs.Claiming as claiming;
-ghost use Rattle.room_books.specs.Claiming.{AreClaimed, IsAsking, IsClaimIn, single_in};
+ghost use Rattle.room_books.specs.Claiming.{AreClaimed, IsAsking, IsClaimIn};
 
-use crate::meeting::Single;
 use crate::taking::Claim;
-use cal_events::Span;
+use cal_events::Single;
 use ical_values::Address;
 use itip_messages::{Message, MessageComponent};
-use itip_order::{Part, Slot};
+use itip_order::Part;
 use std::alloc::{AllocError, Global};
 
 /// The claims that a message has for a room, the whole meeting first and then its instances; none where it isn't addressed to it.
@@ -58,45 +51,19 @@ fn claim_in(
     ensures { IfOk result (IsClaimIn (address_octets room.now) message.now component.now) }
 {
     let part = message.part(component, room)?;
-    let single = single_in(component);
-    claim_for(alloc, part, single)
+    claim_for(alloc, part, component.singles.as_slice())
 }
 
-/// The claim of a part that asks for this instance, if it is to take place.
-fn claim_for(alloc: Global, part: Part, single: Single) -> Result<Claim, AllocError>
-    ensures { IfOk result (IsAsking part single) }
+/// The claim of a part that asks for these instances, if it is to take place.
+fn claim_for(alloc: Global, part: Part, singles: &[Single]) -> Result<Claim, AllocError>
+    ensures { IfOk result (IsAsking part singles.now) }
 {
     let mut claim = Claim {
         part,
         singles: Vec::new(alloc),
     };
     if claim.is_set() {
-        claim.singles.push(single)?;
+        claim.singles.extend_from_slice(singles)?;
     }
     Ok(claim)
-}
-
-/// The instance of a component.
-fn single_in(component: &MessageComponent) -> Single
-    ensures value { result ≡ single_in component.now }
-    ensures start { IsClockSeconds result.span.start }
-    ensures short { (method : Method) (whole : Option Revision) (event : Event) → SaysComponent method whole event component.now → length_seconds event.times.length < 2 ^ 64 }
-{
-    Single {
-        slot: original_start(component),
-        span: Span {
-            start: component.start.instant(),
-            end: component.end,
-        },
-    }
-}
-
-/// Where the instance of a component stands by its meeting: its own start, unless RECURRENCE-ID says it (RFC 5545 3.8.4.4).
-fn original_start(component: &MessageComponent) -> i64
-    ensures { result ≡ claiming.original_start component.now }
-{
-    match component.slot {
-        Slot::Whole => component.start.instant(),
-        Slot::At(instant) => instant,
-    }
 }

@@ -8,15 +8,15 @@ ghost use Rattle.profile.specs.checker.Instances.{booked_cmp, IsClear};
 ghost use Rattle.profile.specs.rooms.Messages.{Accept};
 ghost use Rattle.profile.specs.rooms.Rooms.{Decides};
 ghost use Rattle.clash_cert.specs.Makings.{AreNamed, HasKeys};
-ghost use Rattle.room_books.specs.declared.meeting.Single.{Single};
+ghost use Rattle.cal_events.specs.declared.instance.Single.{Single};
 ghost use Rattle.room_books.specs.Views.{booked_of, booked_list, confirmed_at, others, outcome_of, same_key, slots_of, spans_of, AreBusyIn, HaveOverlap, MayJoin};
 ghost use Rattle.room_books.specs.Instants.{IsLater};
 ghost use Rattle.room_books.specs.Timelines.{IsTimelineOf};
 
 use crate::answer::LimitKind;
-use crate::meeting::{Meeting, MeetingKey, Outcome, Single};
+use crate::meeting::{Meeting, MeetingKey, Outcome};
 use crate::timeline::Timeline;
-use cal_events::{Span, first_overlap};
+use cal_events::{Single, Span, first_overlap};
 use clash_cert::Clash;
 use indexmap::IndexMap;
 use std::alloc::{AllocError, Global};

@@ -37,6 +37,7 @@ pub fn kept_texts_pass()
     ensures { KeptTextsPass }
 {
     ical_lines::lines_read_back();
+    cal_zones::zone_reads_back();
 }
 
 /// And that calendar spells exactly what the room has confirmed: the same instances, and as many, without series.
@@ -47,6 +48,7 @@ pub fn kept_texts_spell()
         × ((booked : Booked) → Contains all booked ↔ Contains (confirmed book) booked) }
 {
     ical_lines::lines_read_back();
+    cal_zones::zone_reads_back();
 }
 
 /// Whatever objects a stream has, taken or refused, one after another from the first: what each of the rooms keeps after
@@ -58,4 +60,5 @@ pub fn served_texts_pass()
         → (kept : List ℕ) → IsKeptCalendar room.address room.book kept → CertificateHolds room.address kept (kept_certificate room.book) }
 {
     ical_lines::lines_read_back();
+    cal_zones::zone_reads_back();
 }

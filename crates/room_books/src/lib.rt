@@ -13,6 +13,7 @@ mod slots;
 mod taking;
 mod texts;
 mod timeline;
+mod zones;
 
 pub use answer::{Answer, Kind, LimitKind};
 pub use laws::{

@@ -6,7 +6,7 @@ ghost use Rattle.cal_events.specs.Calendars.{instance_of, owned_key_of};
 ghost use Rattle.room_books.specs.Views.{all_singles, booked_of, IsKeyOf};
 
 use crate::answer::LimitKind;
-use cal_events::{Instance, InstanceKey, OwnedKey, Span};
+use cal_events::{Instance, InstanceKey, OwnedKey, Single};
 use clash_cert::Clash;
 use ical_values::{Address, Stamp, Text};
 use itip_order::{Held, Slot};
@@ -58,14 +58,6 @@ impl MeetingKey {
             slot: single.slot,
         })
     }
-}
-
-/// An instance of a meeting: its original start (RFC 5545 3.8.4.4), and when it holds the room. Seconds from
-/// 1970-01-01T00:00:00Z.
-#[derive(Clone, Copy, PartialEq, Eq)]
-pub struct Single {
-    pub slot: i64,
-    pub span: Span,
 }
 
 /// What was decided about a part.

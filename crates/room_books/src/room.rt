@@ -24,12 +24,13 @@ ghost use Rattle.room_books.specs.Standing.{Stands, StepsWith, AreFitting, IsMee
 use crate::answer::{Answer, Kind};
 use crate::claims::claims_of;
 use crate::decide::{Meetings, decide, keys_differ};
-use crate::meeting::{Given, Meeting, MeetingKey, Outcome, Single, singles_of};
+use crate::meeting::{Given, Meeting, MeetingKey, Outcome, singles_of};
 use crate::refresh::refresh_to;
 use crate::reply::reply_to;
 use crate::taking::{self, Views, candidates, decided, held_after};
 use crate::texts::{calendar_of, certificate_octets};
 use crate::timeline::Timeline;
+use cal_events::Single;
 use clash_cert::{Clash, Confirmed, make};
 use ical_values::{Address, Stamp};
 use indexmap::IndexMap;

@@ -13,7 +13,8 @@ ghost use Rattle.room_books.specs.Standing.{KeepsAll};
 ghost use Rattle.room_books.specs.Takings.{StandsAt, AreAsked, booked_in, left_in, IsLeftOf, IsAccepted, IsDecided, IsKindOf, IsStill, kind_view, parts_said};
 
 use crate::answer::Kind;
-use crate::meeting::{Given, Meeting, Outcome, Single};
+use crate::meeting::{Given, Meeting, Outcome};
+use cal_events::Single;
 use ical_values::Stamp;
 use itip_order::{Body, Held, Part, Slot};
 use std::alloc::{AllocError, Global};

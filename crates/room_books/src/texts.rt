@@ -1,6 +1,6 @@
 //! What a room keeps, as octets: its calendar, and the certificate for it.
 
-ghost use Rattle.std.specs.Prelude.{◌≡◌, ◌++◌, ◌∷◌, [], ℕ, true, false, IfOk, OnOk};
+ghost use Rattle.std.specs.Prelude.{◌≡◌, ◌++◌, ◌∷◌, [], ℕ, List, true, false, Some, codes, string_bytes, IfOk, OnOk};
 ghost use Rattle.std.specs.List.Sorted.{IsPermutation, IsSortedByKey};
 ghost use Rattle.std.specs.Str.Lines.{lines};
 ghost use Rattle.indexmap.specs.IndexMap.{values};
@@ -8,23 +8,29 @@ ghost use Rattle.ical_values.specs.Octets.{address_octets};
 ghost use Rattle.itip_order.specs.Parts.{part_of, slot_of};
 ghost use Rattle.clash_cert.specs.Makings.{HasCount, IsCertificate};
 ghost use Rattle.profile.specs.checker.Certificates.{text_of};
-ghost use Rattle.profile.specs.rooms.Kept.{IsKeptCalendar};
+ghost use Rattle.profile.specs.rooms.Kept.{IsKeptCalendar, renamed};
 ghost use Rattle.profile.specs.rooms.Revisions.{is_whole, slot_cmp};
 ghost use Rattle.profile.specs.rooms.Rooms.{Book};
-ghost use Rattle.profile.specs.text.Lines.{written};
+ghost use Rattle.profile.specs.text.Lines.{folded, written};
 ghost use Rattle.room_books.specs.Standing.{Stands};
-ghost use Rattle.room_books.specs.Keeping.{WritesBody, WritesEntries, WritesHead, WritesSlot, accepted_slots, all_kept, entry_of, has_slot, kept_in};
+ghost use Rattle.room_books.specs.Keeping.{WritesBody, WritesEntries, WritesHead, WritesSlot, WritesText, name_of, named_lines};
+ghost use Rattle.room_books.specs.Keeping.{accepted_slots, all_kept, entry_of, has_slot, kept_in};
 
 use crate::decide::{Meetings, keys_differ};
 use crate::meeting::{Given, Meeting};
 use crate::reply::recurrence_of;
 use crate::taking::is_accept;
+use crate::zones::Zones;
 use clash_cert::Made;
 use ical_values::Address;
-use itip_messages::ObjectWriter;
+use itip_messages::{ObjectWriter, zone_lines};
 use itip_order::{Body, Part, Slot};
+use itoa::Buffer;
 use std::alloc::{AllocError, Global};
 use std::str;
+
+/// The number of octets of a body's VTIMEZONE up to what stands behind its TZID: `BEGIN:VTIMEZONE`, `TZID:Z` and their line ends.
+const ZONE_HEAD: usize = 25;
 
 /// The kept calendar of a room, the meetings in order of first arrival: each accepted part in the view, and what hides instances of an
 /// accepted whole.
@@ -33,13 +39,20 @@ pub(crate) fn calendar_of(
     meetings: &Meetings,
     room: &Address,
 ) -> Result<Vec<u8>, AllocError>
-    ensures { IfOk result (λ text. (book : Book) → Stands meetings.now.entries book → IsKeptCalendar (address_octets room.now) book text.items) }
+    ensures { IfOk result (λ text. (book : Book) → Stands meetings.now.entries book
+        → IsKeptCalendar (address_octets room.now) book text.items) }
 {
     keys_differ(meetings);
+    // the zones go first, and are known last
+    let mut zones = Zones::new(alloc);
+    let mut events = ObjectWriter::new(alloc);
+    write_meetings(&mut events, &mut zones, meetings, room)?;
+    events.end_calendar()?;
+    let events = events.finish();
     let mut object = ObjectWriter::new(alloc);
     object.begin_calendar(None)?;
-    write_meetings(&mut object, meetings, room)?;
-    object.end_calendar()?;
+    zones.write(&mut object)?;
+    object.octets(events.as_slice())?;
     Ok(object.finish())
 }
 
@@ -58,26 +71,29 @@ pub(crate) fn certificate_octets(alloc: Global, made: &Made) -> Result<Vec<u8>, 
 /// The VEVENTs of all meetings, in order of first arrival. Each meeting is gone through once.
 fn write_meetings(
     object: &mut ObjectWriter,
+    zones: &mut Zones,
     meetings: &Meetings,
     room: &Address,
 ) -> Result<(), AllocError>
-    ensures { OnOk result (WritesEntries (address_octets room.now) (all_kept (values meetings.now)) object.old object.new) }
+    ensures { OnOk result
+        (WritesEntries (address_octets room.now) (all_kept (values meetings.now)) zones.old zones.new object.old object.new) }
 {
     for meeting in meetings.values() {
-        write_meeting(object, meeting, room)?;
+        write_meeting(object, zones, meeting, room)?;
     }
     Ok(())
 }
 
-/// The VEVENTs that are kept of a meeting, by their slots: of the parts in the view that were accepted, and where the whole is one of them,
-/// of each other instance in the view. For each part it takes as many steps as the number of the meeting's parts has binary digits, and those
-/// for the octets that are written.
+/// The VEVENTs that are kept of a meeting, by their slots: of the parts in the view that were accepted, and where the whole is one of
+/// them, of each other instance in the view. For each part it takes as many steps as the number of the meeting's parts has binary
+/// digits, and those for the octets that are written.
 fn write_meeting(
     object: &mut ObjectWriter,
+    zones: &mut Zones,
     meeting: &Meeting,
     room: &Address,
 ) -> Result<(), AllocError>
-    ensures { OnOk result (WritesEntries (address_octets room.now) (kept_in meeting.now) object.old object.new) }
+    ensures { OnOk result (WritesEntries (address_octets room.now) (kept_in meeting.now) zones.old zones.new object.old object.new) }
 {
     // sorted, since each part looks for its answer, and answers stand in the order in which they were given
     let mut accepted = slots_accepted(object.alloc(), &meeting.answers)?;
@@ -85,7 +101,7 @@ fn write_meeting(
     let hides = is_among(&accepted, Slot::Whole);
     for part in meeting.held.view() {
         let shown = is_among(&accepted, part.slot);
-        write_kept(object, part, shown, hides, room)?;
+        write_kept(object, zones, part, shown, hides, room)?;
     }
     Ok(())
 }
@@ -93,15 +109,17 @@ fn write_meeting(
 /// The VEVENT of a part, if it is kept: where it is shown, or where it hides an instance of the whole.
 fn write_kept(
     object: &mut ObjectWriter,
+    zones: &mut Zones,
     part: &Part,
     shown: bool,
     hides: bool,
     room: &Address,
 ) -> Result<(), AllocError>
-    ensures { OnOk result (WritesEntries (address_octets room.now) (entry_of hides shown (part_of part.now)) object.old object.new) }
+    ensures { OnOk result
+        (WritesEntries (address_octets room.now) (entry_of hides shown (part_of part.now)) zones.old zones.new object.old object.new) }
 {
     if shown {
-        return write_part(object, part, room);
+        return write_part(object, zones, part, room);
     }
     match part.slot {
         Slot::At(_) if hides => write_hidden(object, part, room),
@@ -139,14 +157,20 @@ fn is_among(sorted: &[Slot], slot: Slot) -> bool
 }
 
 /// The VEVENT of a part that is to take place: its own lines, and the room as the one attendee, who has accepted.
-fn write_part(object: &mut ObjectWriter, part: &Part, room: &Address) -> Result<(), AllocError>
-    ensures { OnOk result (WritesEntries (address_octets room.now) ((true, part_of part.now) ∷ []) object.old object.new) }
+fn write_part(
+    object: &mut ObjectWriter,
+    zones: &mut Zones,
+    part: &Part,
+    room: &Address,
+) -> Result<(), AllocError>
+    ensures { OnOk result
+        (WritesEntries (address_octets room.now) ((true, part_of part.now) ∷ []) zones.old zones.new object.old object.new) }
 {
     let Body::Set(body) = &part.body else {
         return Ok(());
     };
     write_head(object, part)?;
-    write_body(object, body.as_slice())?;
+    write_body(object, zones, body.as_slice())?;
     object.named("ORGANIZER:", part.organiser.as_str())?;
     object.named("ATTENDEE;PARTSTAT=ACCEPTED:", room.as_str())?;
     object.line("END:VEVENT")?;
@@ -156,7 +180,8 @@ fn write_part(object: &mut ObjectWriter, part: &Part, room: &Address) -> Result<
 /// The VEVENT of an instance that the room hasn't accepted: nothing at its original start, cancelled, and the room has declined.
 fn write_hidden(object: &mut ObjectWriter, part: &Part, room: &Address) -> Result<(), AllocError>
     requires { is_whole (part_of part.now) ≡ false }
-    ensures { OnOk result (WritesEntries (address_octets room.now) ((false, part_of part.now) ∷ []) object.old object.new) }
+    ensures { (zones : List (List ℕ)) → OnOk result
+        (WritesEntries (address_octets room.now) ((false, part_of part.now) ∷ []) zones zones object.old object.new) }
 {
     let Some(recurrence) = recurrence_of(part.slot) else {
         return Ok(());
@@ -200,14 +225,37 @@ fn write_slot(object: &mut ObjectWriter, slot: Slot) -> Result<(), AllocError>
     Ok(())
 }
 
-/// The lines of a canonical body, each folded as it is written. One that isn't UTF-8 has none.
-fn write_body(object: &mut ObjectWriter, body: &[u8]) -> Result<(), AllocError>
-    ensures { OnOk result (WritesBody body.now object.old object.new) }
+/// The lines of a body, each folded as it is written, with DTSTART in the zone under its number in the calendar. A body that isn't
+/// UTF-8 has none.
+fn write_body(object: &mut ObjectWriter, zones: &mut Zones, body: &[u8]) -> Result<(), AllocError>
+    ensures { OnOk result (WritesBody body.now zones.old zones.new object.old object.new) }
 {
-    let Ok(text) = str::from_utf8(body) else {
+    let (lines, zone) = body.split_at(zone_lines(body));
+    if zone.is_empty() {
+        write_text(object, lines, None)?;
+        return Ok(());
+    }
+    let number = zones.number_of(&zone[ZONE_HEAD.min(zone.len())..])?;
+    write_text(object, lines, Some(number))?;
+    Ok(())
+}
+
+/// The lines of these octets, each folded as it is written, with DTSTART in the zone of this number. Octets that aren't UTF-8 have
+/// none.
+fn write_text(
+    object: &mut ObjectWriter,
+    octets: &[u8],
+    number: Option<usize>,
+) -> Result<(), AllocError>
+    ensures { OnOk result (WritesText number octets.now object.old object.new) }
+{
+    let Ok(text) = str::from_utf8(octets) else {
         return Ok(());
     };
-    write_lines(object, text)
+    match number {
+        Some(number) => write_in_zone(object, text, number),
+        None => write_lines(object, text),
+    }
 }
 
 /// The lines of a text, each folded as it is written.
@@ -218,4 +266,36 @@ fn write_lines(object: &mut ObjectWriter, text: &str) -> Result<(), AllocError>
         object.line(line)?;
     }
     Ok(())
+}
+
+/// The same, where DTSTART is in the zone of this number.
+fn write_in_zone(object: &mut ObjectWriter, text: &str, number: usize) -> Result<(), AllocError>
+    ensures { OnOk result (object.new ≡ object.old ++ written (named_lines (name_of (Some number)) (lines text.now))) }
+{
+    let start = start_in(object.alloc(), number)?;
+    for line in text.lines() {
+        write_named(object, line, start.as_str())?;
+    }
+    Ok(())
+}
+
+/// One line, which begins so where it is DTSTART in a zone.
+fn write_named(object: &mut ObjectWriter, line: &str, start: &str) -> Result<(), AllocError>
+    ensures { OnOk result (object.new ≡ object.old ++ folded (renamed (codes "DTSTART;TZID=Z") start.now line.now)) }
+{
+    match line.strip_prefix("DTSTART;TZID=Z") {
+        Some(rest) => object.named(start, rest),
+        None => object.line(line),
+    }
+}
+
+/// How DTSTART begins in the zone of this number.
+fn start_in(alloc: Global, number: usize) -> Result<String, AllocError>
+    ensures { IfOk result (λ start. string_bytes start ≡ codes "DTSTART;TZID=" ++ name_of (Some number)) }
+{
+    let mut digits = Buffer::new();
+    let mut start = String::new(alloc);
+    start.push_str("DTSTART;TZID=Z")?;
+    start.push_str(digits.format(number))?;
+    Ok(start)
 }

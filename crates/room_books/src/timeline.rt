@@ -2,13 +2,12 @@
 
 ghost use Rattle.std.specs.Prelude.{◌≡◌, ◌<◌, ◌≤◌, ◌+◌, ◌↔◌, true, IsTrue, [], OnOk, length, Contains};
 ghost use Rattle.std.specs.List.{find, take_while};
-ghost use Rattle.room_books.specs.declared.meeting.Single.{Single};
+ghost use Rattle.cal_events.specs.declared.instance.Single.{Single};
 ghost use Rattle.room_books.specs.Timelines.{AreBusy, HoldsInstants, IsPlaceAfter, AreTaken, IsSharedIn, IsFreeBut, IsFreeAmong, AreAt, IsChanged, IsTaken, IsPut, IsTimelineOf, is_beside, starts_before, busy_in, has_busy};
 ghost use Rattle.room_books.specs.Instants.{AreSeparate};
 ghost use Rattle.std.specs.Vec.{vec_len, vec_capacity};
 
-use crate::meeting::Single;
-use cal_events::{HORIZON, Span};
+use cal_events::{HORIZON, Single, Span};
 use std::alloc::{AllocError, Global};
 
 /// An instance that holds the room.

@@ -10,7 +10,7 @@ use itip_messages::{Message, Method};
 use itip_order::Part;
 use std::alloc::Global;
 
-/// The method, the organiser and the UID, and the start and the end of each component.
+/// The method, the organiser and the UID, and the start and the end of each instance that a component asks for.
 pub fn message(alloc: Global, octets: &[u8]) -> Result<String, NoAnswer> {
     let message = Message::read(alloc, octets)?;
     let method = match message.method() {
@@ -22,8 +22,10 @@ pub fn message(alloc: Global, octets: &[u8]) -> Result<String, NoAnswer> {
     let uid = message.uid().as_str();
     let mut list = format!(in alloc; "{method}, {organiser}, {uid}")?;
     for component in message.components() {
-        let item = format!(in alloc; "{} to {}", component.start.instant(), component.end)?;
-        append(&mut list, ", ", item.as_str())?;
+        for single in &component.singles {
+            let item = format!(in alloc; "{} to {}", single.span.start, single.span.end)?;
+            append(&mut list, ", ", item.as_str())?;
+        }
     }
     Ok(list)
 }

@@ -1,5 +1,5 @@
 -- The calendar of a room that a text is (RFC 5545 3.4), what it confirms, and what can be wrong with such a text.
-use Rattle.std.specs.Prelude.{◌≡◌, ℕ, true, false, List, Contains}
+use Rattle.std.specs.Prelude.{◌≡◌, ℕ, true, false, List, Contains, None}
 use Rattle.std.specs.List.{AllZip}
 use Rattle.profile.specs.text.Lines.{logical_lines, text_has, reads_as_lines}
 use Rattle.profile.specs.text.Objects.{SpellsTree, IsObject, has_version, lines_have}
@@ -15,7 +15,7 @@ IsCalendarText t octets = IsObject tree_name tree_own tree_inside false t (logic
 
 -- the VEVENTs of an object say these events. METHOD isn't looked at
 abbrev pub SayEvents : Tree → List Event → Type 0
-SayEvents object events = AllZip (SaysEvent object false) (vevents object) events
+SayEvents object events = AllZip (SaysEvent object None) (vevents object) events
 
 -- they do, and these are confirmed of them for the room
 pub record SaysCalendar (room : List ℕ) (object : Tree) (confirmed : Confirmed) : Type 0 where
@@ -51,7 +51,7 @@ pub record CertificateHolds (room calendar text : List ℕ) : Type 0 where
 -- the fault of this number stands in the VEVENTs of an object, as a calendar
 pub data CalendarFault (object : Tree) : ℕ → Type 0 where
   -- one of them has this fault
-  in_event : {n : ℕ} → (lines : List (List ℕ)) → Contains (vevents object) lines → EventFault object false lines n → CalendarFault object n
+  in_event : {n : ℕ} → (lines : List (List ℕ)) → Contains (vevents object) lines → EventFault object None lines n → CalendarFault object n
   two_masters : (events : List Event) → SayEvents object events → (MastersDiffer events → ⊥) → CalendarFault object 53
   two_overrides : (events : List Event) → SayEvents object events → (OverridesDiffer events → ⊥) → CalendarFault object 54
 

@@ -7,13 +7,7 @@ use Rattle.profile.specs.faults.Faults.{is_between, is_object_fault, is_meeting_
 use Rattle.profile.specs.text.Lines.{logical_lines, text_has, reads_as_lines}
 use Rattle.profile.specs.text.Objects.{SpellsTree, IsObject, has_version, lines_have, count_inside, most_events}
 use Rattle.profile.specs.text.Trees.{Tree, tree_name, tree_own, tree_inside, vevents}
-use Rattle.profile.specs.events.Events.{Event, SaysEvent, EventFault, meeting_said}
-
--- what a message asks for: that an event take place, that instances be added to one, or that it be cancelled (RFC 5546 1.4)
-pub data Method : Type 0 where
-  Request : Method
-  Add : Method
-  Cancel : Method
+use Rattle.profile.specs.events.Events.{Method, Request, Add, Cancel, Event, SaysEvent, EventFault, meeting_said}
 
 -- the event stands for one instance of a meeting: it has a RECURRENCE-ID
 abbrev pub is_override : Event → Bool
@@ -58,7 +52,7 @@ InstancesDiffer overrides = AllPairs ◌≢◌ (map (λ event. event.recurrence)
 -- an object says this meeting: as a message of this method, or, without one, as an event with its instances
 pub record SaysMeeting (object : Tree) (method : Option Method) (meeting : Meeting) : Type 0 where
   pub events : List Event
-  pub says : AllZip (SaysEvent object (is_some method)) (vevents object) events
+  pub says : AllZip (SaysEvent object method) (vevents object) events
   pub some : 0 < length events
   pub one : AreOfOne events
   pub master : filter is_master (taken_by method events) ≡ option_to_list meeting.master
@@ -81,13 +75,13 @@ is_meeting_fault n = is_object_fault n || is_meeting_event_fault n || is_between
 -- the fault of this number stands in the VEVENTs of an object that is taken so
 pub data MeetingFault (object : Tree) (method : Option Method) : ℕ → Type 0 where
   -- one of them has this fault
-  in_event : {n : ℕ} → (lines : List (List ℕ)) → Contains (vevents object) lines → EventFault object (is_some method) lines n → MeetingFault object method n
-  two_masters : (events : List Event) → AllZip (SaysEvent object (is_some method)) (vevents object) events → 1 < length (filter is_master (taken_by method events))
+  in_event : {n : ℕ} → (lines : List (List ℕ)) → Contains (vevents object) lines → EventFault object method lines n → MeetingFault object method n
+  two_masters : (events : List Event) → AllZip (SaysEvent object method) (vevents object) events → 1 < length (filter is_master (taken_by method events))
       → MeetingFault object method 53
-  two_overrides : (events : List Event) → AllZip (SaysEvent object (is_some method)) (vevents object) events
+  two_overrides : (events : List Event) → AllZip (SaysEvent object method) (vevents object) events
       → (InstancesDiffer (filter is_override (taken_by method events)) → ⊥) → MeetingFault object method 54
   -- two UIDs or two ORGANIZERs
-  two_meetings : (events : List Event) → AllZip (SaysEvent object (is_some method)) (vevents object) events → (AreOfOne events → ⊥) → MeetingFault object method 62
+  two_meetings : (events : List Event) → AllZip (SaysEvent object method) (vevents object) events → (AreOfOne events → ⊥) → MeetingFault object method 62
   no_event : vevents object ≡ [] → MeetingFault object method 66
 
 -- the fault of this number stands in the octets

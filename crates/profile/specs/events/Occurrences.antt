@@ -73,18 +73,18 @@ Lists object name entries instants = AllZip (IsListed object name) entries insta
 
 -- ---- together
 
--- RRULE or RDATE stands beside RECURRENCE-ID: a single instance doesn't recur
-abbrev pub recurs_beside_recurrence : List (List ℕ) → Bool
-recurs_beside_recurrence lines =
-    list_any (is_of (codes "RECURRENCE-ID")) lines && list_any (λ line. is_of (codes "RRULE") line || is_of (codes "RDATE") line) lines
+-- RRULE or RDATE stands in a VEVENT that is a single instance, by its RECURRENCE-ID or as one that is added: an instance doesn't recur
+abbrev pub recurs_as_instance : Bool → List (List ℕ) → Bool
+recurs_as_instance added lines =
+    (added || list_any (is_of (codes "RECURRENCE-ID")) lines) && list_any (λ line. is_of (codes "RRULE") line || is_of (codes "RDATE") line) lines
 
 -- the lines say which instance the VEVENT is, if one of a meeting, and what is added and taken away, the latter in any year from 1 to 9999
-pub record SaysOccurrences (object : Tree) (lines : List (List ℕ)) (recurrence : Option ℤ) (additions exceptions : List ℤ) : Type 0 where
+pub record SaysOccurrences (added : Bool) (object : Tree) (lines : List (List ℕ)) (recurrence : Option ℤ) (additions exceptions : List ℤ) : Type 0 where
   pub is : Says (codes "RECURRENCE-ID") false (IsRecurrenceLine object) lines recurrence
   pub adds : Lists object (codes "RDATE") (entries_named (codes "RDATE") lines) additions
   pub inside : AllZip (IsInside object) (entries_named (codes "RDATE") lines) additions
   pub takes : Lists object (codes "EXDATE") (entries_named (codes "EXDATE") lines) exceptions
-  pub alone : recurs_beside_recurrence lines ≡ false
+  pub alone : recurs_as_instance added lines ≡ false
 
 -- ---- what can be wrong, by the number of its refusal
 
@@ -99,13 +99,13 @@ pub data EntriesFault (object : Tree) (name : List ℕ) (entries : List Entry) :
   too_many : most_entries < length entries → EntriesFault object name entries 56
 
 -- the fault of this number stands in the lines of a VEVENT
-pub data OccurrenceFault (object : Tree) (lines : List (List ℕ)) : ℕ → Type 0 where
-  bad_recurrence : {n : ℕ} → SomeLine (codes "RECURRENCE-ID") (λ line. ZonedTimeFault object line n) lines → OccurrenceFault object lines n
-  bad_additions : {n : ℕ} → EntriesFault object (codes "RDATE") (entries_named (codes "RDATE") lines) n → OccurrenceFault object lines n
-  bad_exceptions : {n : ℕ} → EntriesFault object (codes "EXDATE") (entries_named (codes "EXDATE") lines) n → OccurrenceFault object lines n
+pub data OccurrenceFault (added : Bool) (object : Tree) (lines : List (List ℕ)) : ℕ → Type 0 where
+  bad_recurrence : {n : ℕ} → SomeLine (codes "RECURRENCE-ID") (λ line. ZonedTimeFault object line n) lines → OccurrenceFault added object lines n
+  bad_additions : {n : ℕ} → EntriesFault object (codes "RDATE") (entries_named (codes "RDATE") lines) n → OccurrenceFault added object lines n
+  bad_exceptions : {n : ℕ} → EntriesFault object (codes "EXDATE") (entries_named (codes "EXDATE") lines) n → OccurrenceFault added object lines n
   -- outside of the dates that an event may name
-  recurrence_out : SomeLine (codes "RECURRENCE-ID") (SaysOutOfDates object) lines → OccurrenceFault object lines 52
-  additions_out : (entry : Entry) → Contains (entries_named (codes "RDATE") lines) entry → IsOutside object entry → OccurrenceFault object lines 52
-  two_recurrences : StandsTwice (codes "RECURRENCE-ID") lines → OccurrenceFault object lines 61
-  ranged : SomeLine (codes "RECURRENCE-ID") (λ line. has_range line ≡ true) lines → OccurrenceFault object lines 65
-  recurs : recurs_beside_recurrence lines ≡ true → OccurrenceFault object lines 67
+  recurrence_out : SomeLine (codes "RECURRENCE-ID") (SaysOutOfDates object) lines → OccurrenceFault added object lines 52
+  additions_out : (entry : Entry) → Contains (entries_named (codes "RDATE") lines) entry → IsOutside object entry → OccurrenceFault added object lines 52
+  two_recurrences : StandsTwice (codes "RECURRENCE-ID") lines → OccurrenceFault added object lines 61
+  ranged : SomeLine (codes "RECURRENCE-ID") (λ line. has_range line ≡ true) lines → OccurrenceFault added object lines 65
+  recurs : recurs_as_instance added lines ≡ true → OccurrenceFault added object lines 67

@@ -1,6 +1,6 @@
 -- Times: what a start or an end says, in UTC or where TZID names a VTIMEZONE of its object (RFC 5545 3.2.19, 3.3.5, 3.6.5), and what
 -- DTSTART, DTEND and DURATION of a VEVENT say together. A line is its octets here; its object, the VCALENDAR that it stands in, is a tree.
-use Rattle.std.specs.Prelude.{◌≡◌, ℕ, ◌≤◌, ◌⊎◌, Bool, false, if◌then◌else◌, List, [], ◌∷◌, filter, Contains, codes, Option, Some, None, is_some, option_map, unwrap_or, ℤ, pos, ◌+ℤ◌, ◌≤ℤ◌, ◌<ℤ◌}
+use Rattle.std.specs.Prelude.{◌≡◌, ℕ, ◌≤◌, ◌⊎◌, Bool, true, false, if◌then◌else◌, List, [], ◌∷◌, filter, Contains, codes, Option, Some, None, is_some, option_map, unwrap_or, ℤ, pos, ◌+ℤ◌, ◌≤ℤ◌, ◌<ℤ◌}
 use Rattle.std.specs.List.{find}
 use Rattle.std.specs.Str.{bytes_eq}
 use Rattle.profile.specs.text.Lines.{line_value, line_param, is_same_name}
@@ -160,6 +160,34 @@ pub record SaysEventTimes (object : Tree) (lines : List (List ℕ)) (times : Eve
   pub most : length_seconds times.length ≤ longest
   pub in_dates : IsInDates (is_in_zone line) times.local times.start
 
+-- ---- the times of a VEVENT that says no start
+
+-- DTEND, which is read by itself and gives no length, or DURATION, or neither
+abbrev pub LastsAlone : Tree → Option (List ℕ) → Option (List ℕ) → Length → Type 0
+LastsAlone object None None length = length ≡ record { days = 0; seconds = 0 }
+LastsAlone object (Some line) None length = (length ≡ record { days = 0; seconds = 0 }) × ((end : ℤ) × SaysInDates object line end)
+LastsAlone object None (Some line) length = LastsFor line length
+LastsAlone object (Some line) (Some other) length = ⊥
+
+-- its start is 1970-01-01T00:00:00Z, which nothing looks at
+pub record SaysNoStart (object : Tree) (lines : List (List ℕ)) (times : EventTimes) : Type 0 where
+  pub missing : IsMissing (codes "DTSTART") lines
+  pub end_line : Option (List ℕ)
+  pub duration_line : Option (List ℕ)
+  pub end_once : StandsAtMostOnce (codes "DTEND") lines end_line
+  pub duration_once : StandsAtMostOnce (codes "DURATION") lines duration_line
+  pub lasts : LastsAlone object end_line duration_line times.length
+  pub most : length_seconds times.length ≤ longest
+  pub zone : times.zone ≡ None
+  pub local : times.local ≡ pos 0
+  pub start : times.start ≡ pos 0
+
+-- the lines say these times, where DTSTART may be missing or not
+abbrev pub SaysTimes : Bool → Tree → List (List ℕ) → EventTimes → Type 0
+SaysTimes may_lack object lines times = SaysEventTimes object lines times ⊎ ((may_lack ≡ true) × SaysNoStart object lines times)
+
+-- ---- what can be wrong with the times of a VEVENT
+
 -- the lines hold a start and an end, and so do the instants lie
 abbrev pub StartAndEndLie : Tree → (ℤ → ℤ → Type 0) → List (List ℕ) → Type 0
 StartAndEndLie object R lines =
@@ -169,20 +197,20 @@ StartAndEndLie object R lines =
 abbrev pub names_of_times : List (List ℕ)
 names_of_times = codes "DTSTART" ∷ codes "DTEND" ∷ codes "DURATION" ∷ []
 
--- the fault of this number stands in the times of a VEVENT
-pub data EventTimesFault (object : Tree) (lines : List (List ℕ)) : ℕ → Type 0 where
-  bad_start : {n : ℕ} → SomeLine (codes "DTSTART") (λ line. ZonedTimeFault object line n) lines → EventTimesFault object lines n
-  bad_end : {n : ℕ} → SomeLine (codes "DTEND") (λ line. ZonedTimeFault object line n) lines → EventTimesFault object lines n
-  bad_duration : SomeLine (codes "DURATION") IsNoDuration lines → EventTimesFault object lines 12
+-- the fault of this number stands in the times of a VEVENT, whose start may be missing or not
+pub data EventTimesFault (may_lack : Bool) (object : Tree) (lines : List (List ℕ)) : ℕ → Type 0 where
+  bad_start : {n : ℕ} → SomeLine (codes "DTSTART") (λ line. ZonedTimeFault object line n) lines → EventTimesFault may_lack object lines n
+  bad_end : {n : ℕ} → SomeLine (codes "DTEND") (λ line. ZonedTimeFault object line n) lines → EventTimesFault may_lack object lines n
+  bad_duration : SomeLine (codes "DURATION") IsNoDuration lines → EventTimesFault may_lack object lines 12
   -- it ends before it starts
-  ends_early : StartAndEndLie object (λ start end. end <ℤ start) lines → EventTimesFault object lines 50
+  ends_early : StartAndEndLie object (λ start end. end <ℤ start) lines → EventTimesFault may_lack object lines 50
   -- it lasts longer than 366 days
-  ends_late : StartAndEndLie object (λ start end. (start +ℤ pos longest) <ℤ end) lines → EventTimesFault object lines 51
-  lasts_long : SomeLine (codes "DURATION") IsNegativeOrLong lines → EventTimesFault object lines 51
+  ends_late : StartAndEndLie object (λ start end. (start +ℤ pos longest) <ℤ end) lines → EventTimesFault may_lack object lines 51
+  lasts_long : SomeLine (codes "DURATION") IsNegativeOrLong lines → EventTimesFault may_lack object lines 51
   -- it starts or ends outside of the dates that an event may name
-  starts_out : SomeLine (codes "DTSTART") (SaysOutOfDates object) lines → EventTimesFault object lines 52
-  ends_out : SomeLine (codes "DTEND") (SaysOutOfDates object) lines → EventTimesFault object lines 52
-  no_start : IsMissing (codes "DTSTART") lines → EventTimesFault object lines 61
-  twice : (name : List ℕ) → Contains names_of_times name → StandsTwice name lines → EventTimesFault object lines 61
+  starts_out : SomeLine (codes "DTSTART") (SaysOutOfDates object) lines → EventTimesFault may_lack object lines 52
+  ends_out : SomeLine (codes "DTEND") (SaysOutOfDates object) lines → EventTimesFault may_lack object lines 52
+  no_start : may_lack ≡ false → IsMissing (codes "DTSTART") lines → EventTimesFault may_lack object lines 61
+  twice : (name : List ℕ) → Contains names_of_times name → StandsTwice name lines → EventTimesFault may_lack object lines 61
   end_and_duration : SomeLine (codes "DTEND") (λ _. Unit {0}) lines → SomeLine (codes "DURATION") (λ _. Unit {0}) lines
-      → EventTimesFault object lines 61
+      → EventTimesFault may_lack object lines 61

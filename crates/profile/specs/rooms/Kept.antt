@@ -1,12 +1,14 @@
 -- What a room writes, as octets: its replies and refreshes, its kept calendar and the certificate for it.
-use Rattle.std.specs.Prelude.{◌≡◌, ◌≢◌, ℕ, ℤ, Bool, true, false, not, ◌==◌, ◌↔◌, IsTrue, List, [], ◌∷◌, ◌++◌, length, filter, codes, decimal, Contains, AllPairs, Option, Some, None}
-use Rattle.std.specs.List.{flat_map, AllZip}
+use Rattle.std.specs.Prelude.{◌≡◌, ◌≢◌, ℕ, ℤ, Bool, true, false, not, ◌==◌, ◌↔◌, IsTrue, List, [], ◌∷◌, ◌++◌, length, map, filter, take, drop, if◌then◌else◌, ◌+◌, ◌<◌, ◌^◌, codes, decimal, Contains, AllPairs, Option, Some, None}
+use Rattle.std.specs.Option.{option_to_list}
+use Rattle.std.specs.List.{flat_map, AllZip, slice_get}
+use Rattle.std.specs.Str.{bytes_eq}
 use Rattle.profile.specs.text.Lines.{written}
 use Rattle.profile.specs.text.Values.{WritesStamp, escaped}
 use Rattle.profile.specs.checker.Certificates.{text_of}
 use Rattle.profile.specs.rooms.Revisions.{Part, Slot, At, in_view, is_whole, same_meeting, slot_cmp}
 use Rattle.std.specs.declared.cmp.Ordering.TheVariants.{Less}
-use Rattle.profile.specs.rooms.Messages.{IsReplyEvent, IsRefreshEvent, TellsSlot, object_lines}
+use Rattle.profile.specs.rooms.Messages.{IsReplyEvent, IsRefreshEvent, TellsSlot, zone_text, object_lines, opening_lines}
 use Rattle.profile.specs.rooms.Rooms.{Claim, Answer, Book, confirmed, is_confirmed, shown, wants_whole, answers_part}
 
 -- ---- replies
@@ -106,6 +108,41 @@ pub record IsEventOf (room : List ℕ) (part : Part) (content : List (List ℕ))
       ++ content
       ++ ((codes "ORGANIZER:" ++ part.organiser) ∷ (codes "ATTENDEE;PARTSTAT=" ++ answer ++ codes ":" ++ room) ∷ codes "END:VEVENT" ∷ [])
 
+-- ---- its zones
+
+-- a line that begins so begins with this in its place
+abbrev pub renamed : List ℕ → List ℕ → List ℕ → List ℕ
+renamed old new line = if bytes_eq (take (length old) line) old then new ++ drop (length old) line else line
+
+-- the zone that an entry needs
+abbrev pub zone_kept : Entry → List (List ℕ)
+zone_kept (Shown claim) = option_to_list claim.content.zone
+zone_kept (Hidden part) = []
+
+-- these, each once, in order of first use
+abbrev pub each_once : List (List ℕ) → List (List ℕ)
+each_once [] = []
+each_once (zone ∷ zones) = zone ∷ filter (λ other. not (bytes_eq zone other)) (each_once zones)
+
+abbrev pub zones_kept : List Entry → List (List ℕ)
+zones_kept entries = each_once (flat_map zone_kept entries)
+
+-- the name of the zone at a place, counted from 0: Z1, Z2, ..
+abbrev pub zone_name : ℕ → List ℕ
+zone_name place = codes "Z" ++ decimal (place + 1)
+
+-- the octets of zones, each under the name of its place; the places begin here
+abbrev pub zone_texts : ℕ → List (List ℕ) → List ℕ
+zone_texts place [] = []
+zone_texts place (zone ∷ zones) = zone_text (zone_name place) zone ++ zone_texts (place + 1) zones
+
+-- the zone of a content has this name among these; without a zone no name counts
+abbrev pub IsNamed : List (List ℕ) → Option (List ℕ) → List ℕ → Type 0
+IsNamed zones None name = Unit {0}
+IsNamed zones (Some zone) name = (place : ℕ) × (slice_get zones place ≡ Some zone) × (name ≡ zone_name place)
+
+-- ---- its VEVENTs
+
 -- nothing at that instant, and cancelled
 pub record HidesSlot (slot : Slot) (content : List (List ℕ)) : Type 0 where
   pub instant : ℤ
@@ -114,17 +151,21 @@ pub record HidesSlot (slot : Slot) (content : List (List ℕ)) : Type 0 where
   pub written : WritesStamp text instant
   pub is : content ≡ (codes "DTSTART:" ++ text) ∷ codes "DURATION:PT0S" ∷ codes "STATUS:CANCELLED" ∷ []
 
-abbrev pub IsKeptEvent : List ℕ → Entry → List (List ℕ) → Type 0
-IsKeptEvent room (Shown claim) lines = IsEventOf room claim.part claim.content (codes "ACCEPTED") lines
-IsKeptEvent room (Hidden part) lines = (content : List (List ℕ)) × HidesSlot part.slot content × IsEventOf room part content (codes "DECLINED") lines
+-- the VEVENT of an entry, where these are the zones of the calendar
+abbrev pub IsKeptEvent : List ℕ → List (List ℕ) → Entry → List (List ℕ) → Type 0
+IsKeptEvent room zones (Shown claim) lines =
+    (name : List ℕ) × IsNamed zones claim.content.zone name
+    × IsEventOf room claim.part (map (renamed (codes "DTSTART;TZID=Z") (codes "DTSTART;TZID=" ++ name)) claim.content.lines) (codes "ACCEPTED") lines
+IsKeptEvent room zones (Hidden part) lines = (content : List (List ℕ)) × HidesSlot part.slot content × IsEventOf room part content (codes "DECLINED") lines
 
--- the octets are the room's kept calendar
+-- the octets are the room's kept calendar: its zones, and then its VEVENTs. Numbers below 2 ^ 64 name the zones
 pub record IsKeptCalendar (room : List ℕ) (book : Book) (octets : List ℕ) : Type 0 where
   pub entries : List Entry
   pub kept : AreKept book entries
+  pub few : length (zones_kept entries) < 2 ^ 64
   pub events : List (List (List ℕ))
-  pub each : AllZip (IsKeptEvent room) entries events
-  pub is : octets ≡ written (object_lines None (flat_map (λ lines. lines) events))
+  pub each : AllZip (IsKeptEvent room (zones_kept entries)) entries events
+  pub is : octets ≡ written (opening_lines None) ++ zone_texts 0 (zones_kept entries) ++ written (flat_map (λ lines. lines) events ++ codes "END:VCALENDAR" ∷ [])
 
 -- the certificate for it: its count of singles
 abbrev pub kept_certificate : Book → List ℕ

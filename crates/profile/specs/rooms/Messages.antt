@@ -1,18 +1,22 @@
 -- Messages: their meeting, the parts that they have for a room, and replies (RFC 5546 1.4, 3.2). So far a REQUEST, an ADD or a CANCEL.
-use Rattle.std.specs.Prelude.{◌≡◌, ◌↔◌, ℕ, ◌/◌, ◌%◌, ◌+◌, Bool, true, false, ◌&&◌, ◌||◌, ◌==◌, if◌then◌else◌, nat_lt, List, [], ◌∷◌, ◌++◌, length, filter, codes, decimal, Contains, AllPairs, Option, Some, None, option_map, unwrap_or, ℤ, pos}
+use Rattle.std.specs.Prelude.{◌≡◌, ◌↔◌, ℕ, ◌/◌, ◌%◌, ◌+◌, Bool, true, false, ◌&&◌, ◌||◌, ◌==◌, if◌then◌else◌, nat_lt, List, [], ◌∷◌, ◌++◌, length, filter, codes, decimal, Contains, AllPairs, Option, Some, None, option_map, unwrap_or, ℤ, pos, ◌<ℤ◌, not}
 use Rattle.std.specs.List.{flat_map, list_any, AllZip}
+use Rattle.std.specs.Int.Signed.{lt_z}
 use Rattle.std.specs.Str.{bytes_eq}
 use Rattle.std.specs.Char.{is_ascii_alphabetic, is_ascii_digit}
-use Rattle.profile.specs.text.Lines.{line_value, is_same_name, logical_lines, reads_as_lines}
+use Rattle.profile.specs.text.Lines.{line_value, is_same_name, logical_lines, reads_as_lines, written}
 use Rattle.profile.specs.text.Objects.{IsObject}
 use Rattle.profile.specs.text.Trees.{Tree, tree_name, tree_own, tree_inside, vevents}
-use Rattle.profile.specs.text.Values.{WritesStamp, duration_text, escaped}
-use Rattle.profile.specs.events.Events.{Event, is_unread_in_message, lacks_start}
-use Rattle.profile.specs.events.Properties.{SomeLine, StandsTwice, IsMissing, lines_named}
-use Rattle.profile.specs.checker.Instances.{Key}
+use Rattle.profile.specs.text.Values.{WritesStamp, WritesLocal, duration_text, escaped}
+use Rattle.profile.specs.events.Events.{Method, Request, Add, Cancel, Event}
+use Rattle.profile.specs.events.Properties.{first_second, is_of, SomeLine, StandsTwice, IsMissing, BothOrNeither, lines_named}
+use Rattle.profile.specs.events.ZonedTimes.{EventTimes}
+use Rattle.profile.specs.series.Zones.{Zone}
+use Rattle.profile.specs.written.WrittenZones.{WritesParts}
+use Rattle.profile.specs.checker.Instances.{Key, horizon}
 use Rattle.std.specs.declared.cmp.Ordering.TheVariants.{Less}
 use Rattle.std.specs.Ordering.{is_lt}
-use Rattle.profile.specs.events.Meetings.{Method, Request, Add, Cancel, Meeting, events_of, SaysMeeting, MeetingFault}
+use Rattle.profile.specs.events.Meetings.{Meeting, events_of, SaysMeeting, MeetingFault}
 use Rattle.profile.specs.rooms.Revisions.{Part, Slot, Whole, At, Revision, Body, Set, Absent, Cancelled, revision_cmp, slot_cmp}
 
 -- ---- what a message says
@@ -34,20 +38,18 @@ pub record NamesMethod (own : List (List ℕ)) (method : Method) : Type 0 where
   pub once : lines_named (codes "METHOD") own ≡ line ∷ []
   pub named : is_same_name (line_value line) (method_word method) ≡ true
 
--- something in the lines of a VEVENT isn't read yet. A CANCEL without DTSTART, as RFC 5546 3.2.5 allows it, isn't
-abbrev pub has_unread_in : Method → List (List ℕ) → Bool
-has_unread_in Request lines = list_any is_unread_in_message lines
-has_unread_in Add lines = list_any is_unread_in_message lines
-has_unread_in Cancel lines = lacks_start lines || list_any is_unread_in_message lines
+-- RRULE stands in the lines of a VEVENT: in a message it isn't read yet
+abbrev pub has_unread : List (List ℕ) → Bool
+has_unread lines = list_any (is_of (codes "RRULE")) lines
 
--- some VEVENT of the object has something that isn't read yet
-abbrev pub is_unread : Method → Tree → Bool
-is_unread method object = list_any (has_unread_in method) (vevents object)
+-- it stands in some VEVENT of the object
+abbrev pub is_unread : Tree → Bool
+is_unread object = list_any has_unread (vevents object)
 
 -- a VCALENDAR says this message: in its VEVENTs nothing is unread (RFC 5546 3.2.2, 3.2.4, 3.2.5)
 pub record SaysMessage (object : Tree) (message : Message) : Type 0 where
   pub method : NamesMethod (tree_own object) message.method
-  pub read : is_unread message.method object ≡ false
+  pub read : is_unread object ≡ false
   pub says : SaysMeeting object (Some message.method) message.meeting
 
 -- the octets are one VCALENDAR, within the limits of a message, and say this message
@@ -79,10 +81,8 @@ pub data MethodFault (own : List (List ℕ)) : ℕ → Type 0 where
 pub data MessageFault (object : Tree) : ℕ → Type 0 where
   in_method : {n : ℕ} → MethodFault (tree_own object) n → MessageFault object n
   in_meeting : {n : ℕ} → (method : Method) → NamesMethod (tree_own object) method → MeetingFault object (Some method) n → MessageFault object n
-  -- a line of a VEVENT isn't read yet
-  not_yet : list_any (list_any is_unread_in_message) (vevents object) ≡ true → MessageFault object 99
-  -- neither is a CANCEL without DTSTART
-  no_start_yet : NamesMethod (tree_own object) Cancel → list_any lacks_start (vevents object) ≡ true → MessageFault object 99
+  -- something in a VEVENT isn't read yet
+  not_yet : is_unread object ≡ true → MessageFault object 99
 
 -- the octets are one VCALENDAR, within the limits of a message, and the fault of this number stands in it
 pub record MessageTextFault (octets : List ℕ) (n : ℕ) : Type 0 where
@@ -92,15 +92,66 @@ pub record MessageTextFault (octets : List ℕ) (n : ℕ) : Type 0 where
 
 -- ---- its parts
 
--- the lines of a VEVENT that say when its event is, in their one form, unfolded and without line ends
-pub record IsContent (content : List (List ℕ)) (event : Event) : Type 0 where
-  pub start : List ℕ
-  pub written : WritesStamp start event.times.start
-  pub is : content ≡ (codes "DTSTART:" ++ start) ∷ (codes "DURATION:" ++ duration_text event.times.length.days event.times.length.seconds) ∷ []
+-- DTSTART in UTC, or in a zone, whose name here is `Z` whatever it was
+abbrev pub StartsIn : Option Zone → EventTimes → List ℕ → Type 0
+StartsIn None times line = (text : List ℕ) × WritesStamp text times.start × (line ≡ codes "DTSTART:" ++ text)
+StartsIn (Some zone) times line = (text : List ℕ) × WritesLocal text times.local × (line ≡ codes "DTSTART;TZID=Z:" ++ text)
 
--- those lines, each ended by CRLF: two bodies are one where these octets are equal, so a day and 24 hours are two; this profile's choice
-abbrev pub canonical : List (List ℕ) → List ℕ
-canonical content = flat_map (λ line. line ++ codes "\r\n") content
+-- these instants ascending, each once
+pub record AreAscending (instants ascending : List ℤ) : Type 0 where
+  pub exact : (instant : ℤ) → Contains ascending instant ↔ Contains instants instant
+  pub order : AllPairs ◌<ℤ◌ ascending
+
+-- a property that lists these texts, with commas between; none where there are none
+abbrev pub list_lines : List ℕ → List (List ℕ) → List (List ℕ)
+list_lines name [] = []
+list_lines name (text ∷ texts) = (name ++ codes ":" ++ text ++ flat_map (λ other. codes "," ++ other) texts) ∷ []
+
+-- a property that lists these instants, in UTC
+pub record WritesTimes (name : List ℕ) (instants : List ℤ) (lines : List (List ℕ)) : Type 0 where
+  pub ascending : List ℤ
+  pub are : AreAscending instants ascending
+  pub texts : List (List ℕ)
+  pub each : AllZip WritesStamp texts ascending
+  pub is : lines ≡ list_lines name texts
+
+-- the instant lies where a start may
+abbrev pub is_in_dates : ℤ → Bool
+is_in_dates instant = lt_z instant horizon && not (lt_z instant first_second)
+
+-- what says when an event is, in its one form: the lines of its VEVENT, unfolded and without line ends, where a zone is named `Z`; and the octets
+-- of the VTIMEZONE behind its TZID, where there is a zone
+pub record Content : Type 0 where
+  pub lines : List (List ℕ)
+  pub zone : Option (List ℕ)
+
+-- that of what isn't to take place
+abbrev pub no_content : Content
+no_content = record { lines = []; zone = None }
+
+-- the octets of a zone's VTIMEZONE behind its TZID
+abbrev pub IsZoneRest : Zone → List ℕ → Type 0
+IsZoneRest zone rest = (parts : List (List ℕ)) × WritesParts parts zone × (rest ≡ written (parts ++ codes "END:VTIMEZONE" ∷ []))
+
+-- the VTIMEZONE with these behind its TZID, under a name that needs no escapes
+abbrev pub zone_text : List ℕ → List ℕ → List ℕ
+zone_text name rest = written (codes "BEGIN:VTIMEZONE" ∷ (codes "TZID:" ++ name) ∷ []) ++ rest
+
+-- the content of an event: DTSTART, DURATION, RDATE and EXDATE, and its zone. Of what EXDATE names that counts which lies where a start may
+pub record IsContent (content : Content) (event : Event) : Type 0 where
+  pub start : List ℕ
+  pub starts : StartsIn event.times.zone event.times start
+  pub additions : List (List ℕ)
+  pub adds : WritesTimes (codes "RDATE") event.additions additions
+  pub exceptions : List (List ℕ)
+  pub takes : WritesTimes (codes "EXDATE") (filter is_in_dates event.exceptions) exceptions
+  pub are : content.lines ≡ start ∷ (codes "DURATION:" ++ duration_text event.times.length.days event.times.length.seconds) ∷ (additions ++ exceptions)
+  pub in_zone : BothOrNeither IsZoneRest event.times.zone content.zone
+
+-- the octets of a content: its lines, each ended by CRLF, and then its zone as it is written, no line of which is long enough to be folded.
+-- Two bodies are one where these octets are equal, so a day and 24 hours are two; this profile's choice
+abbrev pub canonical : Content → List ℕ
+canonical content = flat_map (λ line. line ++ codes "\r\n") content.lines ++ unwrap_or (option_map (zone_text (codes "Z")) content.zone) []
 
 -- an ATTENDEE line of the event has the room's address
 abbrev pub names_room : List ℕ → Event → Bool
@@ -161,16 +212,16 @@ raised_to (Some whole) own = later_of own whole
 abbrev pub revision_beside : Option Event → Event → Revision
 revision_beside whole event = raised_to (option_map own_revision whole) (own_revision event)
 
--- what an event of such a message makes of its slot for a room: it cancels it, or sets it to these lines, which say when it is, or is not
+-- what an event of such a message makes of its slot for a room: it cancels it, or sets it to this content, which says when it is, or is not
 -- for this room
-abbrev pub IsBody : List ℕ → Method → Event → List (List ℕ) → Body → Type 0
+abbrev pub IsBody : List ℕ → Method → Event → Content → Body → Type 0
 IsBody room method event content (Set octets) =
     (cancels method event ≡ false) × (names_room room event ≡ true) × IsContent content event × (octets ≡ canonical content)
-IsBody room method event content Absent = (cancels method event ≡ false) × (names_room room event ≡ false) × (content ≡ [])
-IsBody room method event content Cancelled = (cancels method event ≡ true) × (content ≡ [])
+IsBody room method event content Absent = (cancels method event ≡ false) × (names_room room event ≡ false) × (content ≡ no_content)
+IsBody room method event content Cancelled = (cancels method event ≡ true) × (content ≡ no_content)
 
 -- the part that an event of a message is for a room, with this content
-pub record IsPart (room : List ℕ) (message : Message) (event : Event) (content : List (List ℕ)) (part : Part) : Type 0 where
+pub record IsPart (room : List ℕ) (message : Message) (event : Event) (content : Content) (part : Part) : Type 0 where
   pub organiser : event.organiser ≡ Some part.organiser
   pub uid : part.uid ≡ event.uid
   pub slot : part.slot ≡ slot_of event
@@ -186,7 +237,7 @@ pub record AreBySlot (events ordered : List Event) : Type 0 where
 pub record AreParts (room : List ℕ) (message : Message) (parts : List Part) : Type 0 where
   pub events : List Event
   pub are : AreBySlot (parts_for room message) events
-  pub each : AllZip (λ event part. (content : List (List ℕ)) × IsPart room message event content part) events parts
+  pub each : AllZip (λ event part. (content : Content) × IsPart room message event content part) events parts
 
 -- ---- replies and refreshes
 

@@ -4,14 +4,14 @@ use Rattle.std.specs.List.{flat_map, list_any}
 use Rattle.std.specs.declared.cmp.Ordering.TheVariants.{Less}
 use Rattle.profile.specs.checker.Instances.{Key, Booked, IsClash, IsClear, booked_cmp}
 use Rattle.profile.specs.rooms.Revisions.{Part, Body, At, Set, Absent, Cancelled, in_view, is_whole, same_meeting, same_part, same_place}
-use Rattle.profile.specs.rooms.Messages.{Outcome, Accept, Busy, SeriesLimit, SinglesLimit}
+use Rattle.profile.specs.rooms.Messages.{Content, Outcome, Accept, Busy, SeriesLimit, SinglesLimit}
 
 -- ---- what a room keeps
 
--- a part of a message, and what it asks for if it is to take place: the lines that say when, without line ends, and single instances so far
+-- a part of a message, and what it asks for if it is to take place: what says when it is, and its instances
 pub record Claim : Type 0 where
   pub part : Part
-  pub content : List (List ℕ)
+  pub content : Content
   pub singles : List Booked
 
 -- what was decided about a part, and when; it stays for good

@@ -11,7 +11,7 @@ use Rattle.cal_events.proofs.OwnSingles.{master_own, override_own}
 use Rattle.cal_events.proofs.draft.add_singles.Goals as goal
 
 pub single_starts-requires : goal.single_starts-requires
-single_starts-requires c = clock_good c.requires.0 c.requires.1 (event_of c.args.event.now) c.requires.2
+single_starts-requires c = λ _. clock_good c.requires.0 c.requires.1 (event_of c.args.event.now) c.requires.2
 
 pub loop-start-preserved : goal.loop-start-preserved
 loop-start-preserved c =

@@ -2,7 +2,7 @@ use Rattle.std.proofs.Common.{◌≡◌, ◌++◌, List, take}
 use Rattle.std.specs.List.{AllZip}
 use Rattle.cal_events.specs.Events.{event_of}
 use Rattle.cal_events.specs.Drafts.{IsMadeAt}
-use Rattle.cal_events.specs.declared.calendar.Single.{Single}
+use Rattle.cal_events.specs.declared.calendar.PlacedSingle.{PlacedSingle as Single}
 use Rattle.cal_events.proofs.draft.add_singles.Given as goal
 
 -- those so far, of the starts so far

@@ -3,4 +3,4 @@ use Rattle.cal_events.proofs.RecurrenceLemmas.{recurrence_out_there}
 use Rattle.cal_events.proofs.occurrences.judge_recurrence.Goals as goal
 
 pub returns-in-Some-clause-stands : goal.returns-in-Some-clause-stands
-returns-in-Some-clause-stands c object lines s = recurrence_out_there object lines c.in-Some.said (search rules) (search rules)
+returns-in-Some-clause-stands c object lines s added = recurrence_out_there object lines c.in-Some.said (search rules) (search rules)

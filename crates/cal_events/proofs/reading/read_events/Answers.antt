@@ -5,7 +5,7 @@ use Rattle.ical_tree.specs.Tree.{component_lines, component_children, tree_of}
 use Rattle.ical_tree.specs.declared.component.Component.{Component}
 use Rattle.profile.specs.text.Trees.{Tree}
 use Rattle.profile.specs.events.Events.{SaysEvent}
-use Rattle.cal_events.specs.Events.{event_of, vevents_of, is_message, has_unread_for, IsUnreadOrFault, IsUnreadOrFaultAmong}
+use Rattle.cal_events.specs.Events.{event_of, vevents_of, is_message, has_unread_for, IsUnreadOrFault, IsUnreadOrFaultAmong, method_read}
 use Rattle.cal_events.proofs.ReadingLemmas.{events_in, is_among, take_event, take_other, read_event, event_pushed}
 use Rattle.cal_events.proofs.ZonedLemmas.{weaker_fault}
 use Rattle.ical_values.proofs.Exits.{err_exit}
@@ -30,7 +30,7 @@ returns-in_err-read_event-clause-stands c =
 pub loop-component-preserved : goal.loop-component-preserved
 loop-component-preserved c =
     let object = tree_of c.args.object.now in
-    let m = is_message c.args.purpose in
+    let m = method_read c.args.purpose in
     let all = component_children c.args.object.now in
     let i = c.loop-component.component-index in
     let x = c.component-item.result in

@@ -1,5 +1,6 @@
 use Rattle.std.proofs.Common.{◌≡◌, ◌∙◌, ap, sym, subst, not, [], arith, to_z, of_z, w64, to_z-of_z, ℤ, ◌<ℤ◌}
 use Rattle.std.proofs.lemmas.Bool.{false≢true}
+use Rattle.std.specs.Prelude.{is_some}
 use Rattle.std.specs.Cmp.{unsigned_Decides}
 use Rattle.std.proofs.lemmas.Int.{ints, by_lt_z}
 use Rattle.profile.specs.series.Days.{day_index}
@@ -33,10 +34,10 @@ returns-then-start-instant c =
     let step = c.in-Some.ensures r.0 (walked.listed r.0 r.1) in
     let wanted = wanted_at event instant c.requires.named c.requires.not_excepted in
     let words = unsigned_Decides (of_z w64 start) (of_z w64 instant) in (
-      (λ h. gives event instant r.0 r.1 c.requires.clock.0 (day_index d.0) d.1 on c.loop-day.days.from walked.none wanted (day_index c.in-Some.day) step.2.0 start c.start_on-start.ensures.meaning
+      (λ h. gives event instant r.0 r.1 (c.requires.clock (ap (λ o. is_some o) r.1)).0 (day_index d.0) d.1 on c.loop-day.days.from walked.none wanted (day_index c.in-Some.day) step.2.0 start c.start_on-start.ensures.meaning
           (sym here ∙ ap (to_z w64) (words.0 h) ∙ given)),
       λ h. words.1 (by_lt_z instant start
-          (λ less. absurd (gives_not event instant r.0 r.1 c.requires.clock.0 (day_index d.0) d.1 on c.loop-day.days.from walked.none wanted c.requires.clock.1 (day_index c.in-Some.day) step.2.0 start
+          (λ less. absurd (gives_not event instant r.0 r.1 (c.requires.clock (ap (λ o. is_some o) r.1)).0 (day_index d.0) d.1 on c.loop-day.days.from walked.none wanted (c.requires.clock (ap (λ o. is_some o) r.1)).1 (day_index c.in-Some.day) step.2.0 start
           c.start_on-start.ensures.meaning less h))
           (λ most. ap (of_z w64) {x = start} {y = instant} (omega (arith, ints, most, c.if-start-instant.true, here, given)))),
     )
@@ -60,7 +61,7 @@ loop-day-preserved c =
     let early : start <ℤ bound = omega (arith, ints, c.if-start-instant.false, here) in
     let walked = c.loop-day.invariant in
     let step = c.in-Some.ensures r.0 (walked.listed r.0 r.1) in
-    walked_on event [] (at bound) r.0 r.1 c.requires.clock.0 (day_index d.0) d.1 on c.loop-day.days c.next.new.self walked c.in-Some.day start step c.start_on-start.ensures.meaning (early_unwanted event bound start early)
+    walked_on event [] (at bound) r.0 r.1 (c.requires.clock (ap (λ o. is_some o) r.1)).0 (day_index d.0) d.1 on c.loop-day.days c.next.new.self walked c.in-Some.day start step c.start_on-start.ensures.meaning (early_unwanted event bound start early)
 
 pub returns : goal.returns
 returns c =
@@ -72,4 +73,4 @@ returns c =
     let walked = subst (λ (x : ℤ). AreWalked event [] (at x) c.loop-day.days) given c.loop-day.invariant in
     let step = c.in_default.ensures r.0 (walked.listed r.0 r.1) in
     let wanted = wanted_at event c.args.instant c.requires.named c.requires.not_excepted in
-    ((λ h. absurd (false≢true h)), λ h. absurd (gives_none event c.args.instant r.0 r.1 c.requires.clock.0 (day_index d.0) d.1 on c.loop-day.days.from walked.none wanted step.2.0 h))
+    ((λ h. absurd (false≢true h)), λ h. absurd (gives_none event c.args.instant r.0 r.1 (c.requires.clock (ap (λ o. is_some o) r.1)).0 (day_index d.0) d.1 on c.loop-day.days.from walked.none wanted step.2.0 h))

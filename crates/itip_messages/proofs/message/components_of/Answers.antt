@@ -20,6 +20,7 @@ of-requires c =
     record {
       stamp = c.requires.stamped event there;
       dated = c.requires.dated event there;
+      ready = c.requires.ready event there;
     }
 
 pub loop-event-preserved : goal.loop-event-preserved

@@ -1,19 +1,37 @@
--- What the meetings keep is what the book does.
-use Rattle.std.proofs.Common.{◌∙◌}
-use Rattle.std.specs.List.{flat_map}
+-- What the meetings keep is what the book does, and its zones are those that came up.
+use Rattle.std.proofs.Common.{◌≡◌, ◌∙◌, ◌++◌, ◌<◌, ◌^◌, List, ℕ, length, sym, ap, subst}
+use Rattle.std.specs.List.{flat_map, AllZip}
+use Rattle.indexmap.specs.IndexMap.{values}
 use Rattle.ical_values.specs.Octets.{address_octets}
+use Rattle.profile.specs.rooms.Kept.{IsKeptEvent, each_once, zone_texts, zones_kept}
+use Rattle.profile.specs.text.Lines.{written}
+use Rattle.room_books.specs.Keeping.{all_kept, zone_of_entry}
+use Rattle.room_books.specs.Zoning.{with_zones}
 use Rattle.room_books.proofs.Keeping.{all_are_kept}
-use Rattle.room_books.proofs.Writing.{object_written}
+use Rattle.room_books.proofs.Writing.{calendar_written}
+use Rattle.room_books.proofs.ZonesOnce.{zones_once}
 use Rattle.room_books.proofs.texts.calendar_of.Goals as goal
 
 pub returns : goal.returns
 returns c = λ book st.
     let w = c.in_ok-write_meetings.ensures in
-    let kept = all_are_kept (address_octets c.args.room.now) c.args.meetings.now.entries book st c.keys_differ.ensures w.events w.each in
+    let room = address_octets c.args.room.now in
+    let found = c.write_meetings.new.zones in
+    let kept = all_are_kept room found c.args.meetings.now.entries book st c.keys_differ.ensures w.events w.each in
+    let uses = flat_map zone_of_entry (all_kept (values c.args.meetings.now)) in
+    let zones : found ≡ zones_kept kept.0 = w.zones ∙ ap (λ z. with_zones z uses) c.new-zones.ensures ∙ zones_once uses ∙ ap each_once (sym kept.3) in
     record {
       entries = kept.0;
       kept = kept.1;
+      few = subst (λ z. length z < 2 ^ 64) zones c.in_ok-write.ensures.few;
       events = w.events;
-      each = kept.2;
-      is = c.finish.ensures ∙ object_written _ c.begin_calendar.new.self c.write_meetings.new.object c.end_calendar.new.self (flat_map (λ l. l) w.events) c.new-object.ensures c.in_ok-begin_calendar.ensures.ok w.is c.in_ok-end_calendar.ensures.ok;
+      each = subst (λ (z : List (List ℕ)). AllZip (IsKeptEvent room z) kept.0 w.events) zones kept.2;
+      is = c.finish.ensures
+          ∙ calendar_written c.new-object.result (zone_texts 0 (zones_kept kept.0)) c.write_meetings.new.object c.begin_calendar.new.self c.write.new.object c.end_calendar.new.self c.octets.new.self (flat_map (λ l. l) w.events)
+          c.new-object.ensures
+          c.in_ok-begin_calendar.ensures.ok
+          (c.in_ok-write.ensures.texts ∙ ap (λ z. c.begin_calendar.new.self ++ zone_texts 0 z) zones)
+          (w.is ∙ ap (λ o. o ++ written (flat_map (λ l. l) w.events)) c.new-events.ensures)
+          c.in_ok-end_calendar.ensures.ok
+          (c.in_ok-octets.ensures.ok ∙ ap (λ l. c.write.new.object ++ l) (c.as_slice.ensures.value ∙ c.finish-events.ensures));
     }

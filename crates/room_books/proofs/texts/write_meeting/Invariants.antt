@@ -10,4 +10,4 @@ use Rattle.room_books.proofs.texts.write_meeting.Given as goal
 abbrev pub invariant-loop-part : goal.invariant-loop-part
 invariant-loop-part l =
     (done : List Part) × (done ++ l.part-iterator ≡ shown l.meeting.held)
-    × WritesEntries (address_octets l.room) (flat_map (λ part. entry_of l.hides (has_slot l.accepted.items part.slot) part) done) l.fn.object l.object
+    × WritesEntries (address_octets l.room) (flat_map (λ part. entry_of l.hides (has_slot l.accepted.items part.slot) part) done) l.fn.zones l.zones l.fn.object l.object

@@ -15,6 +15,6 @@ loop-meeting-preserved c =
     let meeting = c.in-Some.meeting.now in (
       i.0 ++ meeting ∷ [],
       walked i.0 c.loop-meeting.meeting-iterator c.next.new.self (values c.args.meetings.now) meeting c.in-Some.ensures.steps i.1,
-      subst (λ (l : List (Bool × Part)). WritesEntries room l c.args.object.now c.write_meeting.new.object) (sym (flat_push kept_in i.0 meeting))
-          (both_written room (all_kept i.0) (kept_in meeting) c.args.object.now c.loop-meeting.object c.write_meeting.new.object i.2 c.in_ok-write_meeting.ensures),
+      subst (λ (l : List (Bool × Part)). WritesEntries room l c.args.zones.now c.write_meeting.new.zones c.args.object.now c.write_meeting.new.object) (sym (flat_push kept_in i.0 meeting))
+          (both_written room (all_kept i.0) (kept_in meeting) c.args.zones.now c.loop-meeting.zones c.write_meeting.new.zones c.args.object.now c.loop-meeting.object c.write_meeting.new.object i.2 c.in_ok-write_meeting.ensures),
     )

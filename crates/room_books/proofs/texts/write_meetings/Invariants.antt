@@ -7,4 +7,4 @@ use Rattle.room_books.specs.Keeping.{WritesEntries, all_kept}
 use Rattle.room_books.proofs.texts.write_meetings.Given as goal
 
 abbrev pub invariant-loop-meeting : goal.invariant-loop-meeting
-invariant-loop-meeting l = (done : List Meeting) × (done ++ l.meeting-iterator ≡ values l.meetings) × WritesEntries (address_octets l.room) (all_kept done) l.fn.object l.object
+invariant-loop-meeting l = (done : List Meeting) × (done ++ l.meeting-iterator ≡ values l.meetings) × WritesEntries (address_octets l.room) (all_kept done) l.fn.zones l.zones l.fn.object l.object

@@ -23,11 +23,11 @@ returns c =
     let part = part_of c.args.part.now in
     let body = c.in-Set.body.items in
     let set : part.body ≡ revisions.Set body = ap body_of c.in-Set.is in
-    let w = subst (λ b. WritesBody b c.write_head.new.object c.write_body.new.object) c.as_slice.ensures.value c.in_ok-write_body.ensures in
-    shown_written room part c.args.object.now c.write_head.new.object c.write_body.new.object c.named.new.self c.named-2.new.self c.line.new.self c.in_ok-write_head.ensures body w.lines set w.text w.is
+    let w = subst (λ b. WritesBody b c.args.zones.now c.write_body.new.zones c.write_head.new.object c.write_body.new.object) c.as_slice.ensures.value c.in_ok-write_body.ensures in
+    shown_written room part c.args.object.now c.write_head.new.object c.write_body.new.object c.named.new.self c.named-2.new.self c.line.new.self c.in_ok-write_head.ensures body c.args.zones.now c.write_body.new.zones set w
     (c.in_ok-named.ensures.ok ∙ ap (λ l. c.write_body.new.object ++ folded (codes "ORGANIZER:" ++ l)) c.as_str.ensures)
     (c.in_ok-named-2.ensures.ok ∙ ap (λ l. c.named.new.self ++ folded (codes "ATTENDEE;PARTSTAT=ACCEPTED:" ++ l)) c.as_str-2.ensures)
     c.in_ok-line.ensures.ok
 
 pub returns-in_default : goal.returns-in_default
-returns-in_default c = no_event (address_octets c.args.room.now) (part_of c.args.part.now) c.args.object.now (λ set. not_set c.args.part.now.body c.in_default.not-Set set)
+returns-in_default c = no_event (address_octets c.args.room.now) (part_of c.args.part.now) c.args.zones.now c.args.object.now (λ set. not_set c.args.part.now.body c.in_default.not-Set set)

@@ -1,4 +1,4 @@
-use Rattle.std.proofs.Common.{◌≡◌, ◌∙◌, ◌<◌, ◌≤◌, ◌++◌, ◌∷◌, [], false, List, length, get_or, take, sym, ap, subst}
+use Rattle.std.proofs.Common.{◌≡◌, ◌∙◌, ◌<◌, ◌≤◌, ◌++◌, ◌∷◌, [], false, List, length, get_or, take, sym, ap, subst, None}
 use Rattle.std.specs.List.{AllZip}
 use Rattle.std.proofs.lemmas.List.{take_all}
 use Rattle.ical_lines.specs.Fault.{RefusesBy}
@@ -49,14 +49,14 @@ loop-component-preserved c =
     elim c.if-is_named.branch [
       | then-is_named+in_ok-event+in_ok-add w ↦ (
         before.0 ++ event_of w.in_ok-event.event ∷ [],
-        subst (λ vs. AllZip (SaysEvent object false) vs (before.0 ++ event_of w.in_ok-event.event ∷ [])) (sym (take_event all i x within here (sym w.if-is_named.ensures)))
-            (push_zip (SaysEvent object false) (events_in (take i all)) before.0 (component_lines x) (event_of w.in_ok-event.event) before.1
-            (subst (λ (t : Tree). SaysEvent t false (component_lines x) (event_of w.in_ok-event.event)) (ap tree_of c.in_ok-zones.ensures.object) w.in_ok-event.ensures.says)),
+        subst (λ vs. AllZip (SaysEvent object None) vs (before.0 ++ event_of w.in_ok-event.event ∷ [])) (sym (take_event all i x within here (sym w.if-is_named.ensures)))
+            (push_zip (SaysEvent object None) (events_in (take i all)) before.0 (component_lines x) (event_of w.in_ok-event.event) before.1
+            (subst (λ (t : Tree). SaysEvent t None (component_lines x) (event_of w.in_ok-event.event)) (ap tree_of c.in_ok-zones.ensures.object) w.in_ok-event.ensures.says)),
         subst (IsDraft room (before.0 ++ event_of w.in_ok-event.event ∷ [])) (sym w.draft-is) (w.in_ok-add.ensures before.0 before.2),
       )
       | else-is_named w ↦ (
         before.0,
-        subst (λ vs. AllZip (SaysEvent object false) vs before.0) (sym (take_other all i x within here (sym w.if-is_named.ensures))) before.1,
+        subst (λ vs. AllZip (SaysEvent object None) vs before.0) (sym (take_other all i x within here (sym w.if-is_named.ensures))) before.1,
         subst (IsDraft room before.0) (sym w.draft-is) before.2,
       )
     ]
@@ -66,7 +66,7 @@ returns-clause-says c =
     let object = tree_of c.args.object.now in
     let h = c.loop-component.invariant in
     let all = take_all c.loop-component.component-index (component_children c.args.object.now) (subst (λ (l : List Component). length l ≤ c.loop-component.component-index) c.children-component-items.ensures c.loop-component-test.false) in
-    let says = subst (λ vs. AllZip (SaysEvent object false) vs h.0) (ap events_in all ∙ sym (vevents_tree c.args.object.now)) h.1 in
+    let says = subst (λ vs. AllZip (SaysEvent object None) vs h.0) (ap events_in all ∙ sym (vevents_tree c.args.object.now)) h.1 in
     calendar_says (address_octets c.args.room.now) object h.0 c.into_calendar.result says (c.into_calendar.ensures.masters (address_octets c.args.room.now) h.0 h.2) (c.into_calendar.ensures.are (address_octets c.args.room.now) h.0 h.2)
 
 pub returns-clause-stands : goal.returns-clause-stands
@@ -74,5 +74,5 @@ returns-clause-stands c =
     let object = tree_of c.args.object.now in
     let h = c.loop-component.invariant in
     let all = take_all c.loop-component.component-index (component_children c.args.object.now) (subst (λ (l : List Component). length l ≤ c.loop-component.component-index) c.children-component-items.ensures c.loop-component-test.false) in
-    let says = subst (λ vs. AllZip (SaysEvent object false) vs h.0) (ap events_in all ∙ sym (vevents_tree c.args.object.now)) h.1 in
+    let says = subst (λ vs. AllZip (SaysEvent object None) vs h.0) (ap events_in all ∙ sym (vevents_tree c.args.object.now)) h.1 in
     calendar_refused object h.0 c.into_calendar.result says (c.into_calendar.ensures.stands (address_octets c.args.room.now) h.0 h.2)

@@ -1,4 +1,4 @@
-use Rattle.std.proofs.Common.{false, take, List}
+use Rattle.std.proofs.Common.{false, take, List, None}
 use Rattle.std.specs.List.{AllZip}
 use Rattle.ical_tree.specs.Tree.{component_children, tree_of}
 use Rattle.ical_values.specs.Octets.{address_octets}
@@ -10,5 +10,5 @@ use Rattle.cal_events.proofs.calendar.Calendar.of_object.Given as goal
 -- the VEVENTs so far say events, and the draft is of these
 abbrev pub invariant-loop-component : goal.invariant-loop-component
 invariant-loop-component l =
-    (events : List Event) × AllZip (SaysEvent (tree_of l.object) false) (events_in (take l.component-index (component_children l.object))) events
+    (events : List Event) × AllZip (SaysEvent (tree_of l.object) None) (events_in (take l.component-index (component_children l.object))) events
     × IsDraft (address_octets l.room) events l.draft

@@ -1,6 +1,6 @@
 use Rattle.std.proofs.Common.{◌<◌, length}
 use Rattle.std.proofs.lemmas.List.Elements.{All-rest}
-use Rattle.cal_events.specs.declared.calendar.Single.{Single}
+use Rattle.cal_events.specs.declared.calendar.PlacedSingle.{PlacedSingle as Single}
 use Rattle.cal_events.proofs.calendar.SinglesIterator.next.Goals as goal
 
 pub invariant_of-self : goal.invariant_of-self

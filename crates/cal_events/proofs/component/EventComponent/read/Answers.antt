@@ -2,7 +2,7 @@ use Rattle.std.proofs.Common.{inl, inr}
 use Rattle.std.proofs.lemmas.Result.{IfErr-weaker}
 use Rattle.ical_lines.specs.Fault.{RefusesOnly, RefusesBy}
 use Rattle.profile.specs.events.Events.{EventFault}
-use Rattle.cal_events.specs.Events.{is_message, is_fault_for, IsUnreadOrFault}
+use Rattle.cal_events.specs.Events.{is_message, is_fault_for, IsUnreadOrFault, method_read}
 use Rattle.cal_events.proofs.NumberLemmas.{unread_for, refused_for}
 use Rattle.cal_events.specs.Zones.{object_of}
 use Rattle.cal_events.proofs.ZonedLemmas.{weaker_fault}
@@ -23,7 +23,7 @@ returns-clause-refuses c =
     let object = object_of c.args.zones.now in
     let purpose = c.args.purpose in
     let lines = c.args.properties.now in
-    IfErr-weaker _ (RefusesBy (EventFault object (is_message purpose) lines)) (RefusesOnly (is_fault_for purpose))
+    IfErr-weaker _ (RefusesBy (EventFault object (method_read purpose) lines)) (RefusesOnly (is_fault_for purpose))
     (refused_for object purpose lines) c.read_values.ensures.stands
 
 pub returns-clause-stands : goal.returns-clause-stands
@@ -31,5 +31,5 @@ returns-clause-stands c =
     let object = object_of c.args.zones.now in
     let purpose = c.args.purpose in
     let lines = c.args.properties.now in
-    IfErr-weaker _ (RefusesBy (EventFault object (is_message purpose) lines)) (RefusesBy (IsUnreadOrFault object purpose lines))
-    (λ f h. weaker_fault f (EventFault object (is_message purpose) lines) (IsUnreadOrFault object purpose lines) (λ n x. inr x) h) c.read_values.ensures.stands
+    IfErr-weaker _ (RefusesBy (EventFault object (method_read purpose) lines)) (RefusesBy (IsUnreadOrFault object purpose lines))
+    (λ f h. weaker_fault f (EventFault object (method_read purpose) lines) (IsUnreadOrFault object purpose lines) (λ n x. inr x) h) c.read_values.ensures.stands

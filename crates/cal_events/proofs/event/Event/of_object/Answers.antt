@@ -28,7 +28,7 @@ pub into_event-requires-clause-clock : goal.into_event-requires-clause-clock
 into_event-requires-clause-clock c =
     let says = c.in_ok-components.ensures.says in
     let object = tree_of c.args.object.now in
-    master_good says.events c.in_ok-components.components.master (all_clocks object (vevents object) says.events says.says) says.master
+    master_good says.events c.in_ok-components.components.master (all_clocks object None (vevents object) says.events says.says) says.master
 
 pub into_event-requires-clause-ends : goal.into_event-requires-clause-ends
 into_event-requires-clause-ends c a b =

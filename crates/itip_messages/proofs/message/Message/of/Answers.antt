@@ -12,7 +12,7 @@ use Rattle.profile.specs.rooms.Revisions as revisions
 use Rattle.itip_messages.specs.declared.message.MessageComponent.{MessageComponent}
 use Rattle.itip_messages.specs.Messages.{SaysComponent, method_said}
 use Rattle.itip_messages.proofs.BySlot.{sorted_by_slot}
-use Rattle.itip_messages.proofs.MessageLemmas.{master_stamp, stamp_given, slot_dated, organiser_given, some_event, one_organiser, one_uid, there}
+use Rattle.itip_messages.proofs.MessageLemmas.{master_stamp, stamp_given, slot_dated, event_is_ready, organiser_given, some_event, one_organiser, one_uid, there}
 use Rattle.itip_messages.proofs.message.Message.of.Goals as goal
 
 pub whole_revision-whole-requires : goal.whole_revision-whole-requires
@@ -49,6 +49,13 @@ components_of-requires-clause-dated c e at =
     let events = c.in_ok-events.events.items in
     let sorted = c.sort_by_slot.new.events.items in
     slot_dated meeting c.requires events c.in_ok-events.ensures e (Contains-permutation sorted events e (IsPermutation-sym events sorted c.sort_by_slot.ensures.same) at)
+
+pub components_of-requires-clause-ready : goal.components_of-requires-clause-ready
+components_of-requires-clause-ready c e at =
+    let meeting = meeting_of c.args.meeting in
+    let events = c.in_ok-events.events.items in
+    let sorted = c.sort_by_slot.new.events.items in
+    event_is_ready meeting c.requires events c.in_ok-events.ensures e (Contains-permutation sorted events e (IsPermutation-sym events sorted c.sort_by_slot.ensures.same) at)
 
 pub returns : goal.returns
 returns c =

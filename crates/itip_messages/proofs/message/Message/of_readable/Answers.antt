@@ -1,15 +1,17 @@
-use Rattle.std.proofs.Common.{◌∙◌, ℕ, List, subst, sym}
+use Rattle.std.proofs.Common.{◌∙◌, ℕ, List, subst, sym, ap}
+use Rattle.std.specs.List.{list_any}
 use Rattle.ical_lines.specs.Fault.{RefusesBy, RefusesOnly}
 use Rattle.ical_tree.specs.Tree.{component_lines, tree_of}
 use Rattle.ical_tree.proofs.TreeOfLemmas.{tree_of-own}
 use Rattle.profile.specs.faults.Faults.{is_message_fault}
+use Rattle.profile.specs.text.Trees.{vevents}
 use Rattle.profile.specs.rooms.Messages.{NamesMethod, MethodFault, MessageFault, in_method}
 use Rattle.itip_messages.specs.Messages.{method_said}
-use Rattle.cal_events.specs.Events.{vevents_of}
+use Rattle.cal_events.specs.Events.{vevents_of, has_unread_for}
 use Rattle.cal_events.specs.OneMeeting.{meeting_of}
 use Rattle.cal_events.proofs.TreeLemmas.{vevents_tree}
 use Rattle.itip_messages.proofs.BySlot.{of_message}
-use Rattle.itip_messages.proofs.MessageLemmas.{in_message, meeting_stands, meeting_numbers, message_said}
+use Rattle.itip_messages.proofs.MessageLemmas.{all_read, in_message, meeting_stands, meeting_numbers, message_said}
 use Rattle.ical_values.proofs.Exits.{err_exit}
 use Rattle.itip_messages.proofs.message.Message.of_readable.Goals as goal
 
@@ -35,6 +37,7 @@ of-requires-3 c =
     let object = tree_of c.args.object.now in
     let meeting = meeting_of c.in_ok-meeting.meeting in
     of_message object (method_said c.in_ok-method.method) meeting (in_message object c.in_ok-method.method _ meeting c.purpose.ensures c.in_ok-meeting.ensures.says)
+    (all_read c.in_ok-method.method _ (vevents object) c.purpose.ensures (ap (list_any (has_unread_for c.purpose.result)) (vevents_tree c.args.object.now) ∙ c.in_ok-meeting.ensures.read))
 
 pub returns-clause-says : goal.returns-clause-says
 returns-clause-says c =

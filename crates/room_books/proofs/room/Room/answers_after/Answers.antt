@@ -1,6 +1,6 @@
 use Rattle.std.proofs.Common.{List, sym, subst, arith}
 use Rattle.room_books.specs.declared.meeting.Given.{Given}
-use Rattle.room_books.specs.declared.meeting.Single.{Single}
+use Rattle.cal_events.specs.declared.instance.Single.{Single}
 use Rattle.room_books.specs.Instants.{IsPartOf}
 use Rattle.room_books.specs.Takings.{IsDecision}
 use Rattle.room_books.specs.Views.{others, all_singles, MayJoin}

@@ -2,7 +2,7 @@
 use Rattle.std.proofs.Common.{◌∙◌, ◌++◌, List, sym, ap, subst, arith, length}
 use Rattle.std.specs.List.{Contains}
 use Rattle.profile.specs.checker.Instances.{IsClear}
-use Rattle.room_books.specs.declared.meeting.Single.{Single}
+use Rattle.cal_events.specs.declared.instance.Single.{Single}
 use Rattle.room_books.specs.Views.{others, booked_list, all_singles}
 use Rattle.room_books.proofs.Putting.{own_counted, beside_is, clear_kept}
 use Rattle.std.specs.Prelude.{IfOk}

@@ -1,7 +1,7 @@
 -- The timeline follows the meetings.
 use Rattle.std.proofs.Common.{◌∙◌, ℕ, List, sym, ap, subst, arith, length}
 use Rattle.std.specs.List.{Contains}
-use Rattle.room_books.specs.declared.meeting.Single.{Single}
+use Rattle.cal_events.specs.declared.instance.Single.{Single}
 use Rattle.room_books.specs.declared.timeline.Busy.{Busy}
 use Rattle.room_books.specs.Instants.{AreSeparate}
 use Rattle.std.specs.Map.{lookup}

@@ -1,0 +1,38 @@
+use Rattle.std.proofs.Common.{◌≡◌, codes, sym, subst, arith, to_z, of_z, w64, ℤ}
+use Rattle.std.proofs.lemmas.Int.{ints}
+use Rattle.profile.specs.series.Zones.{Means}
+use Rattle.ical_lines.specs.Text.{line_text}
+use Rattle.profile.specs.events.ZonedTimes.{EventTimesFault, ZonedTimeFault, bad_start}
+use Rattle.ical_values.proofs.Exits.{refusal_exit}
+use Rattle.cal_events.proofs.EventLemmas.{some_line}
+use Rattle.std.specs.Prelude.{◌↔◌, IsTrue}
+use Rattle.profile.specs.events.ZonedTimes.{IsInDates, clock_of}
+use Rattle.cal_events.specs.Zones.{object_of}
+use Rattle.cal_events.specs.Events.{zone_said}
+use Rattle.cal_events.proofs.event_times.SaidTimes.from_start.Goals as goal
+
+pub returns-in_err-start-clause-stands : goal.returns-in_err-start-clause-stands
+returns-in_err-start-clause-stands c may =
+    let object = object_of c.args.zones.now in
+    let lines = c.args.properties.now in
+    let line = line_text c.args.line in
+    let P = EventTimesFault may object lines in
+    refusal_exit _ P _ c.from_residual.ensures.1
+    (bad_start (some_line (codes "DTSTART") (λ l. ZonedTimeFault object l _) lines line c.requires.once c.in_err-start.ensures.stands))
+
+pub returns-in_err-extent-clause-stands : goal.returns-in_err-extent-clause-stands
+returns-in_err-extent-clause-stands c may =
+    refusal_exit _ (EventTimesFault may (object_of c.args.zones.now) c.args.properties.now) _ c.from_residual-in_err-extent.ensures.1 (c.in_err-extent.ensures.stands may)
+
+pub returns-clause-said : goal.returns-clause-said
+returns-clause-said c =
+    let start = c.in_ok-start.start in
+    let same : to_z w64 (of_z w64 c.instant-instant.result) ≡ c.instant-instant.result = omega (arith, ints, c.instant-instant.ensures.range) in
+    record {
+      line = line_text c.args.line;
+      once = c.requires.once;
+      says = c.in_ok-start.ensures.says;
+      means = subst (λ (x : ℤ). Means (clock_of (zone_said start)) start.local x) (sym same) c.instant-instant.ensures.meaning;
+      starts = subst (λ b. IsTrue c.is_in_dates-starts_in.result ↔ IsInDates b start.local (to_z w64 (of_z w64 c.instant-instant.result))) c.is_in_zone-in_zone.ensures c.is_in_dates-starts_in.ensures;
+      extent = c.in_ok-extent.ensures.reads;
+    }

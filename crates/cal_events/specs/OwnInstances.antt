@@ -1,0 +1,30 @@
+-- The instances of a VEVENT by itself, as they are made.
+use Rattle.std.specs.Prelude.{◌≡◌, ℤ, ◌-ℤ◌, ◌+ℤ◌, ◌≤ℤ◌, pos}
+use Rattle.profile.specs.checker.Instances.{Booked}
+use Rattle.profile.specs.series.Zones.{Zone, IsOffsetAt, IsOneOffset, IsOneMeaning, Means}
+use Rattle.profile.specs.events.ZonedTimes.{clock_of}
+use Rattle.profile.specs.events.Events.{Event}
+use Rattle.profile.specs.events.Starts.{EndsAt, key_at}
+use Rattle.cal_events.specs.Meetings.{IsNamed}
+use Rattle.cal_events.specs.declared.instance.Single.{Single}
+
+-- at each instant the clocks have one offset, a local time means one instant, and it isn't much later with another offset
+pub record IsSteady (z : Zone) : Type 0 where
+  pub offset : IsOneOffset z
+  pub meaning : IsOneMeaning z
+  pub keeps : (t offset local u : ℤ) → IsOffsetAt z t offset → Means z local u → (local -ℤ offset) ≤ℤ (u +ℤ pos 43_200)
+
+-- the times of an event are such as some VEVENT says
+pub record IsTimely (event : Event) : Type 0 where
+  pub steady : IsSteady (clock_of event.times.zone)
+  pub starts : IsNamed event.times.start
+
+-- the instance of the event's meeting that it is
+abbrev pub booked_at : Event → Single → Booked
+booked_at event single = record { key = key_at event single.slot; start = single.span.start; end = single.span.end }
+
+-- it is the instance of that slot at a start
+pub record IsMade (event : Event) (slot start : ℤ) (single : Single) : Type 0 where
+  pub slot_is : single.slot ≡ slot
+  pub starts : single.span.start ≡ start
+  pub ends : EndsAt event.times start single.span.end

@@ -1,0 +1,70 @@
+//! The instances of a VEVENT by itself, where it has no rule (RFC 5545 3.8.5.2, 3.8.5.1, 3.8.4.4).
+ghost use Rattle.std.specs.Prelude.{◌≡◌, ◌∷◌, [], None, map, Contains, IfOk};
+ghost use Rattle.std.specs.List.{AllZip};
+ghost use Rattle.profile.specs.series.Zones.{IsNearEpoch};
+ghost use Rattle.profile.specs.events.Properties.{first_second};
+ghost use Rattle.profile.specs.events.Starts.{AreInstancesFrom};
+ghost use Rattle.profile.specs.events.Confirmed.{alone};
+ghost use Rattle.cal_events.specs.Events.{event_of};
+ghost use Rattle.cal_events.specs.OwnInstances.{booked_at, IsMade, IsTimely};
+
+use crate::component::EventComponent;
+use crate::instance::Single;
+use crate::single_starts::single_starts;
+use crate::sweep::Span;
+use std::alloc::{AllocError, Global};
+
+impl EventComponent {
+    /// The instances of an event without RRULE, by start, each once, whichever of them other VEVENTs stand for: of one with RECURRENCE-ID its
+    /// own; of another one those at DTSTART and at what RDATE adds, but for what EXDATE names. None where there is an RRULE.
+    /// It fails only for memory.
+    pub fn singles(&self, alloc: Global) -> Result<Vec<Single>, AllocError>
+        // of an event that some VEVENT says
+        ensures { IfOk result (λ singles. self.now.rule ≡ None → IsTimely (event_of self.now)
+            → AreInstancesFrom (alone (event_of self.now)) first_second (map (booked_at (event_of self.now)) singles.items)) }
+    {
+        if let Some(slot) = self.recurrence {
+            return self.own_single(alloc, slot);
+        }
+        if self.rule.is_some() {
+            return Ok(Vec::new(alloc));
+        }
+        let starts = single_starts(alloc, self)?;
+        self.singles_at(alloc, &starts)
+    }
+
+    /// The one instance, which has that slot.
+    fn own_single(&self, alloc: Global, slot: i64) -> Result<Vec<Single>, AllocError>
+        ensures { IfOk result (λ singles. (own : Single) × (singles.items ≡ own ∷ []) × IsMade (event_of self.now) slot self.now.times.instant own) }
+    {
+        let mut singles = Vec::new(alloc);
+        singles.push(self.single_at(slot, self.times.instant.instant()))?;
+        Ok(singles)
+    }
+
+    /// The instances at these starts.
+    fn singles_at(&self, alloc: Global, starts: &[i64]) -> Result<Vec<Single>, AllocError>
+        requires { (start : _) → Contains starts.now start → IsNearEpoch start }
+        ensures { IfOk result (λ singles. AllZip (λ start single. IsMade (event_of self.now) start start single) starts.now singles.items) }
+    {
+        let mut singles = Vec::new(alloc);
+        for start in starts {
+            singles.push(self.single_at(*start, *start))?;
+        }
+        Ok(singles)
+    }
+
+    /// The instance of that slot at a start.
+    fn single_at(&self, slot: i64, start: i64) -> Single
+        requires { IsNearEpoch start }
+        ensures { IsMade (event_of self.now) slot start result }
+    {
+        Single {
+            slot,
+            span: Span {
+                start,
+                end: self.times.end_from(start),
+            },
+        }
+    }
+}

@@ -1,0 +1,256 @@
+-- The octets of a content: its lines, and then its zone, which begins at the first `B`. And its lines under the name of the zone.
+use Rattle.std.proofs.Common.{◌≡◌, ◌∙◌, refl, sym, ap, subst, ℕ, ◌+◌, ◌≤◌, Bool, true, false, not, ◌&&◌, cond, ℤ, List, [], ◌∷◌, ◌++◌, map, length, take, drop, get_or, codes, Option, None, Some, arith, append_assoc, append-nil}
+use Rattle.std.specs.Prelude.{◌==◌, unwrap_or, option_map}
+use Rattle.std.specs.List.{list_all, flat_map, AllZip, position_or_len}
+use Rattle.std.specs.Str.{IsUtf8}
+use Rattle.std.proofs.lemmas.Bool.{and_parts, and_from, not-true, false_from_ne_true}
+use Rattle.std.proofs.lemmas.Bool.Decides.{nat_tests}
+use Rattle.std.proofs.lemmas.List.Folds.{list_all-append}
+use Rattle.std.proofs.lemmas.List.{length-append, take_at, drop_at, map-append}
+use Rattle.std.proofs.lemmas.List.Sums.{position_or_len_is}
+use Rattle.std.proofs.lemmas.Str.{IsUtf8-append}
+use Rattle.memchr.specs.Find.{IsFirstByte, is_byte}
+use Rattle.profile.specs.events.Events.{Event}
+use Rattle.profile.specs.events.Properties.{BothOrNeither}
+use Rattle.profile.specs.events.ZonedTimes.{EventTimes}
+use Rattle.profile.specs.series.Zones.{Zone, Observance, Constant, Single, Pair, local_time}
+use Rattle.profile.specs.text.Lines.{folded}
+use Rattle.ical_lines.proofs.FoldLemmas.{part_written}
+use Rattle.profile.specs.text.Values.{WritesLocal, WritesStamp, duration_text}
+use Rattle.profile.specs.written.WrittenZones.{WritesPart, WritesParts, component_lines, keeping, rule_lines}
+use Rattle.profile.specs.rooms.Messages.{Content, IsContent, IsZoneRest, StartsIn, WritesTimes, list_lines, canonical, zone_text}
+use Rattle.profile.specs.rooms.Kept.{renamed}
+use Rattle.ical_lines.proofs.CleanLines.{is_shown, shown_append, clean_shown}
+use Rattle.ical_values.proofs.ShownValues.{shown_local, shown_offset}
+use Rattle.itip_messages.proofs.WrittenOctets.{IsTimeTest, both_pass, stamp_passes, local_passes, duration_passes, rule_lines_shown}
+use Rattle.itip_messages.specs.Bodies.{IsCutAtZone, crlf_lines, zone_octets}
+use Rattle.itip_messages.proofs.CleanBodies.{Lines, AreClean, clean_each_shown, clean_take, written_utf8, utf8_ended, IsBodyOf, body_ended}
+
+-- ---- the lines of a content
+
+-- printable, and no `B`
+abbrev pub is_early : ℕ → Bool
+is_early c = is_shown c && not (c == 66)
+
+early_time : IsTimeTest is_early
+early_time = record { digit = λ n h. grind (arith, nat_tests); middle = refl; last = refl }
+
+abbrev are_early : Lines → Bool
+are_early = list_all (list_all is_early)
+
+early_start : (zone : Option Zone) (times : EventTimes) (line : List ℕ) → StartsIn zone times line → list_all is_early line ≡ true
+early_start None times line (text, w, e) = ap (list_all is_early) e ∙ both_pass is_early (codes "DTSTART:") text refl (stamp_passes is_early early_time text times.start w)
+early_start (Some zone) times line (text, w, e) = ap (list_all is_early) e ∙ both_pass is_early (codes "DTSTART;TZID=Z:") text refl (local_passes is_early early_time text times.local w)
+
+early_texts : (texts : List (List ℕ)) (instants : List ℤ) → AllZip WritesStamp texts instants → list_all is_early (flat_map (λ other. codes "," ++ other) texts) ≡ true
+early_texts [] instants z = refl
+early_texts (t ∷ ts) [] z = absurd z
+early_texts (t ∷ ts) (i ∷ is) z =
+    both_pass is_early (codes "," ++ t) (flat_map (λ other. codes "," ++ other) ts) (both_pass is_early (codes ",") t refl (stamp_passes is_early early_time t i z.0)) (early_texts ts is z.1)
+
+early_list : (name : List ℕ) → list_all is_early name ≡ true → (texts : List (List ℕ)) (instants : List ℤ) → AllZip WritesStamp texts instants → are_early (list_lines name texts) ≡ true
+early_list name h [] instants z = refl
+early_list name h (t ∷ ts) [] z = absurd z
+early_list name h (t ∷ ts) (i ∷ is) z =
+    let more = flat_map (λ other. codes "," ++ other) ts in
+    let line = both_pass is_early (name ++ codes ":" ++ t) more (both_pass is_early (name ++ codes ":") t (both_pass is_early name (codes ":") h refl) (stamp_passes is_early early_time t i z.0)) (early_texts ts is z.1) in
+    and_from _ _ line refl
+
+early_times : (name : List ℕ) → list_all is_early name ≡ true → (instants : List ℤ) (lines : Lines) → WritesTimes name instants lines → are_early lines ≡ true
+early_times name h instants lines w = ap are_early w.is ∙ early_list name h w.texts w.ascending w.each
+
+-- what says the duration
+abbrev pub duration_line : Event → List ℕ
+duration_line event = codes "DURATION:" ++ duration_text event.times.length.days event.times.length.seconds
+
+early_duration : (event : Event) → list_all is_early (duration_line event) ≡ true
+early_duration event =
+    let days = event.times.length.days in
+    let seconds = event.times.length.seconds in
+    both_pass is_early (codes "DURATION:") (duration_text days seconds) refl (duration_passes is_early early_time.digit refl days seconds)
+
+-- each octet of the lines is printable, and no `B`
+pub early_lines : (content : Content) (event : Event) → IsContent content event → list_all (list_all is_early) content.lines ≡ true
+early_lines content event c =
+    ap are_early c.are
+    ∙ and_from _ _ (early_start event.times.zone event.times c.start c.starts) (and_from _ _ (early_duration event)
+    (list_all-append (list_all is_early) c.additions c.exceptions ∙ and_from _ _ (early_times (codes "RDATE") refl event.additions c.additions c.adds) (early_times (codes "EXDATE") refl _ c.exceptions c.takes)))
+
+early_shown : (line : List ℕ) → list_all is_early line ≡ true → list_all is_shown line ≡ true
+early_shown [] h = refl
+early_shown (c ∷ cs) h =
+    let both = and_parts (is_early c) (list_all is_early cs) h in
+    and_from _ _ (and_parts (is_shown c) (not (c == 66)) both.0).0 (early_shown cs both.1)
+
+all_early_shown : (lines : Lines) → are_early lines ≡ true → list_all (list_all is_shown) lines ≡ true
+all_early_shown [] h = refl
+all_early_shown (line ∷ lines) h = let both = and_parts (list_all is_early line) (are_early lines) h in and_from _ _ (early_shown line both.0) (all_early_shown lines both.1)
+
+pub shown_lines : (content : Content) (event : Event) → IsContent content event → list_all (list_all is_shown) content.lines ≡ true
+shown_lines content event c = all_early_shown content.lines (early_lines content event c)
+
+pub clean_lines : (content : Content) (event : Event) → IsContent content event → AreClean content.lines
+clean_lines content event c = clean_each_shown content.lines (shown_lines content event c)
+
+-- ---- the zone
+
+part_shown : (own : Lines) (o : Observance) → WritesPart own o → list_all (list_all is_shown) own ≡ true
+part_shown own o w =
+    let start = shown_append (codes "DTSTART:") w.start refl (shown_local w.start (local_time o.day o.second) w.writes_start) in
+    let from = shown_append (codes "TZOFFSETFROM:") w.from refl (shown_offset w.from o.offset_from w.writes_from) in
+    let to = shown_append (codes "TZOFFSETTO:") w.to refl (shown_offset w.to o.offset_to w.writes_to) in
+    ap (list_all (list_all is_shown)) w.is
+    ∙ and_from _ _ start (list_all-append (list_all is_shown) (rule_lines o.rule) ((codes "TZOFFSETFROM:" ++ w.from) ∷ (codes "TZOFFSETTO:" ++ w.to) ∷ [])
+    ∙ and_from _ _ (rule_lines_shown o.rule) (and_from _ _ from (and_from _ _ to refl)))
+
+-- a component with a printable kind
+component_shown : (kind : List ℕ) (own : Lines) → list_all is_shown kind ≡ true → list_all (list_all is_shown) own ≡ true → list_all (list_all is_shown) (component_lines kind own) ≡ true
+component_shown kind own k h =
+    let begin = shown_append (codes "BEGIN:") kind refl k in
+    let end = shown_append (codes "END:") kind refl k in
+    and_from _ _ begin (list_all-append (list_all is_shown) own ((codes "END:" ++ kind) ∷ []) ∙ and_from _ _ h (and_from _ _ end refl))
+
+pub parts_shown : (zone : Zone) (parts : Lines) → WritesParts parts zone → list_all (list_all is_shown) parts ≡ true
+parts_shown (Constant k) parts (own, w, e) = ap (list_all (list_all is_shown)) e ∙ component_shown (codes "STANDARD") own refl (part_shown own (keeping k) w)
+parts_shown (Single a) parts (own, w, e) = ap (list_all (list_all is_shown)) e ∙ component_shown (codes "STANDARD") own refl (part_shown own a w)
+parts_shown (Pair a b) parts (own, other, w, v, e) =
+    ap (list_all (list_all is_shown)) e
+    ∙ list_all-append (list_all is_shown) (component_lines (codes "STANDARD") own) (component_lines (codes "DAYLIGHT") other)
+    ∙ and_from _ _ (component_shown (codes "STANDARD") own refl (part_shown own a w)) (component_shown (codes "DAYLIGHT") other refl (part_shown other b v))
+
+-- what stands behind TZID is text
+pub rest_utf8 : (zone : Zone) (rest : List ℕ) → IsZoneRest zone rest → IsUtf8 rest
+rest_utf8 zone rest (parts, w, e) =
+    let shown : list_all (list_all is_shown) (parts ++ codes "END:VTIMEZONE" ∷ []) ≡ true = list_all-append (list_all is_shown) parts (codes "END:VTIMEZONE" ∷ []) ∙ and_from _ _ (parts_shown zone parts w) refl in
+    subst IsUtf8 (sym e) (written_utf8 (parts ++ codes "END:VTIMEZONE" ∷ []) (clean_each_shown (parts ++ codes "END:VTIMEZONE" ∷ []) shown))
+
+-- what stands before it in a body
+abbrev pub zone_head : List ℕ
+zone_head = codes "BEGIN:VTIMEZONE\r\nTZID:Z\r\n"
+
+-- a line that isn't folded
+short_folded : (line : List ℕ) → IsUtf8 line → length line ≤ 75 → folded line ≡ line ++ codes "\r\n"
+short_folded line u h = ap (λ l. l ++ codes "\r\n") (sym (part_written [] line line 0 u (omega (arith, h)) refl))
+
+pub zone_with : (name rest : List ℕ) → list_all is_shown name ≡ true → length name ≤ 70 → zone_text name rest ≡ (codes "BEGIN:VTIMEZONE\r\nTZID:" ++ name ++ codes "\r\n") ++ rest
+zone_with name rest h short =
+    let begin : folded (codes "BEGIN:VTIMEZONE") ≡ codes "BEGIN:VTIMEZONE\r\n" = short_folded (codes "BEGIN:VTIMEZONE") (clean_shown (codes "BEGIN:VTIMEZONE") refl).utf8 (omega arith) in
+    let id : folded (codes "TZID:" ++ name) ≡ codes "TZID:" ++ name ++ codes "\r\n" = short_folded (codes "TZID:" ++ name) (clean_shown (codes "TZID:" ++ name) (shown_append (codes "TZID:") name refl h)).utf8 (omega (arith, short)) in
+    (λ i. (begin i ++ (id i ++ [])) ++ rest) ∙ ap (λ l. (codes "BEGIN:VTIMEZONE\r\n" ++ l) ++ rest) (append-nil (codes "TZID:" ++ name ++ codes "\r\n"))
+
+pub zone_behind : (rest : List ℕ) → zone_text (codes "Z") rest ≡ zone_head ++ rest
+zone_behind rest = zone_with (codes "Z") rest refl (omega arith)
+
+zone_utf8_by : (zone : Option Zone) (rest : Option (List ℕ)) → BothOrNeither IsZoneRest zone rest → IsUtf8 (zone_octets rest)
+zone_utf8_by None None b = utf8_ended [] tt
+zone_utf8_by (Some zone) (Some rest) b =
+    subst IsUtf8 (sym (zone_behind rest))
+    (IsUtf8-append zone_head rest (utf8_ended (codes "BEGIN:VTIMEZONE" ∷ codes "TZID:Z" ∷ []) (clean_shown (codes "BEGIN:VTIMEZONE") refl, (clean_shown (codes "TZID:Z") refl, tt))) (rest_utf8 zone rest b))
+zone_utf8_by None (Some rest) b = absurd b
+zone_utf8_by (Some zone) None b = absurd b
+
+-- ---- where the zone begins among the octets
+
+abbrev pub is_b : ℕ → Bool
+is_b c = c == 66
+
+no_b_in : (line : List ℕ) → list_all is_early line ≡ true → (rest : List ℕ) → position_or_len is_b (line ++ rest) ≡ length line + position_or_len is_b rest
+no_b_in [] h rest = omega arith
+no_b_in (c ∷ cs) h rest =
+    let both = and_parts (is_early c) (list_all is_early cs) h in
+    let lacks : (c == 66) ≡ false = not-true _ (and_parts (is_shown c) (not (c == 66)) both.0).1 in
+    let k = position_or_len is_b rest in
+    ap (λ b. cond (not b) (1 + position_or_len is_b (cs ++ rest)) 0) lacks ∙ ap (λ n. 1 + n) (no_b_in cs both.1 rest) ∙ omega arith
+
+past_lines : (lines : Lines) → are_early lines ≡ true → (rest : List ℕ) → position_or_len is_b (crlf_lines lines ++ rest) ≡ length (crlf_lines lines) + position_or_len is_b rest
+past_lines [] h rest = omega arith
+past_lines (line ∷ lines) h rest =
+    let both = and_parts (list_all is_early line) (are_early lines) h in
+    let more = crlf_lines lines in
+    let first : position_or_len is_b (line ++ (13 ∷ 10 ∷ (more ++ rest))) ≡ length line + (1 + (1 + (length more + position_or_len is_b rest))) =
+    no_b_in line both.0 (13 ∷ 10 ∷ (more ++ rest)) ∙ ap (λ n. length line + (1 + (1 + n))) (past_lines lines both.1 rest) in
+    ap (position_or_len is_b) (grouped line more rest) ∙ first ∙ counted line more (position_or_len is_b rest)
+  where
+    grouped : (line more rest : List ℕ) → ((line ++ codes "\r\n") ++ more) ++ rest ≡ line ++ (13 ∷ 10 ∷ (more ++ rest))
+    grouped line more rest = append_assoc (line ++ codes "\r\n") more rest ∙ append_assoc line (13 ∷ 10 ∷ []) (more ++ rest)
+
+    counted : (line more : List ℕ) (n : ℕ) → length line + (1 + (1 + (length more + n))) ≡ length ((line ++ codes "\r\n") ++ more) + n
+    counted line more n = omega (arith, length-append (line ++ codes "\r\n") more, length-append line (13 ∷ 10 ∷ []))
+
+first_b : (zone : Option (List ℕ)) → position_or_len is_b (zone_octets zone) ≡ 0
+first_b None = refl
+first_b (Some rest) = ap (position_or_len is_b) (zone_behind rest)
+
+-- the zone begins at the first `B`, and where there is none no zone stands
+pub zone_begins : (content : Content) (event : Event) → IsContent content event → position_or_len is_b (canonical content) ≡ length (crlf_lines content.lines)
+zone_begins content event c =
+    let n = length (crlf_lines content.lines) in
+    past_lines content.lines (early_lines content event c) (zone_octets content.zone) ∙ ap (λ k. n + k) (first_b content.zone) ∙ (omega arith)
+
+pub cut_at_zone : (content : Content) (event : Event) → IsContent content event → (place : ℕ) → position_or_len is_b (canonical content) ≡ place → IsCutAtZone content place
+cut_at_zone content event c place e =
+    let a = crlf_lines content.lines in
+    let z = zone_octets content.zone in
+    let n : length a ≡ place = sym (zone_begins content event c) ∙ e in
+    record { inside = omega (arith, n, length-append a z); before = take_at a z place n; after = drop_at a z place n }
+
+-- the same in the words of memchr's contract
+pub first_byte : (xs : List ℕ) (r : Option ℕ) → IsFirstByte (is_byte 66) xs r → position_or_len is_b xs ≡ unwrap_or r (length xs)
+first_byte xs None h = position_or_len_is is_b xs (length xs) 0 (omega arith) (λ k l. false_from_ne_true (is_b (get_or xs k 0)) (h k (omega arith) l)) (λ l. absurd (omega (arith, l)))
+first_byte xs (Some i) h = position_or_len_is is_b xs i 0 (omega (arith, h.0.high)) (λ k l. false_from_ne_true (is_b (get_or xs k 0)) (h.0.before k (omega arith) l)) (λ _. h.1)
+
+pub cut_at_byte : (content : Content) (event : Event) → IsContent content event → (r : Option ℕ) → IsFirstByte (is_byte 66) (canonical content) r → IsCutAtZone content (unwrap_or r (length (canonical content)))
+cut_at_byte content event c r h = cut_at_zone content event c (unwrap_or r (length (canonical content))) (first_byte (canonical content) r h)
+
+-- ---- as text
+
+pub lines_body : (content : Content) (event : Event) → IsContent content event → IsBodyOf content.lines (crlf_lines content.lines)
+lines_body content event c = body_ended content.lines (clean_lines content event c)
+
+pub beginning_body : (content : Content) (event : Event) → IsContent content event → (n : ℕ) → IsBodyOf (take n content.lines) (crlf_lines (take n content.lines))
+beginning_body content event c n = body_ended (take n content.lines) (clean_take n content.lines (clean_lines content event c))
+
+pub zone_utf8 : (content : Content) (event : Event) → IsContent content event → IsUtf8 (zone_octets content.zone)
+zone_utf8 content event c = zone_utf8_by event.times.zone content.zone c.in_zone
+
+pub content_utf8 : (content : Content) (event : Event) → IsContent content event → IsUtf8 (canonical content)
+content_utf8 content event c = IsUtf8-append (crlf_lines content.lines) (zone_octets content.zone) (lines_body content event c).utf8 (zone_utf8 content event c)
+
+-- ---- under the name of its zone
+
+-- DTSTART in UTC, or in a zone of this name
+abbrev pub StartsAs : List ℕ → Option Zone → EventTimes → List ℕ → Type 0
+StartsAs name None times line = (text : List ℕ) × WritesStamp text times.start × (line ≡ codes "DTSTART:" ++ text)
+StartsAs name (Some zone) times line = (text : List ℕ) × WritesLocal text times.local × (line ≡ codes "DTSTART;TZID=" ++ name ++ codes ":" ++ text)
+
+-- the lines, with the start under that name
+pub record AreNamed (name : List ℕ) (content : Content) (event : Event) (c : IsContent content event) : Type 0 where
+  pub start : List ℕ
+  pub starts : StartsAs name event.times.zone event.times start
+  pub are : map (renamed (codes "DTSTART;TZID=Z") (codes "DTSTART;TZID=" ++ name)) content.lines ≡ start ∷ duration_line event ∷ (c.additions ++ c.exceptions)
+
+abbrev named : List ℕ → List ℕ → List ℕ
+named name = renamed (codes "DTSTART;TZID=Z") (codes "DTSTART;TZID=" ++ name)
+
+start_named : (name : List ℕ) (zone : Option Zone) (times : EventTimes) (line : List ℕ) → StartsIn zone times line → StartsAs name zone times (named name line)
+start_named name None times line (text, w, e) = (text, w, ap (named name) e)
+start_named name (Some zone) times line (text, w, e) = (text, w, ap (named name) e ∙ sym (append_assoc (codes "DTSTART;TZID=" ++ name) (codes ":") text))
+
+named_additions : (name : List ℕ) (texts : List (List ℕ)) → map (named name) (list_lines (codes "RDATE") texts) ≡ list_lines (codes "RDATE") texts
+named_additions name [] = refl
+named_additions name (t ∷ ts) = refl
+
+named_exceptions : (name : List ℕ) (texts : List (List ℕ)) → map (named name) (list_lines (codes "EXDATE") texts) ≡ list_lines (codes "EXDATE") texts
+named_exceptions name [] = refl
+named_exceptions name (t ∷ ts) = refl
+
+pub named_lines : (name : List ℕ) (content : Content) (event : Event) (c : IsContent content event) → AreNamed name content event c
+named_lines name content event c =
+    let adds : map (named name) c.additions ≡ c.additions = ap (map (named name)) c.adds.is ∙ named_additions name c.adds.texts ∙ sym c.adds.is in
+    let takes : map (named name) c.exceptions ≡ c.exceptions = ap (map (named name)) c.takes.is ∙ named_exceptions name c.takes.texts ∙ sym c.takes.is in
+    let rest : map (named name) (c.additions ++ c.exceptions) ≡ c.additions ++ c.exceptions = map-append (named name) c.additions c.exceptions ∙ (λ i. adds i ++ takes i) in
+    record {
+      start = named name c.start;
+      starts = start_named name event.times.zone event.times c.start c.starts;
+      are = ap (map (named name)) c.are ∙ ap (λ l. named name c.start ∷ duration_line event ∷ l) rest;
+    }

@@ -1,0 +1,7 @@
+use Rattle.std.proofs.Common.{take}
+use Rattle.itip_messages.specs.Bodies.{AppendsOthers}
+use Rattle.itip_messages.proofs.body.write_others.Given as goal
+
+-- those so far
+abbrev pub invariant-loop-instant : goal.invariant-loop-instant
+invariant-loop-instant l = AppendsOthers (take l.instant-index l.instants) l.fn.body.items l.body.items

@@ -1,0 +1,52 @@
+-- What the octets of a body are.
+use Rattle.std.specs.Prelude.{◌≡◌, ℕ, ◌≤◌, Contains, List, [], ◌∷◌, ◌++◌, codes, take, drop, length, option_map, unwrap_or, Option, None, ℤ}
+use Rattle.std.specs.List.{flat_map, AllZip}
+use Rattle.profile.specs.text.Values.{WritesStamp}
+use Rattle.profile.specs.events.Properties.{BothOrNeither}
+use Rattle.profile.specs.events.ZonedTimes.{EventTimes}
+use Rattle.profile.specs.events.Events.{Event}
+use Rattle.profile.specs.rooms.Messages.{Content, IsContent, IsZoneRest, StartsIn, WritesTimes, canonical, zone_text}
+use Rattle.cal_events.specs.Meetings.{IsNamed}
+use Rattle.cal_events.specs.OwnInstances.{IsTimely}
+
+-- these lines, unfolded and each ended by CRLF
+abbrev pub crlf_lines : List (List ℕ) → List ℕ
+crlf_lines lines = flat_map (λ line. line ++ codes "\r\n") lines
+
+-- the octets of a content's VTIMEZONE; none without a zone
+abbrev pub zone_octets : Option (List ℕ) → List ℕ
+zone_octets zone = unwrap_or (option_map (zone_text (codes "Z")) zone) []
+
+-- before this place of a content's octets are its lines, and from it on those of its zone
+pub record IsCutAtZone (content : Content) (place : ℕ) : Type 0 where
+  pub inside : place ≤ length (canonical content)
+  pub before : take place (canonical content) ≡ crlf_lines content.lines
+  pub after : drop place (canonical content) ≡ zone_octets content.zone
+
+-- the octets are the event's content, in its one form
+pub record IsCanonical (octets : List ℕ) (event : Event) : Type 0 where
+  pub content : Content
+  pub when : IsContent content event
+  pub is : octets ≡ canonical content
+
+-- new is old and a property that lists these instants after it
+abbrev pub AppendsTimes : List ℕ → List ℤ → List ℕ → List ℕ → Type 0
+AppendsTimes name instants old new = (lines : List (List ℕ)) × WritesTimes name instants lines × (new ≡ old ++ crlf_lines lines)
+
+-- new is old and these instants after it, each after a comma
+abbrev pub AppendsOthers : List ℤ → List ℕ → List ℕ → Type 0
+AppendsOthers instants old new = (texts : List (List ℕ)) × AllZip WritesStamp texts instants × (new ≡ old ++ flat_map (λ other. codes "," ++ other) texts)
+
+-- new is old and DTSTART after it
+abbrev pub AppendsStart : EventTimes → List ℕ → List ℕ → Type 0
+AppendsStart times old new = (line : List ℕ) × StartsIn times.zone times line × (new ≡ old ++ crlf_lines (line ∷ []))
+
+-- new is old and the VTIMEZONE after it, where there is a zone
+abbrev pub AppendsZone : EventTimes → List ℕ → List ℕ → Type 0
+AppendsZone times old new = (zone : Option (List ℕ)) × BothOrNeither IsZoneRest times.zone zone × (new ≡ old ++ zone_octets zone)
+
+-- what a message's VEVENT says of when its event is: it has no rule, and all its instants lie in the dates that an event may name
+pub record IsReady (event : Event) : Type 0 where
+  pub once : event.rule ≡ None
+  pub timely : IsTimely event
+  pub listed : (instant : ℤ) → Contains event.additions instant → IsNamed instant

@@ -1,0 +1,152 @@
+-- The instances of a kept VEVENT are those of the event that it is kept of: all that a message asks for.
+use Rattle.std.proofs.Common.{◌≡◌, ◌∙◌, refl, sym, ap, subst, inl, inr, ◌⊎◌, ℕ, ℤ, ◌<ℤ◌, ◌≤ℤ◌, T, Bool, true, false, not, List, [], ◌∷◌, Option, Some, None, arith}
+use Rattle.std.specs.Prelude.{All, AllPairs, Contains, filter, unwrap_or}
+use Rattle.std.specs.Int.Signed.{lt_z, lt_z_yes, lt_z_no}
+use Rattle.std.proofs.lemmas.Bool.{and_from, not_from_false, not-true, false_from_ne_true, true≢false}
+use Rattle.std.proofs.lemmas.Int.{ints}
+use Rattle.std.proofs.lemmas.List.Elements.{All-nil, All-contains, Contains-get_or}
+use Rattle.std.proofs.lemmas.List.Kept.{AllPairs-filter}
+use Rattle.profile.specs.checker.Instances.{Booked, horizon}
+use Rattle.profile.specs.events.Properties.{first_second}
+use Rattle.profile.specs.events.Events.{Event}
+use Rattle.profile.specs.events.Meetings.{is_master}
+use Rattle.profile.specs.events.Starts.{IsStart, IsGiven, IsInstance, AreInstancesFrom, ComesBefore, key_at}
+use Rattle.profile.specs.events.Confirmed.{alone, is_kept, IsReplaced, IsSingle, AreSingles}
+use Rattle.profile.specs.rooms.Messages.{AreAscending, is_in_dates}
+use Rattle.profile.specs.series.Rules.{Parts}
+use Rattle.cal_events.proofs.InOneOrder.{in_filtered, of_filtered}
+use Rattle.cal_events.proofs.OwnSingles.{IsAtStart, IsItself, master_alone, alone_master, override_alone, alone_override, of_both}
+use Rattle.cal_events.proofs.PlainSingles.{no_rule}
+use Rattle.cal_events.specs.OwnInstances.{IsTimely}
+use Rattle.room_books.proofs.KeptOwn.{zoned_event}
+
+-- these are all instances of an event by itself, by start and then by slot
+pub record AreAllOf (event : Event) (instances : List Booked) : Type 0 where
+  pub each : (b : Booked) → Contains instances b → IsInstance (alone event) b
+  pub ordered : AllPairs ComesBefore instances
+  pub all : (b : Booked) → IsInstance (alone event) b → Contains instances b
+
+lesser : (a b : ℤ) → a <ℤ b → lt_z a b ≡ true
+lesser a b h = by (lt_z a b) refl
+  where
+    by : (t : Bool) → lt_z a b ≡ t → t ≡ true
+    by true e = refl
+    by false e = let k : b ≤ℤ a = lt_z_no (subst (λ x. T (not x)) (sym e) tt) in absurd (omega (arith, ints, h, k))
+
+no_lesser : (a b : ℤ) → b ≤ℤ a → lt_z a b ≡ false
+no_lesser a b h = by (lt_z a b) refl
+  where
+    by : (t : Bool) → lt_z a b ≡ t → t ≡ false
+    by true e = let k : a <ℤ b = lt_z_yes (subst T (sym e) tt) in absurd (omega (arith, ints, h, k))
+    by false e = refl
+
+in_the_dates : (t : ℤ) → first_second ≤ℤ t → t <ℤ horizon → is_in_dates t ≡ true
+in_the_dates t low high = and_from _ _ (lesser t horizon high) (ap not (no_lesser t first_second low))
+
+module _ (event : Event) (number : ℕ) (organiser : List ℕ) (stamp : ℤ) (room : List ℕ) (additions exceptions : List ℤ)
+    (organised : event.organiser ≡ Some organiser) (once : event.rule ≡ None) (timely : IsTimely event)
+    (adds : AreAscending event.additions additions) (takes : AreAscending (filter is_in_dates event.exceptions) exceptions) where
+  abbrev kept : Event
+  kept = zoned_event event event.recurrence number organiser stamp room additions exceptions
+
+  key_same : (t : ℤ) → key_at event t ≡ key_at kept t
+  key_same t = ap (λ (o : Option (List ℕ)). record { organiser = unwrap_or o []; uid = event.uid; slot = t }) organised
+
+  given_to : (t : ℤ) → IsGiven event.times event.rule t ⊎ Contains event.additions t → IsGiven kept.times None t ⊎ Contains additions t
+  given_to t (inl g) = inl (subst (λ (r : Option Parts). IsGiven event.times r t) once g)
+  given_to t (inr c) = inr ((adds.exact t).1 c)
+
+  given_from : (t : ℤ) → IsGiven kept.times None t ⊎ Contains additions t → IsGiven event.times event.rule t ⊎ Contains event.additions t
+  given_from t (inl g) = inl (subst (λ (r : Option Parts). IsGiven event.times r t) (sym once) g)
+  given_from t (inr c) = inr ((adds.exact t).0 c)
+
+  start_to : (t : ℤ) → IsStart event [] t → IsStart kept [] t
+  start_to t s = record {
+    given = given_to t s.given;
+    in_dates = s.in_dates;
+    not_excepted = λ c. s.not_excepted (of_filtered is_in_dates event.exceptions t ((takes.exact t).0 c)).0;
+    not_overridden = s.not_overridden;
+  }
+
+  start_from : (t : ℤ) → IsStart kept [] t → IsStart event [] t
+  start_from t s = record {
+    given = given_from t s.given;
+    in_dates = s.in_dates;
+    not_excepted = λ c. s.not_excepted ((takes.exact t).1 (in_filtered is_in_dates event.exceptions t c (in_the_dates t s.in_dates.0 s.in_dates.1)));
+    not_overridden = s.not_overridden;
+  }
+
+  at_start_to : (b : Booked) → IsAtStart event b → IsAtStart kept b
+  at_start_to b h = record { starts = start_to b.start h.starts; key = h.key ∙ key_same b.start; ends = h.ends }
+
+  at_start_from : (b : Booked) → IsAtStart kept b → IsAtStart event b
+  at_start_from b h = record { starts = start_from b.start h.starts; key = h.key ∙ sym (key_same b.start); ends = h.ends }
+
+  itself_to : (b : Booked) → IsItself event b → IsItself kept b
+  itself_to b h = record { slot = h.slot; key = h.key ∙ key_same b.key.slot; starts = h.starts; ends = h.ends }
+
+  itself_from : (b : Booked) → IsItself kept b → IsItself event b
+  itself_from b h = record { slot = h.slot; key = h.key ∙ sym (key_same b.key.slot); starts = h.starts; ends = h.ends }
+
+  abbrev OneOrOther : Type 0
+  OneOrOther = (event.recurrence ≡ None) ⊎ ((slot : ℤ) × (event.recurrence ≡ Some slot))
+
+  instance_to : (b : Booked) → IsInstance (alone event) b → IsInstance (alone kept) b
+  instance_to b h = go (of_both event)
+    where
+      go : OneOrOther → IsInstance (alone kept) b
+      go (inl none) = alone_master kept b none (at_start_to b (master_alone event b none h))
+      go (inr (slot, is)) = alone_override kept b slot is (itself_to b (override_alone event b slot is h))
+
+  instance_from : (b : Booked) → IsInstance (alone kept) b → IsInstance (alone event) b
+  instance_from b h = go (of_both event)
+    where
+      go : OneOrOther → IsInstance (alone event) b
+      go (inl none) = alone_master event b none (at_start_from b (master_alone kept b none h))
+      go (inr (slot, is)) = alone_override event b slot is (itself_from b (override_alone kept b slot is h))
+
+  -- none starts before the first second
+  from_first : (b : Booked) → IsInstance (alone event) b → first_second ≤ℤ b.start
+  from_first b h = go (of_both event)
+    where
+      go : OneOrOther → first_second ≤ℤ b.start
+      go (inl none) = (master_alone event b none h).starts.in_dates.0
+      go (inr (slot, is)) = subst (λ (t : ℤ). first_second ≤ℤ t) (sym (override_alone event b slot is h).starts) timely.starts.0
+
+  pub kept_all : (singles : List Booked) → AreInstancesFrom (alone event) first_second singles → AreAllOf kept singles
+  kept_all singles a = record {
+    each = λ b c. instance_to b (All-contains (λ x. IsInstance (alone event) x × (first_second ≤ℤ x.start)) singles b a.each c).0;
+    ordered = a.ordered;
+    all = λ b h. let own = instance_from b h in a.all b own (from_first b own);
+  }
+
+-- ---- those that nothing hides are singles among others
+
+-- where what hides an instance of the event is what stands for it
+pub record IsHiding (saids : List Event) (said : Event) (hidden : Booked → Bool) : Type 0 where
+  pub stands : (b : Booked) → IsInstance (alone said) b → hidden b ≡ true → IsReplaced saids said b.start
+  pub hides : (b : Booked) → IsInstance (alone said) b → is_master said ≡ true → IsReplaced saids said b.start → hidden b ≡ true
+  pub master : (b : Booked) → hidden b ≡ true → is_master said ≡ true
+
+pub singles_left : (room : List ℕ) (saids : List Event) (said : Event) (hidden : Booked → Bool) (singles : List Booked) → is_kept room said ≡ true → said.rule ≡ None → AreAllOf said singles → IsHiding saids said hidden
+    → AreSingles room saids said (filter (λ b. not (hidden b)) singles)
+singles_left room saids said hidden singles kept once a h = record {
+  each = λ i d l. single (of_filtered (λ b. not (hidden b)) singles _ (Contains-get_or (filter (λ b. not (hidden b)) singles) i d l));
+  ordered = AllPairs-filter ComesBefore (λ b. not (hidden b)) singles a.ordered;
+  all = λ b s. in_filtered (λ b. not (hidden b)) singles b (a.all b s.is.is) (not_from_false _ (false_from_ne_true _ (λ t. s.is.shown (h.master b t) (h.stands b s.is.is t))));
+}
+  where
+    single : {b : Booked} → Contains singles b × (not (hidden b) ≡ true) → IsSingle room saids said b
+    single {b = b} (c, shown) = record {
+      kept = kept;
+      is = record { is = a.each b c; shown = λ master r. true≢false (sym (h.hides b (a.each b c) master r) ∙ not-true _ shown) };
+      apart = no_rule said b once;
+    }
+
+-- of what isn't kept nothing is left
+pub none_left : (room : List ℕ) (saids : List Event) (said : Event) → is_kept room said ≡ false → AreSingles room saids said []
+none_left room saids said h = record {
+  each = All-nil (IsSingle room saids said);
+  ordered = λ i j d l w. absurd (omega (arith, w));
+  all = λ b s. absurd (true≢false (sym s.kept ∙ h));
+}

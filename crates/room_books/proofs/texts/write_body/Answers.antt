@@ -1,0 +1,35 @@
+-- The body is cut where its zone begins, and has a zone where something stands there.
+use Rattle.std.proofs.Common.{arith, ◌∙◌, ◌≤◌, not, Some, length, take, drop, sym, ap, subst}
+use Rattle.std.specs.Prelude.{◌==◌}
+use Rattle.std.proofs.lemmas.List.Sums.{prefix_len-le-length}
+use Rattle.room_books.specs.Zoning.{with_zone}
+use Rattle.room_books.proofs.NamedLines.{body_alone, body_in_zone, behind, is_nothing, is_some_zone}
+use Rattle.room_books.proofs.texts.write_body.Goals as goal
+
+pub split_at-requires : goal.split_at-requires
+split_at-requires c = subst (λ n. n ≤ length c.args.body.now) (sym c.zone_lines.ensures.place) (prefix_len-le-length (λ octet. not (octet == 66)) c.args.body.now)
+
+pub returns-then-is_empty : goal.returns-then-is_empty
+returns-then-is_empty c =
+    let front = c.split_at.result.0.now in
+    let zone = c.split_at.result.1.now in
+    body_alone c.args.body.now front zone
+    (c.split_at.ensures.front ∙ ap (λ n. take n c.args.body.now) c.zone_lines.ensures.place)
+    (c.split_at.ensures.back ∙ ap (λ n. drop n c.args.body.now) c.zone_lines.ensures.place)
+    c.args.zones.now c.args.object.now c.write_text.new.object
+    (is_nothing zone (sym c.is_empty.ensures ∙ c.if-is_empty.true))
+    c.in_ok-write_text.ensures
+
+pub returns : goal.returns
+returns c =
+    let front = c.split_at.result.0.now in
+    let zone = c.split_at.result.1.now in
+    let n = c.in_ok-number.ensures.number in
+    let rest = behind zone c.min.result (λ more. omega (arith, c.min.ensures, more)) (λ less. omega (arith, c.min.ensures, less)) in
+    body_in_zone c.args.body.now front zone
+    (c.split_at.ensures.front ∙ ap (λ n. take n c.args.body.now) c.zone_lines.ensures.place)
+    (c.split_at.ensures.back ∙ ap (λ n. drop n c.args.body.now) c.zone_lines.ensures.place)
+    c.args.zones.now c.number_of.new.self c.in_ok-number.number n.0 c.args.object.now c.write_text-2.new.object
+    (is_some_zone zone (sym c.is_empty.ensures ∙ c.if-is_empty.false))
+    (c.in_ok-number.ensures.zones ∙ ap (with_zone c.args.zones.now) rest) n.1 (n.2 ∙ ap Some rest)
+    c.in_ok-write_text-2.ensures
