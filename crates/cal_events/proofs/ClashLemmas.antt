@@ -7,7 +7,7 @@ use Rattle.std.proofs.lemmas.Option.{IfSome_then}
 use Rattle.profile.specs.checker.Instances.{Booked, IsClear, IsWithin}
 use Rattle.cal_events.specs.declared.sweep.Span.{Span}
 use Rattle.cal_events.specs.declared.sweep.Overlap.{Overlap}
-use Rattle.cal_events.specs.declared.calendar.Entry.{Entry}
+use Rattle.cal_events.specs.Entries.{Name}
 use Rattle.cal_events.specs.declared.calendar.PlacedSingle.{PlacedSingle as Single}
 use Rattle.cal_events.specs.Calendars.{booked_in, span_of, HaveDifferentKeys}
 use Rattle.cal_events.specs.Clashes.{Names}
@@ -17,7 +17,7 @@ use Rattle.cal_events.specs.Sweep.{span_at, AreApart, IsOverlap}
 abbrev when : Booked → Span
 when b = record { start = b.start; end = b.end }
 
-spans_is : (entries : List Entry) (ss : List Single) → map span_of ss ≡ map when (map (booked_in entries) ss)
+spans_is : (entries : List Name) (ss : List Single) → map span_of ss ≡ map when (map (booked_in entries) ss)
 spans_is entries [] = refl
 spans_is entries (s ∷ ss) = ap (λ (l : List Span). span_of s ∷ l) (spans_is entries ss)
 
@@ -82,24 +82,24 @@ clear all apart a b t h =
     })
 
 -- what the sweep over the spans of the singles tells of the calendar's instances
-pub clash_from_overlap : (all : List Booked) (entries : List Entry) (bs : List Single) (spans seen : List Span) (r : Option Overlap) → HaveDifferentKeys (map (booked_in entries) bs) → map (booked_in entries) bs ≡ all
+pub clash_from_overlap : (all : List Booked) (entries : List Name) (bs : List Single) (spans seen : List Span) (r : Option Overlap) → HaveDifferentKeys (map (booked_in entries) bs) → map (booked_in entries) bs ≡ all
     → spans ≡ map span_of bs → seen ≡ spans → IfSome r (IsOverlap seen) → IfSome r (Names all)
 clash_from_overlap all entries bs spans seen r keys view e f h =
     IfSome_then r (subst (λ (l : List Span). IfSome r (IsOverlap l)) (f ∙ e ∙ spans_is entries bs ∙ ap (map when) view) h)
     (λ found o. names all (subst HaveDifferentKeys view keys) found o)
 
-pub clear_from_none : (all : List Booked) (entries : List Entry) (bs : List Single) (spans seen : List Span) (r : Option Overlap) → map (booked_in entries) bs ≡ all
+pub clear_from_none : (all : List Booked) (entries : List Name) (bs : List Single) (spans seen : List Span) (r : Option Overlap) → map (booked_in entries) bs ≡ all
     → spans ≡ map span_of bs → seen ≡ spans → IfNone r (AreApart seen) → IfNone r (IsClear all)
 clear_from_none all entries bs spans seen None view e f h =
     clear all (subst AreApart (f ∙ e ∙ spans_is entries bs ∙ ap (map when) view) h)
 clear_from_none all entries bs spans seen (Some found) view e f h = h
 
-pub clash_from_sweep : (all : List Booked) (entries : List Entry) (bs : List Single) (spans seen : List Span) {E : Type 0} (r : Result (Option Overlap) E) → HaveDifferentKeys (map (booked_in entries) bs) → map (booked_in entries) bs ≡ all
+pub clash_from_sweep : (all : List Booked) (entries : List Name) (bs : List Single) (spans seen : List Span) {E : Type 0} (r : Result (Option Overlap) E) → HaveDifferentKeys (map (booked_in entries) bs) → map (booked_in entries) bs ≡ all
     → spans ≡ map span_of bs → seen ≡ spans → IfOk r (λ o. IfSome o (IsOverlap seen)) → IfOk r (λ o. IfSome o (Names all))
 clash_from_sweep all entries bs spans seen (Ok o) keys view e f h = clash_from_overlap all entries bs spans seen o keys view e f h
 clash_from_sweep all entries bs spans seen (Err x) keys view e f h = h
 
-pub clear_from_sweep : (all : List Booked) (entries : List Entry) (bs : List Single) (spans seen : List Span) {E : Type 0} (r : Result (Option Overlap) E) → map (booked_in entries) bs ≡ all
+pub clear_from_sweep : (all : List Booked) (entries : List Name) (bs : List Single) (spans seen : List Span) {E : Type 0} (r : Result (Option Overlap) E) → map (booked_in entries) bs ≡ all
     → spans ≡ map span_of bs → seen ≡ spans → IfOk r (λ o. IfNone o (AreApart seen)) → IfOk r (λ o. IfNone o (IsClear all))
 clear_from_sweep all entries bs spans seen (Ok o) view e f h = clear_from_none all entries bs spans seen o view e f h
 clear_from_sweep all entries bs spans seen (Err x) view e f h = h

@@ -9,32 +9,26 @@ use Rattle.std.proofs.lemmas.List.Elements.{filter_map-append}
 use Rattle.profile.specs.checker.Instances.{Key}
 use Rattle.profile.specs.events.Events.{Event, meeting_said}
 use Rattle.profile.specs.events.Confirmed.{MastersDiffer, OverridesDiffer}
-use Rattle.cal_events.specs.Calendars.{Meeting, key_of, key_in}
-use Rattle.cal_events.specs.Drafts.{entry_said, name_said, master_key, override_key, master_keys, override_keys}
-use Rattle.cal_events.specs.declared.calendar.Entry.{Entry}
+use Rattle.cal_events.specs.Entries.{Meeting, Name}
+use Rattle.cal_events.specs.Names.{name_said, name_at}
+use Rattle.cal_events.specs.Calendars.{key_of, key_in}
+use Rattle.cal_events.specs.Drafts.{master_key, override_key, master_keys, override_keys}
 use Rattle.cal_events.specs.declared.instance.InstanceKey.{InstanceKey}
 use Rattle.cal_events.proofs.InOneOrder.{later, none_in, head_pairs, tail_pairs, cons_pairs}
 
-abbrev Name : Type 0
-Name = Meeting × Option ℤ
-
 -- ---- one VEVENT more
 
-module _ (f : Name → Option Key) (entries : List Entry) (i : ℕ) (e : Entry) (w : i < length entries) (is : e ≡ get_or entries i e) (keys : List InstanceKey)
-    (so_far : map key_of keys ≡ filter_map f (map entry_said (take i entries))) where
-  more : filter_map f (map entry_said (take (i + 1) entries)) ≡ filter_map f (map entry_said (take i entries)) ++ filter_map f (entry_said e ∷ [])
-  more =
-      ap (λ l. filter_map f (map entry_said l)) (take_more entries i e w ∙ ap (λ x. take i entries ++ x ∷ []) (sym is))
-      ∙ ap (filter_map f) (map-append entry_said (take i entries) (e ∷ [])) ∙ filter_map-append f (map entry_said (take i entries)) (entry_said e ∷ [])
+module _ (f : Name → Option Key) (names : List Name) (i : ℕ) (w : i < length names) (keys : List InstanceKey) (so_far : map key_of keys ≡ filter_map f (take i names)) where
+  more : filter_map f (take (i + 1) names) ≡ filter_map f (take i names) ++ filter_map f (name_at names i ∷ [])
+  more = ap (filter_map f) (take_more names i (([], []), None) w) ∙ filter_map-append f (take i names) (name_at names i ∷ [])
 
-  pub key_pushed : (new : List InstanceKey) (k : InstanceKey) → f (entry_said e) ≡ Some (key_of k) → new ≡ keys ++ k ∷ [] → map key_of new ≡ filter_map f (map entry_said (take (i + 1) entries))
+  pub key_pushed : (new : List InstanceKey) (k : InstanceKey) → f (name_at names i) ≡ Some (key_of k) → new ≡ keys ++ k ∷ [] → map key_of new ≡ filter_map f (take (i + 1) names)
   key_pushed new k h n =
-      ap (map key_of) n ∙ map-append key_of keys (k ∷ []) ∙ ap (λ l. l ++ key_of k ∷ []) so_far
-      ∙ ap (λ o. filter_map f (map entry_said (take i entries)) ++ cons_option o []) (sym h) ∙ sym more
+      ap (map key_of) n ∙ map-append key_of keys (k ∷ []) ∙ ap (λ l. l ++ key_of k ∷ []) so_far ∙ ap (λ o. filter_map f (take i names) ++ cons_option o []) (sym h) ∙ sym more
 
-  pub key_passed : (new : List InstanceKey) → f (entry_said e) ≡ None → new ≡ keys → map key_of new ≡ filter_map f (map entry_said (take (i + 1) entries))
+  pub key_passed : (new : List InstanceKey) → f (name_at names i) ≡ None → new ≡ keys → map key_of new ≡ filter_map f (take (i + 1) names)
   key_passed new h n =
-      ap (map key_of) n ∙ so_far ∙ sym (append-nil (filter_map f (map entry_said (take i entries)))) ∙ ap (λ o. filter_map f (map entry_said (take i entries)) ++ cons_option o []) (sym h) ∙ sym more
+      ap (map key_of) n ∙ so_far ∙ sym (append-nil (filter_map f (take i names))) ∙ ap (λ o. filter_map f (take i names) ++ cons_option o []) (sym h) ∙ sym more
 
 pub none_there : {X : Type 0} (o : Option X) → is_some o ≡ false → o ≡ None
 none_there None h = refl
@@ -158,7 +152,7 @@ module _ (events : List Event) where
   key_replaced o slot c e = there_key override_key events o (key_in (meeting_said o) slot) c (said_override o slot e)
 
 -- the same of the entries
-module _ (entries : List Entry) (events : List Event) (e : map entry_said entries ≡ map name_said events) where
+module _ (entries : List Name) (events : List Event) (e : entries ≡ map name_said events) where
   pub entry_overrides : override_keys entries ≡ filter_map override_key (map name_said events)
   entry_overrides = ap (filter_map override_key) e
 

@@ -1,6 +1,6 @@
 -- A calendar while its VEVENTs are read: one more VEVENT, and what overrides hide in the end.
 use Rattle.std.proofs.Common.{◌≡◌, ◌∙◌, ℕ, zero, suc, ◌+◌, ◌-◌, ◌<◌, Bool, true, false, cond, List, [], ◌∷◌, ◌++◌, map, filter, take, length, get_or, subst, sym, refl, ap, inl, inr, ◌⊎◌, arith, ℤ, pos, Ordering}
-use Rattle.std.specs.Prelude.{Option, Some, None, All, Contains, Result, Ok, Err, IfOk, IfErr, is_some, not, ◌&&◌, ◌||◌, ◌==◌}
+use Rattle.std.specs.Prelude.{Some, None, All, Contains, Result, Ok, Err, IfErr, is_some, not, ◌&&◌, ◌||◌, ◌==◌}
 use Rattle.std.specs.List.{AllZip, flat_map, list_any}
 use Rattle.std.proofs.lemmas.Bool.{true≢false, false≢true, and_parts}
 use Rattle.std.proofs.lemmas.Bool.Decides.{nat_tests}
@@ -17,14 +17,15 @@ use Rattle.profile.specs.events.Events.{Event, meeting_said}
 use Rattle.profile.specs.events.Meetings.{is_master}
 use Rattle.profile.specs.events.Starts.{IsInstance, ComesBefore}
 use Rattle.profile.specs.events.Confirmed.{Confirmed, alone, is_kept, is_series, IsSeries, IsReplaced, IsSingle, AreSingles, AreConfirmed, MastersDiffer, OverridesDiffer}
-use Rattle.cal_events.specs.Calendars.{Meeting, key_of, key_in, meeting_of, meeting_at, booked_as, booked_in, AreWithin, HaveDifferentKeys}
+use Rattle.cal_events.specs.Entries.{Name}
+use Rattle.cal_events.specs.Names.{name_said, name_at, meeting_at, recurrence_at}
+use Rattle.cal_events.specs.Calendars.{key_of, key_in, booked_as, booked_in, AreWithin, HaveDifferentKeys}
 use Rattle.ical_lines.specs.Fault.{RefusesBy}
 use Rattle.ical_lines.specs.declared.fault.Fault.{Fault}
 use Rattle.ical_lines.specs.declared.fault.Fault.TheVariants.{Refused, Memory}
 use Rattle.profile.specs.text.Trees.{Tree}
-use Rattle.profile.specs.checker.Calendars.{SayEvents, SaysCalendar, CalendarFault, two_masters, two_overrides}
-use Rattle.cal_events.specs.Drafts.{IsTwoOf, IsSaid, entry_said, name_said, override_keys, IsOwn, AreOwnAt, AreDrawn, IsDraft, IsMadeAt, AreShown, recurrence_at, is_shown_in}
-use Rattle.cal_events.specs.declared.calendar.Entry.{Entry}
+use Rattle.profile.specs.checker.Calendars.{SayEvents, CalendarFault, CalendarTextFault, two_masters, two_overrides, in_vevents}
+use Rattle.cal_events.specs.Drafts.{IsTwoOf, IsSaid, IsDraftIn, override_keys, IsOwn, AreOwnAt, AreDrawn, IsDraft, IsMadeAt, AreShown, is_shown_in}
 use Rattle.cal_events.specs.declared.instance.InstanceKey.{InstanceKey}
 use Rattle.cal_events.specs.declared.calendar.PlacedSingle.{PlacedSingle as Single}
 use Rattle.cal_events.specs.declared.draft.Draft.{Draft}
@@ -65,17 +66,8 @@ none_own room place event h = record {
   };
 }
 
--- ---- an entry at its place
-
-module _ (entries : List Entry) (k : ℕ) (e : Entry) (w : k < length entries) (is : e ≡ get_or entries k e) where
-  pub recurrence_there : recurrence_at entries k ≡ e.recurrence
-  recurrence_there = get_or-map (λ (x : Entry). x.recurrence) entries k e None w ∙ ap (λ (x : Entry). x.recurrence) (sym is)
-
-  pub meeting_there : meeting_at entries k ≡ meeting_of e
-  meeting_there = get_or-map meeting_of entries k e ([], []) w ∙ ap meeting_of (sym is)
-
 -- without overrides all are shown
-pub none_hidden : (entries : List Entry) (overrides : List InstanceKey) (singles : List Single) → (length overrides == 0) ≡ true → singles ≡ filter (is_shown_in entries (map key_of overrides)) singles
+pub none_hidden : (entries : List Name) (overrides : List InstanceKey) (singles : List Single) → (length overrides == 0) ≡ true → singles ≡ filter (is_shown_in entries (map key_of overrides)) singles
 none_hidden entries (o ∷ os) singles h = absurd (grind (arith, nat_tests, h))
 none_hidden entries [] [] h = refl
 none_hidden entries [] (s ∷ ss) h = shown (is_some (recurrence_at entries s.entry)) (none_hidden entries [] ss h)
@@ -87,16 +79,14 @@ none_hidden entries [] (s ∷ ss) h = shown (is_some (recurrence_at entries s.en
 -- ---- one VEVENT more, with all that it adds
 
 module _ (room : List ℕ) (events : List Event) (event : Event) (old new : Draft) (draft : IsDraft room events old) where
-  as_many : length old.entries.items ≡ length events
-  as_many = sym (length-map old.entries.items entry_said) ∙ ap length draft.entries ∙ length-map events name_said
+  as_many : length old.entries ≡ length events
+  as_many = ap length draft.entries ∙ length-map events name_said
 
-  pub draft_more : IsSaid event → (entry : Entry) (own : List Single) → new.entries.items ≡ old.entries.items ++ entry ∷ [] → entry_said entry ≡ name_said event → new.singles.items ≡ old.singles.items ++ own
-      → AreOwnAt room (length old.entries.items) event own → map event_of new.series.items ≡ map event_of old.series.items ++ cond (is_series room event) (event ∷ []) [] → IsDraft room (events ++ event ∷ []) new
-  draft_more spoken entry own e said s at series = record {
+  pub draft_more : IsSaid event → (own : List Single) → new.entries ≡ old.entries ++ name_said event ∷ [] → new.singles.items ≡ old.singles.items ++ own
+      → AreOwnAt room (length old.entries) event own → map event_of new.series.items ≡ map event_of old.series.items ++ cond (is_series room event) (event ∷ []) [] → IsDraft room (events ++ event ∷ []) new
+  draft_more spoken own e s at series = record {
     said = All-append IsSaid events (event ∷ []) draft.said (λ k d w. first_said k d w);
-    entries =
-        ap (map entry_said) e ∙ map-append entry_said old.entries.items (entry ∷ []) ∙ ap (λ l. l ++ entry_said entry ∷ []) draft.entries
-        ∙ ap (λ n. map name_said events ++ n ∷ []) said ∙ sym (map-append name_said events (event ∷ []));
+    entries = e ∙ ap (λ l. l ++ name_said event ∷ []) draft.entries ∙ sym (map-append name_said events (event ∷ []));
     series = series ∙ ap (λ l. l ++ cond (is_series room event) (event ∷ []) []) draft.series ∙ sym (filter-append (is_series room) events (event ∷ []));
     singles =
         subst (AreDrawn room 0 (events ++ event ∷ [])) (sym s)
@@ -128,23 +118,15 @@ same_mapped f g (x ∷ xs) h = let e = h 0 x (omega arith) in let t = same_mappe
 all_filtered : {X : Type 0} (P : X → Type 0) (p : X → Bool) (xs : List X) → All P xs → All P (filter p xs)
 all_filtered P p xs h k d w = All-filter p P xs h k d w
 
-module _ (room : List ℕ) (events : List Event) (entries : List Entry) (said : map entry_said entries ≡ map name_said events) (keys : List Key) (same : IsPermutation (override_keys entries) keys) where
+module _ (room : List ℕ) (events : List Event) (entries : List Name) (said : entries ≡ map name_said events) (keys : List Key) (same : IsPermutation (override_keys entries) keys) where
   abbrev shown : Single → Bool
   shown = is_shown_in entries keys
 
   -- what stands at a place of the entries
-  name_at : (k : ℕ) (event : Event) → k < length events → get_or events k event ≡ event → (recurrence_at entries k ≡ event.recurrence) × (meeting_at entries k ≡ meeting_said event)
-  name_at k event w e =
-      let many : length entries ≡ length events = sym (length-map entries entry_said) ∙ ap length said ∙ length-map events name_said in
-      let l : k < length entries = omega (arith, w, many) in
-      let n : get_or (map entry_said entries) k (name_said event) ≡ name_said event = ap (λ l. get_or l k (name_said event)) said ∙ get_or-map name_said events k event (name_said event) w ∙ ap name_said e in
-      let first = some_entry entries l in
-      let at : entry_said (get_or entries k first) ≡ name_said event = sym (get_or-map entry_said entries k first (name_said event) l) ∙ n in
-      (get_or-map (λ (x : Entry). x.recurrence) entries k first None l ∙ ap (λ (x : Meeting × Option ℤ). x.1) at, get_or-map meeting_of entries k first ([], []) l ∙ ap (λ (x : Meeting × Option ℤ). x.0) at)
-    where
-      some_entry : (xs : List Entry) → k < length xs → Entry
-      some_entry [] w = absurd (omega (arith, w))
-      some_entry (x ∷ xs) w = x
+  named : (k : ℕ) (event : Event) → k < length events → get_or events k event ≡ event → (recurrence_at entries k ≡ event.recurrence) × (meeting_at entries k ≡ meeting_said event)
+  named k event w e =
+      let at : name_at entries k ≡ name_said event = ap (λ l. name_at l k) said ∙ get_or-map name_said events k event (([], []), None) w ∙ ap name_said e in
+      (ap (λ (n : Name). n.1) at, ap (λ (n : Name). n.0) at)
 
   -- a single is shown where no override stands for its slot
   module _ (k : ℕ) (event : Event) (w : k < length events) (e : get_or events k event ≡ event) (s : Single) (at : s.entry ≡ k) where
@@ -173,7 +155,7 @@ module _ (room : List ℕ) (events : List Event) (entries : List Entry) (said : 
 
     decided : shown s ≡ (is_some event.recurrence || not (list_any (λ key. is_eq (key_cmp key own)) keys))
     decided =
-        let n = name_at k event w e in
+        let n = named k event w e in
         ap (λ j. is_some (recurrence_at entries j) || not (list_any (λ key. is_eq (key_cmp key (key_in (meeting_at entries j) s.slot))) keys)) at
         ∙ ap (λ r. is_some r || not (list_any (λ key. is_eq (key_cmp key (key_in (meeting_at entries k) s.slot))) keys)) n.0
         ∙ ap (λ m. is_some event.recurrence || not (list_any (λ key. is_eq (key_cmp key (key_in m s.slot))) keys)) n.1
@@ -251,7 +233,7 @@ module _ (room : List ℕ) (events : List Event) (entries : List Entry) (said : 
       let after : events ≡ (front ++ event ∷ []) ++ es = whole ∙ sym (append_assoc front (event ∷ []) es) in
       let next : suc k ≡ length (front ++ event ∷ []) = omega (arith, length-append front (event ∷ [])) in
       let r = shown_lists (front ++ event ∷ []) es after rest (subst (λ (n : ℕ). AreDrawn room n es rest) next more) in
-      let n = name_at k event w e in
+      let n = named k event w e in
       let booked : map (booked_in entries) (filter shown own) ≡ map (booked_as (meeting_said event)) (filter shown own) =
       same_mapped (booked_in entries) (booked_as (meeting_said event)) (filter shown own)
       (all_filtered (λ s. booked_in entries s ≡ booked_as (meeting_said event) s) shown own (λ i d v. ap (λ m. booked_as m (get_or own i d)) (ap (meeting_at entries) (at.at i d v) ∙ n.1))) in (
@@ -276,10 +258,10 @@ made_more place event xs k first old new s w (own, e, z) n made = (
 -- ---- what becomes of a draft
 
 module _ (room : List ℕ) (events : List Event) (draft : Draft) (d : IsDraft room events draft) where
-  pub within_entries : AreWithin draft.entries.items draft.singles.items
+  pub within_entries : AreWithin draft.entries draft.singles.items
   within_entries k s w =
       let l = within_all room 0 events draft.singles.items d.singles k s w in
-      let many : length draft.entries.items ≡ length events = sym (length-map draft.entries.items entry_said) ∙ ap length d.entries ∙ length-map events name_said in
+      let many : length draft.entries ≡ length events = ap length d.entries ∙ length-map events name_said in
       omega (arith, l, many)
 
   -- the masters of its series have RRULE
@@ -292,40 +274,42 @@ module _ (room : List ℕ) (events : List Event) (draft : Draft) (d : IsDraft ro
       let q = and_parts (is_kept room (event_of m)) (is_master (event_of m)) p.0 in
       record { said = All-contains IsSaid events (event_of m) d.said f.0; is = q.1; rule = p.1 }
 
-  module _ (left : List Single) (shown : AreShown draft.entries.items draft.singles.items left) where
-    lists : (lists : List (List Booked)) × AllZip (AreSingles room events) events lists × (map (booked_in draft.entries.items) left ≡ flat_map (λ own. own) lists)
+  module _ (left : List Single) (shown : AreShown draft.entries draft.singles.items left) where
+    lists : (lists : List (List Booked)) × AllZip (AreSingles room events) events lists × (map (booked_in draft.entries) left ≡ flat_map (λ own. own) lists)
     lists =
-        let r = shown_lists room events draft.entries.items d.entries shown.keys shown.same [] events refl draft.singles.items d.singles in
-        (r.0, r.1, ap (map (booked_in draft.entries.items)) shown.is ∙ r.2)
+        let r = shown_lists room events draft.entries d.entries shown.keys shown.same [] events refl draft.singles.items d.singles in
+        (r.0, r.1, ap (map (booked_in draft.entries)) shown.is ∙ r.2)
 
-    pub confirmed_of : (series : List Series) → AreRuled draft.entries.items draft.series.items series
-        → AreConfirmed room events (record { series = map series_said series; singles = map (booked_in draft.entries.items) left })
+    pub confirmed_of : (series : List Series) → AreRuled draft.entries draft.series.items series
+        → AreConfirmed room events (record { series = map series_said series; singles = map (booked_in draft.entries) left })
     confirmed_of series ruled = record {
       series =
           subst (λ es. AllZip (IsSeries events) es (map series_said series)) d.series
           (zip_mapped (IsSeries events) (λ m s. IsByItsRule ruled.keys (event_of m) (series_said s)) event_of series_said
-          (λ m s h. series_made events draft.entries.items d.entries ruled.keys ruled.same (event_of m) (series_said s) h) draft.series.items series ruled.each);
+          (λ m s h. series_made events draft.entries d.entries ruled.keys ruled.same (event_of m) (series_said s) h) draft.series.items series ruled.each);
       lists = lists.0;
       each = lists.1;
       singles = lists.2;
     }
 
-    pub left_within : AreWithin draft.entries.items left
+    pub left_within : AreWithin draft.entries left
     left_within =
-        subst (AreWithin draft.entries.items) (sym shown.is) (All-filter (is_shown_in draft.entries.items shown.keys) (λ s. s.entry < length draft.entries.items) draft.singles.items within_entries)
+        subst (AreWithin draft.entries) (sym shown.is) (All-filter (is_shown_in draft.entries shown.keys) (λ s. s.entry < length draft.entries) draft.singles.items within_entries)
 
-    pub different_keys : MastersDiffer events → OverridesDiffer events → HaveDifferentKeys (map (booked_in draft.entries.items) left)
+    pub different_keys : MastersDiffer events → OverridesDiffer events → HaveDifferentKeys (map (booked_in draft.entries) left)
     different_keys masters overrides = subst HaveDifferentKeys (sym lists.2) (lists_apart events masters overrides room [] events lists.0 refl lists.1)
 
 -- ---- the calendar that becomes of it
-
-pub calendar_says : (room : List ℕ) (object : Tree) (events : List Event) (r : Result Confirmed Fault) → SayEvents object events → IfOk r (λ _. MastersDiffer events × OverridesDiffer events)
-    → IfOk r (AreConfirmed room events) → IfOk r (SaysCalendar room object)
-calendar_says room object events (Ok c) says differ are = record { events = events; says = says; masters = differ.0; overrides = differ.1; are = are }
-calendar_says room object events (Err f) says differ are = tt
 
 pub calendar_refused : (object : Tree) (events : List Event) (r : Result Confirmed Fault) → SayEvents object events → IfErr r (RefusesBy (IsTwoOf events)) → IfErr r (RefusesBy (CalendarFault object))
 calendar_refused object events (Ok c) says h = tt
 calendar_refused object events (Err Memory) says h = tt
 calendar_refused object events (Err (Refused x)) says (inl (n, twins)) = subst (CalendarFault object) (sym n) (two_masters events says twins)
 calendar_refused object events (Err (Refused x)) says (inr (n, twins)) = subst (CalendarFault object) (sym n) (two_overrides events says twins)
+
+-- of octets
+module _ (room octets : List ℕ) (draft : Draft) (d : IsDraftIn room octets draft) where
+  pub text_refused : (r : Result Confirmed Fault) → IfErr r (RefusesBy (IsTwoOf d.of.events)) → IfErr r (RefusesBy (CalendarTextFault octets))
+  text_refused (Ok c) h = tt
+  text_refused (Err Memory) h = tt
+  text_refused (Err (Refused x)) h = in_vevents d.tree d.object (calendar_refused d.tree d.of.events (Err (Refused x)) d.of.says h)

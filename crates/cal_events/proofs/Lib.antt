@@ -1,6 +1,8 @@
 mod EventExamples
 mod ExpandedExample
 pub mod EventLemmas
+pub mod TextLemmas
+pub mod EntryLemmas
 pub mod ReadingLemmas
 pub mod RuleLemmas
 pub mod TreeLemmas
@@ -44,7 +46,7 @@ mod Walks
 mod ClockLemmas
 mod InOrder
 mod HiddenLemmas
-mod WholeLists
+pub mod WholeLists
 mod PlaceLemmas
 mod Overlaps
 mod SingleStartLemmas

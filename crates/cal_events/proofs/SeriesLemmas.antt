@@ -16,7 +16,9 @@ use Rattle.profile.specs.events.ZonedTimes.{EventTimes}
 use Rattle.profile.specs.events.Starts.{key_at, IsGiven, IsRuleStart, IsInstance, EndsAt}
 use Rattle.profile.specs.events.Confirmed.{IsReplaced, IsInstanceAmong, IsOfSeries, by_its_rule, IsSeries}
 use Rattle.cal_events.specs.Calendars.{key_in}
-use Rattle.cal_events.specs.Drafts.{entry_said, name_said, override_key, override_keys, IsSaid}
+use Rattle.cal_events.specs.Entries.{Name}
+use Rattle.cal_events.specs.Names.{name_said}
+use Rattle.cal_events.specs.Drafts.{override_key, override_keys, IsSaid}
 use Rattle.cal_events.specs.Ruled.{IsByItsRule, IsRuled}
 use Rattle.cal_events.specs.Meetings.{IsNamed}
 use Rattle.cal_events.specs.Overlapping.{HaveOneEnd, AreDated}
@@ -24,7 +26,6 @@ use Rattle.cal_events.specs.Events.{event_of}
 use Rattle.cal_events.specs.SaidMeetings.{said_meeting}
 use Rattle.cal_events.specs.declared.component.EventComponent.{EventComponent}
 use Rattle.cal_events.specs.declared.event.Event as declared
-use Rattle.cal_events.specs.declared.calendar.Entry.{Entry}
 use Rattle.std.specs.List.{filter_map}
 use Rattle.cal_events.proofs.DraftKeys.{some_there, replaced_key, key_replaced, entry_overrides}
 use Rattle.cal_events.proofs.InOneOrder.{later, none_in, one_order}
@@ -107,7 +108,7 @@ one_series events master a b s t =
 
 -- ---- what overrides stand for
 
-module _ (events : List Event) (entries : List Entry) (said : map entry_said entries ≡ map name_said events) (event : Event) (slot : ℤ) where
+module _ (events : List Event) (entries : List Name) (said : entries ≡ map name_said events) (event : Event) (slot : ℤ) where
   abbrev own : Key
   own = key_in (meeting_said event) slot
 
@@ -123,7 +124,7 @@ module _ (events : List Event) (entries : List Entry) (said : map entry_said ent
       (subst (Contains (filter_map override_key (map name_said events))) (ap (λ m. key_in m slot) r.of) (key_replaced events r.override slot r.among r.is))
 
 -- what is made by the keys of the entries is the series
-pub series_made : (events : List Event) (entries : List Entry) → map entry_said entries ≡ map name_said events → (keys : List Key) → IsPermutation (override_keys entries) keys
+pub series_made : (events : List Event) (entries : List Name) → entries ≡ map name_said events → (keys : List Key) → IsPermutation (override_keys entries) keys
     → (master : Event) (series : Whole) → IsByItsRule keys master series → IsSeries events master series
 series_made events entries said keys same master series h = record {
   replaced = h.replaced;
@@ -197,3 +198,11 @@ one_start event r a b h k start slot =
     let x = at_start (event_of m.0) a (subst (λ (w : Whole). IsInstance w a) is h) in
     let y = at_start (event_of m.0) b (subst (λ (w : Whole). IsInstance w b) is k) in
     booked_same a b (x.key ∙ ap (key_at (event_of m.0)) start ∙ sym y.key) start (event.ends a b h k start slot)
+
+-- a master alone gives slots that are starts, in the dates
+pub at_its_start : (event : declared.Event) → IsRuled event → (a : Booked) → IsInstance (said_meeting event) a → (a.key.slot ≡ a.start) × IsNamed a.start
+at_its_start event r a h =
+    let m = some_there event.master r.0 in
+    let is = alone_said event r.1.1 m.0 m.1 in
+    let x = at_start (event_of m.0) a (subst (λ (w : Whole). IsInstance w a) is h) in
+    (ap (λ (k : Key). k.slot) x.key, x.starts.in_dates)

@@ -1,6 +1,6 @@
 -- The tree of a component that lines spell has the same VEVENTs.
-use Rattle.std.proofs.Common.{◌≡◌, ℕ, Bool, true, false, cond, List, [], ◌∷◌, map, filter, codes, subst, sym, refl, ap, ◌∙◌, inl, inr, arith}
-use Rattle.ical_lines.specs.Fault.{RefusesBy}
+use Rattle.std.proofs.Common.{◌≡◌, ℕ, Bool, true, false, cond, List, [], ◌∷◌, map, filter, codes, subst, sym, refl, ap, ◌∙◌, inl, inr, arith, rules}
+use Rattle.ical_lines.specs.Fault.{RefusesBy, RefusesOnly}
 use Rattle.std.specs.Prelude.{IsTrue, Result, Ok, Err, IfOk, IfErr}
 use Rattle.std.specs.Result.{IsErrAnd}
 use Rattle.std.proofs.lemmas.Bool.Decides.{nat_tests}
@@ -13,9 +13,12 @@ use Rattle.ical_tree.specs.declared.component.Component.{Component}
 use Rattle.profile.specs.text.Lines.{is_same_name, logical_lines, reads_as_lines}
 use Rattle.profile.specs.text.Objects.{SpellsTree, has_version}
 use Rattle.profile.specs.text.Trees.{Tree, tree_name, tree_own, vevents}
-use Rattle.profile.specs.events.Confirmed.{Confirmed}
-use Rattle.profile.specs.checker.Calendars.{SaysCalendar, CalendarFault, SpellsCalendar, CalendarTextFault, in_lines, in_tree, no_version, in_vevents}
-use Rattle.cal_events.specs.Events.{is_vevent, vevents_of}
+use Rattle.profile.specs.checker.Calendars.{CalendarFault, CalendarTextFault, in_lines, in_tree, no_version, in_vevents}
+use Rattle.cal_events.specs.Drafts.{IsDraftOf, IsDraftIn}
+use Rattle.profile.specs.faults.Faults.{is_calendar_fault}
+use Rattle.cal_events.specs.Events.{is_vevent, vevents_of, is_fault_for}
+use Rattle.cal_events.specs.declared.component.Purpose.TheVariants.{Meeting}
+use Rattle.cal_events.specs.declared.draft.Draft.{Draft}
 use Rattle.cal_events.proofs.ReadingLemmas.{events_in}
 use Rattle.ical_values.proofs.Exits.{err_exit}
 
@@ -40,7 +43,7 @@ pub vevents_tree : (c : Component) → vevents (tree_of c) ≡ vevents_of c
 vevents_tree c =
     ap (λ (ts : List Tree). map tree_own (filter (λ t. is_same_name (tree_name t) (codes "VEVENT")) ts)) (tree_of-inside c) ∙ same_events (component_children c)
 
-pub faults_there : (r : Result Confirmed Fault) (octets : List ℕ) (c : Component) → IsObjectOf false c (logical_lines octets)
+pub faults_there : (r : Result Draft Fault) (octets : List ℕ) (c : Component) → IsObjectOf false c (logical_lines octets)
     → IfErr r (RefusesBy (CalendarFault (tree_of c))) → IfErr r (RefusesBy (CalendarTextFault octets))
 faults_there (Ok all) octets c object h = tt
 faults_there (Err Memory) octets c object h = tt
@@ -61,12 +64,16 @@ no_object octets (Refused x) (inl h) = in_lines h
 no_object octets (Refused x) (inr (inl h)) = in_tree h
 no_object octets (Refused x) (inr (inr (c, (s, h)))) = version_wrong octets x.number c s h
 
-pub object_refused : (r : Result Confirmed Fault) (octets : List ℕ) (f : Fault) → IsErrAnd r (λ e. e ≡ f) → Stands false octets f
+pub object_refused : (r : Result Draft Fault) (octets : List ℕ) (f : Fault) → IsErrAnd r (λ e. e ≡ f) → Stands false octets f
     → IfErr r (RefusesBy (CalendarTextFault octets))
 object_refused r octets f e h = err_exit r (RefusesBy (CalendarTextFault octets)) f e (no_object octets f h)
 
-pub calendar_spelled : (r : Result Confirmed Fault) (room octets : List ℕ) (c : Component) → reads_as_lines false octets ≡ true
-    → IsObjectOf false c (logical_lines octets) → IfOk r (SaysCalendar room (tree_of c)) → IfOk r (SpellsCalendar room octets)
-calendar_spelled (Ok all) room octets c lines object says =
-    record { lines = lines; tree = tree_of c; object = object_tree false c (logical_lines octets) object; says = says }
-calendar_spelled (Err e) room octets c lines object says = tt
+pub draft_spelled : (r : Result Draft Fault) (room octets : List ℕ) (c : Component) → reads_as_lines false octets ≡ true
+    → IsObjectOf false c (logical_lines octets) → IfOk r (IsDraftOf room (tree_of c)) → IfOk r (IsDraftIn room octets)
+draft_spelled (Ok draft) room octets c lines object says =
+    record { lines = lines; tree = tree_of c; object = object_tree false c (logical_lines octets) object; of = says }
+draft_spelled (Err e) room octets c lines object says = tt
+
+pub only_calendar : (f : Fault) → RefusesOnly (is_fault_for Meeting) f → RefusesOnly is_calendar_fault f
+only_calendar Memory h = tt
+only_calendar (Refused x) h = search rules

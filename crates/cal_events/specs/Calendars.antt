@@ -1,12 +1,14 @@
 -- What the types of instances and calendars stand for.
-use Rattle.std.specs.Prelude.{ℕ, List, [], ◌<◌, ◌≢◌, map, length, get_or, All, AllPairs, ℤ}
+use Rattle.std.specs.Prelude.{List, ◌<◌, ◌≢◌, length, All, AllPairs, ℤ}
 use Rattle.cal_events.specs.declared.sweep.Span.{Span}
 use Rattle.profile.specs.checker.Instances.{Key, Booked}
 use Rattle.ical_values.specs.Octets.{address_octets, text_octets}
+use Rattle.cal_events.specs.Entries.{Name}
+pub use Rattle.cal_events.specs.Entries.{Meeting}
+use Rattle.cal_events.specs.Names.{meeting_at}
 use Rattle.cal_events.specs.declared.instance.InstanceKey.{InstanceKey}
 use Rattle.cal_events.specs.declared.instance.Instance.{Instance}
 use Rattle.cal_events.specs.declared.instance.OwnedKey.{OwnedKey}
-use Rattle.cal_events.specs.declared.calendar.Entry.{Entry}
 use Rattle.cal_events.specs.declared.calendar.PlacedSingle.{PlacedSingle as Single}
 
 -- the key that borrows its texts
@@ -23,14 +25,6 @@ owned_key_of k = record { organiser = address_octets k.organiser; uid = text_oct
 
 -- ---- a calendar
 
--- a meeting: its organiser and its UID
-abbrev pub Meeting : Type 0
-Meeting = List ℕ × List ℕ
-
--- the meeting of a VEVENT
-abbrev pub meeting_of : Entry → Meeting
-meeting_of e = (address_octets e.organiser, text_octets e.uid)
-
 -- the key of a meeting's instance
 abbrev pub key_in : Meeting → ℤ → Key
 key_in m slot = record { organiser = m.0; uid = m.1; slot = slot }
@@ -39,16 +33,12 @@ key_in m slot = record { organiser = m.0; uid = m.1; slot = slot }
 abbrev pub booked_as : Meeting → Single → Booked
 booked_as m s = record { key = key_in m s.slot; start = s.start; end = s.end }
 
--- the meeting of the VEVENT at a place
-abbrev pub meeting_at : List Entry → ℕ → Meeting
-meeting_at entries k = get_or (map meeting_of entries) k ([], [])
-
 -- a single of one of these VEVENTs
-abbrev pub booked_in : List Entry → Single → Booked
+abbrev pub booked_in : List Name → Single → Booked
 booked_in entries s = booked_as (meeting_at entries s.entry) s
 
 -- the singles are of these VEVENTs
-abbrev pub AreWithin : List Entry → List Single → Type 0
+abbrev pub AreWithin : List Name → List Single → Type 0
 AreWithin entries singles = All (λ s. s.entry < length entries) singles
 
 -- different places have different keys

@@ -1,28 +1,22 @@
 -- A calendar while its VEVENTs are read.
-use Rattle.std.specs.Prelude.{ℕ, suc, List, [], ◌∷◌, ◌++◌, ◌≡◌, ◌⊎◌, ◌||◌, map, filter, get_or, All, AllPairs, Contains, Bool, true, false, not, Option, None, Some, is_some, ℤ, pos}
+use Rattle.std.specs.Prelude.{ℕ, suc, List, [], ◌∷◌, ◌++◌, ◌≡◌, ◌⊎◌, ◌||◌, map, filter, All, AllPairs, Contains, Bool, true, false, not, Option, None, Some, is_some, ℤ, pos}
 use Rattle.std.specs.Ordering.{is_eq}
 use Rattle.std.specs.List.{list_any, filter_map}
 use Rattle.std.specs.List.Sorted.{IsPermutation, IsSortedByKey}
 use Rattle.profile.specs.checker.Instances.{Key, Booked, key_cmp}
 use Rattle.profile.specs.events.Events.{Event, SaysEvent, meeting_said}
+use Rattle.profile.specs.text.Lines.{reads_as_lines}
 use Rattle.profile.specs.text.Trees.{Tree}
+use Rattle.profile.specs.checker.Calendars.{SayEvents, IsCalendarText}
 use Rattle.profile.specs.events.Starts.{IsInstance, EndsAt, ComesBefore}
 use Rattle.profile.specs.events.Confirmed.{alone, is_kept, is_series, IsOfSeries, MastersDiffer, OverridesDiffer}
 use Rattle.cal_events.specs.Events.{event_of}
-use Rattle.cal_events.specs.Calendars.{Meeting, key_of, key_in, meeting_of, meeting_at, booked_as}
-use Rattle.cal_events.specs.declared.calendar.Entry.{Entry}
+use Rattle.cal_events.specs.Entries.{Name}
+use Rattle.cal_events.specs.Names.{name_said, meeting_at, recurrence_at}
+use Rattle.cal_events.specs.Calendars.{key_of, key_in, booked_as}
 use Rattle.cal_events.specs.declared.calendar.PlacedSingle.{PlacedSingle as Single}
 use Rattle.cal_events.specs.declared.draft.Draft.{Draft}
 use Rattle.cal_events.specs.declared.instance.InstanceKey.{InstanceKey}
-
--- ---- what the VEVENTs are of
-
--- a VEVENT's meeting, and which instance it stands for
-abbrev pub entry_said : Entry → Meeting × Option ℤ
-entry_said e = (meeting_of e, e.recurrence)
-
-abbrev pub name_said : Event → Meeting × Option ℤ
-name_said event = (meeting_said event, event.recurrence)
 
 -- some VEVENT says the event
 abbrev pub IsSaid : Event → Type 0
@@ -63,28 +57,41 @@ AreDrawn room place (event ∷ events) singles =
 -- the draft of these VEVENTs
 pub record IsDraft (room : List ℕ) (events : List Event) (draft : Draft) : Type 0 where
   pub said : All IsSaid events
-  pub entries : map entry_said draft.entries.items ≡ map name_said events
+  pub entries : draft.entries ≡ map name_said events
   pub series : map event_of draft.series.items ≡ filter (is_series room) events
   pub singles : AreDrawn room 0 events draft.singles.items
+
+-- the draft of an object's VEVENTs
+pub record IsDraftOf (room : List ℕ) (object : Tree) (draft : Draft) : Type 0 where
+  pub events : List Event
+  pub says : SayEvents object events
+  pub is : IsDraft room events draft
+
+-- the draft of the VCALENDAR that the octets are
+pub record IsDraftIn (room octets : List ℕ) (draft : Draft) : Type 0 where
+  pub lines : reads_as_lines false octets ≡ true
+  pub tree : Tree
+  pub object : IsCalendarText tree octets
+  pub of : IsDraftOf room tree draft
 
 -- ---- one master of a meeting, and one override for an instance
 
 -- the key of a master, with slot 0
-abbrev pub master_key : Meeting × Option ℤ → Option Key
+abbrev pub master_key : Name → Option Key
 master_key (m, None) = Some (key_in m (pos 0))
 master_key (m, Some slot) = None
 
 -- the key of the instance that an override stands for
-abbrev pub override_key : Meeting × Option ℤ → Option Key
+abbrev pub override_key : Name → Option Key
 override_key (m, None) = None
 override_key (m, Some slot) = Some (key_in m slot)
 
 -- those of all that are one
-abbrev pub master_keys : List Entry → List Key
-master_keys entries = filter_map master_key (map entry_said entries)
+abbrev pub master_keys : List Name → List Key
+master_keys entries = filter_map master_key entries
 
-abbrev pub override_keys : List Entry → List Key
-override_keys entries = filter_map override_key (map entry_said entries)
+abbrev pub override_keys : List Name → List Key
+override_keys entries = filter_map override_key entries
 
 -- in order
 abbrev pub AreInOrder : List InstanceKey → Type 0
@@ -94,16 +101,12 @@ AreInOrder keys = IsSortedByKey key_of key_cmp keys
 abbrev pub AreSorted : List Key → List InstanceKey → Type 0
 AreSorted keys sorted = IsPermutation keys (map key_of sorted) × AreInOrder sorted
 
--- the instance that the VEVENT at a place stands for
-abbrev pub recurrence_at : List Entry → ℕ → Option ℤ
-recurrence_at entries k = get_or (map (λ e. e.recurrence) entries) k None
-
 -- the single is an override's, or none of these keys is its own
-abbrev pub is_shown_in : List Entry → List Key → Single → Bool
+abbrev pub is_shown_in : List Name → List Key → Single → Bool
 is_shown_in entries keys s = is_some (recurrence_at entries s.entry) || not (list_any (λ key. is_eq (key_cmp key (key_in (meeting_at entries s.entry) s.slot))) keys)
 
 -- those are left that are shown, where overrides stand for these instances, in some order
-pub record AreShown (entries : List Entry) (singles left : List Single) : Type 0 where
+pub record AreShown (entries : List Name) (singles left : List Single) : Type 0 where
   pub keys : List Key
   pub same : IsPermutation (override_keys entries) keys
   pub is : left ≡ filter (is_shown_in entries keys) singles

@@ -1,4 +1,7 @@
 pub mod Calendars
+pub mod Texts
+pub mod Entries
+pub mod Names
 pub mod Clashes
 pub mod Sweep
 pub mod Events

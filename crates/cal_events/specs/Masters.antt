@@ -5,10 +5,10 @@ use Rattle.std.specs.List.Sorted.{IsPermutation}
 use Rattle.profile.specs.checker.Instances.{Key}
 use Rattle.profile.specs.events.Meetings.{is_master}
 use Rattle.cal_events.specs.Drafts.{IsSaid, override_keys}
+use Rattle.cal_events.specs.Entries.{Name}
 use Rattle.cal_events.specs.Events.{event_of}
 use Rattle.cal_events.specs.Ruled.{IsByItsRule}
 use Rattle.cal_events.specs.SaidSeries.{series_said}
-use Rattle.cal_events.specs.declared.calendar.Entry.{Entry}
 use Rattle.cal_events.specs.declared.component.EventComponent.{EventComponent}
 use Rattle.cal_events.specs.declared.series.Series.{Series}
 
@@ -26,7 +26,7 @@ abbrev pub AreSeriesOf : List Key → List EventComponent → List Series → Ty
 AreSeriesOf keys masters series = AllZip (λ m s. IsByItsRule keys (event_of m) (series_said s)) masters series
 
 -- where overrides stand for these instances, in some order
-pub record AreRuled (entries : List Entry) (masters : List EventComponent) (series : List Series) : Type 0 where
+pub record AreRuled (entries : List Name) (masters : List EventComponent) (series : List Series) : Type 0 where
   pub keys : List Key
   pub same : IsPermutation (override_keys entries) keys
   pub each : AreSeriesOf keys masters series

@@ -3,39 +3,16 @@ ghost use Rattle.std.specs.Prelude.{◌≡◌, ◌<◌, map, length, option_map,
 ghost use Rattle.std.specs.List.{slice_get};
 ghost use Rattle.std.specs.Iterator.{YieldsFirstBy, item_count};
 ghost use Rattle.profile.specs.checker.Instances.{IsClear};
-ghost use Rattle.cal_events.specs.Calendars.{booked_in, instance_of, key_of, key_in, meeting_of, owned_key_of, span_of, HaveDifferentKeys, AreWithin};
+ghost use Rattle.cal_events.specs.Calendars.{booked_in, instance_of, owned_key_of, span_of, HaveDifferentKeys, AreWithin};
 ghost use Rattle.cal_events.specs.Clashes.{Names};
 ghost use Rattle.cal_events.specs.SaidSeries.{series_said};
 
-use crate::instance::{Instance, InstanceKey, OwnedKey};
+use crate::entries::Entries;
+use crate::instance::{Instance, OwnedKey};
 use crate::series::Series;
 use crate::sweep::{Overlap, Span, first_overlap};
-use ical_values::{Address, Text};
 use std::alloc::{AllocError, Global};
 use std::marker::Model;
-
-/// A VEVENT of a calendar: whose it is, and which instance it stands for.
-#[derive(Drop)]
-pub(crate) struct Entry {
-    /// The empty address where ORGANIZER is missing.
-    pub(crate) organiser: Address,
-    pub(crate) uid: Text,
-    /// RECURRENCE-ID, in seconds from 1970-01-01T00:00:00Z.
-    pub(crate) recurrence: Option<i64>,
-}
-
-impl Entry {
-    /// The key of its meeting's instance at a slot.
-    pub(crate) fn key_at(&self, slot: i64) -> InstanceKey<'_>
-        ensures { key_of result ≡ key_in (meeting_of self.now) slot }
-    {
-        InstanceKey {
-            organiser: self.organiser.as_str(),
-            uid: self.uid.as_str(),
-            slot,
-        }
-    }
-}
 
 /// A single: an instance of the VEVENT at a place among the calendar's.
 #[derive(Clone, Copy)]
@@ -49,7 +26,7 @@ pub(crate) struct PlacedSingle {
 /// What is confirmed in a room.
 #[derive(Drop)]
 pub struct Calendar {
-    pub(crate) entries: Vec<Entry>,
+    pub(crate) entries: Entries,
     pub(crate) singles: Vec<PlacedSingle>,
     pub(crate) series: Vec<Series>,
 }
@@ -62,15 +39,15 @@ impl Model for Calendar {
 
     ghost Value = { Confirmed };
 
-    ghost view = { λ c. record { series = map series_said c.series.items; singles = map (booked_in c.entries.items) c.singles.items } };
+    ghost view = { λ c. record { series = map series_said c.series.items; singles = map (booked_in c.entries) c.singles.items } };
 
-    ghost invariant = { λ c. HaveDifferentKeys (map (booked_in c.entries.items) c.singles.items) × AreWithin c.entries.items c.singles.items };
+    ghost invariant = { λ c. HaveDifferentKeys (map (booked_in c.entries) c.singles.items) × AreWithin c.entries c.singles.items };
 }
 
 /// The singles of a calendar, in its order.
 #[derive(Drop)]
 pub struct Singles<'a> {
-    entries: &'a [Entry],
+    entries: &'a Entries,
     singles: &'a [PlacedSingle],
     ghost within: { AreWithin entries.now singles.now },
 }
@@ -123,7 +100,7 @@ impl Calendar {
         ensures { IfOk result (λ key. option_map owned_key_of key ≡ option_map (λ b. b.key) (slice_get self.now.singles place)) }
     {
         match self.singles.get(place) {
-            Some(single) => Ok(Some(single.owned_key(&self.entries)?)),
+            Some(single) => Ok(Some(self.entries.owned_key_at(single.entry, single.slot)?)),
             None => Ok(None),
         }
     }
@@ -141,28 +118,15 @@ impl Calendar {
 
 impl PlacedSingle {
     /// The instance, of one of these VEVENTs.
-    fn lend<'a>(&self, entries: &'a [Entry]) -> Instance<'a>
+    fn lend<'a>(&self, entries: &'a Entries) -> Instance<'a>
         requires { self.now.entry < length entries.now }
         ensures { instance_of result ≡ booked_in entries.now self.now }
     {
         Instance {
-            key: entries[self.entry].key_at(self.slot),
+            key: entries.key_at(self.entry, self.slot),
             start: self.start,
             end: self.end,
         }
-    }
-
-    /// Its key, owned.
-    fn owned_key(&self, entries: &[Entry]) -> Result<OwnedKey, AllocError>
-        requires { self.now.entry < length entries.now }
-        ensures { IfOk result (λ key. owned_key_of key ≡ (booked_in entries.now self.now).key) }
-    {
-        let entry = &entries[self.entry];
-        Ok(OwnedKey {
-            organiser: entry.organiser.clone()?,
-            uid: entry.uid.clone()?,
-            slot: self.slot,
-        })
     }
 }
 

@@ -1,8 +1,10 @@
 //! A calendar while its VEVENTs are read, one after another.
-ghost use Rattle.std.specs.Prelude.{ℕ, List, [], ◌∷◌, ◌++◌, ◌≡◌, ◌≢◌, ◌<◌, map, filter, length, unwrap_or, AllPairs, is_some, ◌&&◌, true, IfOk, IfErr, OnOk, MatchBool};
+ghost use Rattle.std.specs.Prelude.{ℕ, List, [], ◌∷◌, ◌++◌, ◌≡◌, ◌≢◌, ◌<◌, map, filter, length, AllPairs, is_some, ◌&&◌, true, IfOk, IfErr, OnOk, MatchBool};
 ghost use Rattle.ical_lines.specs.Fault.{RefusesOnly, RefusesBy};
 ghost use Rattle.ical_values.specs.Octets.{address_octets};
-ghost use Rattle.profile.specs.faults.Faults.{is_between};
+ghost use Rattle.ical_tree.specs.Tree.{tree_of};
+ghost use Rattle.profile.specs.faults.Faults.{is_between, is_calendar_fault};
+ghost use Rattle.profile.specs.checker.Calendars.{CalendarFault, CalendarTextFault};
 ghost use Rattle.profile.specs.events.Events.{Event};
 ghost use Rattle.profile.specs.events.Meetings.{is_master};
 ghost use Rattle.profile.specs.events.Starts.{EndsAt};
@@ -10,23 +12,27 @@ ghost use Rattle.profile.specs.series.Zones.{IsNearEpoch};
 ghost use Rattle.profile.specs.events.Confirmed.{is_kept, AreConfirmed, MastersDiffer, OverridesDiffer};
 ghost use Rattle.cal_events.specs.Events.{event_of};
 ghost use Rattle.cal_events.specs.Calendars.{key_of, AreWithin};
-ghost use Rattle.cal_events.specs.Drafts.{entry_said, name_said, AreOwnAt, IsDraft, IsSaid, AreSorted, AreInOrder, master_keys, override_keys, is_shown_in, AreShown, IsTwoOf};
+ghost use Rattle.cal_events.specs.Drafts.{AreOwnAt, IsDraft, IsDraftOf, IsDraftIn, IsSaid, AreSorted, AreInOrder, master_keys, override_keys, is_shown_in, AreShown, IsTwoOf};
 ghost use Rattle.cal_events.specs.Masters.{AreMasters, AreSeriesOf, AreRuled};
 ghost use Rattle.cal_events.specs.declared.calendar.PlacedSingle.{PlacedSingle};
 
-use crate::calendar::{Calendar, Entry, PlacedSingle};
-use crate::component::{EventComponent, ParticipationStatus};
+use crate::calendar::{Calendar, PlacedSingle};
+use crate::component::{EventComponent, ParticipationStatus, Purpose};
+use crate::entries::Entries;
 use crate::instance::InstanceKey;
+use crate::reading::read_event;
 use crate::series::Series;
 use crate::single_starts::single_starts;
-use ical_lines::{Fault, Refusal};
+use crate::zones::Zones;
+use ical_lines::{Fault, Limits, Refusal, Unfolded};
+use ical_tree::{Component, read_object};
 use ical_values::Address;
 use std::alloc::{AllocError, Global};
 
 /// The VEVENTs so far, and what would be confirmed of them if no override hid a start.
 #[derive(Drop)]
 pub(crate) struct Draft {
-    entries: Vec<Entry>,
+    entries: Entries,
     singles: Vec<PlacedSingle>,
     series: Vec<EventComponent>,
 }
@@ -37,10 +43,44 @@ impl Draft {
         ensures { (room : List ℕ) → IsDraft room [] result }
     {
         Draft {
-            entries: Vec::new(alloc),
+            entries: Entries::new(alloc),
             singles: Vec::new(alloc),
             series: Vec::new(alloc),
         }
+    }
+
+    /// That of the calendar that the octets spell. Their text and their tree are given back when it is made.
+    /// Refused: 1 to 5 and 20 to 24 for the object, and as by `of_object`.
+    pub(crate) fn read(alloc: Global, bytes: &[u8], room: &Address) -> Result<Draft, Fault>
+        ensures spells { IfOk result (IsDraftIn (address_octets room.now) bytes.now) }
+        ensures refuses { IfErr result (RefusesOnly is_calendar_fault) }
+        ensures stands { IfErr result (RefusesBy (CalendarTextFault bytes.now)) }
+    {
+        let text = Unfolded::read(alloc, bytes, Limits::Open)?;
+        let object = read_object(alloc, &text, Limits::Open)?;
+        Draft::of_object(alloc, &object, room)
+    }
+
+    /// That of an object that was read.
+    /// Refused: as by `EventComponent::read` for a VEVENT.
+    pub(crate) fn of_object(
+        alloc: Global,
+        object: &Component,
+        room: &Address,
+    ) -> Result<Draft, Fault>
+        ensures says { IfOk result (IsDraftOf (address_octets room.now) (tree_of object.now)) }
+        ensures refuses { IfErr result (RefusesOnly is_calendar_fault) }
+        ensures stands { IfErr result (RefusesBy (CalendarFault (tree_of object.now))) }
+    {
+        let zones = Zones::of(alloc, object)?;
+        let mut draft = Draft::new(alloc);
+        for component in object.children() {
+            if component.is_named("VEVENT") {
+                let event = read_event(alloc, &zones, component, Purpose::Meeting)?;
+                draft.add(alloc, event, room)?;
+            }
+        }
+        Ok(draft)
     }
 
     /// Takes the next VEVENT, for a room. After an error it may have been taken in part.
@@ -54,7 +94,7 @@ impl Draft {
         ensures { (events : List Event) → IsDraft (address_octets room.now) events self.old → OnOk result (IsDraft (address_octets room.now) (events ++ event_of event ∷ []) self.new) }
     {
         let place = self.entries.len();
-        self.entries.push(entry_of(alloc, &event)?)?;
+        self.entries.push(alloc, &event)?;
         if !is_kept(&event, room) {
             return Ok(());
         }
@@ -95,7 +135,7 @@ impl Draft {
 /// Refused: 54 for two overrides of one instance.
 fn shown(
     alloc: Global,
-    entries: &[Entry],
+    entries: &Entries,
     singles: Vec<PlacedSingle>,
     masters: Vec<EventComponent>,
 ) -> Result<(Vec<PlacedSingle>, Vec<Series>), Fault>
@@ -136,7 +176,7 @@ fn series_of(
 /// Those that none of the overrides hides. It fails only for memory.
 fn without_hidden(
     alloc: Global,
-    entries: &[Entry],
+    entries: &Entries,
     singles: Vec<PlacedSingle>,
     overrides: &[InstanceKey<'_>],
 ) -> Result<Vec<PlacedSingle>, AllocError>
@@ -171,26 +211,6 @@ fn is_series(event: &EventComponent) -> bool
     ensures { result ≡ is_master (event_of event.now) && is_some event.now.rule }
 {
     event.recurrence.is_none() && event.rule.is_some()
-}
-
-fn entry_of(alloc: Global, event: &EventComponent) -> Result<Entry, AllocError>
-    ensures { IfOk result (λ entry. entry_said entry ≡ name_said (event_of event.now)) }
-{
-    Ok(Entry {
-        organiser: organiser_of(alloc, event)?,
-        uid: event.uid.clone()?,
-        recurrence: event.recurrence,
-    })
-}
-
-/// The address of an event's organiser; the empty one where ORGANIZER is missing.
-fn organiser_of(alloc: Global, event: &EventComponent) -> Result<Address, AllocError>
-    ensures { IfOk result (λ address. address_octets address ≡ unwrap_or (event_of event.now).organiser []) }
-{
-    match &event.organiser {
-        Some(organiser) => organiser.clone(),
-        None => Ok(Address::empty(alloc)),
-    }
 }
 
 /// Appends the singles of an event, which stands at that place, by start.
@@ -234,13 +254,13 @@ fn single_at(entry: usize, event: &EventComponent, slot: i64, start: i64) -> Pla
 }
 
 /// The keys of the masters, with slot 0, in order.
-fn keys_of_masters(alloc: Global, entries: &[Entry]) -> Result<Vec<InstanceKey<'_>>, AllocError>
+fn keys_of_masters(alloc: Global, entries: &Entries) -> Result<Vec<InstanceKey<'_>>, AllocError>
     ensures { IfOk result (λ keys. AreSorted (master_keys entries.now) keys.items) }
 {
     let mut keys = Vec::new(alloc);
-    for entry in entries {
-        if entry.recurrence.is_none() {
-            keys.push(entry.key_at(0))?;
+    for place in 0..entries.len() {
+        if entries.recurrence(place).is_none() {
+            keys.push(entries.key_at(place, 0))?;
         }
     }
     keys.sort_unstable();
@@ -248,13 +268,13 @@ fn keys_of_masters(alloc: Global, entries: &[Entry]) -> Result<Vec<InstanceKey<'
 }
 
 /// The keys of the instances that overrides stand for, in order.
-fn keys_of_overrides(alloc: Global, entries: &[Entry]) -> Result<Vec<InstanceKey<'_>>, AllocError>
+fn keys_of_overrides(alloc: Global, entries: &Entries) -> Result<Vec<InstanceKey<'_>>, AllocError>
     ensures { IfOk result (λ keys. AreSorted (override_keys entries.now) keys.items) }
 {
     let mut keys = Vec::new(alloc);
-    for entry in entries {
-        if let Some(slot) = entry.recurrence {
-            keys.push(entry.key_at(slot))?;
+    for place in 0..entries.len() {
+        if let Some(slot) = entries.recurrence(place) {
+            keys.push(entries.key_at(place, slot))?;
         }
     }
     keys.sort_unstable();
@@ -274,11 +294,11 @@ fn has_equal_neighbours(sorted: &[InstanceKey<'_>]) -> bool
 }
 
 /// Whether a single is an override's, or no override stands for its start.
-fn is_shown(entries: &[Entry], overrides: &[InstanceKey<'_>], single: PlacedSingle) -> bool
+fn is_shown(entries: &Entries, overrides: &[InstanceKey<'_>], single: PlacedSingle) -> bool
     requires within { single.entry < length entries.now }
     requires sorted { AreInOrder overrides.now }
     ensures { result ≡ is_shown_in entries.now (map key_of overrides.now) single }
 {
-    let entry = &entries[single.entry];
-    entry.recurrence.is_some() || overrides.binary_search(&entry.key_at(single.slot)).is_err()
+    let key = entries.key_at(single.entry, single.slot);
+    entries.recurrence(single.entry).is_some() || overrides.binary_search(&key).is_err()
 }

@@ -4,6 +4,7 @@
 pub mod calendar;
 pub mod component;
 mod draft;
+mod entries;
 mod event;
 mod event_rule;
 mod event_times;
@@ -21,6 +22,7 @@ mod rule_days;
 mod series;
 mod single_starts;
 pub mod sweep;
+mod texts;
 mod whole;
 mod zoned;
 mod zones;
@@ -38,5 +40,5 @@ pub use reading::{
 };
 pub use series::Series;
 pub use sweep::{Overlap, Span, first_overlap};
-pub use whole::{all_instances, all_starts};
+pub use whole::{all_instances, all_starts, known_by_start};
 pub use zoned::{ZonedTime, one_zoned_time};

@@ -18,8 +18,8 @@ use crate::component::{EventComponent, Purpose, one_event};
 use crate::draft::Draft;
 use crate::properties::refuse_unread;
 use crate::zones::Zones;
-use ical_lines::{Fault, Limits, Unfolded};
-use ical_tree::{Component, Properties, one_tree, read_object};
+use ical_lines::Fault;
+use ical_tree::{Component, Properties, one_tree};
 use ical_values::Address;
 use std::alloc::Global;
 
@@ -32,9 +32,8 @@ impl Calendar {
         ensures refuses { IfErr result (RefusesOnly is_calendar_fault) }
         ensures stands { IfErr result (RefusesBy (CalendarTextFault bytes.now)) }
     {
-        let text = Unfolded::read(alloc, bytes, Limits::Open)?;
-        let object = read_object(alloc, &text, Limits::Open)?;
-        Calendar::of_object(alloc, &object, room)
+        let draft = Draft::read(alloc, bytes, room)?;
+        draft.into_calendar(alloc)
     }
 
     /// The calendar of an object that was read. In time n log n.
@@ -45,14 +44,7 @@ impl Calendar {
         ensures refuses { IfErr result (RefusesOnly is_calendar_fault) }
         ensures stands { IfErr result (RefusesBy (CalendarFault (tree_of object.now))) }
     {
-        let zones = Zones::of(alloc, object)?;
-        let mut draft = Draft::new(alloc);
-        for component in object.children() {
-            if component.is_named("VEVENT") {
-                let event = read_event(alloc, &zones, component, Purpose::Meeting)?;
-                draft.add(alloc, event, room)?;
-            }
-        }
+        let draft = Draft::of_object(alloc, object, room)?;
         draft.into_calendar(alloc)
     }
 }
@@ -128,7 +120,7 @@ pub fn refuse_unread_events(
 
 /// What a VEVENT says, whose times may name these zones. Its lines are parsed once, for all that is asked of them.
 /// Refused: as by `EventComponent::read`.
-fn read_event(
+pub(crate) fn read_event(
     alloc: Global,
     zones: &Zones<'_, '_>,
     component: &Component,

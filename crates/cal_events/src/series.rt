@@ -1,13 +1,13 @@
 //! The series of a calendar: a master by its rule alone (RFC 5545 3.8.5.3). What RDATE adds belongs to none.
-ghost use Rattle.std.specs.Prelude.{◌≡◌, ◌≢◌, ◌↔◌, ◌≤ℤ◌, true, Some, is_some, map, filter, AllPairs, IfOk};
+ghost use Rattle.std.specs.Prelude.{◌≡◌, ◌≢◌, ◌↔◌, ◌≤ℤ◌, true, Some, is_some, map, option_map, filter, AllPairs, IfOk};
 ghost use Rattle.profile.specs.checker.Instances.{Booked};
 ghost use Rattle.profile.specs.events.Meetings.{is_master};
-ghost use Rattle.profile.specs.events.Starts.{IsInstance, IsWidth};
+ghost use Rattle.profile.specs.events.Starts.{IsInstance, IsFirstOverlap, IsWidth};
 ghost use Rattle.profile.specs.events.Confirmed.{by_its_rule};
 ghost use Rattle.profile.specs.events.Events.{Event as Said, meeting_said};
 ghost use Rattle.profile.specs.events.ZonedTimes.{clock_of};
 ghost use Rattle.cal_zones.specs.Kinds.{zone_of};
-ghost use Rattle.cal_events.specs.Calendars.{key_of};
+ghost use Rattle.cal_events.specs.Calendars.{key_of, instance_of};
 ghost use Rattle.cal_events.specs.Drafts.{IsSaid, AreInOrder};
 ghost use Rattle.cal_events.specs.Events.{event_of};
 ghost use Rattle.cal_events.specs.Left.{IsLeft};
@@ -16,8 +16,9 @@ ghost use Rattle.cal_events.specs.Ruled.{IsRuled, AreSlotsOf, IsByItsRule, cmp_t
 
 use crate::component::EventComponent;
 use crate::event::Event;
-use crate::instance::InstanceKey;
+use crate::instance::{Instance, InstanceKey};
 use crate::instances::Instances;
+use crate::sweep::Span;
 use cal_rules::Rule;
 use cal_zones::Zone;
 use std::alloc::{AllocError, Global};
@@ -59,6 +60,14 @@ impl Series {
         ensures of { said_meeting result.event.now ≡ series_said self.now }
     {
         self.event.instances(from)
+    }
+
+    /// The first of its instances that shares an instant before the horizon with a span; None where none does. It begins to look where one
+    /// that starts earlier would be over.
+    pub fn first_overlap(&self, span: Span) -> Option<Instance<'_>>
+        ensures { IsFirstOverlap (series_said self.now) span.start span.end (option_map instance_of result) }
+    {
+        self.event.first_overlap(span)
     }
 
     /// The rule by which it recurs.

@@ -7,7 +7,7 @@ ghost use Rattle.profile.specs.events.Starts.{IsInstance, AreInstancesFrom};
 ghost use Rattle.cal_events.specs.GivenWhole.{GivesAll};
 ghost use Rattle.cal_events.specs.Left.{IsLeft};
 ghost use Rattle.cal_events.specs.SaidMeetings.{said_meeting};
-ghost use Rattle.cal_events.specs.SaidSeries.{series_said};
+ghost use Rattle.cal_events.specs.SaidSeries.{series_said, AreKnownByStart};
 ghost use Rattle.cal_events.specs.declared.instances.Instances.{Instances};
 ghost use Rattle.cal_events.specs.declared.series.Series.{Series};
 
@@ -18,6 +18,11 @@ pub fn all_starts()
     ensures { (series : Series) (from : ℤ) (instances : Instances) (all : List Booked) → said_meeting instances.event.now ≡ series_said series
         → ((b : Booked) → IsLeft instances b ↔ (IsInstance (series_said series) b × (from ≤ℤ b.start)))
         → GivesAll instances all → AreInstancesFrom (series_said series) from all }
+{}
+
+/// The instances of a series are known by their starts.
+pub fn known_by_start()
+    ensures { (series : Series) → AreKnownByStart (series_said series) }
 {}
 
 /// Of an event that octets spell, `Event::instances` gives all instances that start at an instant or later, by start and then by slot, each

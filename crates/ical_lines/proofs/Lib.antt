@@ -17,4 +17,5 @@ pub mod CleanLines
 pub mod IdleLemmas
 pub mod OutsideLemmas
 pub mod MarkLemmas
+mod PlainLemmas
 pub mod ReturnLemmas

@@ -6,3 +6,4 @@ pub mod Pieces
 pub mod PiecesOf
 pub mod Text
 pub mod Unfold
+pub mod Plain

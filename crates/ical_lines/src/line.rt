@@ -1,12 +1,13 @@
 //! One content line: `name *(";" param) ":" value` (RFC 5545 3.1).
-ghost use Rattle.std.specs.Prelude.{◌≡◌, ◌==◌, ◌%◌, count_by, option_map, true};
+ghost use Rattle.std.specs.Prelude.{◌≡◌, ◌==◌, ◌%◌, count_by, option_map, position, true, IsTrue};
 ghost use Rattle.std.specs.List.{list_any};
 ghost use Rattle.profile.specs.text.Lines.{line_name, line_params, is_quote, has_control, is_control};
 ghost use Rattle.ical_lines.specs.Breaks.{is_one_line, value_or_none};
+ghost use Rattle.ical_lines.specs.Plain.{IsPlain, ends_name};
 ghost use Rattle.ical_lines.specs.PiecesOf.{pieces_of};
 
 use crate::fault::Refusal;
-use crate::name::is_name;
+use crate::name::{is_name, is_name_octet};
 use crate::param::{Param, Params, fault_of};
 use crate::pieces::{Pieces, split_mark, split_outside};
 
@@ -144,8 +145,25 @@ impl<'a> Line<'a> {
         None
     }
 
+    /// The least of the faults 1 to 4 that stand in the line of a text that holds no line break. Nearly every line is a name, a colon and
+    /// a value: of these the name is gone over once, and no other part is looked for.
+    pub(crate) fn fault_in(text: &'a str) -> Option<Refusal>
+        requires { is_one_line text.now ≡ true }
+        ensures stands { MatchOption result (is_faulty text.now ≡ false) (λ refusal. IsTrue (line_has refusal.number text.now)) }
+        ensures least { option_map (λ refusal. refusal.number) result ≡ least_fault text.now }
+        ensures refuses { IfSome result (λ refusal. IsTrue (is_line_fault refusal.number)) }
+    {
+        if !is_plain(text.as_bytes()) {
+            return Line::of(text).fault();
+        }
+        if has_control(text.as_bytes()) {
+            return Some(Refusal::CONTROL);
+        }
+        None
+    }
+
     /// The least of the faults 1 to 4 that stand in the line.
-    pub(crate) fn fault(&self) -> Option<Refusal>
+    fn fault(&self) -> Option<Refusal>
         ensures stands { MatchOption result (is_faulty (line_text self.now) ≡ false)
             (λ refusal. IsTrue (line_has refusal.number (line_text self.now))) }
         ensures least { option_map (λ refusal. refusal.number) result ≡ least_fault (line_text self.now) }
@@ -172,6 +190,23 @@ impl<'a> Line<'a> {
     {
         self.value.is_none() && (!has_open_quote(self.text) || !has_colon(self.text))
     }
+}
+
+/// Whether a line begins with a name and a colon right after it.
+fn is_plain(line: &[u8]) -> bool
+    ensures { IsTrue result → IsPlain line.now }
+{
+    match name_end(line) {
+        Some(place) => place > 0 && line[place] == b':',
+        None => false,
+    }
+}
+
+/// Where the first octet stands that can't stand in a name.
+fn name_end(line: &[u8]) -> Option<usize>
+    ensures { result ≡ position ends_name line.now }
+{
+    line.iter().position(|octet| !is_name_octet(*octet))
 }
 
 /// Whether a colon stands in a text.

@@ -18,7 +18,7 @@ fn are_name_octets(text: &str) -> bool
 }
 
 /// Whether an octet may stand in a name.
-fn is_name_octet(octet: u8) -> bool
+pub(crate) fn is_name_octet(octet: u8) -> bool
     ensures { result ≡ is_name_octet octet }
 {
     octet.is_ascii_alphanumeric() || octet == b'-'

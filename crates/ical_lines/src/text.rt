@@ -99,13 +99,14 @@ fn check_lines(text: &str, limits: Limits) -> Result<(), Refusal>
         (λ r. IsTrue (list_any (line_has r.number) (lines_of text.now)
         || (r.number == 6 && (is_bounded limits && nat_lt 65536 (length (lines_of text.now)))))) }
 {
+    let mut lines = Lines { rest: text };
     let mut count = 0usize;
-    for line in (Lines { rest: text }) {
+    while let Some(line) = lines.next_text() {
         count += 1;
         if limits.exceeds_lines(count) {
             return Err(Refusal::TOO_LONG);
         }
-        if let Some(refusal) = line.fault() {
+        if let Some(refusal) = Line::fault_in(line) {
             return Err(refusal);
         }
     }

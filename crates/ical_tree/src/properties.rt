@@ -5,6 +5,9 @@ use ical_lines::{Line, Refusal};
 use std::alloc::{AllocError, Global};
 use std::marker::Model;
 
+/// Room for so many lines is made at once: most VEVENTs have no more.
+const USUAL_LINES: usize = 16;
+
 /// The own lines of a component, each with its parts found: it may be asked for many names.
 #[derive(Drop)]
 pub struct Properties<'a> {
@@ -31,6 +34,7 @@ impl<'a> Properties<'a> {
         ensures { IfOk result (λ properties. properties ≡ component_lines component.now) }
     {
         let mut lines = Vec::new(alloc);
+        lines.reserve(USUAL_LINES)?;
         for line in component.lines() {
             lines.push(line)?;
         }

@@ -1,17 +1,15 @@
 -- The one Whole register of a part's meeting says whether the part is in the view.
-use Rattle.std.proofs.Common.{◌≡◌, ℕ, Bool, true, false, ◌&&◌, ◌||◌, List, [], ◌∷◌, inl, inr, get_or, take, drop, sym, ap, ◌∙◌, subst}
+use Rattle.std.proofs.Common.{◌≡◌, Bool, true, false, ◌&&◌, ◌||◌, List, [], ◌∷◌, inl, inr, sym, ap, ◌∙◌, subst}
 use Rattle.std.specs.declared.cmp.Ordering.{Ordering}
 use Rattle.std.specs.declared.cmp.Ordering.TheVariants.{Less, Equal, Greater}
 use Rattle.std.specs.Ordering.{ordering_then, is_eq, is_lt, is_gt}
 use Rattle.std.specs.Cmp.{both_ways}
 use Rattle.std.specs.List.{Contains}
 use Rattle.std.proofs.lemmas.Bool.{and_parts, true≢false, or_left, or_right, and_from}
-use Rattle.std.proofs.lemmas.List.{take-append-drop}
-use Rattle.std.proofs.lemmas.List.Elements.{Contains-get_or, Contains-append_cases}
 use Rattle.profile.specs.rooms.Revisions.{Whole, Part, place_cmp, same_meeting, same_place, is_whole, stands_beside, allows}
-use Rattle.itip_order.specs.Registers.{is_ascending, is_allowed_by, at_slot, IsAt, IsGap}
+use Rattle.itip_order.specs.Registers.{is_ascending, is_allowed_by, at_slot, IsRegister, HasNoRegister}
 use Rattle.itip_order.proofs.Lists.{all_at, all_from, in_cons, none_in_nil}
-use Rattle.itip_order.proofs.Order.{then_equal}
+use Rattle.itip_order.proofs.Order.{then_equal, is_eq_true}
 use Rattle.itip_order.proofs.Registers.{implies_at, implies_from, place_sym, place_trans}
 
 eq_then : (a b : Ordering) → is_eq a ≡ true → is_eq b ≡ true → is_eq (ordering_then a b) ≡ true
@@ -56,22 +54,15 @@ or_right_of : (a b : Bool) → a ≡ false → (a || b) ≡ true → b ≡ true
 or_right_of true b p q = absurd (true≢false p)
 or_right_of false b p q = q
 
-pub allowed_absent : (R : List Part) (p : Part) (at : ℕ) → IsGap R (at_slot p Whole) at → true ≡ is_allowed_by R p
-allowed_absent R p at gap = sym (all_from (λ w. allows w p) R (λ x c.
-    or_right (is_whole p) _ (implies_from _ _ (λ whole.
-    let here = at_whole x p whole in
-    absurd (elim (Contains-append_cases (take at R) (drop at R) x (subst (λ (xs : List Part). Contains xs x) (sym (take-append-drop at R)) c)) [
-      | inl left ↦ lt_not_eq _ (all_at (λ r. is_lt (place_cmp r (at_slot p Whole))) (take at R) x gap.below left) here
-      | inr right ↦ gt_not_eq _ (all_at (λ r. is_gt (place_cmp r (at_slot p Whole))) (drop at R) x gap.above right) here
-    ])))))
+pub allowed_absent : (R : List Part) (p : Part) → HasNoRegister R (at_slot p Whole) → true ≡ is_allowed_by R p
+allowed_absent R p none = sym (all_from (λ w. allows w p) R (λ x c.
+    or_right (is_whole p) _ (implies_from _ _ (λ whole. absurd (none x c (is_eq_true _ (at_whole x p whole)))))))
 
-pub allowed_found : (R : List Part) (p w : Part) (at : ℕ) → is_ascending R ≡ true → is_whole p ≡ false → IsAt R (at_slot p Whole) at → w ≡ get_or R at w → stands_beside w p ≡ is_allowed_by R p
-allowed_found R p w at a other found is =
-    let in_R : Contains R w = subst (λ (z : Part). Contains R z) (sym is) (Contains-get_or R at w found.in_range) in
-    let place : place_cmp w (at_slot p Whole) ≡ Equal = subst (λ (z : Part). place_cmp z (at_slot p Whole) ≡ Equal) (sym is) (found.same w) in
-    let both = then_equal _ _ place in
+pub allowed_found : (R : List Part) (p w : Part) → is_ascending R ≡ true → is_whole p ≡ false → IsRegister R (at_slot p Whole) w → stands_beside w p ≡ is_allowed_by R p
+allowed_found R p w a other found =
+    let both = then_equal _ _ found.1 in
     both_ways (stands_beside w p) (is_allowed_by R p)
     (λ stands. all_from (λ v. allows v p) R (λ x c. or_right (is_whole p) _ (implies_from _ _ (λ whole.
-    let same = ascending_unique R x w a c in_R (place_trans x (at_slot p Whole) w (at_whole x p whole) (place_sym w (at_slot p Whole) (ap is_eq place))) in
+    let same = ascending_unique R x w a c found.0 (place_trans x (at_slot p Whole) w (at_whole x p whole) (place_sym w (at_slot p Whole) (ap is_eq found.1))) in
     subst (λ (z : Part). stands_beside z p ≡ true) (sym same) stands))))
-    (λ allowed. implies_at _ _ (or_right_of (is_whole p) _ other (all_at (λ v. allows v p) R w allowed in_R)) (and_from _ _ (ap is_eq both.1) (ap is_eq both.0)))
+    (λ allowed. implies_at _ _ (or_right_of (is_whole p) _ other (all_at (λ v. allows v p) R w allowed found.0)) (and_from _ _ (ap is_eq both.1) (ap is_eq both.0)))

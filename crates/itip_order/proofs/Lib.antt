@@ -8,3 +8,4 @@ pub mod Allowed
 pub mod Steps
 pub mod Orders
 pub mod Lasting
+pub mod Joined

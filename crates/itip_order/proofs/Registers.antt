@@ -22,7 +22,7 @@ pub implies_from : (a b : Bool) → (a ≡ true → b ≡ true) → implies a b 
 implies_from true b f = f refl
 implies_from false b f = refl
 
-le_not_gt : (o : Ordering) → is_gt o ≡ false → is_le o ≡ true
+pub le_not_gt : (o : Ordering) → is_gt o ≡ false → is_le o ≡ true
 le_not_gt Less e = refl
 le_not_gt Equal e = refl
 le_not_gt Greater e = absurd (true≢false e)

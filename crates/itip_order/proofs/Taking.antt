@@ -14,7 +14,7 @@ use Rattle.profile.specs.rooms.Revisions.{Part, place_cmp, part_cmp, same_place,
 use Rattle.itip_order.specs.declared.held.Freshness.TheVariants.{Fresh, Same, Stale}
 use Rattle.itip_order.specs.Freshness.{IsFreshness}
 use Rattle.itip_order.specs.Registers.{is_ascending, is_allowed_by, is_known, StandsFor, IsAt, IsGap}
-use Rattle.itip_order.proofs.Lists.{all_at, all_from, any_at, any_from, in_head, in_tail, in_cons, none_in_nil}
+use Rattle.itip_order.proofs.Lists.{all_at, all_from, any_at, in_head, in_tail, in_cons, none_in_nil}
 use Rattle.itip_order.proofs.Order.{place_total, part_total}
 use Rattle.itip_order.proofs.Registers.{Puts, stands_kept, stands_put, in_view_from, in_view_at, register_greatest, register_of, place_sym, place_trans, greatest_unique, allows_same_place, eq_refl}
 use Rattle.ical_values.proofs.Facts.{is_lt_true}
@@ -25,9 +25,9 @@ is_gt_true Equal e = absurd (true≢false (sym e))
 is_gt_true Greater e = refl
 
 -- the part's place is above all of the one list and below all of the other
-record Between (A B : List Part) (p : Part) : Type 0 where
-  low : (x : Part) → Contains A x → place_cmp x p ≡ Less
-  high : (x : Part) → Contains B x → place_cmp p x ≡ Less
+pub record Between (A B : List Part) (p : Part) : Type 0 where
+  pub low : (x : Part) → Contains A x → place_cmp x p ≡ Less
+  pub high : (x : Part) → Contains B x → place_cmp p x ≡ Less
 
 low_other : (A B : List Part) (p : Part) → Between A B p → (x : Part) → Contains A x → same_place x p ≡ false
 low_other A B p w x c = ap is_eq (w.low x c)
@@ -80,7 +80,7 @@ between_sides (y ∷ A) r B a =
     }
 
 -- a part in the gap
-puts_between : (A B : List Part) (p : Part) → is_ascending (A ++ B) ≡ true → Between A B p → Puts (A ++ B) (A ++ p ∷ B) p
+pub puts_between : (A B : List Part) (p : Part) → is_ascending (A ++ B) ≡ true → Between A B p → Puts (A ++ B) (A ++ p ∷ B) p
 puts_between A B p a w = record {
   ascending = ascending_between A B p a w;
   put = Contains-append_right A (p ∷ B) p (in_head p B);
@@ -102,7 +102,7 @@ puts_between A B p a w = record {
 }
 
 -- a part over the lesser part of its place
-puts_over : (A : List Part) (r : Part) (B : List Part) (p : Part) → is_ascending (A ++ r ∷ B) ≡ true → place_cmp r p ≡ Equal → part_cmp p r ≡ Greater → Puts (A ++ r ∷ B) (A ++ p ∷ B) p
+pub puts_over : (A : List Part) (r : Part) (B : List Part) (p : Part) → is_ascending (A ++ r ∷ B) ≡ true → place_cmp r p ≡ Equal → part_cmp p r ≡ Greater → Puts (A ++ r ∷ B) (A ++ p ∷ B) p
 puts_over A r B p a place greater =
     let w = between_sides A r B a in
     let v : Between A B p = record {
@@ -206,21 +206,9 @@ hidden_is R h p r s c place other = sym (false_from_ne_true _ (λ v.
     let same = greatest_unique h r p (register_greatest R h s r c) (register_greatest R h s p (in_view_at R h s p v).0) place in
     true≢false (sym (ap is_eq (tied_itself part_total p)) ∙ subst (λ (z : Part). is_eq (part_cmp p z) ≡ false) same other)))
 
--- nor is a part without a register
-pub missing_is : (R h : List Part) (p : Part) (at : ℕ) → StandsFor R h → IsGap R p at → false ≡ in_view h p
-missing_is R h p at s gap = sym (false_from_ne_true _ (λ v.
-    let taken = (register_greatest R h s p (in_view_at R h s p v).0).taken in
-    true≢false (sym (any_from (λ taken. same_place taken p) h p taken (eq_refl p)) ∙ unknown_is R h p at s gap)))
-
 -- a register that isn't allowed is of a place of which nothing is in the view
 pub none_is : (R h : List Part) (p r : Part) → StandsFor R h → Contains R r → same_place r p ≡ true → is_allowed_by R r ≡ false → (x : Part) → in_view h x ≡ true → same_place x p ≡ true → ⊥
 none_is R h p r s c place out x v here =
     let at = in_view_at R h s x v in
     let same = greatest_unique h x r (register_greatest R h s x at.0) (register_greatest R h s r c) (place_trans x p r here (place_sym r p place)) in
     true≢false (sym at.1 ∙ ap (is_allowed_by R) same ∙ out)
-
--- nor is a part of a place without a register
-pub none_missing : (R h : List Part) (p : Part) (at : ℕ) → StandsFor R h → IsGap R p at → (x : Part) → in_view h x ≡ true → same_place x p ≡ true → ⊥
-none_missing R h p at s gap x v here =
-    let taken = (register_greatest R h s x (in_view_at R h s x v).0).taken in
-    true≢false (sym (any_from (λ taken. same_place taken p) h x taken here) ∙ unknown_is R h p at s gap)

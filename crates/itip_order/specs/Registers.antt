@@ -1,14 +1,31 @@
 -- What a list of registers, one for each slot, stands for.
-use Rattle.std.specs.Prelude.{◌≡◌, ℕ, ◌<◌, ◌≤◌, Bool, true, ◌&&◌, List, [], ◌∷◌, length, take, drop, slice_index_or, IsTrue, ◌↔◌, Contains, filter}
-use Rattle.std.specs.declared.cmp.Ordering.TheVariants.{Equal}
+use Rattle.std.specs.Prelude.{◌≡◌, ℕ, ◌<◌, ◌≤◌, Bool, true, ◌&&◌, List, [], ◌∷◌, length, take, drop, slice_index_or, IsTrue, if◌then◌else◌, ◌↔◌, Contains, filter}
+use Rattle.std.specs.declared.cmp.Ordering.{Ordering}
+use Rattle.std.specs.declared.cmp.Ordering.TheVariants.{Less, Equal, Greater}
 use Rattle.std.specs.List.{list_all, list_any}
 use Rattle.std.specs.Ordering.{is_lt, is_gt}
-use Rattle.profile.specs.rooms.Revisions.{Slot, Part, place_cmp, same_place, is_greatest, in_view, allows}
+use Rattle.profile.specs.rooms.Revisions.{Slot, Part, place_cmp, part_cmp, same_place, is_greatest, in_view, allows}
 
 -- each part's place is below those of all later ones: by organiser, UID, slot
 abbrev pub is_ascending : List Part → Bool
 is_ascending [] = true
 is_ascending (part ∷ parts) = list_all (λ later. is_lt (place_cmp part later)) parts && is_ascending parts
+
+-- the part, at its place beside the first of some, and those after it with the part among them
+abbrev pub put_by : Ordering → Part → Part → List Part → List Part → List Part
+put_by Less part first parts after = part ∷ first ∷ parts
+put_by Equal part first parts after = (if is_gt (part_cmp part first) then part else first) ∷ parts
+put_by Greater part first parts after = first ∷ after
+
+-- ascending parts with one more, of its place the greater
+abbrev pub put_part : Part → List Part → List Part
+put_part part [] = part ∷ []
+put_part part (first ∷ parts) = put_by (place_cmp part first) part first parts (put_part part parts)
+
+-- ascending parts with these, of each place the greatest
+abbrev pub together : List Part → List Part → List Part
+together parts [] = parts
+together parts (more ∷ others) = together (put_part more parts) others
 
 -- the registers hold the greatest part of each slot ever taken, one for each slot, by their places
 pub record StandsFor (registers history : List Part) : Type 0 where
@@ -49,6 +66,14 @@ at_slot part slot = record part { slot = slot }
 pub record IsAt (registers : List Part) (part : Part) (at : ℕ) : Type 0 where
   pub in_range : at < length registers
   pub same : (default : Part) → place_cmp (slice_index_or registers at default) part ≡ Equal
+
+-- it is the register of that place
+abbrev pub IsRegister : List Part → Part → Part → Type 0
+IsRegister registers place part = Contains registers part × (place_cmp part place ≡ Equal)
+
+-- no register is of that place
+abbrev pub HasNoRegister : List Part → Part → Type 0
+HasNoRegister registers place = (part : Part) → Contains registers part → place_cmp part place ≡ Equal → ⊥
 
 -- no register is of the part's place, and a new one would go here
 pub record IsGap (registers : List Part) (part : Part) (at : ℕ) : Type 0 where

@@ -3,14 +3,18 @@
 //! One register for each slot, in the order of organiser, UID, slot, so a slot is found by halves.
 //! A tombstone stays for good, also one of a meeting that was never heard of.
 
-ghost use Rattle.std.specs.Prelude.{◌≡◌, ◌<◌, ◌^◌, true, false, Contains, List, [], ◌∷◌, ◌++◌, length, IsTrue, IfOk, IfErr, IfSome, IfNone, OnOk, OnErr, if◌then◌else◌};
+ghost use Rattle.std.specs.Prelude.{◌≡◌, ◌<◌, ◌≤◌, ◌+◌, ◌^◌, true, false, Contains, List, [], ◌∷◌, ◌++◌, length, IsTrue, IfOk, OnOk, OnErr};
+ghost use Rattle.std.specs.Prelude.{if◌then◌else◌};
 ghost use Rattle.std.specs.Iterator.{YieldsFirstBy, item_count};
 ghost use Rattle.std.specs.List.{insert};
-ghost use Rattle.itip_order.specs.Parts.{part_of, parts_of, slot_of};
-ghost use Rattle.itip_order.specs.Registers.{is_ascending, is_allowed_by, shown, at_slot, is_known, StandsFor, IsView, SameParts, IsAt, IsGap, IsInView, HasNone};
+ghost use Rattle.std.specs.Vec.{vec_len, vec_capacity};
+ghost use Rattle.itip_order.specs.Parts.{part_of, parts_of};
+ghost use Rattle.itip_order.specs.Registers.{is_ascending, is_allowed_by, shown, is_known, put_part, together, StandsFor, IsView};
+ghost use Rattle.itip_order.specs.Registers.{SameParts, IsGap};
 ghost use Rattle.profile.specs.rooms.Revisions as revisions;
 
-use crate::part::{Body, Part, Slot};
+use crate::part::Part;
+use crate::together::{Together, place_of};
 use std::alloc::{AllocError, Global};
 use std::cmp::Ordering;
 use std::marker::Model;
@@ -105,27 +109,23 @@ impl Held {
         ensures { (history : List revisions.Part) → StandsFor self.now history
             → result ≡ revisions.in_view history (part_of part.now) }
     {
-        match place_of(&self.registers, part, part.slot) {
-            Ok(at) => {
-                part.cmp_part(&self.registers[at]).is_eq() && is_allowed(&self.registers, part)
-            }
-            Err(_) => false,
-        }
+        self.alone().shows(part)
     }
 
-    /// The part in the view of a slot of another part's meeting, None where there is none. Takes no memory.
-    pub fn part_in(&self, part: &Part, slot: Slot) -> Option<&Part>
-        ensures found { IfSome result (λ found. IsInView self.now (part_of found.now) × IsTrue (revisions.same_place (part_of found.now) (at_slot (part_of part.now) (slot_of slot)))) }
-        ensures none { IfNone result (HasNone self.now (at_slot (part_of part.now) (slot_of slot))) }
+    /// Its parts, as those of two values of which the other took none. Takes no memory.
+    pub fn alone(&self) -> Together<'_>
+        ensures { result ≡ self.now }
     {
-        let Ok(at) = place_of(&self.registers, part, slot) else {
-            return None;
-        };
-        let found = &self.registers[at];
-        if !is_allowed(&self.registers, found) {
-            return None;
-        }
-        Some(found)
+        Together::new(&self.registers, &[])
+    }
+
+    /// Its parts and those that another took. Takes no memory.
+    pub fn with<'a>(&'a self, more: &'a Held) -> Together<'a>
+        ensures together { result ≡ together self.now more.now }
+        ensures taken { (history others : List revisions.Part) → StandsFor self.now history → StandsFor more.now others
+            → StandsFor result (history ++ others) }
+    {
+        Together::new(&self.registers, &more.registers)
     }
 
     /// The parts in the view, in the order of organiser, UID, slot. Takes no memory.
@@ -139,6 +139,18 @@ impl Held {
             registers: &self.registers,
             left: &self.registers,
         }
+    }
+
+    /// Takes the parts that another took: for each of them it moves the registers that come after it, and copies none. On an error nothing
+    /// has changed.
+    pub fn take_all(&mut self, more: Held) -> Result<(), AllocError>
+        ensures together { OnOk result (self.new ≡ together self.old more) }
+        ensures taken { OnOk result ((history others : List revisions.Part) → StandsFor self.old history → StandsFor more others
+            → StandsFor self.new (history ++ others)) }
+        ensures err { OnErr result (self.new ≡ self.old) }
+    {
+        put_all(&mut self.registers, more.registers)?;
+        Ok(())
     }
 
     /// A second one that has taken the same parts.
@@ -238,36 +250,44 @@ fn repeated(in_view: bool) -> Freshness
     }
 }
 
-// The place of a slot of the part's meeting, or the place where it would go.
-fn place_of(registers: &[Part], part: &Part, slot: Slot) -> Result<usize, usize>
-    requires { IsTrue (is_ascending (parts_of registers.now)) }
-    ensures found { IfOk result (IsAt (parts_of registers.now) (at_slot (part_of part.now) (slot_of slot))) }
-    ensures absent { IfErr result (IsGap (parts_of registers.now) (at_slot (part_of part.now) (slot_of slot))) }
-{
-    registers.binary_search_by(|register| register.cmp_place(part, slot))
-}
-
 // The Whole of its meeting leaves the part in the view.
 fn is_allowed(registers: &[Part], part: &Part) -> bool
     requires { IsTrue (is_ascending (parts_of registers.now)) }
     ensures { result ≡ is_allowed_by (parts_of registers.now) (part_of part.now) }
 {
-    match part.slot {
-        Slot::Whole => true,
-        Slot::At(_) => match place_of(registers, part, Slot::Whole) {
-            Ok(at) => stands_with(&registers[at], part),
-            Err(_) => true,
-        },
-    }
+    Together::new(registers, &[]).allows(part)
 }
 
-// The part's revision isn't below the Whole's, and is above it where the Whole is cancelled.
-fn stands_with(whole: &Part, part: &Part) -> bool
-    ensures { result ≡ revisions.stands_beside (part_of whole.now) (part_of part.now) }
+// Puts each of these parts in its place. On an error nothing has changed.
+fn put_all(registers: &mut Vec<Part>, more: Vec<Part>) -> Result<(), AllocError>
+    requires { IsTrue (is_ascending (parts_of registers.old.items)) }
+    ensures ok { OnOk result (parts_of registers.new.items ≡ together (parts_of registers.old.items) (parts_of more.items)) }
+    ensures err { OnErr result (registers.new.items ≡ registers.old.items) }
 {
-    match part.revision.cmp(&whole.revision) {
-        Ordering::Less => false,
-        Ordering::Equal => !matches!(whole.body, Body::Cancelled),
-        Ordering::Greater => true,
+    registers.reserve(more.len())?;
+    for part in more {
+        put(registers, part);
+    }
+    Ok(())
+}
+
+// Puts a part in its place, where the greater of two stays. The memory for it is there.
+fn put(registers: &mut Vec<Part>, part: Part)
+    requires ascending { IsTrue (is_ascending (parts_of registers.old.items)) }
+    requires room { vec_len registers.old < vec_capacity registers.old }
+    ensures put { parts_of registers.new.items ≡ put_part (part_of part) (parts_of registers.old.items) }
+    ensures len { vec_len registers.new ≤ vec_len registers.old + 1 }
+    ensures capacity { vec_capacity registers.old ≤ vec_capacity registers.new }
+{
+    match place_of(registers, &part, part.slot) {
+        Ok(at) => {
+            if part.cmp_part(&registers[at]).is_gt() {
+                registers[at] = part;
+            }
+        }
+        Err(at) => {
+            // there is room for it
+            let _ = registers.insert(at, part);
+        }
     }
 }

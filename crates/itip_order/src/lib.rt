@@ -7,8 +7,10 @@
 
 mod held;
 mod part;
+mod together;
 
 pub use held::{
     Freshness, Held, View, same_parts_same_view, stands_for_its_registers, view_is_lasting,
 };
 pub use part::{Body, Part, Revision, Slot};
+pub use together::Together;

@@ -4,6 +4,7 @@ use Rattle.std.specs.List.{AllZip, Contains, filter}
 use Rattle.std.proofs.lemmas.Bool.{and_from, both_ways, cases_Bool, not_from_false}
 use Rattle.std.proofs.lemmas.List.Elements.{Contains-append_left, Contains-append_right, Contains-append_cases}
 use Rattle.itip_order.specs.Registers.{StandsFor}
+use Rattle.itip_order.proofs.Joined.{stands_together}
 use Rattle.itip_order.proofs.Lasting.{view_taken}
 use Rattle.itip_order.proofs.Lists.{in_cons, none_in_nil, filter_at, filter_from}
 use Rattle.profile.specs.checker.Instances.{Booked, Key}
@@ -15,7 +16,7 @@ use Rattle.room_books.specs.declared.meeting.MeetingKey.{MeetingKey}
 use Rattle.room_books.specs.declared.meeting.Meeting.{Meeting}
 use Rattle.cal_events.specs.declared.instance.Single.{Single}
 use Rattle.room_books.specs.declared.meeting.Given.{Given}
-use Rattle.room_books.specs.Takings.{OutcomeDated, StandsAt}
+use Rattle.room_books.specs.Takings.{OutcomeDated, StandsAt, held_after}
 use Rattle.room_books.specs.Views.{booked_of}
 use Rattle.room_books.specs.Standing.{IsFitting, AreFitting, IsOwn, IsGiven, IsDated, Meets, MeetsAt, standing, book_after}
 use Rattle.room_books.proofs.Runs.{new_answer}
@@ -77,6 +78,11 @@ module _ (k : MeetingKey) (own : Book) where
   old_dated (Some meeting) m a c v =
       let found = zip_to (IsGiven k own.taken) (standing own.taken own.answers) meeting.answers.items a m.answers (filter_from (λ (x : Answer). in_view own.taken x.claim.part) own.answers a c v) in
       subst OutcomeDated found.2.outcome (m.dated found.0 found.1).outcome
+
+-- with its parts and more
+pub held_stands : (before : Option Meeting) (more history others : List Part) → StandsAt before history → StandsFor more others → StandsFor (held_after before more) (history ++ others)
+held_stands None more history others e s = subst (λ (l : List Part). StandsFor more (l ++ others)) (sym e) s
+held_stands (Some meeting) more history others h s = stands_together meeting.held more history others h s
 
 -- ---- and after
 

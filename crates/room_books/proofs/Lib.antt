@@ -58,3 +58,7 @@ pub mod Beside
 pub mod Afters
 pub mod MeetingSteps
 pub mod Stands
+pub mod PutIn
+pub mod Touching
+pub mod Splits
+pub mod Shifting

@@ -22,6 +22,8 @@ use Rattle.room_books.specs.declared.meeting.Given.{Given}
 use Rattle.room_books.specs.declared.taking.Claim.{Claim as Asking}
 use Rattle.room_books.specs.Takings.{claim_said, claims_said, kind_view, AreAsked, IsAnswered, IsKindOf}
 use Rattle.room_books.specs.Views.{same_key, booked_list, all_singles, others, outcome_of}
+use Rattle.itip_order.specs.declared.part.Slot.{Slot}
+use Rattle.room_books.specs.Touching.{AllTouch}
 use Rattle.room_books.specs.Standing.{is_of, book_of, AreFitting, IsGiven, IsMeetingAfter, KeepsAll, Meets, Stands}
 use Rattle.room_books.proofs.Afters.{confirmed_asked, outcome_dated, meets_after}
 use Rattle.room_books.proofs.Beside.{beside_same}
@@ -60,9 +62,9 @@ module _ (k : MeetingKey) (entries : List (MeetingKey × Meeting)) (distinct : I
       ]
 
   module _ (part : Part) (own_part : is_of k part ≡ true) (some : 0 < length asking_all) (meeting : Meeting) (s : StandsFor meeting.held t) (kept : List Given)
-      (keeps : KeepsAll part (lookup (same_key k) entries) meeting.held kept) (asking : List (Bor Asking)) (are : AreAsked own.taken t asking_all asking) where
+      (slots : List Slot) (touches : AllTouch slots (parts_of claims)) (keeps : KeepsAll part slots (lookup (same_key k) entries) meeting.held kept) (asking : List (Bor Asking)) (are : AreAsked own.taken t asking_all asking) where
     kept_zip : AllZip (IsGiven k t) (stayed k own (own_of k entries book st) claims fit moment) kept
-    kept_zip = keeps own k (parts_of claims) own_part (own_of k entries book st) (st.meets k) s
+    kept_zip = keeps own k (parts_of claims) own_part (own_of k entries book st) (st.meets k) s touches
 
     none_after : (kind : Kind) → asking ≡ [] → meeting.answers.items ≡ kept → IsKindOf own.taken t asking_all None kind → IsMeetingAfter book k claims moment (kind_view kind) meeting
     none_after kind e same said =

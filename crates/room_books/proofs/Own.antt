@@ -1,27 +1,33 @@
 -- A meeting by its own book: the answers that stay when more of its parts are taken, and what they confirm.
 use Rattle.std.proofs.Common.{◌≡◌, ◌∙◌, ℕ, ◌+◌, ◌<◌, take, get_or, Bool, true, false, not, ◌&&◌, cond, List, [], ◌∷◌, ◌++◌, map, length, inl, inr, Option, None, Some, refl, sym, ap, subst, append-nil}
 use Rattle.std.specs.List.{AllZip, filter, flat_map, Contains}
-use Rattle.std.proofs.lemmas.Bool.{true≢false, not-true, not_from_false, false_from_ne_true, both_ways}
-use Rattle.std.proofs.lemmas.List.Elements.{Contains-append_left, Contains-push}
+use Rattle.std.proofs.lemmas.Bool.{true≢false, and_parts, and_from, or_right, not-true, not_from_false, false_from_ne_true, both_ways}
+use Rattle.std.proofs.lemmas.List.Elements.{Contains-append_left, Contains-append_cases, Contains-push}
 use Rattle.std.proofs.lemmas.List.{take_more}
 use Rattle.itip_order.specs.Parts.{slot_of}
 use Rattle.itip_order.specs.Registers.{StandsFor, at_slot}
 use Rattle.itip_order.proofs.Lasting.{view_one}
-use Rattle.itip_order.proofs.Lists.{in_head, in_tail, none_in_nil, filter_at}
-use Rattle.itip_order.proofs.Registers.{place_sym, place_trans}
+use Rattle.itip_order.proofs.Lists.{in_head, in_tail, none_in_nil, filter_at, all_at, all_from, any_at, any_from}
+use Rattle.itip_order.proofs.Order.{slot_same, is_eq_true, then_equal}
+use Rattle.itip_order.proofs.Registers.{place_sym, place_trans, greatest_at, greatest_from, implies_at, implies_from}
 use Rattle.profile.specs.checker.Instances.{Booked}
-use Rattle.profile.specs.rooms.Revisions.{Part, in_view, same_place}
+use Rattle.profile.specs.rooms.Revisions as Revision
+use Rattle.profile.specs.rooms.Revisions.{Part, Whole, At, in_view, same_place, is_whole, is_greatest, implies, allows, slot_cmp, same_meeting, stands_beside}
 use Rattle.profile.specs.rooms.Rooms.{Answer, Book, is_accept, is_hidden, left_of, confirmed_in}
 use Rattle.room_books.specs.declared.meeting.MeetingKey.{MeetingKey}
 use Rattle.room_books.specs.declared.meeting.Meeting.{Meeting}
 use Rattle.cal_events.specs.declared.instance.Single.{Single}
 use Rattle.room_books.specs.declared.meeting.Given.{Given}
-use Rattle.room_books.specs.Takings.{IsStill, IsViewed, left_in, booked_in}
+use Rattle.room_books.specs.Takings.{IsStill, IsViewed, IsCopy, left_in, left_beside, booked_in}
+use Rattle.room_books.specs.Touching.{is_touched, AllTouch, IsUntouched}
+use Rattle.itip_order.specs.declared.part.Slot.{Slot}
+use Rattle.std.specs.Ordering.{is_eq}
 use Rattle.room_books.specs.Views.{booked_of, booked_list}
 use Rattle.room_books.specs.Standing.{is_of, IsOwn, IsGiven, standing, KeepsAll}
 use Rattle.room_books.proofs.Loops.{zip_push, filter_push, filter_yes, filter_no}
-use Rattle.room_books.proofs.Meetings.{is_of_parts, same_place_of}
-use Rattle.room_books.proofs.Views.{hidden_stays}
+use Rattle.room_books.proofs.Meetings.{filter_same, is_of_parts, same_place_of}
+use Rattle.room_books.proofs.Views.{hidden_stays, view_back}
+use Rattle.room_books.proofs.Places.{booked_from}
 
 -- ---- filters
 
@@ -75,9 +81,37 @@ filter_cond : (f : Booked → Bool) (b : Bool) (xs : List Booked) → filter f (
 filter_cond f true xs = refl
 filter_cond f false xs = refl
 
+-- ---- parts that nothing touches
+
+-- where no part of its place is taken and no whole, a part stays in the view
+untouched_view : (h more : List Part) (a : Part) → Contains h a → in_view h a ≡ true → ((y : Part) → Contains more y → same_place y a ≡ false) → ((y : Part) → Contains more y → is_whole y ≡ false) → in_view (h ++ more) a ≡ true
+untouched_view h more a taken seen other instance =
+    let both = and_parts _ _ seen in
+    let top = greatest_at h a both.0 in
+    and_from _ _
+    (greatest_from (h ++ more) a record {
+      taken = Contains-append_left h more a taken;
+      top = λ y c same. elim (Contains-append_cases h more y c) [ inl old ↦ top.top y old same | inr new ↦ absurd (both_ways _ (other y new) same) ];
+    })
+    (all_from (λ w. implies (is_greatest (h ++ more) w) (allows w a)) (h ++ more) (λ w c. implies_from _ _ (λ greatest. elim (Contains-append_cases h more w c) [
+      | inl old ↦
+          let g = greatest_at (h ++ more) w greatest in
+          let was = greatest_from h w record { taken = old; top = λ y d same. g.top y (Contains-append_left h more y d) same } in
+          implies_at _ _ (all_at (λ x. implies (is_greatest h x) (allows x a)) h w both.1 old) was
+      | inr new ↦ or_right (is_whole a) _ (implies_from (is_whole w && same_meeting w a) (stands_beside w a) (λ whole. absurd (both_ways _ (instance w new) (and_parts (is_whole w) (same_meeting w a) whole).0)))
+    ])))
+
+-- nothing hides what is confirmed by the answer to an instance
+left_instance : (t : List Part) (a : Answer) → is_whole a.claim.part ≡ false → left_of t a ≡ a.claim.singles
+left_instance t a whole = filter_all (λ b. not (is_hidden t a.claim.part b)) a.claim.singles (λ b c. not_from_false _ (and_false _ _ whole))
+  where
+    and_false : (x y : Bool) → x ≡ false → (x && y) ≡ false
+    and_false true y e = absurd (true≢false e)
+    and_false false y e = refl
+
 -- ---- an answer, when more parts are taken
 
-module _ (key : MeetingKey) (own : Book) (more : List Part) (is_own : IsOwn key own) (before after : List Part) (part : Part) (of_key : is_of key part ≡ true)
+module _ (key : MeetingKey) (own : Book) (more : List Part) (is_own : IsOwn key own) (slots : List Slot) (touches : AllTouch slots more) (before after : List Part) (part : Part) (of_key : is_of key part ≡ true)
     (stood : StandsFor before own.taken) (stands : StandsFor after (own.taken ++ more))
     (a : Answer) (known : Contains own.answers a) (seen : in_view own.taken a.claim.part ≡ true) (given : Given) (g : IsGiven key own.taken a given) where
   abbrev place : Part
@@ -92,13 +126,72 @@ module _ (key : MeetingKey) (own : Book) (more : List Part) (is_own : IsOwn key 
   is_part : (q : Part) → IsViewed before place q → q ≡ a.claim.part
   is_part q v = view_one own.taken q a.claim.part (v.seen own.taken stood) seen (place_trans q place a.claim.part v.same (place_sym a.claim.part place a_place))
 
-  pub gone : IsStill before after part given None → in_view (own.taken ++ more) a.claim.part ≡ false
+  -- what it confirms wasn't hidden
+  was_shown : (single : Single) → Contains given.singles.items single → is_hidden own.taken a.claim.part (booked_in a.claim.part single) ≡ false
+  was_shown single c =
+      let b = booked_of key single in
+      let there = subst (λ (l : List Booked). Contains l b) (g.confirms ∙ one_confirmed own.taken a seen) (booked_from key given.singles.items single c) in
+      let left = in_cond (is_accept a.outcome) (left_of own.taken a) b there in
+      let shown = not-true _ (filter_at (λ x. not (is_hidden own.taken a.claim.part x)) a.claim.singles b left).1 in
+      ap (is_hidden own.taken a.claim.part) (booked_is key a.claim.part single (is_own.taken a.claim.part a_taken)) ∙ shown
+    where
+      in_cond : (t : Bool) (xs : List Booked) (x : Booked) → Contains (cond t xs []) x → Contains xs x
+      in_cond true xs x c = c
+      in_cond false xs x c = absurd (none_in_nil x c)
+
+  -- so what hides it now is a part that was taken now
+  hidden_touched : (single : Single) → Contains given.singles.items single → is_hidden (own.taken ++ more) a.claim.part (booked_in a.claim.part single) ≡ true → is_touched slots (At single.slot) ≡ true
+  hidden_touched single c hidden =
+      let now = own.taken ++ more in
+      let hides : List Part → Part → Bool = λ t other. in_view t other && same_place other (record a.claim.part { slot = At single.slot }) in
+      let both = and_parts _ _ hidden in
+      let other = any_at (hides now) now both.1 in
+      let shown = and_parts _ _ other.2 in
+      let slot : other.0.slot ≡ At single.slot = slot_same other.0.slot (At single.slot) (then_equal _ _ (is_eq_true _ shown.1)).1 in
+      elim (Contains-append_cases own.taken more other.0 other.1) [
+        | inl old ↦
+            let before_it = and_from _ _ (view_back own.taken more other.0 old shown.0) shown.1 in
+            absurd (both_ways _ (was_shown single c) (and_from _ _ both.0 (any_from (hides own.taken) own.taken other.0 old before_it)))
+        | inr new ↦ subst (λ (x : Revision.Slot). is_touched slots x ≡ true) slot (touches other.0 new)
+      ]
+
+  beside_is : left_beside slots (own.taken ++ more) a.claim.part given.singles.items ≡ left_in (own.taken ++ more) a.claim.part given.singles.items
+  beside_is = filter_same _ _ given.singles.items (λ single c. ap not (same_test _ _ (hidden_touched single c)))
+    where
+      same_test : (t h : Bool) → (h ≡ true → t ≡ true) → (t && h) ≡ h
+      same_test true h f = refl
+      same_test false true f = f refl
+      same_test false false f = refl
+
+  -- a part that nothing touches stays in the view, and so does what it confirms
+  module _ (left : Given) (copy : IsCopy given left) (alone : IsUntouched slots (slot_of given.slot)) where
+    pub untouched_stays : in_view (own.taken ++ more) a.claim.part ≡ true
+    untouched_stays = untouched_view own.taken more a.claim.part a_taken seen
+        (λ y c. false_from_ne_true _ (λ same.
+        let slot = slot_same y.slot a.claim.part.slot (then_equal _ _ (is_eq_true _ same)).1 ∙ sym g.slot in
+        both_ways _ alone.alone (subst (λ (x : Revision.Slot). is_touched slots x ≡ true) slot (touches y c))))
+        (λ y c. false_from_ne_true _ (λ whole.
+        both_ways _ alone.whole (subst (λ (x : Revision.Slot). is_touched slots x ≡ true) (slot_same y.slot Whole (is_eq_true _ whole)) (touches y c))))
+
+    pub untouched_given : IsGiven key (own.taken ++ more) a left
+    untouched_given =
+        let whole : is_whole a.claim.part ≡ false = ap (λ (x : Revision.Slot). is_eq (slot_cmp x Whole)) (sym g.slot) ∙ alone.instance in
+        record {
+          slot = ap slot_of copy.slot ∙ g.slot;
+          moment = copy.moment ∙ g.moment;
+          outcome = copy.outcome ∙ g.outcome;
+          confirms = ap (booked_list key) copy.singles ∙ g.confirms ∙ one_confirmed own.taken a seen
+              ∙ ap (λ l. cond (is_accept a.outcome) l []) (left_instance own.taken a whole ∙ sym (left_instance (own.taken ++ more) a whole))
+              ∙ sym (one_confirmed (own.taken ++ more) a untouched_stays);
+        }
+
+  pub gone : IsStill slots before after part given None → in_view (own.taken ++ more) a.claim.part ≡ false
   gone s = elim s [
     | inl none ↦ absurd (none own.taken stood a.claim.part seen a_place)
     | inr out ↦ subst (λ (p : Part). in_view (own.taken ++ more) p ≡ false) (is_part out.0 out.1) (out.2 (own.taken ++ more) stands)
   ]
 
-  module _ (left : Given) (s : IsStill before after part given (Some left)) where
+  module _ (left : Given) (s : IsStill slots before after part given (Some left)) where
     same : s.0 ≡ a.claim.part
     same = is_part s.0 s.1
 
@@ -113,7 +206,8 @@ module _ (key : MeetingKey) (own : Book) (more : List Part) (is_own : IsOwn key 
         let now = own.taken ++ more in
         let f : Booked → Bool = λ b. not (is_hidden now a.claim.part b) in
         ap (booked_list key) (s.3.singles now stands)
-        ∙ ap (λ (p : Part). booked_list key (left_in now p given.singles.items)) same
+        ∙ ap (λ (p : Part). booked_list key (left_beside slots now p given.singles.items)) same
+        ∙ ap (booked_list key) beside_is
         ∙ left_booked key now a.claim.part given.singles.items (is_own.taken a.claim.part a_taken)
         ∙ ap (filter f) (g.confirms ∙ one_confirmed own.taken a seen)
         ∙ filter_cond f (is_accept a.outcome) (left_of own.taken a)
@@ -131,15 +225,15 @@ module _ (key : MeetingKey) (own : Book) (more : List Part) (is_own : IsOwn key 
 -- ---- all answers
 
 -- those of some answers that stay
-abbrev pub KeepsSome : Part → List Part → List Part → List Given → List Given → Type 0
-KeepsSome part before after done kept =
-    (own : Book) (key : MeetingKey) (more : List Part) → is_of key part ≡ true → IsOwn key own → StandsFor before own.taken → StandsFor after (own.taken ++ more)
+abbrev pub KeepsSome : Part → List Slot → List Part → List Part → List Given → List Given → Type 0
+KeepsSome part slots before after done kept =
+    (own : Book) (key : MeetingKey) (more : List Part) → is_of key part ≡ true → IsOwn key own → StandsFor before own.taken → StandsFor after (own.taken ++ more) → AllTouch slots more
     → (xs : List Answer) → ((a : Answer) → Contains xs a → Contains own.answers a × (in_view own.taken a.claim.part ≡ true)) → AllZip (IsGiven key own.taken) xs done
     → AllZip (IsGiven key (own.taken ++ more)) (standing (own.taken ++ more) xs) kept
 
-pub keeps_none : (part : Part) (before after : List Part) → KeepsSome part before after [] []
-keeps_none part before after own key more e o b s [] h z = tt
-keeps_none part before after own key more e o b s (x ∷ xs) h z = absurd z
+pub keeps_none : (part : Part) (slots : List Slot) (before after : List Part) → KeepsSome part slots before after [] []
+keeps_none part slots before after own key more e o b s t [] h z = tt
+keeps_none part slots before after own key more e o b s t (x ∷ xs) h z = absurd z
 
 zip_last : {X Y : Type 0} (R : X → Y → Type 0) (xs : List X) (ys : List Y) (y : Y) → AllZip R xs (ys ++ y ∷ []) → (us : List X) × (x : X) × (xs ≡ us ++ x ∷ []) × AllZip R us ys × R x y
 zip_last R [] [] y z = absurd z
@@ -148,36 +242,55 @@ zip_last R (x ∷ []) [] y z = ([], x, refl, tt, z.0)
 zip_last R (x ∷ u ∷ xs) [] y z = absurd z.1
 zip_last R (x ∷ xs) (w ∷ ys) y z = let r = zip_last R xs ys y z.1 in (x ∷ r.0, r.1, ap (λ l. x ∷ l) r.2, (z.0, r.3), r.4)
 
-pub keeps_more : (part : Part) (before after : List Part) (done kept kept' : List Given) (given : Given) (o : Option Given) → KeepsSome part before after done kept → IsStill before after part given o
-    → ((left : Given) → o ≡ Some left → kept' ≡ kept ++ left ∷ []) → (o ≡ None → kept' ≡ kept) → KeepsSome part before after (done ++ given ∷ []) kept'
-keeps_more part before after done kept kept' given None k s some none own key more e o b st xs h z =
-    let r = zip_last (IsGiven key own.taken) xs done given z in
-    let now = own.taken ++ more in
-    let a = r.1 in
-    let is = h a (subst (λ (l : List Answer). Contains l a) (sym r.2) (Contains-push r.0 a)) in
-    let old = k own key more e o b st r.0 (λ x c. h x (subst (λ (l : List Answer). Contains l x) (sym r.2) (Contains-append_left r.0 (a ∷ []) x c))) r.3 in
-    let out = gone key own more o before after part e b st a is.0 is.1 given r.4 s in
-    let same : standing now r.0 ≡ standing now xs = sym (ap (standing now) r.2 ∙ filter_push (λ x. in_view now x.claim.part) r.0 a ∙ ap (λ t. standing now r.0 ++ cond t (a ∷ []) []) out ∙ append-nil (standing now r.0)) in
-    subst (λ (l : List Given). AllZip (IsGiven key now) (standing now xs) l) (sym (none refl)) (subst (λ (l : List Answer). AllZip (IsGiven key now) l kept) same old)
-keeps_more part before after done kept kept' given (Some left) k s some none own key more e o b st xs h z =
-    let r = zip_last (IsGiven key own.taken) xs done given z in
-    let now = own.taken ++ more in
-    let a = r.1 in
-    let is = h a (subst (λ (l : List Answer). Contains l a) (sym r.2) (Contains-push r.0 a)) in
-    let old = k own key more e o b st r.0 (λ x c. h x (subst (λ (l : List Answer). Contains l x) (sym r.2) (Contains-append_left r.0 (a ∷ []) x c))) r.3 in
-    let seen = stays key own more o before after part e b st a is.0 is.1 given r.4 left s in
-    let new = still_given key own more o before after part e b st a is.0 is.1 given r.4 left s in
-    let same : standing now r.0 ++ a ∷ [] ≡ standing now xs = sym (ap (standing now) r.2 ∙ filter_push (λ x. in_view now x.claim.part) r.0 a ∙ ap (λ t. standing now r.0 ++ cond t (a ∷ []) []) seen) in
-    subst (λ (l : List Given). AllZip (IsGiven key now) (standing now xs) l) (sym (some left refl))
-    (subst (λ (l : List Answer). AllZip (IsGiven key now) l (kept ++ left ∷ [])) same (zip_push (IsGiven key now) (standing now r.0) kept a left old new))
+-- one more whose part stays in the view, with what is left of it
+module _ (part : Part) (slots : List Slot) (before after : List Part) (done kept kept' : List Given) (given left : Given) (k : KeepsSome part slots before after done kept) (is : kept' ≡ kept ++ left ∷ []) where
+  keeps_left : ((own : Book) (key : MeetingKey) (more : List Part) → is_of key part ≡ true → IsOwn key own → StandsFor before own.taken → StandsFor after (own.taken ++ more) → AllTouch slots more
+      → (a : Answer) → Contains own.answers a → in_view own.taken a.claim.part ≡ true → IsGiven key own.taken a given → (in_view (own.taken ++ more) a.claim.part ≡ true) × IsGiven key (own.taken ++ more) a left)
+      → KeepsSome part slots before after (done ++ given ∷ []) kept'
+  keeps_left f own key more e o b st t xs h z =
+      let r = zip_last (IsGiven key own.taken) xs done given z in
+      let now = own.taken ++ more in
+      let a = r.1 in
+      let old_is = h a (subst (λ (l : List Answer). Contains l a) (sym r.2) (Contains-push r.0 a)) in
+      let old = k own key more e o b st t r.0 (λ x c. h x (subst (λ (l : List Answer). Contains l x) (sym r.2) (Contains-append_left r.0 (a ∷ []) x c))) r.3 in
+      let both = f own key more e o b st t a old_is.0 old_is.1 r.4 in
+      let same : standing now r.0 ++ a ∷ [] ≡ standing now xs = sym (ap (standing now) r.2 ∙ filter_push (λ x. in_view now x.claim.part) r.0 a ∙ ap (λ c. standing now r.0 ++ cond c (a ∷ []) []) both.0) in
+      subst (λ (l : List Given). AllZip (IsGiven key now) (standing now xs) l) (sym is)
+      (subst (λ (l : List Answer). AllZip (IsGiven key now) l (kept ++ left ∷ [])) same (zip_push (IsGiven key now) (standing now r.0) kept a left old both.1))
 
-pub keeps_all : (part : Part) (meeting : Meeting) (after : List Part) (kept : List Given) → KeepsSome part meeting.held after meeting.answers.items kept → KeepsAll part (Some meeting) after kept
-keeps_all part meeting after kept k own key more e o m s =
-    k own key more e o m.held s (standing own.taken own.answers) (λ a c. filter_at (λ x. in_view own.taken x.claim.part) own.answers a c) m.answers
+pub keeps_more : (part : Part) (slots : List Slot) (before after : List Part) (done kept kept' : List Given) (given : Given) (o : Option Given) → KeepsSome part slots before after done kept → IsStill slots before after part given o
+    → ((left : Given) → o ≡ Some left → kept' ≡ kept ++ left ∷ []) → (o ≡ None → kept' ≡ kept) → KeepsSome part slots before after (done ++ given ∷ []) kept'
+keeps_more part slots before after done kept kept' given None k s some none own key more e o b st t xs h z =
+    let r = zip_last (IsGiven key own.taken) xs done given z in
+    let now = own.taken ++ more in
+    let a = r.1 in
+    let is = h a (subst (λ (l : List Answer). Contains l a) (sym r.2) (Contains-push r.0 a)) in
+    let old = k own key more e o b st t r.0 (λ x c. h x (subst (λ (l : List Answer). Contains l x) (sym r.2) (Contains-append_left r.0 (a ∷ []) x c))) r.3 in
+    let out = gone key own more o slots t before after part e b st a is.0 is.1 given r.4 s in
+    let same : standing now r.0 ≡ standing now xs = sym (ap (standing now) r.2 ∙ filter_push (λ x. in_view now x.claim.part) r.0 a ∙ ap (λ c. standing now r.0 ++ cond c (a ∷ []) []) out ∙ append-nil (standing now r.0)) in
+    subst (λ (l : List Given). AllZip (IsGiven key now) (standing now xs) l) (sym (none refl)) (subst (λ (l : List Answer). AllZip (IsGiven key now) l kept) same old)
+keeps_more part slots before after done kept kept' given (Some left) k s some none own key more e o b st t xs h z =
+    keeps_left part slots before after done kept kept' given left k (some left refl) (λ own key more e o b st t a known seen g. (
+      stays key own more o slots t before after part e b st a known seen given g left s,
+      still_given key own more o slots t before after part e b st a known seen given g left s,
+    )) own key more e o b st t xs h z
+
+-- one more that nothing touches
+pub keeps_copy : (part : Part) (slots : List Slot) (before after : List Part) (done kept kept' : List Given) (given left : Given) → KeepsSome part slots before after done kept → IsUntouched slots (slot_of given.slot)
+    → IsCopy given left → kept' ≡ kept ++ left ∷ [] → KeepsSome part slots before after (done ++ given ∷ []) kept'
+keeps_copy part slots before after done kept kept' given left k alone copy is =
+    keeps_left part slots before after done kept kept' given left k is (λ own key more e o b st t a known seen g. (
+      untouched_stays key own more o slots t before after part e b st a known seen given g left copy alone,
+      untouched_given key own more o slots t before after part e b st a known seen given g left copy alone,
+    ))
+
+pub keeps_all : (part : Part) (slots : List Slot) (meeting : Meeting) (after : List Part) (kept : List Given) → KeepsSome part slots meeting.held after meeting.answers.items kept → KeepsAll part slots (Some meeting) after kept
+keeps_all part slots meeting after kept k own key more e o m s t =
+    k own key more e o m.held s t (standing own.taken own.answers) (λ a c. filter_at (λ x. in_view own.taken x.claim.part) own.answers a c) m.answers
 
 -- of a meeting that was never heard of there are none
-pub keeps_new : (part : Part) (after : List Part) → KeepsAll part None after []
-keeps_new part after own key more e o m s = subst (λ (l : List Answer). AllZip (IsGiven key (own.taken ++ more)) l []) (sym (ap (standing (own.taken ++ more)) (none_stood own.answers (λ a c. o.known a c)))) tt
+pub keeps_new : (part : Part) (slots : List Slot) (after : List Part) → KeepsAll part slots None after []
+keeps_new part slots after own key more e o m s t = subst (λ (l : List Answer). AllZip (IsGiven key (own.taken ++ more)) l []) (sym (ap (standing (own.taken ++ more)) (none_stood own.answers (λ a c. o.known a c)))) tt
   where
     none_stood : (xs : List Answer) → ((a : Answer) → Contains xs a → Contains own.taken a.claim.part) → standing own.taken xs ≡ []
     none_stood [] h = refl
@@ -190,6 +303,18 @@ pub left_push : (t : List Part) (p : Part) (singles left new : List Single) (i :
 left_push t p singles left new i d h e same shown =
     let f : Single → Bool = λ single. not (is_hidden t p (booked_in p single)) in
     e ∙ filter_yes f (take i singles) left (get_or singles i d) same (ap not shown) ∙ ap (filter f) (sym (take_more singles i d h))
+
+pub beside_push : (slots : List Slot) (t : List Part) (p : Part) (singles left new : List Single) (i : ℕ) (d : Single) → i < length singles → new ≡ left ++ get_or singles i d ∷ [] → left ≡ left_beside slots t p (take i singles)
+    → (is_touched slots (At (get_or singles i d).slot) && is_hidden t p (booked_in p (get_or singles i d))) ≡ false → new ≡ left_beside slots t p (take (i + 1) singles)
+beside_push slots t p singles left new i d h e same shown =
+    let f : Single → Bool = λ single. not (is_touched slots (At single.slot) && is_hidden t p (booked_in p single)) in
+    e ∙ filter_yes f (take i singles) left (get_or singles i d) same (ap not shown) ∙ ap (filter f) (sym (take_more singles i d h))
+
+pub beside_pass : (slots : List Slot) (t : List Part) (p : Part) (singles left : List Single) (i : ℕ) (d : Single) → i < length singles → left ≡ left_beside slots t p (take i singles)
+    → (is_touched slots (At (get_or singles i d).slot) && is_hidden t p (booked_in p (get_or singles i d))) ≡ true → left ≡ left_beside slots t p (take (i + 1) singles)
+beside_pass slots t p singles left i d h same hidden =
+    let f : Single → Bool = λ single. not (is_touched slots (At single.slot) && is_hidden t p (booked_in p single)) in
+    filter_no f (take i singles) left (get_or singles i d) same (ap not hidden) ∙ ap (filter f) (sym (take_more singles i d h))
 
 pub left_pass : (t : List Part) (p : Part) (singles left : List Single) (i : ℕ) (d : Single) → i < length singles → left ≡ left_in t p (take i singles)
     → is_hidden t p (booked_in p (get_or singles i d)) ≡ true → left ≡ left_in t p (take (i + 1) singles)

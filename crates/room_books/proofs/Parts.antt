@@ -1,15 +1,12 @@
 -- Some instances of all: among them, no more, and apart where all are.
-use Rattle.std.proofs.Common.{◌≡◌, ◌∙◌, ℕ, ◌+◌, ◌<◌, suc, List, [], ◌∷◌, ◌++◌, take, length, get_or, inl, inr, sym, ap, subst, arith, length-append, append-nil}
+use Rattle.std.proofs.Common.{◌≡◌, ℕ, ◌+◌, ◌<◌, suc, List, [], ◌∷◌, ◌++◌, take, length, get_or, inl, inr, sym, subst, arith, length-append, append-nil}
 use Rattle.std.specs.List.{Contains, AllPairs}
 use Rattle.std.proofs.lemmas.List.{take_more}
 use Rattle.std.proofs.lemmas.List.Elements.{Contains-append_left, Contains-append_right, Contains-append_cases}
 use Rattle.itip_order.proofs.Lists.{in_cons, none_in_nil}
 use Rattle.cal_events.specs.declared.instance.Single.{Single}
-use Rattle.room_books.specs.declared.meeting.Given.{Given}
 use Rattle.room_books.specs.Instants.{HaveInstant, IsPartOf}
 use Rattle.room_books.specs.Standing.{Pairwise}
-use Rattle.room_books.specs.Views.{all_singles}
-use Rattle.room_books.proofs.Loops.{flat_push}
 use Rattle.room_books.proofs.Pairs.{pairs_from, pairs_append}
 
 -- ---- pairs of two lists
@@ -70,17 +67,3 @@ pub part_pass : (xs left : List Single) (i : ℕ) (d : Single) → i < length xs
 part_pass xs left i d h p =
     subst (IsPartOf left) (sym (take_more xs i d h)) (subst (λ (l : List Single). IsPartOf l (take i xs ++ get_or xs i d ∷ [])) (append-nil left)
     (part_both left (take i xs) [] (get_or xs i d ∷ []) p (part_nil (get_or xs i d ∷ []))))
-
-pub singles_push : (items kept new : List Given) (i : ℕ) (given left : Given) → take (i + 1) items ≡ take i items ++ given ∷ [] → new ≡ kept ++ left ∷ [] → IsPartOf (all_singles kept) (all_singles (take i items))
-    → IsPartOf left.singles.items given.singles.items → IsPartOf (all_singles new) (all_singles (take (i + 1) items))
-singles_push items kept new i given left more e p q =
-    let f : Given → List Single = λ x. x.singles.items in
-    subst (λ (l : List Single). IsPartOf l (all_singles (take (i + 1) items))) (sym (ap all_singles e ∙ flat_push f kept left))
-    (subst (IsPartOf (all_singles kept ++ left.singles.items)) (sym (ap all_singles more ∙ flat_push f (take i items) given))
-    (part_both (all_singles kept) (all_singles (take i items)) left.singles.items given.singles.items p q))
-
-pub singles_pass : (items kept : List Given) (i : ℕ) (given : Given) → take (i + 1) items ≡ take i items ++ given ∷ [] → IsPartOf (all_singles kept) (all_singles (take i items)) → IsPartOf (all_singles kept) (all_singles (take (i + 1) items))
-singles_pass items kept i given more p =
-    let f : Given → List Single = λ x. x.singles.items in
-    subst (IsPartOf (all_singles kept)) (sym (ap all_singles more ∙ flat_push f (take i items) given)) (subst (λ (l : List Single). IsPartOf l (all_singles (take i items) ++ given.singles.items)) (append-nil (all_singles kept))
-    (part_both (all_singles kept) (all_singles (take i items)) [] given.singles.items p (part_nil given.singles.items)))

@@ -166,7 +166,7 @@ place_of k es = position_or_len (same_key k) (keys_of es)
 abbrev put : MeetingKey → Meeting → List Entry → List Entry
 put k m es = insert_entry same_key es k m
 
-suc_is : (n : ℕ) → 1 + n ≡ suc n
+pub suc_is : (n : ℕ) → 1 + n ≡ suc n
 suc_is n = omega arith
 
 module _ (k : MeetingKey) (m : Meeting) where

@@ -3,7 +3,7 @@ use Rattle.std.proofs.Common.{◌≡◌, ◌≢◌, ℕ, ◌+◌, ◌<◌, ◌�
 use Rattle.std.specs.Prelude.{◌==◌, int_lt}
 use Rattle.std.specs.List.{Contains, AllPairs, find, take_while, insert, remove}
 use Rattle.std.specs.List.Sorted.{IsPartitionedBy, IsPartitionPoint}
-use Rattle.std.proofs.lemmas.Bool.{true≢false, cases_Bool, and_from, and_parts, both_ways, eq-eqb, eqb-true, false_from_ne_true}
+use Rattle.std.proofs.lemmas.Bool.{true≢false, cases_Bool, and_from, and_parts, eq-eqb, eqb-true, false_from_ne_true}
 use Rattle.std.proofs.lemmas.Bool.Decides.{Decides-int_eq}
 use Rattle.std.proofs.lemmas.Int.{ints}
 use Rattle.std.proofs.lemmas.List.{take-append-drop, get_or-take, get_or-drop, get_or_default, length-take-le, length-drop}
@@ -17,7 +17,7 @@ use Rattle.cal_events.specs.declared.sweep.Span.{Span}
 use Rattle.cal_events.specs.declared.instance.Single.{Single}
 use Rattle.room_books.specs.declared.timeline.Busy.{Busy}
 use Rattle.room_books.specs.Instants.{HaveInstant, Overlap, AreSeparate}
-use Rattle.room_books.specs.Timelines.{HoldsInstants, holds_instants, same_single, has_single, same_busy, has_busy, busy_in, is_place, AreBusy, IsPlaceAfter, is_beside, starts_before, IsSharedIn, AreTaken, IsFreeAmong, IsFreeBut, AreAt, IsChanged, IsTaken, IsPut}
+use Rattle.room_books.specs.Timelines.{HoldsInstants, holds_instants, same_single, has_single, same_busy, has_busy, busy_in, is_place, AreBusy, IsPlaceAfter, is_beside, starts_before, IsSharedIn, AreTaken, IsFreeAmong, AreAt, IsChanged, IsTaken, IsPut}
 
 -- ---- lists that are apart
 
@@ -458,12 +458,6 @@ or_none : (b : Bool) → (b || false) ≡ b
 or_none true = refl
 or_none false = refl
 
-pub putting_first : (place : ℕ) (all : List Single) (items : List Busy) → AreAt place [] items → IsPutting place all all items items
-putting_first place all items none = record {
-  own = λ x e. ap (λ b. b || (holds_instants x.single.span && has_single x.single all)) (none x e ∙ and_none (holds_instants x.single.span));
-  others = λ x n. refl;
-}
-
 pub put_step : (place : ℕ) (s : Single) (rest all : List Single) (old mid new : List Busy) → IsPutting place (s ∷ rest) all old mid → IsPut (busy_in place s) mid new → IsPutting place rest all old new
 put_step place s rest all old mid new putting put = record {
   own = λ x e.
@@ -516,15 +510,6 @@ separate_once xs k d separate l holds = false_from_ne_true _ (λ h.
     later_apart xs k d separate l s (single_at (drop (suc k) xs) s h) s.span.start (record { in_first = (omega (arith, ints), first); in_second = (omega (arith, ints), first); before = both.1 }))
 
 -- ---- the change of a place
-
--- where nothing of the place is left, what is free beside it is free
-pub free_alone : (place : ℕ) (old mid : List Busy) (span : Span) → IsChanged place [] old mid → IsFreeBut place old span → IsFreeAmong mid span
-free_alone place old mid span changed free b t c h = elim (cases_Bool (b.place == place)) [
-  | inl own ↦ true≢false (sym (has_from mid b c) ∙ changed.own b (eqb-true b.place place own) ∙ and_none (holds_instants b.single.span))
-  | inr other ↦ (
-      let n : b.place ≢ place = λ e. both_ways _ other (eq-eqb b.place place e) in
-      free b t (has_at old b (sym (changed.others b n) ∙ has_from mid b c)) n h)
-]
 
 -- one after the other
 pub changed_then : (place : ℕ) (a b : List Single) (old mid new : List Busy) → IsChanged place a old mid → IsChanged place b mid new → IsChanged place b old new

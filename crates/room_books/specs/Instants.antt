@@ -1,5 +1,5 @@
 -- Instants that spans share.
-use Rattle.std.specs.Prelude.{◌≡◌, ◌≤◌, ℤ, ◌≤ℤ◌, ◌<ℤ◌, ◌⊎◌, List, length, Contains, AllPairs}
+use Rattle.std.specs.Prelude.{◌≡◌, ◌≤◌, ℤ, ◌≤ℤ◌, ◌<ℤ◌, ◌⊎◌, List, [], ◌∷◌, ◌++◌, length, Contains, AllPairs}
 use Rattle.profile.specs.checker.Instances.{IsWithin, horizon}
 use Rattle.cal_events.specs.declared.sweep.Span.{Span}
 use Rattle.cal_events.specs.declared.instance.Single.{Single}
@@ -29,3 +29,21 @@ pub record IsPartOf (some all : List Single) : Type 0 where
   pub within : (single : Single) → Contains some single → Contains all single
   pub shorter : length some ≤ length all
   pub separate : AreSeparate all → AreSeparate some
+
+-- of all of these some go, and the others are kept, both in their order
+pub data IsSplit : List Single → List Single → List Single → Type 0 where
+  none : IsSplit [] [] []
+  goes : (s : Single) (all gone kept : List Single) → IsSplit all gone kept → IsSplit (s ∷ all) (s ∷ gone) kept
+  stays : (s : Single) (all gone kept : List Single) → IsSplit all gone kept → IsSplit (s ∷ all) gone (s ∷ kept)
+
+-- what goes of these, where so many are left, stands behind what went before
+pub record Sheds (all left old new : List Single) : Type 0 where
+  pub gone : List Single
+  pub is : new ≡ old ++ gone
+  pub split : IsSplit all gone left
+
+-- of all that was confirmed before these went, and the rest and what was added is all that is confirmed after
+pub record Shifts (before gone added after : List Single) : Type 0 where
+  pub kept : List Single
+  pub split : IsSplit before gone kept
+  pub after_is : after ≡ kept ++ added

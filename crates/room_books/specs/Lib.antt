@@ -8,3 +8,4 @@ pub mod Zoning
 pub mod Replying
 pub mod Claiming
 pub mod BySlot
+pub mod Touching

@@ -1,10 +1,12 @@
 -- What the meetings of a room stand for: the parts that were taken, and the answers to them.
-use Rattle.std.specs.Prelude.{◌≡◌, ◌≢◌, ℕ, ℤ, ◌≤◌, Bool, true, ◌&&◌, List, [], ◌∷◌, ◌++◌, length, filter, Contains, Option, Some, None}
+use Rattle.std.specs.Prelude.{◌≡◌, ◌≢◌, ℕ, ℤ, ◌≤◌, Bool, true, ◌&&◌, List, [], ◌∷◌, ◌++◌, length, filter, Contains, Option, Some, None, slice_get}
 use Rattle.std.specs.Str.{bytes_eq, IsUtf8}
 use Rattle.std.specs.List.{AllZip}
-use Rattle.std.specs.Map.{lookup, keys_of}
+use Rattle.std.specs.Map.{lookup, keys_of, values_of}
+use Rattle.indexmap.specs.IndexMap.{insert_entry, set_value_at}
 use Rattle.ical_values.specs.Octets.{address_octets, text_octets}
-use Rattle.itip_order.specs.Registers.{StandsFor}
+use Rattle.itip_order.specs.Registers.{StandsFor, together}
+use Rattle.itip_order.specs.declared.part.Slot.{Slot as OwnSlot}
 use Rattle.itip_order.specs.Parts.{slot_of}
 use Rattle.profile.specs.checker.Instances.{Booked, IsClear}
 use Rattle.profile.specs.text.Values.{IsClockSeconds}
@@ -16,7 +18,8 @@ use Rattle.room_books.specs.declared.meeting.MeetingKey.{MeetingKey}
 use Rattle.room_books.specs.declared.meeting.Meeting.{Meeting}
 use Rattle.cal_events.specs.declared.instance.Single.{Single}
 use Rattle.room_books.specs.declared.meeting.Given.{Given}
-use Rattle.room_books.specs.Takings.{body_content, OutcomeDated}
+use Rattle.room_books.specs.Takings.{body_content, held_after, IsMade, OutcomeDated}
+use Rattle.room_books.specs.Touching.{AllTouch}
 use Rattle.room_books.specs.Views.{same_key, booked_list, outcome_of}
 
 -- ---- claims
@@ -110,10 +113,10 @@ abbrev pub MeetsAt : Book → MeetingKey → Option Meeting → Type 0
 MeetsAt own key None = own.taken ≡ []
 MeetsAt own key (Some meeting) = Meets own key meeting
 
--- where the meeting was that of its own book, and more of its parts were taken, these are the answers that stay
-abbrev pub KeepsAll : Part → Option Meeting → List Part → List Given → Type 0
-KeepsAll part before held kept =
-    (own : Book) (key : MeetingKey) (more : List Part) → is_of key part ≡ true → IsOwn key own → MeetsAt own key before → StandsFor held (own.taken ++ more)
+-- where the meeting was that of its own book, and more of its parts were taken, all of these slots, these are the answers that stay
+abbrev pub KeepsAll : Part → List OwnSlot → Option Meeting → List Part → List Given → Type 0
+KeepsAll part slots before held kept =
+    (own : Book) (key : MeetingKey) (more : List Part) → is_of key part ≡ true → IsOwn key own → MeetsAt own key before → StandsFor held (own.taken ++ more) → AllTouch slots more
     → AllZip (IsGiven key (own.taken ++ more)) (standing (own.taken ++ more) (standing own.taken own.answers)) kept
 
 -- ---- all meetings
@@ -155,6 +158,20 @@ pub record IsMeetingAfter (book : Book) (key : MeetingKey) (claims : List Claim)
   pub step : IsStep book claims moment outcome (book_after book claims moment outcome)
   pub meets : Meets (book_of key (book_after book claims moment outcome)) key meeting
   pub kind_is : kind ≡ kind_of book.taken (book.taken ++ parts_of claims) claims outcome
+
+-- the meetings after, where these parts of one were taken too, which has these answers now
+pub record IsPutIn (key : MeetingKey) (more : List Part) (answers : List Given) (old new : List (MeetingKey × Meeting)) : Type 0 where
+  pub meeting : Meeting
+  pub made : IsMade (held_after (lookup (same_key key) old) more) answers meeting
+  pub entries : new ≡ insert_entry same_key old key meeting
+
+-- the same of the meeting in a place
+pub record IsRenewed (place : ℕ) (more : List Part) (answers : List Given) (old new : List (MeetingKey × Meeting)) : Type 0 where
+  pub before : Meeting
+  pub meeting : Meeting
+  pub was : slice_get (values_of old) place ≡ Some before
+  pub made : IsMade (together before.held more) answers meeting
+  pub entries : new ≡ set_value_at old place meeting
 
 -- from the book a step with these claims leads to a book that the meetings stand for
 pub record StepsTo (entries : List (MeetingKey × Meeting)) (book : Book) (claims : List Claim) (moment : ℤ) (kind : Kind) : Type 0 where

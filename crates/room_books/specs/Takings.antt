@@ -1,10 +1,11 @@
 -- What a message does to its meeting.
-use Rattle.std.specs.Prelude.{◌≡◌, ◌≢◌, ◌⊎◌, ◌++◌, ℕ, ℤ, true, false, not, nat_lt, IsTrue, if◌then◌else◌, List, [], ◌∷◌, take, drop, ◌==◌, length, map, filter, AllPairs, Option, Some, None, option_map, is_some, Vec}
+use Rattle.std.specs.Prelude.{◌≡◌, ◌≢◌, ◌⊎◌, ◌++◌, ℕ, ℤ, true, false, not, ◌&&◌, nat_lt, IsTrue, if◌then◌else◌, List, [], ◌∷◌, take, drop, ◌==◌, length, map, filter, AllPairs, Option, Some, None, option_map, is_some, Vec}
 use Rattle.std.specs.List.{AllZip, position_or_len}
 use denote.Ref.{Bor}
 use Rattle.profile.specs.text.Values.{IsClockSeconds}
 use Rattle.cal_events.specs.Calendars.{owned_key_of}
-use Rattle.itip_order.specs.Registers.{StandsFor, IsInView, HasNone, at_slot}
+use Rattle.itip_order.specs.Registers.{StandsFor, IsInView, HasNone, at_slot, together}
+use Rattle.itip_order.specs.declared.part.Slot.{Slot}
 use Rattle.itip_order.specs.Parts.{part_of, slot_of}
 use Rattle.profile.specs.checker.Instances.{Booked}
 use Rattle.profile.specs.rooms.Revisions as revisions
@@ -22,6 +23,7 @@ use Rattle.room_books.specs.declared.taking.Claim.{Claim}
 use Rattle.room_books.specs.declared.meeting.MeetingKey.{MeetingKey}
 use Rattle.room_books.specs.Views.{outcome_of, all_singles, booked_list, slots_of, MayJoin}
 use Rattle.room_books.specs.Instants.{IsPartOf}
+use Rattle.room_books.specs.Touching.{is_touched}
 use Rattle.std.specs.Str.Lines.{lines}
 use Rattle.profile.specs.rooms.Messages.{Content, no_content}
 
@@ -98,6 +100,16 @@ abbrev pub StandsAt : Option Meeting → List revisions.Part → Type 0
 StandsAt None history = history ≡ []
 StandsAt (Some meeting) history = StandsFor meeting.held history
 
+-- what is held of it where these registers are taken too
+abbrev pub held_after : Option Meeting → List revisions.Part → List revisions.Part
+held_after None more = more
+held_after (Some meeting) more = together meeting.held more
+
+-- these parts are held of the meeting, and these are its answers
+pub record IsMade (held : List revisions.Part) (answers : List Given) (meeting : Meeting) : Type 0 where
+  pub held_is : meeting.held ≡ held
+  pub answers_are : meeting.answers.items ≡ answers
+
 abbrev pub answers_by : Option Meeting → List Given
 answers_by None = []
 answers_by (Some meeting) = meeting.answers.items
@@ -112,13 +124,28 @@ AreAsked before after claims asked = map (λ claim. claim_said claim.now) asked 
 abbrev pub left_in : List revisions.Part → revisions.Part → List Single → List Single
 left_in history part singles = filter (λ single. not (rooms.is_hidden history part (booked_in part single))) singles
 
--- one answer is the other, with the instances that are left
-pub record IsLeftOf (held : List revisions.Part) (of : revisions.Part) (given left : Given) : Type 0 where
+-- those of them that aren't of one of these slots, or that no part in the view stands for
+abbrev pub left_beside : List Slot → List revisions.Part → revisions.Part → List Single → List Single
+left_beside slots history part singles = filter (λ single. not (is_touched slots (revisions.At single.slot) && rooms.is_hidden history part (booked_in part single))) singles
+
+-- one answer is the other
+pub record IsCopy (given left : Given) : Type 0 where
   pub slot : left.slot ≡ given.slot
   pub moment : left.moment ≡ given.moment
   pub outcome : outcome_of left.outcome ≡ outcome_of given.outcome
-  pub singles : (history : List revisions.Part) → StandsFor held history → left.singles.items ≡ left_in history of given.singles.items
-  pub part : IsPartOf left.singles.items given.singles.items
+  pub singles : left.singles.items ≡ given.singles.items
+
+-- one answer is the other, with the instances that are left where parts of these slots were taken
+pub record IsLeftOf (slots : List Slot) (held : List revisions.Part) (of : revisions.Part) (given left : Given) : Type 0 where
+  pub slot : left.slot ≡ given.slot
+  pub moment : left.moment ≡ given.moment
+  pub outcome : outcome_of left.outcome ≡ outcome_of given.outcome
+  pub singles : (history : List revisions.Part) → StandsFor held history → left.singles.items ≡ left_beside slots history of given.singles.items
+
+-- what an answer confirms, if it is left
+abbrev pub singles_left : Option Given → List Single
+singles_left None = []
+singles_left (Some left) = left.singles.items
 
 -- the answer to a claim at a moment, were it accepted
 pub record IsAccepted (held : List revisions.Part) (claim : Claim) (moment : ℤ) (given : Given) : Type 0 where
@@ -168,12 +195,12 @@ pub record IsViewed (held : List revisions.Part) (place part : revisions.Part) :
   pub same : revisions.same_place part place ≡ true
 
 -- an answer before, and what is left of it: nothing where its part isn't in the view after. The part is one of the meeting
-abbrev pub IsStill : List revisions.Part → List revisions.Part → revisions.Part → Given → Option Given → Type 0
-IsStill before after part given None =
+abbrev pub IsStill : List Slot → List revisions.Part → List revisions.Part → revisions.Part → Given → Option Given → Type 0
+IsStill slots before after part given None =
     HasNone before (at_slot part (slot_of given.slot))
     ⊎ ((own : revisions.Part) × IsViewed before (at_slot part (slot_of given.slot)) own × ((history : List revisions.Part) → StandsFor after history → revisions.in_view history own ≡ false))
-IsStill before after part given (Some left) =
-    (own : revisions.Part) × IsViewed before (at_slot part (slot_of given.slot)) own × IsInView after own × IsLeftOf after own given left
+IsStill slots before after part given (Some left) =
+    (own : revisions.Part) × IsViewed before (at_slot part (slot_of given.slot)) own × IsInView after own × IsLeftOf slots after own given left
 
 -- the instants that an outcome names can be written as stamps
 abbrev pub OutcomeDated : messages.Outcome → Type 0

@@ -1,12 +1,12 @@
 -- What is confirmed in a room, in order of time, by the places of meetings.
-use Rattle.std.specs.Prelude.{◌≡◌, ◌≢◌, ◌≤◌, ℕ, ℤ, ◌<ℤ◌, ◌≤ℤ◌, int_lt, Bool, false, not, ◌==◌, ◌&&◌, ◌||◌, List, length, take, drop, Contains, AllPairs, Option, Some, None}
+use Rattle.std.specs.Prelude.{◌≡◌, ◌≢◌, ◌≤◌, ℕ, ℤ, ◌<ℤ◌, ◌≤ℤ◌, int_lt, Bool, false, not, ◌==◌, ◌&&◌, ◌||◌, List, ◌++◌, length, take, drop, Contains, AllPairs, Option, Some, None}
 use Rattle.std.specs.Ordering.{int_eq}
 use Rattle.std.specs.List.{list_any}
 use Rattle.profile.specs.checker.Instances.{horizon}
 use Rattle.cal_events.specs.declared.sweep.Span.{Span}
 use Rattle.cal_events.specs.declared.instance.Single.{Single}
 use Rattle.room_books.specs.declared.timeline.Busy.{Busy}
-use Rattle.room_books.specs.Instants.{HaveInstant, Overlap}
+use Rattle.room_books.specs.Instants.{HaveInstant, AreSeparate, Overlap}
 
 -- the span holds an instant before the horizon
 abbrev pub HoldsInstants : Span → Type 0
@@ -81,6 +81,13 @@ AreAt place singles items = (x : Busy) → x.place ≡ place → has_busy x item
 pub record IsChanged (place : ℕ) (singles : List Single) (old new : List Busy) : Type 0 where
   pub own : AreAt place singles new
   pub others : (x : Busy) → x.place ≢ place → has_busy x new ≡ has_busy x old
+
+-- of what the meeting in the place confirms some goes, some is kept and some is added, which all others among these leave room for
+pub record IsShift (place : ℕ) (gone kept added : List Single) (items : List Busy) : Type 0 where
+  pub held : AreAt place (gone ++ kept) items
+  pub apart : AreSeparate (gone ++ kept)
+  pub after : AreSeparate (kept ++ added)
+  pub free : (s : Single) → Contains added s → IsFreeBut place items s.span
 
 -- it is gone, and the others are there as before
 abbrev pub IsTaken : Busy → List Busy → List Busy → Type 0

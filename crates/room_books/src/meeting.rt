@@ -81,6 +81,23 @@ pub struct Given {
     pub singles: Vec<Single>,
 }
 
+impl Clone for Given {
+    ghost use Rattle.room_books.specs.Takings.{IsCopy};
+
+    ghost is_clone = { λ given copy. IsCopy given copy };
+
+    fn clone(&self) -> Result<Given, AllocError> {
+        let outcome = self.outcome.clone()?;
+        let singles = self.singles.clone()?;
+        Ok(Given {
+            slot: self.slot,
+            moment: self.moment,
+            outcome,
+            singles,
+        })
+    }
+}
+
 /// A meeting of a room.
 #[derive(Drop)]
 pub struct Meeting {

@@ -9,40 +9,44 @@ ghost use Rattle.profile.specs.rooms.Revisions as revisions;
 ghost use Rattle.profile.specs.rooms.Rooms.{Book};
 ghost use Rattle.profile.specs.rooms.Kept.{Replies};
 ghost use Rattle.room_books.specs.declared.meeting.MeetingKey.{MeetingKey};
+ghost use Rattle.room_books.specs.declared.meeting.Meeting.{Meeting};
 ghost use Rattle.room_books.specs.Views.{outcome_of};
-ghost use Rattle.room_books.specs.Takings.{claims_said, octets_in, OutcomeDated};
+ghost use Rattle.room_books.specs.Takings.{claims_said, octets_in, IsMade, OutcomeDated};
 ghost use Rattle.room_books.specs.Standing.{AreFitting, IsOwn, Meets, SlotDated};
 ghost use Rattle.room_books.specs.BySlot.{AreBySlot, givens};
 ghost use Rattle.room_books.specs.Replying.{AreShown, CanTell, AllTell, IsEventIn, IsReplyOf, ShowsGiven, WritesAnswers};
 
 use crate::answer::LimitKind;
-use crate::meeting::{Given, Meeting, Outcome};
+use crate::meeting::{Given, Outcome};
 use crate::slots::{answer_of, by_slot};
 use crate::taking::Claim;
 use clash_cert::Clash;
 use ical_values::{Address, Stamp};
 use itip_messages::{Conflict, Decision, ObjectWriter, ReplyEvent, write_event};
-use itip_order::{Held, Part, Slot};
+use itip_order::{Part, Slot, Together};
 use std::alloc::{AllocError, Global};
 
-/// The REPLY to a message with these claims, where this is the meeting after it: a VEVENT for each part that is to take place
-/// and is in the view, in their order; None where there is none.
+/// The REPLY to a message with these claims, where this is held of the meeting after it, and these are its answers: a VEVENT for each part
+/// that is to take place and is in the view, in their order; None where there is none.
 ///
 /// A part is looked up in the view by halves, and so is its answer, for which the answers of the meeting are put in order once.
 pub fn reply_to(
     alloc: Global,
     room: &Address,
     claims: &[Claim],
-    meeting: &Meeting,
+    held: &Together<'_>,
+    answers: &[Given],
 ) -> Result<Option<Vec<u8>>, AllocError>
-    ensures { IfOk result (λ reply. (key : MeetingKey) (own : Book) → AreFitting key (claims_said claims.now) → IsOwn key own → Meets own key meeting.now
+    ensures { IfOk result (λ reply. (key : MeetingKey) (own : Book) (meeting : Meeting) → AreFitting key (claims_said claims.now)
+        → IsOwn key own
+        → IsMade held.now answers.now meeting → Meets own key meeting
         → Replies (address_octets room.now) own (claims_said claims.now) (octets_in reply)) }
 {
-    let shown = shown_in(alloc, claims, &meeting.held)?;
+    let shown = shown_in(alloc, claims, held)?;
     if shown.is_empty() {
         return Ok(None);
     }
-    let octets = reply_of(alloc, room, &shown, &meeting.answers)?;
+    let octets = reply_of(alloc, room, &shown, answers)?;
     Ok(Some(octets))
 }
 
@@ -50,7 +54,7 @@ pub fn reply_to(
 fn shown_in<'a>(
     alloc: Global,
     claims: &'a [Claim],
-    held: &Held,
+    held: &Together<'_>,
 ) -> Result<Vec<&'a Claim>, AllocError>
     ensures { IfOk result (λ shown. (history : List revisions.Part) → StandsFor held.now history → AreShown history claims.now shown.items) }
 {

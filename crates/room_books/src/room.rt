@@ -1,10 +1,10 @@
 //! A room takes messages one after another. A message is taken whole or not at all: everything is computed
 //! beside the room, and put into it by the last step.
 
-ghost use Rattle.std.specs.Prelude.{◌≡◌, ◌<◌, ◌≤◌, ◌++◌, Some, List, [], length, IfOk, OnOk, OnErr, IsTrue};
+ghost use Rattle.std.specs.Prelude.{◌≡◌, ◌<◌, ◌≤◌, ◌++◌, List, [], length, IfOk, OnOk, OnErr, IsTrue};
 ghost use Rattle.std.specs.List.{IsDistinct};
 ghost use Rattle.std.specs.Map.{lookup};
-ghost use Rattle.indexmap.specs.IndexMap.{keys, insert_entry, IsUnchanged, Updates};
+ghost use Rattle.indexmap.specs.IndexMap.{keys, insert_index, IsUnchanged};
 ghost use Rattle.ical_values.specs.Octets.{address_octets};
 ghost use Rattle.itip_order.specs.Parts.{part_of};
 ghost use Rattle.itip_order.specs.Registers.{StandsFor as HoldsAll};
@@ -14,12 +14,14 @@ ghost use Rattle.itip_messages.specs.Messages.{StandsFor};
 ghost use Rattle.profile.specs.rooms.Messages as profile;
 ghost use Rattle.profile.specs.streams.Streams.{AreClaims};
 ghost use Rattle.profile.specs.rooms.Rooms.{Claim, Book, empty_book};
-ghost use Rattle.profile.specs.rooms.Kept.{kept_certificate, IsKeptCalendar, Refreshes};
-ghost use Rattle.room_books.specs.Instants.{AreSeparate, IsPartOf};
-ghost use Rattle.room_books.specs.Views.{same_key, all_confirmed, all_singles, confirmed_at, confirmed_singles, singles_by, others, AreAllApart, IsKeyOf, MayJoin};
+ghost use Rattle.profile.specs.rooms.Kept.{kept_certificate, IsKeptCalendar, Refreshes, Replies};
+ghost use Rattle.room_books.specs.Instants.{AreSeparate, IsPartOf, Shifts};
+ghost use Rattle.room_books.specs.Views.{same_key, all_confirmed, all_singles, confirmed_at, singles_by, others, AreAllApart, IsKeyOf};
+ghost use Rattle.room_books.specs.Views.{MayJoin};
 ghost use Rattle.room_books.specs.Timelines.{IsTimelineOf};
-ghost use Rattle.room_books.specs.Takings.{claims_said, kind_view, octets_in, refresh_octets, reply_octets, StandsAt, IsDecision, IsAnswered, IsKindOf};
-ghost use Rattle.room_books.specs.Standing.{Stands, StepsWith, AreFitting, IsMeetingAfter};
+ghost use Rattle.room_books.specs.Takings.{claims_said, held_after, kind_view, octets_in, parts_said, refresh_octets, reply_octets};
+ghost use Rattle.room_books.specs.Takings.{StandsAt, IsMade, IsDecision, IsAnswered, IsKindOf};
+ghost use Rattle.room_books.specs.Standing.{Stands, StepsWith, AreFitting, IsMeetingAfter, IsOwn, Meets, IsPutIn, IsRenewed};
 
 use crate::answer::{Answer, Kind};
 use crate::claims::claims_of;
@@ -27,7 +29,8 @@ use crate::decide::{Meetings, decide, keys_differ};
 use crate::meeting::{Given, Meeting, MeetingKey, Outcome, singles_of};
 use crate::refresh::refresh_to;
 use crate::reply::reply_to;
-use crate::taking::{self, Views, candidates, decided, held_after};
+use crate::slots::slots_of;
+use crate::taking::{self, Kept, Views, candidates, decided, held_with, parts_of};
 use crate::texts::{calendar_of, certificate_octets};
 use crate::timeline::Timeline;
 use cal_events::Single;
@@ -35,7 +38,7 @@ use clash_cert::{Clash, Confirmed, make};
 use ical_values::{Address, Stamp};
 use indexmap::IndexMap;
 use itip_messages::Message;
-use itip_order::{Held, Part};
+use itip_order::{Held, Part, Together};
 use std::alloc::{AllocError, Global};
 
 /// A room with all that it ever took.
@@ -51,17 +54,33 @@ pub struct Room {
     ghost apart: { AreAllApart meetings.entries },
 }
 
-/// A meeting after a message, and what became of the message.
+/// The answers that a meeting has after a message, the instances that it no longer confirms and those that it confirms now and didn't
+/// before, and what became of the message.
 #[derive(Drop)]
-struct Taken {
-    meeting: Meeting,
+struct Settled {
+    answers: Vec<Given>,
+    gone: Vec<Single>,
+    added: Vec<Single>,
     kind: Kind,
 }
 
-/// The answers that a meeting has after a message, and what was decided of those that are new; None where none is.
+/// The same, and the objects that are sent.
+#[derive(Drop)]
+struct Taken {
+    answers: Vec<Given>,
+    gone: Vec<Single>,
+    added: Vec<Single>,
+    kind: Kind,
+    reply: Option<Vec<u8>>,
+    refresh: Option<Vec<u8>>,
+}
+
+/// The answers that a meeting has after a message, the instances that are confirmed by those that are new, and what was decided
+/// of these; None where none is new.
 #[derive(Drop)]
 struct Answered {
     answers: Vec<Given>,
+    added: Vec<Single>,
     outcome: Option<Outcome>,
 }
 
@@ -169,13 +188,71 @@ impl Room {
     {
         keys_differ(&self.meetings);
         let key = MeetingKey::of(&first.organiser, &first.uid)?;
-        let before = self.singles_before(&key)?;
-        let taken = self.meeting_after(&key, first, claims, &before, now)?;
-        let reply = reply_to(self.alloc, &self.address, claims, &taken.meeting)?;
-        let refresh = self.refresh_of(&key, claims, adds, &taken.meeting.held, now)?;
-        self.put(key, taken.meeting, &before)?;
+        let more = parts_of(self.alloc, claims)?;
+        let Taken {
+            answers,
+            gone,
+            added,
+            kind,
+            reply,
+            refresh,
+        } = self.taken_by(&key, first, claims, &more, adds, now)?;
+        self.put(key, more, answers, &gone, &added)?;
         Ok(Answer {
-            kind: taken.kind,
+            kind,
+            reply,
+            refresh,
+        })
+    }
+
+    /// What these claims do to their meeting, of which their parts are taken too; the part is the first one's.
+    fn taken_by(
+        &self,
+        key: &MeetingKey,
+        first: &Part,
+        claims: &[taking::Claim],
+        more: &Held,
+        adds: bool,
+        now: Stamp,
+    ) -> Result<Taken, AllocError>
+        requires some { 0 < length claims.now }
+        requires more { HoldsAll more.now (parts_said claims.now) }
+        ensures shifts { IfOk result (λ taken.
+            Shifts (singles_by (lookup (same_key key.now) self.now.meetings.entries)) taken.gone.items taken.added.items
+            (all_singles taken.answers.items)) }
+        ensures after { IfOk result (λ taken. IsKeyOf (part_of first.now).organiser (part_of first.now).uid key.now → AreFitting key.now (claims_said claims.now)
+            → (book : Book) → Stands self.now.meetings.entries book → (meeting : Meeting)
+            → IsMade (held_after (lookup (same_key key.now) self.now.meetings.entries) more.now) taken.answers.items meeting
+            → IsMeetingAfter book key.now (claims_said claims.now) now (kind_view taken.kind) meeting) }
+        ensures joins { IfOk result (λ taken.
+            MayJoin (others key.now self.now.meetings.entries) key.now (all_singles taken.answers.items)) }
+        ensures replies { IfOk result (λ taken. (own : Book) (meeting : Meeting) → AreFitting key.now (claims_said claims.now)
+            → IsOwn key.now own
+            → IsMade (held_after (lookup (same_key key.now) self.now.meetings.entries) more.now) taken.answers.items meeting
+            → Meets own key.now meeting
+            → Replies (address_octets self.now.address) own (claims_said claims.now) (octets_in taken.reply)) }
+        ensures refreshes { IfOk result (λ taken. (before after : List revisions.Part)
+            → StandsAt (lookup (same_key key.now) self.now.meetings.entries) before
+            → HoldsAll (held_after (lookup (same_key key.now) self.now.meetings.entries) more.now) after
+            → Refreshes (address_octets self.now.address) adds before after (claims_said claims.now) now (octets_in taken.refresh)) }
+    {
+        keys_differ(&self.meetings);
+        let before = self.singles_before(key)?;
+        let held = held_with(self.meetings.get(key), more);
+        let settled = self.settled(key, first, claims, &held, &before, now)?;
+        let reply = reply_to(self.alloc, &self.address, claims, &held, &settled.answers)?;
+        let refresh = self.refresh_of(key, claims, adds, &held, now)?;
+        let Settled {
+            answers,
+            gone,
+            added,
+            kind,
+        } = settled;
+        Ok(Taken {
+            answers,
+            gone,
+            added,
+            kind,
             reply,
             refresh,
         })
@@ -188,7 +265,7 @@ impl Room {
         key: &MeetingKey,
         claims: &[taking::Claim],
         adds: bool,
-        held: &Held,
+        held: &Together<'_>,
         moment: Stamp,
     ) -> Result<Option<Vec<u8>>, AllocError>
         ensures { IfOk result (λ refresh. (before after : List revisions.Part) → StandsAt (lookup (same_key key.now) self.now.meetings.entries) before → HoldsAll held.now after
@@ -219,37 +296,46 @@ impl Room {
         }
     }
 
-    /// The meeting after these claims, of which the part is the first one's.
-    fn meeting_after(
+    /// What becomes of the answers of a meeting by these claims, with which this is held of it; the part is the first one's.
+    fn settled(
         &self,
         key: &MeetingKey,
         first: &Part,
         claims: &[taking::Claim],
+        held: &Together<'_>,
         before: &[Single],
         now: Stamp,
-    ) -> Result<Taken, AllocError>
+    ) -> Result<Settled, AllocError>
         requires some { 0 < length claims.now }
+        requires held { (history : List revisions.Part) → StandsAt (lookup (same_key key.now) self.now.meetings.entries) history
+            → HoldsAll held.now (history ++ parts_said claims.now) }
         requires before { before.now ≡ singles_by (lookup (same_key key.now) self.now.meetings.entries) }
-        ensures after { IfOk result (λ taken. IsKeyOf (part_of first.now).organiser (part_of first.now).uid key.now → AreFitting key.now (claims_said claims.now)
-            → (book : Book) → Stands self.now.meetings.entries book → IsMeetingAfter book key.now (claims_said claims.now) now (kind_view taken.kind) taken.meeting) }
-        ensures joins { IfOk result (λ taken. MayJoin (others key.now self.now.meetings.entries) key.now (confirmed_singles taken.meeting)) }
+        ensures after { IfOk result (λ settled. IsKeyOf (part_of first.now).organiser (part_of first.now).uid key.now
+            → AreFitting key.now (claims_said claims.now)
+            → (book : Book) → Stands self.now.meetings.entries book → (meeting : Meeting) → IsMade held.now settled.answers.items meeting
+            → IsMeetingAfter book key.now (claims_said claims.now) now (kind_view settled.kind) meeting) }
+        ensures shifts { IfOk result (λ settled.
+            Shifts before.now settled.gone.items settled.added.items (all_singles settled.answers.items)) }
+        ensures joins { IfOk result (λ settled.
+            MayJoin (others key.now self.now.meetings.entries) key.now (all_singles settled.answers.items)) }
     {
         keys_differ(&self.meetings);
-        let old = self.meetings.get(key);
-        let held = held_after(self.alloc, old, claims)?;
         let views = Views {
-            before: old,
-            after: &held,
+            before: self.meetings.get(key),
+            after: held,
         };
-        let kept = views.kept(self.alloc, first)?;
+        let slots = slots_of(self.alloc, claims)?;
+        let Kept {
+            answers: kept,
+            gone,
+        } = views.kept(self.alloc, first, &slots)?;
         let asked = views.asked(self.alloc, claims)?;
-        let answered = self.answers_after(key, &held, kept, &asked, before, now)?;
+        let answered = self.answers_after(key, held, kept, &asked, before, now)?;
         let kind = views.kind_of(claims, &answered.outcome)?;
-        Ok(Taken {
-            meeting: Meeting {
-                held,
-                answers: answered.answers,
-            },
+        Ok(Settled {
+            answers: answered.answers,
+            gone,
+            added: answered.added,
             kind,
         })
     }
@@ -258,7 +344,7 @@ impl Room {
     fn answers_after(
         &self,
         key: &MeetingKey,
-        held: &Held,
+        held: &Together<'_>,
         kept: Vec<Given>,
         asked: &[&taking::Claim],
         before: &[Single],
@@ -267,22 +353,26 @@ impl Room {
         requires before { before.now ≡ singles_by (lookup (same_key key.now) self.now.meetings.entries) }
         requires part { IsPartOf (all_singles kept.items) before.now }
         ensures answered { IfOk result (λ answered. IsAnswered (others key.now self.now.meetings.entries) key.now held.now now kept.items asked.now answered.answers.items answered.outcome) }
+        ensures added { IfOk result (λ answered. all_singles answered.answers.items ≡ all_singles kept.items ++ answered.added.items) }
         ensures joins { IfOk result (λ answered. MayJoin (others key.now self.now.meetings.entries) key.now (all_singles answered.answers.items)) }
     {
         keys_differ(&self.meetings);
         if asked.is_empty() {
             return Ok(Answered {
                 answers: kept,
+                added: Vec::new(self.alloc),
                 outcome: None,
             });
         }
         let candidates = candidates(self.alloc, held, asked, now)?;
         let outcome = self.decide(key, &kept, &candidates, before)?;
         let mut new = decided(self.alloc, candidates, &outcome)?;
+        let added = singles_of(self.alloc, &new)?;
         let mut answers = kept;
         answers.append(&mut new)?;
         Ok(Answered {
             answers,
+            added,
             outcome: Some(outcome),
         })
     }
@@ -314,25 +404,68 @@ impl Room {
         )
     }
 
-    /// Puts a meeting in its place, and what it confirms now into the timeline, where it confirmed something else before.
+    /// Puts more of a meeting in its place, with these answers; takes what is gone out of the timeline, and puts in what is added.
     fn put(
         &mut self,
         key: MeetingKey,
-        meeting: Meeting,
-        before: &[Single],
+        more: Held,
+        answers: Vec<Given>,
+        gone: &[Single],
+        added: &[Single],
     ) -> Result<(), AllocError>
-        requires before { before.now ≡ singles_by (lookup (same_key key) self.old.meetings.entries) }
-        requires joins { MayJoin (others key self.old.meetings.entries) key (confirmed_singles meeting) }
-        ensures updates { OnOk result (Updates same_key self.old.meetings self.new.meetings key (Some meeting)) }
-        ensures entries { OnOk result (self.new.meetings.entries ≡ insert_entry same_key self.old.meetings.entries key meeting) }
+        requires shifts { Shifts (singles_by (lookup (same_key key) self.old.meetings.entries)) gone.now added.now
+            (all_singles answers.items) }
+        requires joins { MayJoin (others key self.old.meetings.entries) key (all_singles answers.items) }
+        ensures put { OnOk result (IsPutIn key more answers.items self.old.meetings.entries self.new.meetings.entries) }
         ensures address { self.new.address ≡ self.old.address }
         ensures err { OnErr result (IsUnchanged self.old.meetings self.new.meetings) }
     {
         keys_differ(&self.meetings);
-        let after = meeting.singles(self.alloc)?;
-        self.timeline.reserve(after.len())?;
-        let (place, _) = self.meetings.insert_full(key, meeting)?;
-        self.timeline.change(place, before, &after);
+        self.timeline.reserve(added.len())?;
+        let place = put_in(&mut self.meetings, key, more, answers)?;
+        self.timeline.change(place, gone, added);
         Ok(())
     }
+}
+
+/// Puts more of a meeting in its place, behind the others where nothing was heard of it, with these answers; and tells the place.
+fn put_in(
+    meetings: &mut Meetings,
+    key: MeetingKey,
+    more: Held,
+    answers: Vec<Given>,
+) -> Result<usize, AllocError>
+    ensures place { IfOk result (λ place. place ≡ insert_index same_key meetings.old key) }
+    ensures put { OnOk result (IsPutIn key more answers.items meetings.old.entries meetings.new.entries) }
+    ensures err { OnErr result (IsUnchanged meetings.old meetings.new) }
+{
+    let Some(place) = meetings.get_index_of(&key) else {
+        let meeting = Meeting {
+            held: more,
+            answers,
+        };
+        let (place, _) = meetings.insert_full(key, meeting)?;
+        return Ok(place);
+    };
+    renew(meetings, place, more, answers)?;
+    Ok(place)
+}
+
+/// Takes more parts of the meeting in a place, and gives it these answers.
+fn renew(
+    meetings: &mut Meetings,
+    place: usize,
+    more: Held,
+    answers: Vec<Given>,
+) -> Result<(), AllocError>
+    requires { place < length meetings.old.entries }
+    ensures renewed { OnOk result (IsRenewed place more answers.items meetings.old.entries meetings.new.entries) }
+    ensures err { OnErr result (IsUnchanged meetings.old meetings.new) }
+{
+    let Some(meeting) = meetings.get_index_mut(place) else {
+        return Ok(());
+    };
+    meeting.held.take_all(more)?;
+    meeting.answers = answers;
+    Ok(())
 }

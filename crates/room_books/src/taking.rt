@@ -5,18 +5,24 @@ ghost use Rattle.std.specs.List.{AllZip, list_any};
 ghost use Rattle.profile.specs.rooms.Revisions as revisions;
 ghost use Rattle.profile.specs.rooms.Rooms as rooms;
 ghost use Rattle.profile.specs.rooms.Rooms.{is_set};
-ghost use Rattle.itip_order.specs.Parts.{part_of};
+ghost use Rattle.itip_order.specs.Parts.{part_of, slot_of};
+ghost use Rattle.std.specs.List.Sorted.{IsSortedByKey};
+ghost use Rattle.profile.specs.rooms.Revisions.{slot_cmp};
+ghost use Rattle.room_books.specs.Takings as takings;
+ghost use Rattle.room_books.specs.Touching as touching;
 ghost use Rattle.itip_order.specs.Registers.{StandsFor};
 ghost use Rattle.room_books.specs.Views.{outcome_of, all_singles, singles_by};
-ghost use Rattle.room_books.specs.Instants.{IsPartOf};
+ghost use Rattle.room_books.specs.Instants.{IsPartOf, IsSplit, Sheds};
 ghost use Rattle.room_books.specs.Standing.{KeepsAll};
-ghost use Rattle.room_books.specs.Takings.{StandsAt, AreAsked, booked_in, left_in, IsLeftOf, IsAccepted, IsDecided, IsKindOf, IsStill, kind_view, parts_said};
+ghost use Rattle.room_books.specs.Takings.{StandsAt, held_after, AreAsked, booked_in, left_in, IsLeftOf, IsAccepted, IsDecided, IsKindOf};
+ghost use Rattle.room_books.specs.Takings.{IsStill, kind_view, parts_said, singles_left};
 
 use crate::answer::Kind;
 use crate::meeting::{Given, Meeting, Outcome};
+use crate::slots::{is_touched, is_untouched};
 use cal_events::Single;
 use ical_values::Stamp;
-use itip_order::{Body, Held, Part, Slot};
+use itip_order::{Body, Held, Part, Slot, Together};
 use std::alloc::{AllocError, Global};
 
 /// A part of a message, and the instances that it asks for: none where it isn't to take place.
@@ -35,37 +41,39 @@ impl Claim {
     }
 }
 
+/// The answers of a meeting that stay, and the instances that went.
+#[derive(Drop)]
+pub struct Kept {
+    pub answers: Vec<Given>,
+    pub gone: Vec<Single>,
+}
+
 /// The parts of a meeting before a message and after it.
 #[derive(Clone, Copy)]
 pub struct Views<'a> {
     /// What is kept of the meeting; None where it was never heard of.
     pub before: Option<&'a Meeting>,
-    pub after: &'a Held,
+    pub after: &'a Together<'a>,
 }
 
-/// The parts taken of a meeting, with those of these claims.
-pub fn held_after(
-    alloc: Global,
-    before: Option<&Meeting>,
-    claims: &[Claim],
-) -> Result<Held, AllocError>
-    ensures { IfOk result (λ held. (history : List revisions.Part) → StandsAt (option_copied before.entry) history
-        → StandsFor held (history ++ parts_said claims.now)) }
+/// The parts of these claims, as they are taken.
+pub fn parts_of(alloc: Global, claims: &[Claim]) -> Result<Held, AllocError>
+    ensures { IfOk result (λ parts. StandsFor parts (parts_said claims.now)) }
 {
-    let mut held = held_of(alloc, before)?;
+    let mut parts = Held::new(alloc);
     for claim in claims {
-        held.take(claim.part.clone()?)?;
+        parts.take(claim.part.clone()?)?;
     }
-    Ok(held)
+    Ok(parts)
 }
 
-/// The parts taken so far.
-fn held_of(alloc: Global, before: Option<&Meeting>) -> Result<Held, AllocError>
-    ensures { IfOk result (λ held. (history : List revisions.Part) → StandsAt (option_copied before.entry) history → StandsFor held history) }
+/// What is held of a meeting where more of its parts are taken.
+pub fn held_with<'a>(before: Option<&'a Meeting>, more: &'a Held) -> Together<'a>
+    ensures { result ≡ held_after (option_copied before.entry) more.now }
 {
     match before {
-        Some(meeting) => meeting.held.copy(),
-        None => Ok(Held::new(alloc)),
+        Some(meeting) => meeting.held.with(more),
+        None => more.alone(),
     }
 }
 
@@ -184,27 +192,39 @@ impl<'a> Views<'a> {
         self.is_fresh(part) && lacks_whole(self.after, part)
     }
 
-    /// The answers to parts that stay in the view, each with the instances that it still confirms. The part is one of the meeting.
-    pub fn kept(&self, alloc: Global, part: &Part) -> Result<Vec<Given>, AllocError>
-        ensures kept { IfOk result (λ kept. KeepsAll (part_of part.now) (option_copied self.now.before) self.now.after.now kept.items) }
-        ensures part { IfOk result (λ kept. IsPartOf (all_singles kept.items) (singles_by (option_copied self.now.before))) }
+    /// The answers to parts that stay in the view where parts of these slots were taken, each with the instances that it still
+    /// confirms; and the instances that no answer confirms any more. The part is one of the meeting. Only what the message
+    /// touches is looked up.
+    pub fn kept(&self, alloc: Global, part: &Part, slots: &[Slot]) -> Result<Kept, AllocError>
+        requires { IsSortedByKey slot_of slot_cmp slots.now }
+        ensures kept { IfOk result (λ kept.
+            KeepsAll (part_of part.now) slots.now (option_copied self.now.before) self.now.after.now kept.answers.items) }
+        ensures split { IfOk result (λ kept.
+            IsSplit (singles_by (option_copied self.now.before)) kept.gone.items (all_singles kept.answers.items)) }
     {
-        let mut kept = Vec::new(alloc);
+        let mut answers = Vec::new(alloc);
+        let mut gone = Vec::new(alloc);
         let Some(meeting) = self.before else {
-            return Ok(kept);
+            return Ok(Kept { answers, gone });
         };
+        let before = meeting.held.alone();
         for given in &meeting.answers {
-            let Some(still) = still(alloc, &meeting.held, self.after, part, given)? else {
+            if is_untouched(slots, given.slot) {
+                answers.push(given.clone()?)?;
+                continue;
+            }
+            let Some(still) = still(alloc, &before, self.after, part, slots, given, &mut gone)?
+            else {
                 continue;
             };
-            kept.push(still)?;
+            answers.push(still)?;
         }
-        Ok(kept)
+        Ok(Kept { answers, gone })
     }
 }
 
 /// Whether nothing was ever taken of the whole of a part's meeting. The greatest part of the whole is in the view, whatever it says.
-fn lacks_whole(held: &Held, part: &Part) -> bool
+fn lacks_whole(held: &Together<'_>, part: &Part) -> bool
     ensures { (history : List revisions.Part) → StandsFor held.now history → result ≡ rooms.lacks_whole history (part_of part.now) }
 {
     held.part_in(part, Slot::Whole).is_none()
@@ -220,33 +240,49 @@ fn kind_of_outcome(outcome: &Outcome) -> Result<Kind, AllocError>
     }
 }
 
-/// An answer whose part stays in the view, with the instances that it still confirms. The part that is handed in is one of the meeting.
+/// An answer whose part stays in the view, with the instances that it still confirms; those that it doesn't go behind others.
+/// The part that is handed in is one of the meeting.
 fn still(
     alloc: Global,
-    before: &Held,
-    after: &Held,
+    before: &Together<'_>,
+    after: &Together<'_>,
     part: &Part,
+    slots: &[Slot],
     given: &Given,
+    gone: &mut Vec<Single>,
 ) -> Result<Option<Given>, AllocError>
-    ensures still { IfOk result (IsStill before.now after.now (part_of part.now) given.now) }
-    ensures part { IfOk result (λ still. IfSome still (λ left. IsPartOf left.singles.items given.now.singles.items)) }
+    requires { IsSortedByKey slot_of slot_cmp slots.now }
+    ensures still { IfOk result (IsStill slots.now before.now after.now (part_of part.now) given.now) }
+    ensures sheds { IfOk result (λ still. Sheds given.now.singles.items (singles_left still) gone.old.items gone.new.items) }
 {
     let Some(own) = before.part_in(part, given.slot) else {
+        gone.extend_from_slice(&given.singles)?;
         return Ok(None);
     };
     if !after.shows(own) {
+        gone.extend_from_slice(&given.singles)?;
         return Ok(None);
     }
-    Ok(Some(given.left(alloc, after, own)?))
+    Ok(Some(given.left(alloc, after, own, slots, gone)?))
 }
 
 impl Given {
-    /// The same answer to a part, with those of its instances that no part in the view stands for.
-    fn left(&self, alloc: Global, held: &Held, part: &Part) -> Result<Given, AllocError>
-        ensures { IfOk result (IsLeftOf held.now (part_of part.now) self.now) }
+    /// The same answer to a part, with those of its instances that no part of these slots in the view stands for; the others go
+    /// behind those that are gone.
+    fn left(
+        &self,
+        alloc: Global,
+        held: &Together<'_>,
+        part: &Part,
+        slots: &[Slot],
+        gone: &mut Vec<Single>,
+    ) -> Result<Given, AllocError>
+        requires { IsSortedByKey slot_of slot_cmp slots.now }
+        ensures left { IfOk result (IsLeftOf slots.now held.now (part_of part.now) self.now) }
+        ensures sheds { IfOk result (λ left. Sheds self.now.singles.items left.singles.items gone.old.items gone.new.items) }
     {
         let outcome = self.outcome.clone()?;
-        let singles = left_of(alloc, held, part, &self.singles)?;
+        let singles = left_beside(alloc, held, part, slots, &self.singles, gone)?;
         Ok(Given {
             slot: self.slot,
             moment: self.moment,
@@ -258,7 +294,7 @@ impl Given {
     /// The answer to a claim at a moment, were it accepted.
     fn accepted(
         alloc: Global,
-        held: &Held,
+        held: &Together<'_>,
         claim: &Claim,
         moment: Stamp,
     ) -> Result<Given, AllocError>
@@ -295,7 +331,7 @@ pub fn is_accept(outcome: &Outcome) -> bool
 /// Those of a part's instances that no other part in the view stands for.
 fn left_of(
     alloc: Global,
-    held: &Held,
+    held: &Together<'_>,
     part: &Part,
     singles: &[Single],
 ) -> Result<Vec<Single>, AllocError>
@@ -312,8 +348,33 @@ fn left_of(
     Ok(left)
 }
 
+/// Those of a part's instances that no part of these slots in the view stands for; the others go behind those that are gone.
+fn left_beside(
+    alloc: Global,
+    held: &Together<'_>,
+    part: &Part,
+    slots: &[Slot],
+    singles: &[Single],
+    gone: &mut Vec<Single>,
+) -> Result<Vec<Single>, AllocError>
+    requires { IsSortedByKey slot_of slot_cmp slots.now }
+    ensures left { IfOk result (λ left. (history : List revisions.Part) → StandsFor held.now history
+        → left.items ≡ takings.left_beside slots.now history (part_of part.now) singles.now) }
+    ensures sheds { IfOk result (λ left. Sheds singles.now left.items gone.old.items gone.new.items) }
+{
+    let mut left = Vec::new(alloc);
+    for single in singles {
+        if is_hidden_by(slots, held, part, *single) {
+            gone.push(*single)?;
+            continue;
+        }
+        left.push(*single)?;
+    }
+    Ok(left)
+}
+
 /// Whether another part in the view stands for an instance of a part.
-fn is_hidden(held: &Held, part: &Part, single: Single) -> bool
+fn is_hidden(held: &Together<'_>, part: &Part, single: Single) -> bool
     ensures { (history : List revisions.Part) → StandsFor held.now history → result ≡ rooms.is_hidden history (part_of part.now) (booked_in (part_of part.now) single) }
 {
     match part.slot {
@@ -322,10 +383,20 @@ fn is_hidden(held: &Held, part: &Part, single: Single) -> bool
     }
 }
 
+/// Whether another part in the view, of one of these slots, stands for an instance of a part.
+fn is_hidden_by(slots: &[Slot], held: &Together<'_>, part: &Part, single: Single) -> bool
+    requires { IsSortedByKey slot_of slot_cmp slots.now }
+    ensures { (history : List revisions.Part) → StandsFor held.now history
+        → result ≡ (touching.is_touched slots.now (revisions.At single.slot) && rooms.is_hidden history (part_of part.now) (booked_in
+        (part_of part.now) single)) }
+{
+    is_touched(slots, Slot::At(single.slot)) && is_hidden(held, part, single)
+}
+
 /// The answers to claims at a moment, were they accepted.
 pub fn candidates(
     alloc: Global,
-    held: &Held,
+    held: &Together<'_>,
     asked: &[&Claim],
     moment: Stamp,
 ) -> Result<Vec<Given>, AllocError>

@@ -1,9 +1,10 @@
 //! When a room is taken: what is confirmed in it, in order of time. It knows the places of meetings, and nothing else of them.
 
-ghost use Rattle.std.specs.Prelude.{◌≡◌, ◌<◌, ◌≤◌, ◌+◌, ◌↔◌, true, IsTrue, [], OnOk, length, Contains};
+ghost use Rattle.std.specs.Prelude.{◌≡◌, ◌<◌, ◌≤◌, ◌+◌, ◌↔◌, true, IsTrue, ◌++◌, [], List, OnOk, length, Contains};
 ghost use Rattle.std.specs.List.{find, take_while};
 ghost use Rattle.cal_events.specs.declared.instance.Single.{Single};
-ghost use Rattle.room_books.specs.Timelines.{AreBusy, HoldsInstants, IsPlaceAfter, AreTaken, IsSharedIn, IsFreeBut, IsFreeAmong, AreAt, IsChanged, IsTaken, IsPut, IsTimelineOf, is_beside, starts_before, busy_in, has_busy};
+ghost use Rattle.room_books.specs.Timelines.{AreBusy, HoldsInstants, IsPlaceAfter, AreTaken, IsSharedIn, IsFreeAmong, AreAt, IsChanged};
+ghost use Rattle.room_books.specs.Timelines.{IsShift, IsTaken, IsPut, IsTimelineOf, is_beside, starts_before, busy_in, has_busy};
 ghost use Rattle.room_books.specs.Instants.{AreSeparate};
 ghost use Rattle.std.specs.Vec.{vec_len, vec_capacity};
 
@@ -87,48 +88,46 @@ impl Timeline {
         self.busy.reserve(more)
     }
 
-    /// Puts what the meeting in a place confirms after a message where it confirmed something else before.
-    pub(crate) fn change(&mut self, place: usize, before: &[Single], after: &[Single])
-        requires held { AreAt place before.now self.old.busy.items }
-        requires apart { AreSeparate before.now }
-        requires counted { length before.now ≤ self.old.confirmed }
-        requires free { (s : Single) → Contains after.now s → IsFreeBut place self.old.busy.items s.span }
-        requires separate { AreSeparate after.now }
-        requires few { self.old.confirmed + length after.now ≤ 10_000 + length before.now }
-        requires room { vec_len self.old.busy + length after.now ≤ vec_capacity self.old.busy }
-        ensures changed { IsChanged place after.now self.old.busy.items self.new.busy.items }
-        ensures confirmed { self.new.confirmed + length before.now ≡ self.old.confirmed + length after.now }
+    /// Takes out what the meeting in a place no longer confirms, and puts in what it confirms now and didn't before.
+    pub(crate) fn change(&mut self, place: usize, gone: &[Single], added: &[Single])
+        requires shift { (kept : List Single) × IsShift place gone.now kept added.now self.old.busy.items }
+        requires counted { length gone.now ≤ self.old.confirmed }
+        requires few { self.old.confirmed + length added.now ≤ 10_000 + length gone.now }
+        requires room { vec_len self.old.busy + length added.now ≤ vec_capacity self.old.busy }
+        ensures changed { (kept : List Single) → IsShift place gone.now kept added.now self.old.busy.items
+            → IsChanged place (kept ++ added.now) self.old.busy.items self.new.busy.items }
+        ensures confirmed { self.new.confirmed + length gone.now ≡ self.old.confirmed + length added.now }
     {
-        self.take_all(place, before);
-        self.put_all(place, after);
+        self.take_all(place, gone);
+        self.put_all(place, added);
     }
 
-    /// Takes out all that a meeting had confirmed.
-    fn take_all(&mut self, place: usize, singles: &[Single])
-        requires held { AreAt place singles.now self.old.busy.items }
-        requires apart { AreSeparate singles.now }
-        requires counted { length singles.now ≤ self.old.confirmed }
-        ensures changed { IsChanged place [] self.old.busy.items self.new.busy.items }
-        ensures confirmed { self.new.confirmed + length singles.now ≡ self.old.confirmed }
+    /// Takes out some of what a meeting had confirmed.
+    fn take_all(&mut self, place: usize, gone: &[Single])
+        requires held { (kept : List Single) × AreAt place (gone.now ++ kept) self.old.busy.items × AreSeparate (gone.now ++ kept) }
+        requires counted { length gone.now ≤ self.old.confirmed }
+        ensures changed { (kept : List Single) → AreAt place (gone.now ++ kept) self.old.busy.items → AreSeparate (gone.now ++ kept)
+            → IsChanged place kept self.old.busy.items self.new.busy.items }
+        ensures confirmed { self.new.confirmed + length gone.now ≡ self.old.confirmed }
         ensures len { vec_len self.new.busy ≤ vec_len self.old.busy }
         ensures capacity { vec_capacity self.new.busy ≡ vec_capacity self.old.busy }
     {
-        for single in singles {
+        for single in gone {
             self.take_out(place, *single);
         }
     }
 
-    /// Puts in all that a meeting confirms.
-    fn put_all(&mut self, place: usize, singles: &[Single])
-        requires held { AreAt place [] self.old.busy.items }
-        requires free { (s : Single) → Contains singles.now s → IsFreeAmong self.old.busy.items s.span }
-        requires separate { AreSeparate singles.now }
-        requires few { self.old.confirmed + length singles.now ≤ 10_000 }
-        requires room { vec_len self.old.busy + length singles.now ≤ vec_capacity self.old.busy }
-        ensures changed { IsChanged place singles.now self.old.busy.items self.new.busy.items }
-        ensures confirmed { self.new.confirmed ≡ self.old.confirmed + length singles.now }
+    /// Puts in more that a meeting confirms.
+    fn put_all(&mut self, place: usize, added: &[Single])
+        requires free { (s : Single) → Contains added.now s → IsFreeAmong self.old.busy.items s.span }
+        requires separate { AreSeparate added.now }
+        requires few { self.old.confirmed + length added.now ≤ 10_000 }
+        requires room { vec_len self.old.busy + length added.now ≤ vec_capacity self.old.busy }
+        ensures changed { (kept : List Single) → AreAt place kept self.old.busy.items
+            → IsChanged place (kept ++ added.now) self.old.busy.items self.new.busy.items }
+        ensures confirmed { self.new.confirmed ≡ self.old.confirmed + length added.now }
     {
-        for single in singles {
+        for single in added {
             self.put_in(place, *single);
         }
     }

@@ -14,6 +14,7 @@ mod messages;
 mod names;
 mod objects;
 mod parts;
+mod series_files;
 mod streams;
 mod written;
 

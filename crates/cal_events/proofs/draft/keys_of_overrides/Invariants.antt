@@ -4,5 +4,5 @@ use Rattle.cal_events.specs.Drafts.{override_keys}
 use Rattle.cal_events.proofs.draft.keys_of_overrides.Given as goal
 
 -- the keys of those so far
-abbrev pub invariant-loop-entry : goal.invariant-loop-entry
-invariant-loop-entry l = map key_of l.keys.items ≡ override_keys (take l.entry-index l.entries)
+abbrev pub invariant-loop-place : goal.invariant-loop-place
+invariant-loop-place l = map key_of l.keys.items ≡ override_keys (take l.place l.entries)

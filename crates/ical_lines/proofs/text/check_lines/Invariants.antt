@@ -10,12 +10,13 @@ use Rattle.ical_lines.proofs.text.check_lines.Given as goal
 
 abbrev pub invariant-loop-line : goal.invariant-loop-line
 invariant-loop-line l = record {
-  can : (goal.iterator-loop-line).can_next l.line-iterator;
-  finite : (goal.iterator-loop-line).is_finite l.line-iterator;
-  counted : l.count + length (lines_left l.line-iterator) ≡ length (lines_of l.text);
-  fits : l.count + length (lines_left l.line-iterator) ≤ length l.text;
+  counted : l.count + length (lines_left l.lines) ≡ length (lines_of l.text);
+  fits : l.count + length (lines_left l.lines) ≤ length l.text;
   within : (is_bounded l.limits && nat_lt 65536 l.count) ≡ false;
-  same : list_any is_faulty (lines_of l.text) ≡ list_any is_faulty (lines_left l.line-iterator);
-  first : find is_faulty (judged (is_bounded l.limits) (lines_of l.text)) ≡ find is_faulty (judged_after (is_bounded l.limits) l.count (lines_left l.line-iterator));
-  among : (n : ℕ) → list_any (line_has n) (lines_left l.line-iterator) ≡ true → list_any (line_has n) (lines_of l.text) ≡ true;
+  same : list_any is_faulty (lines_of l.text) ≡ list_any is_faulty (lines_left l.lines);
+  first : find is_faulty (judged (is_bounded l.limits) (lines_of l.text)) ≡ find is_faulty (judged_after (is_bounded l.limits) l.count (lines_left l.lines));
+  among : (n : ℕ) → list_any (line_has n) (lines_left l.lines) ≡ true → list_any (line_has n) (lines_of l.text) ≡ true;
 }
+
+abbrev pub decreases-loop-line : goal.decreases-loop-line
+decreases-loop-line l = length (lines_left l.lines)

@@ -1,78 +1,9 @@
-use Rattle.std.proofs.Common.{◌≡◌, ◌∙◌, ◌<◌, ◌≤◌, ◌++◌, ◌∷◌, [], false, List, length, get_or, take, sym, ap, subst, None}
-use Rattle.std.specs.List.{AllZip}
-use Rattle.std.proofs.lemmas.List.{take_all}
-use Rattle.ical_lines.specs.Fault.{RefusesBy}
 use Rattle.ical_values.specs.Octets.{address_octets}
-use Rattle.ical_values.proofs.Exits.{err_exit}
-use Rattle.ical_tree.specs.Tree.{component_lines, component_children, tree_of}
-use Rattle.ical_tree.specs.declared.component.Component.{Component}
-use Rattle.profile.specs.text.Trees.{Tree}
-use Rattle.profile.specs.checker.Calendars.{CalendarFault}
-use Rattle.profile.specs.events.Events.{SaysEvent}
-use Rattle.cal_events.specs.declared.component.Purpose.TheVariants.{Meeting}
-use Rattle.cal_events.specs.Events.{event_of, vevents_of, IsUnreadOrFault}
-use Rattle.cal_events.specs.Drafts.{IsDraft}
-use Rattle.cal_events.proofs.EventLemmas.{push_zip}
-use Rattle.cal_events.proofs.ReadingLemmas.{events_in, is_among, take_other, take_event, event_stands}
-use Rattle.cal_events.proofs.TreeLemmas.{vevents_tree}
-use Rattle.cal_events.proofs.DraftLemmas.{calendar_says, calendar_refused}
+use Rattle.ical_tree.specs.Tree.{tree_of}
+use Rattle.cal_events.proofs.DraftLemmas.{calendar_refused}
 use Rattle.cal_events.proofs.calendar.Calendar.of_object.Goals as goal
-use Rattle.cal_events.proofs.calendar.Calendar.of_object.Goals.{then-is_named+in_ok-event+in_ok-add, else-is_named}
-
-pub loop-component-init : goal.loop-component-init
-loop-component-init c = ([], tt, c.new-draft.ensures (address_octets c.args.room.now))
-
-pub returns-in_err-event-clause-stands : goal.returns-in_err-event-clause-stands
-returns-in_err-event-clause-stands c =
-    let object = c.args.object.now in
-    let all = component_children object in
-    let i = c.loop-component.component-index in
-    let x = c.component-item.result in
-    let same = c.children-component-items.ensures in
-    let within = subst (λ (l : List Component). i < length l) same c.loop-component-test.true in
-    let here = subst (λ (l : List Component). x ≡ get_or l i x) same c.component-item.is in
-    err_exit _ (RefusesBy (CalendarFault (tree_of object))) _ c.from_residual-in_err-event.ensures.1
-    (event_stands (tree_of object) (vevents_of object) (component_lines x) _ (vevents_tree object) (is_among all i x within here (sym c.if-is_named.ensures))
-    (subst (λ (t : Tree). RefusesBy (IsUnreadOrFault t Meeting (component_lines x)) c.in_err-event.field-0.0) (ap tree_of c.in_ok-zones.ensures.object) c.in_err-event.ensures.stands))
-
-pub loop-component-preserved : goal.loop-component-preserved
-loop-component-preserved c =
-    let object = tree_of c.args.object.now in
-    let room = address_octets c.args.room.now in
-    let all = component_children c.args.object.now in
-    let i = c.loop-component.component-index in
-    let x = c.component-item.result in
-    let same = c.children-component-items.ensures in
-    let within = subst (λ (l : List Component). i < length l) same c.loop-component-test.true in
-    let here = subst (λ (l : List Component). x ≡ get_or l i x) same c.component-item.is in
-    let before = c.loop-component.invariant in
-    elim c.if-is_named.branch [
-      | then-is_named+in_ok-event+in_ok-add w ↦ (
-        before.0 ++ event_of w.in_ok-event.event ∷ [],
-        subst (λ vs. AllZip (SaysEvent object None) vs (before.0 ++ event_of w.in_ok-event.event ∷ [])) (sym (take_event all i x within here (sym w.if-is_named.ensures)))
-            (push_zip (SaysEvent object None) (events_in (take i all)) before.0 (component_lines x) (event_of w.in_ok-event.event) before.1
-            (subst (λ (t : Tree). SaysEvent t None (component_lines x) (event_of w.in_ok-event.event)) (ap tree_of c.in_ok-zones.ensures.object) w.in_ok-event.ensures.says)),
-        subst (IsDraft room (before.0 ++ event_of w.in_ok-event.event ∷ [])) (sym w.draft-is) (w.in_ok-add.ensures before.0 before.2),
-      )
-      | else-is_named w ↦ (
-        before.0,
-        subst (λ vs. AllZip (SaysEvent object None) vs before.0) (sym (take_other all i x within here (sym w.if-is_named.ensures))) before.1,
-        subst (IsDraft room before.0) (sym w.draft-is) before.2,
-      )
-    ]
-
-pub returns-clause-says : goal.returns-clause-says
-returns-clause-says c =
-    let object = tree_of c.args.object.now in
-    let h = c.loop-component.invariant in
-    let all = take_all c.loop-component.component-index (component_children c.args.object.now) (subst (λ (l : List Component). length l ≤ c.loop-component.component-index) c.children-component-items.ensures c.loop-component-test.false) in
-    let says = subst (λ vs. AllZip (SaysEvent object None) vs h.0) (ap events_in all ∙ sym (vevents_tree c.args.object.now)) h.1 in
-    calendar_says (address_octets c.args.room.now) object h.0 c.into_calendar.result says (c.into_calendar.ensures.masters (address_octets c.args.room.now) h.0 h.2) (c.into_calendar.ensures.are (address_octets c.args.room.now) h.0 h.2)
 
 pub returns-clause-stands : goal.returns-clause-stands
 returns-clause-stands c =
-    let object = tree_of c.args.object.now in
-    let h = c.loop-component.invariant in
-    let all = take_all c.loop-component.component-index (component_children c.args.object.now) (subst (λ (l : List Component). length l ≤ c.loop-component.component-index) c.children-component-items.ensures c.loop-component-test.false) in
-    let says = subst (λ vs. AllZip (SaysEvent object None) vs h.0) (ap events_in all ∙ sym (vevents_tree c.args.object.now)) h.1 in
-    calendar_refused object h.0 c.into_calendar.result says (c.into_calendar.ensures.stands (address_octets c.args.room.now) h.0 h.2)
+    let d = c.in_ok-draft.ensures.says in
+    calendar_refused (tree_of c.args.object.now) d.events c.into_calendar.result d.says (c.into_calendar.ensures.stands (address_octets c.args.room.now) d.events d.is)

@@ -1,24 +1,9 @@
-use Rattle.std.proofs.Common.{false, subst, List, ℕ}
 use Rattle.ical_values.specs.Octets.{address_octets}
-use Rattle.ical_tree.specs.Tree.{IsObjectOf}
-use Rattle.ical_tree.proofs.StandsLemmas.{text_stands, tree_stands}
-use Rattle.cal_events.proofs.TreeLemmas.{calendar_spelled, faults_there, object_refused}
+use Rattle.cal_events.proofs.DraftLemmas.{text_refused}
 use Rattle.cal_events.proofs.calendar.Calendar.read.Goals as goal
-
-pub returns-in_err-text-clause-stands : goal.returns-in_err-text-clause-stands
-returns-in_err-text-clause-stands c =
-    object_refused c.from_residual.result c.args.bytes.now c.in_err-text.field-0.0 c.from_residual.ensures.1 (text_stands false c.args.bytes.now _ c.in_err-text.ensures.stands)
-
-pub returns-in_err-object-clause-stands : goal.returns-in_err-object-clause-stands
-returns-in_err-object-clause-stands c =
-    object_refused c.from_residual-in_err-object.result c.args.bytes.now c.in_err-object.field-0.0 c.from_residual-in_err-object.ensures.1 (tree_stands false c.args.bytes.now _ _ c.in_ok-text.ensures.lines c.in_err-object.ensures.stands)
-
-pub returns-clause-spells : goal.returns-clause-spells
-returns-clause-spells c =
-    let object = subst (λ (ls : List (List ℕ)). IsObjectOf false c.in_ok-object.object ls) c.in_ok-text.ensures.lines c.in_ok-object.ensures.spelled in
-    calendar_spelled _ (address_octets c.args.room.now) c.args.bytes.now c.in_ok-object.object c.in_ok-text.ensures.reads object c.of_object.ensures.says
 
 pub returns-clause-stands : goal.returns-clause-stands
 returns-clause-stands c =
-    let object = subst (λ (ls : List (List ℕ)). IsObjectOf false c.in_ok-object.object ls) c.in_ok-text.ensures.lines c.in_ok-object.ensures.spelled in
-    faults_there _ c.args.bytes.now c.in_ok-object.object object c.of_object.ensures.stands
+    let room = address_octets c.args.room.now in
+    let d = c.in_ok-draft.ensures.spells in
+    text_refused room c.args.bytes.now c.in_ok-draft.draft d c.into_calendar.result (c.into_calendar.ensures.stands room d.of.events d.of.is)

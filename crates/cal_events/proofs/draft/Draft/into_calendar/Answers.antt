@@ -1,13 +1,10 @@
-use Rattle.std.proofs.Common.{◌≢◌, List, refl, map, sym, subst, inl, inr}
-use Rattle.std.specs.Prelude.{AllPairs}
+use Rattle.std.proofs.Common.{List, refl, map, sym, subst, inl, inr}
 use Rattle.std.specs.List.Sorted.{IsPermutation}
 use Rattle.std.proofs.lemmas.List.Sorted.{IsPermutation-sym}
 use Rattle.ical_lines.specs.Fault.{RefusesBy}
 use Rattle.ical_values.proofs.Exits.{err_exit}
-use Rattle.cal_events.specs.Calendars.{key_of, AreWithin}
-use Rattle.cal_events.specs.Drafts.{master_keys, override_keys, IsTwoOf, AreShown}
-use Rattle.cal_events.specs.Masters.{AreRuled}
-use Rattle.cal_events.specs.declared.calendar.Entry.{Entry}
+use Rattle.cal_events.specs.Calendars.{key_of}
+use Rattle.cal_events.specs.Drafts.{master_keys, IsTwoOf}
 use Rattle.cal_events.specs.declared.instance.InstanceKey.{InstanceKey}
 use Rattle.cal_events.proofs.KeyLemmas.{pairs_permutation}
 use Rattle.cal_events.proofs.ZonedLemmas.{weaker_fault}
@@ -17,50 +14,50 @@ use Rattle.cal_events.proofs.draft.Draft.into_calendar.Goals as goal
 
 pub returns-then-has_equal_neighbours-clause-stands : goal.returns-then-has_equal_neighbours-clause-stands
 returns-then-has_equal_neighbours-clause-stands c room events d =
-    let entries = c.args.self.entries.items in
-    let sorted = subst (λ (es : List Entry). IsPermutation (master_keys es) (map key_of c.in_ok-keys_of_masters.field-0.items)) c.deref.ensures.value c.in_ok-keys_of_masters.ensures.0 in
-    let same = subst (λ (l : List InstanceKey). IsPermutation (master_keys entries) (map key_of l)) (sym c.deref-2.ensures.value) sorted in
-    inl (refl, λ differ. c.if-has_equal_neighbours.ensures (pairs_permutation (master_keys entries) (map key_of c.deref-2.result.now) same (there_masters entries events d.entries differ)))
+    let entries = c.args.self.entries in
+    let sorted = c.in_ok-keys_of_masters.ensures.0 in
+    let same = subst (λ (l : List InstanceKey). IsPermutation (master_keys entries) (map key_of l)) (sym c.deref.ensures.value) sorted in
+    inl (refl, λ differ. c.if-has_equal_neighbours.ensures (pairs_permutation (master_keys entries) (map key_of c.deref.result.now) same (there_masters entries events d.entries differ)))
 
 pub shown-requires : goal.shown-requires
 shown-requires c =
     let d = c.requires in
     record {
-      within = subst (λ (es : List Entry). AreWithin es c.args.self.singles.items) (sym c.deref-3.ensures.value) (within_entries d.0 d.1 c.args.self d.2);
+      within = within_entries d.0 d.1 c.args.self d.2;
       masters = masters_of d.0 d.1 c.args.self d.2;
     }
 
 pub returns-in_err-singles-clause-stands : goal.returns-in_err-singles-clause-stands
 returns-in_err-singles-clause-stands c room events d =
-    let entries = c.args.self.entries.items in
+    let entries = c.args.self.entries in
     err_exit _ (RefusesBy (IsTwoOf events)) _ c.from_residual-in_err-singles.ensures.1
     (weaker_fault _ _ (IsTwoOf events)
-    (λ n h. inr (h.0, λ differ. h.1 (subst (λ (es : List Entry). AllPairs ◌≢◌ (override_keys es)) (sym c.deref-3.ensures.value) (there_overrides entries events d.entries differ))))
+    (λ n h. inr (h.0, λ differ. h.1 (there_overrides entries events d.entries differ)))
     c.in_err-singles.ensures.stands)
 
 pub invariant_of-result : goal.invariant_of-result
 invariant_of-result c =
-    let entries = c.args.self.entries.items in
+    let entries = c.args.self.entries in
     let left = c.in_ok-singles.singles.items in
     let r = c.requires in
-    let sorted = subst (λ (es : List Entry). IsPermutation (master_keys es) (map key_of c.in_ok-keys_of_masters.field-0.items)) c.deref.ensures.value c.in_ok-keys_of_masters.ensures.0 in
-    let same = subst (λ (l : List InstanceKey). IsPermutation (master_keys entries) (map key_of l)) (sym c.deref-2.ensures.value) sorted in
-    let masters = masters_there entries r.1 r.2.entries (pairs_permutation (map key_of c.deref-2.result.now) (master_keys entries) (IsPermutation-sym _ _ same) c.if-has_equal_neighbours.ensures) in
-    let overrides = overrides_there entries r.1 r.2.entries (subst (λ (es : List Entry). AllPairs ◌≢◌ (override_keys es)) c.deref-3.ensures.value c.in_ok-singles.ensures.differ) in
-    let shown = subst (λ (es : List Entry). AreShown es c.args.self.singles.items left) c.deref-3.ensures.value c.in_ok-singles.ensures.shown in
+    let sorted = c.in_ok-keys_of_masters.ensures.0 in
+    let same = subst (λ (l : List InstanceKey). IsPermutation (master_keys entries) (map key_of l)) (sym c.deref.ensures.value) sorted in
+    let masters = masters_there entries r.1 r.2.entries (pairs_permutation (map key_of c.deref.result.now) (master_keys entries) (IsPermutation-sym _ _ same) c.if-has_equal_neighbours.ensures) in
+    let overrides = overrides_there entries r.1 r.2.entries c.in_ok-singles.ensures.differ in
+    let shown = c.in_ok-singles.ensures.shown in
     (different_keys r.0 r.1 c.args.self r.2 left shown masters overrides, left_within r.0 r.1 c.args.self r.2 left shown)
 
 pub returns-clause-masters : goal.returns-clause-masters
 returns-clause-masters c room events d =
-    let entries = c.args.self.entries.items in
-    let sorted = subst (λ (es : List Entry). IsPermutation (master_keys es) (map key_of c.in_ok-keys_of_masters.field-0.items)) c.deref.ensures.value c.in_ok-keys_of_masters.ensures.0 in
-    let same = subst (λ (l : List InstanceKey). IsPermutation (master_keys entries) (map key_of l)) (sym c.deref-2.ensures.value) sorted in (
-      masters_there entries events d.entries (pairs_permutation (map key_of c.deref-2.result.now) (master_keys entries) (IsPermutation-sym _ _ same) c.if-has_equal_neighbours.ensures),
-      overrides_there entries events d.entries (subst (λ (es : List Entry). AllPairs ◌≢◌ (override_keys es)) c.deref-3.ensures.value c.in_ok-singles.ensures.differ),
+    let entries = c.args.self.entries in
+    let sorted = c.in_ok-keys_of_masters.ensures.0 in
+    let same = subst (λ (l : List InstanceKey). IsPermutation (master_keys entries) (map key_of l)) (sym c.deref.ensures.value) sorted in (
+      masters_there entries events d.entries (pairs_permutation (map key_of c.deref.result.now) (master_keys entries) (IsPermutation-sym _ _ same) c.if-has_equal_neighbours.ensures),
+      overrides_there entries events d.entries c.in_ok-singles.ensures.differ,
     )
 
 pub returns-clause-are : goal.returns-clause-are
 returns-clause-are c room events d =
     confirmed_of room events c.args.self d c.in_ok-singles.singles.items
-    (subst (λ (es : List Entry). AreShown es c.args.self.singles.items c.in_ok-singles.singles.items) c.deref-3.ensures.value c.in_ok-singles.ensures.shown)
-    c.in_ok-singles.series.items (subst (λ (es : List Entry). AreRuled es c.args.self.series.items c.in_ok-singles.series.items) c.deref-3.ensures.value c.in_ok-singles.ensures.ruled)
+    c.in_ok-singles.ensures.shown
+    c.in_ok-singles.series.items c.in_ok-singles.ensures.ruled

@@ -1,14 +1,17 @@
-use Rattle.std.proofs.Common.{refl, rules, subst, ◌∙◌, ap}
-use Rattle.room_books.specs.Instants.{IsPartOf}
+use Rattle.std.proofs.Common.{List, refl, rules, subst, ◌∙◌, ap}
+use Rattle.room_books.specs.Instants.{Sheds}
+use Rattle.cal_events.specs.declared.instance.Single.{Single}
 use Rattle.itip_order.specs.Parts.{part_of}
-use Rattle.room_books.specs.Takings.{left_in}
+use Rattle.room_books.specs.Takings.{left_beside}
 use Rattle.room_books.proofs.meeting.Given.left.Goals as goal
 
-pub returns : goal.returns
-returns c = record {
+pub returns-clause-left : goal.returns-clause-left
+returns-clause-left c = record {
   slot = refl;
   moment = refl;
   outcome = search rules;
-  singles = λ history s. c.in_ok-singles.ensures.left history s ∙ ap (left_in history (part_of c.args.part.now)) c.deref.ensures.value;
-  part = subst (IsPartOf c.in_ok-singles.singles.items) c.deref.ensures.value c.in_ok-singles.ensures.part;
+  singles = λ history s. c.in_ok-singles.ensures.left history s ∙ ap (left_beside c.args.slots.now history (part_of c.args.part.now)) c.deref.ensures.value;
 }
+
+pub returns-clause-sheds : goal.returns-clause-sheds
+returns-clause-sheds c = subst (λ (l : List Single). Sheds l c.in_ok-singles.singles.items c.args.gone.now.items c.left_beside.new.gone.items) c.deref.ensures.value c.in_ok-singles.ensures.sheds

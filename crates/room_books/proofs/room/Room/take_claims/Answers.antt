@@ -1,5 +1,10 @@
 -- The claims are a step, and the reply shows what the book after it has.
-use Rattle.std.proofs.Common.{◌<◌, length, arith}
+use Rattle.std.proofs.Common.{◌<◌, ◌∙◌, List, length, ap, subst, arith}
+use Rattle.std.specs.Map.{lookup}
+use Rattle.itip_order.specs.Registers.{StandsFor}
+use Rattle.profile.specs.rooms.Revisions.{Part}
+use Rattle.room_books.specs.Views.{same_key}
+use Rattle.room_books.proofs.PutIn.{lookup_put}
 use Rattle.std.proofs.lemmas.List.{length-map}
 use Rattle.ical_values.specs.Octets.{address_octets}
 use Rattle.room_books.specs.Takings.{claim_said, claims_said, kind_view, octets_in}
@@ -12,6 +17,10 @@ returns-clause-steps c = λ fits book st.
     let claims = claims_said c.args.claims.now in
     let some : 0 < length claims = omega (arith, length-map c.args.claims.now claim_said, c.requires.some) in
     let fit = fits key c.in_ok-key.ensures in
-    claims_step (address_octets c.args.self.now.address) c.args.self.now.meetings.entries c.put.new.self.meetings.entries book key claims c.args.now (kind_view c.in_ok-taken.taken.kind) c.in_ok-taken.taken.meeting
-    (octets_in c.in_ok-reply.reply) c.args.adds (octets_in c.in_ok-refresh.refresh) some st fit (c.in_ok-taken.ensures.after c.in_ok-key.ensures fit book st) c.in_ok-put.ensures.entries c.in_ok-put.ensures.updates.0 (λ own is_own meets. c.in_ok-reply.ensures key own fit is_own meets)
-    c.in_ok-refresh.ensures
+    let es = c.args.self.now.meetings.entries in
+    let put = c.in_ok-put.ensures.put in
+    claims_step (address_octets c.args.self.now.address) es c.put.new.self.meetings.entries book key claims c.args.now (kind_view c.in_ok-answers.field-0.kind) put.meeting
+    (octets_in c.in_ok-answers.field-0.reply) c.args.adds (octets_in c.in_ok-answers.field-0.refresh) some st fit (c.in_ok-answers.ensures.after c.in_ok-key.ensures fit book st put.meeting put.made) put.entries
+    (λ q. ap (lookup (same_key q)) put.entries ∙ lookup_put key q put.meeting es)
+    (λ own is_own meets. c.in_ok-answers.ensures.replies own put.meeting fit is_own put.made meets)
+    (λ before after b a. c.in_ok-answers.ensures.refreshes before after b (subst (λ (l : List Part). StandsFor l after) put.made.held_is a))

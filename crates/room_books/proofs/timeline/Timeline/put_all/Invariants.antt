@@ -4,4 +4,4 @@ use Rattle.room_books.proofs.Changing.{ArePut}
 use Rattle.room_books.proofs.timeline.Timeline.put_all.Given as goal
 
 abbrev pub invariant-loop-single : goal.invariant-loop-single
-invariant-loop-single l = ArePut l.place (drop l.single-index l.singles) l.singles l.single-index l.fn.self l.self
+invariant-loop-single l = ArePut l.place (drop l.single-index l.added) l.added l.single-index l.fn.self l.self

@@ -1,0 +1,57 @@
+-- The sweep through one series.
+use Rattle.std.proofs.Common.{◌≡◌, ◌∙◌, ap, sym, subst, inl, inr, arith, ℤ, ◌<ℤ◌, ◌≤ℤ◌}
+use Rattle.std.specs.Prelude.{Some, ◌≢◌}
+use Rattle.std.proofs.lemmas.Int.{ints}
+use Rattle.profile.specs.checker.Instances.{Key, Booked, horizon}
+use Rattle.profile.specs.events.Meetings.{Meeting}
+use Rattle.cal_events.specs.Calendars.{instance_of}
+use Rattle.cal_events.specs.declared.instance.Instance.{Instance}
+use Rattle.cal_events.specs.declared.instances.Instances.{Instances}
+use Rattle.cal_period.specs.Clear.{IsClear, AreTwo}
+use Rattle.cal_period.specs.Walks.{place_of, IsBehind, Stands, Begins, GoesPast, Meets, MeetsNone}
+use Rattle.cal_period.specs.declared.walk.Walk.{Walk}
+use Rattle.cal_period.proofs.Sweeping.{Share, turned, meets_none, met_behind, met_start, next_is, all_behind}
+
+-- those behind are clear of each other
+pub record IsAloneAt (series : Meeting) (left : Instances) (walk : Walk) : Type 0 where
+  pub stands : Stands series left walk
+  pub clear : (x y : Booked) → IsBehind series (place_of walk.next) x → IsBehind series (place_of walk.next) y → x.key ≢ y.key → Share x y → ⊥
+
+pub alone_first : (series : Meeting) (left : Instances) (walk : Walk) → Begins series left walk → IsAloneAt series left walk
+alone_first series left walk b = record { stands = b.stands; clear = λ x y h k differ s. b.none x h }
+
+module _ (series : Meeting) (left : Instances) (walk : Walk) (at : IsAloneAt series left walk) where
+  pub alone_end : horizon ≤ℤ place_of walk.next → IsClear series
+  alone_end far = λ x y h k differ s. at.clear x y (all_behind series left walk at.stands far x h) (all_behind series left walk at.stands far y k) differ s
+
+  module _ (next : Instance) (is : walk.next ≡ Some next) where
+    pub alone_found : (last : Instance) → Meets walk.last next last → AreTwo series (instance_of last) (instance_of next)
+    alone_found last m =
+        let known = at.stands.known in
+        let own = next_is series left walk next at.stands is in
+        let behind = met_behind series (place_of walk.next) walk.last last at.stands.last m.0 in
+        let before : last.start <ℤ next.start = subst (λ (t : ℤ). last.start <ℤ t) (ap place_of is) behind.1 in
+        record {
+          first = behind.0;
+          second = own;
+          differ = λ e. omega (arith, ints, before, known.slots (instance_of last) behind.0, known.slots (instance_of next) own, ap (λ (k : Key). k.slot) e);
+          shared = met_start last next (omega (arith, ints, before)) (known.dates (instance_of next) own).1 m.1 m.2;
+        }
+
+    pub alone_past : (rest : Instances) (new : Walk) → MeetsNone walk.last next → GoesPast series next walk rest new → IsAloneAt series rest new
+    alone_past rest new none g = record {
+      stands = g.stands;
+      clear = λ x y h k differ s. elim (g.one x h) [
+        | inl was ↦ elim (g.one y k) [
+          | inl were ↦ at.clear x y was were differ s
+          | inr e ↦ never x was (subst (λ (b : Booked). Share x b) e s)
+        ]
+        | inr e ↦ elim (g.one y k) [
+          | inl were ↦ never y were (subst (λ (b : Booked). Share y b) e (turned x y s))
+          | inr f ↦ differ (ap (λ (b : Booked). b.key) (e ∙ sym f))
+        ]
+      ];
+    }
+      where
+        never : (x : Booked) → IsBehind series (place_of walk.next) x → Share x (instance_of next) → ⊥
+        never = meets_none series (place_of walk.next) walk.last next at.stands.last none

@@ -1,0 +1,160 @@
+-- How a walk goes on.
+use Rattle.std.proofs.Common.{◌≡◌, ◌∙◌, ap, sym, subst, inl, inr, ◌⊎◌, ℕ, ◌+◌, arith, ℤ, pos, ◌+ℤ◌, ◌<ℤ◌, ◌≤ℤ◌}
+use Rattle.std.specs.Prelude.{Option, Some, None, ◌↔◌, IfSome, min}
+use Rattle.std.proofs.lemmas.Int.{ints}
+use Rattle.std.proofs.lemmas.List.Elements.{All-contains}
+use Rattle.profile.specs.checker.Instances.{Booked, horizon}
+use Rattle.profile.specs.events.Properties.{first_second}
+use Rattle.profile.specs.events.Meetings.{Meeting}
+use Rattle.profile.specs.events.Starts.{IsInstance, ComesBefore}
+use Rattle.cal_events.specs.Calendars.{instance_of}
+use Rattle.cal_events.specs.Instances.{IsAfter}
+use Rattle.cal_events.specs.Left.{IsLeft, GivesFirst}
+use Rattle.cal_events.specs.SaidMeetings.{said_meeting}
+use Rattle.cal_events.specs.SaidSeries.{AreKnownByStart}
+use Rattle.cal_events.specs.declared.instance.Instance.{Instance}
+use Rattle.cal_events.specs.declared.instances.Bound.{Bound}
+use Rattle.cal_events.specs.declared.instances.Instances.{Instances}
+use Rattle.cal_events.proofs.WholeLists.{order, after_later}
+use Rattle.cal_period.specs.Walks.{place_of, AreAllLeft, IsBehind, IsLast, Stands, Begins, GoesPast, EndsLater}
+use Rattle.cal_period.specs.declared.walk.Walk.{Walk}
+use Rattle.cal_period.proofs.Counts.{count_none, count_past, earlier}
+
+-- of a series in which those from an instant on were left, one more was given
+record Advances (series : Meeting) (from : ℤ) (found : Option Instance) (new : Instances) : Type 0 where
+  next : IfSome found (λ i. IsInstance series (instance_of i))
+  rest : (b : Booked) → IsLeft new b ↔ (IsInstance series b × (place_of found <ℤ b.start))
+  further : from ≤ℤ place_of found
+  none : (b : Booked) → IsInstance series b → from ≤ℤ b.start → place_of found ≤ℤ b.start
+
+not_less : (x y : ℤ) → (y <ℤ x → ⊥) → x ≤ℤ y
+not_less x y h = elim (order x y) [
+  | inl l ↦ omega (arith, ints, l)
+  | inr o ↦ elim o [ inl e ↦ omega (arith, ints, e) | inr l ↦ absurd (h l) ]
+]
+
+module _ (series : Meeting) (known : AreKnownByStart series) (from : ℤ) (early : from ≤ℤ horizon) (old new : Instances) (left : (b : Booked) → IsLeft old b ↔ (IsInstance series b × (from ≤ℤ b.start))) where
+  module _ (i : Instance) (given : GivesFirst old (Some i) new) where
+    abbrev it : Booked
+    it = instance_of i
+
+    is_one : IsInstance series it
+    is_one = ((left it).0 given.1.0).0
+
+    late : from ≤ℤ i.start
+    late = ((left it).0 given.1.0).1
+
+    left_then : (b : Booked) → IsLeft new b → IsInstance series b × (i.start <ℤ b.start)
+    left_then b (is, after) =
+        let behind : ComesBefore it b = subst (λ (x : Bound). IsAfter x b.start b.key.slot) given.1.2 after in
+        let own = ((left b).0 (subst (λ e. IsInstance (said_meeting e.now) b) given.0 is, after_later old.after it b given.1.0.1 behind)).0 in
+        (own, earlier series known it b is_one own behind)
+
+    still_left : (b : Booked) → IsInstance series b × (i.start <ℤ b.start) → IsLeft new b
+    still_left b (is, far) = (
+      subst (λ e. IsInstance (said_meeting e.now) b) (sym given.0) ((left b).1 (is, omega (arith, ints, far, late))).0,
+      subst (λ (x : Bound). IsAfter x b.start b.key.slot) (sym given.1.2) (inl far),
+    )
+
+    advance_one : Advances series from (Some i) new
+    advance_one = record {
+      next = is_one;
+      rest = λ b. (left_then b, still_left b);
+      further = late;
+      none = λ b is l. not_less i.start b.start (λ less. given.1.1 b ((left b).1 (is, l)) (inl less));
+    }
+
+  none_left : GivesFirst old None new → (b : Booked) → IsLeft new b → IsInstance series b × (horizon <ℤ b.start)
+  none_left given b (is, after) =
+      absurd (given.1.0 b (subst (λ e. IsInstance (said_meeting e.now) b) given.0 is, subst (λ (x : Bound). IsAfter x b.start b.key.slot) given.1.1 after))
+
+  advance : (found : Option Instance) → GivesFirst old found new → Advances series from found new
+  advance None given = record {
+    next = tt;
+    rest = λ b. (none_left given b, λ h. absurd (omega (arith, ints, h.1, (known.dates b h.0).1)));
+    further = early;
+    none = λ b is l. absurd (given.1.0 b ((left b).1 (is, l)));
+  }
+  advance (Some i) given = advance_one i given
+
+-- ---- at the first instance
+
+pub at_first : (series : Meeting) (old new : Instances) (first : Option Instance) → AreKnownByStart series → AreAllLeft series old → GivesFirst old first new
+    → Begins series new (record { next = first; last = None; count = 0 })
+at_first series old new first known all given =
+    let a = advance series known first_second (omega (arith, ints)) old new (λ b. ((λ l. let is = (all b).0 l in (is, (known.dates b is).0)), λ h. (all b).1 h.0)) first given in
+    let none = λ (b : Booked) (h : IsBehind series (place_of first) b). absurd (omega (arith, ints, h.1, a.none b h.0 (known.dates b h.0).0)) in
+    record {
+      stands = record {
+        known = known;
+        next = a.next;
+        rest = a.rest;
+        last = none;
+        count = λ xs are.
+            let zero = count_none (place_of first) xs (λ y c. let e = All-contains (λ (b : Booked). IsInstance series b × (first_second ≤ℤ b.start)) xs y are.each c in a.none y e.0 e.1) in
+            omega (arith, zero);
+      };
+      none = none;
+    }
+
+-- ---- past one instance
+
+module _ (series : Meeting) (old new : Instances) (walk : Walk) (s : Stands series old walk) (next : Instance) (is : walk.next ≡ Some next) (after : Option Instance) (given : GivesFirst old after new) where
+  abbrev here : ℤ
+  here = place_of walk.next
+
+  starts : here ≡ next.start
+  starts = ap place_of is
+
+  one : IsInstance series (instance_of next)
+  one = subst (λ (o : Option Instance). IfSome o (λ i. IsInstance series (instance_of i))) is s.next
+
+  there : Advances series (here +ℤ pos 1) after new
+  there =
+      advance series s.known (here +ℤ pos 1) (let d = (s.known.dates (instance_of next) one).1 in omega (arith, ints, d, starts)) old new
+      (λ b. ((λ l. let r = (s.rest b).0 l in (r.0, omega (arith, ints, r.1))), λ h. (s.rest b).1 (h.0, omega (arith, ints, h.1)))) after given
+
+  -- what is behind was behind, or is that one
+  was : (b : Booked) → IsBehind series (place_of after) b → IsBehind series here b ⊎ (b ≡ instance_of next)
+  was b h = elim (order b.start here) [
+    | inl l ↦ inl (h.0, l)
+    | inr o ↦ elim o [
+      | inl e ↦ inr (s.known.one b (instance_of next) h.0 one (e ∙ starts))
+      | inr l ↦ absurd (omega (arith, ints, h.1, there.none b h.0 (omega (arith, ints, l))))
+    ]
+  ]
+
+  ends_before : (last : Option Instance) (later : Instance) → IsLast series here last → IfSome last (λ l. l.end ≤ℤ later.end) → (b : Booked) → IsBehind series here b → b.end ≤ℤ later.end
+  ends_before None later l e b h = absurd (l b h)
+  ends_before (Some x) later l e b h = omega (arith, ints, l.1 b h, e)
+
+  later_behind : (last : Option Instance) (later : Instance) → IsLast series here last → (last ≡ Some later) ⊎ (later ≡ next) → IsBehind series (place_of after) (instance_of later)
+  later_behind last later l (inl e) =
+      let h = (subst (IsLast series here) e l).0 in (h.0, omega (arith, ints, h.1, there.further))
+  later_behind last later l (inr e) =
+      subst (λ (i : Instance). IsBehind series (place_of after) (instance_of i)) (sym e) (one, omega (arith, ints, starts, there.further))
+
+  pub gone_past : (later : Instance) (count : ℕ) → EndsLater walk.last next later → count ≡ min (walk.count + 1) 18446744073709551615
+      → GoesPast series next walk new (record { next = after; last = Some later; count = count })
+  gone_past later count ends counted = record {
+    stands = record {
+      known = s.known;
+      next = there.next;
+      rest = there.rest;
+      last = (
+        later_behind walk.last later s.last ends.one,
+        λ b h. elim (was b h) [
+          | inl old ↦ ends_before walk.last later s.last ends.than_old b old
+          | inr same ↦ subst (λ (x : Booked). x.end ≤ℤ later.end) (sym same) ends.than_next
+        ],
+      );
+      count = λ xs are.
+          let more = count_past series s.known here (place_of after) (instance_of next) xs (sym starts) (omega (arith, ints, there.further))
+          (λ b h l. there.none b h (omega (arith, ints, l)))
+          (λ y c. (All-contains (λ (b : Booked). IsInstance series b × (first_second ≤ℤ b.start)) xs y are.each c).0) are.ordered (are.all (instance_of next) one (s.known.dates (instance_of next) one).0) in
+          let before = s.count xs are in
+          omega (arith, more, before, counted);
+    };
+    further = omega (arith, ints, there.further);
+    one = was;
+  }

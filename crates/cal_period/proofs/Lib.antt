@@ -1,0 +1,5 @@
+pub mod Counts
+pub mod Going
+pub mod Sweeping
+pub mod Alone
+pub mod Pairs

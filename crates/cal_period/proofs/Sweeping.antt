@@ -1,0 +1,129 @@
+-- How a sweep goes on.
+use Rattle.std.proofs.Common.{◌≡◌, subst, refl, inl, inr, ℕ, ◌<◌, arith, ℤ, pos, negsuc, ◌-ℤ◌, ◌<ℤ◌, ◌≤ℤ◌, unsigned_abs, true, false, to_z, of_z, to_z-of_z, w64, FitsSigned}
+use Rattle.std.specs.Prelude.{Option, Some, None, ◌↔◌, IfSome, int_lt, int_le}
+use Rattle.std.proofs.lemmas.Int.{ints}
+use Rattle.std.proofs.lemmas.List.Elements.{All-contains}
+use Rattle.std.proofs.lemmas.List.Sums.{count_by-le-length}
+use Rattle.profile.specs.checker.Instances.{Booked, horizon}
+use Rattle.profile.specs.events.Properties.{first_second}
+use Rattle.profile.specs.events.Meetings.{Meeting}
+use Rattle.profile.specs.events.Starts.{IsInstance, SharesInstant}
+use Rattle.cal_events.specs.Calendars.{instance_of}
+use Rattle.cal_events.specs.Left.{IsLeft}
+use Rattle.cal_events.specs.SaidSeries.{AreKnownByStart}
+use Rattle.cal_events.specs.declared.instance.Instance.{Instance}
+use Rattle.cal_events.specs.declared.instances.Instances.{Instances}
+use Rattle.cal_period.specs.Clear.{ShareStart}
+use Rattle.cal_period.specs.Swept.{IsCountOf, IsAtMost}
+use Rattle.cal_period.specs.Walks.{place_of, AreAllLeft, IsBehind, IsLast, Stands, MeetsNone}
+use Rattle.cal_period.specs.declared.walk.Walk.{Walk}
+use Rattle.cal_period.proofs.Counts.{count_all}
+
+-- ---- two instances
+
+abbrev pub Share : Booked → Booked → Type 0
+Share x y = SharesInstant x.start x.end y.start y.end
+
+pub turned : (x y : Booked) → Share x y → Share y x
+turned x y s = record { instant = s.instant; before = s.before; in_first = s.in_second; in_second = s.in_first }
+
+pub start_turned : (x y : Booked) → ShareStart x y → ShareStart y x
+start_turned x y s = record {
+  instant = s.instant;
+  starts = elim s.starts [ inl e ↦ inr e | inr e ↦ inl e ];
+  before = s.before;
+  in_first = s.in_second;
+  in_second = s.in_first;
+}
+
+-- an instance shares nothing with what is behind where it doesn't with the one that ends last
+pub meets_none : (series : Meeting) (place : ℤ) (last : Option Instance) (other : Instance) → IsLast series place last → MeetsNone last other
+    → (x : Booked) → IsBehind series place x → Share x (instance_of other) → ⊥
+meets_none series place None other l m x h s = l x h
+meets_none series place (Some z) other l (inl none) x h s = omega (arith, ints, none, s.in_second)
+meets_none series place (Some z) other l (inr over) x h s = omega (arith, ints, over, l.1 x h, s.in_first, s.in_second)
+
+-- and the one that ends last is behind
+pub met_behind : (series : Meeting) (place : ℤ) (last : Option Instance) (z : Instance) → IsLast series place last → last ≡ Some z → IsBehind series place (instance_of z)
+met_behind series place last z l e = (subst (IsLast series place) e l).0
+
+pub met_start : (z other : Instance) → z.start ≤ℤ other.start → other.start <ℤ horizon → other.start <ℤ other.end → other.start <ℤ z.end → ShareStart (instance_of z) (instance_of other)
+met_start z other early before long going = record {
+  instant = other.start;
+  starts = inr refl;
+  before = before;
+  in_first = (early, going);
+  in_second = (omega (arith, ints), long);
+}
+
+-- ---- a walk
+
+-- what the walk begins with
+pub all_left : (series : Meeting) (from : ℤ) (left : Instances) → AreKnownByStart series → from ≤ℤ first_second → ((b : Booked) → IsLeft left b ↔ (IsInstance series b × (from ≤ℤ b.start))) → AreAllLeft series left
+all_left series from left known early h b = (
+  (λ l. ((h b).0 l).0),
+  λ is. (h b).1 (is, let d = (known.dates b is).0 in omega (arith, ints, d, early)),
+)
+
+pub next_is : (series : Meeting) (left : Instances) (walk : Walk) (next : Instance) → Stands series left walk → walk.next ≡ Some next → IsInstance series (instance_of next)
+next_is series left walk next s e = subst (λ (o : Option Instance). IfSome o (λ i. IsInstance series (instance_of i))) e s.next
+
+pub place_within : (series : Meeting) (left : Instances) (walk : Walk) → Stands series left walk → place_of walk.next ≤ℤ horizon
+place_within series left walk s = go walk.next s.next
+  where
+    go : (next : Option Instance) → IfSome next (λ i. IsInstance series (instance_of i)) → place_of next ≤ℤ horizon
+    go None h = omega (arith, ints)
+    go (Some i) h = let d = (s.known.dates (instance_of i) h).1 in omega (arith, ints, d)
+
+pub none_is : (next : Option Instance) → ((i : Instance) → next ≡ Some i → ⊥) → next ≡ None
+none_is None h = refl
+none_is (Some i) h = absurd (h i refl)
+
+-- at its end all are behind
+pub all_behind : (series : Meeting) (left : Instances) (walk : Walk) → Stands series left walk → horizon ≤ℤ place_of walk.next → (x : Booked) → IsInstance series x → IsBehind series (place_of walk.next) x
+all_behind series left walk s far x is = (is, let d = (s.known.dates x is).1 in omega (arith, ints, d, far))
+
+-- and all are counted
+pub all_counted : (series : Meeting) (left : Instances) (walk : Walk) → Stands series left walk → horizon ≤ℤ place_of walk.next → IsCountOf series walk.count
+all_counted series left walk s far xs are =
+    let n = s.count xs are in
+    let all = count_all (place_of walk.next) xs (λ y c. (all_behind series left walk s far y (All-contains (λ (b : Booked). IsInstance series b × (first_second ≤ℤ b.start)) xs y are.each c).0).1) in
+    omega (arith, n, all)
+
+-- never more
+pub some_counted : (series : Meeting) (left : Instances) (walk : Walk) → Stands series left walk → IsAtMost series walk.count
+some_counted series left walk s xs are =
+    let n = s.count xs are in
+    let most = count_by-le-length (λ (b : Booked). int_lt b.start (place_of walk.next)) xs in
+    omega (arith, n, most)
+
+-- how far it is to the horizon
+abbrev pub steps_left : Walk → ℕ
+steps_left walk = unsigned_abs (horizon -ℤ place_of walk.next)
+
+abs_is : (d : ℤ) → pos 0 ≤ℤ d → pos (unsigned_abs d) ≡ d
+abs_is (pos n) h = refl
+abs_is (negsuc n) h = absurd (omega (arith, ints, h))
+
+pub fewer_left : (series : Meeting) (left : Instances) (old new : Walk) → Stands series left new → place_of old.next <ℤ place_of new.next → steps_left new < steps_left old
+fewer_left series left old new s further =
+    let within = place_within series left new s in
+    let a = abs_is (horizon -ℤ place_of new.next) (omega (arith, ints, within)) in
+    let b = abs_is (horizon -ℤ place_of old.next) (omega (arith, ints, within, further)) in
+    omega (arith, ints, a, b, further)
+
+-- ---- two places
+
+pub place_before : (p q x y : ℤ) → FitsSigned w64 p → FitsSigned w64 q → p ≡ x → q ≡ y → int_le (to_z w64 (of_z w64 p)) (to_z w64 (of_z w64 q)) ≡ true → x ≤ℤ y
+place_before p q x y f g d e h =
+    let a : to_z w64 (of_z w64 p) ≡ p = to_z-of_z f in
+    let b : to_z w64 (of_z w64 q) ≡ q = to_z-of_z g in
+    let l = rw (a, b) at h in
+    grind (arith, ints, l, d, e)
+
+pub place_after : (p q x y : ℤ) → FitsSigned w64 p → FitsSigned w64 q → p ≡ x → q ≡ y → int_le (to_z w64 (of_z w64 p)) (to_z w64 (of_z w64 q)) ≡ false → y <ℤ x
+place_after p q x y f g d e h =
+    let a : to_z w64 (of_z w64 p) ≡ p = to_z-of_z f in
+    let b : to_z w64 (of_z w64 q) ≡ q = to_z-of_z g in
+    let l = rw (a, b) at h in
+    grind (arith, ints, l, d, e)

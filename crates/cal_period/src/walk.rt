@@ -1,0 +1,79 @@
+//! A walk through the instances of a series, by start. Of those behind it remembers the one that ends last.
+ghost use Rattle.std.specs.Prelude.{◌≡◌, Option, Some, IfSome, IfNone};
+ghost use Rattle.profile.specs.events.Meetings.{Meeting};
+ghost use Rattle.cal_events.specs.Left.{GivesFirst};
+ghost use Rattle.cal_events.specs.SaidSeries.{AreKnownByStart};
+ghost use Rattle.cal_events.specs.declared.instances.Instances.{Instances};
+ghost use Rattle.cal_period.specs.Walks.{place_of, AreAllLeft, Begins, Stands, GoesPast, MeetsNone, Meets, EndsLater};
+
+use cal_events::{HORIZON, Instance};
+
+/// How far a series was walked through.
+#[derive(Clone, Copy)]
+pub(crate) struct Walk<'a> {
+    /// The first of its instances that is still to come; None where all are behind.
+    pub(crate) next: Option<Instance<'a>>,
+    /// Of those behind the one that ends last.
+    last: Option<Instance<'a>>,
+    /// How many are behind, 2^64-1 at most.
+    pub(crate) count: u64,
+}
+
+impl<'a> Walk<'a> {
+    /// A walk that stands at the first instance.
+    pub(crate) fn to(first: Option<Instance<'a>>) -> Walk<'a>
+        ensures { (series : Meeting) (old new : Instances) → AreKnownByStart series → AreAllLeft series old
+            → GivesFirst old first.entry new → Begins series new result }
+    {
+        Walk {
+            next: first,
+            last: None,
+            count: 0,
+        }
+    }
+
+    /// Where it stands: at the start of its next instance, or at the horizon where there is none.
+    pub(crate) fn place(&self) -> i64
+        ensures { result ≡ place_of self.now.next }
+    {
+        match self.next {
+            Some(next) => next.start,
+            None => HORIZON,
+        }
+    }
+
+    /// The instance behind it that is still going on when another starts, if there is one. An instance of no length starts in none.
+    pub(crate) fn met_by(&self, other: Instance<'_>) -> Option<Instance<'a>>
+        ensures meets { IfSome result (Meets self.now.last other.entry) }
+        ensures none { IfNone result (MeetsNone self.now.last other.entry) }
+    {
+        let last = self.last?;
+        if other.end <= other.start || last.end <= other.start {
+            return None;
+        }
+        Some(last)
+    }
+
+    /// Past its next instance, where another comes after that.
+    pub(crate) fn past(&self, next: Instance<'a>, after: Option<Instance<'a>>) -> Walk<'a>
+        requires { self.now.next ≡ Some next }
+        ensures { (series : Meeting) (old new : Instances) → Stands series old self.now → GivesFirst old after.entry new
+            → GoesPast series next.entry self.now new result }
+    {
+        Walk {
+            next: after,
+            last: Some(later_end(self.last, next)),
+            count: self.count.saturating_add(1),
+        }
+    }
+}
+
+/// The one of two instances that ends last, where there are two.
+fn later_end<'a>(last: Option<Instance<'a>>, next: Instance<'a>) -> Instance<'a>
+    ensures { EndsLater last.entry next.entry result }
+{
+    match last {
+        Some(last) if last.end >= next.end => last,
+        _ => next,
+    }
+}
