@@ -81,6 +81,16 @@ RRULE:{rule}
 END:VEVENT
 END:VCALENDAR
 """
+ENDLESS = """BEGIN:VEVENT
+UID:series-{number}@example.com
+DTSTAMP:20250101T000000Z
+ORGANIZER:mailto:ann@example.com
+ATTENDEE;PARTSTAT=ACCEPTED:{room}
+DTSTART{start}
+DURATION:PT1H
+RRULE:{rule}
+END:VEVENT
+"""
 NEW_YORK = """BEGIN:VTIMEZONE
 TZID:America/New_York
 BEGIN:STANDARD
@@ -265,6 +275,24 @@ def calendar_of_days(count):
     yield crlf("END:VCALENDAR\n")
 
 
+def endless(rules, zone=""):
+    """A calendar of endless series, each an hour long, and each begins an hour after the one before."""
+    yield crlf("BEGIN:VCALENDAR\nVERSION:2.0\nPRODID:-//bench//EN\n" + zone)
+    for number, rule in enumerate(rules):
+        start = f";TZID=America/New_York:20250106T{9 + number:02}0000" if zone else f":20250106T{9 + number:02}0000Z"
+        yield crlf(ENDLESS.format(number=number, room=ROOM.format(0), start=start, rule=rule))
+    yield crlf("END:VCALENDAR\n")
+
+
+def beside_a_series(count):
+    """So many singles at noon, one a day, beside an endless daily series."""
+    yield from list(endless(["FREQ=DAILY"]))[:-1]
+    for number in range(count):
+        start = (datetime(2025, 1, 6, 12) + timedelta(days=number)).strftime("%Y%m%dT%H%M%SZ")
+        yield crlf(EVENT.format(number=number, room=ROOM.format(0), start=start))
+    yield crlf("END:VCALENDAR\n")
+
+
 def run(words, stream, folder=None):
     """Seconds, peak octets and output of one run, in a folder."""
     with tempfile.TemporaryFile() as output:
@@ -287,14 +315,20 @@ def serve(program, pieces, accepted):
     return seconds, peak, size
 
 
-def check(program, pieces, count):
-    """The checker's yes to a calendar of so many singles."""
+def certificate_of(singles, series):
+    """The certificate of a calendar of so many singles and series."""
+    pairs = "".join(f"PAIR {i} {j} END\n" for i in range(1, series + 1) for j in range(i, series + 1))
+    return f"ROOMCERT 1\nSINGLES {singles}\nSERIES {series}\n{pairs}DONE\n"
+
+
+def check(program, pieces, singles, series=0):
+    """The checker's yes to a calendar of so many singles and series."""
     with tempfile.TemporaryDirectory() as folder:
         kept, certificate = os.path.join(folder, "kept.ics"), os.path.join(folder, "kept.cert")
         with open(kept, "wb") as file:
             size = sum(file.write(piece) for piece in pieces)
         with open(certificate, "w", encoding="ascii") as file:
-            file.write(f"ROOMCERT 1\nSINGLES {count}\nSERIES 0\nDONE\n")
+            file.write(certificate_of(singles, series))
         seconds, peak, status, output = run([program, "check", kept, certificate, ROOM.format(0)], None)
     if (status, output) != (0, b"yes\n"):
         sys.exit(f"check: status {status}, {output!r}")
@@ -451,6 +485,10 @@ def main():
     grown("singles checked", (100_000, 1_000_000), lambda count: check(program, calendar(count), count), "octets")
     days = lambda count: check(program, calendar_of_days(count), count * (DAYS - 1))
     grown(f"meetings of {DAYS} days checked", (10_000, 100_000), days, "octets")
+    grown("pairs of two endless daily series", (3,), lambda _: check(program, endless(["FREQ=DAILY"] * 2), 0, 2), None)
+    grown("the same in New York", (3,), lambda _: check(program, endless(["FREQ=DAILY"] * 2, NEW_YORK), 0, 2), None)
+    grown("pairs of 8 endless weekly series", (36,), lambda _: check(program, endless(["FREQ=WEEKLY"] * 8), 0, 8), None)
+    grown("singles beside an endless daily series", (1_000, 10_000), lambda count: check(program, beside_a_series(count), count, 1), None)
     for work, start, rule in RULES:
         grown(work, (9_500, 95_000), lambda count: in_utc(program, start, rule, count), None)
     grown("instances of a day each in New York", (9_500, 95_000), lambda count: in_new_york(program, count), None)

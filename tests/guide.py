@@ -316,9 +316,24 @@ def times_in_zones(cases, program):
     cases.holds("and how many", run(program, "keep", "--certificate", R1, given=stream)[1], "ROOMCERT 1\nSINGLES 4\nSERIES 0\nDONE\n")
 
 
+def numbers_of_guide():
+    """The numbers in the tables of docs/PROFILE.md, of refusals and of the checker's no."""
+    text = (Path(__file__).resolve().parent.parent / "docs" / "PROFILE.md").read_text(encoding="utf-8")
+    rows = [line.split("|")[1] for line in text.splitlines() if line.startswith("| ") and line.count("|") == 4]
+    return {int(word) for row in rows for word in row.replace(" and a number", "").replace(" and two numbers", "").replace(",", " ").split() if word.isdigit()}
+
+
+def explained(cases, program):
+    known = numbers_of_guide()
+    cases.holds("the numbers of the guide are explained", {n for n in range(256) if run(program, "explain", str(n))[0] == 0}, known)
+    cases.holds("a line for each begins with its number", [n for n in sorted(known) if not run(program, "explain", str(n))[1].startswith(f"{n}: ")], [])
+    cases.holds("another number is a usage fault", run(program, "explain", "44")[:2], (2, ""))
+    cases.holds("so is a word", run(program, "explain", "no")[:2], (2, ""))
+
+
 def main():
     program, cases = str(Path(sys.argv[1]).resolve()), Cases()
-    for part in (preambles, decisions, instances, added, replies, refusals, kept, zones, times_in_zones):
+    for part in (preambles, decisions, instances, added, replies, refusals, kept, zones, times_in_zones, explained):
         part(cases, program)
     print(f"{cases.count} cases, {cases.failed} failed")
     return 1 if cases.failed else 0

@@ -34,6 +34,7 @@ pub mod OwnSingles
 pub mod SeriesLemmas
 pub mod DraftLemmas
 pub mod ConfirmedLemmas
+pub mod CalendarKeys
 pub mod PlainSingles
 pub mod ClashLemmas
 pub mod Distinct

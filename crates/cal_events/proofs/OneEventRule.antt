@@ -11,7 +11,7 @@ use Rattle.profile.specs.series.Rules.{Parts, RuleText, Until, UntilDay, UntilLo
 use Rattle.profile.specs.series.RuleTexts.{SpellsRule, RuleFault}
 use Rattle.profile.specs.series.Zones.{Zone, IsOneMeaning, NoneFrom, IsLastDay}
 use Rattle.profile.specs.events.ZonedTimes.{SaysZonedTime, clock_of, is_in_zone, first_local, EventTimes, SaysEventTimes, SaysTimes}
-use Rattle.profile.specs.events.EventRules.{IsLastAllowed, AllowsNone, IsOnDay, GivesRule, IsRuleLine, SaysEventRule, IsOutside, EventRuleFault, bad_rule, starts_outside, two_rules}
+use Rattle.profile.specs.events.EventRules.{as_end, IsLastAllowed, AllowsNone, IsOnDay, GivesRule, IsRuleLine, SaysEventRule, IsOutside, EventRuleFault, bad_rule, starts_outside, two_rules}
 use Rattle.ical_tree.proofs.OneLine.{IsFunctional, only_line}
 use Rattle.cal_events.proofs.OneTimes.{Lines, OneZonedTime, OneDuration, at_most_one, clock_one, one_times_by, clock_by, none_there}
 use Rattle.cal_events.proofs.Said.{same_said, said_by}
@@ -35,8 +35,8 @@ same_last : (zone : Zone) (second : ℕ) → IsOneMeaning zone → (u : Option U
 same_last zone second one None a b h k = h ∙ sym k
 same_last zone second one (Some (UntilDay number)) a b h k = h ∙ sym k
 same_last zone second one (Some (UntilLocal local)) a b (t, means, h) (v, meant, k) =
-    same_last_day zone second t a b h (subst (λ (i : ℤ). IsLastDay zone second i b) (one local v t meant means) k)
-same_last zone second one (Some (UntilInstant instant)) a b h k = same_last_day zone second instant a b h k
+    same_last_day zone second (as_end t) a b h (subst (λ (i : ℤ). IsLastDay zone second (as_end i) b) (one local v t meant means) k)
+same_last zone second one (Some (UntilInstant instant)) a b h k = same_last_day zone second (as_end instant) a b h k
 
 -- where a day from 0001-01-01 on is the last one, some are allowed
 none_left : (zone : Zone) (second : ℕ) (until : ℤ) (last : ℕ) → 366 ≤ last → NoneFrom zone second until 366 → IsLastDay zone second until last → ⊥
@@ -46,8 +46,8 @@ not_none : (zone : Zone) (second : ℕ) → IsOneMeaning zone → (u : Option Un
 not_none zone second one None last from h k = k
 not_none zone second one (Some (UntilDay number)) last from h k = k
 not_none zone second one (Some (UntilLocal local)) last from (t, means, h) (v, meant, k) =
-    none_left zone second t last from (subst (λ (i : ℤ). NoneFrom zone second i 366) (one local v t meant means) k) h
-not_none zone second one (Some (UntilInstant instant)) last from h k = none_left zone second instant last from k h
+    none_left zone second (as_end t) last from (subst (λ (i : ℤ). NoneFrom zone second (as_end i) 366) (one local v t meant means) k) h
+not_none zone second one (Some (UntilInstant instant)) last from h k = none_left zone second (as_end instant) last from k h
 
 -- ---- one rule
 

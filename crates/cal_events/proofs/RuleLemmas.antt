@@ -5,7 +5,7 @@ use Rattle.profile.specs.events.Events.{may_lack_start}
 use Rattle.cal_events.specs.Events.{has_unread_for, method_read}
 use Rattle.cal_events.specs.declared.component.Purpose.TheVariants.{Request, Add, Cancel, Meeting}
 use Rattle.cal_events.specs.declared.component.Purpose.{Purpose}
-use Rattle.std.proofs.Common.{◌≡◌, ℕ, true, false, List, codes, sym, ap, refl, subst, inr, ℤ, pos, arith, ◌∙◌, cond, length, true≢false, [], ◌∷◌}
+use Rattle.std.proofs.Common.{◌≡◌, ℕ, Bool, true, false, List, codes, sym, ap, refl, subst, inr, ℤ, pos, ◌-ℤ◌, to_z, of_z, w64, arith, ◌∙◌, cond, length, true≢false, [], ◌∷◌}
 use Rattle.std.specs.Prelude.{Option, Some, None, Result, Ok, Err, IfOk, IfErr, IfSome, IsSome, MatchOption, ◌↔◌}
 use Rattle.std.proofs.lemmas.Bool.{false≢true, or_parts}
 use Rattle.ical_lines.specs.Fault.{RefusesBy}
@@ -13,13 +13,17 @@ use Rattle.ical_lines.specs.declared.fault.Fault.{Fault}
 use Rattle.ical_lines.specs.declared.fault.Fault.TheVariants.{Refused}
 use Rattle.profile.specs.series.Days.{day_index, number_of_day, IsDayDate, days_before_year, days_of_months}
 use Rattle.profile.specs.text.Lines.{line_value}
+use Rattle.profile.specs.text.Values.{IsClockSeconds}
 use Rattle.profile.specs.text.Trees.{Tree}
 use Rattle.profile.specs.series.Rules.{Parts, RuleText, Until, UntilLocal, UntilInstant, rule_of, is_rule_day}
 use Rattle.profile.specs.series.RuleTexts.{SpellsRule}
-use Rattle.profile.specs.series.Zones.{Zone, Means, NoneFrom, IsLastDay}
-use Rattle.profile.specs.events.Properties.{StandsAtMostOnce, Says, BothOrNeither, IsMissing, is_of, lines_named}
+use Rattle.std.specs.Int.Signed.{lt_z}
+use Rattle.std.proofs.lemmas.Int.{ints}
+use Rattle.profile.specs.checker.Instances.{horizon}
+use Rattle.profile.specs.series.Zones.{Zone, Means, NoneFrom, IsLastDay, IsNearEpoch}
+use Rattle.profile.specs.events.Properties.{first_second, StandsAtMostOnce, Says, BothOrNeither, IsMissing, is_of, lines_named}
 use Rattle.profile.specs.events.ZonedTimes.{clock_of, EventTimes, SaysEventTimes}
-use Rattle.profile.specs.events.EventRules.{IsLastAllowed, AllowsNone, IsOnDay, GivesRule, IsOutside, StartsOutside, EventRuleFault, starts_outside}
+use Rattle.profile.specs.events.EventRules.{as_end, IsLastAllowed, AllowsNone, IsOnDay, GivesRule, IsOutside, StartsOutside, EventRuleFault, starts_outside}
 use Rattle.cal_events.specs.Zoned.{IsRuleText}
 use Rattle.cal_events.proofs.EventLemmas.{some_line}
 
@@ -41,20 +45,38 @@ without_until zone second until r e found value = subst (λ (u : Option Until). 
     go (Some d) found value = ap day_index value ∙ last_of_9999
 
 pub local_until : (zone : Zone) (second : ℕ) (until : Option Until) (r : Option ℤ) (local t : ℤ) → until ≡ Some (UntilLocal local) → Means zone local t
-    → MatchOption r (NoneFrom zone second t 366) (λ day. IsLastDay zone second t (day_index day)) → IsFound zone second until r
+    → MatchOption r (NoneFrom zone second (as_end t) 366) (λ day. IsLastDay zone second (as_end t) (day_index day)) → IsFound zone second until r
 local_until zone second until r local t e means h = subst (λ (u : Option Until). IsFound zone second u r) (sym e) (go r h)
   where
-    go : (r : Option ℤ) → MatchOption r (NoneFrom zone second t 366) (λ day. IsLastDay zone second t (day_index day)) → IsFound zone second (Some (UntilLocal local)) r
+    go : (r : Option ℤ) → MatchOption r (NoneFrom zone second (as_end t) 366) (λ day. IsLastDay zone second (as_end t) (day_index day)) → IsFound zone second (Some (UntilLocal local)) r
     go None h = (t, means, h)
     go (Some day) h = (t, means, h)
 
 pub instant_until : (zone : Zone) (second : ℕ) (until : Option Until) (r : Option ℤ) (t : ℤ) → until ≡ Some (UntilInstant t)
-    → MatchOption r (NoneFrom zone second t 366) (λ day. IsLastDay zone second t (day_index day)) → IsFound zone second until r
+    → MatchOption r (NoneFrom zone second (as_end t) 366) (λ day. IsLastDay zone second (as_end t) (day_index day)) → IsFound zone second until r
 instant_until zone second until r t e h = subst (λ (u : Option Until). IsFound zone second u r) (sym e) (go r h)
   where
-    go : (r : Option ℤ) → MatchOption r (NoneFrom zone second t 366) (λ day. IsLastDay zone second t (day_index day)) → IsFound zone second (Some (UntilInstant t)) r
+    go : (r : Option ℤ) → MatchOption r (NoneFrom zone second (as_end t) 366) (λ day. IsLastDay zone second (as_end t) (day_index day)) → IsFound zone second (Some (UntilInstant t)) r
     go None h = h
     go (Some day) h = h
+
+-- ---- where UNTIL ends
+
+end_near : (t : ℤ) → IsNearEpoch t → IsNearEpoch (as_end t)
+end_near t near = by (lt_z t first_second) (lt_z t horizon)
+  where
+    by : (a b : Bool) → IsNearEpoch (cond a (first_second -ℤ pos 1) (cond b t (horizon -ℤ pos 1)))
+    by true b = (omega (arith, ints), omega (arith, ints))
+    by false true = near
+    by false false = (omega (arith, ints), omega (arith, ints))
+
+pub until_said : (t r : ℤ) → IsNearEpoch t → r ≡ as_end (to_z w64 (of_z w64 t)) → to_z w64 (of_z w64 r) ≡ as_end t
+until_said t r near e =
+    let same : to_z w64 (of_z w64 t) ≡ t = omega (arith, ints, near) in
+    ap (λ x. to_z w64 (of_z w64 x)) (e ∙ ap as_end same) ∙ (let n = end_near t near in omega (arith, ints, n))
+
+pub stamp_near : (t : ℤ) → IsClockSeconds t → IsNearEpoch t
+stamp_near t h = (omega (arith, ints, h.0), omega (arith, ints, h.1))
 
 -- ---- the rule
 

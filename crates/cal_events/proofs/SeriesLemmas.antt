@@ -4,6 +4,7 @@ use Rattle.std.specs.Prelude.{Option, Some, None, Contains, is_some, option_map}
 use Rattle.std.specs.List.{AllZip}
 use Rattle.std.specs.List.Sorted.{IsPermutation}
 use Rattle.std.proofs.lemmas.Bool.{false≢true}
+use Rattle.std.proofs.lemmas.Option.{same_Some}
 use Rattle.std.proofs.lemmas.Int.{ints}
 use Rattle.std.proofs.lemmas.List.{get_or_default}
 use Rattle.std.proofs.lemmas.List.Elements.{All-contains, Contains-append_left, Contains-append_right}
@@ -206,3 +207,13 @@ at_its_start event r a h =
     let is = alone_said event r.1.1 m.0 m.1 in
     let x = at_start (event_of m.0) a (subst (λ (w : Whole). IsInstance w a) is h) in
     (ap (λ (k : Key). k.slot) x.key, x.starts.in_dates)
+
+-- their keys are the master's, at their starts
+pub key_of_start : (event : declared.Event) → IsRuled event → (master : Event) → (said_meeting event).master ≡ Some master → (b : Booked) → IsInstance (said_meeting event) b
+    → b.key ≡ key_at master b.start
+key_of_start event r master e b h =
+    let m = some_there event.master r.0 in
+    let is = alone_said event r.1.1 m.0 m.1 in
+    let x = at_start (event_of m.0) b (subst (λ (w : Whole). IsInstance w b) is h) in
+    let same : event_of m.0 ≡ master = same_Some (event_of m.0) master (sym (ap (option_map event_of) m.1) ∙ e) in
+    x.key ∙ ap (λ (v : Event). key_at v b.start) same

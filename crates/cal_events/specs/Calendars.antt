@@ -1,7 +1,9 @@
 -- What the types of instances and calendars stand for.
-use Rattle.std.specs.Prelude.{List, ◌<◌, ◌≢◌, length, All, AllPairs, ℤ}
+use Rattle.std.specs.Prelude.{List, ◌<◌, ◌≢◌, length, All, AllPairs, Contains, ℤ}
 use Rattle.cal_events.specs.declared.sweep.Span.{Span}
 use Rattle.profile.specs.checker.Instances.{Key, Booked}
+use Rattle.profile.specs.events.Starts.{IsInstance}
+use Rattle.profile.specs.events.Confirmed.{Confirmed, IsInSeries}
 use Rattle.ical_values.specs.Octets.{address_octets, text_octets}
 use Rattle.cal_events.specs.Entries.{Name}
 pub use Rattle.cal_events.specs.Entries.{Meeting}
@@ -44,6 +46,12 @@ AreWithin entries singles = All (λ s. s.entry < length entries) singles
 -- different places have different keys
 abbrev pub HaveDifferentKeys : List Booked → Type 0
 HaveDifferentKeys all = AllPairs (λ a b. a.key ≢ b.key) all
+
+-- instances of two series have different keys, and so have a single and an instance of a series
+abbrev pub HaveOwnKeys : Confirmed → Type 0
+HaveOwnKeys confirmed =
+    AllPairs (λ one other. (a b : Booked) → IsInstance one a → IsInstance other b → a.key ≢ b.key) confirmed.series
+    × ((a b : Booked) → Contains confirmed.singles a → IsInSeries confirmed.series b → a.key ≢ b.key)
 
 -- the span of a single
 abbrev pub span_of : Single → Span

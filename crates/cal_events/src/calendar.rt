@@ -3,7 +3,7 @@ ghost use Rattle.std.specs.Prelude.{◌≡◌, ◌<◌, map, length, option_map,
 ghost use Rattle.std.specs.List.{slice_get};
 ghost use Rattle.std.specs.Iterator.{YieldsFirstBy, item_count};
 ghost use Rattle.profile.specs.checker.Instances.{IsClear};
-ghost use Rattle.cal_events.specs.Calendars.{booked_in, instance_of, owned_key_of, span_of, HaveDifferentKeys, AreWithin};
+ghost use Rattle.cal_events.specs.Calendars.{booked_in, instance_of, owned_key_of, span_of, HaveDifferentKeys, HaveOwnKeys, AreWithin};
 ghost use Rattle.cal_events.specs.Clashes.{Names};
 ghost use Rattle.cal_events.specs.SaidSeries.{series_said};
 
@@ -35,13 +35,14 @@ impl Model for Calendar {
     ghost use Rattle.std.specs.Prelude.{map};
     ghost use Rattle.profile.specs.events.Confirmed.{Confirmed};
     ghost use Rattle.cal_events.specs.SaidSeries.{series_said};
-    ghost use Rattle.cal_events.specs.Calendars.{booked_in, HaveDifferentKeys, AreWithin};
+    ghost use Rattle.cal_events.specs.Calendars.{booked_in, HaveDifferentKeys, HaveOwnKeys, AreWithin};
 
     ghost Value = { Confirmed };
 
     ghost view = { λ c. record { series = map series_said c.series.items; singles = map (booked_in c.entries) c.singles.items } };
 
-    ghost invariant = { λ c. HaveDifferentKeys (map (booked_in c.entries) c.singles.items) × AreWithin c.entries c.singles.items };
+    ghost invariant = { λ c. HaveDifferentKeys (map (booked_in c.entries) c.singles.items) × AreWithin c.entries c.singles.items
+        × HaveOwnKeys (record { series = map series_said c.series.items; singles = map (booked_in c.entries) c.singles.items }) };
 }
 
 /// The singles of a calendar, in its order.
@@ -75,7 +76,8 @@ impl Calendar {
 
     /// The series: the masters with RRULE that the room has accepted, in the calendar's order.
     pub fn series(&self) -> &[Series]
-        ensures { map series_said result.now ≡ self.now.series }
+        ensures are { map series_said result.now ≡ self.now.series }
+        ensures keys { HaveOwnKeys self.now }
     {
         &self.series
     }

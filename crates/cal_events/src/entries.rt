@@ -143,7 +143,7 @@ fn is_last(addresses: &[Address], text: &str) -> bool
 }
 
 /// The address of an event's organiser; the empty one where ORGANIZER is missing.
-fn organiser_of(alloc: Global, event: &EventComponent) -> Result<Address, AllocError>
+pub(crate) fn organiser_of(alloc: Global, event: &EventComponent) -> Result<Address, AllocError>
     ensures { IfOk result (λ address. address_octets address ≡ unwrap_or (event_of event.now).organiser []) }
 {
     match &event.organiser {

@@ -8,11 +8,13 @@ ghost use Rattle.cal_zones.specs.Kinds.{zone_of};
 ghost use Rattle.profile.specs.series.Days.{day_index};
 ghost use Rattle.profile.specs.text.Trees.{Tree};
 ghost use Rattle.profile.specs.events.ZonedTimes.{SaysTimes, clock_of};
+ghost use Rattle.profile.specs.events.EventRules as event_rules;
 ghost use Rattle.profile.specs.events.EventRules.{IsLastAllowed, AllowsNone, GivesRule, SaysEventRule, IsOutside, EventRuleFault};
 ghost use Rattle.cal_events.specs.Events.{times_of, zone_said};
 ghost use Rattle.cal_events.specs.Zoned.{IsRuleSaid};
 
-use crate::event_times::EventTimes;
+use crate::event_times::{EventTimes, FIRST_SECOND};
+use crate::instance::HORIZON;
 use crate::properties::optional;
 use crate::zoned::ZonedTime;
 use cal_days::Day;
@@ -91,7 +93,21 @@ fn day_until(until: &Until, clock: Zone, second: u32) -> Option<Day>
 {
     match until {
         Until::Date(day) => Some(*day),
-        Until::Local(local) => clock.last_day(second, clock.resolve(*local)),
-        Until::Utc(stamp) => clock.last_day(second, stamp.instant()),
+        Until::Local(local) => clock.last_day(second, as_end(clock.resolve(*local))),
+        Until::Utc(stamp) => clock.last_day(second, as_end(stamp.instant())),
+    }
+}
+
+/// The instant up to which an UNTIL that says this one allows starts: none lies before the first second that an event may name, or past the
+/// last before year 10000.
+pub fn as_end(instant: i64) -> i64
+    ensures { result ≡ event_rules.as_end instant }
+{
+    if instant < FIRST_SECOND {
+        FIRST_SECOND - 1
+    } else if instant < HORIZON {
+        instant
+    } else {
+        HORIZON - 1
     }
 }

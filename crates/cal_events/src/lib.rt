@@ -30,6 +30,7 @@ mod zones;
 pub use calendar::{Calendar, Singles};
 pub use component::{Attendee, EventComponent, ParticipationStatus, Purpose, one_event};
 pub use event::{Event, one_instance, one_meeting};
+pub use event_rule::as_end;
 pub use event_times::EventTimes;
 pub use instance::{HORIZON, Instance, InstanceKey, OwnedKey, Single};
 pub use instances::Instances;

@@ -7,7 +7,7 @@ ghost use Rattle.profile.specs.events.Confirmed.{by_its_rule};
 ghost use Rattle.profile.specs.events.Events.{Event as Said, meeting_said};
 ghost use Rattle.profile.specs.events.ZonedTimes.{clock_of};
 ghost use Rattle.cal_zones.specs.Kinds.{zone_of};
-ghost use Rattle.cal_events.specs.Calendars.{key_of, instance_of};
+ghost use Rattle.cal_events.specs.Calendars.{key_of, owned_key_of, instance_of};
 ghost use Rattle.cal_events.specs.Drafts.{IsSaid, AreInOrder};
 ghost use Rattle.cal_events.specs.Events.{event_of};
 ghost use Rattle.cal_events.specs.Left.{IsLeft};
@@ -15,8 +15,9 @@ ghost use Rattle.cal_events.specs.SaidMeetings.{said_meeting};
 ghost use Rattle.cal_events.specs.Ruled.{IsRuled, AreSlotsOf, IsByItsRule, cmp_to, is_of};
 
 use crate::component::EventComponent;
+use crate::entries::organiser_of;
 use crate::event::Event;
-use crate::instance::{Instance, InstanceKey};
+use crate::instance::{Instance, InstanceKey, OwnedKey};
 use crate::instances::Instances;
 use crate::sweep::Span;
 use cal_rules::Rule;
@@ -93,6 +94,18 @@ impl Series {
         ensures { (master : Said) → IsMasterOf (series_said self.now) master → IsWidth master.times result }
     {
         self.master().times.width()
+    }
+
+    /// The key of its instance at a start, owned. It fails only for memory.
+    pub fn key(&self, alloc: Global, start: i64) -> Result<OwnedKey, AllocError>
+        ensures { IfOk result (λ key. (b : Booked) → IsInstance (series_said self.now) b → b.start ≡ start → owned_key_of key ≡ b.key) }
+    {
+        let master = self.master();
+        Ok(OwnedKey {
+            organiser: organiser_of(alloc, master)?,
+            uid: master.uid.clone()?,
+            slot: start,
+        })
     }
 
     fn master(&self) -> &EventComponent

@@ -2,15 +2,12 @@
 use Rattle.std.proofs.Common.{◌≡◌, ◌∙◌, ap, sym, refl, ℕ, suc, pos, Bool, true, false, ◌&&◌, ◌||◌, ◌==◌, nat_eq, List, [], ◌∷◌, map, if◌then◌else◌, arith}
 use Rattle.std.proofs.lemmas.Bool.Decides.{nat_tests}
 use Rattle.std.specs.List.{list_any}
+use Rattle.std.proofs.Math.Bool.{or-false}
 use Rattle.profile.specs.series.Rules.{allows, names_weekday}
-
-or_false : (b : Bool) → (b || false) ≡ b
-or_false true = refl
-or_false false = refl
 
 -- a part that is implied has one entry
 pub by_implied : {A : Type 0} (test : A → Bool) (implied : Bool) (entry : A) (entries : List A) (r : Bool) → implied ≡ true → r ≡ test entry → r ≡ allows test (if implied then entry ∷ [] else entries)
-by_implied test implied entry entries r e h = rw (e, or_false (test entry)) h
+by_implied test implied entry entries r e h = rw (e, or-false (test entry)) h
 
 -- else what is written counts
 pub by_written : {A : Type 0} (test : A → Bool) (implied : Bool) (entry : A) (entries : List A) (r : Bool) → implied ≡ false → r ≡ allows test entries → r ≡ allows test (if implied then entry ∷ [] else entries)

@@ -139,7 +139,7 @@ same_place p ms ds es ps n a =
     rw (same_before p ms ds es ps n a, same_after p ms ds es ps n a) (a.positions (λ k. is_nth k (mates_before p n) (mates_after p n)))
 
 abbrev parts : Pattern → Option ℕ → ℕ → Parts
-parts p count last = record { pattern = p; count = count; last = last }
+parts p count last = record { pattern = p; count = count; last = last; until = None }
 
 same_counted : (p : Pattern) (ms : List ℕ) (ds : List ℤ) (es : List WeekdayNumber) (ps : List ℤ) (count : Option ℕ) (last n : ℕ) → Alike (with_lists p ms ds es ps) p → is_counted (parts (with_lists p ms ds es ps) count last) n ≡ is_counted (parts p count last) n
 unfolding is_counted
@@ -156,6 +156,12 @@ same_day : (p : Pattern) (ms : List ℕ) (ds : List ℤ) (es : List WeekdayNumbe
 unfolding is_rule_day
 same_day p ms ds es ps count last n a =
     rw (same_counted p ms ds es ps count last n a, same_count p ms ds es ps count last n a) refl
+
+-- what UNTIL says counts only by its last day
+same_end : (p : Pattern) (count : Option ℕ) (last n : ℕ) (end : Option Until) → is_rule_day (record { pattern = p; count = count; last = last; until = end }) n ≡ is_rule_day (parts p count last) n
+unfolding is_rule_day is_counted is_within_count
+same_end p None last n end = refl
+same_end p (Some count) last n end = refl
 
 -- THE RULE
 
@@ -179,4 +185,4 @@ in_order t start last h =
 
 pub same_days : (t : RuleText) (end : Option Until) (start last n : ℕ) → IsAllowed t → is_rule_day (rule_of (as_written t end) start last) n ≡ is_rule_day (rule_of t start last) n
 same_days t end start last n h =
-    same_day (rule_of t start last).pattern (months_from 1 t.months) (numbers_from 0 t.month_days) (entries_from 0 t.weekdays) (numbers_from 0 t.positions) t.count last n (in_order t start last h)
+    same_end _ t.count last n end ∙ same_day (rule_of t start last).pattern (months_from 1 t.months) (numbers_from 0 t.month_days) (entries_from 0 t.weekdays) (numbers_from 0 t.positions) t.count last n (in_order t start last h) ∙ sym (same_end _ t.count last n t.until)

@@ -10,6 +10,11 @@ use Rattle.profile.specs.series.Rules.{WeekdayNumber, Pattern, Parts, RuleText, 
 abbrev pub entry_of : rust_entry.WeekdayNumber → WeekdayNumber
 entry_of entry = record { number = entry.number; weekday = entry.weekday }
 
+abbrev pub until_of : rust_until.Until → Until
+until_of (the.Date day) = UntilDay day
+until_of (the.Local seconds) = UntilLocal seconds
+until_of (the.Utc instant) = UntilInstant instant
+
 -- what is written, with the day of DTSTART
 abbrev pub pattern_of : rust.Written → ℕ → Pattern
 pattern_of written start = record {
@@ -25,12 +30,12 @@ pattern_of written start = record {
 
 -- what is written, with the days of DTSTART and of UNTIL
 abbrev pub parts_of : rust.Written → ℕ → ℕ → Parts
-parts_of written start last = record { pattern = pattern_of written start; count = written.count; last = last }
-
-abbrev pub until_of : rust_until.Until → Until
-until_of (the.Date day) = UntilDay day
-until_of (the.Local seconds) = UntilLocal seconds
-until_of (the.Utc instant) = UntilInstant instant
+parts_of written start last = record {
+  pattern = pattern_of written start;
+  count = written.count;
+  last = last;
+  until = option_map until_of written.until;
+}
 
 -- what is written
 abbrev pub text_of : rust.Written → RuleText

@@ -131,10 +131,7 @@ fn is_chosen(written: &Written, start: DayFacts, index: u32) -> bool
     requires range { (366 ≤ index) × (index ≤ 3_652_424) }
     ensures { result ≡ is_chosen (pattern_of written.now start.index) index }
 {
-    match first_chosen(written, start, index, index) {
-        Some(_after) => true,
-        None => false,
-    }
+    first_chosen(written, start, index, index).is_some()
 }
 
 /// The cursor after the least rule day but for COUNT, from that cursor on.
@@ -380,14 +377,5 @@ fn depth_from_end(positions: &[i16]) -> Option<u32>
 fn are_among_last(depth: u32, positions: &[i16]) -> bool
     ensures { result ≡ list_all (is_among_last depth) positions.now }
 {
-    positions
-        .iter()
-        .all(|position| is_among_last(depth, *position))
-}
-
-/// Does the position lie among so many last ones?
-fn is_among_last(depth: u32, position: i16) -> bool
-    ensures { result ≡ is_among_last depth position }
-{
-    position < 0 && ((-(position + 1)) as u32) < depth
+    positions.iter().all(|position| *position < 0 && ((-(*position + 1)) as u32) < depth)
 }

@@ -1,7 +1,7 @@
 //! The parts of a rule's text, taken one after the other (RFC 5545 3.3.10). An unknown part ends the reading at once: no
 //! fault is less. Of the other faults the least so far is kept, since a later part may have a lesser one.
 
-ghost use Rattle.std.specs.Prelude.{◌≡◌, ◌⊎◌, ℕ, List, [], ◌∷◌, ◌++◌, None, Some, true, is_some, IfOk, IfErr, OnOk, MatchOption};
+ghost use Rattle.std.specs.Prelude.{◌≡◌, ℕ, List, [], ◌∷◌, ◌++◌, None, Some, IfOk, IfErr, OnOk, MatchOption};
 ghost use Rattle.ical_lines.specs.Fault.{RefusesBy};
 ghost use Rattle.profile.specs.series.RuleTexts.{rule_parts, IsKnownPart, SaysParts, SpellsRule, IsLeastRuleFault};
 ghost use Rattle.cal_rules.specs.Views.{text_of};

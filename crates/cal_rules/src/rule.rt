@@ -7,9 +7,11 @@ use crate::cursor::Cursor;
 use crate::facts::DayFacts;
 use crate::listing::{find_end, is_counted, next_counted};
 use crate::text::RuleText;
-use crate::written::{WeekdayNumber, Written};
+use crate::write::rule_text;
+use crate::written::{Until, WeekdayNumber, Written};
 use cal_days::{Day, Frequency};
 use ical_lines::{Fault, Refusal};
+use std::alloc::AllocError;
 use std::marker::Model;
 
 /// A rule from the day of DTSTART on (RFC 5545 3.8.5.3). Its days go to 9999-12-31.
@@ -25,8 +27,8 @@ pub struct Rule {
 impl Model for Rule {
     ghost use Rattle.std.specs.Prelude.{◌≤◌};
     ghost use Rattle.profile.specs.series.Days.{day_index};
-    ghost use Rattle.profile.specs.series.Rules.{Parts};
-    ghost use Rattle.cal_rules.specs.Views.{parts_of};
+    ghost use Rattle.profile.specs.series.Rules.{IsAllowed, Parts};
+    ghost use Rattle.cal_rules.specs.Views.{parts_of, text_of};
     ghost use Rattle.cal_rules.specs.Known.{AreFacts};
     ghost use Rattle.cal_rules.specs.Counted.{EndsAt};
 
@@ -35,15 +37,16 @@ impl Model for Rule {
     ghost view = { λ r. parts_of r.written r.start.index (day_index r.last) };
 
     ghost invariant = { λ r. (1 ≤ r.written.interval) × AreFacts r.start
-        × EndsAt (parts_of r.written r.start.index (day_index r.last)) r.end };
+        × EndsAt (parts_of r.written r.start.index (day_index r.last)) r.end × IsAllowed (text_of r.written) };
 }
 
 impl Rule {
-    ghost use Rattle.std.specs.Prelude.{◌≡◌, ◌+◌, true, false, map, MatchOption, IfOk, IfErr};
+    ghost use Rattle.std.specs.Prelude.{◌≡◌, ◌+◌, ◌++◌, true, false, map, option_map, MatchOption, IfOk, IfErr, OnOk, OnErr};
     ghost use Rattle.cal_days.specs.Views.{frequency_of};
-    ghost use Rattle.cal_rules.specs.Views.{entry_of};
+    ghost use Rattle.cal_rules.specs.Views.{entry_of, until_of};
     ghost use Rattle.profile.specs.series.Days.{day_index};
-    ghost use Rattle.profile.specs.series.Rules.{rule_of, is_rule_day, rule_days_from, NoDayFrom, IsNextDay};
+    ghost use Rattle.profile.specs.series.Rules.{rule_of, text_in, is_rule_day, rule_days_from, NoDayFrom, IsNextDay};
+    ghost use Rattle.profile.specs.series.RuleTexts as texts;
     ghost use Rattle.cal_rules.specs.Left.{days_left};
     ghost use Rattle.cal_rules.specs.Standing.{StandsAt};
     ghost use Rattle.ical_lines.specs.declared.fault.Fault.TheVariants.{Refused};
@@ -179,6 +182,24 @@ impl Rule {
         ensures { day_index result ≡ self.now.last }
     {
         self.last
+    }
+
+    /// UNTIL, as it was read.
+    pub fn until(&self) -> Option<Until>
+        ensures { option_map until_of result ≡ self.now.until }
+    {
+        self.written.until
+    }
+
+    /// Appends the text of the rule in its one form (RFC 5545 3.3.10), as `RuleText::write` does: `until`, a UTC date-time or a date,
+    /// takes the place of an UNTIL that the rule has. Without memory nothing is appended.
+    pub fn write(&self, until: Option<&str>, out: &mut Vec<u8>) -> Result<(), AllocError>
+        ensures ok { OnOk result (out.new.items ≡ out.old.items
+            ++ texts.rule_text (text_in self.now) (option_map (λ text. text.now) until.entry)) }
+        ensures err { OnErr result (out.new.items ≡ out.old.items) }
+    {
+        let text = rule_text(*out.allocator(), &self.written, until)?;
+        out.extend_from_slice(text.as_str().as_bytes())
     }
 }
 

@@ -1,7 +1,7 @@
 //! The values of a rule's parts: words, numbers, weekdays, dates, and lists of them with commas between, at most 366 entries
 //! each (RFC 5545 3.3.10).
 
-ghost use Rattle.std.specs.Prelude.{◌≡◌, ◌<◌, ◌≤◌, ◌^◌, ℕ, pos, neg_ℤ, Some, None, IfSome, IfNone, map, IfOk};
+ghost use Rattle.std.specs.Prelude.{◌<◌, ◌≤◌, ◌^◌, ℕ, Some, None, IfSome, IfNone, map, IfOk};
 ghost use Rattle.std.specs.Fn.{FnReturnsAt};
 ghost use Rattle.profile.specs.text.Values.{IsNumber};
 ghost use Rattle.profile.specs.series.RuleTexts.{SpellsFrequency, SpellsWeekday, SpellsBetween, SpellsInterval, SpellsCount, SpellsPlace, SpellsEntry, SpellsUntil, SpellsNone, SpellsList, SpellsMonths, SpellsEntries};

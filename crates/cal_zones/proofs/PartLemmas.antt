@@ -1,11 +1,10 @@
 -- The parts of a VTIMEZONE among the components inside.
 use Rattle.std.proofs.Common.{◌≡◌, ◌∙◌, ap, sym, refl, subst, ℕ, zero, suc, ◌+◌, ◌<◌, ◌≤◌, Bool, true, false, cond, List, [], ◌∷◌, ◌++◌, length, map, filter, get_or, take, drop, arith}
 use denote.Ref.{Bor}
-use Rattle.std.specs.Prelude.{Option, Some, None, IfSome, IfNone, option_map, Contains, count_by, find}
+use Rattle.std.specs.Prelude.{Option, Some, None, IfSome, IfNone, option_map, Contains, find}
 use Rattle.std.proofs.lemmas.Bool.{true≢false, or_left, or_right}
-use Rattle.std.proofs.lemmas.List.{map-append, take-append-drop, length-map, drop_all}
+use Rattle.std.proofs.lemmas.List.{map-append, take-append-drop, drop_all}
 use Rattle.std.proofs.lemmas.List.Elements.{Contains-append_right, filter-append}
-use Rattle.std.proofs.lemmas.List.Sums.{length-filter}
 use Rattle.std.proofs.lemmas.Option.{same_Some}
 use Rattle.ical_tree.specs.Tree.{component_name, component_lines, component_children, tree_of}
 use Rattle.ical_tree.proofs.TreeOfLemmas.{tree_of-name, tree_of-own, tree_of-inside}
@@ -37,10 +36,6 @@ find_none : {A : Type 0} (p : A → Bool) (xs : List A) → find p xs ≡ None �
 find_none p [] h = refl
 find_none p (y ∷ ys) h = none_of (p y) y (find p ys) (filter p ys) h (find_none p ys)
 
-no_more : {A : Type 0} (x : A) (rest : List A) → length (x ∷ rest) ≡ 1 → rest ≡ []
-no_more x [] h = refl
-no_more x (y ∷ rest) h = absurd (omega arith)
-
 -- ---- components
 
 abbrev named : (List ℕ → Bool) → Component → Bool
@@ -54,19 +49,6 @@ first_in test cs c h =
 pub none_in : (test : List ℕ → Bool) (cs : List Component) → find (λ c. test (component_name c)) cs ≡ None → parts_in test cs ≡ []
 none_in test cs h = ap (map component_lines) (find_none (named test) cs h)
 
-pub count_in : (test : List ℕ → Bool) (cs : List Component) → length (parts_in test cs) ≡ count_by (λ c. test (component_name c)) cs
-count_in test cs = length-map (filter (named test) cs) component_lines ∙ length-filter (named test) cs
-
-pub only_in : (test : List ℕ → Bool) (cs : List Component) (c : Component) → find (λ c. test (component_name c)) cs ≡ Some c → count_by (λ c. test (component_name c)) cs ≡ 1
-    → parts_in test cs ≡ component_lines c ∷ []
-only_in test cs c h one =
-    let w = find_first (named test) cs c h in
-    let long : length (c ∷ w.0) ≡ 1 = ap length (sym w.1) ∙ length-filter (named test) cs ∙ one in
-    ap (map component_lines) (w.1 ∙ ap (λ l. c ∷ l) (no_more c w.0 long))
-
-pub none_counted : (test : List ℕ → Bool) (cs : List Component) → find (λ c. test (component_name c)) cs ≡ None → length (parts_in test cs) ≡ 1 → ⊥
-none_counted test cs h one = let e : length (parts_in test cs) ≡ 0 = ap length (none_in test cs h) in absurd (omega arith)
-
 -- what the search for one gives
 
 abbrev IsFound : (List ℕ → Bool) → List Component → Option (Bor Component) → Type 0
@@ -79,15 +61,6 @@ found_in test cs None e = tt
 pub nothing_in : (test : List ℕ → Bool) (cs : List Component) (r : Option (Bor Component)) → IsFound test cs r → IfNone r (parts_in test cs ≡ [])
 nothing_in test cs (Some b) e = tt
 nothing_in test cs None e = none_in test cs (sym e)
-
-pub only_found : (test : List ℕ → Bool) (cs : List Component) (r : Option (Bor Component)) → IsFound test cs r → count_by (λ c. test (component_name c)) cs ≡ 1
-    → IfSome r (λ part. parts_in test cs ≡ component_lines part.now ∷ [])
-only_found test cs (Some b) e one = only_in test cs b.now (sym e) one
-only_found test cs None e one = tt
-
-pub not_found : (test : List ℕ → Bool) (cs : List Component) (r : Option (Bor Component)) → IsFound test cs r → IfNone r (length (parts_in test cs) ≡ 1 → ⊥)
-not_found test cs (Some b) e = tt
-not_found test cs None e = none_counted test cs (sym e)
 
 -- ---- those up to a place
 
@@ -118,6 +91,17 @@ drop_other test cs i c w e h = ap (parts_in test) (at_place cs i c w e) ∙ othe
 pub drop_part : (test : List ℕ → Bool) (cs : List Component) (i : ℕ) (c : Component) → i < length cs → c ≡ get_or cs i c → test (component_name c) ≡ true
     → parts_in test (drop i cs) ≡ component_lines c ∷ parts_in test (drop (i + 1) cs)
 drop_part test cs i c w e h = ap (parts_in test) (at_place cs i c w e) ∙ part_first test c (drop (i + 1) cs) h
+
+-- ---- the one that passes a test
+
+-- what was found so far
+abbrev pub seen : Option (Bor Component) → List Lines
+seen None = []
+seen (Some part) = component_lines part.now ∷ []
+
+-- what was found, and what is left, are all that pass
+abbrev pub FoundSofar : (List ℕ → Bool) → List Component → ℕ → Option (Bor Component) → Type 0
+FoundSofar test cs i only = parts_in test cs ≡ seen only ++ parts_in test (drop i cs)
 
 -- what holds of all that are left, and of the one before them
 pub one_more : (P : Lines → Type 0) (part : Lines) (rest : List Lines) → P part → ((other : Lines) → Contains rest other → P other) → (other : Lines) → Contains (part ∷ rest) other → P other

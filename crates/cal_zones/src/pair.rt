@@ -60,13 +60,7 @@ impl Pair {
         ensures yes { result ≡ true → AreMatched (pair_of a.now b.now) }
         ensures no { AreMatched (pair_of a.now b.now) → result ≡ true }
     {
-        if a.offset_to != b.offset_from {
-            return false;
-        }
-        if b.offset_to != a.offset_from {
-            return false;
-        }
-        a.is_near()
+        a.offset_to == b.offset_from && b.offset_to == a.offset_from && a.is_near()
     }
 
     /// The offset in force: what the later of the latest onsets sets, and before all onsets what the first one ends.

@@ -1,7 +1,7 @@
 //! The parts of a VTIMEZONE, the components named STANDARD or DAYLIGHT directly inside, and their lines DTSTART,
 //! TZOFFSETFROM and TZOFFSETTO (RFC 5545 3.6.5).
 
-ghost use Rattle.std.specs.Prelude.{◌≡◌, ◌↔◌, ◌∷◌, [], length, count_by, find, option_map, IsTrue, IfSome, IfNone, true, false, None, Some, IfOk, IfErr};
+ghost use Rattle.std.specs.Prelude.{◌≡◌, ◌∷◌, [], length, find, option_map, IfSome, IfNone, true, false, None, Some, IfOk, IfErr};
 ghost use Rattle.ical_tree.specs.Tree.{component_name, component_lines, component_children};
 ghost use Rattle.profile.specs.text.Lines.{is_same_name};
 ghost use Rattle.profile.specs.series.ZoneTexts.{is_part, IsFixedLine, IsLocalLine, IsOffsetLine, SaysTimes, TimesFault};
@@ -23,23 +23,6 @@ pub(crate) fn is_part(component: &Component) -> bool
     component.is_named("STANDARD") || component.is_named("DAYLIGHT")
 }
 
-// A function, so that the goals of its callers have no number in their names.
-fn is_one(count: usize) -> bool
-    ensures { IsTrue result ↔ count ≡ 1 }
-{
-    count == 1
-}
-
-/// How many parts there are.
-fn count_parts(zone: &Component) -> usize
-    ensures { result ≡ count_by (λ c. is_part (component_name c)) (component_children zone.now) }
-{
-    zone.children()
-        .iter()
-        .filter(|child| is_part(child))
-        .count()
-}
-
 /// The first part.
 pub(crate) fn first_part<'c, 'a>(zone: &'c Component<'a>) -> Option<&'c Component<'a>>
     ensures { option_map (λ c. c.now) result ≡ find (λ c. is_part (component_name c)) (component_children zone.now) }
@@ -52,28 +35,16 @@ pub(crate) fn only_part<'c, 'a>(zone: &'c Component<'a>) -> Option<&'c Component
     ensures found { IfSome result (λ part. parts_of zone.now ≡ component_lines part.now ∷ []) }
     ensures none { IfNone result (length (parts_of zone.now) ≡ 1 → ⊥) }
 {
-    if !is_one(count_parts(zone)) {
-        return None;
+    let mut only = None;
+    for child in zone.children() {
+        if is_part(child) {
+            if only.is_some() {
+                return None;
+            }
+            only = Some(child);
+        }
     }
-    first_part(zone)
-}
-
-/// How many components of that name there are.
-fn count_named(zone: &Component, name: &str) -> usize
-    ensures { result ≡ count_by (λ c. is_same_name (component_name c) name.now) (component_children zone.now) }
-{
-    zone.children()
-        .iter()
-        .filter(|child| child.is_named(name))
-        .count()
-}
-
-/// The first component of that name.
-fn first_named<'c, 'a>(zone: &'c Component<'a>, name: &str) -> Option<&'c Component<'a>>
-    ensures { option_map (λ c. c.now) result
-        ≡ find (λ c. is_same_name (component_name c) name.now) (component_children zone.now) }
-{
-    zone.children().iter().find(|child| child.is_named(name))
+    only
 }
 
 /// The one component of that name, where there is one alone.
@@ -83,10 +54,16 @@ pub(crate) fn only_named<'c, 'a>(zone: &'c Component<'a>, name: &str) -> Option<
     ensures none { IfNone result
         (length (parts_in (λ n. is_same_name n name.now) (component_children zone.now)) ≡ 1 → ⊥) }
 {
-    if !is_one(count_named(zone, name)) {
-        return None;
+    let mut found = None;
+    for child in zone.children() {
+        if child.is_named(name) {
+            if found.is_some() {
+                return None;
+            }
+            found = Some(child);
+        }
     }
-    first_named(zone, name)
+    found
 }
 
 /// Does a property stand there? Names are compared caseless.

@@ -67,10 +67,7 @@ fn keeps(alloc: Global, part: &Component, offset: i32) -> Result<bool, Fault>
     ensures stands { IfErr result (RefusesBy (TimesFault (component_lines part.now))) }
 {
     let times = times_of(alloc, part)?;
-    if times.offset_from != offset {
-        return Ok(false);
-    }
-    Ok(times.offset_to == offset)
+    Ok(times.offset_from == offset && times.offset_to == offset)
 }
 
 /// Do all parts say that offset alone? Refused where the times of one are wrong.

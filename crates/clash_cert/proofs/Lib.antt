@@ -1,4 +1,5 @@
 pub mod TextLemmas
+pub mod Walking
 pub mod WrongLines
 pub mod MakingLemmas
 mod Worked

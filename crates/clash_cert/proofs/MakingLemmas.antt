@@ -1,21 +1,33 @@
 -- Which of two clashing instances is named first.
-use Rattle.std.proofs.Common.{◌≡◌, ℕ, Bool, true, false, ◌<◌, ℤ, ◌≤ℤ◌, List, [], ◌∷◌, length, get_or, subst, sym, refl, ap, ◌∙◌, arith, Ordering}
-use Rattle.std.specs.Prelude.{Option, Some, None, option_map, is_some, Result, Ok, Err, IfOk, MatchBool}
+use Rattle.std.proofs.Common.{◌≡◌, ◌≢◌, ◌⊎◌, ℕ, Bool, true, false, ◌<◌, ◌≤◌, ◌-◌, ℤ, ◌≤ℤ◌, List, [], ◌∷◌, length, map, get_or, subst, sym, refl, ap, inl, inr, ◌∙◌, arith, Ordering}
+use Rattle.std.specs.Prelude.{Option, Some, None, option_map, is_some, Contains, MatchBool}
 use Rattle.std.specs.declared.cmp.Ordering.TheVariants.{Less, Equal, Greater}
 use Rattle.std.specs.Ordering.{is_lt, nat_cmp, int_cmp, ordering_then, ordering_reverse}
 use Rattle.std.specs.Cmp.{IsTotalOrder}
 use Rattle.std.specs.Cmp.Lexicographic.{slice_cmp}
 use Rattle.std.proofs.lemmas.Cmp.{on_total, then_total, nat_list_cmp_total, int_cmp_total}
 use Rattle.std.proofs.lemmas.Int.{ints}
+use Rattle.std.proofs.lemmas.List.{length-map}
 use Rattle.std.specs.List.{slice_get}
-use Rattle.std.proofs.lemmas.Bool.{false≢true}
-use Rattle.std.proofs.lemmas.Option.{same_Some, slice_get-get_or}
-use Rattle.profile.specs.checker.Instances.{Key, Booked, IsClash, booked_cmp, key_cmp}
-use Rattle.cal_events.specs.declared.sweep.Overlap.{Overlap}
+use Rattle.std.proofs.lemmas.Bool.{false≢true, cases_lt}
+use Rattle.std.proofs.lemmas.Option.{same_Some, slice_get-get_or, slice_get_within, get_or_from_slice_get}
+use Rattle.profile.specs.checker.Instances.{Key, Booked, IsClash, IsClear, AreClashing, AreClear, booked_cmp, key_cmp}
+use Rattle.profile.specs.checker.Certificates.{Claims, IsClaims, text_of, CertificateStands}
+use Rattle.profile.specs.events.Meetings.{Meeting}
+use Rattle.profile.specs.events.Starts.{IsInstance, SharesInstant}
+use Rattle.profile.specs.events.Confirmed.{Confirmed, IsInSeries, IsOneOf}
+use Rattle.cal_events.specs.Calendars.{instance_of, owned_key_of, HaveOwnKeys}
+use Rattle.cal_events.specs.SaidSeries.{series_said}
+use Rattle.cal_events.specs.declared.series.Series.{Series}
+use Rattle.cal_period.proofs.EveryPair.{said_at}
+use Rattle.cal_events.specs.declared.instance.Instance.{Instance}
+use Rattle.cal_events.specs.declared.instance.OwnedKey.{OwnedKey}
+use Rattle.cal_period.specs.Clear.{ShareStart}
+use Rattle.cal_period.specs.Besides.{HasNoSharer}
+use Rattle.cal_period.specs.Every.{IsPairClear, PairShares}
 use Rattle.cal_events.proofs.KeyLemmas.{key_total, key_exact}
-use Rattle.cal_events.specs.Clashes.{Names}
 use Rattle.clash_cert.specs.declared.making.Clash.{Clash}
-use Rattle.clash_cert.specs.Makings.{HasKeys, HasKeysAt, IsNamedClash, AreNamed, AreNamedAt}
+use Rattle.clash_cert.specs.Makings.{HasKeys, IsNamedClash, IsNamedAs, AreNamed, IsLaterStart}
 use Rattle.ical_values.proofs.Facts.{is_lt_true}
 
 booked_total : IsTotalOrder booked_cmp
@@ -35,28 +47,8 @@ not_after : (a b : ℤ) → (int_cmp a b ≡ Greater → ⊥) → a ≤ℤ b
 not_after a b h = grind (arith, ints)
 
 -- a clash the other way round
-turned : (all : List Booked) (a b : Booked) (t : ℤ) → IsClash all a b t → IsClash all b a t
-turned all a b t h = record {
-  first = h.second;
-  second = h.first;
-  differ = λ e. h.differ (sym e);
-  before = h.before;
-  in_first = h.in_second;
-  in_second = h.in_first;
-}
-
-same_start : (a b t : ℤ) → t ≡ b → a ≤ℤ t → b ≤ℤ a → t ≡ a
-same_start a b t e le ge = omega (arith, ints)
-
-named : (all : List Booked) (a b : Booked) (t : ℤ) (clash : Clash) → HasKeys a b t clash → IsClash all a b t → booked_cmp a b ≡ Less → t ≡ b.start → IsNamedClash all clash
-named all a b t clash keys is less later = record {
-  a = a;
-  b = b;
-  keys = record { first = keys.first; second = keys.second; instant = refl };
-  is = subst (λ i. IsClash all a b i) (sym keys.instant) is;
-  less = less;
-  later = keys.instant ∙ later;
-}
+pub turned : (a b : Booked) (t : ℤ) → AreClashing a b t → AreClashing b a t
+turned a b t h = record { differ = λ e. h.differ (sym e); before = h.before; in_first = h.in_second; in_second = h.in_first }
 
 -- what comes before is less
 pub less_from_before : (a b : Booked) → is_lt (booked_cmp a b) ≡ true → booked_cmp a b ≡ Less
@@ -71,19 +63,66 @@ turned_less a b differ Greater e h = booked_total.antisymm a b ∙ ap ordering_r
 pub less_from_not_before : (a b : Booked) → (a.key ≡ b.key → ⊥) → is_lt (booked_cmp b a) ≡ false → booked_cmp a b ≡ Less
 less_from_not_before a b differ h = turned_less a b differ (booked_cmp b a) refl h
 
-by_order : (all : List Booked) (a b : Booked) (t : ℤ) (clash : Clash) (r : Ordering) → booked_cmp b a ≡ r → IsClash all a b t → t ≡ b.start → a.start ≤ℤ t
-    → MatchBool (is_lt r) (HasKeys b a t clash) (HasKeys a b t clash) → IsNamedClash all clash
-by_order all a b t clash Less e is later le keys =
-    named all b a t clash keys (turned all a b t is) e
-    (same_start a.start b.start t later le (not_after b.start a.start (λ g. then_less (int_cmp b.start a.start) (key_cmp b.key a.key) e g)))
-by_order all a b t clash Equal e is later le keys =
-    absurd (is.differ (sym (key_exact b.key a.key (then_equal (int_cmp b.start a.start) (key_cmp b.key a.key) e))))
-by_order all a b t clash Greater e is later le keys =
-    named all a b t clash keys is (booked_total.antisymm a b ∙ ap ordering_reverse e) later
+-- ---- naming
 
--- the bookings at the two places clash, and are named in order
-pub named_at : (all : List Booked) (o : Overlap) (clash : Clash) → Names all o → AreNamedAt all o clash → IsNamedClash all clash
-named_at all o clash n h = by_order all n.a n.b o.instant clash (booked_cmp n.b n.a) refl n.clash n.later n.earlier (h n.a n.b n.first n.second)
+not_later : (a b : Booked) → booked_cmp a b ≡ Less → a.start ≤ℤ b.start
+not_later a b e = not_after a.start b.start (λ g. then_less (int_cmp a.start b.start) (key_cmp a.key b.key) e g)
+
+-- two instances that share an instant, named by their order, are a clash
+module _ (all : Confirmed) (a b : Booked) (clash : Clash) (in_a : IsOneOf all a) (in_b : IsOneOf all b) (differ : a.key ≡ b.key → ⊥) (s : SharesInstant a.start a.end b.start b.end) where
+  clashing : IsLaterStart a b clash.instant → AreClashing a b clash.instant
+  clashing l =
+      let most : clash.instant ≤ℤ s.instant = elim l.2 [
+        | inl e ↦ omega (arith, ints, e, s.in_first.0)
+        | inr e ↦ omega (arith, ints, e, s.in_second.0)
+      ] in
+      record {
+        differ = differ;
+        before = omega (arith, ints, most, s.before);
+        in_first = (l.0, omega (arith, ints, most, s.in_first.1));
+        in_second = (l.1, omega (arith, ints, most, s.in_second.1));
+      }
+
+  go : (r : Ordering) → booked_cmp b a ≡ r → MatchBool (is_lt r) (HasKeys b a clash.instant clash) (HasKeys a b clash.instant clash) → IsLaterStart a b clash.instant → IsNamedClash all clash
+  go Less e keys l =
+      let before = not_later b a e in
+      record {
+        a = b;
+        b = a;
+        keys = keys;
+        first = in_b;
+        second = in_a;
+        is = turned a b clash.instant (clashing l);
+        less = e;
+        later = elim l.2 [ inl same ↦ same | inr same ↦ omega (arith, ints, same, before, l.0) ];
+      }
+  go Equal e keys l = absurd (differ (sym (key_exact b.key a.key (then_equal (int_cmp b.start a.start) (key_cmp b.key a.key) e))))
+  go Greater e keys l =
+      let less : booked_cmp a b ≡ Less = booked_total.antisymm a b ∙ ap ordering_reverse e in
+      let before = not_later a b less in
+      record {
+        a = a;
+        b = b;
+        keys = keys;
+        first = in_a;
+        second = in_b;
+        is = clashing l;
+        less = less;
+        later = elim l.2 [ inl same ↦ omega (arith, ints, same, before, l.1) | inr same ↦ same ];
+      }
+
+  pub named_clash : IsNamedAs a b clash → IsNamedClash all clash
+  named_clash n = go (booked_cmp b a) refl n.0 n.1
+
+-- the same of instances that are these
+pub named_by : (all : Confirmed) (a b x y : Booked) (clash : Clash) → x ≡ a → y ≡ b → IsOneOf all a → IsOneOf all b → (a.key ≡ b.key → ⊥) → SharesInstant a.start a.end b.start b.end
+    → IsNamedAs x y clash → IsNamedClash all clash
+named_by all a b x y clash ea eb in_a in_b differ s n =
+    named_clash all a b clash in_a in_b differ s (subst (λ v. IsNamedAs a v clash) eb (subst (λ u. IsNamedAs u y clash) ea n))
+
+-- the lesser is named first
+pub named_first : (a b : Booked) (t : ℤ) (clash : Clash) (r : Bool) → is_lt (booked_cmp b a) ≡ r → MatchBool r (HasKeys b a t clash) (HasKeys a b t clash) → AreNamed a b t clash
+named_first a b t clash r e h = subst (λ v. MatchBool v (HasKeys b a t clash) (HasKeys a b t clash)) (sym e) h
 
 -- ---- singles by their places
 
@@ -113,13 +152,92 @@ pub key_held : {X : Type 0} (f : X → Key) (all : List Booked) (i : ℕ) (o : O
 key_held f all i o x a e is w at =
     same_Some (f x) a.key (sym (ap (option_map f) is) ∙ e ∙ ap (option_map (λ (b : Booked). b.key)) (slice_get-get_or all i a w ∙ ap Some at))
 
--- the lesser of them is named first
-pub by_places : (all : List Booked) (i j : ℕ) (x y : Booked) (t : ℤ) {E : Type 0} (r : Result Clash E) (b : Bool) → ((a : Booked) → get_or all i a ≡ a → x ≡ a) → ((a : Booked) → get_or all j a ≡ a → y ≡ a)
-    → is_lt (booked_cmp y x) ≡ b → IfOk r (λ k. MatchBool b (HasKeysAt all j i t k) (HasKeysAt all i j t k)) → IfOk r (λ k. (a c : Booked) → get_or all i a ≡ a → get_or all j c ≡ c → AreNamed a c t k)
-by_places all i j x y t (Err e) b f g lt h = h
-by_places all i j x y t (Ok k) true f g lt h = λ a c ea ec.
-    let e : is_lt (booked_cmp c a) ≡ true = subst (λ u. is_lt (booked_cmp c u) ≡ true) (f a ea) (subst (λ u. is_lt (booked_cmp u x) ≡ true) (g c ec) lt) in
-    subst (λ v. MatchBool v (HasKeys c a t k) (HasKeys a c t k)) (sym e) (h c a ec ea)
-by_places all i j x y t (Ok k) false f g lt h = λ a c ea ec.
-    let e : is_lt (booked_cmp c a) ≡ false = subst (λ u. is_lt (booked_cmp c u) ≡ false) (f a ea) (subst (λ u. is_lt (booked_cmp u x) ≡ false) (g c ec) lt) in
-    subst (λ v. MatchBool v (HasKeys c a t k) (HasKeys a c t k)) (sym e) (h a c ea ec)
+-- and this is its key
+pub own_key : (all : List Booked) (place : ℕ) (o : Option Instance) (i : Instance) (k : Option OwnedKey) (key : OwnedKey) → option_map instance_of o ≡ slice_get all place → o ≡ Some i
+    → option_map owned_key_of k ≡ option_map (λ b. b.key) (slice_get all place) → k ≡ Some key → owned_key_of key ≡ (instance_of i).key
+own_key all place o i k key e is f at =
+    same_Some (owned_key_of key) (instance_of i).key
+    (sym (ap (option_map owned_key_of) at) ∙ f ∙ ap (option_map (λ (b : Booked). b.key)) (sym e ∙ ap (option_map instance_of) is))
+
+-- the instance at a place, as it was lent
+pub lent : (all : List Booked) (place : ℕ) (o : Option Instance) (i : Instance) (b : Booked) → option_map instance_of o ≡ slice_get all place → o ≡ Some i → slice_get all place ≡ Some b → instance_of i ≡ b
+lent all place o i b e is at = same_Some (instance_of i) b (sym (ap (option_map instance_of) is) ∙ e ∙ at)
+
+-- ---- series by their places
+
+-- the series at a place of a slice
+pub series_there : (xs : List Series) (all : List Meeting) (i : ℕ) (s : Series) (m : Meeting) → map series_said xs ≡ all → i < length all → s ≡ get_or xs i s → slice_get all i ≡ Some m → m ≡ series_said s
+series_there xs all i s m e w is at =
+    let long = length-map xs series_said in
+    let here : slice_get all i ≡ Some (series_said s) = ap (λ l. slice_get l i) (sym e) ∙ said_at xs i s (omega (arith, w, long, ap length e)) is in
+    same_Some m (series_said s) (sym at ∙ here)
+
+-- two instances of series that share an instant have different keys
+pub keys_apart : (all : Confirmed) → HaveOwnKeys all → (i j : ℕ) (x y : Booked) → i ≤ j → j < length all.series → PairShares all.series i j x y → x.key ≢ y.key
+keys_apart all own i j x y l w s =
+    elim (cases_lt i j) [
+      | inl less ↦ λ same.
+          own.0 i j s.b less w x y
+          (subst (λ (m : Meeting). IsInstance m x) (sym (get_or_from_slice_get all.series i s.a s.b s.at_first)) s.first)
+          (subst (λ (m : Meeting). IsInstance m y) (sym (get_or_from_slice_get all.series j s.b s.b s.at_second)) s.second) same
+      | inr from ↦ s.differ (omega (arith, l, from))
+    ]
+
+-- the single at a place is one of what is confirmed
+pub single_in : (all : Confirmed) (place : ℕ) (b : Booked) → slice_get all.singles place ≡ Some b → IsOneOf all b
+single_in all place b e = inl (place, slice_get_within all.singles place b e, get_or_from_slice_get all.singles place b b e)
+
+-- and so is an instance of the series at a place
+pub series_in : (all : Confirmed) (place : ℕ) (series : Meeting) (b : Booked) → slice_get all.series place ≡ Some series → IsInstance series b → IsOneOf all b
+series_in all place series b e h = inr (series, (place, slice_get_within all.series place series e, get_or_from_slice_get all.series place series series e), h)
+
+-- two instances of one list clash as two of what is confirmed
+pub shares : (all : List Booked) (a b : Booked) (t : ℤ) → IsClash all a b t → SharesInstant a.start a.end b.start b.end
+shares all a b t c = record { instant = t; before = c.before; in_first = c.in_first; in_second = c.in_second }
+
+pub shares_turned : (start end from to : ℤ) → SharesInstant start end from to → SharesInstant from to start end
+shares_turned start end from to s = record { instant = s.instant; before = s.before; in_first = s.in_second; in_second = s.in_first }
+
+pub shares_start : (a b : Booked) → ShareStart a b → SharesInstant a.start a.end b.start b.end
+shares_start a b s = record { instant = s.instant; before = s.before; in_first = s.in_first; in_second = s.in_second }
+
+-- ---- what is clear
+
+-- where two singles never clash, and no single shares an instant with a series, no single clashes
+pub singles_clear : (all : Confirmed) → IsClear all.singles → ((single : Booked) → Contains all.singles single → HasNoSharer all.series single.start single.end)
+    → AreClear (Contains all.singles) (IsOneOf all)
+singles_clear all clear apart a b t x (inl y) c = clear a b t (record { first = x; second = y; differ = c.differ; before = c.before; in_first = c.in_first; in_second = c.in_second })
+singles_clear all clear apart a b t x (inr y) c = apart a x b y (record { instant = t; before = c.before; in_first = c.in_second; in_second = c.in_first })
+
+-- and where all pairs of series are clear, all are
+module _ (all : Confirmed) (singles : AreClear (Contains all.singles) (IsOneOf all)) (pairs : (p q : ℕ) → p ≤ q → q < length all.series → IsPairClear all.series p q) where
+  series_clear : (a b : Booked) (t : ℤ) → IsInSeries all.series a → IsInSeries all.series b → AreClashing a b t → ⊥
+  series_clear a b t (m, (i, w, e), h) (n, (j, v, f), k) c =
+      let at_m : slice_get all.series i ≡ Some m = slice_get-get_or all.series i m w ∙ ap Some e in
+      let at_n : slice_get all.series j ≡ Some n = slice_get-get_or all.series j n v ∙ ap Some f in
+      elim (cases_lt j i) [
+        | inl less ↦ pairs j i (omega (arith, less)) w n m at_n at_m b a t k h (turned a b t c)
+        | inr from ↦ pairs i j from v m n at_m at_n a b t h k c
+      ]
+
+  pub all_clear : AreClear (IsOneOf all) (IsOneOf all)
+  all_clear a b t (inl x) y c = singles a b t x y c
+  all_clear a b t (inr x) (inl y) c = singles b a t y (inr x) (turned a b t c)
+  all_clear a b t (inr x) (inr y) c = series_clear a b t x y c
+
+-- where all are clear, a certificate of the counts stands
+pub stands : (all : Confirmed) (c : Claims) → IsClaims c → c.singles ≡ length all.singles → c.series ≡ length all.series → AreClear (IsOneOf all) (IsOneOf all)
+    → CertificateStands all (text_of c)
+stands all c h singles series clear = record {
+  c = c;
+  spells = record { claims = h; is = refl };
+  counts = record { singles = singles; series = series };
+  entries = λ i j pair m n at_m at_n a b t x y clash. clear a b t (series_in all (i - 1) m a at_m x) (series_in all (j - 1) n b at_n y) clash;
+  singles = λ a b t x y clash. clear a b t (inl x) y clash;
+}
+
+-- of singles alone, without series, all are clear where the singles are
+pub singles_alone : (all : List Booked) → IsClear all → AreClear (IsOneOf (record { series = []; singles = all })) (IsOneOf (record { series = []; singles = all }))
+singles_alone all clear a b t (inl x) (inl y) c = clear a b t (record { first = x; second = y; differ = c.differ; before = c.before; in_first = c.in_first; in_second = c.in_second })
+singles_alone all clear a b t (inr (m, (k, w, e), h)) y c = absurd (omega (arith, w))
+singles_alone all clear a b t (inl x) (inr (m, (k, w, e), h)) c = absurd (omega (arith, w))

@@ -1,9 +1,9 @@
 -- Lines: where they end, and that a text has one way to be cut into lines.
-use Rattle.std.proofs.Common.{◌≡◌, ◌≢◌, ◌==◌, ℕ, zero, suc, ◌+◌, ◌-◌, ◌^◌, ◌<◌, Bool, true, false, not, ◌&&◌, List, [], ◌∷◌, ◌++◌, length, get_or, take, drop, subst, sym, refl, ap, ◌∙◌, append_assoc, arith}
+use Rattle.std.proofs.Common.{◌≡◌, ◌≢◌, ◌==◌, ℕ, zero, suc, ◌+◌, ◌-◌, ◌^◌, ◌<◌, ◌≤◌, Bool, true, false, cond, not, ◌&&◌, List, [], ◌∷◌, ◌++◌, length, get_or, take, drop, subst, sym, refl, ap, ◌∙◌, append_assoc, arith}
 use Rattle.std.specs.Prelude.{Option, Some, None, MatchOption, position, decimal, codes}
 use Rattle.std.specs.Prelude.{Result, Ok, Err, ltb, MatchResult}
 use Rattle.std.specs.Result.{result_ok}
-use Rattle.std.specs.List.{position_or_len}
+use Rattle.std.specs.List.{position_or_len, count_by}
 use Rattle.std.specs.Char.{is_ascii_digit}
 use Rattle.std.specs.Str.{all_ascii_digits, IsUtf8, bytes_eq}
 use Rattle.std.specs.Str.Parse.{digits_value, ParsesUnsigned}
@@ -14,11 +14,12 @@ use Rattle.std.proofs.lemmas.Str.Parse.{IsNumeralModel, numerals_by_value, tells
 use Rattle.std.proofs.lemmas.Str.{IsUtf8-from_ascii}
 use Rattle.std.proofs.lemmas.Option.{same_Some, none-some}
 use Rattle.std.proofs.lemmas.List.{length-append, length-take-le, length-drop, take_all, take-append-drop}
-use Rattle.std.proofs.Math.Seq.{drop-cons}
+use Rattle.std.proofs.Math.Seq.{drop-cons, take-append_seam}
+use Rattle.std.proofs.lemmas.List.Sums.{sum_by-cons, sum_by-append}
 use Rattle.std.proofs.lemmas.Slice.Eq.{bytes_eq-Decides}
 use Rattle.std.proofs.lemmas.List.Quantifiers.{position-Some}
 use denote.Ref.{Bor}
-use Rattle.profile.specs.checker.Certificates.{Claims, IsClaims, lines_of, spelled}
+use Rattle.profile.specs.checker.Certificates.{Claims, IsClaims, lines_of, pair_line, row_lines, pair_lines, entry_lines, spelled}
 use Rattle.clash_cert.specs.Texts.{Lacks, LacksLine, LacksCount, LacksLf, IsCutAtLf, IsNoNumber}
 
 pub cancel : (a x y : List ℕ) → a ++ x ≡ a ++ y → x ≡ y
@@ -30,6 +31,37 @@ pub line_from_parts : (bytes line rest : List ℕ) (r : Option (Bor (List ℕ)))
     → MatchOption r (Lacks (10 ∷ []) rest) (λ x. rest ≡ (10 ∷ []) ++ x.now) → MatchOption r (LacksLine line bytes) (λ x. bytes ≡ line ++ 10 ∷ x.now)
 line_from_parts bytes line rest None e h = λ tail f. h tail (cancel line rest (10 ∷ tail) (sym e ∙ f))
 line_from_parts bytes line rest (Some x) e h = e ∙ ap (λ l. line ++ l) h
+
+-- one piece after another
+pub both : (a b bytes rest : List ℕ) (r : Option (Bor (List ℕ))) → bytes ≡ a ++ rest → MatchOption r (Lacks b rest) (λ x. rest ≡ b ++ x.now)
+    → MatchOption r (Lacks (a ++ b) bytes) (λ x. bytes ≡ (a ++ b) ++ x.now)
+both a b bytes rest None e h = λ tail f. h tail (cancel a rest (b ++ tail) (sym e ∙ f ∙ append_assoc a b tail))
+both a b bytes rest (Some x) e h = e ∙ ap (λ l. a ++ l) h ∙ sym (append_assoc a b x.now)
+
+-- a line of a word, two numbers and a word: `p i j w`, parted by `s`
+module _ (p i s bytes rest : List ℕ) (e : bytes ≡ p ++ rest) where
+  pub no_first : (t : List ℕ) → Lacks (i ++ s) rest → LacksLine (p ++ (i ++ (s ++ t))) bytes
+  no_first t lacks tail f = lacks (t ++ 10 ∷ tail) (cancel p rest ((i ++ s) ++ (t ++ 10 ∷ tail)) (sym e ∙ f ∙ grouped p i s t (10 ∷ tail)))
+    where
+      grouped : (p i s t u : List ℕ) → (p ++ (i ++ (s ++ t))) ++ u ≡ p ++ ((i ++ s) ++ (t ++ u))
+      grouped p i s t u = simp append_assoc
+
+  pub both_numbers : (j w end last : List ℕ) (r : Option (Bor (List ℕ))) → end ≡ s ++ (w ++ 10 ∷ []) → rest ≡ (i ++ s) ++ last
+      → MatchOption r (Lacks (j ++ end) last) (λ x. last ≡ (j ++ end) ++ x.now)
+      → MatchOption r (LacksLine (p ++ (i ++ (s ++ (j ++ (s ++ w))))) bytes) (λ x. bytes ≡ (p ++ (i ++ (s ++ (j ++ (s ++ w))))) ++ 10 ∷ x.now)
+  both_numbers j w end last r at f h = go r h
+    where
+      grouped : (p i s j w n u : List ℕ) → (p ++ (i ++ (s ++ (j ++ (s ++ w))))) ++ (n ++ u) ≡ p ++ ((i ++ s) ++ ((j ++ (s ++ (w ++ n))) ++ u))
+      grouped p i s j w n u = simp append_assoc
+
+      whole : (u : List ℕ) → (p ++ (i ++ (s ++ (j ++ (s ++ w))))) ++ 10 ∷ u ≡ p ++ ((i ++ s) ++ ((j ++ end) ++ u))
+      whole u = grouped p i s j w (10 ∷ []) u ∙ ap (λ x. p ++ ((i ++ s) ++ ((j ++ x) ++ u))) (sym at)
+
+      go : (r : Option (Bor (List ℕ))) → MatchOption r (Lacks (j ++ end) last) (λ x. last ≡ (j ++ end) ++ x.now)
+          → MatchOption r (LacksLine (p ++ (i ++ (s ++ (j ++ (s ++ w))))) bytes) (λ x. bytes ≡ (p ++ (i ++ (s ++ (j ++ (s ++ w))))) ++ 10 ∷ x.now)
+      go None lacks = λ tail g.
+          lacks tail (cancel (i ++ s) last ((j ++ end) ++ tail) (sym f ∙ cancel p rest ((i ++ s) ++ ((j ++ end) ++ tail)) (sym e ∙ g ∙ whole tail)))
+      go (Some x) is = e ∙ ap (λ l. p ++ l) (f ∙ ap (λ l. (i ++ s) ++ l) is) ∙ sym (whole x.now)
 
 -- no octet is an LF
 abbrev pub lf_free : List ℕ → Bool
@@ -121,8 +153,48 @@ AreLines-take zero ls h = tt
 AreLines-take (suc n) [] h = tt
 AreLines-take (suc n) (l ∷ ls) h = (h.0, AreLines-take n ls h.1)
 
+pub AreLines-append : (ls ms : List (List ℕ)) → AreLines ls → AreLines ms → AreLines (ls ++ ms)
+AreLines-append [] ms h k = k
+AreLines-append (l ∷ ls) ms h k = (h.0, AreLines-append ls ms h.1 k)
+
+-- and those of which it is the front
+pub AreLines-front : (ls ms : List (List ℕ)) → AreLines (ls ++ ms) → AreLines ls
+AreLines-front [] ms h = tt
+AreLines-front (l ∷ ls) ms h = (h.0, AreLines-front ls ms h.1)
+
+-- the lines of a certificate are such
+pair_free : (c : Claims) (i j : ℕ) → i < 2 ^ 64 → j < 2 ^ 64 → lf_free (pair_line c i j) ≡ true
+pair_free c i j h k =
+    let tail : lf_free (codes " " ++ (decimal j ++ (codes " " ++ codes "END"))) ≡ true = lf_free-append (decimal j) (codes " " ++ codes "END") (decimal_free j k) refl in
+    lf_free-append (decimal i) (codes " " ++ (decimal j ++ (codes " " ++ codes "END"))) (decimal_free i h) tail
+
+row_are : (c : Claims) (i j count : ℕ) → i < 2 ^ 64 → j + count ≤ 2 ^ 64 → AreLines (row_lines c i j count)
+row_are c i j zero h k = tt
+row_are c i j (suc count) h k = (pair_free c i j h (omega (arith, k)), row_are c i (suc j) count h (omega (arith, k)))
+
+pairs_are : (c : Claims) (i count : ℕ) → i + count ≤ 2 ^ 64 → AreLines (pair_lines c i count)
+pairs_are c i zero k = tt
+pairs_are c i (suc count) k =
+    AreLines-append (row_lines c i i (suc count)) (pair_lines c (suc i) count) (row_are c i i (suc count) (omega (arith, k)) k) (pairs_are c (suc i) count (omega (arith, k)))
+
+pub entries_are : (c : Claims) → IsClaims c → AreLines (entry_lines c)
+entries_are c h = AreLines-append (pair_lines c 1 c.series) (codes "DONE" ∷ []) (pairs_are c 1 c.series (omega (arith, h.1))) (refl, tt)
+
+-- its first three lines
+abbrev pub head_lines : Claims → List (List ℕ)
+head_lines c = codes "ROOMCERT 1" ∷ (codes "SINGLES " ++ decimal c.singles) ∷ (codes "SERIES " ++ decimal c.series) ∷ []
+
+pub head_are : (c : Claims) → IsClaims c → AreLines (head_lines c)
+head_are c h = (
+  refl,
+  (
+    lf_free-append (codes "SINGLES ") (decimal c.singles) refl (decimal_free c.singles h.0),
+    (lf_free-append (codes "SERIES ") (decimal c.series) refl (decimal_free c.series h.1), tt),
+  ),
+)
+
 pub lines_are : (c : Claims) → IsClaims c → AreLines (lines_of c)
-lines_are c h = (refl, (lf_free-append (codes "SINGLES ") (decimal c.singles) refl (decimal_free c.singles h), (refl, (refl, tt))))
+lines_are c h = AreLines-append (head_lines c) (entry_lines c) (head_are c h) (entries_are c h)
 
 -- as many lines before, the same rest
 pub one_rest : (ls ms : List (List ℕ)) (x y : List ℕ) → AreLines ls → AreLines ms → length ls ≡ length ms → spelled ls x ≡ spelled ms y → x ≡ y
@@ -141,6 +213,54 @@ pub spelled-take_suc : (n : ℕ) (ls : List (List ℕ)) (rest : List ℕ) → n 
 spelled-take_suc n [] rest h = absurd (omega arith)
 spelled-take_suc zero (l ∷ ls) rest h = refl
 spelled-take_suc (suc n) (l ∷ ls) rest h = ap (λ t. l ++ 10 ∷ t) (spelled-take_suc n ls rest (omega arith))
+
+pub spelled-append : (ls ms : List (List ℕ)) (rest : List ℕ) → spelled (ls ++ ms) rest ≡ spelled ls (spelled ms rest)
+spelled-append [] ms rest = refl
+spelled-append (l ∷ ls) ms rest = ap (λ t. l ++ 10 ∷ t) (spelled-append ls ms rest)
+
+-- the rest follows the lines
+pub spelled_rest : (ls : List (List ℕ)) (rest : List ℕ) → spelled ls rest ≡ spelled ls [] ++ rest
+spelled_rest [] rest = refl
+spelled_rest (l ∷ ls) rest = ap (λ t. l ++ 10 ∷ t) (spelled_rest ls rest) ∙ sym (append_assoc l (10 ∷ spelled ls []) rest)
+
+-- ---- which line it is
+
+-- how many LFs stand there
+abbrev pub breaks : List ℕ → ℕ
+breaks octets = count_by (λ octet. octet == 10) octets
+
+first_break : (c : ℕ) (a : List ℕ) → breaks (c ∷ a) ≡ cond (c == 10) 1 0 + breaks a
+first_break c a = sum_by-cons (λ octet. cond (octet == 10) 1 0) c a
+
+breaks-append : (a b : List ℕ) → breaks (a ++ b) ≡ breaks a + breaks b
+breaks-append a b = sum_by-append (λ octet. cond (octet == 10) 1 0) a b
+
+no_breaks : (a : List ℕ) → lf_free a ≡ true → breaks a ≡ 0
+no_breaks [] h = refl
+no_breaks (c ∷ a) h =
+    let p = and_parts (not (c == 10)) (lf_free a) h in
+    let other : (c == 10) ≡ false = grind (arith, nat_tests, p.0) in
+    let here : cond (c == 10) 1 0 ≡ 0 = ap (λ (b : Bool). cond b 1 0) other in
+    let rest = no_breaks a p.1 in
+    first_break c a ∙ (ap (λ n. n + breaks a) here ∙ omega (arith, rest))
+
+count_lines : (ls : List (List ℕ)) → AreLines ls → breaks (spelled ls []) ≡ length ls
+count_lines [] h = refl
+count_lines (l ∷ ls) h =
+    let none = no_breaks l h.0 in
+    let more = count_lines ls h.1 in
+    let end : breaks (10 ∷ spelled ls []) ≡ 1 + breaks (spelled ls []) = first_break 10 (spelled ls []) in
+    breaks-append l (10 ∷ spelled ls []) ∙ (ap (λ n. breaks l + n) end ∙ omega (arith, none, more))
+
+-- behind so many lines the rest begins
+pub line_at : (text rest : List ℕ) (ls : List (List ℕ)) → AreLines ls → text ≡ spelled ls rest
+    → breaks (take (length text - length rest) text) ≡ length ls
+line_at text rest ls h e =
+    let parts : text ≡ spelled ls [] ++ rest = e ∙ spelled_rest ls rest in
+    let n : length text - length rest ≡ length (spelled ls []) = omega (arith, ap length parts, length-append (spelled ls []) rest) in
+    ap (λ k. breaks (take k text)) n
+    ∙ (ap (λ t. breaks (take (length (spelled ls [])) t)) parts
+    ∙ (ap breaks (take-append_seam (spelled ls []) rest) ∙ count_lines ls h))
 
 -- where an LF was found the text is cut
 pub cut_from_end : (bytes : List ℕ) (end : ℕ) → position (λ octet. octet == 10) bytes ≡ Some end

@@ -1,8 +1,9 @@
-//! The text of a certificate: lines ended by LF, `ROOMCERT 1`, `SINGLES k`, `SERIES n`, `DONE`,
-//! and nothing after. Numbers are decimal, of 64 bits, without leading zeros. So far `n` is 0.
-ghost use Rattle.std.specs.Prelude.{ℕ, List, ◌≡◌, ◌^◌, ◌<◌, ◌∷◌, ◌++◌, take, length, decimal, position, ◌==◌, IfOk, IfErr, OnOk, OnErr, MatchOption};
-ghost use Rattle.profile.specs.checker.Certificates.{Claims, FirstWrong, Spells, text_of};
-ghost use Rattle.clash_cert.specs.Texts.{IsCertFault, Lacks, LacksLine, LacksCount, LacksLf, IsCutAtLf, IsNoNumber};
+//! The text of a certificate: lines ended by LF, `ROOMCERT 1`, `SINGLES k`, `SERIES n`, for all 1 <= i <= j <= n, by i and then by j, a line
+//! `PAIR i j END`, and `DONE`, with nothing after. Numbers are decimal, of 64 bits, without leading zeros.
+ghost use Rattle.std.specs.Prelude.{ℕ, List, [], ◌≡◌, ◌^◌, ◌<◌, ◌≤◌, ◌-◌, ◌+◌, ◌∷◌, ◌++◌, suc, take, length, decimal, position, ◌==◌, IfOk, IfErr, OnOk, OnErr, MatchOption, MatchResult};
+ghost use Rattle.std.specs.List.{count_by};
+ghost use Rattle.profile.specs.checker.Certificates.{Claims, FirstWrong, Spells, text_of, entry_of, pair_line, row_lines, pair_lines, entry_lines, spelled};
+ghost use Rattle.clash_cert.specs.Texts.{IsCertFault, Lacks, LacksLine, LacksCount, LacksLf, IsCutAtLf, IsNoNumber, IsBroken, MissesLine, entry_said};
 
 use itoa::Buffer;
 use std::alloc::{AllocError, Global};
@@ -21,10 +22,19 @@ pub enum CertFault {
     Memory,
 }
 
-/// What a certificate says: how many singles and how many series its calendar has.
+/// What a certificate says of two series, or of one beside itself.
+#[derive(Clone, Copy, PartialEq, Eq)]
+pub enum Entry {
+    /// No two of their instances share an instant before the horizon.
+    End,
+}
+
+/// What a certificate says: how many singles and how many series its calendar has, and an entry for each pair of series. As long as there
+/// is one entry alone, none has to be kept.
 #[derive(Clone, Copy)]
 pub struct Certificate {
     singles: u64,
+    series: u64,
 }
 
 impl Model for Certificate {
@@ -32,20 +42,21 @@ impl Model for Certificate {
 
     ghost Value = { Claims };
 
-    ghost view = { λ c. record { singles = c.singles } };
+    ghost view = { λ c. record { singles = c.singles; series = c.series } };
 
-    ghost inverse = { λ c. record { singles = c.singles } };
+    ghost inverse = { λ c. record { singles = c.singles; series = c.series } };
 }
 
 impl Certificate {
-    /// The certificate of a calendar of that many singles and no series.
-    pub fn of(singles: u64) -> Certificate
-        ensures { result.singles ≡ singles }
+    /// The certificate of a calendar of that many singles and series, which are clear of each other.
+    pub fn of(singles: u64, series: u64) -> Certificate
+        ensures singles { result.singles ≡ singles }
+        ensures series { result.series ≡ series }
     {
-        Certificate { singles }
+        Certificate { singles, series }
     }
 
-    /// The certificate that the octets spell; else the number of the first wrong or missing line.
+    /// The certificate that the octets spell; else the number of the first wrong or missing line. It takes the time of the lines up to that.
     pub fn read(_alloc: Global, bytes: &[u8]) -> Result<Certificate, CertFault>
         ensures found { IfOk result (λ c. Spells bytes.now c) }
         ensures only { IfOk result (λ c. (d : Claims) → Spells bytes.now d → d ≡ c) }
@@ -57,16 +68,13 @@ impl Certificate {
         let Some((singles, rest)) = after_count(rest, b"SINGLES ") else {
             return Err(CertFault::Line(2));
         };
-        let Some(rest) = after_line(rest, b"SERIES 0") else {
+        let Some((series, rest)) = after_count(rest, b"SERIES ") else {
             return Err(CertFault::Line(3));
         };
-        let Some(rest) = after_line(rest, b"DONE") else {
-            return Err(CertFault::Line(4));
-        };
-        if !rest.is_empty() {
-            return Err(CertFault::Line(5));
+        match read_entries(rest, series) {
+            Ok(()) => Ok(Certificate { singles, series }),
+            Err(rest) => Err(CertFault::Line(line_of(bytes, rest))),
         }
-        Ok(Certificate { singles })
     }
 
     /// Appends the certificate's text. Fails only for memory, and then `out` is unchanged.
@@ -75,9 +83,7 @@ impl Certificate {
         ensures err { OnErr result (out.new.items ≡ out.old.items) }
     {
         let before = out.len();
-        let mut buffer = Buffer::new();
-        let singles = buffer.format(self.singles).as_bytes();
-        let written = append(out, b"ROOMCERT 1\nSINGLES ", singles, b"\nSERIES 0\nDONE\n");
+        let written = write_text(out, self.singles, self.series);
         if written.is_err() {
             out.truncate(before);
         }
@@ -91,11 +97,19 @@ impl Certificate {
         self.singles
     }
 
-    /// How many series it says there are: none yet.
+    /// How many series it says there are.
     pub fn series(&self) -> u64
-        ensures { result ≡ 0 }
+        ensures { result ≡ self.now.series }
     {
-        0
+        self.series
+    }
+
+    /// What it says of a pair of series, counted from 1, the one that comes first in the calendar first.
+    pub fn entry(&self, i: u64, j: u64) -> Entry
+        ensures { entry_said result ≡ entry_of self.now i j }
+    {
+        let _ = (i, j);
+        Entry::End
     }
 }
 
@@ -103,6 +117,76 @@ impl Certificate {
 pub fn first_wrong_line_is_one()
     ensures { (text : List ℕ) (m n : ℕ) → FirstWrong text m → FirstWrong text n → m ≡ n }
 {}
+
+/// Reads what follows the counts of a certificate of so many series: else gives what follows the lines that are right.
+fn read_entries(bytes: &[u8], series: u64) -> Result<(), &[u8]>
+    ensures { (c : Claims) → c.series ≡ series
+        → MatchResult result (λ _. bytes.now ≡ spelled (entry_lines c) []) (λ rest. IsBroken (entry_lines c) bytes.now rest.now) }
+{
+    let rest = after_pairs(bytes, series)?;
+    let Some(left) = after_line(rest, b"DONE") else {
+        return Err(rest);
+    };
+    if left.is_empty() { Ok(()) } else { Err(left) }
+}
+
+/// What follows the lines of all pairs of so many series; else what follows those that are right.
+fn after_pairs(bytes: &[u8], series: u64) -> Result<&[u8], &[u8]>
+    ensures { (c : Claims) → MatchResult result (λ rest. bytes.now ≡ spelled (pair_lines c 1 series) rest.now) (λ rest. MissesLine (pair_lines c 1 series) bytes.now rest.now) }
+{
+    let mut rest = bytes;
+    for i in 0..series {
+        rest = after_row(rest, i + 1, series)?;
+    }
+    Ok(rest)
+}
+
+/// What follows the lines of series i beside itself and those after it; else what follows those that are right.
+fn after_row(bytes: &[u8], i: u64, series: u64) -> Result<&[u8], &[u8]>
+    requires { (0 < i) × (i ≤ series) }
+    ensures { (c : Claims) → MatchResult result (λ rest. bytes.now ≡ spelled (row_lines c i i (suc series - i)) rest.now)
+        (λ rest. MissesLine (row_lines c i i (suc series - i)) bytes.now rest.now) }
+{
+    let mut rest = bytes;
+    for j in i - 1..series {
+        let Some(left) = after_pair(rest, i, j + 1) else {
+            return Err(rest);
+        };
+        rest = left;
+    }
+    Ok(rest)
+}
+
+/// What follows the line of a pair, if the text begins with it and its LF.
+fn after_pair(bytes: &[u8], i: u64, j: u64) -> Option<&[u8]>
+    ensures { (c : Claims) → MatchOption result (LacksLine (pair_line c i j) bytes.now) (λ rest. bytes.now ≡ pair_line c i j ++ 10 ∷ rest.now) }
+{
+    let rest = after(bytes, b"PAIR ")?;
+    let rest = after_number(rest, i, b" ")?;
+    after_number(rest, j, b" END\n")
+}
+
+/// What follows a number and these octets, if the text begins with them.
+fn after_number<'a>(bytes: &'a [u8], number: u64, tail: &[u8]) -> Option<&'a [u8]>
+    ensures { MatchOption result (Lacks (decimal number ++ tail.now) bytes.now) (λ rest. bytes.now ≡ (decimal number ++ tail.now) ++ rest.now) }
+{
+    let mut buffer = Buffer::new();
+    let rest = after(bytes, buffer.format(number).as_bytes())?;
+    after(rest, tail)
+}
+
+/// The number of the line at which the rest of a text begins.
+fn line_of(bytes: &[u8], rest: &[u8]) -> u64
+    ensures { result ≡ suc (count_by (λ octet. octet == 10) (take (length bytes.now - length rest.now) bytes.now)) }
+{
+    let mut line = 1;
+    for octet in &bytes[..bytes.len().saturating_sub(rest.len())] {
+        if *octet == b'\n' {
+            line += 1;
+        }
+    }
+    line
+}
 
 /// What follows these octets, if the text begins with them.
 fn after<'a>(bytes: &'a [u8], front: &[u8]) -> Option<&'a [u8]>
@@ -157,6 +241,51 @@ fn number_of(digits: &[u8]) -> Option<u64>
     } else {
         None
     }
+}
+
+/// Appends the text of a certificate. After an error `out` may have grown.
+fn write_text(out: &mut Vec<u8>, singles: u64, series: u64) -> Result<(), AllocError>
+    ensures ok { OnOk result (out.new.items ≡ out.old.items ++ text_of (record { singles = singles; series = series })) }
+    ensures err { OnErr result (take (length out.old.items) out.new.items ≡ out.old.items) }
+{
+    write_number(out, b"ROOMCERT 1\nSINGLES ", singles, b"\nSERIES ")?;
+    write_number(out, b"", series, b"\n")?;
+    write_pairs(out, series)?;
+    out.extend_from_slice(b"DONE\n")?;
+    Ok(())
+}
+
+/// Appends the lines of all pairs. After an error `out` may have grown.
+fn write_pairs(out: &mut Vec<u8>, series: u64) -> Result<(), AllocError>
+    ensures ok { OnOk result ((c : Claims) → out.new.items ≡ out.old.items ++ spelled (pair_lines c 1 series) []) }
+    ensures err { OnErr result (take (length out.old.items) out.new.items ≡ out.old.items) }
+{
+    for i in 0..series {
+        write_row(out, i + 1, series)?;
+    }
+    Ok(())
+}
+
+/// Appends the lines of series i beside itself and those after it. After an error `out` may have grown.
+fn write_row(out: &mut Vec<u8>, i: u64, series: u64) -> Result<(), AllocError>
+    requires { (0 < i) × (i ≤ series) }
+    ensures ok { OnOk result ((c : Claims) → out.new.items ≡ out.old.items ++ spelled (row_lines c i i (suc series - i)) []) }
+    ensures err { OnErr result (take (length out.old.items) out.new.items ≡ out.old.items) }
+{
+    for j in i - 1..series {
+        write_number(out, b"PAIR ", i, b" ")?;
+        write_number(out, b"", j + 1, b" END\n")?;
+    }
+    Ok(())
+}
+
+/// Appends a number between two pieces. After an error `out` may have grown.
+fn write_number(out: &mut Vec<u8>, head: &[u8], number: u64, tail: &[u8]) -> Result<(), AllocError>
+    ensures ok { OnOk result (out.new.items ≡ out.old.items ++ (head.now ++ (decimal number ++ tail.now))) }
+    ensures err { OnErr result (take (length out.old.items) out.new.items ≡ out.old.items) }
+{
+    let mut buffer = Buffer::new();
+    append(out, head, buffer.format(number).as_bytes(), tail)
 }
 
 /// Appends three pieces. After an error `out` may have grown.

@@ -1,12 +1,17 @@
-//! Making: a certificate where the confirmed instances are clear, else a clash.
-ghost use Rattle.std.specs.Prelude.{◌≡◌, ◌<◌, ◌↔◌, List, length, IfOk, IfSome, IfNone};
+//! Making: a certificate where what is confirmed is clear, else a clash.
+ghost use Rattle.std.specs.Prelude.{◌≡◌, ◌↔◌, length, IfOk, IfSome, IfNone};
 ghost use Rattle.std.specs.Ordering.{is_lt};
-ghost use Rattle.profile.specs.checker.Instances.{Booked, IsClear, booked_cmp};
-ghost use Rattle.cal_events.specs.Calendars.{instance_of};
-ghost use Rattle.clash_cert.specs.Makings.{IsCertificate, IsMadeFor, IsNamedClash, HasCount, AreNamedAt, HasKeysAt};
+ghost use Rattle.profile.specs.checker.Instances.{AreClear, booked_cmp};
+ghost use Rattle.profile.specs.events.Confirmed.{Confirmed as SaidConfirmed, IsOneOf};
+ghost use Rattle.cal_events.specs.Calendars.{instance_of, owned_key_of};
+ghost use Rattle.cal_events.specs.Clashes.{Names};
+ghost use Rattle.cal_period.specs.Besides.{IsBeside};
+ghost use Rattle.cal_period.specs.Every.{IsFound};
+ghost use Rattle.clash_cert.specs.Makings.{IsCertificate, IsMadeFor, IsNamedClash, IsNamedAs, IsLaterStart, HasCounts};
 
 use crate::certificate::Certificate;
 use cal_events::{Calendar, Instance, Overlap, OwnedKey};
+use cal_period::{Beside, Shared, single_beside_series, sweep_all};
 use std::alloc::{AllocError, Global};
 
 /// Two instances of different keys and an instant in both, before the horizon: the later start.
@@ -27,84 +32,127 @@ pub enum Made {
     Clash(Clash),
 }
 
-/// Confirmed instances that a certificate can be made for: a calendar's, or those of a room that keeps them clear.
+/// What a certificate can be made for: what a calendar confirms, or what a room confirms that keeps it clear.
 pub trait Confirmed {
-    // The instances.
-    ghost confirmed: { Self → List Booked };
+    // Series and singles.
+    ghost confirmed: { Self → SaidConfirmed };
 
-    /// How many they are.
+    /// How many singles there are.
     fn count(&self) -> u64
-        ensures { result ≡ length (Self.confirmed self.now) };
+        ensures { result ≡ length (Self.confirmed self.now).singles };
 
-    /// Two of them that share an instant, None where they are clear. It fails only for memory.
+    /// How many series there are.
+    fn count_of_series(&self) -> u64
+        ensures { result ≡ length (Self.confirmed self.now).series };
+
+    /// Two instances that share an instant, None where all are clear. It fails only for memory.
     fn clash(&self, alloc: Global) -> Result<Option<Clash>, AllocError>
         ensures clash { IfOk result (λ found. IfSome found (IsNamedClash (Self.confirmed self.now))) }
-        ensures clear { IfOk result (λ found. IfNone found (IsClear (Self.confirmed self.now))) };
+        ensures clear { IfOk result (λ found. IfNone found (AreClear (IsOneOf (Self.confirmed self.now)) (IsOneOf (Self.confirmed self.now)))) };
 }
 
 impl Confirmed for Calendar {
-    // Those of its singles: what is made for a calendar with series stands for it once certificates have series.
-    ghost confirmed = { λ calendar. calendar.singles };
+    ghost confirmed = { λ calendar. calendar };
 
     fn count(&self) -> u64 {
         self.single_count()
     }
 
+    fn count_of_series(&self) -> u64 {
+        self.series_count()
+    }
+
     fn clash(&self, alloc: Global) -> Result<Option<Clash>, AllocError> {
-        let Some(overlap) = self.first_overlap(alloc)? else {
-            return Ok(None);
-        };
-        let clash = clash_at(self, overlap)?;
-        Ok(Some(clash))
+        if let Some(overlap) = self.first_overlap(alloc)? {
+            return Ok(Some(of_singles(self, overlap)?));
+        }
+        if let Some(beside) = single_beside_series(self) {
+            return Ok(Some(of_single_and_series(alloc, self, beside)?));
+        }
+        match sweep_all(self.series()).shared {
+            Some(shared) => Ok(Some(of_series(alloc, self, shared)?)),
+            None => Ok(None),
+        }
     }
 }
 
-/// A certificate that stands where the confirmed instances are clear, else a clash. Fails only
-/// for memory.
+/// A certificate that stands where what is confirmed is clear, else a clash. Fails only for memory.
 pub fn make<C: Confirmed>(alloc: Global, confirmed: &C) -> Result<Made, AllocError>
     ensures made { IfOk result (IsMadeFor (C.confirmed confirmed.now)) }
-    ensures clear { IfOk result (λ made. IsCertificate made ↔ IsClear (C.confirmed confirmed.now)) }
-    ensures counted { IfOk result (HasCount (length (C.confirmed confirmed.now))) }
+    ensures clear { IfOk result (λ made. IsCertificate made ↔ AreClear (IsOneOf (C.confirmed confirmed.now)) (IsOneOf (C.confirmed confirmed.now))) }
+    ensures counted { IfOk result (HasCounts (length (C.confirmed confirmed.now).singles) (length (C.confirmed confirmed.now).series)) }
 {
     if let Some(clash) = confirmed.clash(alloc)? {
         return Ok(Made::Clash(clash));
     }
-    Ok(Made::Clear(Certificate::of(confirmed.count())))
+    let certificate = Certificate::of(confirmed.count(), confirmed.count_of_series());
+    Ok(Made::Clear(certificate))
 }
 
-/// The clash of the singles at two places.
-fn clash_at(calendar: &Calendar, overlap: Overlap) -> Result<Clash, AllocError>
-    requires first { overlap.first < length calendar.now.singles }
-    requires second { overlap.second < length calendar.now.singles }
-    ensures { IfOk result (AreNamedAt calendar.now.singles overlap) }
+/// The clash of two singles.
+fn of_singles(calendar: &Calendar, overlap: Overlap) -> Result<Clash, AllocError>
+    requires { Names calendar.now.singles overlap }
+    ensures { IfOk result (IsNamedClash calendar.now) }
 {
     let a = calendar.single(overlap.first).unwrap();
     let b = calendar.single(overlap.second).unwrap();
-    if is_before(&b, &a) {
-        in_order(calendar, overlap.second, overlap.first, overlap.instant)
+    let of_a = calendar.key(overlap.first)?.unwrap();
+    let of_b = calendar.key(overlap.second)?.unwrap();
+    Ok(named(&a, &b, of_a, of_b))
+}
+
+/// The clash of a single and an instance of a series.
+fn of_single_and_series(
+    alloc: Global,
+    calendar: &Calendar,
+    beside: Beside<'_>,
+) -> Result<Clash, AllocError>
+    requires { IsBeside calendar.now beside }
+    ensures { IfOk result (IsNamedClash calendar.now) }
+{
+    let single = calendar.single(beside.single).unwrap();
+    let of_single = calendar.key(beside.single)?.unwrap();
+    let series = calendar.series();
+    let of_series = series[beside.series].key(alloc, beside.instance.start)?;
+    Ok(named(&single, &beside.instance, of_single, of_series))
+}
+
+/// The clash of two instances of series.
+fn of_series(alloc: Global, calendar: &Calendar, shared: Shared<'_>) -> Result<Clash, AllocError>
+    requires { IsFound calendar.now.series shared }
+    ensures { IfOk result (IsNamedClash calendar.now) }
+{
+    let series = calendar.series();
+    let of_first = series[shared.i].key(alloc, shared.first.start)?;
+    let of_second = series[shared.j].key(alloc, shared.second.start)?;
+    Ok(named(&shared.first, &shared.second, of_first, of_second))
+}
+
+/// The clash of two instances, whose keys are owned.
+fn named(a: &Instance<'_>, b: &Instance<'_>, of_a: OwnedKey, of_b: OwnedKey) -> Clash
+    ensures { owned_key_of of_a ≡ (instance_of a.now).key → owned_key_of of_b ≡ (instance_of b.now).key → IsNamedAs (instance_of a.now) (instance_of b.now) result }
+{
+    let instant = later_start(a, b);
+    if is_before(b, a) {
+        Clash {
+            first: of_b,
+            second: of_a,
+            instant,
+        }
     } else {
-        in_order(calendar, overlap.first, overlap.second, overlap.instant)
+        Clash {
+            first: of_a,
+            second: of_b,
+            instant,
+        }
     }
 }
 
-/// The clash of two singles, by their places.
-fn in_order(
-    calendar: &Calendar,
-    first: usize,
-    second: usize,
-    instant: i64,
-) -> Result<Clash, AllocError>
-    requires first { first < length calendar.now.singles }
-    requires second { second < length calendar.now.singles }
-    ensures { IfOk result (HasKeysAt calendar.now.singles first second instant) }
+/// The later start of two instances.
+fn later_start(a: &Instance<'_>, b: &Instance<'_>) -> i64
+    ensures { IsLaterStart (instance_of a.now) (instance_of b.now) result }
 {
-    let first = calendar.key(first)?.unwrap();
-    let second = calendar.key(second)?.unwrap();
-    Ok(Clash {
-        first,
-        second,
-        instant,
-    })
+    if a.start < b.start { b.start } else { a.start }
 }
 
 /// Is the first less by start, organiser, UID, slot?

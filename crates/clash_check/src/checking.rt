@@ -1,23 +1,29 @@
 //! Checking: a certificate's text against a calendar, and a clash against a calendar.
-ghost use Rattle.std.specs.Prelude.{ℕ, List, ◌≡◌, ◌<ℤ◌, ◌≤ℤ◌, ◌↔◌, ◌⊎◌, IsTrue, IfOk, IfNone, IfSome, Contains};
-ghost use Rattle.profile.specs.checker.Instances.{Booked, IsClear, IsWithin};
-ghost use Rattle.profile.specs.events.Confirmed.{Confirmed};
+ghost use Rattle.std.specs.Prelude.{ℕ, List, ◌≡◌, ◌-◌, ◌^◌, ◌<ℤ◌, ◌≤ℤ◌, ◌↔◌, ◌⊎◌, IsTrue, IfOk, IfNone, IfSome, Contains, MatchBool, map, min};
+ghost use Rattle.profile.specs.checker.Instances.{Booked, AreClear, HasClash, IsWithin};
+ghost use Rattle.profile.specs.events.Starts.{IsInstance};
+ghost use Rattle.profile.specs.events.Confirmed.{Confirmed, IsInSeries, IsOneOf};
 ghost use Rattle.profile.specs.checker.Calendars.{CertificateHolds};
-ghost use Rattle.profile.specs.checker.Certificates.{CertificateStands, Spells};
+ghost use Rattle.profile.specs.checker.Certificates.{Claims, CertificateStands, HasCounts, Spells};
 ghost use Rattle.ical_values.specs.Octets.{address_octets};
 ghost use Rattle.cal_events.specs.Calendars.{instance_of, owned_key_of};
+ghost use Rattle.cal_events.specs.SaidSeries.{series_said};
 ghost use Rattle.clash_cert.specs.Makings.{IsClashIn};
-ghost use Rattle.clash_check.specs.Verdicts.{IsVerdict, MakesFew, IsNo, IsRefusedCalendar, IsJudgement, HasThatKey, Share};
+ghost use Rattle.clash_check.specs.Verdicts.{IsVerdict, MakesFew, IsRefusedCalendar, IsJudgement, HasThatKey, Share, singles_count};
 
 use crate::verdict::{Checked, Verdict, Why};
-use cal_events::{Calendar, HORIZON, Instance, OwnedKey, one_calendar_text};
+use cal_events::{
+    Calendar, HORIZON, Instance, OwnedKey, Series, known_by_start, one_calendar_text,
+};
+use cal_period::{single_beside_series, sweep_all};
 use clash_cert::{CertFault, Certificate, Clash};
 use ical_lines::Fault;
 use ical_values::Address;
 use std::alloc::{AllocError, Global};
 
 /// Does the certificate stand for the room's calendar? No for the first of: the calendar is refused (80), the
-/// certificate's text is wrong (81), a count isn't the calendar's (82), a single clashes (84). Fails only for memory.
+/// certificate's text is wrong (81), a count isn't the calendar's (82), an entry doesn't stand (83), a single clashes with another or with
+/// a series (84). Fails only for memory.
 pub fn check(
     alloc: Global,
     calendar: &[u8],
@@ -50,7 +56,7 @@ pub fn judge_read(
 {
     match Certificate::read(alloc, certificate) {
         Ok(certificate) => judge(alloc, calendar, certificate),
-        Err(CertFault::Line(line)) => Ok(Checked::no_at(Why::TEXT, line, 0)),
+        Err(CertFault::Line(line)) => Ok(Checked::no_at(Why::TEXT, line, 0, 0)),
         Err(CertFault::Memory) => Err(AllocError),
     }
 }
@@ -64,34 +70,72 @@ fn judge(
     ensures verdict { IfOk result (λ checked. (text : List ℕ) → Spells text certificate → IsVerdict calendar.now text checked.verdict) }
     ensures made { IfOk result (MakesFew calendar.now) }
 {
-    let singles = calendar.single_count();
-    if certificate.singles() != singles || certificate.series() != calendar.series_count() {
+    if certificate.singles() != calendar.single_count()
+        || certificate.series() != calendar.series_count()
+    {
         return Ok(Checked::no(Why::COUNTS, 0));
     }
-    match calendar.first_overlap(alloc)? {
-        Some(_) => Ok(Checked::no(Why::SINGLES, singles)),
-        None => Ok(Checked {
+    judge_counted(alloc, calendar)
+}
+
+/// Does a certificate of the calendar's counts stand? Its entries all say END, so each pair of series is looked through up to the horizon.
+fn judge_counted(alloc: Global, calendar: &Calendar) -> Result<Checked, AllocError>
+    ensures verdict { IfOk result (λ checked. (text : List ℕ) (c : Claims) → Spells text c → HasCounts calendar.now c → IsVerdict calendar.now text checked.verdict) }
+    ensures made { IfOk result (MakesFew calendar.now) }
+{
+    let swept = sweep_all(calendar.series());
+    if let Some(shared) = swept.shared {
+        let (i, j) = (shared.i as u64 + 1, shared.j as u64 + 1);
+        return Ok(Checked::no_at(Why::ENTRY, i, j, swept.drawn));
+    }
+    let made = swept.drawn.saturating_add(made_of_singles(calendar));
+    if are_singles_clear(alloc, calendar)? {
+        Ok(Checked {
             verdict: Verdict::Yes,
-            made: singles,
-        }),
+            made,
+        })
+    } else {
+        Ok(Checked::no(Why::SINGLES, made))
     }
 }
 
-/// A certificate that stands for instances is enough: no two of them clash.
+/// Does no single clash with another single or with a series?
+fn are_singles_clear(alloc: Global, calendar: &Calendar) -> Result<bool, AllocError>
+    ensures { IfOk result (λ clear. MatchBool clear (AreClear (Contains calendar.now.singles) (IsOneOf calendar.now)) (HasClash (Contains calendar.now.singles) (IsOneOf calendar.now))) }
+{
+    // For the proof alone: the keys of a single and of an instance of a series differ.
+    let _series = calendar.series();
+    match calendar.first_overlap(alloc)? {
+        Some(_) => Ok(false),
+        None => Ok(single_beside_series(calendar).is_none()),
+    }
+}
+
+/// How many instances are made for the singles: for each itself, and eight more for each series.
+fn made_of_singles(calendar: &Calendar) -> u64
+    ensures { result ≡ min (singles_count calendar.now) (2 ^ 64 - 1) }
+{
+    let each = calendar.series_count().saturating_mul(8).saturating_add(1);
+    each.saturating_mul(calendar.single_count())
+}
+
+/// A certificate that stands is enough: no two of all confirmed instances clash, of singles and of series.
 pub fn standing_means_clear()
-    ensures { (all : Confirmed) (text : List ℕ) → CertificateStands all text → IsClear all.singles }
+    ensures { (all : Confirmed) (text : List ℕ) → CertificateStands all text → AreClear (IsOneOf all) (IsOneOf all) }
 {}
 
-/// Is this a clash of two singles of the calendar?
+/// Is this a clash of two confirmed instances of the calendar?
 pub fn check_clash(calendar: &Calendar, clash: &Clash) -> bool
-    ensures { IsTrue result ↔ IsClashIn calendar.now.singles clash.now }
+    ensures { IsTrue result ↔ IsClashIn calendar.now clash.now }
 {
-    // For the proof alone: the keys of the singles differ.
+    // For the proof alone: each key is that of one instance.
     let _singles = calendar.singles();
-    let Some(first) = single_of(calendar, &clash.first) else {
+    let _series = calendar.series();
+    known_by_start();
+    let Some(first) = confirmed_of(calendar, &clash.first) else {
         return false;
     };
-    let Some(second) = single_of(calendar, &clash.second) else {
+    let Some(second) = confirmed_of(calendar, &clash.second) else {
         return false;
     };
     if has_key(&first, &clash.second) {
@@ -105,6 +149,45 @@ fn share(first: &Instance<'_>, second: &Instance<'_>, instant: i64) -> bool
     ensures { IsTrue result ↔ Share (instance_of first.now) (instance_of second.now) instant }
 {
     instant < HORIZON && is_during(first, instant) && is_during(second, instant)
+}
+
+/// The confirmed instance of that key: a single, or one of a series.
+fn confirmed_of<'a>(calendar: &'a Calendar, key: &OwnedKey) -> Option<Instance<'a>>
+    ensures found { IfSome result (λ i. IsOneOf calendar.now (instance_of i) × HasThatKey key.now i) }
+    ensures none { IfNone result ((b : Booked) → IsOneOf calendar.now b → b.key ≡ owned_key_of key.now → ⊥) }
+{
+    match single_of(calendar, key) {
+        Some(single) => Some(single),
+        None => of_series(calendar.series(), key),
+    }
+}
+
+/// The instance of that key of one of the series.
+fn of_series<'a>(series: &'a [Series], key: &OwnedKey) -> Option<Instance<'a>>
+    ensures found { IfSome result (λ i. IsInSeries (map series_said series.now) (instance_of i) × HasThatKey key.now i) }
+    ensures none { IfNone result ((b : Booked) → IsInSeries (map series_said series.now) b → b.key ≡ owned_key_of key.now → ⊥) }
+{
+    for place in 0..series.len() {
+        if let Some(instance) = at_slot(&series[place], key) {
+            return Some(instance);
+        }
+    }
+    None
+}
+
+/// The instance of that key of a series: the first that starts at its slot or later, if it is that.
+fn at_slot<'a>(series: &'a Series, key: &OwnedKey) -> Option<Instance<'a>>
+    ensures found { IfSome result (λ i. IsInstance (series_said series.now) (instance_of i) × HasThatKey key.now i) }
+    ensures none { IfNone result ((b : Booked) → IsInstance (series_said series.now) b → b.key ≡ owned_key_of key.now → ⊥) }
+{
+    known_by_start();
+    let mut starts = series.starts(key.slot);
+    let first = starts.next()?;
+    if has_key(&first, key) {
+        Some(first)
+    } else {
+        None
+    }
 }
 
 /// The single of that key.

@@ -6,7 +6,8 @@ ghost use Rattle.clash_check.specs.Verdicts.{IsNo};
 #[derive(Clone, Copy, PartialEq, Eq)]
 pub struct Checked {
     pub verdict: Verdict,
-    /// How many instances were made: one for each single, and none for a refused calendar or a wrong text or count.
+    /// How many instances were made, 2^64-1 at most: for each pair of series those of both, once where they are one, and for each single
+    /// itself and eight more for each series. None for a refused calendar, or a wrong text or count.
     pub made: u64,
 }
 
@@ -20,7 +21,7 @@ pub enum Verdict {
 
 /// Why a certificate doesn't stand: the calendar is refused (80), the certificate's text is wrong
 /// (81, `first` is its first wrong or missing line), a count isn't the calendar's (82), an entry
-/// doesn't stand (83, `first` and `second` are its pair), a single clashes (84). Elsewhere `first`
+/// doesn't stand (83, `first` and `second` are its pair, counted from 1), a single clashes (84). Elsewhere `first`
 /// and `second` are 0.
 #[derive(Clone, Copy, PartialEq, Eq)]
 pub struct Why {
@@ -39,31 +40,31 @@ impl Why {
     /// A count isn't the calendar's.
     pub const COUNTS: u8 = 82;
 
-    /// An entry doesn't stand; no certificate has entries yet.
+    /// An entry doesn't stand.
     pub const ENTRY: u8 = 83;
 
-    /// A single clashes with another.
+    /// A single clashes with another, or with a series.
     pub const SINGLES: u8 = 84;
 }
 
 impl Checked {
     /// A no of that number that names nothing.
     pub(crate) fn no(number: u8, made: u64) -> Checked
-        ensures no { IsNo number 0 result.verdict }
+        ensures no { IsNo number 0 0 result.verdict }
         ensures made { result.made ≡ made }
     {
-        Checked::no_at(number, 0, made)
+        Checked::no_at(number, 0, 0, made)
     }
 
-    /// A no of that number that names a line.
-    pub(crate) fn no_at(number: u8, first: u64, made: u64) -> Checked
-        ensures no { IsNo number first result.verdict }
+    /// A no of that number that names a line, or the two series of a pair.
+    pub(crate) fn no_at(number: u8, first: u64, second: u64, made: u64) -> Checked
+        ensures no { IsNo number first second result.verdict }
         ensures made { result.made ≡ made }
     {
         let why = Why {
             number,
             first,
-            second: 0,
+            second,
         };
         Checked {
             verdict: Verdict::No(why),

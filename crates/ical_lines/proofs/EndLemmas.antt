@@ -11,6 +11,7 @@ use Rattle.std.proofs.lemmas.List.Splits.{slice_split_none, slice_split_at, leng
 use Rattle.std.proofs.lemmas.Slice.Eq.{bytes_eq-Decides}
 use Rattle.profile.specs.text.Lines.{is_continuation, without_mark, without_return, physical_lines, gather, unfolded, is_filled, logical_lines}
 use Rattle.profile.specs.text.Objects.{is_last, parts_after, octets_after, after_object, all_lines, lines_behind, EndsWithItsLine, EndsWithTheInput, EndsBefore}
+use Rattle.std.proofs.Math.Bool.{and-false}
 use Rattle.ical_lines.specs.Breaks.{is_break, is_one_line}
 use Rattle.ical_lines.proofs.BreakLemmas.{none_at, parts_whole}
 use Rattle.ical_lines.proofs.CutLemmas.{without_return-cons, last_by}
@@ -75,12 +76,8 @@ same_mark (x ∷ []) rest = refl
 same_mark (x ∷ y ∷ []) rest = refl
 same_mark (x ∷ y ∷ z ∷ b) rest = refl
 
-and_none : (s : Bool) → (s && false) ≡ false
-and_none true = refl
-and_none false = refl
-
 none_short : (s t : Bool) → (s && (t && false)) ≡ false
-none_short true t = and_none t
+none_short true t = and-false t
 none_short false t = refl
 
 stays_by : (t : Bool) (x y z : List ℕ) → cond t (x ++ z) (y ++ z) ≡ cond t x y ++ z
@@ -93,7 +90,7 @@ mark_none b rest h =
 
 mark_stays : (b rest : List ℕ) → without_mark (b ++ 10 ∷ rest) ≡ without_mark b ++ 10 ∷ rest
 mark_stays [] rest = refl
-mark_stays (x ∷ []) rest = mark_none (x ∷ []) rest (and_none (eqb x 0xEF))
+mark_stays (x ∷ []) rest = mark_none (x ∷ []) rest (and-false (eqb x 0xEF))
 mark_stays (x ∷ y ∷ []) rest = mark_none (x ∷ y ∷ []) rest (none_short (eqb x 0xEF) (eqb y 0xBB))
 mark_stays (x ∷ y ∷ z ∷ b) rest = stays_by (has_mark (x ∷ y ∷ z ∷ b)) b (x ∷ y ∷ z ∷ b) (10 ∷ rest)
 

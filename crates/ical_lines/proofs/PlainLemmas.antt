@@ -1,13 +1,13 @@
 -- A line that begins with a name and a colon right after it.
-use Rattle.std.proofs.Common.{◌≡◌, ℕ, zero, suc, ◌+◌, ◌<◌, Bool, true, false, not, ◌&&◌, ◌||◌, ◌==◌, cond, List, [], ◌∷◌, ◌++◌, Option, Some, None, length, take, drop, get_or, refl, sym, ap, subst, ◌∙◌, arith}
+use Rattle.std.proofs.Common.{◌≡◌, ℕ, suc, ◌+◌, ◌<◌, Bool, true, false, not, ◌&&◌, ◌||◌, ◌==◌, cond, List, [], ◌∷◌, Some, None, length, take, drop, get_or, refl, sym, ap, subst, ◌∙◌, arith}
 use Rattle.std.specs.List.{list_all, list_any, position}
 use Rattle.std.specs.Prelude.{count_by, ◌%◌}
 use Rattle.std.proofs.lemmas.Bool.{and_from}
 use Rattle.std.proofs.lemmas.Bool.Decides.{nat_tests}
 use Rattle.std.proofs.lemmas.List.{length-take, get_or-take, take-append-drop, drop_more}
 use Rattle.std.proofs.lemmas.List.Quantifiers.{position-Some}
-use Rattle.profile.specs.text.Lines.{is_name_octet, is_name, is_filled, is_quote, line_name, line_value, lacks_colon, has_stop}
-use Rattle.ical_lines.specs.Breaks.{is_mark, value_or_none}
+use Rattle.profile.specs.text.Lines.{is_name_octet, is_name, is_filled, is_quote, line_value, has_stop}
+use Rattle.ical_lines.specs.Breaks.{is_mark}
 use Rattle.ical_lines.specs.Plain.{IsPlain, ends_name}
 use Rattle.ical_lines.proofs.BreakLemmas.{not_any}
 use Rattle.ical_lines.proofs.MarkLemmas.{colon_name, colon_params, colon_value}

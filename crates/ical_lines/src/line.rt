@@ -1,9 +1,9 @@
 //! One content line: `name *(";" param) ":" value` (RFC 5545 3.1).
-ghost use Rattle.std.specs.Prelude.{◌≡◌, ◌==◌, ◌%◌, count_by, option_map, position, true, IsTrue};
+ghost use Rattle.std.specs.Prelude.{◌≡◌, ◌==◌, ◌%◌, count_by, option_map, true, IsTrue};
 ghost use Rattle.std.specs.List.{list_any};
-ghost use Rattle.profile.specs.text.Lines.{line_name, line_params, is_quote, has_control, is_control};
+ghost use Rattle.profile.specs.text.Lines.{line_name, line_params, is_quote, has_control};
 ghost use Rattle.ical_lines.specs.Breaks.{is_one_line, value_or_none};
-ghost use Rattle.ical_lines.specs.Plain.{IsPlain, ends_name};
+ghost use Rattle.ical_lines.specs.Plain.{IsPlain};
 ghost use Rattle.ical_lines.specs.PiecesOf.{pieces_of};
 
 use crate::fault::Refusal;
@@ -196,17 +196,10 @@ impl<'a> Line<'a> {
 fn is_plain(line: &[u8]) -> bool
     ensures { IsTrue result → IsPlain line.now }
 {
-    match name_end(line) {
+    match line.iter().position(|octet| !is_name_octet(*octet)) {
         Some(place) => place > 0 && line[place] == b':',
         None => false,
     }
-}
-
-/// Where the first octet stands that can't stand in a name.
-fn name_end(line: &[u8]) -> Option<usize>
-    ensures { result ≡ position ends_name line.now }
-{
-    line.iter().position(|octet| !is_name_octet(*octet))
 }
 
 /// Whether a colon stands in a text.
@@ -230,14 +223,7 @@ fn has_control(line: &[u8]) -> bool
     let mut found = false;
     // To the end in any case: so several octets are looked at in one step.
     for octet in line {
-        found |= is_control(*octet);
+        found |= (*octet < 0x20 && *octet != b'\t') || *octet == 0x7F;
     }
     found
-}
-
-/// Whether an octet is a control octet other than TAB.
-fn is_control(octet: u8) -> bool
-    ensures { result ≡ is_control octet }
-{
-    (octet < 0x20 && octet != b'\t') || octet == 0x7F
 }

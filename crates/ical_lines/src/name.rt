@@ -1,20 +1,12 @@
 //! Names of properties and parameters (RFC 5545 3.1).
 ghost use Rattle.std.specs.Prelude.{◌≡◌};
-ghost use Rattle.std.specs.List.{list_all};
 ghost use Rattle.profile.specs.text.Lines.{is_name, is_name_octet};
 
 /// Whether a text is a name: letters, digits and `-`, at least one.
 pub fn is_name(text: &str) -> bool
     ensures { result ≡ is_name text.now }
 {
-    !text.is_empty() && are_name_octets(text)
-}
-
-/// Whether each octet of a text may stand in a name.
-fn are_name_octets(text: &str) -> bool
-    ensures { result ≡ list_all is_name_octet text.now }
-{
-    text.bytes().all(|octet| is_name_octet(octet))
+    !text.is_empty() && text.bytes().all(|octet| is_name_octet(octet))
 }
 
 /// Whether an octet may stand in a name.

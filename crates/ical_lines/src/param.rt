@@ -107,18 +107,11 @@ fn has_no_item(values: Pieces<'_>) -> bool
     ensures { result ≡ list_any (λ item. not (is_item item)) (pieces_left values.entry) }
 {
     for value in values {
-        if !is_item(value) {
+        if unquoted(value).as_bytes().contains(&b'"') {
             return true;
         }
     }
     false
-}
-
-/// Whether a text is one value of a parameter: quoted, or without a quote.
-fn is_item(text: &str) -> bool
-    ensures { result ≡ is_item text.now }
-{
-    !unquoted(text).as_bytes().contains(&b'"')
 }
 
 /// A value of a parameter without the quotes that stand round it.

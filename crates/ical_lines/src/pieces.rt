@@ -1,6 +1,6 @@
 //! A text cut at an octet that stands outside quotes (RFC 5545 3.1, param-value).
 //! A quote opens and the next one closes; an octet between them is inside.
-ghost use Rattle.std.specs.Prelude.{◌≡◌, ◌++◌, ◌<◌, ◌≤◌, false, length, position, MatchOption, slice_index};
+ghost use Rattle.std.specs.Prelude.{◌≡◌, ◌++◌, ◌<◌, ◌≤◌, false, length, MatchOption, slice_index};
 ghost use Rattle.std.specs.List.{list_any};
 ghost use Rattle.profile.specs.text.Lines.{outside, front, back};
 ghost use Rattle.ical_lines.specs.Breaks.{is_mark};
@@ -42,18 +42,11 @@ pub fn split_mark(text: &str) -> (&str, &str)
     ensures whole { text.now ≡ result.0.now ++ result.1.now }
     ensures plain { list_any is_mark result.0.now ≡ false }
 {
-    match first_mark(text.as_bytes()) {
+    let mut octets = text.bytes();
+    match octets.position(|octet| matches!(octet, b':' | b';' | b'"')) {
         Some(place) => text.split_at(place),
         None => (text, ""),
     }
-}
-
-/// Where the first colon, semicolon or quote stands.
-fn first_mark(text: &[u8]) -> Option<usize>
-    ensures { result ≡ position is_mark text.now }
-{
-    text.iter()
-        .position(|octet| matches!(*octet, b':' | b';' | b'"'))
 }
 
 /// The text before the first `stop` outside quotes, and the text after it where there is one.

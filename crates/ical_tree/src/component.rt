@@ -13,7 +13,7 @@ pub struct Component<'a> {
 }
 
 impl<'a> Component<'a> {
-    ghost use Rattle.std.specs.Prelude.{◌≡◌, ◌++◌, ◌∷◌, [], OnOk, OnErr, IfOk};
+    ghost use Rattle.std.specs.Prelude.{◌≡◌, ◌++◌, ◌∷◌, [], OnOk, OnErr};
     ghost use Rattle.profile.specs.text.Lines.{is_same_name};
     ghost use Rattle.ical_tree.specs.Runs.{run_lines, lines_left};
     ghost use Rattle.ical_tree.specs.Tree.{component_name, component_lines, component_children};

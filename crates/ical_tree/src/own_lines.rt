@@ -49,13 +49,9 @@ impl<'a> Run<'a> {
         if self.count == 0 {
             return None;
         }
-        match self.from.next() {
-            Some(line) => {
-                self.count -= 1;
-                Some(line)
-            }
-            None => None,
-        }
+        let line = self.from.next()?;
+        self.count -= 1;
+        Some(line)
     }
 }
 

@@ -240,22 +240,15 @@ impl<'a> Reader<'a> {
     }
 }
 
-/// The line of a text that may be a BEGIN or an END. Of most lines no part is looked for.
+/// The line of a text that may be a BEGIN or an END, by its first octet. Of most lines no part is looked for.
 fn paired_line(text: &str) -> Option<Line<'_>>
     requires { is_one_line text.now ≡ true }
     ensures { MatchOption result (may_pair text.now ≡ false) (λ line. line_text line ≡ text.now) }
 {
-    if !may_pair(text) {
-        return None;
+    match text.as_bytes() {
+        [b'B' | b'b' | b'E' | b'e', ..] => Line::read(text),
+        _ => None,
     }
-    Line::read(text)
-}
-
-/// Whether a line may be a BEGIN or an END, by its first octet.
-fn may_pair(line: &str) -> bool
-    ensures { result ≡ may_pair line.now }
-{
-    matches!(line.as_bytes(), [b'B' | b'b' | b'E' | b'e', ..])
 }
 
 /// Whether this is the name of the outermost component, whatever its case.

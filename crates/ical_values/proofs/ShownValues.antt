@@ -25,9 +25,13 @@ short_month year month day d =
     let most = most_days (nat_eq month 2) (is_leap_year year) (nat_eq month 4 || nat_eq month 6 || nat_eq month 9 || nat_eq month 11) in
     omega (arith, most, d.3)
 
-shown_date : (text : List ℕ) (number : ℤ) → SpellsDate text number → list_all is_shown text ≡ true
+pub shown_date : (text : List ℕ) (number : ℤ) → SpellsDate text number → list_all is_shown text ≡ true
 shown_date text number d =
     rw d.spelled (shown_append (four_digits d.year ++ two_digits d.month) (two_digits d.day) (shown_append (four_digits d.year) (two_digits d.month) (shown_four d.year d.last) (shown_two d.month (omega (arith, d.date.1)))) (shown_two d.day (short_month d.year d.month d.day d.date)))
+
+-- a date as it is written is text
+pub utf8_date : (text : List ℕ) (number : ℤ) → SpellsDate text number → IsUtf8 text
+utf8_date text number d = (clean_shown text (shown_date text number d)).utf8
 
 shown_time : (text : List ℕ) (total : ℕ) → SpellsTime 59 text total → list_all is_shown text ≡ true
 shown_time text total t =

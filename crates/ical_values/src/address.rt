@@ -1,12 +1,10 @@
 //! Calendar addresses (RFC 5545 3.3.3): a URI's scheme, `:`, and at least one octet more. Kept in ASCII
 //! lower case, by which they are compared and written.
 
-ghost use Rattle.std.specs.Prelude.{ℕ, List, [], ◌≡◌, ◌++◌, true, map, string_bytes, IfOk, IfErr, OnOk, OnErr};
+ghost use Rattle.std.specs.Prelude.{ℕ, List, [], ◌≡◌, ◌++◌, true, IfOk, IfErr, OnOk, OnErr};
 ghost use Rattle.std.specs.List.{list_all};
-ghost use Rattle.std.specs.Char.{to_ascii_lowercase};
-ghost use Rattle.std.specs.Str.{chars, encode_utf8_all};
 ghost use Rattle.profile.specs.faults.Faults.{is_address_fault};
-ghost use Rattle.profile.specs.text.Values.{IsAddress, lower_case, is_scheme, is_scheme_octet, is_path, is_path_octet};
+ghost use Rattle.profile.specs.text.Values.{IsAddress, lower_case, is_scheme, is_scheme_octet, is_path};
 ghost use Rattle.ical_lines.specs.Fault.{RefusesOnly};
 ghost use Rattle.ical_values.specs.Octets.{address_octets};
 ghost use Rattle.ical_values.specs.Refused.{IfRefused};
@@ -94,35 +92,14 @@ fn is_scheme(octets: &[u8]) -> bool
 fn all_scheme_octets(octets: &[u8]) -> bool
     ensures { result ≡ list_all is_scheme_octet octets.now }
 {
-    octets.iter().all(|octet| is_scheme_octet(*octet))
-}
-
-/// Whether the octet may stand in a scheme after its first letter.
-fn is_scheme_octet(octet: u8) -> bool
-    ensures { result ≡ is_scheme_octet octet }
-{
-    octet.is_ascii_alphanumeric() || octet == b'+' || octet == b'-' || octet == b'.'
+    octets.iter().all(|octet| octet.is_ascii_alphanumeric() || matches!(*octet, b'+' | b'-' | b'.'))
 }
 
 /// Whether the octets may follow the scheme: at least one, no control octet and no space.
 fn is_path(octets: &[u8]) -> bool
     ensures { result ≡ is_path octets.now }
 {
-    !octets.is_empty() && all_path_octets(octets)
-}
-
-/// Whether no octet is a control octet or a space.
-fn all_path_octets(octets: &[u8]) -> bool
-    ensures { result ≡ list_all is_path_octet octets.now }
-{
-    octets.iter().all(|octet| is_path_octet(*octet))
-}
-
-/// Whether the octet is no control octet and no space.
-fn is_path_octet(octet: u8) -> bool
-    ensures { result ≡ is_path_octet octet }
-{
-    octet > b' ' && octet != 0x7f
+    !octets.is_empty() && octets.iter().all(|octet| *octet > b' ' && *octet != 0x7f)
 }
 
 /// An address in lower case is an address, and stays as it is when it is read again.

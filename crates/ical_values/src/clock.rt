@@ -1,9 +1,9 @@
 //! A date and a time of day as `YYYYMMDDTHHMMSS` (RFC 5545 3.3.5), kept as seconds from
 //! 1970-01-01T00:00:00. Years are 0001 to 9999. Second 60 is read as 59.
 
-ghost use Rattle.std.specs.Prelude.{◌≡◌, ◌++◌, ◌<◌, ◌≤◌, ◌≤ℤ◌, ◌+ℤ◌, ◌*ℤ◌, ℕ, ℤ, List, pos, negsuc, IfSome, IfNone, OnOk, OnErr};
+ghost use Rattle.std.specs.Prelude.{◌≡◌, ◌++◌, ◌<◌, ◌≤◌, ◌≤ℤ◌, ◌+ℤ◌, ◌*ℤ◌, ℕ, ℤ, List, pos, IfSome, IfNone, OnOk, OnErr};
 ghost use Rattle.profile.specs.series.Zones.{local_time};
-ghost use Rattle.profile.specs.text.Values.{SpellsDate, SpellsTime, SpellsClock, IsClockSeconds};
+ghost use Rattle.profile.specs.text.Values.{SpellsTime, SpellsClock, IsClockSeconds};
 ghost use Rattle.ical_values.specs.Written.{Appends};
 
 use crate::append::append_all;

@@ -1,6 +1,6 @@
 //! Dates as `YYYYMMDD` (RFC 5545 3.3.4), of the years 0001 to 9999.
 
-ghost use Rattle.std.specs.Prelude.{◌≡◌, ◌≤◌, ◌≤ℤ◌, ℕ, ℤ, pos, IfSome, IfNone};
+ghost use Rattle.std.specs.Prelude.{◌≤◌, ◌≤ℤ◌, ℤ, pos, IfSome, IfNone};
 ghost use Rattle.profile.specs.text.Values.{SpellsDate};
 
 use crate::digits;

@@ -1,6 +1,6 @@
 //! Decimal digits: one, two and four of them, as ASCII octets.
 
-ghost use Rattle.std.specs.Prelude.{◌≡◌, ◌+◌, ◌<◌, ◌≤◌, ◌∷◌, [], ℕ, IfSome, IfNone};
+ghost use Rattle.std.specs.Prelude.{◌≡◌, ◌+◌, ◌<◌, ◌∷◌, [], ℕ, IfSome, IfNone};
 ghost use Rattle.profile.specs.text.Values.{two_digits, four_digits};
 
 /// The digit that an octet stands for.

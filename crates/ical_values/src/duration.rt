@@ -89,10 +89,8 @@ fn fit(counts: Counts) -> Result<Duration, Refusal>
     ensures range { IfErr result
         (λ e. (e.number ≡ 51) × ((2 ^ 32 ≤ counts.days) ⊎ (2 ^ 32 ≤ counts.seconds))) }
 {
-    if counts.days > u32::MAX as u64 {
-        return Err(Refusal::LONG_OR_NEGATIVE);
-    }
-    if counts.seconds > u32::MAX as u64 {
+    let limit = u32::MAX as u64;
+    if counts.days > limit || counts.seconds > limit {
         return Err(Refusal::LONG_OR_NEGATIVE);
     }
     Ok(Duration {
@@ -171,13 +169,10 @@ fn after(text: &[u8], letter: u8) -> Option<&[u8]>
     ensures found { IfSome result (λ rest. text.now ≡ letter ∷ rest.now) }
     ensures none { IfNone result ((rest : List ℕ) → text.now ≡ letter ∷ rest → ⊥) }
 {
-    if text.is_empty() {
-        return None;
+    match text {
+        [first, rest @ ..] if *first == letter => Some(rest),
+        _ => None,
     }
-    if text[0] != letter {
-        return None;
-    }
-    Some(&text[1..])
 }
 
 /// The number before the letter and what follows the letter. Where the text doesn't begin with a number
@@ -186,10 +181,7 @@ fn part_or_zero(text: &[u8], letter: u8) -> (u64, &[u8])
     requires { 57 < letter }
     ensures { TakesOrSkips letter text.now result.0 result.1.now }
 {
-    match take_part(text, letter) {
-        Some((number, rest)) => (number, rest),
-        None => (0, text),
-    }
+    take_part(text, letter).unwrap_or((0, text))
 }
 
 /// The number at the front, which the letter follows, and the rest after the letter.
@@ -220,10 +212,7 @@ fn leading_number(text: &[u8]) -> (u64, usize)
 {
     let mut number: u64 = 0;
     for (i, octet) in text.iter().enumerate() {
-        if *octet < b'0' {
-            return (number, i);
-        }
-        if *octet > b'9' {
+        if !octet.is_ascii_digit() {
             return (number, i);
         }
         number = number

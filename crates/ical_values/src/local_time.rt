@@ -1,7 +1,7 @@
 //! Local date-times (RFC 5545 3.3.5, forms 1 and 3): `YYYYMMDDTHHMMSS`, of the years 0001 to 9999,
 //! without a zone. Second 60 is read as 59.
 
-ghost use Rattle.std.specs.Prelude.{ℕ, List, ◌≡◌, ◌↔◌, ◌++◌, ◌<◌, ◌≤ℤ◌, ◌+ℤ◌, ◌*ℤ◌, pos, ℤ, IsSome, IfSome, IfOk, IfErr, OnOk, OnErr};
+ghost use Rattle.std.specs.Prelude.{ℕ, List, ◌≡◌, ◌↔◌, ◌<◌, ◌≤ℤ◌, ◌+ℤ◌, ◌*ℤ◌, pos, ℤ, IsSome, IfSome, IfOk, IfErr, OnOk, OnErr};
 ghost use Rattle.profile.specs.text.Values.{SpellsLocal, WritesLocal, IsClockSeconds};
 ghost use Rattle.ical_values.specs.Written.{Appends};
 

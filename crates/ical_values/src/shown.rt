@@ -1,22 +1,38 @@
 //! Values in the one form in which they are written, each as a text of its own (RFC 5545 3.3).
 
-ghost use Rattle.std.specs.Prelude.{◌≡◌, decimal, string_bytes, IfOk};
+ghost use Rattle.std.specs.Prelude.{◌≡◌, ◌<ℤ◌, pos, decimal, string_bytes, IfOk, MatchOption};
 ghost use Rattle.std.specs.Str.{IsUtf8};
-ghost use Rattle.profile.specs.text.Values.{escaped, WritesLocal, WritesOffset, WritesStamp};
+ghost use Rattle.profile.specs.text.Values.{escaped, SpellsDate, WritesLocal, WritesOffset, WritesStamp};
 ghost use Rattle.ical_values.specs.Octets.{text_octets};
 
+use crate::date;
 use crate::local_time::LocalTime;
 use crate::offset::UtcOffset;
 use crate::sequence::Sequence;
 use crate::stamp::Stamp;
 use crate::text::Text;
+use cal_days::Day;
 use std::alloc::{AllocError, Global};
 
 /// The octets of a written stamp; a local time has one fewer.
 const STAMP_OCTETS: usize = 16;
 
+/// 9999-12-31, the last day that a text tells, as days from 1970-01-01.
+const LAST_NUMBER_OF_TEXTS: i64 = 2_932_896;
+
 /// The most octets of a written offset.
 const OFFSET_OCTETS: usize = 7;
+
+/// A day as text (RFC 5545 3.3.4); None of one past 9999-12-31.
+pub fn date_text(alloc: Global, day: Day) -> Result<Option<String>, AllocError>
+    ensures { IfOk result (λ text. MatchOption text (pos 2_932_896 <ℤ day) (λ text. SpellsDate (string_bytes text) day)) }
+{
+    if day.number() > LAST_NUMBER_OF_TEXTS {
+        return Ok(None);
+    }
+    let octets = Vec::from_slice(alloc, &date::date_text(day))?;
+    Ok(Some(text_of(octets)))
+}
 
 /// A stamp, as text (RFC 5545 3.3.5, form 2).
 pub fn stamp_text(alloc: Global, stamp: Stamp) -> Result<String, AllocError>

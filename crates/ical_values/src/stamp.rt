@@ -1,7 +1,7 @@
 //! UTC date-times (RFC 5545 3.3.5, form 2): `YYYYMMDDTHHMMSSZ`, of the years 0001 to 9999. A stamp is
 //! kept as its instant. Leap seconds aren't counted: second 60 is read as 59.
 
-ghost use Rattle.std.specs.Prelude.{ℕ, List, ◌≡◌, ◌↔◌, ◌++◌, negsuc, IsSome, IfSome, ℤ, IfOk, IfErr, OnOk, OnErr};
+ghost use Rattle.std.specs.Prelude.{ℕ, List, ◌≡◌, ◌↔◌, negsuc, IsSome, IfSome, ℤ, IfOk, IfErr, OnOk, OnErr};
 ghost use Rattle.profile.specs.text.Values.{SpellsStamp, WritesStamp, IsClockSeconds};
 ghost use Rattle.profile.specs.events.Properties.{ends_in_z};
 ghost use Rattle.ical_values.specs.Written.{Appends};
@@ -98,8 +98,5 @@ pub fn one_stamp()
 pub fn ends_in_z(text: &str) -> bool
     ensures { result ≡ ends_in_z text.now }
 {
-    match text.as_bytes().last() {
-        Some(octet) => *octet == b'Z',
-        None => false,
-    }
+    text.ends_with('Z')
 }

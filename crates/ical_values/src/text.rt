@@ -2,12 +2,10 @@
 //! backslash before anything else, or at the end, stands for itself.
 
 ghost use Rattle.std.specs.Prelude.{ℕ, List, ◌≡◌, ◌++◌, ◌∷◌, ◌≤◌, length, string_bytes, IfOk, IfErr, OnOk, OnErr};
-ghost use Rattle.std.specs.List.{list_any};
 ghost use Rattle.profile.specs.text.Values.{escaped, escaped_octet, unescaped, IsUid};
 ghost use Rattle.ical_lines.specs.Fault.{RefusesOnly};
 ghost use Rattle.ical_values.specs.Octets.{text_octets};
 ghost use Rattle.profile.specs.faults.Faults.{is_uid_fault};
-ghost use Rattle.ical_values.specs.Escaped.{is_escaped};
 ghost use Rattle.ical_values.specs.Refused.{IfRefused};
 
 use ical_lines::{Fault, Refusal};
@@ -70,25 +68,14 @@ impl Text {
         ensures err { OnErr result (out.new.items ≡ out.old.items) }
     {
         let octets = self.octets.as_bytes();
-        if has_escaped(octets) {
+        let has_escaped = octets
+            .iter()
+            .any(|octet| matches!(*octet, b'\n' | b'\\' | b';' | b','));
+        if has_escaped {
             return write_escaped(out, octets);
         }
         out.extend_from_slice(octets)
     }
-}
-
-/// Whether one of some octets is written with a backslash.
-fn has_escaped(octets: &[u8]) -> bool
-    ensures { result ≡ list_any is_escaped octets.now }
-{
-    octets.iter().any(|octet| is_escaped(*octet))
-}
-
-/// Whether a backslash stands before an octet, or in its place, where it is written.
-fn is_escaped(octet: u8) -> bool
-    ensures { result ≡ is_escaped octet }
-{
-    matches!(octet, b'\n' | b'\\' | b';' | b',')
 }
 
 /// Appends octets with backslash, semicolon, comma and LF escaped. Without memory nothing is appended.

@@ -1,9 +1,9 @@
 -- What a body is made of: instants in order, and the zone behind its lines.
 use Rattle.std.proofs.Common.{◌≡◌, ◌∙◌, ℕ, ◌<◌, ◌+◌, List, [], ◌∷◌, ◌++◌, take, length, get_or, codes, refl, sym, ap, subst, arith, append_assoc, append-nil, ℤ, pos, ◌<ℤ◌}
-use Rattle.std.specs.Prelude.{◌↔◌, AllPairs, Contains}
+use Rattle.std.specs.Prelude.{AllPairs, Contains}
 use Rattle.std.specs.List.{dedup, flat_map, AllZip}
 use Rattle.std.specs.List.Sorted.{IsPermutation, IsSorted, IsStrictlySortedBy}
-use Rattle.std.specs.Ordering.{int_cmp, int_eq, eq_by_cmp}
+use Rattle.std.specs.Ordering.{int_cmp, int_eq}
 use Rattle.std.specs.declared.cmp.Ordering.TheVariants.{Less}
 use Rattle.std.proofs.lemmas.Bool.Decides.{Decides-int_eq}
 use Rattle.std.proofs.lemmas.Cmp.{int_cmp_total, int_eq_equiv, int_ranked}
@@ -80,17 +80,18 @@ line_written body head text i1 i2 i3 a b c = c ∙ ap (λ l. l ++ codes "\r\n") 
     regroup : (a b c d : List ℕ) → ((a ++ b) ++ c) ++ d ≡ a ++ (((b ++ c) ++ d) ++ [])
     regroup a b c d = simp (append_assoc, append-nil)
 
-pub body_written : (start duration : List ℕ) (a e : Lines) (zone i0 i1 i2 i3 i4 i5 : List ℕ) → i0 ≡ [] → i1 ≡ i0 ++ crlf_lines (start ∷ []) → i2 ≡ i1 ++ crlf_lines (duration ∷ []) → i3 ≡ i2 ++ crlf_lines a
-    → i4 ≡ i3 ++ crlf_lines e → i5 ≡ i4 ++ zone → i5 ≡ crlf_lines (start ∷ duration ∷ (a ++ e)) ++ zone
-body_written start duration a e zone i0 i1 i2 i3 i4 i5 h0 h1 h2 h3 h4 h5 =
+pub body_written : (start duration : List ℕ) (r a e : Lines) (zone i0 i1 i2 i3 i4 i5 i6 : List ℕ) → i0 ≡ [] → i1 ≡ i0 ++ crlf_lines (start ∷ []) → i2 ≡ i1 ++ crlf_lines (duration ∷ []) → i3 ≡ i2 ++ crlf_lines r → i4 ≡ i3 ++ crlf_lines a
+    → i5 ≡ i4 ++ crlf_lines e → i6 ≡ i5 ++ zone → i6 ≡ crlf_lines (start ∷ duration ∷ (r ++ (a ++ e))) ++ zone
+body_written start duration r a e zone i0 i1 i2 i3 i4 i5 i6 h0 h1 h2 h3 h4 h5 h6 =
     let s = start ++ codes "\r\n" in
     let d = duration ++ codes "\r\n" in
     let l1 : i1 ≡ s ++ [] = h1 ∙ ap (λ l. l ++ (s ++ [])) h0 in
-    h5 ∙ ap (λ l. l ++ zone) (h4 ∙ ap (λ l. l ++ crlf_lines e) (h3 ∙ ap (λ l. l ++ crlf_lines a) (h2 ∙ ap (λ l. l ++ (d ++ [])) l1)))
-    ∙ regroup s d (crlf_lines a) (crlf_lines e) zone ∙ ap (λ l. (s ++ (d ++ l)) ++ zone) (sym (crlf_both a e))
+    let l3 : i3 ≡ ((s ++ []) ++ (d ++ [])) ++ crlf_lines r = h3 ∙ ap (λ l. l ++ crlf_lines r) (h2 ∙ ap (λ l. l ++ (d ++ [])) l1) in
+    h6 ∙ ap (λ l. l ++ zone) (h5 ∙ ap (λ l. l ++ crlf_lines e) (h4 ∙ ap (λ l. l ++ crlf_lines a) l3))
+    ∙ regroup s d (crlf_lines r) (crlf_lines a) (crlf_lines e) zone ∙ ap (λ l. (s ++ (d ++ l)) ++ zone) (sym (crlf_both r (a ++ e) ∙ ap (λ l. crlf_lines r ++ l) (crlf_both a e)))
   where
-    regroup : (s d a e z : List ℕ) → ((((s ++ []) ++ (d ++ [])) ++ a) ++ e) ++ z ≡ (s ++ (d ++ (a ++ e))) ++ z
-    regroup s d a e z = simp (append_assoc, append-nil)
+    regroup : (s d r a e z : List ℕ) → (((((s ++ []) ++ (d ++ [])) ++ r) ++ a) ++ e) ++ z ≡ (s ++ (d ++ (r ++ (a ++ e)))) ++ z
+    regroup s d r a e z = simp (append_assoc, append-nil)
 
 -- ---- instants that a stamp writes
 

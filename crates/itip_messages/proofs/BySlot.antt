@@ -1,6 +1,6 @@
 -- The events of a message's meeting: what is known of each, and their order by slots.
-use Rattle.std.proofs.Common.{cond, codes, ◌||◌, ◌≡◌, ◌≢◌, ◌∙◌, ℕ, zero, suc, ◌<◌, ◌+◌, Bool, true, false, not, ◌⊎◌, List, [], ◌∷◌, ◌++◌, length, map, filter, get_or, refl, sym, ap, subst, arith, inl, inr, length-append, ℤ, Option, Some, None, is_some, Ordering}
-use Rattle.std.specs.Prelude.{◌↔◌, Contains, All, AllPairs, option_map}
+use Rattle.std.proofs.Common.{cond, codes, ◌≡◌, ◌≢◌, ◌∙◌, ℕ, zero, suc, ◌<◌, ◌+◌, Bool, true, false, not, ◌⊎◌, List, [], ◌∷◌, ◌++◌, length, map, filter, get_or, refl, sym, ap, subst, arith, inl, inr, length-append, ℤ, Option, Some, None, is_some, Ordering}
+use Rattle.std.specs.Prelude.{Contains, All, AllPairs}
 use Rattle.std.specs.Option.{option_to_list}
 use Rattle.std.specs.List.{list_any, AllZip}
 use Rattle.std.specs.List.Sorted.{IsPermutation, IsSortedByKey}
@@ -8,7 +8,7 @@ use Rattle.std.specs.declared.cmp.Ordering.TheVariants.{Less, Equal, Greater}
 use Rattle.std.specs.Ordering.{is_lt, is_eq, ordering_reverse}
 use Rattle.std.proofs.lemmas.Bool.{true≢false, or_parts}
 use Rattle.std.proofs.lemmas.Option.{same_Some}
-use Rattle.std.proofs.lemmas.List.{get_or-map, length-map}
+use Rattle.std.proofs.lemmas.List.{length-map}
 use Rattle.std.proofs.lemmas.List.Elements.{All-append, All-map, All-cons, All-nil, All-filter, Contains-append_cases}
 use Rattle.std.proofs.lemmas.List.Filters.{length-filter_both}
 use Rattle.std.proofs.lemmas.List.Kept.{AllPairs-filter}
@@ -26,7 +26,7 @@ use Rattle.profile.specs.rooms.Messages.{AreBySlot, has_unread, slot_of, slot_na
 use Rattle.profile.specs.rooms.Revisions.{Slot, Whole, At, slot_cmp}
 use Rattle.itip_order.proofs.Order.{slot_total}
 use Rattle.std.specs.FinMap.{int_cmp-IsAntisymmetric}
-use Rattle.cal_events.proofs.InOneOrder.{none_in, in_mapped, of_mapped, in_filtered, of_filtered, cons_pairs, pairs_mapped, mapped_pairs}
+use Rattle.cal_events.proofs.InOneOrder.{none_in, of_mapped, in_filtered, of_filtered, cons_pairs, pairs_mapped, mapped_pairs}
 use Rattle.cal_events.proofs.KeyLemmas.{pairs_permutation}
 use Rattle.cal_events.specs.Events.{event_of}
 use Rattle.cal_events.specs.declared.component.EventComponent.{EventComponent}
@@ -34,6 +34,7 @@ use Rattle.std.proofs.lemmas.Int.{ints}
 use Rattle.cal_events.specs.Meetings.{IsNamed}
 use Rattle.cal_events.proofs.OneInstance.{event_sound}
 use Rattle.itip_messages.specs.Bodies.{IsReady}
+use Rattle.itip_messages.proofs.RuleBack.{rule_told}
 use Rattle.itip_messages.specs.Messages.{IsDated, IsOfMessage, event_slot}
 
 abbrev Lines : Type 0
@@ -114,6 +115,7 @@ event_ready object m lines event s h =
     let sound = event_sound object lines event s in
     record {
       once = no_rule lines event.times event.rule h s.rule;
+      ends = rule_told lines event.times event.rule s.rule;
       timely = record { steady = sound.steady; starts = sound.starts };
       listed = listed object _ event.additions s.occurrences.inside;
     }
@@ -129,7 +131,7 @@ ready object m (v ∷ vs) (e ∷ es) z h =
 -- also as an instance that is added
 ready_added : (es : List Event) → All IsReady es → All (λ e. IsReady (as_added e)) es
 ready_added es a k e w =
-    let r = a k e w in record { once = r.once; timely = record { steady = r.timely.steady; starts = r.timely.starts }; listed = r.listed }
+    let r = a k e w in record { once = r.once; ends = r.ends; timely = record { steady = r.timely.steady; starts = r.timely.starts }; listed = r.listed }
 
 -- ---- as a method takes them
 

@@ -1,7 +1,7 @@
 -- Lines that are ended by CRLF read as those lines, and are text.
 use Rattle.std.proofs.Common.{◌+◌, cond, nat_lt, append-nil, ◌≡◌, ◌∙◌, ℕ, zero, suc, ◌-◌, ◌<◌, Bool, true, false, not, List, [], ◌∷◌, ◌++◌, take, drop, codes, refl, sym, ap, length, get_or, arith, append_assoc}
 use Rattle.std.specs.Prelude.{◌==◌}
-use Rattle.std.specs.List.{flat_map, list_all, list_any, slice_split}
+use Rattle.std.specs.List.{list_all, list_any, slice_split}
 use Rattle.std.specs.Str.{IsUtf8}
 use Rattle.std.specs.Str.Lines.{lines, lines_of_parts, strip_carriage_return}
 use Rattle.std.proofs.lemmas.Bool.{and_parts, and_from, not-true, or_parts}

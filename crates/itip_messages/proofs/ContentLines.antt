@@ -1,10 +1,10 @@
 -- Lines that are written from clean texts are content lines, and so are those of the object round some VEVENTs.
-use Rattle.std.proofs.Common.{◌≡◌, ◌∙◌, ℕ, true, false, List, [], ◌∷◌, ◌++◌, length, codes, Option, None, Some, refl, arith, lt-ltb, append_assoc, append-nil}
+use Rattle.std.proofs.Common.{◌≡◌, ◌∙◌, ℕ, true, false, List, [], ◌∷◌, ◌++◌, length, codes, Option, None, Some, refl, arith, lt-ltb}
 use Rattle.std.specs.List.{list_all, flat_map}
 use Rattle.std.proofs.lemmas.Bool.{and_from, and_parts}
 use Rattle.std.proofs.lemmas.List.Folds.{list_all-append}
 use Rattle.profile.specs.text.Lines.{is_content, folded, logical_lines, reads_as_lines}
-use Rattle.profile.specs.rooms.Messages.{canonical, method_lines, object_lines}
+use Rattle.profile.specs.rooms.Messages.{method_lines, object_lines}
 use Rattle.ical_lines.proofs.CleanLines.{IsClean, valued, fixed}
 use Rattle.itip_messages.proofs.ObjectTree.{Lines, vevent_lines}
 

@@ -3,6 +3,7 @@ pub mod CleanUids
 pub mod ObjectTree
 pub mod ContentLines
 pub mod WrittenOctets
+pub mod RuleBack
 pub mod CleanBodies
 pub mod TimeLists
 pub mod ZonePlaces

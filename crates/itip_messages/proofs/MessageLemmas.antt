@@ -5,7 +5,7 @@ use Rattle.std.specs.Prelude.{◌↔◌, Result, Ok, Err, IfErr, Contains, codes
 use Rattle.std.specs.Option.{option_to_list}
 use Rattle.std.specs.List.{list_any, AllZip}
 use Rattle.std.specs.Str.{bytes_eq}
-use Rattle.std.proofs.lemmas.Bool.{or_cases, true≢false}
+use Rattle.std.proofs.lemmas.Bool.{true≢false}
 use Rattle.std.proofs.lemmas.List.{map-append, append-nil, length-map}
 use Rattle.std.proofs.lemmas.List.Elements.{filter_more, All-contains}
 use Rattle.ical_lines.specs.declared.fault.Fault.{Fault}

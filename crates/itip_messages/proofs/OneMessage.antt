@@ -1,16 +1,15 @@
 -- Octets spell at most one message, and none where a fault stands in them.
-use Rattle.std.proofs.Common.{◌≡◌, ◌∙◌, ℕ, ◌<◌, Bool, true, false, ◌||◌, List, [], ◌∷◌, length, get_or, refl, sym, ap, subst, arith, inl, inr}
+use Rattle.std.proofs.Common.{◌≡◌, ◌∙◌, ℕ, ◌<◌, Bool, true, false, List, [], ◌∷◌, length, get_or, refl, sym, ap, subst, arith, inl, inr}
 use Rattle.std.specs.Prelude.{Contains, codes, nat_lt, Option, Some}
-use Rattle.std.specs.List.{AllZip, list_any}
 use Rattle.std.specs.Str.{str_to_ascii_lowercase}
-use Rattle.std.proofs.lemmas.Bool.{true≢false, or_parts}
+use Rattle.std.proofs.lemmas.Bool.{true≢false}
 use Rattle.std.proofs.lemmas.Bool.Decides.{nat_tests}
 use Rattle.std.proofs.lemmas.Slice.Eq.{bytes_eq-Decides}
 use Rattle.ical_lines.proofs.ContentLemmas.{read_fine}
 use Rattle.ical_tree.proofs.OneLine.{at_one}
 use Rattle.profile.specs.text.Lines.{logical_lines, line_value, is_same_name}
 use Rattle.profile.specs.text.Objects.{SpellsTree, IsObject, has_version, lines_have, count_inside, most_events}
-use Rattle.profile.specs.text.Trees.{Tree, tree_name, tree_own, tree_inside, vevents}
+use Rattle.profile.specs.text.Trees.{Tree, tree_name, tree_own, tree_inside}
 use Rattle.profile.specs.events.Events.{Method, Request, Add, Cancel, Event, SaysEvent, EventFault}
 use Rattle.profile.specs.events.Meetings.{SaysMeeting, MeetingFault}
 use Rattle.profile.specs.rooms.Messages.{Message, method_word, NamesMethod, SaysMessage, SpellsMessage, MethodFault, two_methods, bad_method, unread_method, no_method, MessageFault, in_method, in_meeting, not_yet, is_unread_method, is_method}

@@ -1,15 +1,20 @@
--- Numbers, times and the rules of zones as they are written: what each of their octets is.
-use Rattle.std.proofs.Common.{◌≡◌, ◌∙◌, refl, ℕ, zero, suc, ℤ, pos, negsuc, ◌+◌, ◌/◌, ◌%◌, ◌<◌, ◌≤◌, Bool, true, false, ◌||◌, cond, nat_eq, nat_lt, List, [], ◌∷◌, ◌++◌, map, codes, decimal, Option, None, Some, arith}
+-- Numbers, times and rules as they are written: what each of their octets is.
+use Rattle.std.proofs.Common.{◌≡◌, ◌∙◌, refl, ℕ, zero, suc, ℤ, pos, negsuc, ◌+◌, ◌/◌, ◌%◌, ◌<◌, ◌≤◌, Bool, true, false, not, ◌&&◌, ◌||◌, cond, nat_eq, nat_lt, List, [], ◌∷◌, ◌++◌, map, codes, decimal, Option, None, Some, arith}
+use Rattle.std.specs.Prelude.{◌==◌}
 use Rattle.std.specs.List.{list_all}
 use Rattle.std.specs.Fmt.{digits, digits_onto, digit_glyph, signed_decimal}
 use Rattle.std.proofs.lemmas.Bool.{and_parts, and_from}
 use Rattle.std.proofs.lemmas.Bool.Decides.{nat_tests}
 use Rattle.std.proofs.lemmas.List.Folds.{list_all-append}
-use Rattle.profile.specs.series.Days.{IsDate, is_leap_year}
-use Rattle.profile.specs.series.Rules.{Pattern, WeekdayNumber, is_plain}
-use Rattle.profile.specs.series.RuleTexts.{weekday_word, listed, entry_text}
+use Rattle.profile.specs.series.Days.{Frequency, Daily, Weekly, Monthly, Yearly, IsDate, is_leap_year}
+use Rattle.profile.specs.series.Rules.{Pattern, RuleText, Until, UntilDay, UntilLocal, UntilInstant, WeekdayNumber, is_plain}
+use Rattle.profile.specs.series.RuleTexts.{count_text, entries_from, entry_text, frequency_word, listed, months_from, numbers_from, rule_text, until_text, weekday_word}
+use Rattle.profile.specs.series.Zones.{Zone}
 use Rattle.profile.specs.text.Values.{two_digits, four_digits, duration_text, SpellsDate, SpellsTime, WritesLocal, WritesStamp}
+use Rattle.profile.specs.events.Properties.{BothOrNeither}
 use Rattle.profile.specs.written.WrittenZones.{rule_lines}
+use Rattle.profile.specs.events.EventRules.{as_end}
+use Rattle.profile.specs.rooms.Messages.{WritesEnd}
 use Rattle.ical_lines.proofs.CleanLines.{is_shown}
 
 -- ---- a test that the octets of written times pass
@@ -73,7 +78,7 @@ module _ (test : ℕ → Bool) (t : IsTimeTest test) where
       let most = most_days (nat_eq month 2) (is_leap_year year) (nat_eq month 4 || nat_eq month 6 || nat_eq month 9 || nat_eq month 11) in
       omega (arith, most, d.3)
 
-  date_passes : (text : List ℕ) (number : ℤ) → SpellsDate text number → list_all test text ≡ true
+  pub date_passes : (text : List ℕ) (number : ℤ) → SpellsDate text number → list_all test text ≡ true
   date_passes text number d =
       rw d.spelled (both_pass test (four_digits d.year ++ two_digits d.month) (two_digits d.day) (both_pass test (four_digits d.year) (two_digits d.month) (four_pass d.year d.last) (two_pass d.month (omega (arith, d.date.1)))) (two_pass d.day (short_month d.year d.month d.day d.date)))
 
@@ -106,41 +111,116 @@ module _ (test : ℕ → Bool) (digit : all_digits test) (heads : list_all test 
       let d = and_parts (test 68) true c.1 in
       duration_by (nat_eq days 0) (nat_eq seconds 0) (decimal days) (decimal seconds) (decimal_passes test digit days) (decimal_passes test digit seconds) a.0 b.0 c.0 d.0
 
--- ---- printable ASCII
+-- ---- printable ASCII without `G`
+
+-- printable, and no `G`
+abbrev pub is_early : ℕ → Bool
+is_early c = is_shown c && not (c == 71)
+
+pub early_time : IsTimeTest is_early
+early_time = record { digit = λ n h. grind (arith, nat_tests); middle = refl; last = refl }
+
+pub early_shown : (line : List ℕ) → list_all is_early line ≡ true → list_all is_shown line ≡ true
+early_shown [] h = refl
+early_shown (c ∷ cs) h =
+    let both = and_parts (is_early c) (list_all is_early cs) h in
+    and_from _ _ (and_parts (is_shown c) (not (c == 71)) both.0).0 (early_shown cs both.1)
 
 pub shown_digits : (n : ℕ) → n < 10 → is_shown (48 + n) ≡ true
 shown_digits n h = grind (arith, nat_tests)
 
+decimal_early : (n : ℕ) → list_all is_early (decimal n) ≡ true
+decimal_early = decimal_passes is_early early_time.digit
+
 pub decimal_shown : (n : ℕ) → list_all is_shown (decimal n) ≡ true
 decimal_shown = decimal_passes is_shown shown_digits
 
-pub signed_shown : (n : ℤ) → list_all is_shown (signed_decimal n) ≡ true
-signed_shown (pos n) = decimal_shown n
-signed_shown (negsuc n) = decimal_shown (suc n)
+signed_early : (n : ℤ) → list_all is_early (signed_decimal n) ≡ true
+signed_early (pos n) = decimal_early n
+signed_early (negsuc n) = decimal_early (suc n)
 
-word_shown : (a b c d e f : Bool) → list_all is_shown (cond a (codes "MO") (cond b (codes "TU") (cond c (codes "WE") (cond d (codes "TH") (cond e (codes "FR") (cond f (codes "SA") (codes "SU"))))))) ≡ true
-word_shown true b c d e f = refl
-word_shown false true c d e f = refl
-word_shown false false true d e f = refl
-word_shown false false false true e f = refl
-word_shown false false false false true f = refl
-word_shown false false false false false true = refl
-word_shown false false false false false false = refl
+word_early : (a b c d e f : Bool) → list_all is_early (cond a (codes "MO") (cond b (codes "TU") (cond c (codes "WE") (cond d (codes "TH") (cond e (codes "FR") (cond f (codes "SA") (codes "SU"))))))) ≡ true
+word_early true b c d e f = refl
+word_early false true c d e f = refl
+word_early false false true d e f = refl
+word_early false false false true e f = refl
+word_early false false false false true f = refl
+word_early false false false false false true = refl
+word_early false false false false false false = refl
 
-weekday_shown : (n : ℕ) → list_all is_shown (weekday_word n) ≡ true
-weekday_shown n = word_shown (nat_eq n 0) (nat_eq n 1) (nat_eq n 2) (nat_eq n 3) (nat_eq n 4) (nat_eq n 5)
+weekday_early : (n : ℕ) → list_all is_early (weekday_word n) ≡ true
+weekday_early n = word_early (nat_eq n 0) (nat_eq n 1) (nat_eq n 2) (nat_eq n 3) (nat_eq n 4) (nat_eq n 5)
 
-entry_by : (b : Bool) (number weekday : List ℕ) → list_all is_shown number ≡ true → list_all is_shown weekday ≡ true → list_all is_shown (cond b [] number ++ weekday) ≡ true
-entry_by true number weekday p q = q
-entry_by false number weekday p q = both_pass is_shown number weekday p q
+-- written unless it is what is meant without it
+unless_early : (b : Bool) (text : List ℕ) → list_all is_early text ≡ true → list_all is_early (cond b [] text) ≡ true
+unless_early true text h = refl
+unless_early false text h = h
 
-entry_shown : (e : WeekdayNumber) → list_all is_shown (entry_text e) ≡ true
-entry_shown e = entry_by (is_plain e.number) (signed_decimal e.number) (weekday_word e.weekday) (signed_shown e.number) (weekday_shown e.weekday)
+entry_early : (e : WeekdayNumber) → list_all is_early (entry_text e) ≡ true
+entry_early e =
+    both_pass is_early (cond (is_plain e.number) [] (signed_decimal e.number)) (weekday_word e.weekday) (unless_early (is_plain e.number) (signed_decimal e.number) (signed_early e.number)) (weekday_early e.weekday)
 
-listed_shown : {X : Type 0} (f : X → List ℕ) → ((x : X) → list_all is_shown (f x) ≡ true) → (lead : List ℕ) (xs : List X) → list_all is_shown lead ≡ true → list_all is_shown (listed lead (map f xs)) ≡ true
-listed_shown f each lead [] h = refl
-listed_shown f each lead (x ∷ xs) h =
-    both_pass is_shown (lead ++ f x) (listed (codes ",") (map f xs)) (both_pass is_shown lead (f x) h (each x)) (listed_shown f each (codes ",") xs refl)
+listed_early : {X : Type 0} (f : X → List ℕ) → ((x : X) → list_all is_early (f x) ≡ true) → (lead : List ℕ) (xs : List X) → list_all is_early lead ≡ true → list_all is_early (listed lead (map f xs)) ≡ true
+listed_early f each lead [] h = refl
+listed_early f each lead (x ∷ xs) h =
+    both_pass is_early (lead ++ f x) (listed (codes ",") (map f xs)) (both_pass is_early lead (f x) h (each x)) (listed_early f each (codes ",") xs refl)
+
+months_early : (months : List ℕ) → list_all is_early (listed (codes ";BYMONTH=") (map decimal months)) ≡ true
+months_early months = listed_early decimal decimal_early (codes ";BYMONTH=") months refl
+
+days_early : (days : List ℤ) → list_all is_early (listed (codes ";BYMONTHDAY=") (map signed_decimal days)) ≡ true
+days_early days = listed_early signed_decimal signed_early (codes ";BYMONTHDAY=") days refl
+
+weekdays_early : (weekdays : List WeekdayNumber) → list_all is_early (listed (codes ";BYDAY=") (map entry_text weekdays)) ≡ true
+weekdays_early weekdays = listed_early entry_text entry_early (codes ";BYDAY=") weekdays refl
+
+-- ---- the rule of an event
+
+frequency_early : (f : Frequency) → list_all is_early (frequency_word f) ≡ true
+frequency_early Daily = refl
+frequency_early Weekly = refl
+frequency_early Monthly = refl
+frequency_early Yearly = refl
+
+count_early : (count : Option ℕ) → list_all is_early (count_text count) ≡ true
+count_early None = refl
+count_early (Some count) = both_pass is_early (codes ";COUNT=") (decimal count) refl (decimal_early count)
+
+end_early : (clock : Zone) (until : Until) (text : List ℕ) → WritesEnd clock until text → list_all is_early text ≡ true
+end_early clock (UntilDay number) text w = date_passes is_early early_time text number w
+end_early clock (UntilLocal local) text w = stamp_passes is_early early_time text (as_end w.0) w.2
+end_early clock (UntilInstant instant) text w = stamp_passes is_early early_time text (as_end instant) w
+
+until_early : (clock : Zone) (until : Option Until) (text : Option (List ℕ)) → BothOrNeither (WritesEnd clock) until text → list_all is_early (until_text until text) ≡ true
+until_early clock None None w = refl
+until_early clock (Some until) (Some text) w = both_pass is_early (codes ";UNTIL=") text refl (end_early clock until text w)
+until_early clock None (Some text) w = absurd w
+until_early clock (Some until) None w = absurd w
+
+pub rule_text_early : (clock : Zone) (rule : RuleText) (text : Option (List ℕ)) → BothOrNeither (WritesEnd clock) rule.until text → list_all is_early (rule_text rule text) ≡ true
+rule_text_early clock rule text w =
+    let interval = codes ";INTERVAL=" ++ decimal rule.interval in
+    let start = codes ";WKST=" ++ weekday_word rule.week_start in
+    let r1 = codes "FREQ=" ++ frequency_word rule.frequency in
+    let r2 = r1 ++ count_text rule.count in
+    let r3 = r2 ++ until_text rule.until text in
+    let r4 = r3 ++ cond (rule.interval == 1) [] interval in
+    let r5 = r4 ++ listed (codes ";BYMONTH=") (map decimal (months_from 1 rule.months)) in
+    let r6 = r5 ++ listed (codes ";BYMONTHDAY=") (map signed_decimal (numbers_from 0 rule.month_days)) in
+    let r7 = r6 ++ listed (codes ";BYDAY=") (map entry_text (entries_from 0 rule.weekdays)) in
+    let r8 = r7 ++ listed (codes ";BYSETPOS=") (map signed_decimal (numbers_from 0 rule.positions)) in
+    let p1 : list_all is_early r1 ≡ true = both_pass is_early (codes "FREQ=") (frequency_word rule.frequency) refl (frequency_early rule.frequency) in
+    let p2 : list_all is_early r2 ≡ true = both_pass is_early r1 (count_text rule.count) p1 (count_early rule.count) in
+    let p3 : list_all is_early r3 ≡ true = both_pass is_early r2 (until_text rule.until text) p2 (until_early clock rule.until text w) in
+    let p4 : list_all is_early r4 ≡ true = both_pass is_early r3 (cond (rule.interval == 1) [] interval) p3 (unless_early (rule.interval == 1) interval (both_pass is_early (codes ";INTERVAL=") (decimal rule.interval) refl (decimal_early rule.interval))) in
+    let p5 : list_all is_early r5 ≡ true = both_pass is_early r4 (listed (codes ";BYMONTH=") (map decimal (months_from 1 rule.months))) p4 (months_early (months_from 1 rule.months)) in
+    let p6 : list_all is_early r6 ≡ true = both_pass is_early r5 (listed (codes ";BYMONTHDAY=") (map signed_decimal (numbers_from 0 rule.month_days))) p5 (days_early (numbers_from 0 rule.month_days)) in
+    let p7 : list_all is_early r7 ≡ true = both_pass is_early r6 (listed (codes ";BYDAY=") (map entry_text (entries_from 0 rule.weekdays))) p6 (weekdays_early (entries_from 0 rule.weekdays)) in
+    let places = listed (codes ";BYSETPOS=") (map signed_decimal (numbers_from 0 rule.positions)) in
+    let p8 : list_all is_early r8 ≡ true = both_pass is_early r7 places p7 (listed_early signed_decimal signed_early (codes ";BYSETPOS=") (numbers_from 0 rule.positions) refl) in
+    both_pass is_early r8 (cond (rule.week_start == 0) [] start) p8 (unless_early (rule.week_start == 0) start (both_pass is_early (codes ";WKST=") (weekday_word rule.week_start) refl (weekday_early rule.week_start)))
+
+-- ---- the rule of a zone
 
 -- a rule of a zone, behind `RRULE:`
 abbrev pub rule_value : Pattern → List ℕ
@@ -151,9 +231,9 @@ rule_shown p =
     let months = listed (codes ";BYMONTH=") (map decimal p.months) in
     let days = listed (codes ";BYMONTHDAY=") (map signed_decimal p.month_days) in
     let weekdays = listed (codes ";BYDAY=") (map entry_text p.weekdays) in
-    both_pass is_shown (codes "FREQ=YEARLY" ++ months ++ days) weekdays
-    (both_pass is_shown (codes "FREQ=YEARLY" ++ months) days (both_pass is_shown (codes "FREQ=YEARLY") months refl (listed_shown decimal decimal_shown (codes ";BYMONTH=") p.months refl)) (listed_shown signed_decimal signed_shown (codes ";BYMONTHDAY=") p.month_days refl))
-    (listed_shown entry_text entry_shown (codes ";BYDAY=") p.weekdays refl)
+    early_shown (rule_value p)
+    (both_pass is_early (codes "FREQ=YEARLY" ++ months ++ days) weekdays
+    (both_pass is_early (codes "FREQ=YEARLY" ++ months) days (both_pass is_early (codes "FREQ=YEARLY") months refl (months_early p.months)) (days_early p.month_days)) (weekdays_early p.weekdays))
 
 pub rule_lines_shown : (rule : Option Pattern) → list_all (list_all is_shown) (rule_lines rule) ≡ true
 rule_lines_shown None = refl

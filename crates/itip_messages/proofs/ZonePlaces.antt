@@ -1,6 +1,6 @@
--- The octets of a content: its lines, and then its zone, which begins at the first `B`. And its lines under the name of the zone.
-use Rattle.std.proofs.Common.{◌≡◌, ◌∙◌, refl, sym, ap, subst, ℕ, ◌+◌, ◌≤◌, Bool, true, false, not, ◌&&◌, cond, ℤ, List, [], ◌∷◌, ◌++◌, map, length, take, drop, get_or, codes, Option, None, Some, arith, append_assoc, append-nil}
-use Rattle.std.specs.Prelude.{◌==◌, unwrap_or, option_map}
+-- The octets of a content: its lines, and then its zone, which begins two octets before the first `G`. And its lines under the name of the zone.
+use Rattle.std.proofs.Common.{◌≡◌, ◌∙◌, refl, sym, ap, subst, ℕ, zero, suc, ◌+◌, ◌-◌, ◌<◌, ◌≤◌, nat_lt, Bool, true, false, not, ◌&&◌, cond, ℤ, List, [], ◌∷◌, ◌++◌, map, length, take, get_or, codes, Option, None, Some, arith, append_assoc, append-nil}
+use Rattle.std.specs.Prelude.{◌==◌}
 use Rattle.std.specs.List.{list_all, flat_map, AllZip, position_or_len}
 use Rattle.std.specs.Str.{IsUtf8}
 use Rattle.std.proofs.lemmas.Bool.{and_parts, and_from, not-true, false_from_ne_true}
@@ -12,28 +12,23 @@ use Rattle.std.proofs.lemmas.Str.{IsUtf8-append}
 use Rattle.memchr.specs.Find.{IsFirstByte, is_byte}
 use Rattle.profile.specs.events.Events.{Event}
 use Rattle.profile.specs.events.Properties.{BothOrNeither}
-use Rattle.profile.specs.events.ZonedTimes.{EventTimes}
+use Rattle.profile.specs.events.ZonedTimes.{EventTimes, clock_of}
+use Rattle.profile.specs.series.Rules.{Parts, text_in}
+use Rattle.profile.specs.series.RuleTexts.{rule_text}
 use Rattle.profile.specs.series.Zones.{Zone, Observance, Constant, Single, Pair, local_time}
 use Rattle.profile.specs.text.Lines.{folded}
 use Rattle.ical_lines.proofs.FoldLemmas.{part_written}
 use Rattle.profile.specs.text.Values.{WritesLocal, WritesStamp, duration_text}
 use Rattle.profile.specs.written.WrittenZones.{WritesPart, WritesParts, component_lines, keeping, rule_lines}
-use Rattle.profile.specs.rooms.Messages.{Content, IsContent, IsZoneRest, StartsIn, WritesTimes, list_lines, canonical, zone_text}
+use Rattle.profile.specs.rooms.Messages.{Content, IsContent, IsZoneRest, StartsIn, WritesRule, WritesTimes, list_lines, canonical, zone_text}
 use Rattle.profile.specs.rooms.Kept.{renamed}
 use Rattle.ical_lines.proofs.CleanLines.{is_shown, shown_append, clean_shown}
 use Rattle.ical_values.proofs.ShownValues.{shown_local, shown_offset}
-use Rattle.itip_messages.proofs.WrittenOctets.{IsTimeTest, both_pass, stamp_passes, local_passes, duration_passes, rule_lines_shown}
-use Rattle.itip_messages.specs.Bodies.{IsCutAtZone, crlf_lines, zone_octets}
+use Rattle.itip_messages.proofs.WrittenOctets.{both_pass, stamp_passes, local_passes, duration_passes, is_early, early_time, early_shown, rule_text_early, rule_lines_shown}
+use Rattle.itip_messages.specs.Bodies.{IsCutAtZone, before_g, begins_zone, crlf_lines, zone_octets, zone_place}
 use Rattle.itip_messages.proofs.CleanBodies.{Lines, AreClean, clean_each_shown, clean_take, written_utf8, utf8_ended, IsBodyOf, body_ended}
 
 -- ---- the lines of a content
-
--- printable, and no `B`
-abbrev pub is_early : ℕ → Bool
-is_early c = is_shown c && not (c == 66)
-
-early_time : IsTimeTest is_early
-early_time = record { digit = λ n h. grind (arith, nat_tests); middle = refl; last = refl }
 
 abbrev are_early : Lines → Bool
 are_early = list_all (list_all is_early)
@@ -69,18 +64,18 @@ early_duration event =
     let seconds = event.times.length.seconds in
     both_pass is_early (codes "DURATION:") (duration_text days seconds) refl (duration_passes is_early early_time.digit refl days seconds)
 
--- each octet of the lines is printable, and no `B`
+early_rule : (clock : Zone) (rule : Option Parts) (lines : Lines) → WritesRule clock rule lines → are_early lines ≡ true
+early_rule clock None lines w = ap are_early w
+early_rule clock (Some rule) lines (end, told, e) =
+    ap are_early e ∙ and_from _ _ (both_pass is_early (codes "RRULE:") (rule_text (text_in rule) end) refl (rule_text_early clock (text_in rule) end told)) refl
+
+-- each octet of the lines is printable, and no `G`
 pub early_lines : (content : Content) (event : Event) → IsContent content event → list_all (list_all is_early) content.lines ≡ true
 early_lines content event c =
     ap are_early c.are
     ∙ and_from _ _ (early_start event.times.zone event.times c.start c.starts) (and_from _ _ (early_duration event)
-    (list_all-append (list_all is_early) c.additions c.exceptions ∙ and_from _ _ (early_times (codes "RDATE") refl event.additions c.additions c.adds) (early_times (codes "EXDATE") refl _ c.exceptions c.takes)))
-
-early_shown : (line : List ℕ) → list_all is_early line ≡ true → list_all is_shown line ≡ true
-early_shown [] h = refl
-early_shown (c ∷ cs) h =
-    let both = and_parts (is_early c) (list_all is_early cs) h in
-    and_from _ _ (and_parts (is_shown c) (not (c == 66)) both.0).0 (early_shown cs both.1)
+    (list_all-append (list_all is_early) c.rule (c.additions ++ c.exceptions) ∙ and_from _ _ (early_rule (clock_of event.times.zone) event.rule c.rule c.recurs)
+    (list_all-append (list_all is_early) c.additions c.exceptions ∙ and_from _ _ (early_times (codes "RDATE") refl event.additions c.additions c.adds) (early_times (codes "EXDATE") refl _ c.exceptions c.takes))))
 
 all_early_shown : (lines : Lines) → are_early lines ≡ true → list_all (list_all is_shown) lines ≡ true
 all_early_shown [] h = refl
@@ -151,25 +146,25 @@ zone_utf8_by (Some zone) None b = absurd b
 
 -- ---- where the zone begins among the octets
 
-abbrev pub is_b : ℕ → Bool
-is_b c = c == 66
+abbrev pub is_g : ℕ → Bool
+is_g c = c == 71
 
-no_b_in : (line : List ℕ) → list_all is_early line ≡ true → (rest : List ℕ) → position_or_len is_b (line ++ rest) ≡ length line + position_or_len is_b rest
-no_b_in [] h rest = omega arith
-no_b_in (c ∷ cs) h rest =
+no_g_in : (line : List ℕ) → list_all is_early line ≡ true → (rest : List ℕ) → position_or_len is_g (line ++ rest) ≡ length line + position_or_len is_g rest
+no_g_in [] h rest = omega arith
+no_g_in (c ∷ cs) h rest =
     let both = and_parts (is_early c) (list_all is_early cs) h in
-    let lacks : (c == 66) ≡ false = not-true _ (and_parts (is_shown c) (not (c == 66)) both.0).1 in
-    let k = position_or_len is_b rest in
-    ap (λ b. cond (not b) (1 + position_or_len is_b (cs ++ rest)) 0) lacks ∙ ap (λ n. 1 + n) (no_b_in cs both.1 rest) ∙ omega arith
+    let lacks : (c == 71) ≡ false = not-true _ (and_parts (is_shown c) (not (c == 71)) both.0).1 in
+    let k = position_or_len is_g rest in
+    ap (λ b. cond (not b) (1 + position_or_len is_g (cs ++ rest)) 0) lacks ∙ ap (λ n. 1 + n) (no_g_in cs both.1 rest) ∙ omega arith
 
-past_lines : (lines : Lines) → are_early lines ≡ true → (rest : List ℕ) → position_or_len is_b (crlf_lines lines ++ rest) ≡ length (crlf_lines lines) + position_or_len is_b rest
+past_lines : (lines : Lines) → are_early lines ≡ true → (rest : List ℕ) → position_or_len is_g (crlf_lines lines ++ rest) ≡ length (crlf_lines lines) + position_or_len is_g rest
 past_lines [] h rest = omega arith
 past_lines (line ∷ lines) h rest =
     let both = and_parts (list_all is_early line) (are_early lines) h in
     let more = crlf_lines lines in
-    let first : position_or_len is_b (line ++ (13 ∷ 10 ∷ (more ++ rest))) ≡ length line + (1 + (1 + (length more + position_or_len is_b rest))) =
-    no_b_in line both.0 (13 ∷ 10 ∷ (more ++ rest)) ∙ ap (λ n. length line + (1 + (1 + n))) (past_lines lines both.1 rest) in
-    ap (position_or_len is_b) (grouped line more rest) ∙ first ∙ counted line more (position_or_len is_b rest)
+    let first : position_or_len is_g (line ++ (13 ∷ 10 ∷ (more ++ rest))) ≡ length line + (1 + (1 + (length more + position_or_len is_g rest))) =
+    no_g_in line both.0 (13 ∷ 10 ∷ (more ++ rest)) ∙ ap (λ n. length line + (1 + (1 + n))) (past_lines lines both.1 rest) in
+    ap (position_or_len is_g) (grouped line more rest) ∙ first ∙ counted line more (position_or_len is_g rest)
   where
     grouped : (line more rest : List ℕ) → ((line ++ codes "\r\n") ++ more) ++ rest ≡ line ++ (13 ∷ 10 ∷ (more ++ rest))
     grouped line more rest = append_assoc (line ++ codes "\r\n") more rest ∙ append_assoc line (13 ∷ 10 ∷ []) (more ++ rest)
@@ -177,30 +172,72 @@ past_lines (line ∷ lines) h rest =
     counted : (line more : List ℕ) (n : ℕ) → length line + (1 + (1 + (length more + n))) ≡ length ((line ++ codes "\r\n") ++ more) + n
     counted line more n = omega (arith, length-append (line ++ codes "\r\n") more, length-append line (13 ∷ 10 ∷ []))
 
-first_b : (zone : Option (List ℕ)) → position_or_len is_b (zone_octets zone) ≡ 0
-first_b None = refl
-first_b (Some rest) = ap (position_or_len is_b) (zone_behind rest)
+placed : (octets : List ℕ) (b : Bool) → begins_zone octets ≡ b → zone_place octets ≡ cond b (before_g octets - 2) (length octets)
+placed octets b h = ap (λ x. cond x (before_g octets - 2) (length octets)) h
 
--- the zone begins at the first `B`, and where there is none no zone stands
-pub zone_begins : (content : Content) (event : Event) → IsContent content event → position_or_len is_b (canonical content) ≡ length (crlf_lines content.lines)
-zone_begins content event c =
-    let n = length (crlf_lines content.lines) in
-    past_lines content.lines (early_lines content event c) (zone_octets content.zone) ∙ ap (λ k. n + k) (first_b content.zone) ∙ (omega arith)
+within : (p n m : ℕ) → p ≡ m → m < n → nat_lt p n ≡ true
+within p n m e l = grind (arith, nat_tests)
 
-pub cut_at_zone : (content : Content) (event : Event) → IsContent content event → (place : ℕ) → position_or_len is_b (canonical content) ≡ place → IsCutAtZone content place
+not_within : (p n m : ℕ) → p ≡ m → n ≡ m → nat_lt p n ≡ false
+not_within p n m e f = grind (arith, nat_tests)
+
+-- the first octet of what follows so many
+after_front : (front rest : List ℕ) (n : ℕ) → n ≡ length front → get_or (front ++ rest) n 0 ≡ get_or rest 0 0
+after_front [] rest n e = ap (λ k. get_or rest k 0) e
+after_front (c ∷ front) rest zero e = absurd (omega (arith, e))
+after_front (c ∷ front) rest (suc n) e = after_front front rest n (omega (arith, e))
+
+-- the zone begins two octets before the first `G`, and where there is none no zone stands
+module _ (content : Content) (event : Event) (c : IsContent content event) where
+  abbrev front : List ℕ
+  front = crlf_lines content.lines
+
+  first_g : (rest : List ℕ) → zone_octets content.zone ≡ rest → before_g (canonical content) ≡ length front + position_or_len is_g rest
+  first_g rest e = past_lines content.lines (early_lines content event c) (zone_octets content.zone) ∙ ap (λ l. length front + position_or_len is_g l) e
+
+  zone_begins_at : (zone : Option (List ℕ)) → content.zone ≡ zone → zone_place (canonical content) ≡ length front
+  zone_begins_at None e =
+      let none : zone_octets content.zone ≡ [] = ap zone_octets e in
+      let all : length (canonical content) ≡ length front = ap (λ l. length (front ++ l)) none ∙ ap length (append-nil front) in
+      let before : before_g (canonical content) ≡ length front = first_g [] none ∙ omega arith in
+      placed (canonical content) false (ap (λ b. b && (get_or (canonical content) (before_g (canonical content) - 2) 0 == 66)) (not_within (before_g (canonical content)) (length (canonical content)) (length front) before all)) ∙ all
+  zone_begins_at (Some rest) e =
+      let there : zone_octets content.zone ≡ zone_head ++ rest = ap zone_octets e ∙ zone_behind rest in
+      let all : length (canonical content) ≡ length front + length (zone_head ++ rest) = ap (λ l. length (front ++ l)) there ∙ length-append front (zone_head ++ rest) in
+      let before : before_g (canonical content) ≡ length front + 2 = first_g (zone_head ++ rest) there in
+      let at : before_g (canonical content) - 2 ≡ length front = omega (arith, before) in
+      let octet : get_or (canonical content) (before_g (canonical content) - 2) 0 ≡ 66 = ap (λ l. get_or (front ++ l) (before_g (canonical content) - 2) 0) there ∙ after_front front (zone_head ++ rest) (before_g (canonical content) - 2) at in
+      placed (canonical content) true (and_from _ _ (within (before_g (canonical content)) (length (canonical content)) (length front + 2) before (omega (arith, all))) (ap (λ o. o == 66) octet)) ∙ at
+
+  pub zone_begins : zone_place (canonical content) ≡ length front
+  zone_begins = zone_begins_at content.zone refl
+
+pub cut_at_zone : (content : Content) (event : Event) → IsContent content event → (place : ℕ) → place ≡ zone_place (canonical content) → IsCutAtZone content place
 cut_at_zone content event c place e =
     let a = crlf_lines content.lines in
     let z = zone_octets content.zone in
-    let n : length a ≡ place = sym (zone_begins content event c) ∙ e in
+    let n : length a ≡ place = sym (zone_begins content event c) ∙ sym e in
     record { inside = omega (arith, n, length-append a z); before = take_at a z place n; after = drop_at a z place n }
 
 -- the same in the words of memchr's contract
-pub first_byte : (xs : List ℕ) (r : Option ℕ) → IsFirstByte (is_byte 66) xs r → position_or_len is_b xs ≡ unwrap_or r (length xs)
-first_byte xs None h = position_or_len_is is_b xs (length xs) 0 (omega arith) (λ k l. false_from_ne_true (is_b (get_or xs k 0)) (h k (omega arith) l)) (λ l. absurd (omega (arith, l)))
-first_byte xs (Some i) h = position_or_len_is is_b xs i 0 (omega (arith, h.0.high)) (λ k l. false_from_ne_true (is_b (get_or xs k 0)) (h.0.before k (omega arith) l)) (λ _. h.1)
+first_found : (xs : List ℕ) (third : ℕ) → IsFirstByte (is_byte 71) xs (Some third) → before_g xs ≡ third
+first_found xs third h = position_or_len_is is_g xs third 0 (omega (arith, h.0.high)) (λ k l. false_from_ne_true (is_g (get_or xs k 0)) (h.0.before k (omega arith) l)) (λ _. h.1)
 
-pub cut_at_byte : (content : Content) (event : Event) → IsContent content event → (r : Option ℕ) → IsFirstByte (is_byte 66) (canonical content) r → IsCutAtZone content (unwrap_or r (length (canonical content)))
-cut_at_byte content event c r h = cut_at_zone content event c (unwrap_or r (length (canonical content))) (first_byte (canonical content) r h)
+-- the octet that is looked at tells whether a zone stands there
+pub place_found : (xs : List ℕ) (third octet : ℕ) → IsFirstByte (is_byte 71) xs (Some third) → octet ≡ get_or xs (third - 2) 0 → (b : Bool) → (octet == 66) ≡ b → cond b (third - 2) (length xs) ≡ zone_place xs
+place_found xs third octet h o b e =
+    let at : before_g xs ≡ third = first_found xs third h in
+    let same : begins_zone xs ≡ b =
+    and_left (nat_lt (before_g xs) (length xs)) (get_or xs (before_g xs - 2) 0 == 66) (within (before_g xs) (length xs) third at h.0.high) ∙ ap (λ n. get_or xs (n - 2) 0 == 66) at ∙ ap (λ x. x == 66) (sym o) ∙ e in
+    sym (placed xs b same ∙ ap (λ n. cond b (n - 2) (length xs)) at)
+  where
+    and_left : (a d : Bool) → a ≡ true → (a && d) ≡ d
+    and_left a d h = ap (λ x. x && d) h
+
+pub place_lacking : (xs : List ℕ) → IsFirstByte (is_byte 71) xs None → length xs ≡ zone_place xs
+place_lacking xs h =
+    let at : before_g xs ≡ length xs = position_or_len_is is_g xs (length xs) 0 (omega (arith)) (λ k l. false_from_ne_true (is_g (get_or xs k 0)) (h k (omega arith) l)) (λ l. absurd (omega (arith, l))) in
+    sym (placed xs false (ap (λ b. b && (get_or xs (before_g xs - 2) 0 == 66)) (not_within (before_g xs) (length xs) (length xs) at refl)))
 
 -- ---- as text
 
@@ -227,7 +264,7 @@ StartsAs name (Some zone) times line = (text : List ℕ) × WritesLocal text tim
 pub record AreNamed (name : List ℕ) (content : Content) (event : Event) (c : IsContent content event) : Type 0 where
   pub start : List ℕ
   pub starts : StartsAs name event.times.zone event.times start
-  pub are : map (renamed (codes "DTSTART;TZID=Z") (codes "DTSTART;TZID=" ++ name)) content.lines ≡ start ∷ duration_line event ∷ (c.additions ++ c.exceptions)
+  pub are : map (renamed (codes "DTSTART;TZID=Z") (codes "DTSTART;TZID=" ++ name)) content.lines ≡ start ∷ duration_line event ∷ (c.rule ++ (c.additions ++ c.exceptions))
 
 abbrev named : List ℕ → List ℕ → List ℕ
 named name = renamed (codes "DTSTART;TZID=Z") (codes "DTSTART;TZID=" ++ name)
@@ -244,11 +281,17 @@ named_exceptions : (name : List ℕ) (texts : List (List ℕ)) → map (named na
 named_exceptions name [] = refl
 named_exceptions name (t ∷ ts) = refl
 
+named_rule : (name : List ℕ) (clock : Zone) (rule : Option Parts) (lines : Lines) → WritesRule clock rule lines → map (named name) lines ≡ lines
+named_rule name clock None lines w = ap (map (named name)) w ∙ sym w
+named_rule name clock (Some rule) lines (end, told, e) = ap (map (named name)) e ∙ sym e
+
 pub named_lines : (name : List ℕ) (content : Content) (event : Event) (c : IsContent content event) → AreNamed name content event c
 named_lines name content event c =
     let adds : map (named name) c.additions ≡ c.additions = ap (map (named name)) c.adds.is ∙ named_additions name c.adds.texts ∙ sym c.adds.is in
     let takes : map (named name) c.exceptions ≡ c.exceptions = ap (map (named name)) c.takes.is ∙ named_exceptions name c.takes.texts ∙ sym c.takes.is in
-    let rest : map (named name) (c.additions ++ c.exceptions) ≡ c.additions ++ c.exceptions = map-append (named name) c.additions c.exceptions ∙ (λ i. adds i ++ takes i) in
+    let recurs : map (named name) c.rule ≡ c.rule = named_rule name (clock_of event.times.zone) event.rule c.rule c.recurs in
+    let lists : map (named name) (c.additions ++ c.exceptions) ≡ c.additions ++ c.exceptions = map-append (named name) c.additions c.exceptions ∙ (λ i. adds i ++ takes i) in
+    let rest : map (named name) (c.rule ++ (c.additions ++ c.exceptions)) ≡ c.rule ++ (c.additions ++ c.exceptions) = map-append (named name) c.rule (c.additions ++ c.exceptions) ∙ (λ i. recurs i ++ lists i) in
     record {
       start = named name c.start;
       starts = start_named name event.times.zone event.times c.start c.starts;

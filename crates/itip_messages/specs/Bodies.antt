@@ -1,11 +1,13 @@
 -- What the octets of a body are.
-use Rattle.std.specs.Prelude.{◌≡◌, ℕ, ◌≤◌, Contains, List, [], ◌∷◌, ◌++◌, codes, take, drop, length, option_map, unwrap_or, Option, None, ℤ}
-use Rattle.std.specs.List.{flat_map, AllZip}
+use Rattle.std.specs.Prelude.{◌≡◌, ℕ, ◌≤◌, ◌-◌, Bool, ◌&&◌, ◌==◌, nat_lt, get_or, if◌then◌else◌, Contains, List, [], ◌∷◌, ◌++◌, codes, take, drop, length, option_map, unwrap_or, Option, None, Some, ℤ, pos, ◌≤ℤ◌}
+use Rattle.std.specs.List.{flat_map, AllZip, position_or_len}
 use Rattle.profile.specs.text.Values.{WritesStamp}
 use Rattle.profile.specs.events.Properties.{BothOrNeither}
 use Rattle.profile.specs.events.ZonedTimes.{EventTimes}
+use Rattle.profile.specs.series.Rules.{Parts, Until, UntilDay, UntilLocal, UntilInstant}
+use Rattle.profile.specs.series.Zones.{Zone}
 use Rattle.profile.specs.events.Events.{Event}
-use Rattle.profile.specs.rooms.Messages.{Content, IsContent, IsZoneRest, StartsIn, WritesTimes, canonical, zone_text}
+use Rattle.profile.specs.rooms.Messages.{Content, IsContent, IsZoneRest, StartsIn, WritesRule, WritesTimes, canonical, zone_text}
 use Rattle.cal_events.specs.Meetings.{IsNamed}
 use Rattle.cal_events.specs.OwnInstances.{IsTimely}
 
@@ -41,12 +43,39 @@ AppendsOthers instants old new = (texts : List (List ℕ)) × AllZip WritesStamp
 abbrev pub AppendsStart : EventTimes → List ℕ → List ℕ → Type 0
 AppendsStart times old new = (line : List ℕ) × StartsIn times.zone times line × (new ≡ old ++ crlf_lines (line ∷ []))
 
+-- new is old and RRULE after it, where there is a rule
+abbrev pub AppendsRule : Zone → Option Parts → List ℕ → List ℕ → Type 0
+AppendsRule clock rule old new = (lines : List (List ℕ)) × WritesRule clock rule lines × (new ≡ old ++ crlf_lines lines)
+
 -- new is old and the VTIMEZONE after it, where there is a zone
 abbrev pub AppendsZone : EventTimes → List ℕ → List ℕ → Type 0
 AppendsZone times old new = (zone : Option (List ℕ)) × BothOrNeither IsZoneRest times.zone zone × (new ≡ old ++ zone_octets zone)
 
+-- how many octets stand before the first `G`
+abbrev pub before_g : List ℕ → ℕ
+before_g octets = position_or_len (λ octet. octet == 71) octets
+
+-- the first `G` among these is the third octet behind a `B`
+abbrev pub begins_zone : List ℕ → Bool
+begins_zone octets = nat_lt (before_g octets) (length octets) && (get_or octets (before_g octets - 2) 0 == 66)
+
+-- where that `B` stands; their number where there is none
+abbrev pub zone_place : List ℕ → ℕ
+zone_place octets = if begins_zone octets then before_g octets - 2 else length octets
+
+-- an end of a rule that can be written: a date is at most 9999-12-31
+abbrev pub IsTold : Until → Type 0
+IsTold (UntilDay number) = number ≤ℤ pos 2_932_896
+IsTold (UntilLocal local) = Unit {0}
+IsTold (UntilInstant instant) = Unit {0}
+
+-- the end of a rule, where it has one
+abbrev pub EndIsTold : Option Parts → Type 0
+EndIsTold rule = (said : Parts) → rule ≡ Some said → (end : Until) → said.until ≡ Some end → IsTold end
+
 -- what a message's VEVENT says of when its event is: it has no rule, and all its instants lie in the dates that an event may name
 pub record IsReady (event : Event) : Type 0 where
   pub once : event.rule ≡ None
+  pub ends : EndIsTold event.rule
   pub timely : IsTimely event
   pub listed : (instant : ℤ) → Contains event.additions instant → IsNamed instant

@@ -1,5 +1,5 @@
 -- What is written of a refresh.
-use Rattle.std.specs.Prelude.{◌≡◌, ℕ, ℤ, List, codes, Some}
+use Rattle.std.specs.Prelude.{◌≡◌, ℕ, List, codes, Some}
 use Rattle.profile.specs.text.Lines.{written}
 use Rattle.profile.specs.rooms.Messages.{IsRefreshEvent, object_lines}
 use Rattle.ical_values.specs.Octets.{text_octets, address_octets}

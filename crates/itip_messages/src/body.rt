@@ -1,16 +1,24 @@
-//! The body of a VEVENT in its one form: the lines that say when it is, DTSTART, DURATION, RDATE and EXDATE, unfolded and each ended by CRLF
-//! (RFC 5545 3.6.1), and then the VTIMEZONE that DTSTART is in, under the name `Z` (RFC 5545 3.6.5). Two bodies are the same where these
-//! octets are.
-ghost use Rattle.std.specs.Prelude.{◌≡◌, ◌++◌, [], ◌∷◌, Contains, List, ℕ, ℤ, filter, codes, IfOk, OnOk, ◌==◌};
-ghost use Rattle.std.specs.List.{AllZip, position_or_len};
+//! The body of a VEVENT in its one form: the lines that say when it is, DTSTART, DURATION, RRULE, RDATE and EXDATE, unfolded and each ended
+//! by CRLF (RFC 5545 3.6.1), and then the VTIMEZONE that DTSTART is in, under the name `Z` (RFC 5545 3.6.5). Two bodies are the same where
+//! these octets are.
+ghost use Rattle.std.specs.Prelude.{◌≡◌, ◌≤◌, ◌≤ℤ◌, pos, ◌++◌, [], ◌∷◌, Contains, List, ℕ, ℤ, Some, option_copied, option_map, filter, codes, length, string_bytes, IfOk, OnOk};
+ghost use Rattle.std.specs.List.{AllZip};
 ghost use Rattle.ical_values.specs.Written.{Appends};
-ghost use Rattle.profile.specs.text.Values.{IsClockSeconds, WritesStamp, duration_text};
+ghost use Rattle.profile.specs.text.Values.{IsClockSeconds, SpellsDate, WritesStamp, duration_text};
 ghost use Rattle.profile.specs.events.Events.{Event};
-ghost use Rattle.profile.specs.rooms.Messages.{AreAscending, Content, IsContent, canonical, is_in_dates, list_lines};
+ghost use Rattle.profile.specs.series.Rules as rules;
+ghost use Rattle.profile.specs.events.Properties.{BothOrNeither};
+ghost use Rattle.profile.specs.rooms.Messages.{AreAscending, Content, IsContent, WritesEnd, canonical, is_in_dates, list_lines};
+ghost use Rattle.cal_rules.specs.Views.{until_of};
+ghost use Rattle.cal_zones.specs.Kinds.{zone_of};
 ghost use Rattle.cal_events.specs.Events.{event_of, times_of};
-ghost use Rattle.itip_messages.specs.Bodies.{AppendsOthers, AppendsStart, AppendsTimes, AppendsZone, IsCanonical, IsCutAtZone, IsReady, crlf_lines};
+ghost use Rattle.itip_messages.specs.Bodies.{AppendsOthers, AppendsRule, AppendsStart, AppendsTimes, AppendsZone, EndIsTold, IsCanonical, IsCutAtZone, IsReady, IsTold, crlf_lines, zone_place};
 
-use cal_events::{EventComponent, EventTimes, HORIZON};
+use cal_days::Day;
+use cal_events::{EventComponent, EventTimes, HORIZON, as_end};
+use cal_rules::{Rule, Until};
+use cal_zones::Zone;
+use ical_values::shown::{date_text, stamp_text};
 use ical_values::{Duration, Stamp};
 use memchr::memchr;
 use std::alloc::{AllocError, Global};
@@ -18,15 +26,21 @@ use std::alloc::{AllocError, Global};
 /// The first second that an event may name, 1969-12-31T00:00:00Z.
 const FIRST_SECOND: i64 = -86_400;
 
-/// Where the octets of the VTIMEZONE begin in those of a body; the body's length where there is none. No line before them has a `B`, which
-/// they begin with.
+/// Where the octets of the VTIMEZONE begin in those of a body; the body's length where there is none. No line before them has a `G`, which
+/// is the third octet of `BEGIN`.
 pub fn zone_lines(body: &[u8]) -> usize
-    ensures place { result ≡ position_or_len (λ octet. octet == 66) body.now }
+    ensures place { result ≡ zone_place body.now }
+    ensures inside { result ≤ length body.now }
     ensures cut { (content : Content) (event : Event) → IsContent content event → body.now ≡ canonical content → IsCutAtZone content result }
 {
-    match memchr(b'B', body) {
-        Some(place) => place,
-        None => body.len(),
+    let Some(third) = memchr(b'G', body) else {
+        return body.len();
+    };
+    let place = third.saturating_sub(2);
+    if body[place] == b'B' {
+        place
+    } else {
+        body.len()
     }
 }
 
@@ -38,6 +52,7 @@ pub(crate) fn canonical_body(alloc: Global, event: &EventComponent) -> Result<Ve
     let mut body = Vec::new(alloc);
     write_start(&mut body, &event.times)?;
     write_duration(&mut body, event.times.length)?;
+    write_rule(&mut body, &event.times.start.clock(), event.rule.as_ref())?;
     write_times(&mut body, "RDATE", &event.additions)?;
     let exceptions = in_dates(alloc, &event.exceptions)?;
     write_times(&mut body, "EXDATE", &exceptions)?;
@@ -71,6 +86,68 @@ fn write_duration(body: &mut Vec<u8>, length: Duration) -> Result<(), AllocError
     length.write(body)?;
     body.extend_from_slice(b"\r\n")?;
     Ok(())
+}
+
+/// RRULE, where there is a rule, on the clocks of DTSTART.
+fn write_rule(body: &mut Vec<u8>, clock: &Zone, rule: Option<&Rule>) -> Result<(), AllocError>
+    requires { EndIsTold (option_copied rule) }
+    ensures { OnOk result (AppendsRule (zone_of clock.now) (option_copied rule.entry) body.old.items body.new.items) }
+{
+    let Some(rule) = rule else {
+        return Ok(());
+    };
+    let end = end_text(*body.allocator(), clock, rule.until())?;
+    body.extend_from_slice(b"RRULE:")?;
+    rule.write(end.as_deref(), body)?;
+    body.extend_from_slice(b"\r\n")?;
+    Ok(())
+}
+
+/// The text of UNTIL; None where it doesn't stand.
+fn end_text(alloc: Global, clock: &Zone, until: Option<Until>) -> Result<Option<String>, AllocError>
+    requires { (end : rules.Until) → option_map until_of until ≡ Some end → IsTold end }
+    ensures { IfOk result (λ text.
+        BothOrNeither (WritesEnd (zone_of clock.now)) (option_map until_of until) (option_map string_bytes text)) }
+{
+    let Some(until) = until else {
+        return Ok(None);
+    };
+    let text = until_text(alloc, clock, &until)?;
+    Ok(Some(text))
+}
+
+/// A date, or else the instant in UTC.
+fn until_text(alloc: Global, clock: &Zone, until: &Until) -> Result<String, AllocError>
+    requires { IsTold (until_of until.now) }
+    ensures { IfOk result (λ text. WritesEnd (zone_of clock.now) (until_of until.now) (string_bytes text)) }
+{
+    match until {
+        Until::Date(day) => day_text(alloc, *day),
+        Until::Local(local) => instant_text(alloc, as_end(clock.resolve(*local))),
+        Until::Utc(stamp) => instant_text(alloc, as_end(stamp.instant())),
+    }
+}
+
+/// A day up to 9999-12-31.
+fn day_text(alloc: Global, day: Day) -> Result<String, AllocError>
+    requires { day ≤ℤ pos 2_932_896 }
+    ensures { IfOk result (λ text. SpellsDate (string_bytes text) day) }
+{
+    let Some(text) = date_text(alloc, day)? else {
+        unreachable!()
+    };
+    Ok(text)
+}
+
+/// An instant, in UTC.
+fn instant_text(alloc: Global, instant: i64) -> Result<String, AllocError>
+    requires { IsClockSeconds instant }
+    ensures { IfOk result (λ text. WritesStamp (string_bytes text) instant) }
+{
+    let Some(stamp) = Stamp::of_instant(instant) else {
+        unreachable!()
+    };
+    stamp_text(alloc, stamp)
 }
 
 /// A property that lists instants in UTC, ascending and each once; no line where there are none. In time n log n.

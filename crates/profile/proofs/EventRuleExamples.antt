@@ -11,7 +11,7 @@ use Rattle.profile.specs.series.Rules.{RuleText, UntilDay, UntilLocal, UntilInst
 use Rattle.profile.specs.series.RuleTexts.{rule_parts, after_key, SpellsRule, IsKnownPart, Count, ByDay}
 use Rattle.profile.specs.series.Zones.{Zone, Constant, Means}
 use Rattle.profile.specs.events.ZonedTimes.{EventTimes}
-use Rattle.profile.specs.events.EventRules.{IsLastAllowed, AllowsNone, SaysEventRule, EventRuleFault, two_rules, starts_outside}
+use Rattle.profile.specs.events.EventRules.{IsLastAllowed, SaysEventRule, EventRuleFault, two_rules, starts_outside}
 
 -- ---- the last day that UNTIL allows
 
@@ -80,9 +80,15 @@ not_in_utc = record {
   last = λ other from to start means. let e = shown_at (pos 3600) _ start means in omega (arith, ints, e, from);
 }
 
--- UNTIL=00010101T083000Z: 09:00Z of the first day is past it
-before_the_first_day : AllowsNone utc 32_400 (Some (UntilInstant (negsuc 62_135_566_199)))
-before_the_first_day = λ other from to start means. let e = shown_at (pos 0) _ start means in omega (arith, ints, e, from)
+-- UNTIL=00010101T083000Z counts as 1969-12-30T23:59:59Z, and no start lies before the next second
+before_the_first_day : IsLastAllowed utc 32_400 (Some (UntilInstant (negsuc 62_135_566_199))) 719_526
+before_the_first_day = record {
+  to_9999 = omega arith;
+  start = negsuc 140_399;
+  means = shows_at (pos 0) _ _ (omega (arith, ints));
+  not_past = omega (arith, ints);
+  last = λ other from to start means. let e = shown_at (pos 0) _ start means in omega (arith, ints, e, from);
+}
 
 -- ---- what RRULE says: FREQ=DAILY;COUNT=3
 

@@ -1,7 +1,7 @@
 -- Worked examples of definitions, computed. Those of the other files stand beside the crates that meet them: Lines in ical_lines,
 -- Objects in ical_tree, Days and Values in cal_days and ical_values, Instances in cal_events, Certificates in clash_cert,
 -- Revisions in itip_order, Messages in itip_messages, Rooms in room_books.
-use Rattle.std.proofs.Common.{◌≡◌, ◌<◌, ◌∙◌, ℕ, zero, suc, pos, negsuc, true, false, List, [], ◌∷◌, ◌++◌, Some, None, refl, codes, ap, arith, get_or, lit<}
+use Rattle.std.proofs.Common.{decimal, ◌≡◌, ◌<◌, ◌∙◌, ℕ, zero, suc, pos, negsuc, true, false, List, [], ◌∷◌, ◌++◌, Some, None, refl, codes, ap, arith, get_or, lit<}
 use Rattle.std.proofs.lemmas.Bool.{false≢true}
 use Rattle.std.proofs.lemmas.Fmt.{decimal_digit}
 use Rattle.profile.specs.faults.Faults.{is_event_fault, is_calendar_fault, is_message_fault}
@@ -218,7 +218,9 @@ a_word_has_no_comma = refl
 
 -- the certificate of a room that has taken nothing
 nothing_kept : kept_certificate empty_book ≡ codes "ROOMCERT 1\nSINGLES 0\nSERIES 0\nDONE\n"
-nothing_kept = ap (λ (d : List ℕ). codes "ROOMCERT 1\nSINGLES " ++ (d ++ codes "\nSERIES 0\nDONE\n")) (decimal_digit 0 (lit< tt))
+nothing_kept =
+    ap (λ (d : List ℕ). codes "ROOMCERT 1\nSINGLES " ++ (d ++ (codes "\nSERIES " ++ (decimal 0 ++ codes "\nDONE\n")))) (decimal_digit 0 (lit< tt))
+    ∙ ap (λ (d : List ℕ). codes "ROOMCERT 1\nSINGLES 0\nSERIES " ++ (d ++ codes "\nDONE\n")) (decimal_digit 0 (lit< tt))
 
 abbrev part_of : List ℕ → ℕ → Part
 part_of uid sequence = record {
@@ -288,7 +290,9 @@ that_of_another_meeting_is_none : wants_whole true (part_of (codes "b") 0 ∷ []
 that_of_another_meeting_is_none = refl
 
 one_single : kept_certificate two_meetings ≡ codes "ROOMCERT 1\nSINGLES 1\nSERIES 0\nDONE\n"
-one_single = ap (λ (d : List ℕ). codes "ROOMCERT 1\nSINGLES " ++ (d ++ codes "\nSERIES 0\nDONE\n")) (decimal_digit 1 (lit< tt))
+one_single =
+    ap (λ (d : List ℕ). codes "ROOMCERT 1\nSINGLES " ++ (d ++ (codes "\nSERIES " ++ (decimal 0 ++ codes "\nDONE\n")))) (decimal_digit 1 (lit< tt))
+    ∙ ap (λ (d : List ℕ). codes "ROOMCERT 1\nSINGLES 1\nSERIES " ++ (d ++ codes "\nDONE\n")) (decimal_digit 0 (lit< tt))
 
 -- ---- streams
 

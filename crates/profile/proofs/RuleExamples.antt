@@ -54,6 +54,7 @@ rule frequency interval week_start months month_days weekdays positions start co
   };
   count = count;
   last = last_rule_day;
+  until = None;
 }
 
 -- the rule days among so many days from one on

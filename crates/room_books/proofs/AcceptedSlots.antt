@@ -40,7 +40,7 @@ slot_same a b e = slot_equal a b (is_eq_true _ e)
 slot_itself : (a : revisions.Slot) → slot_cmp a a ≡ Equal
 slot_itself a = tied_itself slot_total a
 
-slot_from : (a b : revisions.Slot) → a ≡ b → is_eq (slot_cmp a b) ≡ true
+pub slot_from : (a b : revisions.Slot) → a ≡ b → is_eq (slot_cmp a b) ≡ true
 slot_from a b e = ap (λ s. is_eq (slot_cmp s b)) e ∙ ap is_eq (slot_itself b)
 
 -- the own order of slots is that of the slots that they stand for

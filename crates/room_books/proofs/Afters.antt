@@ -13,14 +13,15 @@ use Rattle.profile.specs.rooms.Messages.{Outcome, Accept, Busy, SeriesLimit, Sin
 use Rattle.profile.specs.rooms.Revisions.{Part, in_view}
 use Rattle.profile.specs.rooms.Rooms.{Answer, Book, Claim, Decides, is_confirmed, is_hidden, is_fresh, is_set, left_of, confirmed_in, parts_of, asked, answered}
 use Rattle.room_books.specs.declared.meeting.MeetingKey.{MeetingKey}
-use Rattle.room_books.specs.declared.meeting.Meeting.{Meeting}
+use Rattle.room_books.specs.declared.kept.Meeting.{Meeting}
 use Rattle.cal_events.specs.declared.instance.Single.{Single}
 use Rattle.room_books.specs.declared.meeting.Given.{Given}
 use Rattle.room_books.specs.Takings.{OutcomeDated, StandsAt, held_after}
 use Rattle.room_books.specs.Views.{booked_of}
-use Rattle.room_books.specs.Standing.{IsFitting, AreFitting, IsOwn, IsGiven, IsDated, Meets, MeetsAt, standing, book_after}
+use Rattle.room_books.specs.Standing.{IsFitting, AreFitting, IsOwn, AreGiven, IsGiven, IsDated, Meets, MeetsAt, standing, book_after}
 use Rattle.room_books.proofs.Runs.{new_answer}
-use Rattle.room_books.proofs.Loops.{zip_from, zip_to}
+use Rattle.room_books.specs.BySlot.{Reordered}
+use Rattle.room_books.proofs.Givens.{given_from, given_reordered, given_to}
 use Rattle.room_books.proofs.OwnSteps.{answer_to, stayed, given_after}
 use Rattle.room_books.proofs.Pairs.{flat_at, map_at, map_from}
 use Rattle.room_books.proofs.Places.{booked_from}
@@ -76,7 +77,7 @@ module _ (k : MeetingKey) (own : Book) where
   old_dated : (before : Option Meeting) → MeetsAt own k before → (a : Answer) → Contains own.answers a → in_view own.taken a.claim.part ≡ true → OutcomeDated a.outcome
   old_dated None m a c v = absurd (none_seen m a.claim.part v)
   old_dated (Some meeting) m a c v =
-      let found = zip_to (IsGiven k own.taken) (standing own.taken own.answers) meeting.answers.items a m.answers (filter_from (λ (x : Answer). in_view own.taken x.claim.part) own.answers a c v) in
+      let found = given_to k own.taken (standing own.taken own.answers) meeting.answers.items a m.answers (filter_from (λ (x : Answer). in_view own.taken x.claim.part) own.answers a c v) in
       subst OutcomeDated found.2.outcome (m.dated found.0 found.1).outcome
 
 -- with its parts and more
@@ -124,16 +125,16 @@ module _ (k : MeetingKey) (own : Book) (is_own : IsOwn k own) (claims : List Cla
             )
       ]
 
-  pub meets_after : (meeting : Meeting) (kept given : List Given) → StandsFor meeting.held t → AllZip (IsGiven k t) (stayed k own is_own claims fit moment) kept → AllZip (IsGiven k t) new given
-      → meeting.answers.items ≡ kept ++ given → ((claim : Claim) → Contains asked_now claim → OutcomeDated outcome) → Meets (book_after own claims moment outcome) k meeting
+  pub meets_after : (meeting : Meeting) (kept given : List Given) → StandsFor meeting.held t → AreGiven k t (stayed k own is_own claims fit moment) kept → AllZip (IsGiven k t) new given
+      → Reordered (kept ++ given) meeting.answers.items → ((claim : Claim) → Contains asked_now claim → OutcomeDated outcome) → Meets (book_after own claims moment outcome) k meeting
   meets_after meeting kept given s z w e dated =
-      let answers = subst (AllZip (IsGiven k t) (standing t (own.answers ++ new))) (sym e) (given_after k own is_own claims fit moment outcome kept given z w) in
+      let answers = given_reordered k t (standing t (own.answers ++ new)) (kept ++ given) meeting.answers.items e (given_after k own is_own claims fit moment outcome kept given z w) in
       record {
         held = s;
         answers = answers;
         answered = answered_after;
         dated = λ given c.
-            let found = zip_from (IsGiven k t) (standing t (own.answers ++ new)) meeting.answers.items given answers c in
+            let found = given_from k t (standing t (own.answers ++ new)) meeting.answers.items given answers c in
             let both = answer_dated dated found.0 found.1 in
             given_dated k t found.0 given found.2 both.0 both.1;
       }

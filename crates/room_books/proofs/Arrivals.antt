@@ -13,7 +13,7 @@ use Rattle.ical_values.specs.Octets.{address_octets, text_octets}
 use Rattle.profile.specs.rooms.Revisions.{Part, same_meeting, octets_cmp}
 use Rattle.profile.specs.rooms.Kept.{first_parts}
 use Rattle.room_books.specs.declared.meeting.MeetingKey.{MeetingKey}
-use Rattle.room_books.specs.declared.meeting.Meeting.{Meeting}
+use Rattle.room_books.specs.declared.kept.Meeting.{Meeting}
 use Rattle.room_books.specs.Views.{same_key}
 use Rattle.room_books.specs.Standing.{is_of, AreKeysOf}
 use Rattle.itip_order.proofs.Order.{meeting_total, is_eq_true}

@@ -11,7 +11,7 @@ use Rattle.profile.specs.rooms.Messages.{Accept}
 use Rattle.profile.specs.rooms.Revisions.{Part}
 use Rattle.profile.specs.rooms.Rooms.{Answer, Book, Claim, is_confirmed, confirmed_in, confirmed, if_accepted, parts_of, asked, answered}
 use Rattle.room_books.specs.declared.meeting.MeetingKey.{MeetingKey}
-use Rattle.room_books.specs.declared.meeting.Meeting.{Meeting}
+use Rattle.room_books.specs.declared.kept.Meeting.{Meeting}
 use Rattle.room_books.specs.Views.{same_key, is_other, others, confirmed_of}
 use Rattle.room_books.specs.Standing.{is_of, of_meeting, answers_of, book_of, AreFitting, Stands}
 use Rattle.room_books.proofs.Confirms.{zip_confirms}
@@ -20,7 +20,7 @@ use Rattle.room_books.proofs.Runs.{new_answer}
 use Rattle.room_books.proofs.Meetings.{is_of_same, one_meeting, of_more_other, confirmed_own, filter_none}
 use Rattle.room_books.proofs.OwnBook.{parts_own, taken_own, answers_own}
 use Rattle.room_books.proofs.Partition.{answers_apart, confirmed_split, partition}
-use Rattle.room_books.proofs.Same.{AreSame, same_itself, same_then, same_append, same_swap, same_turned}
+use Rattle.room_books.proofs.Same.{AreSame, same_then, same_append, same_swap, same_turned}
 
 module _ (k : MeetingKey) (entries : List (MeetingKey × Meeting)) (distinct : IsDistinct same_key (keys_of entries)) (book : Book) (st : Stands entries book)
     (claims : List Claim) (fit : AreFitting k claims) (moment : ℤ) where
@@ -43,7 +43,7 @@ module _ (k : MeetingKey) (entries : List (MeetingKey × Meeting)) (distinct : I
   apart_from q d p e = false_from_ne_true _ (λ f. both_ways _ d (one_meeting k q p e f))
 
   -- another meeting confirms what it did
-  other_confirms : (e : MeetingKey × Meeting) → Contains entries e → same_key k e.0 ≡ false → confirmed_in all (answers_of e.0 (filter not_own now)) ≡ confirmed_of e
+  other_confirms : (e : MeetingKey × Meeting) → Contains entries e → same_key k e.0 ≡ false → AreSame (confirmed_in all (answers_of e.0 (filter not_own now))) (confirmed_of e)
   other_confirms e c d =
       let own = λ (a : Answer). is_of e.0 a.claim.part in
       let old = answers_of e.0 book.answers in
@@ -51,10 +51,9 @@ module _ (k : MeetingKey) (entries : List (MeetingKey × Meeting)) (distinct : I
       answers_apart k e.0 now d ∙ filter-append own book.answers new
       ∙ ap (λ l. old ++ l) (filter_none own new (λ a h. apart_from e.0 d a.claim.part (new_own a h))) ∙ append-nil old in
       let parts : of_meeting e.0 all ≡ of_meeting e.0 book.taken = of_more_other e.0 book.taken (parts_of claims) (λ p h. apart_from e.0 d p (parts_own k claims fit p h)) in
-      ap (confirmed_in all) same
-      ∙ sym (confirmed_own e.0 all old (λ a h. (filter_at own book.answers a h).1))
-      ∙ ap (λ t. confirmed_in t old) parts
-      ∙ zip_confirms e.0 (of_meeting e.0 book.taken) old e.1.answers.items (meeting_at entries book st distinct e c).answers
+      let is : confirmed_in all (answers_of e.0 (filter not_own now)) ≡ confirmed_in (of_meeting e.0 book.taken) old =
+      ap (confirmed_in all) same ∙ sym (confirmed_own e.0 all old (λ a h. (filter_at own book.answers a h).1)) ∙ ap (λ t. confirmed_in t old) parts in
+      subst (λ (l : List Booked). AreSame l (confirmed_of e)) (sym is) (zip_confirms e.0 (of_meeting e.0 book.taken) old e.1.answers.items (meeting_at entries book st distinct e c).answers)
 
   -- a confirmed answer of another meeting is one of an entry
   other_covered : (a : Answer) → Contains (filter not_own now) a → is_confirmed all a ≡ true → (e : MeetingKey × Meeting) × Contains (filter (is_other k) entries) e × (is_of e.0 a.claim.part ≡ true)
@@ -89,10 +88,10 @@ module _ (k : MeetingKey) (entries : List (MeetingKey × Meeting)) (distinct : I
       sym (confirmed_own k all (answers_of k now) (λ a c. (filter_at (λ (x : Answer). is_of k x.claim.part) now a c).1))
       ∙ (λ i. confirmed_in (taken_own k book claims fit i) (answers_own k book claims fit moment Accept i))
 
-  pub beside_same : (mine : List Booked) → confirmed_in own_taken own_now ≡ mine → AreSame (others k entries ++ mine) (confirmed (if_accepted book claims moment all))
+  pub beside_same : (mine : List Booked) → AreSame (confirmed_in own_taken own_now) mine → AreSame (others k entries ++ mine) (confirmed (if_accepted book claims moment all))
   beside_same mine e =
       let split = confirmed_split all (λ a. is_of k a.claim.part) now in
-      let first : AreSame (confirmed_in all (answers_of k now)) mine = subst (AreSame (confirmed_in all (answers_of k now))) (own_same ∙ e) (same_itself _) in
+      let first : AreSame (confirmed_in all (answers_of k now)) mine = subst (λ (l : List Booked). AreSame l mine) (sym own_same) e in
       let turned = same_then _ _ _ split (same_append _ _ _ _ first others_same) in
       same_then (others k entries ++ mine) (mine ++ others k entries) (confirmed_in all now) (swapped (others k entries) mine) (same_turned _ _ turned)
     where

@@ -1,12 +1,12 @@
 -- The octets of an event's body read as its content, and are text.
-use Rattle.std.proofs.Common.{◌≡◌, ◌∙◌, ℕ, List, [], ◌∷◌, take, drop, Option, None, Some, refl, ap}
+use Rattle.std.proofs.Common.{◌≡◌, ◌∙◌, ℕ, List, take, drop, Option, None, Some, refl, ap}
 use Rattle.std.specs.Str.{IsUtf8}
 use Rattle.std.specs.Str.Lines.{lines}
 use Rattle.profile.specs.events.Events.{Event}
 use Rattle.profile.specs.rooms.Messages.{Content, IsContent, canonical}
-use Rattle.itip_messages.specs.Bodies.{zone_octets}
+use Rattle.itip_messages.specs.Bodies.{zone_octets, zone_place}
 use Rattle.itip_messages.proofs.ZonePlaces.{content_utf8, cut_at_zone, lines_body, zone_behind}
-use Rattle.room_books.specs.Takings.{content_in, zone_place, zone_rest}
+use Rattle.room_books.specs.Takings.{content_in, zone_rest}
 
 -- the zone's octets give it back
 rest_back : (zone : Option (List ℕ)) → zone_rest (zone_octets zone) ≡ zone

@@ -1,6 +1,7 @@
 -- What a meeting's answers confirm is what the answers of its book do.
-use Rattle.std.proofs.Common.{◌≡◌, List, [], ◌∷◌, ◌++◌, refl, sym, ap, ◌∙◌}
-use Rattle.std.specs.List.{AllZip, flat_map}
+use Rattle.std.proofs.Common.{◌≡◌, List, [], ◌∷◌, ◌++◌, refl, sym, ap, ◌∙◌, subst}
+use Rattle.std.specs.List.{AllZip, filter, flat_map}
+use Rattle.profile.specs.checker.Instances.{Booked}
 use Rattle.std.proofs.lemmas.Bool.{and_parts}
 use Rattle.std.proofs.lemmas.List.{map-append}
 use Rattle.profile.specs.rooms.Revisions.{Part, in_view}
@@ -8,7 +9,10 @@ use Rattle.profile.specs.rooms.Rooms.{Answer, is_accept, is_confirmed, left_of, 
 use Rattle.room_books.specs.declared.meeting.MeetingKey.{MeetingKey}
 use Rattle.room_books.specs.declared.meeting.Given.{Given}
 use Rattle.room_books.specs.Views.{booked_of, booked_list, all_singles}
-use Rattle.room_books.specs.Standing.{IsGiven, standing}
+use Rattle.room_books.specs.BySlot.{Reordered}
+use Rattle.room_books.specs.Standing.{AreGiven, IsGiven, standing}
+use Rattle.room_books.proofs.Reordering.{re_back, re_filter, re_flat, re_in, re_length}
+use Rattle.room_books.proofs.Same.{AreSame}
 use Rattle.room_books.proofs.Own.{filter_within}
 use Rattle.room_books.proofs.Runs.{confirmed_split}
 
@@ -27,5 +31,16 @@ given_confirms key t (a ∷ xs) (g ∷ gs) z =
     let rest = given_confirms key t xs gs z.1 in
     confirmed_split t (a ∷ []) xs ∙ (λ i. sym first i ++ rest i) ∙ sym (map-append (booked_of key) g.singles.items (all_singles gs))
 
-pub zip_confirms : (key : MeetingKey) (t : List Part) (answers : List Answer) (given : List Given) → AllZip (IsGiven key t) (standing t answers) given → confirmed_in t answers ≡ booked_list key (all_singles given)
-zip_confirms key t answers given z = sym (standing_confirms t answers) ∙ given_confirms key t (standing t answers) given z
+-- in another order the same is confirmed
+pub same_reordered : (xs ys : List Booked) → Reordered xs ys → AreSame xs ys
+same_reordered xs ys r = record { to = re_in xs ys r; from = re_in ys xs (re_back xs ys r); long = re_length xs ys r }
+
+pub confirms_reordered : (t : List Part) (xs ys : List Answer) → Reordered xs ys → AreSame (confirmed_in t xs) (confirmed_in t ys)
+confirms_reordered t xs ys r =
+    same_reordered (confirmed_in t xs) (confirmed_in t ys)
+    (re_flat (left_of t) (filter (is_confirmed t) xs) (filter (is_confirmed t) ys) (re_filter (is_confirmed t) xs ys r))
+
+pub zip_confirms : (key : MeetingKey) (t : List Part) (answers : List Answer) (given : List Given) → AreGiven key t (standing t answers) given → AreSame (confirmed_in t answers) (booked_list key (all_singles given))
+zip_confirms key t answers given are =
+    subst (λ (l : List Booked). AreSame l (booked_list key (all_singles given))) (standing_confirms t answers)
+    (subst (AreSame (confirmed_in t (standing t answers))) (given_confirms key t are.order given are.each) (confirms_reordered t (standing t answers) are.order are.same))

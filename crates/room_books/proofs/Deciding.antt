@@ -4,11 +4,11 @@ use Rattle.std.specs.Prelude.{slice_get}
 use Rattle.std.specs.declared.cmp.Ordering.{Ordering}
 use Rattle.std.specs.declared.cmp.Ordering.TheVariants.{Less, Equal, Greater}
 use Rattle.std.specs.Ordering.{int_cmp, ordering_then, is_lt}
-use Rattle.std.specs.List.{AllPairs, Contains}
+use Rattle.std.specs.List.{AllPairs, Contains, IsDistinct}
 use Rattle.std.proofs.lemmas.Bool.{true≢false, cases_Bool, MatchBool-at_true, MatchBool-at_false}
 use Rattle.std.proofs.lemmas.Cmp.{int_ranked}
 use Rattle.std.proofs.lemmas.Int.{ints}
-use Rattle.std.proofs.lemmas.List.{get_or-map, get_or_default, length-map}
+use Rattle.std.proofs.lemmas.List.{get_or-map, get_or_default, length-map, map-append}
 use Rattle.std.proofs.lemmas.List.Elements.{Contains-append_left, Contains-append_right, Contains-append_cases}
 use Rattle.std.proofs.lemmas.Option.{slice_get-get_or, get_or_from_slice_get}
 use Rattle.clash_cert.specs.declared.making.Clash.{Clash}
@@ -19,12 +19,22 @@ use Rattle.cal_events.specs.Sweep as sweep
 use Rattle.cal_events.specs.declared.sweep.Span.{Span}
 use Rattle.cal_events.specs.declared.sweep.Overlap.{Overlap as Found}
 use Rattle.profile.specs.checker.Instances.{Key, Booked, IsWithin, IsClear, key_cmp, booked_cmp}
-use Rattle.profile.specs.rooms.Rooms.{NamesClash}
+use Rattle.profile.specs.rooms.Messages as messages
+use Rattle.profile.specs.rooms.Rooms.{Decides, NamesClash, is_accept}
+use Rattle.std.specs.Map.{lookup, keys_of}
 use Rattle.room_books.specs.declared.meeting.MeetingKey.{MeetingKey}
 use Rattle.cal_events.specs.declared.instance.Single.{Single}
-use Rattle.room_books.specs.Instants.{HaveInstant, IsLater, Overlap, AreSeparate}
-use Rattle.room_books.specs.Views.{booked_of, booked_list, slots_of, spans_of, span_of, IsFree}
-use Rattle.room_books.proofs.Places.{in_booked, booked_from, slots_at}
+use Rattle.room_books.specs.declared.kept.Meeting.{Meeting}
+use Rattle.room_books.specs.declared.meeting.Outcome.{Outcome}
+use Rattle.room_books.specs.Instants.{HaveInstant, IsLater, IsParted, Overlap, AreSeparate}
+use Rattle.room_books.specs.Takings.{IsDecision}
+use Rattle.room_books.specs.Views.{all_confirmed, booked_of, booked_list, others, outcome_of, same_key, singles_by, slots_of, spans_of, span_of, AreAllApart, HaveOverlap, IsFree}
+use Rattle.room_books.proofs.Leaving.{Apart, kept_separate, kept_within}
+use Rattle.room_books.proofs.Pairs.{map_from, pairs_append, pairs_from}
+use Rattle.room_books.proofs.Parts.{pairs_across, pairs_right, pairs_to}
+use Rattle.room_books.proofs.Places.{in_booked, booked_from, others_differ, slots_at}
+use Rattle.room_books.proofs.Putting.{clear_kept}
+use Rattle.room_books.proofs.RoomSteps.{found_apart}
 
 -- ---- which of two comes first
 
@@ -88,8 +98,11 @@ module _ (all : List Booked) (k : MeetingKey) (kept wanted : List Single) (diffe
   pub length_is : length both ≡ length all + (length kept + length wanted)
   length_is = length-append all (booked_list k (kept ++ wanted)) ∙ ap (λ n. length all + n) (length-map (kept ++ wanted) (booked_of k) ∙ length-append kept wanted)
 
-  pub few_all : (n : ℕ) → n ≡ length all → n + length kept ≤ 10_000 → length wanted ≤ 10_000 - n - length kept → length both ≤ 10_000
+  pub few_all : (n : ℕ) → n ≡ length all + length kept → n ≤ 10_000 → length wanted ≤ 10_000 - n → length both ≤ 10_000
   few_all n n_is few few_more = let l = length_is in omega (arith, n_is, few, few_more, l)
+
+  pub many_all : (n : ℕ) → n ≡ length all + length kept → n ≤ 10_000 → 10_000 - n < length wanted → 10_000 < length both
+  many_all n n_is few more = let l = length_is in omega (arith, n_is, few, more, l)
 
   -- two own ones clash
   pub own_named : (s r : Single) (clash : Clash) → Contains (kept ++ wanted) s → Contains (kept ++ wanted) r → s.slot ≢ r.slot → Overlap s.span r.span
@@ -97,12 +110,21 @@ module _ (all : List Booked) (k : MeetingKey) (kept wanted : List Single) (diffe
   own_named s r clash in_s in_r slots overlap later named =
       names_two both (booked_of k s) (booked_of k r) clash (own_in s in_s) (own_in r in_r) (λ e. slots (ap (λ (z : Key). z.slot) e)) overlap later named
 
-  -- one that is asked for clashes with one of another meeting
-  pub other_named : (s : Single) (b : Booked) (clash : Clash) → Contains wanted s → Contains all b → Overlap s.span (span_of b)
+  -- one that is asked for clashes with one that stays confirmed, of another meeting or of the same
+  pub staying_named : AllPairs ◌≢◌ (slots_of (kept ++ wanted)) → (s : Single) (b : Booked) (clash : Clash) → Contains wanted s → Contains (all ++ booked_list k kept) b → Overlap s.span (span_of b)
       → IsLater s.span (span_of b) clash.instant → AreNamed (booked_of k s) b clash.instant clash → NamesClash both (owned_key_of clash.first) (owned_key_of clash.second) clash.instant
-  other_named s b clash in_s in_b overlap later named =
-      names_two both (booked_of k s) b clash (own_in s (Contains-append_right kept wanted s in_s)) (Contains-append_left all (booked_list k (kept ++ wanted)) b in_b)
-      (λ e. differ s b in_b (sym e)) overlap later named
+  staying_named distinct s b clash in_s in_b overlap later named = elim (Contains-append_cases all (booked_list k kept) b in_b) [
+    | inl other ↦ names_two both (booked_of k s) b clash (own_in s (Contains-append_right kept wanted s in_s)) (Contains-append_left all (booked_list k (kept ++ wanted)) b other)
+        (λ e. differ s b other (sym e)) overlap later named
+    | inr mine ↦
+        let r = in_booked k kept b mine in
+        let slots : AllPairs ◌≢◌ (slots_of kept ++ slots_of wanted) = subst (AllPairs ◌≢◌) (map-append (λ (x : Single). x.slot) kept wanted) distinct in
+        let apart = pairs_across ◌≢◌ (slots_of kept) (slots_of wanted) (pairs_to ◌≢◌ (slots_of kept ++ slots_of wanted) slots) r.0.slot s.slot (map_from (λ (x : Single). x.slot) kept r.0 r.1) (map_from (λ (x : Single). x.slot) wanted s in_s) in
+        let key : b.key.slot ≡ r.0.slot = sym (ap (λ (z : Booked). z.key.slot) r.2) in
+        names_two both (booked_of k s) b clash (own_in s (Contains-append_right kept wanted s in_s))
+        (subst (Contains both) r.2 (own_in r.0 (Contains-append_left kept wanted r.0 r.1)))
+        (λ e. apart (sym key ∙ sym (ap (λ (z : Key). z.slot) e))) overlap later named
+  ]
 
   -- none do: those kept were clear beside the others, those that are asked for are free of them, and the own ones share no instant
   module _ (clear : IsClear (all ++ booked_list k kept)) (free : (s : Single) → Contains wanted s → IsFree all s.span) (separate : AreSeparate (kept ++ wanted)) where
@@ -229,9 +251,71 @@ module _ (singles : List Single) (spans : List Span) (spans_are : spans ≡ span
         (overlap.second, second_within, get_or_from_slice_get singles overlap.second r r r_at),
       )
 
+-- those that are kept, and those that are asked for where they are free of them, share no instant
+pub both_separate : (all : List Booked) (k : MeetingKey) (kept wanted : List Single) → AreSeparate kept → AreSeparate wanted → ((s : Single) → Contains wanted s → IsFree (all ++ booked_list k kept) s.span) → AreSeparate (kept ++ wanted)
+both_separate all k kept wanted first second free =
+    pairs_from Apart (kept ++ wanted) (pairs_append Apart kept wanted (pairs_to Apart kept first) (pairs_to Apart wanted second)
+    (λ a b c d t h. free b d (booked_of k a) t (Contains-append_right all (booked_list k kept) (booked_of k a) (booked_from k kept a c)) (record { in_first = h.in_second; in_second = h.in_first; before = h.before })))
+
 -- one alone shares no instant
 pub one_alone : (singles : List Single) → length singles < 2 → AreSeparate singles
 one_alone singles few i j d less within t h = omega (arith, few, less, within)
 
 pub place_in : (all : List Single) (place : ℕ) (x d : Single) → place < length all → get_or all place d ≡ x → slice_get all place ≡ Some x
 place_in all place x d l e = slice_get-get_or all place d l ∙ ap Some e
+
+-- ---- what is decided
+
+module _ (k : MeetingKey) (es : List (MeetingKey × Meeting)) (distinct_keys : IsDistinct same_key (keys_of es)) (clear : IsClear (all_confirmed es)) (apart : AreAllApart es)
+    (beside : ℕ) (few : beside ≤ 10_000) (gone kept wanted : List Single) (parted : IsParted (singles_by (lookup (same_key k) es)) gone kept) (beside_is : beside ≡ length (others k es) + length kept) where
+  abbrev other : List Booked
+  other = others k es
+
+  own_differ : (s : Single) (b : Booked) → Contains other b → b.key ≢ (booked_of k s).key
+  own_differ = others_differ k es
+
+  pub decides_limit : (outcome : Outcome) → outcome_of outcome ≡ messages.SinglesLimit → 10_000 - beside < length wanted → IsDecision other k kept wanted outcome
+  decides_limit outcome is more = record {
+    decides = λ distinct. subst (Decides (other ++ booked_list k (kept ++ wanted))) (sym is) (many_all other k kept wanted own_differ beside beside_is few more);
+    joins = λ accepted. absurd (limit_not_accept (sym is ∙ accepted));
+  }
+    where
+      limit_not_accept : messages.SinglesLimit ≡ messages.Accept → ⊥
+      limit_not_accept e = true≢false (sym (ap is_accept e))
+
+  busy_not_accept : (a b : Key) (t : ℤ) → messages.Busy a b t ≡ messages.Accept → ⊥
+  busy_not_accept a b t e = true≢false (sym (ap is_accept e))
+
+  pub decides_clash : (outcome : Outcome) (clash : Clash) → outcome_of outcome ≡ messages.Busy (owned_key_of clash.first) (owned_key_of clash.second) clash.instant → length wanted ≤ 10_000 - beside
+      → (AllPairs ◌≢◌ (slots_of (kept ++ wanted)) → NamesClash (other ++ booked_list k (kept ++ wanted)) (owned_key_of clash.first) (owned_key_of clash.second) clash.instant) → IsDecision other k kept wanted outcome
+  decides_clash outcome clash is few_more named = record {
+    decides = λ distinct. subst (Decides (other ++ booked_list k (kept ++ wanted))) (sym is) (few_all other k kept wanted own_differ beside beside_is few few_more, named distinct);
+    joins = λ accepted. absurd (busy_not_accept (owned_key_of clash.first) (owned_key_of clash.second) clash.instant (sym is ∙ accepted));
+  }
+
+  pub decides_own : (outcome : Outcome) (clash : Clash) (s r : Single) → outcome_of outcome ≡ messages.Busy (owned_key_of clash.first) (owned_key_of clash.second) clash.instant → length wanted ≤ 10_000 - beside
+      → HaveOverlap wanted (Some (s, r)) → IsLater s.span r.span clash.instant → AreNamed (booked_of k s) (booked_of k r) clash.instant clash → IsDecision other k kept wanted outcome
+  decides_own outcome clash s r is few_more overlap later named =
+      decides_clash outcome clash is few_more (λ distinct.
+      let slots : AllPairs ◌≢◌ (slots_of wanted) = pairs_from ◌≢◌ (slots_of wanted) (pairs_right ◌≢◌ (slots_of kept) (slots_of wanted) (pairs_to ◌≢◌ (slots_of kept ++ slots_of wanted)
+      (subst (AllPairs ◌≢◌) (map-append (λ (x : Single). x.slot) kept wanted) distinct))) in
+      own_named other k kept wanted own_differ s r clash (Contains-append_right kept wanted s overlap.0) (Contains-append_right kept wanted r overlap.1) (overlap.2 slots) overlap.3 later named)
+
+  pub decides_beside : (outcome : Outcome) (clash : Clash) (s : Single) (b : Booked) → outcome_of outcome ≡ messages.Busy (owned_key_of clash.first) (owned_key_of clash.second) clash.instant → length wanted ≤ 10_000 - beside
+      → Contains wanted s → Contains (other ++ booked_list k kept) b → Overlap s.span (span_of b) → IsLater s.span (span_of b) clash.instant → AreNamed (booked_of k s) b clash.instant clash → IsDecision other k kept wanted outcome
+  decides_beside outcome clash s b is few_more in_s in_b overlap later named =
+      decides_clash outcome clash is few_more (λ distinct. staying_named other k kept wanted own_differ distinct s b clash in_s in_b overlap later named)
+
+  pub decides_accept : (outcome : Outcome) → outcome_of outcome ≡ messages.Accept → length wanted ≤ 10_000 - beside → AreSeparate wanted
+      → ((s : Single) → Contains wanted s → IsFree (other ++ booked_list k kept) s.span) → IsDecision other k kept wanted outcome
+  decides_accept outcome is few_more separate free =
+      let before = singles_by (lookup (same_key k) es) in
+      let few_now = few_all other k kept wanted own_differ beside beside_is few few_more in
+      let stayed = kept_separate before gone kept parted (found_apart k es apart) in
+      let both_apart = both_separate other k kept wanted stayed separate free in
+      let clear_now = clear_all other k kept wanted own_differ (clear_kept k es kept (kept_within before gone kept parted) clear)
+      (λ s c b t d h. free s c b t (Contains-append_left other (booked_list k kept) b d) h) both_apart in
+      record {
+        decides = λ distinct. subst (Decides (other ++ booked_list k (kept ++ wanted))) (sym is) (few_now, clear_now);
+        joins = λ accepted. record { few = few_now; clear = clear_now; separate = both_apart };
+      }

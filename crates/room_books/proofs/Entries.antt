@@ -5,10 +5,11 @@ use Rattle.std.specs.List.{Contains, IsDistinct}
 use Rattle.std.specs.Map.{keys_of, lookup}
 use Rattle.std.proofs.lemmas.Map.Views.{lookup-from_Contains}
 use Rattle.itip_order.proofs.Lists.{in_head, in_tail, filter_at}
+use Rattle.profile.specs.checker.Instances.{Booked}
 use Rattle.profile.specs.rooms.Rooms.{Book, confirmed}
 use Rattle.room_books.specs.declared.meeting.MeetingKey.{MeetingKey}
-use Rattle.room_books.specs.declared.meeting.Meeting.{Meeting}
-use Rattle.room_books.specs.Views.{same_key, all_confirmed}
+use Rattle.room_books.specs.declared.kept.Meeting.{Meeting}
+use Rattle.room_books.specs.Views.{same_key, all_confirmed, confirmed_of}
 use Rattle.room_books.specs.Standing.{is_of, answers_of, book_of, Meets, MeetsAt, Stands}
 use Rattle.room_books.proofs.Confirms.{zip_confirms}
 use Rattle.room_books.proofs.Keys.{key_congr}
@@ -49,8 +50,8 @@ module _ (entries : List (MeetingKey × Meeting)) (book : Book) (st : Stands ent
       (found.0, found.1, sym (is_of_same cover.key found.0.0 a.claim.part found.2) ∙ cover.is))
       (λ e c.
       let own = answers_of e.0 book.answers in
-      sym (confirmed_own e.0 book.taken own (λ a d. (filter_at (λ x. is_of e.0 x.claim.part) book.answers a d).1))
-      ∙ zip_confirms e.0 (book_of e.0 book).taken own e.1.answers.items (meeting_at e c).answers)
+      subst (λ (l : List Booked). AreSame l (confirmed_of e)) (confirmed_own e.0 book.taken own (λ a d. (filter_at (λ x. is_of e.0 x.claim.part) book.answers a d).1))
+      (zip_confirms e.0 (book_of e.0 book).taken own e.1.answers.items (meeting_at e c).answers))
 
   pub as_many : length (all_confirmed entries) ≡ length (confirmed book)
   as_many = sym same_confirmed.long

@@ -19,13 +19,14 @@ use Rattle.profile.specs.rooms.Messages.{Content}
 use Rattle.profile.specs.rooms.Revisions.{Part, Slot, Whole, in_view, is_whole, meeting_cmp, place_cmp, same_meeting, slot_cmp}
 use Rattle.profile.specs.rooms.Rooms.{Claim, Answer, Book, is_accept, is_confirmed, is_set}
 use Rattle.room_books.specs.declared.meeting.MeetingKey.{MeetingKey}
-use Rattle.room_books.specs.declared.meeting.Meeting.{Meeting}
+use Rattle.room_books.specs.declared.kept.Meeting.{Meeting}
 use Rattle.room_books.specs.Views.{same_key}
-use Rattle.room_books.specs.Standing.{Pairwise, IsText, SlotDated, is_of, of_meeting, answers_of, book_of, standing, IsGiven, Meets, AreKeysOf, Stands}
+use Rattle.room_books.specs.Standing.{Pairwise, IsText, SlotDated, is_of, of_meeting, answers_of, book_of, standing, Meets, AreKeysOf, Stands}
 use Rattle.room_books.specs.Takings.{body_content}
 use Rattle.room_books.specs.Keeping.{IsEntryEvent, accepted_slots, has_slot, entry_of, is_accepted, is_hiding, kept_in, all_kept, zone_of_entry}
 use Rattle.room_books.proofs.Arrivals.{key_meeting}
 use Rattle.room_books.proofs.Entries.{meeting_at}
+use Rattle.room_books.proofs.Givens.{given_from, given_to}
 use Rattle.room_books.proofs.Loops.{zip_both, zip_to, zip_from}
 use Rattle.room_books.proofs.Meetings.{same_place_of, view_of}
 use Rattle.room_books.proofs.Pairs.{pairs_from, map_at, map_from, flat_at, flat_from}
@@ -160,7 +161,7 @@ module _ (entries : List (MeetingKey × Meeting)) (book : Book) (key : MeetingKe
       let both = and_parts _ _ k in
       let seen : in_view own a.claim.part ≡ true = view_of key book.taken a.claim.part o ∙ both.1 in
       let stands = filter_from (λ x. in_view own x.claim.part) mine a (filter_from (λ x. is_of key x.claim.part) book.answers a c o) seen in
-      let g = zip_to (IsGiven key own) (standing own mine) meeting.answers.items a meets.answers stands in (
+      let g = given_to key own (standing own mine) meeting.answers.items a meets.answers stands in (
         (view.exact a.claim.part).1 seen,
         accepted_from meeting.answers.items g.0 a.claim.part.slot g.1 g.2.slot (ap is_accept g.2.outcome ∙ both.0),
       )
@@ -174,7 +175,7 @@ module _ (entries : List (MeetingKey × Meeting)) (book : Book) (key : MeetingKe
   unfolding own mine
   slot_answer slot h =
       let g = accepted_at meeting.answers.items slot h in
-      let z = zip_from (IsGiven key own) (standing own mine) meeting.answers.items g.0 meets.answers g.1 in
+      let z = given_from key own (standing own mine) meeting.answers.items g.0 meets.answers g.1 in
       let a = z.0 in
       let stands = filter_at (λ x. in_view own x.claim.part) mine a z.1 in
       let of_it = filter_at (λ x. is_of key x.claim.part) book.answers a stands.0 in

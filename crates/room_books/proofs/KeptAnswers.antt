@@ -3,7 +3,7 @@ use Rattle.std.proofs.Common.{◌≡◌, ◌∙◌, ℕ, ℤ, ◌<◌, ◌^◌, 
 use Rattle.std.specs.Prelude.{if◌then◌else◌, option_map}
 use Rattle.std.specs.Option.{option_to_list}
 use Rattle.std.specs.Ordering.{is_lt}
-use Rattle.std.proofs.lemmas.Bool.{true≢false, or_from}
+use Rattle.std.proofs.lemmas.Bool.{true≢false}
 use Rattle.std.proofs.lemmas.List.Elements.{All-contains, Contains-append_cases}
 use Rattle.std.specs.List.{list_all, AllZip, Contains}
 use Rattle.std.specs.Str.{bytes_eq}
@@ -24,7 +24,7 @@ use Rattle.profile.specs.rooms.Messages as messages
 use Rattle.profile.specs.rooms.Messages.{Content, SpellsMessage, IsPart, IsBody, IsContent, IsZoneRest, TellsSlot, cancels, own_revision, later_of, raised_to, slot_named, names_room}
 use Rattle.profile.specs.rooms.Revisions.{Part, Slot, Whole, At, Revision, Body, Set, Absent, Cancelled, revision_cmp}
 use Rattle.profile.specs.rooms.Rooms.{Claim, is_set, is_set_body}
-use Rattle.profile.specs.rooms.Kept.{IsEventOf, IsKeptEvent, IsNamed as HasName, HidesSlot, Shown}
+use Rattle.profile.specs.rooms.Kept.{IsEventOf, IsKeptEvent, HidesSlot, Shown}
 use Rattle.profile.specs.streams.Streams.{AsksFor}
 use Rattle.itip_order.proofs.Lists.{in_head, filter_at, any_at}
 use Rattle.ical_values.proofs.Addresses.{lower_twice}
@@ -42,7 +42,8 @@ use Rattle.cal_events.specs.Meetings.{IsNamed}
 use Rattle.cal_events.proofs.InOneOrder.{of_filtered, of_mapped}
 use Rattle.cal_events.proofs.OneInstance.{event_sound}
 use Rattle.room_books.proofs.KeptOwn.{SpellPart, SpellSlot, slot_lines, own_front, own_back, own_lines, when_lines, zoned_event, zoned_says}
-use Rattle.room_books.proofs.KeptWhen.{EventFacts, IsCleanSlot, duration_clean, duration_of, event_facts, own_content, own_properties, when_of}
+use Rattle.room_books.proofs.KeptWhen.{EventFacts, IsCleanSlot, duration_clean, duration_of, event_facts, kept_rule, none_kept, own_content, own_properties, when_of}
+use Rattle.room_books.proofs.ZonedStarts.{local_written}
 use Rattle.room_books.proofs.KeptEvents.{hidden_own, hidden_event, hidden_says, kept_confirmed}
 use Rattle.room_books.proofs.KeptInstances.{AreAllOf, kept_all}
 use Rattle.room_books.proofs.KeptLines.{hidden_content, hidden_properties}
@@ -146,7 +147,7 @@ as_said object method lines event s = record {
 
 -- what is known of an event is known of it as an instance that is added
 facts_added : (event : Event) → EventFacts event true → EventFacts (as_added event) true
-facts_added event f = record { means = f.means; dated = f.dated; most = f.most; added_in = f.added_in; few_added = f.few_added; few_taken = f.few_taken; single = λ h. f.single refl }
+facts_added event f = record { local = f.local; means = f.means; dated = f.dated; most = f.most; added_in = f.added_in; few_added = f.few_added; few_taken = f.few_taken; single = λ h. f.single refl; once = λ h. f.once refl; recurs = f.recurs }
 
 when_added : (object : Tree) (lines : Lines) (event : Event) → SaysEvent object (Some Add) lines event → SaysTaken object Add lines (as_added event)
 when_added object lines event s = record {
@@ -313,15 +314,17 @@ shows_back room zones claim lines f set (name, given_name, k) =
     let told = slot_told event.recurrence k.slot (subst (λ (s : Slot). TellsSlot s k.slot) a.is_part.slot k.tells_slot) m.says.dated in
     let plain = name_plain zones claim.content event c name given_name in
     let l = named_lines name claim.content event c in
-    let w = when_of name claim.content event c l plain (adds_instances (Some a.given.method)) (m.says.facts b.stays) event.recurrence (or_from_right (adds_instances (Some a.given.method))) in
+    let facts = m.says.facts b.stays in
+    let rule = kept_rule event.times (local_written event.times.zone event.times) facts.local m.ready.timely.steady.meaning event.rule c.rule facts.recurs c.recurs in
+    let w = when_of name claim.content event c l plain (adds_instances (Some a.given.method)) facts rule event.recurrence (or_from_right (adds_instances (Some a.given.method))) in
     let duration = duration_of event in
     let uid = escaped part.uid in
     let sequence = decimal part.revision.sequence in
     let number = part.revision.sequence in
     let spell = part_spelled room claim.content part a k.stamp k.written_stamp r in
     let spell_event : SpellPart event.uid number uid sequence k.stamp part.organiser room part.revision.stamp = subst (λ (u : List ℕ). SpellPart u number uid sequence k.stamp part.organiser room part.revision.stamp) a.is_part.uid spell in
-    let said = zoned_event event event.recurrence number part.organiser part.revision.stamp room w.adds.ascending w.takes.ascending in
-    let when = when_lines l.start duration c.additions c.exceptions in
+    let said = zoned_event event event.recurrence number part.organiser part.revision.stamp room rule.back w.adds.ascending w.takes.ascending in
+    let when = when_lines l.start duration c.rule c.additions c.exceptions in
     let own = own_lines told.text uid sequence k.stamp when part.organiser room in
     record {
       back = record {
@@ -330,17 +333,17 @@ shows_back room zones claim lines f set (name, given_name, k) =
         are = k.is ∙ ap₂ (λ (sl b : Lines). (((codes "BEGIN:VEVENT" ∷ (codes "UID:" ++ uid) ∷ sl) ++ ((codes "SEQUENCE:" ++ sequence) ∷ (codes "DTSTAMP:" ++ k.stamp) ∷ [])) ++ b)
             ++ ((codes "ORGANIZER:" ++ part.organiser) ∷ (codes "ATTENDEE;PARTSTAT=ACCEPTED:" ++ room) ∷ codes "END:VEVENT" ∷ [])) told.are l.are
             ∙ ap (λ (x : Lines). codes "BEGIN:VEVENT" ∷ x) (sym (append_assoc (own_front told.text uid sequence k.stamp ++ when) (own_back part.organiser room) (codes "END:VEVENT" ∷ [])));
-        properties = own_properties name event event.recurrence l.start duration c.additions c.exceptions event.additions _ w told.text uid sequence k.stamp part.organiser room;
-        content = own_content name event event.recurrence l.start duration c.additions c.exceptions event.additions _ w told.text uid sequence k.stamp part.organiser room told.clean (clean_text part.uid n.uid)
+        properties = own_properties name event event.recurrence l.start duration c.rule c.additions c.exceptions rule.back event.additions _ w told.text uid sequence k.stamp part.organiser room;
+        content = own_content name event event.recurrence l.start duration c.rule c.additions c.exceptions rule.back event.additions _ w told.text uid sequence k.stamp part.organiser room told.clean (clean_text part.uid n.uid)
             (clean_shown sequence (shown_decimal part.revision.sequence (omega arith))) (clean_shown k.stamp (shown_stamp k.stamp part.revision.stamp k.written_stamp)) (duration_clean event) (clean_address part.organiser n.organiser) (clean_address room r.text);
-        says = λ owns t. zoned_says name event told.text event.recurrence number uid sequence k.stamp l.start duration part.organiser room part.revision.stamp c.additions c.exceptions event.additions _ spell_event w told.spells t.kept
+        says = λ owns t. zoned_says name event told.text event.recurrence number uid sequence k.stamp l.start duration part.organiser room part.revision.stamp c.rule c.additions c.exceptions rule.back event.additions _ spell_event w told.spells t.kept
             (name_means zones owns t claim.content event c m.says.zone name given_name);
-        once = refl;
+        once = none_kept event.rule rule.back rule.same m.ready.once;
         meeting = ap (λ (u : List ℕ). (part.organiser, u)) (sym a.is_part.uid);
         slot_is = sym a.is_part.slot;
       };
-      kept = ap (λ x. x && not false) (kept_confirmed event event.recurrence number part.organiser part.revision.stamp room w.adds.ascending w.takes.ascending);
-      books = kept_all event number part.organiser part.revision.stamp room w.adds.ascending w.takes.ascending a.is_part.organiser m.ready.once m.ready.timely w.adds.are w.takes.are claim.singles
+      kept = ap (λ x. x && not false) (kept_confirmed event event.recurrence number part.organiser part.revision.stamp room rule.back w.adds.ascending w.takes.ascending);
+      books = kept_all event number part.organiser part.revision.stamp room rule.back w.adds.ascending w.takes.ascending a.is_part.organiser facts.local rule.same m.ready.timely w.adds.are w.takes.are claim.singles
           (subst (λ b. AsksFor b event claim.singles) set f.books);
     }
   where

@@ -1,8 +1,8 @@
 -- The kept calendar spells the confirmed instances, and the kept certificate stands for them.
-use Rattle.std.proofs.Common.{◌≡◌, ◌≢◌, ◌∙◌, ℕ, ℤ, true, false, not, ◌&&◌, List, [], ◌∷◌, ◌++◌, length, map, codes, Option, Some, None, is_some, inl, inr, refl, sym, ap, ap₂, subst, arith, Bool}
+use Rattle.std.proofs.Common.{◌≡◌, ◌≢◌, ◌∙◌, ℕ, ℤ, true, false, not, ◌&&◌, List, [], ◌∷◌, ◌++◌, length, map, codes, Option, Some, None, is_some, inl, inr, refl, sym, ap, ap₂, subst, arith, lit<, Bool}
 use Rattle.std.specs.Prelude.{◌↔◌}
 use Rattle.std.specs.Ordering.{is_eq}
-use Rattle.std.specs.List.{filter, flat_map, list_all, list_any, Contains, All, AllZip}
+use Rattle.std.specs.List.{flat_map, list_all, list_any, Contains, All, AllZip}
 use Rattle.std.proofs.lemmas.Bool.{and_parts, and_from, true≢false, cases_Bool, both_ways}
 use Rattle.std.proofs.lemmas.List.Elements.{All-nil, All-cons, All-tail}
 use Rattle.profile.specs.text.Lines.{is_content, logical_lines, reads_as_lines, written}
@@ -25,6 +25,7 @@ use Rattle.itip_order.proofs.Lasting.{view_taken}
 use Rattle.itip_order.proofs.Lists.{in_head, in_tail, any_at, any_from}
 use Rattle.itip_order.proofs.Registers.{same_part_is, same_part_refl}
 use Rattle.itip_messages.proofs.ContentLines.{ReadsLines}
+use Rattle.clash_cert.proofs.MakingLemmas.{stands, singles_alone}
 use Rattle.room_books.specs.Standing.{Pairwise}
 use Rattle.room_books.proofs.AcceptedSlots.{slot_same}
 use Rattle.room_books.proofs.KeptAnswers.{IsAskedFor, shows_back, hides_back, set_body, set_zone, asked_room, IsRoom}
@@ -330,12 +331,9 @@ keeps_pass back reads zone_back room book keeps calendar c =
     record {
       confirmed = without_series (all_left book c.entries);
       spells = calendar_spelled back reads zone_back room book keeps calendar c;
-      stands = record {
-        c = record { singles = length (confirmed book) };
-        spells = record { claims = omega (arith, few); is = refl };
-        counts = record { singles = sym same.long; series = refl };
-        clear = clear_same (all_left book c.entries) (confirmed book) same keeps.sound.good.clear;
-      };
+      stands =
+          stands (without_series (all_left book c.entries)) (record { singles = length (confirmed book); series = 0 }) (omega (arith, few), lit< tt) (sym same.long) refl
+          (singles_alone (all_left book c.entries) (clear_same (all_left book c.entries) (confirmed book) same keeps.sound.good.clear));
     }
 
 -- the calendar spells what is confirmed, and nothing else

@@ -8,6 +8,7 @@ use Rattle.std.proofs.lemmas.Slice.Eq.{bytes_eq-Decides}
 use Rattle.profile.specs.text.Values.{SpellsStamp, SpellsDuration}
 use Rattle.std.proofs.lemmas.Bool.{false≢true}
 use Rattle.profile.specs.text.Trees.{Tree}
+use Rattle.profile.specs.series.Rules.{Parts}
 use Rattle.profile.specs.events.Events.{Event, Attendee, Accepted, Declined, SaysEvent, is_confirmed, is_accepted}
 use Rattle.cal_events.proofs.Meanings.{utc_means}
 use Rattle.ical_values.proofs.Spans.{duration_written}
@@ -69,8 +70,8 @@ hidden_says uid_is instant number uid recurrence sequence stamp start organiser 
 }
 
 -- the room has accepted what is shown
-pub kept_confirmed : (event : Event) (slot : Option ℤ) (number : ℕ) (organiser : List ℕ) (stamped : ℤ) (room : List ℕ) (additions exceptions : List ℤ) → is_confirmed room (zoned_event event slot number organiser stamped room additions exceptions) ≡ true
-kept_confirmed event slot number organiser stamped room additions exceptions =
+pub kept_confirmed : (event : Event) (slot : Option ℤ) (number : ℕ) (organiser : List ℕ) (stamped : ℤ) (room : List ℕ) (rule : Option Parts) (additions exceptions : List ℤ) → is_confirmed room (zoned_event event slot number organiser stamped room rule additions exceptions) ≡ true
+kept_confirmed event slot number organiser stamped room rule additions exceptions =
     let same : bytes_eq room room ≡ true = (bytes_eq-Decides room room).1 refl in
     let attendee : Attendee = record { address = room; participation = Accepted } in
     ap (λ b. unwrap_or (option_map is_accepted (option_map (λ (a : Attendee). a.participation) (cond b (Some attendee) None))) false) same

@@ -214,6 +214,8 @@ unfolding digits
 is_content = record {
   start = codes "DTSTART:20250310T090000Z";
   starts = (codes "20250310T090000Z", start, refl);
+  rule = [];
+  recurs = refl;
   additions = [];
   adds = none_listed (codes "RDATE");
   exceptions = [];

@@ -1,6 +1,6 @@
 -- The instances of a kept VEVENT are those of the event that it is kept of: all that a message asks for.
-use Rattle.std.proofs.Common.{◌≡◌, ◌∙◌, refl, sym, ap, subst, inl, inr, ◌⊎◌, ℕ, ℤ, ◌<ℤ◌, ◌≤ℤ◌, T, Bool, true, false, not, List, [], ◌∷◌, Option, Some, None, arith}
-use Rattle.std.specs.Prelude.{All, AllPairs, Contains, filter, unwrap_or}
+use Rattle.std.proofs.Common.{◌≡◌, ◌∙◌, refl, sym, ap, subst, inl, inr, ◌⊎◌, ℕ, ℤ, ◌<ℤ◌, ◌≤ℤ◌, T, Bool, true, false, not, List, [], Option, Some, None, arith}
+use Rattle.std.specs.Prelude.{AllPairs, Contains, filter, unwrap_or}
 use Rattle.std.specs.Int.Signed.{lt_z, lt_z_yes, lt_z_no}
 use Rattle.std.proofs.lemmas.Bool.{and_from, not_from_false, not-true, false_from_ne_true, true≢false}
 use Rattle.std.proofs.lemmas.Int.{ints}
@@ -13,12 +13,13 @@ use Rattle.profile.specs.events.Meetings.{is_master}
 use Rattle.profile.specs.events.Starts.{IsStart, IsGiven, IsInstance, AreInstancesFrom, ComesBefore, key_at}
 use Rattle.profile.specs.events.Confirmed.{alone, is_kept, IsReplaced, IsSingle, AreSingles}
 use Rattle.profile.specs.rooms.Messages.{AreAscending, is_in_dates}
-use Rattle.profile.specs.series.Rules.{Parts}
+use Rattle.profile.specs.series.Rules.{Parts, is_rule_day}
 use Rattle.cal_events.proofs.InOneOrder.{in_filtered, of_filtered}
 use Rattle.cal_events.proofs.OwnSingles.{IsAtStart, IsItself, master_alone, alone_master, override_alone, alone_override, of_both}
 use Rattle.cal_events.proofs.PlainSingles.{no_rule}
 use Rattle.cal_events.specs.OwnInstances.{IsTimely}
 use Rattle.room_books.proofs.KeptOwn.{zoned_event}
+use Rattle.room_books.proofs.ZonedStarts.{local_written}
 
 -- these are all instances of an event by itself, by start and then by slot
 pub record AreAllOf (event : Event) (instances : List Booked) : Type 0 where
@@ -43,21 +44,54 @@ no_lesser a b h = by (lt_z a b) refl
 in_the_dates : (t : ℤ) → first_second ≤ℤ t → t <ℤ horizon → is_in_dates t ≡ true
 in_the_dates t low high = and_from _ _ (lesser t horizon high) (ap not (no_lesser t first_second low))
 
-module _ (event : Event) (number : ℕ) (organiser : List ℕ) (stamp : ℤ) (room : List ℕ) (additions exceptions : List ℤ)
-    (organised : event.organiser ≡ Some organiser) (once : event.rule ≡ None) (timely : IsTimely event)
+-- two rules have the same days, or there is none
+abbrev pub IsSameRule : Option Parts → Option Parts → Type 0
+IsSameRule None None = Unit {0}
+IsSameRule (Some rule) (Some back) = (day : ℕ) → is_rule_day back day ≡ is_rule_day rule day
+IsSameRule None (Some back) = ⊥
+IsSameRule (Some rule) None = ⊥
+
+module _ (event : Event) (number : ℕ) (organiser : List ℕ) (stamp : ℤ) (room : List ℕ) (back : Option Parts) (additions exceptions : List ℤ)
+    (organised : event.organiser ≡ Some organiser) (local_same : local_written event.times.zone event.times ≡ event.times.local) (same : IsSameRule event.rule back) (timely : IsTimely event)
     (adds : AreAscending event.additions additions) (takes : AreAscending (filter is_in_dates event.exceptions) exceptions) where
   abbrev kept : Event
-  kept = zoned_event event event.recurrence number organiser stamp room additions exceptions
+  kept = zoned_event event event.recurrence number organiser stamp room back additions exceptions
 
   key_same : (t : ℤ) → key_at event t ≡ key_at kept t
   key_same t = ap (λ (o : Option (List ℕ)). record { organiser = unwrap_or o []; uid = event.uid; slot = t }) organised
 
-  given_to : (t : ℤ) → IsGiven event.times event.rule t ⊎ Contains event.additions t → IsGiven kept.times None t ⊎ Contains additions t
-  given_to t (inl g) = inl (subst (λ (r : Option Parts). IsGiven event.times r t) once g)
+  by_rule_to : (rule kept_rule : Option Parts) → IsSameRule rule kept_rule → (t : ℤ) → IsGiven event.times rule t → IsGiven kept.times kept_rule t
+  by_rule_to None None e t g = g
+  by_rule_to (Some rule) (Some kept_rule) e t g = record {
+    first = g.first;
+    second = g.second;
+    on = (g.on.0, local_same ∙ g.on.1);
+    day = g.day;
+    listed = e g.day ∙ g.listed;
+    means = g.means;
+  }
+  by_rule_to None (Some kept_rule) e t g = absurd e
+  by_rule_to (Some rule) None e t g = absurd e
+
+  by_rule_from : (rule kept_rule : Option Parts) → IsSameRule rule kept_rule → (t : ℤ) → IsGiven kept.times kept_rule t → IsGiven event.times rule t
+  by_rule_from None None e t g = g
+  by_rule_from (Some rule) (Some kept_rule) e t g = record {
+    first = g.first;
+    second = g.second;
+    on = (g.on.0, sym local_same ∙ g.on.1);
+    day = g.day;
+    listed = sym (e g.day) ∙ g.listed;
+    means = g.means;
+  }
+  by_rule_from None (Some kept_rule) e t g = absurd e
+  by_rule_from (Some rule) None e t g = absurd e
+
+  given_to : (t : ℤ) → IsGiven event.times event.rule t ⊎ Contains event.additions t → IsGiven kept.times back t ⊎ Contains additions t
+  given_to t (inl g) = inl (by_rule_to event.rule back same t g)
   given_to t (inr c) = inr ((adds.exact t).1 c)
 
-  given_from : (t : ℤ) → IsGiven kept.times None t ⊎ Contains additions t → IsGiven event.times event.rule t ⊎ Contains event.additions t
-  given_from t (inl g) = inl (subst (λ (r : Option Parts). IsGiven event.times r t) (sym once) g)
+  given_from : (t : ℤ) → IsGiven kept.times back t ⊎ Contains additions t → IsGiven event.times event.rule t ⊎ Contains event.additions t
+  given_from t (inl g) = inl (by_rule_from event.rule back same t g)
   given_from t (inr c) = inr ((adds.exact t).0 c)
 
   start_to : (t : ℤ) → IsStart event [] t → IsStart kept [] t

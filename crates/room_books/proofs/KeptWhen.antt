@@ -14,30 +14,44 @@ use Rattle.profile.specs.events.Events.{Event, Method, Request, Add, Cancel, Say
 use Rattle.profile.specs.events.Occurrences.{Entry, IsInside, SaysOccurrences, entries_of, IsRecurrenceLine, entries_named, most_entries}
 use Rattle.profile.specs.events.Properties.{Says, BothOrNeither, is_of, lines_named, length_seconds, longest}
 use Rattle.profile.specs.events.ZonedTimes.{EventTimes, SaysEventTimes, SaysTimes, SpellsZoned, IsInDates, is_in_zone, clock_of}
-use Rattle.profile.specs.rooms.Messages.{Content, IsContent, WritesTimes, cancels, is_in_dates, list_lines}
-use Rattle.profile.specs.series.Zones.{Zone, Constant, Means}
+use Rattle.profile.specs.series.Rules.{Parts, RuleText}
+use Rattle.profile.specs.series.RuleTexts.{SpellsRule}
+use Rattle.profile.specs.events.EventRules.{GivesRule, IsRuleLine, SaysEventRule}
+use Rattle.profile.specs.rooms.Messages.{Content, IsContent, WritesRule, WritesTimes, cancels, is_in_dates, list_lines}
+use Rattle.profile.specs.series.Zones.{Zone, Constant, IsOneMeaning, Means}
 use Rattle.ical_lines.proofs.CleanLines.{IsClean, is_shown, clean_shown, valued}
 use Rattle.ical_values.proofs.Spans.{duration_written}
 use Rattle.itip_messages.proofs.TimeLists.{IsStart, ascending_short, filter_short, rdate_name, exdate_name, times_content, times_properties, utc_means}
-use Rattle.itip_messages.proofs.WrittenOctets.{duration_passes, shown_digits}
+use Rattle.itip_messages.proofs.RuleBack.{rule_back}
+use Rattle.itip_messages.proofs.WrittenOctets.{duration_passes, early_shown, shown_digits}
 use Rattle.itip_messages.proofs.ZonePlaces.{AreNamed}
 use Rattle.room_books.proofs.ZonedStarts.{IsPlainFor, local_written, start_content, start_property}
-use Rattle.room_books.proofs.KeptOwn.{SpellWhen, IsAlone, own_front, own_back, own_lines, when_lines}
+use Rattle.room_books.proofs.KeptInstances.{IsSameRule}
+use Rattle.room_books.proofs.KeptOwn.{SpellRule, SpellWhen, IsAlone, own_front, own_back, own_lines, when_lines}
 
 abbrev Lines : Type 0
 Lines = List (List ℕ)
 
 -- ---- what is known of an event that was said
 
+-- a text gives this rule to an event with these times, where there is one
+abbrev pub IsRuled : EventTimes → Option Parts → Type 0
+IsRuled times None = Unit {0}
+IsRuled times (Some rule) = (value : List ℕ) × (text : RuleText) × SpellsRule value text × GivesRule (clock_of times.zone) times.local text rule
+
 pub record EventFacts (event : Event) (added : Bool) : Type 0 where
+  pub local : local_written event.times.zone event.times ≡ event.times.local
   pub means : Means (clock_of event.times.zone) (local_written event.times.zone event.times) event.times.start
   pub dated : IsInDates (is_some event.times.zone) (local_written event.times.zone event.times) event.times.start
   pub most : length_seconds event.times.length ≤ longest
   pub added_in : (i : ℤ) → Contains event.additions i → IsStart i
   pub few_added : length event.additions ≤ most_entries
   pub few_taken : length event.exceptions ≤ most_entries
-  -- an instance has no RDATE
+  -- an instance has no RDATE and no RRULE
   pub single : (added || is_some event.recurrence) ≡ true → event.additions ≡ []
+  pub once : (added || is_some event.recurrence) ≡ true → event.rule ≡ None
+  -- the rule is that of a text
+  pub recurs : IsRuled event.times event.rule
 
 utc_instant : (local t : ℤ) → Means (Constant (pos 0)) local t → t ≡ local
 utc_instant local t (inl x) = omega (arith, ints, x.shown.1, x.shown.2)
@@ -48,6 +62,11 @@ zone_there object None text None local s = refl
 zone_there object (Some n) text (Some z) local s = refl
 zone_there object None text (Some z) local s = absurd s
 zone_there object (Some n) text None local s = absurd s
+
+-- the clocks of DTSTART show the local time that is written
+written_local : (zone : Option Zone) (times : EventTimes) → Means (clock_of zone) times.local times.start → local_written zone times ≡ times.local
+written_local None times m = utc_instant times.local times.start m
+written_local (Some z) times m = refl
 
 means_written : (zone : Option Zone) (times : EventTimes) → Means (clock_of zone) times.local times.start → Means (clock_of zone) (local_written zone times) times.start
 means_written None times m = utc_means times.start
@@ -108,11 +127,43 @@ no_additions added object lines recurrence additions exceptions s h =
     let lines_none : lines_named (codes "RDATE") lines ≡ [] = none_there (is_of (codes "RRULE")) (is_of (codes "RDATE")) lines none in
     none_entries (IsInside object) (entries_named (codes "RDATE") lines) additions s.inside (ap (flat_map entries_of) lines_none)
 
+first_there : {X : Type 0} (p q : X → Bool) (xs : List X) → list_any (λ x. p x || q x) xs ≡ false → filter p xs ≡ []
+first_there p q [] h = refl
+first_there {X = X} p q (x ∷ xs) h =
+    let both = or_parts (p x || q x) (list_any (λ y. p y || q y) xs) h in
+    let here = or_parts (p x) (q x) both.0 in
+    ap (λ b. cond b (x ∷ filter p xs) (filter p xs)) here.0 ∙ first_there p q xs both.1
+
+none_said : (lines : Lines) (times : EventTimes) (rule : Option Parts) → SaysEventRule lines times rule → lines_named (codes "RRULE") lines ≡ [] → rule ≡ None
+none_said lines times rule s h = go s.line rule (sym h ∙ s.once) s.is
+  where
+    go : (line : Option (List ℕ)) (rule : Option Parts) → [] ≡ option_to_list line → BothOrNeither (IsRuleLine times) line rule → rule ≡ None
+    go None None e b = refl
+    go None (Some r) e b = absurd b
+    go (Some l) rule e b = cc
+
+no_rule_line : (added : Bool) (object : Tree) (lines : Lines) (times : EventTimes) (rule : Option Parts) (recurrence : Option ℤ) (additions exceptions : List ℤ) → SaysEventRule lines times rule
+    → SaysOccurrences added object lines recurrence additions exceptions → (added || is_some recurrence) ≡ true → rule ≡ None
+no_rule_line added object lines times rule recurrence additions exceptions r s h =
+    let there : (added || list_any (is_of (codes "RECURRENCE-ID")) lines) ≡ true = either_way added (is_some recurrence) (list_any (is_of (codes "RECURRENCE-ID")) lines) (recurrence_there object lines recurrence s.is) h in
+    none_said lines times rule r (first_there (is_of (codes "RRULE")) (is_of (codes "RDATE")) lines (and_second _ _ s.alone there))
+
+ruled : (lines : Lines) (times : EventTimes) (rule : Option Parts) → SaysEventRule lines times rule → IsRuled times rule
+ruled lines times rule s = go s.line rule s.is
+  where
+    go : (line : Option (List ℕ)) (rule : Option Parts) → BothOrNeither (IsRuleLine times) line rule → IsRuled times rule
+    go None None b = tt
+    go None (Some r) b = absurd b
+    go (Some l) None b = absurd b
+    go (Some l) (Some r) (text, spelled, gives) = (line_value l, text, spelled, gives)
+
 -- an event that was said with its start
-pub said_facts : (added : Bool) (object : Tree) (lines : Lines) (event : Event) → SaysEventTimes object lines event.times → SaysOccurrences added object lines event.recurrence event.additions event.exceptions → EventFacts event added
-said_facts added object lines event t o =
+pub said_facts : (added : Bool) (object : Tree) (lines : Lines) (event : Event) → SaysEventTimes object lines event.times → SaysEventRule lines event.times event.rule
+    → SaysOccurrences added object lines event.recurrence event.additions event.exceptions → EventFacts event added
+said_facts added object lines event t r o =
     let zoned : is_in_zone t.line ≡ is_some event.times.zone = zone_there object (line_param (codes "TZID") t.line) (line_value t.line) event.times.zone event.times.local t.says.1 in
     record {
+      local = written_local event.times.zone event.times t.means;
       means = means_written event.times.zone event.times t.means;
       dated = dated_written event.times.zone event.times t.means (subst (λ (b : Bool). IsInDates b event.times.local event.times.start) zoned t.in_dates);
       most = t.most;
@@ -120,6 +171,8 @@ said_facts added object lines event t o =
       few_added = o.adds.1;
       few_taken = o.takes.1;
       single = no_additions added object lines event.recurrence event.additions event.exceptions o;
+      once = no_rule_line added object lines event.times event.rule event.recurrence event.additions event.exceptions r o;
+      recurs = ruled lines event.times event.rule r;
     }
 
 start_needed : (method : Method) (event : Event) → cancels method event ≡ false → may_lack_start (Some method) ≡ false
@@ -132,7 +185,7 @@ pub event_facts : (object : Tree) (method : Method) (lines : Lines) (event : Eve
 event_facts object method lines event s h = go s.times
   where
     go : SaysTimes (may_lack_start (Some method)) object lines event.times → EventFacts event (adds_instances (Some method))
-    go (inl t) = said_facts (adds_instances (Some method)) object lines event t s.occurrences
+    go (inl t) = said_facts (adds_instances (Some method)) object lines event t s.rule s.occurrences
     go (inr lacks) = absurd (true≢false (sym lacks.0 ∙ start_needed method event h))
 
 -- ---- its kept lines
@@ -149,16 +202,40 @@ lists_none name (t ∷ ts) (a ∷ more) z e = cc
 abbrev pub duration_of : Event → List ℕ
 duration_of event = duration_text event.times.length.days event.times.length.seconds
 
-alone_lists : (slot : Option ℤ) (event : Event) (additions : Lines) → (is_some slot ≡ true → event.additions ≡ []) → WritesTimes (codes "RDATE") event.additions additions → IsAlone slot additions
-alone_lists None event additions f w = tt
-alone_lists (Some i) event additions f w =
-    w.is ∙ lists_none (codes "RDATE") w.texts w.ascending w.each (ascending_none event.additions w.ascending (ascending_short event.additions w.ascending w.are) (f refl))
+alone_lists : (slot : Option ℤ) (event : Event) (clock : Zone) (rules additions : Lines) → (is_some slot ≡ true → event.rule ≡ None) → WritesRule clock event.rule rules → (is_some slot ≡ true → event.additions ≡ [])
+    → WritesTimes (codes "RDATE") event.additions additions → IsAlone slot rules additions
+alone_lists None event clock rules additions r u f w = tt
+alone_lists (Some i) event clock rules additions r u f w = (
+  subst (λ (o : Option Parts). WritesRule clock o rules) (r refl) u,
+  w.is ∙ lists_none (codes "RDATE") w.texts w.ascending w.each (ascending_none event.additions w.ascending (ascending_short event.additions w.ascending w.are) (f refl)),
+)
+
+-- ---- its rule, as it is kept
+
+pub record KeptRule (clock : Zone) (local : ℤ) (rule : Option Parts) (rules : Lines) : Type 0 where
+  pub back : Option Parts
+  pub spells : SpellRule clock local rules back
+  pub same : IsSameRule rule back
+
+-- without a rule none is kept
+pub none_kept : (rule back : Option Parts) → IsSameRule rule back → rule ≡ None → back ≡ None
+none_kept None None s e = refl
+none_kept None (Some back) s e = absurd s
+none_kept (Some rule) back s e = cc
+
+pub kept_rule : (times : EventTimes) (local : ℤ) → local ≡ times.local → IsOneMeaning (clock_of times.zone) → (rule : Option Parts) (rules : Lines) → IsRuled times rule → WritesRule (clock_of times.zone) rule rules
+    → KeptRule (clock_of times.zone) local rule rules
+kept_rule times local e one None rules r w = record { back = None; spells = w; same = tt }
+kept_rule times local e one (Some rule) rules (value, text, spelled, gives) w =
+    let b = rule_back (clock_of times.zone) times.local one value text rule rules spelled gives w in
+    let gives_local = subst (λ (l : ℤ). GivesRule (clock_of times.zone) l b.text b.back) (sym e) b.gives in
+    record { back = Some b.back; spells = (b.value, b.are, early_shown b.value b.early, (b.text, b.spelled, gives_local)); same = b.same }
 
 -- the lines of the content, under the zone's name, say when the event is
 pub when_of : (name : List ℕ) (content : Content) (event : Event) (c : IsContent content event) (n : AreNamed name content event c) → IsPlainFor name event.times.zone → (added : Bool) → EventFacts event added
-    → (slot : Option ℤ) → (is_some slot ≡ true → (added || is_some event.recurrence) ≡ true)
-    → SpellWhen name event slot n.start (duration_of event) c.additions c.exceptions event.additions (filter is_in_dates event.exceptions)
-when_of name content event c n plain added f slot single = record {
+    → (k : KeptRule (clock_of event.times.zone) (local_written event.times.zone event.times) event.rule c.rule) → (slot : Option ℤ) → (is_some slot ≡ true → (added || is_some event.recurrence) ≡ true)
+    → SpellWhen name event slot n.start (duration_of event) c.rule c.additions c.exceptions k.back event.additions (filter is_in_dates event.exceptions)
+when_of name content event c n plain added f k slot single = record {
   starts = n.starts;
   plain = plain;
   means = f.means;
@@ -167,6 +244,7 @@ when_of name content event c n plain added f slot single = record {
       let most : 86_400 * event.times.length.days + event.times.length.seconds ≤ 31_622_400 = f.most in
       duration_written event.times.length.days event.times.length.seconds (omega (arith, most)) (omega (arith, most));
   most = f.most;
+  recurs = k.spells;
   adds = c.adds;
   added_in = f.added_in;
   few_added = let short = ascending_short event.additions c.adds.ascending c.adds.are in let few : length event.additions ≤ 366 = f.few_added in omega (arith, short, few);
@@ -176,7 +254,7 @@ when_of name content event c n plain added f slot single = record {
       let fewer = filter_short is_in_dates event.exceptions in
       let few : length event.exceptions ≤ 366 = f.few_taken in
       omega (arith, short, fewer, few);
-  alone = alone_lists slot event c.additions (λ h. f.single (single h)) c.adds;
+  alone = alone_lists slot event (clock_of event.times.zone) c.rule c.additions (λ h. f.once (single h)) c.recurs (λ h. f.single (single h)) c.adds;
 }
 
 -- ---- what lines they are
@@ -202,6 +280,9 @@ accepted_line v c = valued (codes "ATTENDEE;PARTSTAT=ACCEPTED:") v (lt-ltb 26 (l
 duration_content : (v : List ℕ) → IsClean v → is_content (codes "DURATION:" ++ v) ≡ true
 duration_content v c = valued (codes "DURATION:") v (lt-ltb 8 (length (codes "DURATION:" ++ v)) (omega arith)) refl refl refl c
 
+rule_line : (v : List ℕ) → IsClean v → is_content (codes "RRULE:" ++ v) ≡ true
+rule_line v c = valued (codes "RRULE:") v (lt-ltb 5 (length (codes "RRULE:" ++ v)) (omega arith)) refl refl refl c
+
 pub duration_clean : (event : Event) → IsClean (duration_of event)
 duration_clean event = clean_shown (duration_of event) (duration_passes is_shown shown_digits refl event.times.length.days event.times.length.seconds)
 
@@ -221,20 +302,30 @@ front_properties (Some text) uid sequence stamp = refl
 three_pass : (p : List ℕ → Bool) (a b d : Lines) → list_all p a ≡ true → list_all p b ≡ true → list_all p d ≡ true → list_all p (a ++ b ++ d) ≡ true
 three_pass p a b d x y z = list_all-append p (a ++ b) d ∙ and_from _ _ (list_all-append p a b ∙ and_from _ _ x y) z
 
-module _ (name : List ℕ) (event : Event) (slot : Option ℤ) (start duration : List ℕ) (additions exceptions : Lines) (added taken : List ℤ) (w : SpellWhen name event slot start duration additions exceptions added taken) where
+module _ (name : List ℕ) (event : Event) (slot : Option ℤ) (start duration : List ℕ) (rules additions exceptions : Lines) (back : Option Parts) (added taken : List ℤ) (w : SpellWhen name event slot start duration rules additions exceptions back added taken) where
+  rules_content : (b : Option Parts) → SpellRule (clock_of event.times.zone) (local_written event.times.zone event.times) rules b → list_all is_content rules ≡ true
+  rules_content None none = ap (list_all is_content) none
+  rules_content (Some b) (value, are, shown, _) = ap (list_all is_content) are ∙ and_from _ _ (rule_line value (clean_shown value shown)) refl
+
+  rules_properties : (b : Option Parts) → SpellRule (clock_of event.times.zone) (local_written event.times.zone event.times) rules b → list_all is_property rules ≡ true
+  rules_properties None none = ap (list_all is_property) none
+  rules_properties (Some b) (value, are, _, _) = ap (list_all is_property) are
+
   pub own_content : (recurrence : Option (List ℕ)) (uid sequence stamp organiser room : List ℕ) → IsCleanSlot recurrence → IsClean uid → IsClean sequence → IsClean stamp → IsClean duration → IsClean organiser → IsClean room
-      → list_all is_content (own_lines recurrence uid sequence stamp (when_lines start duration additions exceptions) organiser room) ≡ true
+      → list_all is_content (own_lines recurrence uid sequence stamp (when_lines start duration rules additions exceptions) organiser room) ≡ true
   own_content recurrence uid sequence stamp organiser room r u n s d o a =
       let lists : list_all is_content (additions ++ exceptions) ≡ true = list_all-append is_content additions exceptions ∙ and_from _ _ (times_content (codes "RDATE") rdate_name added additions w.adds) (times_content (codes "EXDATE") exdate_name taken exceptions w.takes) in
-      three_pass is_content (own_front recurrence uid sequence stamp) (when_lines start duration additions exceptions) (own_back organiser room)
+      let all : list_all is_content (rules ++ (additions ++ exceptions)) ≡ true = list_all-append is_content rules (additions ++ exceptions) ∙ and_from _ _ (rules_content back w.recurs) lists in
+      three_pass is_content (own_front recurrence uid sequence stamp) (when_lines start duration rules additions exceptions) (own_back organiser room)
       (front_content recurrence uid sequence stamp r u n s)
-      (and_from _ _ (start_content name event.times.zone event.times start w.starts w.plain) (and_from _ _ (duration_content duration d) lists))
+      (and_from _ _ (start_content name event.times.zone event.times start w.starts w.plain) (and_from _ _ (duration_content duration d) all))
       (and_from _ _ (organiser_line organiser o) (and_from _ _ (accepted_line room a) refl))
 
-  pub own_properties : (recurrence : Option (List ℕ)) (uid sequence stamp organiser room : List ℕ) → list_all is_property (own_lines recurrence uid sequence stamp (when_lines start duration additions exceptions) organiser room) ≡ true
+  pub own_properties : (recurrence : Option (List ℕ)) (uid sequence stamp organiser room : List ℕ) → list_all is_property (own_lines recurrence uid sequence stamp (when_lines start duration rules additions exceptions) organiser room) ≡ true
   own_properties recurrence uid sequence stamp organiser room =
       let lists : list_all is_property (additions ++ exceptions) ≡ true = list_all-append is_property additions exceptions ∙ and_from _ _ (times_properties (codes "RDATE") rdate_name added additions w.adds) (times_properties (codes "EXDATE") exdate_name taken exceptions w.takes) in
-      three_pass is_property (own_front recurrence uid sequence stamp) (when_lines start duration additions exceptions) (own_back organiser room)
+      let all : list_all is_property (rules ++ (additions ++ exceptions)) ≡ true = list_all-append is_property rules (additions ++ exceptions) ∙ and_from _ _ (rules_properties back w.recurs) lists in
+      three_pass is_property (own_front recurrence uid sequence stamp) (when_lines start duration rules additions exceptions) (own_back organiser room)
       (front_properties recurrence uid sequence stamp)
-      (and_from _ _ (start_property name event.times.zone event.times start w.starts w.plain) lists)
+      (and_from _ _ (start_property name event.times.zone event.times start w.starts w.plain) all)
       refl

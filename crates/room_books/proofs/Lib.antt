@@ -62,3 +62,11 @@ pub mod PutIn
 pub mod Touching
 pub mod Splits
 pub mod Shifting
+pub mod Leaving
+pub mod Reordering
+pub mod Givens
+pub mod Joining
+pub mod SlotPlaces
+pub mod Looking
+pub mod Answered
+pub mod Walking

@@ -15,7 +15,7 @@ use Rattle.profile.specs.rooms.Revisions.{Part}
 use Rattle.profile.specs.rooms.Rooms.{Answer, Book, Claim, Decides, confirmed, if_accepted, parts_of, asked, answered}
 use Rattle.room_books.specs.declared.answer.Kind.{Kind}
 use Rattle.room_books.specs.declared.meeting.MeetingKey.{MeetingKey}
-use Rattle.room_books.specs.declared.meeting.Meeting.{Meeting}
+use Rattle.room_books.specs.declared.kept.Meeting.{Meeting}
 use Rattle.room_books.specs.declared.meeting.Outcome.{Outcome}
 use Rattle.room_books.specs.declared.meeting.Outcome.TheVariants.{Accepted}
 use Rattle.room_books.specs.declared.meeting.Given.{Given}
@@ -24,7 +24,8 @@ use Rattle.room_books.specs.Takings.{claim_said, claims_said, kind_view, AreAske
 use Rattle.room_books.specs.Views.{same_key, booked_list, all_singles, others, outcome_of}
 use Rattle.itip_order.specs.declared.part.Slot.{Slot}
 use Rattle.room_books.specs.Touching.{AllTouch}
-use Rattle.room_books.specs.Standing.{is_of, book_of, AreFitting, IsGiven, IsMeetingAfter, KeepsAll, Meets, Stands}
+use Rattle.room_books.specs.BySlot.{Reordered}
+use Rattle.room_books.specs.Standing.{is_of, book_of, AreFitting, AreGiven, IsGiven, IsMeetingAfter, KeepsAll, Meets, Stands}
 use Rattle.room_books.proofs.Afters.{confirmed_asked, outcome_dated, meets_after}
 use Rattle.room_books.proofs.Beside.{beside_same}
 use Rattle.room_books.proofs.Runs.{new_answer}
@@ -63,10 +64,10 @@ module _ (k : MeetingKey) (entries : List (MeetingKey × Meeting)) (distinct : I
 
   module _ (part : Part) (own_part : is_of k part ≡ true) (some : 0 < length asking_all) (meeting : Meeting) (s : StandsFor meeting.held t) (kept : List Given)
       (slots : List Slot) (touches : AllTouch slots (parts_of claims)) (keeps : KeepsAll part slots (lookup (same_key k) entries) meeting.held kept) (asking : List (Bor Asking)) (are : AreAsked own.taken t asking_all asking) where
-    kept_zip : AllZip (IsGiven k t) (stayed k own (own_of k entries book st) claims fit moment) kept
+    kept_zip : AreGiven k t (stayed k own (own_of k entries book st) claims fit moment) kept
     kept_zip = keeps own k (parts_of claims) own_part (own_of k entries book st) (st.meets k) s touches
 
-    none_after : (kind : Kind) → asking ≡ [] → meeting.answers.items ≡ kept → IsKindOf own.taken t asking_all None kind → IsMeetingAfter book k claims moment (kind_view kind) meeting
+    none_after : (kind : Kind) → asking ≡ [] → Reordered kept meeting.answers.items → IsKindOf own.taken t asking_all None kind → IsMeetingAfter book k claims moment (kind_view kind) meeting
     none_after kind e same said =
         let none : asked_now ≡ [] = sym are ∙ ap (map (λ (claim : Bor Asking). claim_said claim.now)) e in
         let given : AllZip (IsGiven k t) (answered moment Accept asked_now) [] = subst (λ (l : List Claim). AllZip (IsGiven k t) (answered moment Accept l) []) (sym none) tt in
@@ -74,7 +75,7 @@ module _ (k : MeetingKey) (entries : List (MeetingKey × Meeting)) (distinct : I
           outcome = Accept;
           step = record { taken = refl; answers = refl; decided = λ h. absurd (true≢false (sym h ∙ ap (λ l. nat_lt 0 (length l)) (sym (asked_own k book claims fit) ∙ none))) };
           meets = subst (λ (b : Book). Meets b k meeting) (sym (book_own k book claims fit moment Accept))
-              (meets_after k own (own_of k entries book st) claims fit moment Accept (lookup (same_key k) entries) (st.meets k) meeting kept [] s kept_zip given (same ∙ sym (append-nil kept))
+              (meets_after k own (own_of k entries book st) claims fit moment Accept (lookup (same_key k) entries) (st.meets k) meeting kept [] s kept_zip given (subst (λ (l : List Given). Reordered l meeting.answers.items) (sym (append-nil kept)) same)
               (λ claim c. absurd (none_in_nil claim (subst (λ (l : List Claim). Contains l claim) none c))));
           kind_is = said (lt-ltb 0 (length asking_all) some) (ap (λ l. nat_lt 0 (length l)) none) ∙ kind_own k book claims fit Accept;
         }

@@ -1,19 +1,20 @@
 -- The lines of a body under the name of its zone, and its text before the zone.
-use Rattle.std.proofs.Common.{◌≡◌, ◌∙◌, ℕ, ◌+◌, ◌-◌, ◌<◌, ◌≤◌, Bool, true, false, cond, List, [], ◌∷◌, ◌++◌, length, take, drop, get_or, codes, refl, sym, ap, subst, inl, inr, arith, Option, None, Some}
+use Rattle.std.proofs.Common.{◌≡◌, ◌∙◌, ℕ, ◌+◌, ◌-◌, ◌<◌, ◌≤◌, nat_lt, Bool, true, false, cond, List, [], ◌∷◌, ◌++◌, length, take, drop, get_or, codes, refl, sym, ap, subst, inl, inr, arith, Option, None, Some}
 use Rattle.std.specs.Prelude.{◌==◌, slice_get}
 use Rattle.std.specs.Option.{option_to_list}
 use Rattle.std.specs.Str.{bytes_eq, IsUtf8}
 use Rattle.std.specs.Str.Lines.{lines}
-use Rattle.std.proofs.lemmas.Bool.{cases_lt, true≢false}
+use Rattle.std.proofs.lemmas.Bool.{and_parts, cases_lt, true≢false}
+use Rattle.std.proofs.lemmas.Bool.Decides.{nat_tests}
 use borrow.Author.Tests.{eqb-true}
 use Rattle.std.proofs.lemmas.List.{drop_all, drop_more, length-drop, take_all, take-append-drop}
-use Rattle.std.proofs.lemmas.List.Sums.{passes_at_first}
 use Rattle.std.proofs.lemmas.Slice.Eq.{bytes_eq-Decides}
 use Rattle.ical_lines.proofs.Utf8Lemmas.{utf8_apart}
 use Rattle.profile.specs.rooms.Kept.{IsNamed, renamed}
 use Rattle.profile.specs.text.Lines.{written}
 use Rattle.room_books.specs.Keeping.{WritesBody, WritesText, name_of, named_lines}
-use Rattle.room_books.specs.Takings.{content_in, zone_place, zone_rest}
+use Rattle.itip_messages.specs.Bodies.{before_g, begins_zone, zone_place}
+use Rattle.room_books.specs.Takings.{content_in, zone_rest}
 use Rattle.room_books.specs.Zoning.{with_zone, with_zones}
 use Rattle.room_books.proofs.Writing.{no_lines}
 
@@ -44,20 +45,23 @@ same_lines (line ∷ lines) = λ i. sym (same_line (codes "DTSTART;TZID=Z") line
 
 -- ---- the text before the zone
 
-abbrev is_b : ℕ → Bool
-is_b c = c == 66
+within : (p n : ℕ) → nat_lt p n ≡ true → p - 2 < n
+within p n h = grind (arith, nat_tests)
 
 -- what stands before the zone is text where the whole is
 front_utf8 : (body : List ℕ) → IsUtf8 body → IsUtf8 (take (zone_place body) body)
-front_utf8 body u = elim (cases_lt (zone_place body) (length body)) [
-  | inr past ↦ subst IsUtf8 (sym (take_all (zone_place body) body past)) u
-  | inl inside ↦
-      let place = zone_place body in
-      let first : get_or body place 0 ≡ 66 = eqb-true (get_or body place 0) 66 (passes_at_first is_b body 0 inside) in
-      let cut : body ≡ take place body ++ 66 ∷ drop (place + 1) body =
-      sym (take-append-drop place body) ∙ ap (λ l. take place body ++ l) (drop_more body place 0 inside ∙ ap (λ c. c ∷ drop (place + 1) body) first) in
-      (utf8_apart (take place body) (drop (place + 1) body) 66 (omega arith) (subst IsUtf8 cut u)).0
-]
+front_utf8 body u = by (begins_zone body) refl
+  where
+    by : (b : Bool) → begins_zone body ≡ b → IsUtf8 (take (cond b (before_g body - 2) (length body)) body)
+    by false e = subst IsUtf8 (sym (take_all (length body) body (omega arith))) u
+    by true e =
+        let both = and_parts (nat_lt (before_g body) (length body)) (get_or body (before_g body - 2) 0 == 66) e in
+        let place = before_g body - 2 in
+        let inside : place < length body = within (before_g body) (length body) both.0 in
+        let first : get_or body place 0 ≡ 66 = eqb-true (get_or body place 0) 66 both.1 in
+        let cut : body ≡ take place body ++ 66 ∷ drop (place + 1) body =
+        sym (take-append-drop place body) ∙ ap (λ l. take place body ++ l) (drop_more body place 0 inside ∙ ap (λ c. c ∷ drop (place + 1) body) first) in
+        (utf8_apart (take place body) (drop (place + 1) body) 66 (omega arith) (subst IsUtf8 cut u)).0
 
 pub is_nothing : (xs : List ℕ) → (length xs == 0) ≡ true → xs ≡ []
 is_nothing [] h = refl

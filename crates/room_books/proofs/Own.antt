@@ -2,7 +2,7 @@
 use Rattle.std.proofs.Common.{◌≡◌, ◌∙◌, ℕ, ◌+◌, ◌<◌, take, get_or, Bool, true, false, not, ◌&&◌, cond, List, [], ◌∷◌, ◌++◌, map, length, inl, inr, Option, None, Some, refl, sym, ap, subst, append-nil}
 use Rattle.std.specs.List.{AllZip, filter, flat_map, Contains}
 use Rattle.std.proofs.lemmas.Bool.{true≢false, and_parts, and_from, or_right, not-true, not_from_false, false_from_ne_true, both_ways}
-use Rattle.std.proofs.lemmas.List.Elements.{Contains-append_left, Contains-append_cases, Contains-push}
+use Rattle.std.proofs.lemmas.List.Elements.{Contains-append_left, Contains-append_right, Contains-append_cases, Contains-push, filter-append}
 use Rattle.std.proofs.lemmas.List.{take_more}
 use Rattle.itip_order.specs.Parts.{slot_of}
 use Rattle.itip_order.specs.Registers.{StandsFor, at_slot}
@@ -15,16 +15,20 @@ use Rattle.profile.specs.rooms.Revisions as Revision
 use Rattle.profile.specs.rooms.Revisions.{Part, Whole, At, in_view, same_place, is_whole, is_greatest, implies, allows, slot_cmp, same_meeting, stands_beside}
 use Rattle.profile.specs.rooms.Rooms.{Answer, Book, is_accept, is_hidden, left_of, confirmed_in}
 use Rattle.room_books.specs.declared.meeting.MeetingKey.{MeetingKey}
-use Rattle.room_books.specs.declared.meeting.Meeting.{Meeting}
+use Rattle.room_books.specs.declared.kept.Meeting.{Meeting}
 use Rattle.cal_events.specs.declared.instance.Single.{Single}
 use Rattle.room_books.specs.declared.meeting.Given.{Given}
-use Rattle.room_books.specs.Takings.{IsStill, IsViewed, IsCopy, left_in, left_beside, booked_in}
+use Rattle.room_books.specs.BySlot.{Reordered, left_without, taken_at}
+use Rattle.room_books.specs.BySlot.Reordered.{re_then}
+use Rattle.room_books.specs.Takings.{IsLeftAlone, IsStill, IsViewed, left_in, left_beside, booked_in}
+use Rattle.room_books.proofs.Givens.{given_reordered, given_zip}
+use Rattle.room_books.proofs.Reordering.{re_back, re_filter, re_in, re_parts, re_swapped}
 use Rattle.room_books.specs.Touching.{is_touched, AllTouch, IsUntouched}
 use Rattle.itip_order.specs.declared.part.Slot.{Slot}
 use Rattle.std.specs.Ordering.{is_eq}
 use Rattle.room_books.specs.Views.{booked_of, booked_list}
-use Rattle.room_books.specs.Standing.{is_of, IsOwn, IsGiven, standing, KeepsAll}
-use Rattle.room_books.proofs.Loops.{zip_push, filter_push, filter_yes, filter_no}
+use Rattle.room_books.specs.Standing.{is_of, IsOwn, IsGiven, standing, KeepsAll, KeepsSome}
+use Rattle.room_books.proofs.Loops.{zip_both, zip_push, filter_push, filter_yes, filter_no}
 use Rattle.room_books.proofs.Meetings.{filter_same, is_of_parts, same_place_of}
 use Rattle.room_books.proofs.Views.{hidden_stays, view_back}
 use Rattle.room_books.proofs.Places.{booked_from}
@@ -164,7 +168,7 @@ module _ (key : MeetingKey) (own : Book) (more : List Part) (is_own : IsOwn key 
       same_test false false f = refl
 
   -- a part that nothing touches stays in the view, and so does what it confirms
-  module _ (left : Given) (copy : IsCopy given left) (alone : IsUntouched slots (slot_of given.slot)) where
+  module _ (alone : IsUntouched slots (slot_of given.slot)) where
     pub untouched_stays : in_view (own.taken ++ more) a.claim.part ≡ true
     untouched_stays = untouched_view own.taken more a.claim.part a_taken seen
         (λ y c. false_from_ne_true _ (λ same.
@@ -173,14 +177,14 @@ module _ (key : MeetingKey) (own : Book) (more : List Part) (is_own : IsOwn key 
         (λ y c. false_from_ne_true _ (λ whole.
         both_ways _ alone.whole (subst (λ (x : Revision.Slot). is_touched slots x ≡ true) (slot_same y.slot Whole (is_eq_true _ whole)) (touches y c))))
 
-    pub untouched_given : IsGiven key (own.taken ++ more) a left
+    pub untouched_given : IsGiven key (own.taken ++ more) a given
     untouched_given =
         let whole : is_whole a.claim.part ≡ false = ap (λ (x : Revision.Slot). is_eq (slot_cmp x Whole)) (sym g.slot) ∙ alone.instance in
         record {
-          slot = ap slot_of copy.slot ∙ g.slot;
-          moment = copy.moment ∙ g.moment;
-          outcome = copy.outcome ∙ g.outcome;
-          confirms = ap (booked_list key) copy.singles ∙ g.confirms ∙ one_confirmed own.taken a seen
+          slot = g.slot;
+          moment = g.moment;
+          outcome = g.outcome;
+          confirms = g.confirms ∙ one_confirmed own.taken a seen
               ∙ ap (λ l. cond (is_accept a.outcome) l []) (left_instance own.taken a whole ∙ sym (left_instance (own.taken ++ more) a whole))
               ∙ sym (one_confirmed (own.taken ++ more) a untouched_stays);
         }
@@ -223,13 +227,6 @@ module _ (key : MeetingKey) (own : Book) (more : List Part) (is_own : IsOwn key 
     }
 
 -- ---- all answers
-
--- those of some answers that stay
-abbrev pub KeepsSome : Part → List Slot → List Part → List Part → List Given → List Given → Type 0
-KeepsSome part slots before after done kept =
-    (own : Book) (key : MeetingKey) (more : List Part) → is_of key part ≡ true → IsOwn key own → StandsFor before own.taken → StandsFor after (own.taken ++ more) → AllTouch slots more
-    → (xs : List Answer) → ((a : Answer) → Contains xs a → Contains own.answers a × (in_view own.taken a.claim.part ≡ true)) → AllZip (IsGiven key own.taken) xs done
-    → AllZip (IsGiven key (own.taken ++ more)) (standing (own.taken ++ more) xs) kept
 
 pub keeps_none : (part : Part) (slots : List Slot) (before after : List Part) → KeepsSome part slots before after [] []
 keeps_none part slots before after own key more e o b s t [] h z = tt
@@ -275,22 +272,78 @@ keeps_more part slots before after done kept kept' given (Some left) k s some no
       still_given key own more o slots t before after part e b st a known seen given g left s,
     )) own key more e o b st t xs h z
 
--- one more that nothing touches
-pub keeps_copy : (part : Part) (slots : List Slot) (before after : List Part) (done kept kept' : List Given) (given left : Given) → KeepsSome part slots before after done kept → IsUntouched slots (slot_of given.slot)
-    → IsCopy given left → kept' ≡ kept ++ left ∷ [] → KeepsSome part slots before after (done ++ given ∷ []) kept'
-keeps_copy part slots before after done kept kept' given left k alone copy is =
-    keeps_left part slots before after done kept kept' given left k is (λ own key more e o b st t a known seen g. (
-      untouched_stays key own more o slots t before after part e b st a known seen given g left copy alone,
-      untouched_given key own more o slots t before after part e b st a known seen given g left copy alone,
-    ))
+-- an answer that is left alone
+alone_now : (key : MeetingKey) (own : Book) (more : List Part) (o : IsOwn key own) (slots : List Slot) (t : AllTouch slots more) (before after : List Part) (part : Part) → is_of key part ≡ true
+    → StandsFor before own.taken → StandsFor after (own.taken ++ more) → (a : Answer) → Contains own.answers a → in_view own.taken a.claim.part ≡ true → (given : Given) → IsGiven key own.taken a given
+    → IsLeftAlone slots before after part given → (in_view (own.taken ++ more) a.claim.part ≡ true) × IsGiven key (own.taken ++ more) a given
+alone_now key own more o slots t before after part e b st a known seen given g alone = elim alone [
+  | inl untouched ↦ (
+    untouched_stays key own more o slots t before after part e b st a known seen given g untouched,
+    untouched_given key own more o slots t before after part e b st a known seen given g untouched,
+  )
+  | inr still ↦ (
+    stays key own more o slots t before after part e b st a known seen given g given still,
+    still_given key own more o slots t before after part e b st a known seen given g given still,
+  )
+]
 
-pub keeps_all : (part : Part) (slots : List Slot) (meeting : Meeting) (after : List Part) (kept : List Given) → KeepsSome part slots meeting.held after meeting.answers.items kept → KeepsAll part slots (Some meeting) after kept
-keeps_all part slots meeting after kept k own key more e o m s t =
-    k own key more e o m.held s t (standing own.taken own.answers) (λ a c. filter_at (λ x. in_view own.taken x.claim.part) own.answers a c) m.answers
+-- and all of them
+all_alone : (key : MeetingKey) (own : Book) (more : List Part) (o : IsOwn key own) (slots : List Slot) (t : AllTouch slots more) (before after : List Part) (part : Part) → is_of key part ≡ true
+    → StandsFor before own.taken → StandsFor after (own.taken ++ more) → (xs : List Answer) (given : List Given) → ((a : Answer) → Contains xs a → Contains own.answers a × (in_view own.taken a.claim.part ≡ true))
+    → ((g : Given) → Contains given g → IsLeftAlone slots before after part g) → AllZip (IsGiven key own.taken) xs given
+    → (standing (own.taken ++ more) xs ≡ xs) × AllZip (IsGiven key (own.taken ++ more)) xs given
+all_alone key own more o slots t before after part e b st [] [] h alone z = (refl, tt)
+all_alone key own more o slots t before after part e b st [] (g ∷ gs) h alone z = absurd z
+all_alone key own more o slots t before after part e b st (x ∷ xs) [] h alone z = absurd z
+all_alone key own more o slots t before after part e b st (x ∷ xs) (g ∷ gs) h alone z =
+    let is = h x (in_head x xs) in
+    let first = alone_now key own more o slots t before after part e b st x is.0 is.1 g z.0 (alone g (in_head g gs)) in
+    let rest = all_alone key own more o slots t before after part e b st xs gs (λ a c. h a (in_tail x xs a c)) (λ y c. alone y (in_tail g gs y c)) z.1 in
+    let now = own.taken ++ more in (
+      ap (λ b. cond b (x ∷ standing now xs) (standing now xs)) first.0 ∙ ap (λ l. x ∷ l) rest.0,
+      (first.1, rest.1),
+    )
+
+zip_apart : {X Y : Type 0} (R : X → Y → Type 0) (xs : List X) (ys zs : List Y) → AllZip R xs (ys ++ zs) → (us : List X) × (vs : List X) × (xs ≡ us ++ vs) × AllZip R us ys × AllZip R vs zs
+zip_apart R xs [] zs z = ([], xs, refl, tt, z)
+zip_apart R [] (y ∷ ys) zs z = absurd z
+zip_apart R (x ∷ xs) (y ∷ ys) zs z = let r = zip_apart R xs ys zs z.1 in (x ∷ r.0, r.1, ap (λ l. x ∷ l) r.2, (z.0, r.3), r.4)
+
+-- those that don't stay as they are, with what is left of them, and the others, which are left alone
+pub keeps_all : (part : Part) (slots : List Slot) (meeting : Meeting) (after : List Part) (lost : List Slot) (left : List Given)
+    → KeepsSome part slots meeting.held after (taken_at lost meeting.answers.items) left
+    → ((given : Given) → Contains meeting.answers.items given → is_touched lost (slot_of given.slot) ≡ false → IsLeftAlone slots meeting.held after part given)
+    → KeepsAll part slots (Some meeting) after (left_without lost meeting.answers.items ++ left)
+keeps_all part slots meeting after lost left k alone own key more e o m s t =
+    let answers = meeting.answers.items in
+    let test : Given → Bool = λ given. is_touched lost (slot_of given.slot) in
+    let out = taken_at lost answers in
+    let others = left_without lost answers in
+    let old = standing own.taken own.answers in
+    let now = own.taken ++ more in
+    let seen : Answer → Bool = λ x. in_view now x.claim.part in
+    let given = given_reordered key own.taken old answers (out ++ others) (re_parts test answers) m.answers in
+    let parts = zip_apart (IsGiven key own.taken) given.order out others given.each in
+    let us = parts.0 in let vs = parts.1 in
+    let same : Reordered old (us ++ vs) = subst (Reordered old) parts.2 given.same in
+    let known : (a : Answer) → Contains (us ++ vs) a → Contains own.answers a × (in_view own.taken a.claim.part ≡ true) =
+    λ a c. filter_at (λ (x : Answer). in_view own.taken x.claim.part) own.answers a (re_in (us ++ vs) old (re_back old (us ++ vs) same) a c) in
+    let first = k own key more e o m.held s t us (λ a c. known a (Contains-append_left us vs a c)) parts.3 in
+    let second = all_alone key own more o slots t meeting.held after part e m.held s vs others (λ a c. known a (Contains-append_right us vs a c))
+    (λ g c. let f = filter_at (λ x. not (test x)) answers g c in alone g f.0 (not-true _ f.1)) parts.4 in
+    let stood : standing now (us ++ vs) ≡ standing now us ++ vs = filter-append seen us vs ∙ ap (λ l. standing now us ++ l) second.0 in
+    record {
+      order = vs ++ standing now us;
+      same = re_then (standing now old) (standing now us ++ vs) (vs ++ standing now us) (subst (Reordered (standing now old)) stood (re_filter seen old (us ++ vs) same)) (re_swapped (standing now us) vs);
+      each = zip_both (IsGiven key now) vs others (standing now us) left second.1 first;
+    }
 
 -- of a meeting that was never heard of there are none
-pub keeps_new : (part : Part) (slots : List Slot) (after : List Part) → KeepsAll part slots None after []
-keeps_new part slots after own key more e o m s t = subst (λ (l : List Answer). AllZip (IsGiven key (own.taken ++ more)) l []) (sym (ap (standing (own.taken ++ more)) (none_stood own.answers (λ a c. o.known a c)))) tt
+pub keeps_new : (part : Part) (slots : List Slot) (after : List Part) (kept : List Given) → kept ≡ [] → KeepsAll part slots None after kept
+keeps_new part slots after kept none own key more e o m s t =
+    given_zip key (own.taken ++ more) (standing (own.taken ++ more) (standing own.taken own.answers)) kept
+    (subst (AllZip (IsGiven key (own.taken ++ more)) (standing (own.taken ++ more) (standing own.taken own.answers))) (sym none)
+    (subst (λ (l : List Answer). AllZip (IsGiven key (own.taken ++ more)) l []) (sym (ap (standing (own.taken ++ more)) (none_stood own.answers (λ a c. o.known a c)))) tt))
   where
     none_stood : (xs : List Answer) → ((a : Answer) → Contains xs a → Contains own.taken a.claim.part) → standing own.taken xs ≡ []
     none_stood [] h = refl

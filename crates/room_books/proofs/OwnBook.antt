@@ -10,7 +10,7 @@ use Rattle.itip_order.proofs.Order.{is_eq_true}
 use Rattle.profile.specs.rooms.Revisions.{Part, in_view, is_whole, same_meeting, meeting_cmp}
 use Rattle.profile.specs.rooms.Rooms.{Claim, Answer, Book, Withdrawn, Repeated, Stale, kind_of, kind_of_outcome, is_fresh, is_same, is_set, lacks_whole, wants_whole, parts_of, asked, answered}
 use Rattle.room_books.specs.declared.meeting.MeetingKey.{MeetingKey}
-use Rattle.room_books.specs.declared.meeting.Meeting.{Meeting}
+use Rattle.room_books.specs.declared.kept.Meeting.{Meeting}
 use Rattle.room_books.specs.Standing.{is_of, of_meeting, answers_of, book_of, book_after, AreFitting, IsOwn, Stands}
 use Rattle.room_books.proofs.Runs.{new_answer}
 use Rattle.room_books.proofs.Meetings.{view_of, of_more_own, filter_same, meeting_of_key}

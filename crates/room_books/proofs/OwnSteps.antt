@@ -22,8 +22,11 @@ use Rattle.room_books.specs.declared.meeting.Given.{Given}
 use Rattle.room_books.specs.declared.taking.Claim.{Claim as Asking}
 use Rattle.room_books.specs.Takings.{claim_said, booked_in, IsAccepted, IsDecided}
 use Rattle.room_books.specs.Views.{booked_list, all_singles, slots_of, outcome_of}
-use Rattle.room_books.specs.Standing.{is_of, AreFitting, IsOwn, IsGiven, Pairwise, standing}
-use Rattle.room_books.proofs.Confirms.{zip_confirms, standing_confirms}
+use Rattle.room_books.specs.Standing.{is_of, AreFitting, IsOwn, AreGiven, IsGiven, Pairwise, standing}
+use Rattle.room_books.proofs.Confirms.{given_confirms, zip_confirms}
+use Rattle.room_books.proofs.Givens.{given_append, given_zip}
+use Rattle.room_books.proofs.Reordering.{re_back, re_in, re_left, re_pairs}
+use Rattle.room_books.proofs.Same.{AreSame}
 use Rattle.room_books.proofs.Runs.{new_answer}
 use Rattle.room_books.proofs.Loops.{zip_both}
 use Rattle.room_books.proofs.Own.{filter_within, filter_all, booked_all, left_booked, one_confirmed}
@@ -112,10 +115,11 @@ module _ (k : MeetingKey) (own : Book) (is_own : IsOwn k own) (claims : List Cla
       let all : standing t new ≡ new = filter_all seen new (λ a c. (new_answer own.taken t moment outcome claims a c).seen) in
       filter-append seen own.answers new ∙ (λ i. old i ++ all i)
 
-  pub given_after : (outcome : messages.Outcome) (kept given : List Given) → AllZip (IsGiven k t) stayed kept → AllZip (IsGiven k t) (answered moment outcome asked_now) given
-      → AllZip (IsGiven k t) (standing t (own.answers ++ answered moment outcome asked_now)) (kept ++ given)
+  pub given_after : (outcome : messages.Outcome) (kept given : List Given) → AreGiven k t stayed kept → AllZip (IsGiven k t) (answered moment outcome asked_now) given
+      → AreGiven k t (standing t (own.answers ++ answered moment outcome asked_now)) (kept ++ given)
   given_after outcome kept given z w =
-      subst (λ (l : List Answer). AllZip (IsGiven k t) l (kept ++ given)) (sym (standing_after outcome)) (zip_both (IsGiven k t) stayed kept (answered moment outcome asked_now) given z w)
+      subst (λ (l : List Answer). AreGiven k t l (kept ++ given)) (sym (standing_after outcome))
+      (given_append k t stayed (answered moment outcome asked_now) kept given z (given_zip k t (answered moment outcome asked_now) given w))
 
   -- each of them is to a part in the view, and no two to one part
   stayed_at : (a : Answer) → Contains stayed a → Contains own.answers a × (in_view own.taken a.claim.part ≡ true) × (in_view t a.claim.part ≡ true)
@@ -141,15 +145,20 @@ module _ (k : MeetingKey) (own : Book) (is_own : IsOwn k own) (claims : List Cla
       (λ a b c d e. both_ways _ (new_answer own.taken t moment Accept claims b d).gone (subst (λ (p : Part). in_view own.taken p ≡ true) e (stayed_at a c).1))
 
   -- what the meeting would confirm, were they accepted
-  pub would_confirm : (kept candidates : List Given) → AllZip (IsGiven k t) stayed kept → AllZip (IsGiven k t) candidates_said candidates
-      → confirmed_in t (own.answers ++ candidates_said) ≡ booked_list k (all_singles kept ++ all_singles candidates)
+  pub would_confirm : (kept candidates : List Given) → AreGiven k t stayed kept → AllZip (IsGiven k t) candidates_said candidates
+      → AreSame (confirmed_in t (own.answers ++ candidates_said)) (booked_list k (all_singles kept ++ all_singles candidates))
   would_confirm kept candidates z w =
-      zip_confirms k t (own.answers ++ candidates_said) (kept ++ candidates) (given_after Accept kept candidates z w)
-      ∙ ap (booked_list k) (flat_map-append (λ (g : Given). g.singles.items) kept candidates)
+      subst (λ (l : List Single). AreSame (confirmed_in t (own.answers ++ candidates_said)) (booked_list k l)) (flat_map-append (λ (g : Given). g.singles.items) kept candidates)
+      (zip_confirms k t (own.answers ++ candidates_said) (kept ++ candidates) (given_after Accept kept candidates z w))
 
-  pub slots_differ : Pairwise OtherPart own.answers → (kept candidates : List Given) → AllZip (IsGiven k t) stayed kept → AllZip (IsGiven k t) candidates_said candidates
+  pub slots_differ : Pairwise OtherPart own.answers → (kept candidates : List Given) → AreGiven k t stayed kept → AllZip (IsGiven k t) candidates_said candidates
       → AllPairs ◌≢◌ (slots_of (all_singles kept ++ all_singles candidates))
   slots_differ once kept candidates z w =
+      let order = z.order ++ candidates_said in
+      let same = re_left candidates_said stayed z.order z.same in
+      let confirms : confirmed_in t order ≡ booked_list k (all_singles kept ++ all_singles candidates) =
+      given_confirms k t order (kept ++ candidates) (zip_both (IsGiven k t) z.order kept candidates_said candidates z.each w) ∙ ap (booked_list k) (flat_map-append (λ (g : Given). g.singles.items) kept candidates) in
       slots_apart k (all_singles kept ++ all_singles candidates)
-      (subst (Pairwise OtherSlot) (ap (confirmed_in t) (sym (standing_after Accept)) ∙ standing_confirms t (own.answers ++ candidates_said) ∙ would_confirm kept candidates z w)
-      (confirmed_apart k t (stayed ++ candidates_said) each_seen (parts_differ once)))
+      (subst (Pairwise OtherSlot) confirms
+      (confirmed_apart k t order (λ a c. each_seen a (re_in order (stayed ++ candidates_said) (re_back (stayed ++ candidates_said) order same) a c))
+      (re_pairs OtherPart (λ a b d e. d (sym e)) (stayed ++ candidates_said) order same (parts_differ once))))

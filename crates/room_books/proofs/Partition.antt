@@ -9,7 +9,7 @@ use Rattle.profile.specs.rooms.Revisions.{Part}
 use Rattle.profile.specs.rooms.Rooms.{Answer, is_confirmed, left_of, confirmed_in}
 use Rattle.itip_order.proofs.Lists.{in_cons, in_head, in_tail, none_in_nil, filter_at}
 use Rattle.room_books.specs.declared.meeting.MeetingKey.{MeetingKey}
-use Rattle.room_books.specs.declared.meeting.Meeting.{Meeting}
+use Rattle.room_books.specs.declared.kept.Meeting.{Meeting}
 use Rattle.room_books.specs.Views.{same_key, confirmed_of, all_confirmed}
 use Rattle.room_books.specs.Standing.{is_of, answers_of}
 use Rattle.room_books.proofs.Meetings.{one_meeting, filter_none}
@@ -66,7 +66,7 @@ differs k (x ∷ xs) d e c = elim (in_cons x xs e c) [
 -- what the answers confirm is what the meetings do, where each does what its own answers confirm
 pub partition : (t : List Part) (es : List (MeetingKey × Meeting)) (xs : List Answer) → IsDistinct same_key (keys_of es)
     → ((a : Answer) → Contains xs a → is_confirmed t a ≡ true → (e : MeetingKey × Meeting) × Contains es e × (is_of e.0 a.claim.part ≡ true))
-    → ((e : MeetingKey × Meeting) → Contains es e → confirmed_in t (answers_of e.0 xs) ≡ confirmed_of e)
+    → ((e : MeetingKey × Meeting) → Contains es e → AreSame (confirmed_in t (answers_of e.0 xs)) (confirmed_of e))
     → AreSame (confirmed_in t xs) (all_confirmed es)
 partition t [] xs d covered each =
     let none : confirmed_in t xs ≡ [] = ap (flat_map (left_of t)) (filter_none (is_confirmed t) xs (λ a c. false_from_ne_true _ (λ h. none_in_nil _ (covered a c h).1))) in
@@ -83,8 +83,8 @@ partition t (e ∷ es) xs d covered each =
       | inl here ↦ absurd (both_ways _ (not-true _ from.1) (subst (λ (z : MeetingKey × Meeting). is_of z.0 a.claim.part ≡ true) (sym here) found.2))
       | inr there ↦ (found.0, there, found.2)
     ] in q)
-    (λ x c. ap (confirmed_in t) (answers_apart e.0 x.0 xs (differs e.0 es (IsDistinct-head same_key e.0 (keys_of es) d) x c)) ∙ each x (in_tail e es x c)) in
-    let first : AreSame (confirmed_in t (answers_of e.0 xs)) (confirmed_of e) = subst (AreSame (confirmed_in t (answers_of e.0 xs))) (each e (in_head e es)) (same_itself _) in
+    (λ x c. subst (λ (l : List Answer). AreSame (confirmed_in t l) (confirmed_of x)) (sym (answers_apart e.0 x.0 xs (differs e.0 es (IsDistinct-head same_key e.0 (keys_of es) d) x c))) (each x (in_tail e es x c))) in
+    let first : AreSame (confirmed_in t (answers_of e.0 xs)) (confirmed_of e) = each e (in_head e es) in
     same_then (confirmed_in t xs) (confirmed_in t (answers_of e.0 xs) ++ confirmed_in t rest) (all_confirmed (e ∷ es))
     (confirmed_split t own xs)
     (same_append (confirmed_in t (answers_of e.0 xs)) (confirmed_of e) (confirmed_in t rest) (all_confirmed es) first others)

@@ -15,13 +15,13 @@ use Rattle.indexmap.specs.IndexMap.{insert_entry}
 use Rattle.ical_values.specs.Octets.{address_octets, text_octets}
 use Rattle.profile.specs.checker.Instances.{Key, Booked, IsClear}
 use Rattle.room_books.specs.declared.meeting.MeetingKey.{MeetingKey}
-use Rattle.room_books.specs.declared.meeting.Meeting.{Meeting}
+use Rattle.room_books.specs.declared.kept.Meeting.{Meeting}
 use Rattle.cal_events.specs.declared.instance.Single.{Single}
 use Rattle.cal_events.specs.declared.sweep.Span.{Span}
 use Rattle.room_books.specs.declared.timeline.Busy.{Busy}
 use Rattle.room_books.specs.Instants.{HaveInstant, AreSeparate}
-use Rattle.room_books.specs.Views.{same_key, is_other, booked_of, booked_list, slots_of, confirmed_singles, confirmed_of, confirmed_at, singles_in, singles_by, others, all_confirmed, span_of, IsFree}
-use Rattle.room_books.specs.Timelines.{is_place, HoldsInstants, holds_instants, busy_in, has_single, AreAt, IsTimelineOf, IsSharedIn, IsFreeBut, IsChanged}
+use Rattle.room_books.specs.Views.{same_key, is_other, booked_of, booked_list, slots_of, confirmed_singles, confirmed_of, confirmed_at, singles_in, singles_by, others, all_confirmed, span_of}
+use Rattle.room_books.specs.Timelines.{is_place, HoldsInstants, holds_instants, busy_in, has_single, AreAt, IsTimelineOf, IsFreeBut, IsChanged}
 use Rattle.room_books.proofs.Timelines.{has_at, has_from, single_at, single_from, holds_from}
 use Rattle.room_books.proofs.Keys.{key_congr, only_place, place_is_own}
 
@@ -84,7 +84,7 @@ others_differ k es s b c =
 -- ---- the other meetings
 
 module _ (k : MeetingKey) (es : List Entry) (distinct : IsDistinct same_key (keys_of es)) (own : Option ℕ) (own_is : own ≡ position (same_key k) (keys_of es)) where
-  key_at : (q : ℕ) (e : Entry) → slice_get es q ≡ Some e → is_place own q ≡ same_key k e.0
+  pub key_at : (q : ℕ) (e : Entry) → slice_get es q ≡ Some e → is_place own q ≡ same_key k e.0
   key_at q e h =
       let within = slice_get_within es q e h in
       let n : q < length (keys_of es) = omega (arith, within, length-map es (λ (x : Entry). x.0)) in
@@ -125,15 +125,6 @@ holds_shared a b t h = let s = h.in_second in let e = h.before in let x = s.0 in
 -- what is there is of an entry
 pub real_entry : (es : List Entry) (items : List Busy) → IsTimelineOf (confirmed_at es) items → (b : Busy) → Contains items b → (e : Entry) × (slice_get es b.place ≡ Some e) × Contains (confirmed_singles e.1) b.single
 real_entry es items timeline b c = single_of_entry (slice_get es b.place) b.single (real (confirmed_at es) items timeline b c)
-
-module _ (k : MeetingKey) (es : List Entry) (distinct : IsDistinct same_key (keys_of es)) (own : Option ℕ) (own_is : own ≡ position (same_key k) (keys_of es))
-    (items : List Busy) (timeline : IsTimelineOf (confirmed_at es) items) where
-  -- what shares no instant with what is there shares none with what the others have confirmed
-  pub free_of_others : (span : Span) → IsSharedIn own items span None → IsFree (others k es) span
-  free_of_others span none b t c h =
-      let o = other_place k es distinct own own_is b c in
-      let shared : HaveInstant span o.1.span t = subst (λ (z : Span). HaveInstant span z t) (sym o.3) h in
-      none (busy_in o.0 o.1) t (there (confirmed_at es) items timeline o.0 o.1 o.2 (holds_shared span o.1.span t shared)) o.4 shared
 
 -- ---- the count
 
@@ -240,7 +231,7 @@ are_at k es items timeline x e = timeline.held x ∙ ap (λ l. holds_instants x.
 
 module _ (k : MeetingKey) (es : List Entry) (distinct : IsDistinct same_key (keys_of es)) where
   -- a key in another place is of another meeting
-  other_key : (q : ℕ) (e : Entry) → slice_get es q ≡ Some e → q ≢ place_of k es → same_key k e.0 ≡ false
+  pub other_key : (q : ℕ) (e : Entry) → slice_get es q ≡ Some e → q ≢ place_of k es → same_key k e.0 ≡ false
   other_key q e at n = elim (cases_Bool (same_key k e.0)) [
     | inl same ↦
         let within = slice_get_within es q e at in

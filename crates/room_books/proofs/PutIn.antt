@@ -8,10 +8,10 @@ use Rattle.std.proofs.lemmas.List.{length-map}
 use Rattle.indexmap.specs.IndexMap.{insert_entry, set_value_at}
 use Rattle.profile.specs.rooms.Revisions.{Part}
 use Rattle.room_books.specs.declared.meeting.MeetingKey.{MeetingKey}
-use Rattle.room_books.specs.declared.meeting.Meeting.{Meeting}
-use Rattle.room_books.specs.declared.meeting.Given.{Given}
+use Rattle.room_books.specs.declared.kept.Meeting.{Meeting}
 use Rattle.room_books.specs.Views.{same_key}
-use Rattle.room_books.specs.Takings.{held_after, IsMade}
+use Rattle.room_books.specs.declared.kept.Changes.{Changes}
+use Rattle.room_books.specs.Takings.{answers_by, answers_then, held_after, IsMade}
 use Rattle.room_books.specs.Standing.{IsPutIn, IsRenewed}
 use Rattle.std.specs.Cmp.{both_ways as same_tests}
 use Rattle.room_books.proofs.Keys.{key_congr}
@@ -60,25 +60,25 @@ there n len place e = elim (cases_lt n len) [
     none_is : (a : ℕ) → None ≡ Some a → ⊥
     none_is a e = absurd (cc)
 
-pub renewed_put : (k : MeetingKey) (more : List Part) (answers : List Given) (place : ℕ) (old new : Entries) → position (same_key k) (keys_of old) ≡ Some place → IsRenewed place more answers old new
-    → (place ≡ place_of k old) × IsPutIn k more answers old new
-renewed_put k more answers place old new e r =
+pub renewed_put : (k : MeetingKey) (more : List Part) (changes : Changes) (place : ℕ) (old new : Entries) → position (same_key k) (keys_of old) ≡ Some place → IsRenewed place more changes old new
+    → (place ≡ place_of k old) × IsPutIn k more changes old new
+renewed_put k more changes place old new e r =
     let is = there (place_of k old) (length (keys_of old)) place e in
     let at = sym is.1 in (
       at,
       record {
         meeting = r.meeting;
-        made = subst (λ (o : Option Meeting). IsMade (held_after o more) answers r.meeting) (sym (found k old ∙ ap (slice_get (values_of old)) is.1 ∙ r.was)) r.made;
+        made = subst (λ (o : Option Meeting). IsMade (held_after o more) (answers_then (answers_by o) changes) r.meeting) (sym (found k old ∙ ap (slice_get (values_of old)) is.1 ∙ r.was)) r.made;
         entries = r.entries ∙ ap (λ n. set_value_at old n r.meeting) at ∙ set_put k r.meeting old (omega (arith, is.0, length-map old (λ x. x.0)));
       },
     )
 
 -- where it isn't
-pub new_put : (k : MeetingKey) (more : List Part) (answers : List Given) (old new : Entries) (m : Meeting) → position (same_key k) (keys_of old) ≡ None → IsMade more answers m → new ≡ insert_entry same_key old k m
-    → IsPutIn k more answers old new
-new_put k more answers old new m e made put = record {
+pub new_put : (k : MeetingKey) (more : List Part) (changes : Changes) (old new : Entries) (m : Meeting) → position (same_key k) (keys_of old) ≡ None → IsMade more (answers_then [] changes) m → new ≡ insert_entry same_key old k m
+    → IsPutIn k more changes old new
+new_put k more changes old new m e made put = record {
   meeting = m;
-  made = subst (λ (o : Option Meeting). IsMade (held_after o more) answers m) (sym (found k old ∙ missing (place_of k old) (length (keys_of old)) (values_of old) (length-map old (λ x. x.0) ∙ sym (length-map old (λ x. x.1))) e)) made;
+  made = subst (λ (o : Option Meeting). IsMade (held_after o more) (answers_then (answers_by o) changes) m) (sym (found k old ∙ missing (place_of k old) (length (keys_of old)) (values_of old) (length-map old (λ x. x.0) ∙ sym (length-map old (λ x. x.1))) e)) made;
   entries = put;
 }
   where

@@ -12,7 +12,7 @@ use Rattle.itip_order.proofs.Lists.{none_in_nil, in_head, in_tail, filter_at}
 use Rattle.ical_values.specs.Octets.{address_octets, text_octets}
 use Rattle.profile.specs.checker.Instances.{Booked, IsClear}
 use Rattle.room_books.specs.declared.meeting.MeetingKey.{MeetingKey}
-use Rattle.room_books.specs.declared.meeting.Meeting.{Meeting}
+use Rattle.room_books.specs.declared.kept.Meeting.{Meeting}
 use Rattle.cal_events.specs.declared.instance.Single.{Single}
 use Rattle.room_books.specs.Views.{same_key, is_other, booked_of, booked_list, confirmed_singles, confirmed_of, singles_by, others, all_confirmed}
 use Rattle.room_books.proofs.Places.{in_flat, flat_from, in_booked, booked_from, no_others, others_count}

@@ -22,17 +22,19 @@ use Rattle.itip_order.proofs.Lasting.{view_one}
 use Rattle.itip_order.proofs.Lists.{in_head, in_tail, filter_at, filter_from}
 use Rattle.itip_order.proofs.Registers.{same_part_refl}
 use Rattle.room_books.specs.declared.meeting.MeetingKey.{MeetingKey}
-use Rattle.room_books.specs.declared.meeting.Meeting.{Meeting}
+use Rattle.room_books.specs.declared.kept.Meeting.{Meeting}
 use Rattle.room_books.specs.declared.meeting.Given.{Given}
 use Rattle.room_books.specs.declared.taking.Claim.{Claim}
 use Rattle.room_books.specs.Views.{outcome_of}
 use Rattle.room_books.specs.Takings.{claim_said, claims_said}
-use Rattle.room_books.specs.Standing.{AreFitting, IsOwn, IsGiven, Meets, standing}
-use Rattle.room_books.specs.BySlot.{AreSame}
+use Rattle.room_books.specs.Standing.{AreFitting, IsOwn, Meets, standing}
+use Rattle.room_books.specs.BySlot.{Reordered}
 use Rattle.room_books.specs.Replying.{AreShown, CanTell, AllTell, IsEventIn, ShowsGiven, AreTold, WritesAnswers, IsReplyOf}
-use Rattle.room_books.proofs.Loops.{zip_push, zip_to, zip_from, one_more}
+use Rattle.room_books.proofs.Givens.{given_from, given_to}
+use Rattle.room_books.proofs.Loops.{zip_push, one_more}
 use Rattle.room_books.proofs.Meetings.{same_place_of}
 use Rattle.room_books.proofs.BySlot.{in_mapped}
+use Rattle.room_books.proofs.Reordering.{re_back, re_in}
 
 -- ---- lists, place by place
 
@@ -73,32 +75,37 @@ told_more room answers all i claim old mid new h e before one tell =
 
 -- ---- the same answers in another order
 
-can_tell_from : (xs ys : List Given) (part : Part) → AreSame xs ys → CanTell xs part → CanTell ys part
+can_tell_from : (xs ys : List Given) (part : Part) → Reordered xs ys → CanTell ys part → CanTell xs part
 can_tell_from xs ys part same can = record {
   slot = can.slot;
   given = can.given;
-  kept = (same can.given).0 can.kept;
+  kept = re_in ys xs (re_back xs ys same) can.given can.kept;
   same = can.same;
-  dated = λ other c. can.dated other ((same other).1 c);
+  dated = λ other c. can.dated other (re_in xs ys same other c);
 }
 
-shows_from : (room : List ℕ) (xs ys : List Given) (part : Part) (lines : List (List ℕ)) → AreSame xs ys → ShowsGiven room ys part lines → ShowsGiven room xs part lines
-shows_from room xs ys part lines same s = record { given = s.given; kept = (same s.given).1 s.kept; same = s.same; shows = s.shows }
+shows_from : (room : List ℕ) (xs ys : List Given) (part : Part) (lines : List (List ℕ)) → Reordered xs ys → ShowsGiven room xs part lines → ShowsGiven room ys part lines
+shows_from room xs ys part lines same s = record { given = s.given; kept = re_in xs ys same s.given s.kept; same = s.same; shows = s.shows }
 
-told_from : (room : List ℕ) (xs ys : List Given) (are : List (Bor Claim)) (events : List (List (List ℕ))) → AreSame xs ys → AreTold room ys are events → AreTold room xs are events
+told_from : (room : List ℕ) (xs ys : List Given) (are : List (Bor Claim)) (events : List (List (List ℕ))) → Reordered xs ys → AreTold room xs are events → AreTold room ys are events
 told_from room xs ys [] [] same z = tt
 told_from room xs ys [] (e ∷ events) same z = absurd z
 told_from room xs ys (c ∷ are) [] same z = absurd z
 told_from room xs ys (c ∷ are) (e ∷ events) same z = (shows_from room xs ys (part_of c.now.part) e same z.0, told_from room xs ys are events same z.1)
 
+reply_from : (room : List ℕ) (xs ys : List Given) (are : List (Bor Claim)) (octets : List ℕ) → Reordered xs ys → (AllTell xs are → IsReplyOf room xs are octets) → AllTell ys are → IsReplyOf room ys are octets
+reply_from room xs ys are octets same f tell =
+    let r = f (λ claim c. can_tell_from xs ys (part_of claim.now.part) same (tell claim c)) in
+    record { events = r.events; each = told_from room xs ys are r.events same r.each; is = r.is }
+
 -- the whole reply
-pub reply_whole : (room : List ℕ) (answers sorted : List Given) (are : List (Bor Claim)) (empty opened mid closed : List ℕ) → AreSame answers sorted → empty ≡ [] → opened ≡ empty ++ written (opening_lines (Some (codes "REPLY")))
-    → (AllTell sorted are → WritesAnswers room sorted are opened mid) → closed ≡ mid ++ folded (codes "END:VCALENDAR") → AllTell answers are → IsReplyOf room answers are closed
-reply_whole room answers sorted are empty opened mid closed same e0 e1 f e2 tell =
-    let w = f (λ claim c. can_tell_from answers sorted (part_of claim.now.part) same (tell claim c)) in
+pub reply_whole : (room : List ℕ) (answers : List Given) (are : List (Bor Claim)) (empty opened mid closed : List ℕ) → empty ≡ [] → opened ≡ empty ++ written (opening_lines (Some (codes "REPLY")))
+    → (AllTell answers are → WritesAnswers room answers are opened mid) → closed ≡ mid ++ folded (codes "END:VCALENDAR") → AllTell answers are → IsReplyOf room answers are closed
+reply_whole room answers are empty opened mid closed e0 e1 f e2 tell =
+    let w = f tell in
     record {
       events = w.0;
-      each = told_from room answers sorted are w.0 same w.1;
+      each = w.1;
       is = whole folded (opening_lines (Some (codes "REPLY"))) (flat_map (λ lines. lines) w.0) (codes "END:VCALENDAR") empty opened mid closed e0 e1 w.2 e2;
     }
 
@@ -119,7 +126,7 @@ module _ (key : MeetingKey) (own : Book) (meeting : Meeting) (claims : List room
   can_tell =
       let a = meets.answered part (and_parts (is_set part) (in_view own.taken part) asked.1).0 seen in
       let stands = filter_from (λ x. in_view own.taken x.claim.part) own.answers a.0 a.1 (ap (in_view own.taken) a.2 ∙ seen) in
-      let g = zip_to (IsGiven key own.taken) (standing own.taken own.answers) meeting.answers.items a.0 meets.answers stands in
+      let g = given_to key own.taken (standing own.taken own.answers) meeting.answers.items a.0 meets.answers stands in
       record {
         slot = fitting.dated claim asked.0;
         given = g.0;
@@ -130,7 +137,7 @@ module _ (key : MeetingKey) (own : Book) (meeting : Meeting) (claims : List room
 
   pub shows_answer : (room : List ℕ) (lines : List (List ℕ)) → ShowsGiven room meeting.answers.items part lines → ShowsAnswer room own claim lines
   shows_answer room lines s =
-      let a = zip_from (IsGiven key own.taken) (standing own.taken own.answers) meeting.answers.items s.given meets.answers s.kept in
+      let a = given_from key own.taken (standing own.taken own.answers) meeting.answers.items s.given meets.answers s.kept in
       let is = filter_at (λ x. in_view own.taken x.claim.part) own.answers a.0 a.1 in
       let place = same_place_of key a.0.claim.part part (is_own.taken a.0.claim.part (is_own.known a.0 is.0)) (fitting.of_it claim asked.0) (sym a.2.slot ∙ s.same) in
       let same = view_one own.taken a.0.claim.part part is.1 seen place in
@@ -162,11 +169,11 @@ reply_shows room key own meeting claims are octets f o m s r =
 some_shown : (n : ℕ) → 0 < n → IsTrue (not (n == 0))
 some_shown n h = grind (arith, nat_tests)
 
-pub replies_by : (room : List ℕ) (key : MeetingKey) (own : Book) (meeting : Meeting) (claims : List Claim) (are : List (Bor Claim)) (these : List (Bor Claim)) (answers : List Given) (octets : List ℕ) → these ≡ are → answers ≡ meeting.answers.items
+pub replies_by : (room : List ℕ) (key : MeetingKey) (own : Book) (meeting : Meeting) (claims : List Claim) (are : List (Bor Claim)) (these : List (Bor Claim)) (answers : List Given) (octets : List ℕ) → these ≡ are → Reordered answers meeting.answers.items
     → 0 < length are → AreFitting key (claims_said claims) → IsOwn key own → Meets own key meeting → AreShown own.taken claims are
     → (AllTell answers these → IsReplyOf room answers these octets) → Replies room own (claims_said claims) (Some octets)
 replies_by room key own meeting claims are these answers octets e a n f o m s r = (
   subst (λ (l : List rooms.Claim). IsTrue (not (length l == 0))) s (some_shown (length (map (λ x. claim_said x.now) are)) (omega (arith, n, length-map are (λ x. claim_said x.now)))),
   reply_shows room key own meeting claims are octets f o m s
-      (subst (λ (xs : List Given). AllTell xs are → IsReplyOf room xs are octets) a (subst (λ (xs : List (Bor Claim)). AllTell answers xs → IsReplyOf room answers xs octets) e r)),
+      (reply_from room answers meeting.answers.items are octets a (subst (λ (xs : List (Bor Claim)). AllTell answers xs → IsReplyOf room answers xs octets) e r)),
 )

@@ -1,7 +1,7 @@
 -- What holds of all meetings of a room, when one of them is put in its place.
 use Rattle.std.proofs.Common.{◌≡◌, ◌≤◌, ℕ, ℤ, Bool, true, false, ◌&&◌, cond, List, [], ◌∷◌, ◌++◌, inl, inr, Option, None, Some, refl, sym, ap₂, ◌∙◌, subst, length, arith, length-append, append-nil}
-use Rattle.std.specs.List.{Contains, IsDistinct, AllPairs, AllZip}
-use Rattle.std.specs.Prelude.{◌≢◌, if◌then◌else◌, IfOk, Result, Ok, Err}
+use Rattle.std.specs.List.{Contains, IsDistinct, AllZip}
+use Rattle.std.specs.Prelude.{if◌then◌else◌}
 use Rattle.std.specs.Map.{lookup, keys_of}
 use Rattle.std.proofs.lemmas.Bool.{true≢false}
 use Rattle.std.proofs.lemmas.Grind.{flat_map-append}
@@ -12,16 +12,16 @@ use Rattle.profile.specs.checker.Instances.{Booked, IsClear}
 use Rattle.profile.specs.rooms.Kept.{Replies, Refreshes}
 use Rattle.profile.specs.rooms.Messages as messages
 use Rattle.profile.specs.rooms.Messages.{Accept, Busy, SeriesLimit, SinglesLimit}
-use Rattle.profile.specs.rooms.Rooms.{Book, Decides, Kind, NotAddressed, is_accept}
+use Rattle.profile.specs.rooms.Rooms.{Book, Kind, NotAddressed, is_accept}
 use Rattle.room_books.specs.declared.meeting.Outcome.{Outcome}
 use Rattle.room_books.specs.declared.meeting.Given.{Given}
 use Rattle.room_books.specs.Standing.{Stands, StepsWith}
 use Rattle.room_books.specs.Takings.{IsDecided, IsDecision}
 use Rattle.room_books.specs.declared.meeting.MeetingKey.{MeetingKey}
-use Rattle.room_books.specs.declared.meeting.Meeting.{Meeting}
+use Rattle.room_books.specs.declared.kept.Meeting.{Meeting}
 use Rattle.cal_events.specs.declared.instance.Single.{Single}
 use Rattle.room_books.specs.Instants.{AreSeparate, IsPartOf}
-use Rattle.room_books.specs.Views.{same_key, booked_of, booked_list, all_singles, confirmed_singles, singles_by, slots_of, outcome_of, others, all_confirmed, AreAllApart, MayJoin}
+use Rattle.room_books.specs.Views.{same_key, booked_of, booked_list, all_singles, confirmed_singles, singles_by, outcome_of, others, all_confirmed, AreAllApart, MayJoin}
 use Rattle.room_books.proofs.Places.{others_count}
 use Rattle.room_books.proofs.Putting.{clear_kept}
 
@@ -49,13 +49,6 @@ kept_joins k es kept distinct clear apart few part = record {
   clear = clear_kept k es kept part.within clear;
   separate = part.separate (found_apart k es apart);
 }
-
--- a decision, of the lists that it was made of
-pub decision_from : {E : Type 0} (r : Result Outcome E) (all : List Booked) (k : MeetingKey) (a b : List Single)
-    → IfOk r (λ outcome. AllPairs ◌≢◌ (slots_of (a ++ b)) → Decides (all ++ booked_list k (a ++ b)) (outcome_of outcome))
-    → IfOk r (λ outcome. outcome_of outcome ≡ Accept → MayJoin all k (a ++ b)) → IfOk r (IsDecision all k a b)
-decision_from (Ok outcome) all k a b d j = record { decides = d; joins = j }
-decision_from (Err e) all k a b d j = tt
 
 -- ---- what new answers confirm
 

@@ -8,15 +8,15 @@ use Rattle.std.proofs.lemmas.List.Elements.{filter-append, Contains-append_cases
 use Rattle.indexmap.specs.IndexMap.{insert_entry}
 use Rattle.itip_order.proofs.Lists.{in_head, in_tail, filter_at}
 use Rattle.profile.specs.rooms.Revisions.{Part, in_view}
-use Rattle.profile.specs.rooms.Rooms.{Claim, Answer, Book, Kind, is_set, parts_of, asked, answered, shown, wants_whole}
+use Rattle.profile.specs.rooms.Rooms.{Claim, Answer, Book, Kind, is_set, parts_of, asked, answered, shown}
 use Rattle.profile.specs.rooms.Kept.{Replies, Refreshes, ShowsAnswer, first_parts}
 use Rattle.itip_order.specs.Registers.{StandsFor as HoldsAll}
 use Rattle.room_books.specs.Takings.{StandsAt}
 use Rattle.room_books.proofs.Afters.{stands_at}
 use Rattle.room_books.specs.declared.meeting.MeetingKey.{MeetingKey}
-use Rattle.room_books.specs.declared.meeting.Meeting.{Meeting}
+use Rattle.room_books.specs.declared.kept.Meeting.{Meeting}
 use Rattle.room_books.specs.Views.{same_key}
-use Rattle.room_books.specs.Standing.{SlotDated, is_of, AreFitting, of_meeting, answers_of, book_of, IsOwn, IsGiven, Meets, MeetsAt, Covers, AreKeysOf, Stands, book_after, standing, IsMeetingAfter, StepsWith}
+use Rattle.room_books.specs.Standing.{SlotDated, is_of, AreFitting, of_meeting, answers_of, book_of, IsOwn, IsGiven, Meets, MeetsAt, Covers, AreKeysOf, Stands, book_after, IsMeetingAfter, StepsWith}
 use Rattle.room_books.proofs.Arrivals.{arrives}
 use Rattle.room_books.proofs.Meetings.{key_from, is_of_same, one_meeting, of_more_other, filter_none, view_of}
 use Rattle.room_books.proofs.Pairs.{pairs_append, map_at}
@@ -76,8 +76,12 @@ book_same k q book e = λ i. record {
 meets_same : (k q : MeetingKey) (book : Book) (m : Meeting) → same_key k q ≡ true → Meets (book_of k book) k m → Meets (book_of q book) q m
 meets_same k q book m e h = subst (λ (own : Book). Meets own q m) (book_same k q book e) record {
   held = h.held;
-  answers = zip_weaker (IsGiven k (of_meeting k book.taken)) (IsGiven q (of_meeting k book.taken)) (standing (of_meeting k book.taken) (answers_of k book.answers)) m.answers.items
-      (λ a g r. record { slot = r.slot; moment = r.moment; outcome = r.outcome; confirms = sym (booked_list_same k q g.singles.items e) ∙ r.confirms }) h.answers;
+  answers = record {
+    order = h.answers.order;
+    same = h.answers.same;
+    each = zip_weaker (IsGiven k (of_meeting k book.taken)) (IsGiven q (of_meeting k book.taken)) h.answers.order m.answers.items
+        (λ a g r. record { slot = r.slot; moment = r.moment; outcome = r.outcome; confirms = sym (booked_list_same k q g.singles.items e) ∙ r.confirms }) h.answers.each;
+  };
   answered = h.answered;
   dated = h.dated;
 }

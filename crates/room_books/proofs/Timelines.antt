@@ -17,7 +17,7 @@ use Rattle.cal_events.specs.declared.sweep.Span.{Span}
 use Rattle.cal_events.specs.declared.instance.Single.{Single}
 use Rattle.room_books.specs.declared.timeline.Busy.{Busy}
 use Rattle.room_books.specs.Instants.{HaveInstant, Overlap, AreSeparate}
-use Rattle.room_books.specs.Timelines.{HoldsInstants, holds_instants, same_single, has_single, same_busy, has_busy, busy_in, is_place, AreBusy, IsPlaceAfter, is_beside, starts_before, IsSharedIn, AreTaken, IsFreeAmong, AreAt, IsChanged, IsTaken, IsPut}
+use Rattle.room_books.specs.Timelines.{HoldsInstants, holds_instants, same_single, has_single, same_busy, has_busy, busy_in, AreBusy, IsPlaceAfter, stays, starts_before, IsSharedIn, AreTaken, IsFreeAmong, AreAt, IsChanged, IsTaken, IsPut}
 
 -- ---- lists that are apart
 
@@ -90,18 +90,18 @@ placed items t p place within from not_from point = record {
       not_from b (subst (λ (z : Busy). p z ≡ false) (sym (get_or-drop place items c.0 b) ∙ c.2) (point.1 (place + c.0) b (omega arith) l));
 }
 
--- ---- the first that starts before an end, of another place
+-- ---- the first that starts before an end, and doesn't leave
 
-abbrev FirstBeside : Option ℕ → ℤ → List Busy → Option Busy → Type 0
-FirstBeside own end items None = (b : Busy) → Contains items b → is_place own b.place ≡ false → b.single.span.start <ℤ end → ⊥
-FirstBeside own end items (Some first) = Contains items first × (is_place own first.place ≡ false) × (first.single.span.start <ℤ end)
+abbrev FirstStaying : (Busy → Bool) → ℤ → List Busy → Option Busy → Type 0
+FirstStaying leaves end items None = (b : Busy) → Contains items b → leaves b ≡ false → b.single.span.start <ℤ end → ⊥
+FirstStaying leaves end items (Some first) = Contains items first × (leaves first ≡ false) × (first.single.span.start <ℤ end)
 
-beside_more : (own : Option ℕ) (end : ℤ) (x : Busy) (xs : List Busy) (o : Option Busy) → is_place own x.place ≡ true → FirstBeside own end xs o → FirstBeside own end (x ∷ xs) o
-beside_more own end x xs None e h = λ b c n. elim (in_cons x xs b c) [
-  | inl same ↦ absurd (true≢false (sym e ∙ ap (λ (z : Busy). is_place own z.place) same ∙ n))
+staying_more : (leaves : Busy → Bool) (end : ℤ) (x : Busy) (xs : List Busy) (o : Option Busy) → leaves x ≡ true → FirstStaying leaves end xs o → FirstStaying leaves end (x ∷ xs) o
+staying_more leaves end x xs None e h = λ b c n. elim (in_cons x xs b c) [
+  | inl same ↦ absurd (true≢false (sym e ∙ ap (leaves) same ∙ n))
   | inr rest ↦ h b rest n
 ]
-beside_more own end x xs (Some f) e h = (in_tail x xs f h.0, h.1, h.2)
+staying_more leaves end x xs (Some f) e h = (in_tail x xs f h.0, h.1, h.2)
 
 -- the others start when the first has ended
 later_start : (x : Busy) (xs : List Busy) (end : ℤ) → AreApart (x ∷ xs) → HoldsInstants x.single.span → int_lt x.single.span.start end ≡ false → (b : Busy) → Contains (x ∷ xs) b → b.single.span.start <ℤ end → ⊥
@@ -110,18 +110,18 @@ later_start x xs end apart holds late b c l = elim (in_cons x xs b c) [
   | inr rest ↦ (let m = apart.0 b rest in let h = holds.0 in omega (arith, ints))
 ]
 
-first_beside : (own : Option ℕ) (end : ℤ) (items : List Busy) → AreApart items → ((b : Busy) → Contains items b → HoldsInstants b.single.span)
-    → FirstBeside own end items (find (is_beside own) (take_while (starts_before end) items))
-first_beside own end [] apart hold = λ b c n l. none_in_nil b c
-first_beside own end (x ∷ xs) apart hold = elim (cases_Bool (starts_before end x)) [
-  | inl early ↦ subst (λ l. FirstBeside own end (x ∷ xs) (find (is_beside own) l)) (sym (take_while-cons (starts_before end) x xs ∙ ap (λ t. cond t (x ∷ take_while (starts_before end) xs) []) early))
-      (elim (cases_Bool (is_place own x.place)) [
-        | inl own_one ↦ subst (λ (t : Bool). FirstBeside own end (x ∷ xs) (cond (not t) (Some x) (find (is_beside own) (take_while (starts_before end) xs)))) (sym own_one)
-            (beside_more own end x xs (find (is_beside own) (take_while (starts_before end) xs)) own_one (first_beside own end xs apart.1 (λ b c. hold b (in_tail x xs b c))))
-        | inr other ↦ subst (λ (t : Bool). FirstBeside own end (x ∷ xs) (cond (not t) (Some x) (find (is_beside own) (take_while (starts_before end) xs)))) (sym other)
+first_staying : (leaves : Busy → Bool) (end : ℤ) (items : List Busy) → AreApart items → ((b : Busy) → Contains items b → HoldsInstants b.single.span)
+    → FirstStaying leaves end items (find (stays leaves) (take_while (starts_before end) items))
+first_staying leaves end [] apart hold = λ b c n l. none_in_nil b c
+first_staying leaves end (x ∷ xs) apart hold = elim (cases_Bool (starts_before end x)) [
+  | inl early ↦ subst (λ l. FirstStaying leaves end (x ∷ xs) (find (stays leaves) l)) (sym (take_while-cons (starts_before end) x xs ∙ ap (λ t. cond t (x ∷ take_while (starts_before end) xs) []) early))
+      (elim (cases_Bool (leaves x)) [
+        | inl own_one ↦ subst (λ (t : Bool). FirstStaying leaves end (x ∷ xs) (cond (not t) (Some x) (find (stays leaves) (take_while (starts_before end) xs)))) (sym own_one)
+            (staying_more leaves end x xs (find (stays leaves) (take_while (starts_before end) xs)) own_one (first_staying leaves end xs apart.1 (λ b c. hold b (in_tail x xs b c))))
+        | inr other ↦ subst (λ (t : Bool). FirstStaying leaves end (x ∷ xs) (cond (not t) (Some x) (find (stays leaves) (take_while (starts_before end) xs)))) (sym other)
             (in_head x xs, other, (let e = early in omega (arith, ints)))
       ])
-  | inr late ↦ subst (λ l. FirstBeside own end (x ∷ xs) (find (is_beside own) l)) (sym (take_while-cons (starts_before end) x xs ∙ ap (λ t. cond t (x ∷ take_while (starts_before end) xs) []) late))
+  | inr late ↦ subst (λ l. FirstStaying leaves end (x ∷ xs) (find (stays leaves) l)) (sym (take_while-cons (starts_before end) x xs ∙ ap (λ t. cond t (x ∷ take_while (starts_before end) xs) []) late))
       (λ b c n l. later_start x xs end apart (hold x (in_head x xs)) late b c l)
 ]
 
@@ -134,16 +134,16 @@ overlaps s t hs ht a b i later =
       | inr e ↦ record { in_first = (later.first, omega (arith, ints, e)); in_second = (later.second, omega (arith, ints, e)); before = omega (arith, ints, e) }
     ]
 
-pub shared_is : (own : Option ℕ) (items : List Busy) (span : Span) (place : ℕ) (o : Option Busy) → AreBusy items → HoldsInstants span → IsPlaceAfter items span.start place
-    → o ≡ find (is_beside own) (take_while (starts_before span.end) (drop place items)) → IsSharedIn own items span o
-shared_is own items span place o busy holds at e =
-    by o (subst (FirstBeside own span.end (drop place items)) (sym e)
-    (first_beside own span.end (drop place items) (apart_right (take place items) (drop place items) (subst AreApart (sym (take-append-drop place items)) (apart_of items busy.apart))) (λ b c. busy.hold b (from_rest b c))))
+pub shared_is : (leaves : Busy → Bool) (items : List Busy) (span : Span) (place : ℕ) (o : Option Busy) → AreBusy items → HoldsInstants span → IsPlaceAfter items span.start place
+    → o ≡ find (stays leaves) (take_while (starts_before span.end) (drop place items)) → IsSharedIn leaves items span o
+shared_is leaves items span place o busy holds at e =
+    by o (subst (FirstStaying leaves span.end (drop place items)) (sym e)
+    (first_staying leaves span.end (drop place items) (apart_right (take place items) (drop place items) (subst AreApart (sym (take-append-drop place items)) (apart_of items busy.apart))) (λ b c. busy.hold b (from_rest b c))))
   where
     from_rest : (b : Busy) → Contains (drop place items) b → Contains items b
     from_rest b c = subst (λ (l : List Busy). Contains l b) (take-append-drop place items) (Contains-append_right (take place items) (drop place items) b c)
 
-    by : (o : Option Busy) → FirstBeside own span.end (drop place items) o → IsSharedIn own items span o
+    by : (o : Option Busy) → FirstStaying leaves span.end (drop place items) o → IsSharedIn leaves items span o
     by None h = λ b t c n shared.
         let first = shared.in_first in let first0 = first.0 in let first1 = first.1 in let second = shared.in_second in let second0 = second.0 in let second1 = second.1 in
         elim (Contains-append_cases (take place items) (drop place items) b (subst (λ (l : List Busy). Contains l b) (sym (take-append-drop place items)) c)) [
@@ -153,17 +153,17 @@ shared_is own items span place o busy holds at e =
     by (Some f) h = (from_rest f h.0, h.1, overlaps span f.single.span holds (busy.hold f (from_rest f h.0)) h.2 (at.after f h.0))
 
 -- a span that holds no instant shares none
-pub shared_none : (own : Option ℕ) (items : List Busy) (span : Span) → (HoldsInstants span → ⊥) → IsSharedIn own items span None
-shared_none own items span none b t c n shared =
+pub shared_none : (leaves : Busy → Bool) (items : List Busy) (span : Span) → (HoldsInstants span → ⊥) → IsSharedIn leaves items span None
+shared_none leaves items span none b t c n shared =
     let first = shared.in_first in let first0 = first.0 in let first1 = first.1 in let before = shared.before in
     none (omega (arith, ints), omega (arith, ints))
 
 -- one more that shares none
-pub none_more : (own : Option ℕ) (items : List Busy) (wanted : List Single) (k : ℕ) (d : Single) → k < length wanted → IsSharedIn own items (get_or wanted k d).span None
-    → (AreTaken own items (drop k wanted) None → AreTaken own items wanted None) → AreTaken own items (drop (k + 1) wanted) None → AreTaken own items wanted None
-none_more own items wanted k d within none before rest = before (λ s c.
+pub none_more : (leaves : Busy → Bool) (items : List Busy) (wanted : List Single) (k : ℕ) (d : Single) → k < length wanted → IsSharedIn leaves items (get_or wanted k d).span None
+    → (AreTaken leaves items (drop k wanted) None → AreTaken leaves items wanted None) → AreTaken leaves items (drop (k + 1) wanted) None → AreTaken leaves items wanted None
+none_more leaves items wanted k d within none before rest = before (λ s c.
     elim (in_cons (get_or wanted k d) (drop (suc k) wanted) s (subst (λ (l : List Single). Contains l s) (drop-cons wanted k d within) c)) [
-      | inl here ↦ subst (λ (z : Single). IsSharedIn own items z.span None) here none
+      | inl here ↦ subst (λ (z : Single). IsSharedIn leaves items z.span None) here none
       | inr later ↦ rest s (subst (λ (n : ℕ). Contains (drop n wanted) s) next later)
     ])
   where

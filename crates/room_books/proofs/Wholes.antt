@@ -1,16 +1,16 @@
 -- What a look-up in the view says of the whole of a meeting: the greatest part of it is always there.
-use Rattle.std.proofs.Common.{◌≡◌, ◌∙◌, Bool, true, false, not, ◌&&◌, ◌||◌, List, Option, None, Some, refl, sym, ap, subst, IsTrue}
+use Rattle.std.proofs.Common.{◌≡◌, ◌∙◌, Bool, true, false, not, ◌&&◌, List, Option, None, Some, sym, ap, IsTrue}
 use Rattle.std.specs.Prelude.{IfSome, IfNone, is_some}
 use denote.Ref.{Bor}
 use Rattle.std.specs.Ordering.{is_eq, ordering_then}
-use Rattle.std.specs.List.{list_any, list_all, Contains}
+use Rattle.std.specs.List.{list_all, Contains}
 use Rattle.std.proofs.lemmas.Bool.{and_parts, and_from, or_left, false_from_ne_true}
 use Rattle.itip_order.specs.Parts.{part_of}
 use Rattle.itip_order.specs.Registers.{StandsFor, IsInView, HasNone, at_slot}
 use Rattle.itip_order.specs.declared.part.Part.{Part as HeldPart}
 use Rattle.itip_order.proofs.Lists.{all_from, any_at, any_from}
 use Rattle.itip_order.proofs.Lasting.{greatest_of, view_taken}
-use Rattle.itip_order.proofs.Order.{slot_total, is_eq_true, then_equal}
+use Rattle.itip_order.proofs.Order.{is_eq_true, then_equal}
 use Rattle.itip_order.proofs.Registers.{greatest_from, implies_from, place_trans}
 use Rattle.profile.specs.rooms.Revisions.{Part, Whole, slot_cmp, meeting_cmp, in_view, is_greatest, is_whole, implies, allows, stands_beside, same_meeting, same_place}
 use Rattle.profile.specs.rooms.Rooms.{lacks_whole}

@@ -1,21 +1,58 @@
--- The answers of a meeting by their slots.
-use Rattle.std.specs.Prelude.{List, ◌↔◌, map, Contains}
+-- The answers of a meeting by their slots, and lists in another order.
+use Rattle.std.specs.Prelude.{◌≡◌, ◌+◌, ◌≤◌, ℕ, Option, None, Some, Vec, Bool, true, false, not, List, [], ◌∷◌, length, take, drop, map, filter, Contains}
 use Rattle.std.specs.List.Sorted.{IsSortedByKey}
+use Rattle.std.specs.Ordering.{is_eq, is_le, is_lt}
+use Rattle.std.specs.Vec.{vec_len, vec_capacity}
 use denote.Ref.{Bor}
 use Rattle.itip_order.specs.Parts.{slot_of}
+use Rattle.itip_order.specs.declared.part.Slot.{Slot}
 use Rattle.profile.specs.rooms.Revisions as revisions
 use Rattle.room_books.specs.declared.meeting.Given.{Given}
+use Rattle.room_books.specs.Touching.{is_touched}
 
 abbrev pub givens : List (Bor Given) → List Given
 givens answers = map (λ given. given.now) answers
 
-abbrev pub slot_in : Bor Given → revisions.Slot
-slot_in given = slot_of given.now.slot
+abbrev pub slot_in : Given → revisions.Slot
+slot_in given = slot_of given.slot
 
 -- each slot isn't below the one before
-abbrev pub AreBySlot : List (Bor Given) → Type 0
+abbrev pub AreBySlot : List Given → Type 0
 AreBySlot answers = IsSortedByKey slot_in revisions.slot_cmp answers
 
--- the same answers, in any order
-abbrev pub AreSame : List Given → List Given → Type 0
-AreSame xs ys = (given : Given) → Contains xs given ↔ Contains ys given
+-- the answer is to the part of the slot
+abbrev pub is_at : revisions.Slot → Given → Bool
+is_at slot given = is_eq (revisions.slot_cmp (slot_of given.slot) slot)
+
+-- the answer is to the part of a slot below, and of one that isn't above
+abbrev pub is_below : revisions.Slot → Given → Bool
+is_below slot given = is_lt (revisions.slot_cmp (slot_of given.slot) slot)
+
+abbrev pub is_up_to : revisions.Slot → Given → Bool
+is_up_to slot given = is_le (revisions.slot_cmp (slot_of given.slot) slot)
+
+-- those before the place pass the test, the others don't
+pub record IsPlace (test : Given → Bool) (answers : List Given) (place : ℕ) : Type 0 where
+  pub within : place ≤ length answers
+  pub before : (given : Given) → Contains (take place answers) given → test given ≡ true
+  pub after : (given : Given) → Contains (drop place answers) given → test given ≡ false
+
+-- those of the answers that are of none of these slots
+abbrev pub left_without : List Slot → List Given → List Given
+left_without slots answers = filter (λ given. not (is_touched slots (slot_of given.slot))) answers
+
+-- those that are
+abbrev pub taken_at : List Slot → List Given → List Given
+taken_at slots answers = filter (λ given. is_touched slots (slot_of given.slot)) answers
+
+-- the same elements, each as often, in any order
+pub data Reordered {X : Type 0} : List X → List X → Type 0 where
+  re_none : Reordered [] []
+  re_more : (x : X) (xs ys : List X) → Reordered xs ys → Reordered (x ∷ xs) (x ∷ ys)
+  re_turn : (x y : X) (xs : List X) → Reordered (x ∷ y ∷ xs) (y ∷ x ∷ xs)
+  re_then : (xs ys zs : List X) → Reordered xs ys → Reordered ys zs → Reordered xs zs
+
+-- the answers have room for so many more, or the place for them has it for all
+abbrev pub HasRoom : {Z : Type 0} → Vec Given Z → ℕ → Option (Vec Given Z) → Type 0
+HasRoom answers more None = vec_len answers + more ≤ vec_capacity answers
+HasRoom answers more (Some larger) = (larger.items ≡ []) × (vec_len larger ≡ 0) × (vec_len answers + more ≤ vec_capacity larger)

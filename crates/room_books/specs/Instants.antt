@@ -1,5 +1,8 @@
 -- Instants that spans share.
 use Rattle.std.specs.Prelude.{◌≡◌, ◌≤◌, ℤ, ◌≤ℤ◌, ◌<ℤ◌, ◌⊎◌, List, [], ◌∷◌, ◌++◌, length, Contains, AllPairs}
+use Rattle.std.specs.declared.cmp.Ordering.{Ordering}
+use Rattle.std.specs.List.Sorted.{IsPermutation}
+use Rattle.std.specs.Ordering.{int_cmp, ordering_then}
 use Rattle.profile.specs.checker.Instances.{IsWithin, horizon}
 use Rattle.cal_events.specs.declared.sweep.Span.{Span}
 use Rattle.cal_events.specs.declared.instance.Single.{Single}
@@ -30,6 +33,17 @@ pub record IsPartOf (some all : List Single) : Type 0 where
   pub shorter : length some ≤ length all
   pub separate : AreSeparate all → AreSeparate some
 
+-- all of these go or are kept, in any order
+abbrev pub IsParted : List Single → List Single → List Single → Type 0
+IsParted all gone kept = IsPermutation all (gone ++ kept)
+
+-- instances by their original starts, then by their spans
+abbrev pub single_cmp : Single → Single → Ordering
+single_cmp a b = ordering_then (ordering_then (int_cmp a.slot b.slot) (int_cmp a.span.start b.span.start)) (int_cmp a.span.end b.span.end)
+
+abbrev pub the_single : Single → Single
+the_single single = single
+
 -- of all of these some go, and the others are kept, both in their order
 pub data IsSplit : List Single → List Single → List Single → Type 0 where
   none : IsSplit [] [] []
@@ -45,5 +59,5 @@ pub record Sheds (all left old new : List Single) : Type 0 where
 -- of all that was confirmed before these went, and the rest and what was added is all that is confirmed after
 pub record Shifts (before gone added after : List Single) : Type 0 where
   pub kept : List Single
-  pub split : IsSplit before gone kept
-  pub after_is : after ≡ kept ++ added
+  pub parted : IsParted before gone kept
+  pub after_is : IsParted after kept added

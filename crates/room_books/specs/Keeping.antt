@@ -15,7 +15,7 @@ use Rattle.profile.specs.text.Values.{WritesStamp, escaped}
 use Rattle.profile.specs.rooms.Rooms.{Claim, Answer, Book, is_accept, is_confirmed, is_set}
 use Rattle.profile.specs.rooms.Kept.{first_parts, renamed, Shown, Hidden, IsKeptEvent, IsNamed}
 use Rattle.profile.specs.text.Lines.{written}
-use Rattle.room_books.specs.declared.meeting.Meeting.{Meeting}
+use Rattle.room_books.specs.declared.kept.Meeting.{Meeting}
 use Rattle.room_books.specs.declared.meeting.Given.{Given}
 use Rattle.room_books.specs.Standing.{IsText, SlotDated}
 use Rattle.room_books.specs.Takings.{body_content, content_in}

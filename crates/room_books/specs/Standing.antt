@@ -15,10 +15,12 @@ use Rattle.profile.specs.rooms.Messages.{Outcome}
 use Rattle.profile.specs.rooms.Rooms.{Claim, Answer, Book, Kind, is_set, parts_of, asked, answered, confirmed, confirmed_in, most_singles, IsStep, kind_of}
 use Rattle.profile.specs.rooms.Kept.{Replies, Refreshes, first_parts}
 use Rattle.room_books.specs.declared.meeting.MeetingKey.{MeetingKey}
-use Rattle.room_books.specs.declared.meeting.Meeting.{Meeting}
+use Rattle.room_books.specs.declared.kept.Meeting.{Meeting}
+use Rattle.room_books.specs.declared.kept.Changes.{Changes}
+use Rattle.room_books.specs.BySlot.{Reordered}
 use Rattle.cal_events.specs.declared.instance.Single.{Single}
 use Rattle.room_books.specs.declared.meeting.Given.{Given}
-use Rattle.room_books.specs.Takings.{body_content, held_after, IsMade, OutcomeDated}
+use Rattle.room_books.specs.Takings.{answers_by, answers_then, body_content, held_after, IsMade, OutcomeDated}
 use Rattle.room_books.specs.Touching.{AllTouch}
 use Rattle.room_books.specs.Views.{same_key, booked_list, outcome_of}
 
@@ -101,10 +103,16 @@ pub record IsDated (given : Given) : Type 0 where
   pub starts : (single : Single) → Contains given.singles.items single → IsClockSeconds single.span.start
   pub slots : (single : Single) → Contains given.singles.items single → IsClockSeconds single.slot
 
+-- these are given to those answers, in some order
+pub record AreGiven (key : MeetingKey) (taken : List Part) (answers : List Answer) (given : List Given) : Type 0 where
+  pub order : List Answer
+  pub same : Reordered answers order
+  pub each : AllZip (IsGiven key taken) order given
+
 -- the meeting holds the parts taken of it, and the answers to those in the view; each that is to take place has one
 pub record Meets (own : Book) (key : MeetingKey) (meeting : Meeting) : Type 0 where
   pub held : StandsFor meeting.held own.taken
-  pub answers : AllZip (IsGiven key own.taken) (standing own.taken own.answers) meeting.answers.items
+  pub answers : AreGiven key own.taken (standing own.taken own.answers) meeting.answers.items
   pub answered : (part : Part) → is_set part ≡ true → in_view own.taken part ≡ true → (a : Answer) × Contains own.answers a × (a.claim.part ≡ part)
   pub dated : (given : Given) → Contains meeting.answers.items given → IsDated given
 
@@ -117,7 +125,14 @@ MeetsAt own key (Some meeting) = Meets own key meeting
 abbrev pub KeepsAll : Part → List OwnSlot → Option Meeting → List Part → List Given → Type 0
 KeepsAll part slots before held kept =
     (own : Book) (key : MeetingKey) (more : List Part) → is_of key part ≡ true → IsOwn key own → MeetsAt own key before → StandsFor held (own.taken ++ more) → AllTouch slots more
-    → AllZip (IsGiven key (own.taken ++ more)) (standing (own.taken ++ more) (standing own.taken own.answers)) kept
+    → AreGiven key (own.taken ++ more) (standing (own.taken ++ more) (standing own.taken own.answers)) kept
+
+-- some of the answers that the meeting had, and what stays of them
+abbrev pub KeepsSome : Part → List OwnSlot → List Part → List Part → List Given → List Given → Type 0
+KeepsSome part slots before after done kept =
+    (own : Book) (key : MeetingKey) (more : List Part) → is_of key part ≡ true → IsOwn key own → StandsFor before own.taken → StandsFor after (own.taken ++ more) → AllTouch slots more
+    → (xs : List Answer) → ((a : Answer) → Contains xs a → Contains own.answers a × (in_view own.taken a.claim.part ≡ true)) → AllZip (IsGiven key own.taken) xs done
+    → AllZip (IsGiven key (own.taken ++ more)) (standing (own.taken ++ more) xs) kept
 
 -- ---- all meetings
 
@@ -159,18 +174,18 @@ pub record IsMeetingAfter (book : Book) (key : MeetingKey) (claims : List Claim)
   pub meets : Meets (book_of key (book_after book claims moment outcome)) key meeting
   pub kind_is : kind ≡ kind_of book.taken (book.taken ++ parts_of claims) claims outcome
 
--- the meetings after, where these parts of one were taken too, which has these answers now
-pub record IsPutIn (key : MeetingKey) (more : List Part) (answers : List Given) (old new : List (MeetingKey × Meeting)) : Type 0 where
+-- the meetings after, where these parts of one were taken too, and its answers changed so
+pub record IsPutIn (key : MeetingKey) (more : List Part) (changes : Changes) (old new : List (MeetingKey × Meeting)) : Type 0 where
   pub meeting : Meeting
-  pub made : IsMade (held_after (lookup (same_key key) old) more) answers meeting
+  pub made : IsMade (held_after (lookup (same_key key) old) more) (answers_then (answers_by (lookup (same_key key) old)) changes) meeting
   pub entries : new ≡ insert_entry same_key old key meeting
 
 -- the same of the meeting in a place
-pub record IsRenewed (place : ℕ) (more : List Part) (answers : List Given) (old new : List (MeetingKey × Meeting)) : Type 0 where
+pub record IsRenewed (place : ℕ) (more : List Part) (changes : Changes) (old new : List (MeetingKey × Meeting)) : Type 0 where
   pub before : Meeting
   pub meeting : Meeting
   pub was : slice_get (values_of old) place ≡ Some before
-  pub made : IsMade (together before.held more) answers meeting
+  pub made : IsMade (together before.held more) (answers_then before.answers.items changes) meeting
   pub entries : new ≡ set_value_at old place meeting
 
 -- from the book a step with these claims leads to a book that the meetings stand for

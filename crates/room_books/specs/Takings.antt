@@ -1,6 +1,6 @@
 -- What a message does to its meeting.
 use Rattle.std.specs.Prelude.{◌≡◌, ◌≢◌, ◌⊎◌, ◌++◌, ℕ, ℤ, true, false, not, ◌&&◌, nat_lt, IsTrue, if◌then◌else◌, List, [], ◌∷◌, take, drop, ◌==◌, length, map, filter, AllPairs, Option, Some, None, option_map, is_some, Vec}
-use Rattle.std.specs.List.{AllZip, position_or_len}
+use Rattle.std.specs.List.{AllZip}
 use denote.Ref.{Bor}
 use Rattle.profile.specs.text.Values.{IsClockSeconds}
 use Rattle.cal_events.specs.Calendars.{owned_key_of}
@@ -15,7 +15,9 @@ use Rattle.room_books.specs.declared.answer.Answer.{Answer}
 use Rattle.room_books.specs.declared.answer.Kind.{Kind}
 use Rattle.room_books.specs.declared.answer.Kind.TheVariants as kind
 use Rattle.room_books.specs.declared.answer.LimitKind.TheVariants.{Series, Singles}
-use Rattle.room_books.specs.declared.meeting.Meeting.{Meeting}
+use Rattle.room_books.specs.declared.kept.Meeting.{Meeting}
+use Rattle.room_books.specs.declared.kept.Changes.{Changes}
+use Rattle.room_books.specs.BySlot.{Reordered, left_without}
 use Rattle.cal_events.specs.declared.instance.Single.{Single}
 use Rattle.room_books.specs.declared.meeting.Given.{Given}
 use Rattle.room_books.specs.declared.meeting.Outcome.{Outcome}
@@ -23,9 +25,10 @@ use Rattle.room_books.specs.declared.taking.Claim.{Claim}
 use Rattle.room_books.specs.declared.meeting.MeetingKey.{MeetingKey}
 use Rattle.room_books.specs.Views.{outcome_of, all_singles, booked_list, slots_of, MayJoin}
 use Rattle.room_books.specs.Instants.{IsPartOf}
-use Rattle.room_books.specs.Touching.{is_touched}
+use Rattle.room_books.specs.Touching.{is_touched, IsUntouched}
 use Rattle.std.specs.Str.Lines.{lines}
 use Rattle.profile.specs.rooms.Messages.{Content, no_content}
+use Rattle.itip_messages.specs.Bodies.{zone_place}
 
 -- ---- what is told
 
@@ -53,10 +56,6 @@ abbrev pub refresh_octets : Answer → Option (List ℕ)
 refresh_octets answer = octets_in answer.refresh
 
 -- ---- what a message asks for
-
--- where the octets of the VTIMEZONE begin in those of a body: at the first `B`, else at their end
-abbrev pub zone_place : List ℕ → ℕ
-zone_place octets = position_or_len (λ c. c == 66) octets
 
 -- what stands behind `BEGIN:VTIMEZONE`, `TZID:Z` and their line ends; None without a VTIMEZONE
 abbrev pub zone_rest : List ℕ → Option (List ℕ)
@@ -108,11 +107,19 @@ held_after (Some meeting) more = together meeting.held more
 -- these parts are held of the meeting, and these are its answers
 pub record IsMade (held : List revisions.Part) (answers : List Given) (meeting : Meeting) : Type 0 where
   pub held_is : meeting.held ≡ held
-  pub answers_are : meeting.answers.items ≡ answers
+  pub answers_are : Reordered answers meeting.answers.items
 
 abbrev pub answers_by : Option Meeting → List Given
 answers_by None = []
 answers_by (Some meeting) = meeting.answers.items
+
+-- the answers after a message
+abbrev pub answers_then : List Given → Changes → List Given
+answers_then answers changes = left_without changes.lost.items answers ++ changes.new.items
+
+-- those that stay, and what is left of those of these slots
+abbrev pub kept_then : Option Meeting → List Slot → List Given → List Given
+kept_then before lost left = left_without lost (answers_by before) ++ left
 
 -- these are the claims that get an answer now
 abbrev pub AreAsked : List revisions.Part → List revisions.Part → List Claim → List (Bor Claim) → Type 0
@@ -127,13 +134,6 @@ left_in history part singles = filter (λ single. not (rooms.is_hidden history p
 -- those of them that aren't of one of these slots, or that no part in the view stands for
 abbrev pub left_beside : List Slot → List revisions.Part → revisions.Part → List Single → List Single
 left_beside slots history part singles = filter (λ single. not (is_touched slots (revisions.At single.slot) && rooms.is_hidden history part (booked_in part single))) singles
-
--- one answer is the other
-pub record IsCopy (given left : Given) : Type 0 where
-  pub slot : left.slot ≡ given.slot
-  pub moment : left.moment ≡ given.moment
-  pub outcome : outcome_of left.outcome ≡ outcome_of given.outcome
-  pub singles : left.singles.items ≡ given.singles.items
 
 -- one answer is the other, with the instances that are left where parts of these slots were taken
 pub record IsLeftOf (slots : List Slot) (held : List revisions.Part) (of : revisions.Part) (given left : Given) : Type 0 where
@@ -168,15 +168,15 @@ pub record IsDecision (others : List Booked) (key : MeetingKey) (kept wanted : L
   pub decides : AllPairs ◌≢◌ (slots_of (kept ++ wanted)) → rooms.Decides (others ++ booked_list key (kept ++ wanted)) (outcome_of outcome)
   pub joins : outcome_of outcome ≡ messages.Accept → MayJoin others key (kept ++ wanted)
 
--- the answers that stay, and behind them those to the claims that are asked, decided as one
+-- the answers that stay, and those to the claims that are asked, decided as one
 abbrev pub IsAnswered : List Booked → MeetingKey → List revisions.Part → ℤ → List Given → List (Bor Claim) → List Given → Option Outcome → Type 0
-IsAnswered others key held moment kept asked answers None = (asked ≡ []) × (answers ≡ kept)
+IsAnswered others key held moment kept asked answers None = (asked ≡ []) × Reordered kept answers
 IsAnswered others key held moment kept asked answers (Some outcome) =
     (asked ≢ []) × ((candidates : List Given) × (decided : List Given)
     × AllZip (λ claim given. IsAccepted held claim.now moment given) asked candidates
     × AllZip (λ candidate given. IsDecided candidate outcome given) candidates decided
     × IsDecision others key (all_singles kept) (all_singles candidates) outcome
-    × (answers ≡ kept ++ decided))
+    × Reordered (kept ++ decided) answers)
 
 -- what was decided of a message; nothing hangs on it where nothing was
 abbrev pub outcome_said : Option Outcome → messages.Outcome
@@ -201,6 +201,10 @@ IsStill slots before after part given None =
     ⊎ ((own : revisions.Part) × IsViewed before (at_slot part (slot_of given.slot)) own × ((history : List revisions.Part) → StandsFor after history → revisions.in_view history own ≡ false))
 IsStill slots before after part given (Some left) =
     (own : revisions.Part) × IsViewed before (at_slot part (slot_of given.slot)) own × IsInView after own × IsLeftOf slots after own given left
+
+-- an answer stays as it is: nothing touches it, or what touches it leaves it all
+abbrev pub IsLeftAlone : List Slot → List revisions.Part → List revisions.Part → revisions.Part → Given → Type 0
+IsLeftAlone slots before after part given = IsUntouched slots (slot_of given.slot) ⊎ IsStill slots before after part given (Some given)
 
 -- the instants that an outcome names can be written as stamps
 abbrev pub OutcomeDated : messages.Outcome → Type 0

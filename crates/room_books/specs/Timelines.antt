@@ -48,22 +48,25 @@ abbrev pub is_place : Option ℕ → ℕ → Bool
 is_place None place = false
 is_place (Some own) place = own == place
 
--- it isn't of the meeting in the own place
-abbrev pub is_beside : Option ℕ → Busy → Bool
-is_beside own b = not (is_place own b.place)
+-- it is of the meeting in the own place, and one of these that are gone
+abbrev pub is_leaving : Option ℕ → List Single → Busy → Bool
+is_leaving own gone b = is_place own b.place && has_single b.single gone
+
+abbrev pub stays : (Busy → Bool) → Busy → Bool
+stays leaves b = not (leaves b)
 
 abbrev pub starts_before : ℤ → Busy → Bool
 starts_before end b = int_lt b.single.span.start end
 
--- one that isn't of the own place shares an instant with the span, or none does
-abbrev pub IsSharedIn : Option ℕ → List Busy → Span → Option Busy → Type 0
-IsSharedIn own items span None = (b : Busy) (t : ℤ) → Contains items b → is_place own b.place ≡ false → HaveInstant span b.single.span t → ⊥
-IsSharedIn own items span (Some b) = Contains items b × (is_place own b.place ≡ false) × Overlap span b.single.span
+-- one that doesn't leave shares an instant with the span, or none does
+abbrev pub IsSharedIn : (Busy → Bool) → List Busy → Span → Option Busy → Type 0
+IsSharedIn leaves items span None = (b : Busy) (t : ℤ) → Contains items b → leaves b ≡ false → HaveInstant span b.single.span t → ⊥
+IsSharedIn leaves items span (Some b) = Contains items b × (leaves b ≡ false) × Overlap span b.single.span
 
--- one that isn't of the own place shares an instant with one of these, or none does
-abbrev pub AreTaken : Option ℕ → List Busy → List Single → Option (Single × Busy) → Type 0
-AreTaken own items wanted None = (s : Single) → Contains wanted s → IsSharedIn own items s.span None
-AreTaken own items wanted (Some p) = Contains wanted p.0 × IsSharedIn own items p.0.span (Some p.1)
+-- one that doesn't leave shares an instant with one of these, or none does
+abbrev pub AreTaken : (Busy → Bool) → List Busy → List Single → Option (Single × Busy) → Type 0
+AreTaken leaves items wanted None = (s : Single) → Contains wanted s → IsSharedIn leaves items s.span None
+AreTaken leaves items wanted (Some p) = Contains wanted p.0 × IsSharedIn leaves items p.0.span (Some p.1)
 
 -- none of these shares an instant with the span
 abbrev pub IsFreeAmong : List Busy → Span → Type 0

@@ -1,20 +1,22 @@
 //! The decision: may instances of a meeting be confirmed beside those that are?
 
-ghost use Rattle.std.specs.Prelude.{◌≡◌, ◌≢◌, true, false, ℤ, ◌<ℤ◌, ◌≤◌, ◌<◌, ◌+◌, ◌↔◌, ◌++◌, IsTrue, IfOk, OnOk, length, map, AllPairs, Some, slice_get};
+ghost use Rattle.std.specs.Prelude.{◌≡◌, ◌≤◌, ◌+◌, ◌++◌, List, IfOk, length};
 ghost use Rattle.std.specs.Ordering.{is_lt};
 ghost use Rattle.std.specs.List.{IsDistinct};
+ghost use Rattle.std.specs.Map.{lookup};
 ghost use Rattle.indexmap.specs.IndexMap.{keys};
 ghost use Rattle.profile.specs.checker.Instances.{booked_cmp, IsClear};
-ghost use Rattle.profile.specs.rooms.Messages.{Accept};
-ghost use Rattle.profile.specs.rooms.Rooms.{Decides};
 ghost use Rattle.clash_cert.specs.Makings.{AreNamed, HasKeys};
 ghost use Rattle.cal_events.specs.declared.instance.Single.{Single};
-ghost use Rattle.room_books.specs.Views.{booked_of, booked_list, confirmed_at, others, outcome_of, same_key, slots_of, spans_of, AreBusyIn, HaveOverlap, MayJoin};
-ghost use Rattle.room_books.specs.Instants.{IsLater};
+ghost use Rattle.room_books.specs.Views.{all_confirmed, booked_of, booked_list, confirmed_at, others, same_key, singles_by, spans_of, AreAllApart, AreBusyIn, HaveOverlap};
+ghost use Rattle.room_books.specs.Instants.{IsLater, IsParted};
+ghost use Rattle.room_books.specs.Takings.{IsDecision};
 ghost use Rattle.room_books.specs.Timelines.{IsTimelineOf};
 
 use crate::answer::LimitKind;
-use crate::meeting::{Meeting, MeetingKey, Outcome};
+use crate::gone::Gone;
+use crate::kept::Meeting;
+use crate::meeting::{MeetingKey, Outcome};
 use crate::timeline::Timeline;
 use cal_events::{Single, Span, first_overlap};
 use clash_cert::Clash;
@@ -27,7 +29,7 @@ pub const MOST_SINGLES: usize = 10_000;
 /// The meetings of a room, in order of first arrival.
 pub type Meetings = IndexMap<MeetingKey, Meeting>;
 
-/// An instance that is asked for, and one of another meeting that shares an instant with it.
+/// An instance that is asked for, and one that stays confirmed and shares an instant with it.
 #[derive(Clone, Copy)]
 struct Shared<'a> {
     asked: Single,
@@ -35,53 +37,59 @@ struct Shared<'a> {
     booked: Single,
 }
 
-/// What is decided where a meeting keeps some of its instances and asks for more, beside all that the other meetings have
-/// confirmed, whose number is `beside`: the limit is looked at first, then whether any two instances share an instant. It fails only
-/// where memory runs out.
+/// What is decided where a meeting asks for more instances than it keeps, and some of those that the timeline has of it are gone, beside
+/// all that stay confirmed, whose number is `beside`: the limit is looked at first, then whether any two instances share an instant. It
+/// fails only where memory runs out.
 pub(crate) fn decide(
     alloc: Global,
     meetings: &Meetings,
     timeline: &Timeline,
     key: &MeetingKey,
     beside: usize,
-    kept: &[Single],
+    gone: &[Single],
     wanted: &[Single],
 ) -> Result<Outcome, AllocError>
     requires timed { IsTimelineOf (confirmed_at meetings.now.entries) timeline.now.busy.items }
-    requires beside { beside ≡ length (others key.now meetings.now.entries) }
-    requires few { beside + length kept.now ≤ 10_000 }
-    requires clear { IsClear (others key.now meetings.now.entries ++ booked_list key.now kept.now) }
-    ensures decides { IfOk result (λ outcome. AllPairs ◌≢◌ (slots_of (kept.now ++ wanted.now))
-        → Decides (others key.now meetings.now.entries ++ booked_list key.now (kept.now ++ wanted.now)) (outcome_of outcome)) }
-    ensures joins { IfOk result (λ outcome. outcome_of outcome ≡ Accept → MayJoin (others key.now meetings.now.entries) key.now (kept.now ++ wanted.now)) }
+    requires clear { IsClear (all_confirmed meetings.now.entries) }
+    requires apart { AreAllApart meetings.now.entries }
+    requires few { beside ≤ 10_000 }
+    ensures { IfOk result (λ outcome. (kept : List Single)
+        → IsParted (singles_by (lookup (same_key key.now) meetings.now.entries)) gone.now kept
+        → beside ≡ length (others key.now meetings.now.entries) + length kept
+        → IsDecision (others key.now meetings.now.entries) key.now kept wanted.now outcome) }
 {
-    if wanted.len() > MOST_SINGLES - beside - kept.len() {
+    keys_differ(meetings);
+    if wanted.len() > MOST_SINGLES - beside {
         return Ok(Outcome::Limit(LimitKind::Singles));
     }
-    // the own ones first: where they are apart, the look-ups after them pass over each instance of this meeting once or twice in all
-    if let Some((first, second)) = own_overlap(alloc, kept, wanted)? {
+    if let Some((first, second)) = own_overlap(alloc, wanted)? {
         let clash = clash_between(key, first, key, second)?;
         return Ok(Outcome::Declined(clash));
     }
-    if let Some(shared) = busy_beside(meetings, timeline, key, wanted) {
+    // those that are asked for are apart, so the look-ups pass over each of those that are gone once or twice in all
+    let gone = Gone::of(alloc, gone)?;
+    if let Some(shared) = busy_beside(meetings, timeline, key, &gone, wanted) {
         let clash = clash_between(key, shared.asked, shared.other, shared.booked)?;
         return Ok(Outcome::Declined(clash));
     }
     Ok(Outcome::Accepted)
 }
 
-/// One of these instances and one of another meeting that share an instant.
+/// One of these instances, and one that stays confirmed, of another meeting or of the same, that share an instant.
 fn busy_beside<'a>(
     meetings: &'a Meetings,
     timeline: &Timeline,
     key: &MeetingKey,
+    gone: &Gone,
     wanted: &[Single],
 ) -> Option<Shared<'a>>
-    requires { IsTimelineOf (confirmed_at meetings.now.entries) timeline.now.busy.items }
-    ensures { AreBusyIn (others key.now meetings.now.entries) wanted.now result }
+    requires timed { IsTimelineOf (confirmed_at meetings.now.entries) timeline.now.busy.items }
+    requires apart { AreAllApart meetings.now.entries }
+    ensures { (kept : List Single) → IsParted (singles_by (lookup (same_key key.now) meetings.now.entries)) gone.now kept
+        → AreBusyIn (others key.now meetings.now.entries ++ booked_list key.now kept) wanted.now result }
 {
     let own = meetings.get_index_of(key);
-    let (asked, busy) = timeline.first_taken(wanted, own)?;
+    let (asked, busy) = timeline.first_taken(wanted, own, gone)?;
     let (other, _) = meetings.get_index(busy.place)?;
     Some(Shared {
         asked,
@@ -90,57 +98,30 @@ fn busy_beside<'a>(
     })
 }
 
-/// Two of a meeting's own instances that share an instant.
-fn own_overlap(
-    alloc: Global,
-    kept: &[Single],
-    wanted: &[Single],
-) -> Result<Option<(Single, Single)>, AllocError>
-    ensures { IfOk result (HaveOverlap (kept.now ++ wanted.now)) }
+/// Two of these instances of a meeting that share an instant.
+fn own_overlap(alloc: Global, wanted: &[Single]) -> Result<Option<(Single, Single)>, AllocError>
+    ensures { IfOk result (HaveOverlap wanted.now) }
 {
     // one alone
-    if kept.is_empty() && wanted.len() < 2 {
+    if wanted.len() < 2 {
         return Ok(None);
     }
-    let spans = own_spans(alloc, kept, wanted)?;
+    let spans = spans_in(alloc, wanted)?;
     let Some(overlap) = first_overlap(alloc, &spans)? else {
         return Ok(None);
     };
-    let first = own_at(kept, wanted, overlap.first);
-    let second = own_at(kept, wanted, overlap.second);
-    Ok(Some((first, second)))
+    Ok(Some((wanted[overlap.first], wanted[overlap.second])))
 }
 
-/// The spans of both lists, one after the other.
-fn own_spans(alloc: Global, kept: &[Single], wanted: &[Single]) -> Result<Vec<Span>, AllocError>
-    ensures { IfOk result (λ spans. spans.items ≡ spans_of (kept.now ++ wanted.now)) }
+/// Their spans.
+fn spans_in(alloc: Global, singles: &[Single]) -> Result<Vec<Span>, AllocError>
+    ensures { IfOk result (λ spans. spans.items ≡ spans_of singles.now) }
 {
     let mut spans = Vec::new(alloc);
-    push_spans(&mut spans, kept)?;
-    push_spans(&mut spans, wanted)?;
-    Ok(spans)
-}
-
-/// Puts the spans of these behind others.
-fn push_spans(spans: &mut Vec<Span>, singles: &[Single]) -> Result<(), AllocError>
-    ensures { OnOk result (spans.new.items ≡ spans.old.items ++ spans_of singles.now) }
-{
     for single in singles {
         spans.push(single.span)?;
     }
-    Ok(())
-}
-
-/// The instance at a place of both lists, one after the other.
-fn own_at(kept: &[Single], wanted: &[Single], place: usize) -> Single
-    requires { place < length (kept.now ++ wanted.now) }
-    ensures { slice_get (kept.now ++ wanted.now) place ≡ Some result }
-{
-    if place < kept.len() {
-        kept[place]
-    } else {
-        wanted[place - kept.len()]
-    }
+    Ok(spans)
 }
 
 /// The later of two starts.

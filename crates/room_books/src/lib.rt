@@ -4,6 +4,8 @@
 pub mod answer;
 mod claims;
 mod decide;
+mod gone;
+mod kept;
 mod laws;
 pub mod meeting;
 mod refresh;

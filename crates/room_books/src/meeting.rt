@@ -1,4 +1,4 @@
-//! What a room keeps of one meeting: the parts taken, and the answers to those in the view.
+//! The name of a meeting, and the answers to its parts.
 
 ghost use Rattle.std.specs.Prelude.{◌≡◌, IfOk};
 ghost use Rattle.ical_values.specs.Octets.{address_octets, text_octets};
@@ -9,7 +9,7 @@ use crate::answer::LimitKind;
 use cal_events::{Instance, InstanceKey, OwnedKey, Single};
 use clash_cert::Clash;
 use ical_values::{Address, Stamp, Text};
-use itip_order::{Held, Slot};
+use itip_order::Slot;
 use std::alloc::{AllocError, Global};
 
 /// A meeting's name: the UID of an ORGANIZER.
@@ -79,42 +79,6 @@ pub struct Given {
     pub outcome: Outcome,
     /// None unless the part was accepted, and none that another part in the view stands for.
     pub singles: Vec<Single>,
-}
-
-impl Clone for Given {
-    ghost use Rattle.room_books.specs.Takings.{IsCopy};
-
-    ghost is_clone = { λ given copy. IsCopy given copy };
-
-    fn clone(&self) -> Result<Given, AllocError> {
-        let outcome = self.outcome.clone()?;
-        let singles = self.singles.clone()?;
-        Ok(Given {
-            slot: self.slot,
-            moment: self.moment,
-            outcome,
-            singles,
-        })
-    }
-}
-
-/// A meeting of a room.
-#[derive(Drop)]
-pub struct Meeting {
-    pub held: Held,
-    /// The answers to those parts in the view that are to take place, in the order in which they were given.
-    pub answers: Vec<Given>,
-}
-
-impl Meeting {
-    ghost use Rattle.room_books.specs.Views.{confirmed_singles};
-
-    /// The instances for which the meeting holds the room.
-    pub fn singles(&self, alloc: Global) -> Result<Vec<Single>, AllocError>
-        ensures { IfOk result (λ singles. singles.items ≡ confirmed_singles self.now) }
-    {
-        singles_of(alloc, &self.answers)
-    }
 }
 
 /// The instances that these answers confirm.

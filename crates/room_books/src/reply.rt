@@ -9,16 +9,17 @@ ghost use Rattle.profile.specs.rooms.Revisions as revisions;
 ghost use Rattle.profile.specs.rooms.Rooms.{Book};
 ghost use Rattle.profile.specs.rooms.Kept.{Replies};
 ghost use Rattle.room_books.specs.declared.meeting.MeetingKey.{MeetingKey};
-ghost use Rattle.room_books.specs.declared.meeting.Meeting.{Meeting};
+ghost use Rattle.room_books.specs.declared.kept.Meeting.{Meeting};
 ghost use Rattle.room_books.specs.Views.{outcome_of};
-ghost use Rattle.room_books.specs.Takings.{claims_said, octets_in, IsMade, OutcomeDated};
+ghost use Rattle.room_books.specs.Takings.{answers_then, claims_said, octets_in, IsMade, OutcomeDated};
 ghost use Rattle.room_books.specs.Standing.{AreFitting, IsOwn, Meets, SlotDated};
-ghost use Rattle.room_books.specs.BySlot.{AreBySlot, givens};
+ghost use Rattle.room_books.specs.BySlot.{AreBySlot};
 ghost use Rattle.room_books.specs.Replying.{AreShown, CanTell, AllTell, IsEventIn, IsReplyOf, ShowsGiven, WritesAnswers};
 
 use crate::answer::LimitKind;
+use crate::kept::Changes;
 use crate::meeting::{Given, Outcome};
-use crate::slots::{answer_of, by_slot};
+use crate::slots::answer_after;
 use crate::taking::Claim;
 use clash_cert::Clash;
 use ical_values::{Address, Stamp};
@@ -26,27 +27,29 @@ use itip_messages::{Conflict, Decision, ObjectWriter, ReplyEvent, write_event};
 use itip_order::{Part, Slot, Together};
 use std::alloc::{AllocError, Global};
 
-/// The REPLY to a message with these claims, where this is held of the meeting after it, and these are its answers: a VEVENT for each part
-/// that is to take place and is in the view, in their order; None where there is none.
+/// The REPLY to a message with these claims, where this is held of the meeting after it, and these are its answers before and what becomes
+/// of them: a VEVENT for each part that is to take place and is in the view, in their order; None where there is none.
 ///
-/// A part is looked up in the view by halves, and so is its answer, for which the answers of the meeting are put in order once.
+/// A part is looked up in the view by halves, and so is its answer.
 pub fn reply_to(
     alloc: Global,
     room: &Address,
     claims: &[Claim],
     held: &Together<'_>,
-    answers: &[Given],
+    before: &[Given],
+    changes: &Changes,
 ) -> Result<Option<Vec<u8>>, AllocError>
+    requires { AreBySlot before.now }
     ensures { IfOk result (λ reply. (key : MeetingKey) (own : Book) (meeting : Meeting) → AreFitting key (claims_said claims.now)
         → IsOwn key own
-        → IsMade held.now answers.now meeting → Meets own key meeting
+        → IsMade held.now (answers_then before.now changes.now) meeting → Meets own key meeting
         → Replies (address_octets room.now) own (claims_said claims.now) (octets_in reply)) }
 {
     let shown = shown_in(alloc, claims, held)?;
     if shown.is_empty() {
         return Ok(None);
     }
-    let octets = reply_of(alloc, room, &shown, answers)?;
+    let octets = reply_of(alloc, room, &shown, before, changes)?;
     Ok(Some(octets))
 }
 
@@ -72,14 +75,16 @@ fn reply_of(
     alloc: Global,
     room: &Address,
     shown: &[&Claim],
-    answers: &[Given],
+    before: &[Given],
+    changes: &Changes,
 ) -> Result<Vec<u8>, AllocError>
-    ensures { IfOk result (λ octets. AllTell answers.now shown.now → IsReplyOf (address_octets room.now) answers.now shown.now octets.items) }
+    requires { AreBySlot before.now }
+    ensures { IfOk result (λ octets. AllTell (answers_then before.now changes.now) shown.now
+        → IsReplyOf (address_octets room.now) (answers_then before.now changes.now) shown.now octets.items) }
 {
     let mut object = ObjectWriter::new(alloc);
     object.begin_calendar(Some("REPLY"))?;
-    let sorted = by_slot(alloc, answers)?;
-    write_answers(&mut object, room, shown, &sorted)?;
+    write_answers(&mut object, room, shown, before, changes)?;
     object.end_calendar()?;
     Ok(object.finish())
 }
@@ -88,13 +93,14 @@ fn write_answers(
     object: &mut ObjectWriter,
     room: &Address,
     shown: &[&Claim],
-    answers: &[&Given],
+    before: &[Given],
+    changes: &Changes,
 ) -> Result<(), AllocError>
-    requires { AreBySlot answers.now }
-    ensures { OnOk result (AllTell (givens answers.now) shown.now → WritesAnswers (address_octets room.now) (givens answers.now) shown.now object.old object.new) }
+    requires { AreBySlot before.now }
+    ensures { OnOk result (AllTell (answers_then before.now changes.now) shown.now → WritesAnswers (address_octets room.now) (answers_then before.now changes.now) shown.now object.old object.new) }
 {
     for claim in shown {
-        write_answer(object, room, &claim.part, answers)?;
+        write_answer(object, room, &claim.part, before, changes)?;
     }
     Ok(())
 }
@@ -104,12 +110,13 @@ fn write_answer(
     object: &mut ObjectWriter,
     room: &Address,
     part: &Part,
-    answers: &[&Given],
+    before: &[Given],
+    changes: &Changes,
 ) -> Result<(), AllocError>
-    requires { AreBySlot answers.now }
-    ensures { OnOk result (CanTell (givens answers.now) (part_of part.now) → WritesLines object.old object.new (ShowsGiven (address_octets room.now) (givens answers.now) (part_of part.now))) }
+    requires { AreBySlot before.now }
+    ensures { OnOk result (CanTell (answers_then before.now changes.now) (part_of part.now) → WritesLines object.old object.new (ShowsGiven (address_octets room.now) (answers_then before.now changes.now) (part_of part.now))) }
 {
-    let Some(event) = event_of(room, part, answers) else {
+    let Some(event) = event_of(room, part, before, changes) else {
         return Ok(());
     };
     write_event(object, &event)?;
@@ -117,12 +124,17 @@ fn write_answer(
 }
 
 /// What that VEVENT says.
-fn event_of<'a>(room: &'a Address, part: &'a Part, answers: &[&'a Given]) -> Option<ReplyEvent<'a>>
-    requires { AreBySlot answers.now }
-    ensures event { IfSome result (IsEventIn (address_octets room.now) (givens answers.now) (part_of part.now)) }
-    ensures none { IfNone result (CanTell (givens answers.now) (part_of part.now) → ⊥) }
+fn event_of<'a>(
+    room: &'a Address,
+    part: &'a Part,
+    before: &'a [Given],
+    changes: &'a Changes,
+) -> Option<ReplyEvent<'a>>
+    requires { AreBySlot before.now }
+    ensures event { IfSome result (IsEventIn (address_octets room.now) (answers_then before.now changes.now) (part_of part.now)) }
+    ensures none { IfNone result (CanTell (answers_then before.now changes.now) (part_of part.now) → ⊥) }
 {
-    let given = answer_of(answers, part.slot)?;
+    let given = answer_after(before, changes, part.slot)?;
     let recurrence = recurrence_of(part.slot)?;
     // no `?`, nor in `busy`: Rattle's borrow checker doesn't follow stamps beside references through it
     let Some(decision) = decision_of(&given.outcome) else {

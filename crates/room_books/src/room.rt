@@ -15,18 +15,25 @@ ghost use Rattle.profile.specs.rooms.Messages as profile;
 ghost use Rattle.profile.specs.streams.Streams.{AreClaims};
 ghost use Rattle.profile.specs.rooms.Rooms.{Claim, Book, empty_book};
 ghost use Rattle.profile.specs.rooms.Kept.{kept_certificate, IsKeptCalendar, Refreshes, Replies};
-ghost use Rattle.room_books.specs.Instants.{AreSeparate, IsPartOf, Shifts};
+ghost use Rattle.room_books.specs.Instants.{AreSeparate, IsParted, Shifts};
 ghost use Rattle.room_books.specs.Views.{same_key, all_confirmed, all_singles, confirmed_at, singles_by, others, AreAllApart, IsKeyOf};
 ghost use Rattle.room_books.specs.Views.{MayJoin};
+ghost use Rattle.cal_events.specs.declared.instance.Single.{Single};
 ghost use Rattle.room_books.specs.Timelines.{IsTimelineOf};
-ghost use Rattle.room_books.specs.Takings.{claims_said, held_after, kind_view, octets_in, parts_said, refresh_octets, reply_octets};
+ghost use Rattle.room_books.specs.Takings.{answers_by, answers_then, claims_said, held_after, kept_then, kind_view, octets_in, parts_said, refresh_octets};
+ghost use Rattle.room_books.specs.Takings.{reply_octets};
+ghost use Rattle.room_books.specs.BySlot.{AreBySlot};
+ghost use Rattle.std.specs.List.Sorted.{IsSortedByKey};
+ghost use Rattle.itip_order.specs.Parts.{slot_of};
+ghost use Rattle.profile.specs.rooms.Revisions.{slot_cmp};
 ghost use Rattle.room_books.specs.Takings.{StandsAt, IsMade, IsDecision, IsAnswered, IsKindOf};
 ghost use Rattle.room_books.specs.Standing.{Stands, StepsWith, AreFitting, IsMeetingAfter, IsOwn, Meets, IsPutIn, IsRenewed};
 
 use crate::answer::{Answer, Kind};
 use crate::claims::claims_of;
 use crate::decide::{Meetings, decide, keys_differ};
-use crate::meeting::{Given, Meeting, MeetingKey, Outcome, singles_of};
+use crate::kept::{Changes, Meeting};
+use crate::meeting::{Given, MeetingKey, Outcome, singles_of};
 use crate::refresh::refresh_to;
 use crate::reply::reply_to;
 use crate::slots::slots_of;
@@ -38,7 +45,7 @@ use clash_cert::{Clash, Confirmed, make};
 use ical_values::{Address, Stamp};
 use indexmap::IndexMap;
 use itip_messages::Message;
-use itip_order::{Held, Part, Together};
+use itip_order::{Held, Part, Slot, Together};
 use std::alloc::{AllocError, Global};
 
 /// A room with all that it ever took.
@@ -54,11 +61,11 @@ pub struct Room {
     ghost apart: { AreAllApart meetings.entries },
 }
 
-/// The answers that a meeting has after a message, the instances that it no longer confirms and those that it confirms now and didn't
-/// before, and what became of the message.
+/// What a message does to the answers of its meeting, the instances that the meeting no longer confirms and those that it confirms now and
+/// didn't before, and what became of the message.
 #[derive(Drop)]
 struct Settled {
-    answers: Vec<Given>,
+    changes: Changes,
     gone: Vec<Single>,
     added: Vec<Single>,
     kind: Kind,
@@ -67,7 +74,7 @@ struct Settled {
 /// The same, and the objects that are sent.
 #[derive(Drop)]
 struct Taken {
-    answers: Vec<Given>,
+    changes: Changes,
     gone: Vec<Single>,
     added: Vec<Single>,
     kind: Kind,
@@ -75,23 +82,28 @@ struct Taken {
     refresh: Option<Vec<u8>>,
 }
 
-/// The answers that a meeting has after a message, the instances that are confirmed by those that are new, and what was decided
-/// of these; None where none is new.
+/// What a message does to the answers of its meeting, the instances that are confirmed by those to its parts, and what was decided of
+/// these; None where none is new.
 #[derive(Drop)]
 struct Answered {
-    answers: Vec<Given>,
+    changes: Changes,
     added: Vec<Single>,
     outcome: Option<Outcome>,
 }
 
 /// What a room has confirmed is clear, whatever it takes.
 impl Confirmed for Room {
+    ghost use Rattle.std.specs.Prelude.{[]};
     ghost use Rattle.room_books.specs.Views.{all_confirmed};
 
-    ghost confirmed = { λ room. all_confirmed room.meetings.entries };
+    ghost confirmed = { λ room. record { series = []; singles = all_confirmed room.meetings.entries } };
 
     fn count(&self) -> u64 {
         self.timeline.confirmed() as u64
+    }
+
+    fn count_of_series(&self) -> u64 {
+        0
     }
 
     fn clash(&self, _alloc: Global) -> Result<Option<Clash>, AllocError> {
@@ -190,14 +202,14 @@ impl Room {
         let key = MeetingKey::of(&first.organiser, &first.uid)?;
         let more = parts_of(self.alloc, claims)?;
         let Taken {
-            answers,
+            changes,
             gone,
             added,
             kind,
             reply,
             refresh,
         } = self.taken_by(&key, first, claims, &more, adds, now)?;
-        self.put(key, more, answers, &gone, &added)?;
+        self.put(key, more, changes, &gone, &added)?;
         Ok(Answer {
             kind,
             reply,
@@ -219,16 +231,16 @@ impl Room {
         requires more { HoldsAll more.now (parts_said claims.now) }
         ensures shifts { IfOk result (λ taken.
             Shifts (singles_by (lookup (same_key key.now) self.now.meetings.entries)) taken.gone.items taken.added.items
-            (all_singles taken.answers.items)) }
+            (all_singles (answers_then (answers_by (lookup (same_key key.now) self.now.meetings.entries)) taken.changes))) }
         ensures after { IfOk result (λ taken. IsKeyOf (part_of first.now).organiser (part_of first.now).uid key.now → AreFitting key.now (claims_said claims.now)
             → (book : Book) → Stands self.now.meetings.entries book → (meeting : Meeting)
-            → IsMade (held_after (lookup (same_key key.now) self.now.meetings.entries) more.now) taken.answers.items meeting
+            → IsMade (held_after (lookup (same_key key.now) self.now.meetings.entries) more.now) (answers_then (answers_by (lookup (same_key key.now) self.now.meetings.entries)) taken.changes) meeting
             → IsMeetingAfter book key.now (claims_said claims.now) now (kind_view taken.kind) meeting) }
         ensures joins { IfOk result (λ taken.
-            MayJoin (others key.now self.now.meetings.entries) key.now (all_singles taken.answers.items)) }
+            MayJoin (others key.now self.now.meetings.entries) key.now (all_singles (answers_then (answers_by (lookup (same_key key.now) self.now.meetings.entries)) taken.changes))) }
         ensures replies { IfOk result (λ taken. (own : Book) (meeting : Meeting) → AreFitting key.now (claims_said claims.now)
             → IsOwn key.now own
-            → IsMade (held_after (lookup (same_key key.now) self.now.meetings.entries) more.now) taken.answers.items meeting
+            → IsMade (held_after (lookup (same_key key.now) self.now.meetings.entries) more.now) (answers_then (answers_by (lookup (same_key key.now) self.now.meetings.entries)) taken.changes) meeting
             → Meets own key.now meeting
             → Replies (address_octets self.now.address) own (claims_said claims.now) (octets_in taken.reply)) }
         ensures refreshes { IfOk result (λ taken. (before after : List revisions.Part)
@@ -237,19 +249,26 @@ impl Room {
             → Refreshes (address_octets self.now.address) adds before after (claims_said claims.now) now (octets_in taken.refresh)) }
     {
         keys_differ(&self.meetings);
-        let before = self.singles_before(key)?;
         let held = held_with(self.meetings.get(key), more);
-        let settled = self.settled(key, first, claims, &held, &before, now)?;
-        let reply = reply_to(self.alloc, &self.address, claims, &held, &settled.answers)?;
+        let settled = self.settled(key, first, claims, &held, now)?;
+        let answers = self.answers_before(key);
+        let reply = reply_to(
+            self.alloc,
+            &self.address,
+            claims,
+            &held,
+            answers,
+            &settled.changes,
+        )?;
         let refresh = self.refresh_of(key, claims, adds, &held, now)?;
         let Settled {
-            answers,
+            changes,
             gone,
             added,
             kind,
         } = settled;
         Ok(Taken {
-            answers,
+            changes,
             gone,
             added,
             kind,
@@ -286,13 +305,14 @@ impl Room {
         Ok(Some(octets))
     }
 
-    /// What a meeting has confirmed; nothing where it was never heard of.
-    fn singles_before(&self, key: &MeetingKey) -> Result<Vec<Single>, AllocError>
-        ensures { IfOk result (λ singles. singles.items ≡ singles_by (lookup (same_key key.now) self.now.meetings.entries)) }
+    /// The answers that a meeting has; none where it was never heard of.
+    fn answers_before(&self, key: &MeetingKey) -> &[Given]
+        ensures are { result.now ≡ answers_by (lookup (same_key key.now) self.now.meetings.entries) }
+        ensures by_slot { AreBySlot result.now }
     {
         match self.meetings.get(key) {
-            Some(meeting) => meeting.singles(self.alloc),
-            None => Ok(Vec::new(self.alloc)),
+            Some(meeting) => &meeting.answers,
+            None => &[],
         }
     }
 
@@ -303,21 +323,20 @@ impl Room {
         first: &Part,
         claims: &[taking::Claim],
         held: &Together<'_>,
-        before: &[Single],
         now: Stamp,
     ) -> Result<Settled, AllocError>
         requires some { 0 < length claims.now }
         requires held { (history : List revisions.Part) → StandsAt (lookup (same_key key.now) self.now.meetings.entries) history
             → HoldsAll held.now (history ++ parts_said claims.now) }
-        requires before { before.now ≡ singles_by (lookup (same_key key.now) self.now.meetings.entries) }
         ensures after { IfOk result (λ settled. IsKeyOf (part_of first.now).organiser (part_of first.now).uid key.now
             → AreFitting key.now (claims_said claims.now)
-            → (book : Book) → Stands self.now.meetings.entries book → (meeting : Meeting) → IsMade held.now settled.answers.items meeting
+            → (book : Book) → Stands self.now.meetings.entries book → (meeting : Meeting) → IsMade held.now (answers_then (answers_by (lookup (same_key key.now) self.now.meetings.entries)) settled.changes) meeting
             → IsMeetingAfter book key.now (claims_said claims.now) now (kind_view settled.kind) meeting) }
         ensures shifts { IfOk result (λ settled.
-            Shifts before.now settled.gone.items settled.added.items (all_singles settled.answers.items)) }
+            Shifts (singles_by (lookup (same_key key.now) self.now.meetings.entries)) settled.gone.items settled.added.items
+            (all_singles (answers_then (answers_by (lookup (same_key key.now) self.now.meetings.entries)) settled.changes))) }
         ensures joins { IfOk result (λ settled.
-            MayJoin (others key.now self.now.meetings.entries) key.now (all_singles settled.answers.items)) }
+            MayJoin (others key.now self.now.meetings.entries) key.now (all_singles (answers_then (answers_by (lookup (same_key key.now) self.now.meetings.entries)) settled.changes))) }
     {
         keys_differ(&self.meetings);
         let views = Views {
@@ -325,147 +344,147 @@ impl Room {
             after: held,
         };
         let slots = slots_of(self.alloc, claims)?;
-        let Kept {
-            answers: kept,
-            gone,
-        } = views.kept(self.alloc, first, &slots)?;
+        let Kept { lost, left, gone } = views.kept(self.alloc, first, &slots)?;
         let asked = views.asked(self.alloc, claims)?;
-        let answered = self.answers_after(key, held, kept, &asked, before, now)?;
+        let answered = self.answers_after(key, held, lost, left, &asked, &gone, now)?;
         let kind = views.kind_of(claims, &answered.outcome)?;
         Ok(Settled {
-            answers: answered.answers,
+            changes: answered.changes,
             gone,
             added: answered.added,
             kind,
         })
     }
 
-    /// The answers that stay, and those to the claims that are asked: one decision for all of them.
+    /// The answers that stay, where those of these slots are lost, this is left of them and these instances are gone, and the answers to the
+    /// claims that are asked: one decision for all of them.
     fn answers_after(
         &self,
         key: &MeetingKey,
         held: &Together<'_>,
-        kept: Vec<Given>,
+        lost: Vec<Slot>,
+        left: Vec<Given>,
         asked: &[&taking::Claim],
-        before: &[Single],
+        gone: &[Single],
         now: Stamp,
     ) -> Result<Answered, AllocError>
-        requires before { before.now ≡ singles_by (lookup (same_key key.now) self.now.meetings.entries) }
-        requires part { IsPartOf (all_singles kept.items) before.now }
-        ensures answered { IfOk result (λ answered. IsAnswered (others key.now self.now.meetings.entries) key.now held.now now kept.items asked.now answered.answers.items answered.outcome) }
-        ensures added { IfOk result (λ answered. all_singles answered.answers.items ≡ all_singles kept.items ++ answered.added.items) }
-        ensures joins { IfOk result (λ answered. MayJoin (others key.now self.now.meetings.entries) key.now (all_singles answered.answers.items)) }
+        requires rises { IsSortedByKey slot_of slot_cmp lost.items }
+        requires parted { IsParted (singles_by (lookup (same_key key.now) self.now.meetings.entries)) gone.now (all_singles (kept_then (lookup (same_key key.now) self.now.meetings.entries) lost.items left.items)) }
+        ensures answered { IfOk result (λ answered. IsAnswered (others key.now self.now.meetings.entries) key.now held.now now
+            (kept_then (lookup (same_key key.now) self.now.meetings.entries) lost.items left.items) asked.now (answers_then (answers_by (lookup (same_key key.now) self.now.meetings.entries)) answered.changes) answered.outcome) }
+        ensures added { IfOk result (λ answered. IsParted (all_singles (answers_then (answers_by (lookup (same_key key.now) self.now.meetings.entries)) answered.changes)) (all_singles (kept_then (lookup (same_key key.now) self.now.meetings.entries) lost.items left.items)) answered.added.items) }
+        ensures joins { IfOk result (λ answered.
+            MayJoin (others key.now self.now.meetings.entries) key.now (all_singles (answers_then (answers_by (lookup (same_key key.now) self.now.meetings.entries)) answered.changes))) }
     {
         keys_differ(&self.meetings);
         if asked.is_empty() {
             return Ok(Answered {
-                answers: kept,
+                changes: Changes::of(self.alloc, lost, left)?,
                 added: Vec::new(self.alloc),
                 outcome: None,
             });
         }
         let candidates = candidates(self.alloc, held, asked, now)?;
-        let outcome = self.decide(key, &kept, &candidates, before)?;
+        let outcome = self.decide(key, gone, &candidates)?;
         let mut new = decided(self.alloc, candidates, &outcome)?;
         let added = singles_of(self.alloc, &new)?;
-        let mut answers = kept;
-        answers.append(&mut new)?;
+        let mut coming = left;
+        coming.append(&mut new)?;
+        let changes = Changes::of(self.alloc, lost, coming)?;
         Ok(Answered {
-            answers,
+            changes,
             added,
             outcome: Some(outcome),
         })
     }
 
-    /// What is decided of candidates beside what a meeting keeps of what it had confirmed, and all that the others have.
+    /// What is decided of candidates beside what a meeting keeps, where these of its instances are gone, and all that the others have.
     fn decide(
         &self,
         key: &MeetingKey,
-        kept: &[Given],
+        gone: &[Single],
         candidates: &[Given],
-        before: &[Single],
     ) -> Result<Outcome, AllocError>
-        requires before { before.now ≡ singles_by (lookup (same_key key.now) self.now.meetings.entries) }
-        requires part { IsPartOf (all_singles kept.now) before.now }
-        ensures { IfOk result (IsDecision (others key.now self.now.meetings.entries) key.now (all_singles kept.now) (all_singles candidates.now)) }
+        requires parted { (kept : List Single) × IsParted (singles_by (lookup (same_key key.now) self.now.meetings.entries)) gone.now kept }
+        ensures { IfOk result (λ outcome. (kept : List Single)
+            → IsParted (singles_by (lookup (same_key key.now) self.now.meetings.entries)) gone.now kept
+            → IsDecision (others key.now self.now.meetings.entries) key.now kept (all_singles candidates.now) outcome) }
     {
         keys_differ(&self.meetings);
-        let kept = singles_of(self.alloc, kept)?;
         let wanted = singles_of(self.alloc, candidates)?;
-        let beside = self.timeline.confirmed() - before.len();
-        decide(
+        let beside = self.timeline.confirmed() - gone.len();
+        let outcome = decide(
             self.alloc,
             &self.meetings,
             &self.timeline,
             key,
             beside,
-            &kept,
+            gone,
             &wanted,
-        )
+        )?;
+        Ok(outcome)
     }
 
-    /// Puts more of a meeting in its place, with these answers; takes what is gone out of the timeline, and puts in what is added.
+    /// Puts more of a meeting in its place, and changes its answers; takes what is gone out of the timeline, and puts in what is added.
     fn put(
         &mut self,
         key: MeetingKey,
         more: Held,
-        answers: Vec<Given>,
+        changes: Changes,
         gone: &[Single],
         added: &[Single],
     ) -> Result<(), AllocError>
         requires shifts { Shifts (singles_by (lookup (same_key key) self.old.meetings.entries)) gone.now added.now
-            (all_singles answers.items) }
-        requires joins { MayJoin (others key self.old.meetings.entries) key (all_singles answers.items) }
-        ensures put { OnOk result (IsPutIn key more answers.items self.old.meetings.entries self.new.meetings.entries) }
+            (all_singles (answers_then (answers_by (lookup (same_key key) self.old.meetings.entries)) changes)) }
+        requires joins { MayJoin (others key self.old.meetings.entries) key (all_singles (answers_then (answers_by (lookup (same_key key) self.old.meetings.entries)) changes)) }
+        ensures put { OnOk result (IsPutIn key more changes self.old.meetings.entries self.new.meetings.entries) }
         ensures address { self.new.address ≡ self.old.address }
         ensures err { OnErr result (IsUnchanged self.old.meetings self.new.meetings) }
     {
         keys_differ(&self.meetings);
         self.timeline.reserve(added.len())?;
-        let place = put_in(&mut self.meetings, key, more, answers)?;
+        let place = put_in(self.alloc, &mut self.meetings, key, more, changes)?;
         self.timeline.change(place, gone, added);
         Ok(())
     }
 }
 
-/// Puts more of a meeting in its place, behind the others where nothing was heard of it, with these answers; and tells the place.
+/// Puts more of a meeting in its place, behind the others where nothing was heard of it, and changes its answers; and tells the place.
 fn put_in(
+    alloc: Global,
     meetings: &mut Meetings,
     key: MeetingKey,
     more: Held,
-    answers: Vec<Given>,
+    changes: Changes,
 ) -> Result<usize, AllocError>
     ensures place { IfOk result (λ place. place ≡ insert_index same_key meetings.old key) }
-    ensures put { OnOk result (IsPutIn key more answers.items meetings.old.entries meetings.new.entries) }
+    ensures put { OnOk result (IsPutIn key more changes meetings.old.entries meetings.new.entries) }
     ensures err { OnErr result (IsUnchanged meetings.old meetings.new) }
 {
     let Some(place) = meetings.get_index_of(&key) else {
-        let meeting = Meeting {
-            held: more,
-            answers,
-        };
+        let meeting = Meeting::new(more, changes);
         let (place, _) = meetings.insert_full(key, meeting)?;
         return Ok(place);
     };
-    renew(meetings, place, more, answers)?;
+    renew(alloc, meetings, place, more, changes)?;
     Ok(place)
 }
 
-/// Takes more parts of the meeting in a place, and gives it these answers.
+/// Takes more parts of the meeting in a place, and changes its answers.
 fn renew(
+    alloc: Global,
     meetings: &mut Meetings,
     place: usize,
     more: Held,
-    answers: Vec<Given>,
+    changes: Changes,
 ) -> Result<(), AllocError>
     requires { place < length meetings.old.entries }
-    ensures renewed { OnOk result (IsRenewed place more answers.items meetings.old.entries meetings.new.entries) }
+    ensures renewed { OnOk result (IsRenewed place more changes meetings.old.entries meetings.new.entries) }
     ensures err { OnErr result (IsUnchanged meetings.old meetings.new) }
 {
     let Some(meeting) = meetings.get_index_mut(place) else {
         return Ok(());
     };
-    meeting.held.take_all(more)?;
-    meeting.answers = answers;
+    meeting.take(alloc, more, changes)?;
     Ok(())
 }

@@ -1,15 +1,16 @@
 //! Slots: those of a message's parts, and the answers of a meeting by theirs.
 
-ghost use Rattle.std.specs.Prelude.{◌≡◌, IfOk, IfSome, IfNone, IsTrue, Contains};
+ghost use Rattle.std.specs.Prelude.{◌≡◌, ◌++◌, filter, IfOk, OnOk, IfSome, IfNone, Contains};
 ghost use Rattle.std.specs.List.Sorted.{IsPermutation, IsSortedByKey};
 ghost use Rattle.profile.specs.rooms.Revisions.{slot_cmp};
 ghost use Rattle.itip_order.specs.Parts.{slot_of};
 ghost use Rattle.room_books.specs.declared.meeting.Given.{Given};
-ghost use Rattle.room_books.specs.Takings.{parts_said};
+ghost use Rattle.room_books.specs.Takings.{answers_then, parts_said};
 ghost use Rattle.room_books.specs.Touching as touching;
-ghost use Rattle.room_books.specs.Touching.{AllTouch, IsUntouched};
-ghost use Rattle.room_books.specs.BySlot.{AreBySlot, AreSame, givens};
+ghost use Rattle.room_books.specs.Touching.{AllTouch};
+ghost use Rattle.room_books.specs.BySlot.{AreBySlot, givens, is_at, is_below, is_up_to, taken_at, IsPlace};
 
+use crate::kept::Changes;
 use crate::meeting::Given;
 use crate::taking::Claim;
 use itip_order::Slot;
@@ -43,45 +44,90 @@ pub fn is_touched(sorted: &[Slot], slot: Slot) -> bool
     sorted.binary_search(&slot).is_ok()
 }
 
-/// Whether a slot is that of an instance, and neither it nor the whole is one of these, which stand in order.
-pub fn is_untouched(sorted: &[Slot], slot: Slot) -> bool
-    requires { IsSortedByKey slot_of slot_cmp sorted.now }
-    ensures { IsTrue result → IsUntouched sorted.now (slot_of slot) }
-{
-    match slot {
-        Slot::Whole => false,
-        Slot::At(_) => !is_touched(sorted, slot) && !is_touched(sorted, Slot::Whole),
-    }
-}
-
-/// The answers in the order of their slots.
-pub fn by_slot(alloc: Global, answers: &[Given]) -> Result<Vec<&Given>, AllocError>
-    ensures same { IfOk result (λ sorted. AreSame answers.now (givens sorted.items)) }
-    ensures rises { IfOk result (λ sorted. AreBySlot sorted.items) }
-{
-    let mut sorted = Vec::new(alloc);
-    for given in answers {
-        sorted.push(given)?;
-    }
-    sort(&mut sorted);
-    Ok(sorted)
-}
-
-fn sort(answers: &mut Vec<&Given>)
-    ensures same { IsPermutation answers.old.items answers.new.items }
-    ensures rises { AreBySlot answers.new.items }
-{
-    answers.sort_unstable_by(|a, b| a.slot.cmp(&b.slot));
-}
-
-/// The answer to the part of a slot, among answers in the order of their slots.
-pub fn answer_of<'a>(answers: &[&'a Given], slot: Slot) -> Option<&'a Given>
+/// The place of the first answer of a slot that isn't below, among answers by their slots.
+pub fn place_before(answers: &[Given], slot: Slot) -> usize
     requires { AreBySlot answers.now }
-    ensures found { IfSome result (λ given. Contains (givens answers.now) given.now × (slot_of given.now.slot ≡ slot_of slot)) }
-    ensures none { IfNone result ((given : Given) → Contains (givens answers.now) given → slot_of given.slot ≡ slot_of slot → ⊥) }
+    ensures { IsPlace (is_below (slot_of slot)) answers.now result }
 {
-    let Ok(at) = answers.binary_search_by(|given| given.slot.cmp(&slot)) else {
+    answers.partition_point(|given| given.slot.cmp(&slot).is_lt())
+}
+
+/// The place of the first answer of a slot above, among answers by their slots.
+pub fn place_past(answers: &[Given], slot: Slot) -> usize
+    requires { AreBySlot answers.now }
+    ensures { IsPlace (is_up_to (slot_of slot)) answers.now result }
+{
+    answers.partition_point(|given| given.slot.cmp(&slot).is_le())
+}
+
+/// The answers of a slot, among answers by their slots.
+pub fn answers_of(answers: &[Given], slot: Slot) -> &[Given]
+    requires { AreBySlot answers.now }
+    ensures { result.now ≡ filter (is_at (slot_of slot)) answers.now }
+{
+    let from = place_before(answers, slot);
+    let to = place_past(answers, slot);
+    let rest = &answers[from..];
+    &rest[..to - from]
+}
+
+/// The answers of these slots, among answers by theirs: each slot is looked for behind what was found before.
+pub fn answers_at<'a>(
+    alloc: Global,
+    answers: &'a [Given],
+    slots: &[Slot],
+) -> Result<Vec<&'a Given>, AllocError>
+    requires slots { IsSortedByKey slot_of slot_cmp slots.now }
+    requires answers { AreBySlot answers.now }
+    ensures { IfOk result (λ are. givens are.items ≡ taken_at slots.now answers.now) }
+{
+    let mut are = Vec::new(alloc);
+    let mut rest = answers;
+    for slot in slots {
+        push_all(&mut are, answers_of(rest, *slot))?;
+        let past = place_past(rest, *slot);
+        rest = &rest[past..];
+    }
+    Ok(are)
+}
+
+/// Puts answers behind others.
+fn push_all<'a>(are: &mut Vec<&'a Given>, more: &'a [Given]) -> Result<(), AllocError>
+    ensures { OnOk result (givens are.new.items ≡ givens are.old.items ++ more.now) }
+{
+    for given in more {
+        are.push(given)?;
+    }
+    Ok(())
+}
+
+/// The answer to the part of a slot, among answers by their slots.
+pub fn answer_of(answers: &[Given], slot: Slot) -> Option<&Given>
+    requires { AreBySlot answers.now }
+    ensures found { IfSome result (λ given. Contains answers.now given.now × (slot_of given.now.slot ≡ slot_of slot)) }
+    ensures none { IfNone result ((given : Given) → Contains answers.now given → slot_of given.slot ≡ slot_of slot → ⊥) }
+{
+    let own = answers_of(answers, slot);
+    let Some(given) = own.first() else {
         return None;
     };
-    Some(answers[at])
+    Some(given)
+}
+
+/// The answer to the part of a slot, where these are the answers before a message and what it does to them.
+pub fn answer_after<'a>(before: &'a [Given], changes: &'a Changes, slot: Slot) -> Option<&'a Given>
+    requires { AreBySlot before.now }
+    ensures found { IfSome result (λ given. Contains (answers_then before.now changes.now) given.now × (slot_of given.now.slot ≡ slot_of slot)) }
+    ensures none { IfNone result ((given : Given) → Contains (answers_then before.now changes.now) given → slot_of given.slot ≡ slot_of slot → ⊥) }
+{
+    if let Some(given) = answer_of(&changes.new, slot) {
+        return Some(given);
+    }
+    if is_touched(&changes.lost, slot) {
+        return None;
+    }
+    let Some(given) = answer_of(before, slot) else {
+        return None;
+    };
+    Some(given)
 }

@@ -1,6 +1,6 @@
 //! What a message does to its meeting: computed beside the room, and put into it by the last step.
 
-ghost use Rattle.std.specs.Prelude.{◌≡◌, ◌&&◌, ◌++◌, Contains, List, IfOk, IfSome, is_some, option_copied};
+ghost use Rattle.std.specs.Prelude.{◌≡◌, ◌&&◌, ◌++◌, false, map, Contains, IsTrue, List, Some, IfOk, IfSome, is_some, option_copied};
 ghost use Rattle.std.specs.List.{AllZip, list_any};
 ghost use Rattle.profile.specs.rooms.Revisions as revisions;
 ghost use Rattle.profile.specs.rooms.Rooms as rooms;
@@ -12,14 +12,18 @@ ghost use Rattle.room_books.specs.Takings as takings;
 ghost use Rattle.room_books.specs.Touching as touching;
 ghost use Rattle.itip_order.specs.Registers.{StandsFor};
 ghost use Rattle.room_books.specs.Views.{outcome_of, all_singles, singles_by};
-ghost use Rattle.room_books.specs.Instants.{IsPartOf, IsSplit, Sheds};
-ghost use Rattle.room_books.specs.Standing.{KeepsAll};
+ghost use Rattle.room_books.specs.BySlot.{AreBySlot, givens};
+ghost use Rattle.room_books.specs.Instants.{IsPartOf, IsParted, IsSplit, Sheds};
+ghost use Rattle.room_books.specs.Touching.{IsUntouched};
+ghost use Rattle.room_books.specs.declared.meeting.Given.{Given};
+ghost use Rattle.room_books.specs.Standing.{KeepsAll, KeepsSome};
 ghost use Rattle.room_books.specs.Takings.{StandsAt, held_after, AreAsked, booked_in, left_in, IsLeftOf, IsAccepted, IsDecided, IsKindOf};
-ghost use Rattle.room_books.specs.Takings.{IsStill, kind_view, parts_said, singles_left};
+ghost use Rattle.room_books.specs.Takings.{IsLeftAlone, IsStill, kept_then, kind_view, parts_said, singles_left};
 
 use crate::answer::Kind;
-use crate::meeting::{Given, Meeting, Outcome};
-use crate::slots::{is_touched, is_untouched};
+use crate::kept::Meeting;
+use crate::meeting::{Given, Outcome};
+use crate::slots::{answers_at, answers_of, is_touched};
 use cal_events::Single;
 use ical_values::Stamp;
 use itip_order::{Body, Held, Part, Slot, Together};
@@ -41,10 +45,14 @@ impl Claim {
     }
 }
 
-/// The answers of a meeting that stay, and the instances that went.
+/// What becomes of the answers of a meeting before anything new is decided.
 #[derive(Drop)]
 pub struct Kept {
-    pub answers: Vec<Given>,
+    /// The slots of those that don't stay as they are, in order.
+    pub lost: Vec<Slot>,
+    /// What is left of them where their parts stay in the view.
+    pub left: Vec<Given>,
+    /// The instances that no answer confirms any more.
     pub gone: Vec<Single>,
 }
 
@@ -192,35 +200,164 @@ impl<'a> Views<'a> {
         self.is_fresh(part) && lacks_whole(self.after, part)
     }
 
-    /// The answers to parts that stay in the view where parts of these slots were taken, each with the instances that it still
-    /// confirms; and the instances that no answer confirms any more. The part is one of the meeting. Only what the message
-    /// touches is looked up.
+    /// What becomes of the answers where parts of these slots were taken: those to parts that left the view go, and of those that confirm
+    /// less than before that is left; the others stay. The part is one of the meeting. Only what the message touches is looked at.
     pub fn kept(&self, alloc: Global, part: &Part, slots: &[Slot]) -> Result<Kept, AllocError>
         requires { IsSortedByKey slot_of slot_cmp slots.now }
         ensures kept { IfOk result (λ kept.
-            KeepsAll (part_of part.now) slots.now (option_copied self.now.before) self.now.after.now kept.answers.items) }
-        ensures split { IfOk result (λ kept.
-            IsSplit (singles_by (option_copied self.now.before)) kept.gone.items (all_singles kept.answers.items)) }
+            KeepsAll (part_of part.now) slots.now (option_copied self.now.before) self.now.after.now
+            (kept_then (option_copied self.now.before) kept.lost.items kept.left.items)) }
+        ensures parted { IfOk result (λ kept.
+            IsParted (singles_by (option_copied self.now.before)) kept.gone.items
+            (all_singles (kept_then (option_copied self.now.before) kept.lost.items kept.left.items))) }
+        ensures rises { IfOk result (λ kept. IsSortedByKey slot_of slot_cmp kept.lost.items) }
     {
-        let mut answers = Vec::new(alloc);
-        let mut gone = Vec::new(alloc);
         let Some(meeting) = self.before else {
-            return Ok(Kept { answers, gone });
+            return Ok(Kept {
+                lost: Vec::new(alloc),
+                left: Vec::new(alloc),
+                gone: Vec::new(alloc),
+            });
         };
         let before = meeting.held.alone();
-        for given in &meeting.answers {
-            if is_untouched(slots, given.slot) {
-                answers.push(given.clone()?)?;
-                continue;
-            }
-            let Some(still) = still(alloc, &before, self.after, part, slots, given, &mut gone)?
-            else {
-                continue;
-            };
-            answers.push(still)?;
-        }
-        Ok(Kept { answers, gone })
+        let lost = lost(alloc, &before, self.after, part, slots, &meeting.answers)?;
+        let out = answers_at(alloc, &meeting.answers, &lost)?;
+        let kept = left_at(alloc, &before, self.after, part, slots, lost, &out)?;
+        Ok(kept)
     }
+}
+
+/// What is left of these answers, those of the slots that are lost, and the instances that they no longer confirm. The part is one of the
+/// meeting.
+fn left_at(
+    alloc: Global,
+    before: &Together<'_>,
+    after: &Together<'_>,
+    part: &Part,
+    slots: &[Slot],
+    lost: Vec<Slot>,
+    out: &[&Given],
+) -> Result<Kept, AllocError>
+    requires { IsSortedByKey slot_of slot_cmp slots.now }
+    ensures lost { IfOk result (λ kept. kept.lost ≡ lost) }
+    ensures left { IfOk result (λ kept. KeepsSome (part_of part.now) slots.now before.now after.now (givens out.now) kept.left.items) }
+    ensures split { IfOk result (λ kept. IsSplit (all_singles (givens out.now)) kept.gone.items (all_singles kept.left.items)) }
+{
+    let mut left = Vec::new(alloc);
+    let mut gone = Vec::new(alloc);
+    for given in out {
+        let Some(still) = still(alloc, before, after, part, slots, given, &mut gone)? else {
+            continue;
+        };
+        left.push(still)?;
+    }
+    Ok(Kept { lost, left, gone })
+}
+
+/// The slots of the answers that don't stay as they are where parts of these slots were taken, in order.
+fn lost(
+    alloc: Global,
+    before: &Together<'_>,
+    after: &Together<'_>,
+    part: &Part,
+    slots: &[Slot],
+    answers: &[Given],
+) -> Result<Vec<Slot>, AllocError>
+    requires slots { IsSortedByKey slot_of slot_cmp slots.now }
+    requires answers { AreBySlot answers.now }
+    ensures rises { IfOk result (λ lost. IsSortedByKey slot_of slot_cmp lost.items) }
+    ensures others { IfOk result (λ lost. (given : Given) → Contains answers.now given → touching.is_touched lost.items (slot_of given.slot) ≡ false
+        → IsLeftAlone slots.now before.now after.now (part_of part.now) given) }
+{
+    let looked = looked_at(alloc, slots, answers)?;
+    let mut lost = Vec::new(alloc);
+    for slot in &looked {
+        if stays(before, after, part, slots, answers, *slot) {
+            continue;
+        }
+        lost.push(*slot)?;
+    }
+    Ok(lost)
+}
+
+/// The slots of the answers that parts of these slots can change: all of them where the whole is among these.
+fn looked_at(alloc: Global, slots: &[Slot], answers: &[Given]) -> Result<Vec<Slot>, AllocError>
+    requires slots { IsSortedByKey slot_of slot_cmp slots.now }
+    requires answers { AreBySlot answers.now }
+    ensures rises { IfOk result (λ looked. IsSortedByKey slot_of slot_cmp looked.items) }
+    ensures others { IfOk result (λ looked. (given : Given) → Contains answers.now given → touching.is_touched looked.items (slot_of given.slot) ≡ false
+        → IsUntouched slots.now (slot_of given.slot)) }
+{
+    if is_touched(slots, Slot::Whole) {
+        let all = slots_in(alloc, answers)?;
+        return Ok(all);
+    }
+    let mut looked = Vec::new(alloc);
+    looked.push(Slot::Whole)?;
+    looked.extend_from_slice(slots)?;
+    Ok(looked)
+}
+
+/// The slots of answers.
+fn slots_in(alloc: Global, answers: &[Given]) -> Result<Vec<Slot>, AllocError>
+    ensures { IfOk result (λ slots. slots.items ≡ map (λ given. given.slot) answers.now) }
+{
+    let mut slots = Vec::new(alloc);
+    for given in answers {
+        slots.push(given.slot)?;
+    }
+    Ok(slots)
+}
+
+/// Whether the answers of a slot stay as they are where parts of these slots were taken.
+fn stays(
+    before: &Together<'_>,
+    after: &Together<'_>,
+    part: &Part,
+    slots: &[Slot],
+    answers: &[Given],
+    slot: Slot,
+) -> bool
+    requires slots { IsSortedByKey slot_of slot_cmp slots.now }
+    requires answers { AreBySlot answers.now }
+    ensures { IsTrue result → (given : Given) → Contains answers.now given → slot_of given.slot ≡ slot_of slot
+        → IsStill slots.now before.now after.now (part_of part.now) given (Some given) }
+{
+    let Some(stayed) = before.part_in(part, slot) else {
+        return false;
+    };
+    if !after.shows(stayed) {
+        return false;
+    }
+    confirms_all(after, stayed, slots, answers_of(answers, slot))
+}
+
+/// Whether no part of these slots in the view stands for an instance that these answers to a part confirm.
+fn confirms_all(held: &Together<'_>, part: &Part, slots: &[Slot], answers: &[Given]) -> bool
+    requires { IsSortedByKey slot_of slot_cmp slots.now }
+    ensures { IsTrue result → (history : List revisions.Part) → StandsFor held.now history → (given : Given) → Contains answers.now given
+        → given.singles.items ≡ takings.left_beside slots.now history (part_of part.now) given.singles.items }
+{
+    for given in answers {
+        if any_hidden(held, part, slots, &given.singles) {
+            return false;
+        }
+    }
+    true
+}
+
+/// Whether a part of these slots in the view stands for one of a part's instances.
+fn any_hidden(held: &Together<'_>, part: &Part, slots: &[Slot], singles: &[Single]) -> bool
+    requires { IsSortedByKey slot_of slot_cmp slots.now }
+    ensures { result ≡ false → (history : List revisions.Part) → StandsFor held.now history
+        → singles.now ≡ takings.left_beside slots.now history (part_of part.now) singles.now }
+{
+    for single in singles {
+        if is_hidden_by(slots, held, part, *single) {
+            return true;
+        }
+    }
+    false
 }
 
 /// Whether nothing was ever taken of the whole of a part's meeting. The greatest part of the whole is in the view, whatever it says.

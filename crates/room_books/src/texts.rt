@@ -6,7 +6,7 @@ ghost use Rattle.std.specs.Str.Lines.{lines};
 ghost use Rattle.indexmap.specs.IndexMap.{values};
 ghost use Rattle.ical_values.specs.Octets.{address_octets};
 ghost use Rattle.itip_order.specs.Parts.{part_of, slot_of};
-ghost use Rattle.clash_cert.specs.Makings.{HasCount, IsCertificate};
+ghost use Rattle.clash_cert.specs.Makings.{HasCounts, IsCertificate};
 ghost use Rattle.profile.specs.checker.Certificates.{text_of};
 ghost use Rattle.profile.specs.rooms.Kept.{IsKeptCalendar, renamed};
 ghost use Rattle.profile.specs.rooms.Revisions.{is_whole, slot_cmp};
@@ -17,7 +17,8 @@ ghost use Rattle.room_books.specs.Keeping.{WritesBody, WritesEntries, WritesHead
 ghost use Rattle.room_books.specs.Keeping.{accepted_slots, all_kept, entry_of, has_slot, kept_in};
 
 use crate::decide::{Meetings, keys_differ};
-use crate::meeting::{Given, Meeting};
+use crate::kept::Meeting;
+use crate::meeting::Given;
 use crate::reply::recurrence_of;
 use crate::taking::is_accept;
 use crate::zones::Zones;
@@ -58,7 +59,8 @@ pub(crate) fn calendar_of(
 
 /// The octets of what was made, where it is a certificate.
 pub(crate) fn certificate_octets(alloc: Global, made: &Made) -> Result<Vec<u8>, AllocError>
-    ensures { IfOk result (λ octets. (count : ℕ) → IsCertificate made.now → HasCount count made.now → octets.items ≡ text_of (record { singles = count })) }
+    ensures { IfOk result (λ octets. (singles series : ℕ) → IsCertificate made.now → HasCounts singles series made.now
+        → octets.items ≡ text_of (record { singles = singles; series = series })) }
 {
     let mut octets = Vec::new(alloc);
     let Made::Clear(certificate) = made else {
@@ -95,7 +97,7 @@ fn write_meeting(
 ) -> Result<(), AllocError>
     ensures { OnOk result (WritesEntries (address_octets room.now) (kept_in meeting.now) zones.old zones.new object.old object.new) }
 {
-    // sorted, since each part looks for its answer, and answers stand in the order in which they were given
+    // each part looks for its answer among them
     let mut accepted = slots_accepted(object.alloc(), &meeting.answers)?;
     sort_slots(&mut accepted);
     let hides = is_among(&accepted, Slot::Whole);

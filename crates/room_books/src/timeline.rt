@@ -4,10 +4,11 @@ ghost use Rattle.std.specs.Prelude.{◌≡◌, ◌<◌, ◌≤◌, ◌+◌, ◌�
 ghost use Rattle.std.specs.List.{find, take_while};
 ghost use Rattle.cal_events.specs.declared.instance.Single.{Single};
 ghost use Rattle.room_books.specs.Timelines.{AreBusy, HoldsInstants, IsPlaceAfter, AreTaken, IsSharedIn, IsFreeAmong, AreAt, IsChanged};
-ghost use Rattle.room_books.specs.Timelines.{IsShift, IsTaken, IsPut, IsTimelineOf, is_beside, starts_before, busy_in, has_busy};
+ghost use Rattle.room_books.specs.Timelines.{IsShift, IsTaken, IsPut, IsTimelineOf, is_leaving, stays, starts_before, busy_in, has_busy};
 ghost use Rattle.room_books.specs.Instants.{AreSeparate};
 ghost use Rattle.std.specs.Vec.{vec_len, vec_capacity};
 
+use crate::gone::Gone;
 use cal_events::{HORIZON, Single, Span};
 use std::alloc::{AllocError, Global};
 
@@ -20,7 +21,7 @@ pub(crate) struct Busy {
 }
 
 /// What is confirmed in a room, in order of time. A look-up takes as many steps as the number of instances has binary digits, and
-/// one for each own instance in the span; what is put in or taken out moves those that come after it.
+/// as many as the number of those that are gone for each of them in the span; what is put in or taken out moves those that come after it.
 #[derive(Drop)]
 pub(crate) struct Timeline {
     /// Those that hold an instant before year 10000: each ends before the next one starts.
@@ -50,33 +51,33 @@ impl Timeline {
         self.confirmed
     }
 
-    /// One of these that shares an instant with an instance of another place than the own one, and that instance, None where there is
-    /// none.
+    /// One of these that shares an instant with an instance that isn't leaving the own place, and that instance, None where there is none.
     pub(crate) fn first_taken(
         &self,
         wanted: &[Single],
         own: Option<usize>,
+        gone: &Gone,
     ) -> Option<(Single, Busy)>
-        ensures { AreTaken own self.now.busy.items wanted.now result }
+        ensures { AreTaken (is_leaving own gone.now) self.now.busy.items wanted.now result }
     {
         for single in wanted {
-            if let Some(busy) = self.taken_in(single.span, own) {
+            if let Some(busy) = self.taken_in(single.span, own, gone) {
                 return Some((*single, busy));
             }
         }
         None
     }
 
-    /// An instance that shares an instant with a span, those of the meeting in the own place aside. It looks at those alone that
-    /// end after the span's start and start before its end.
-    fn taken_in(&self, span: Span, own: Option<usize>) -> Option<Busy>
-        ensures { IsSharedIn own self.now.busy.items span result }
+    /// An instance that shares an instant with a span, those that are gone from the own place aside. It looks at those alone that end
+    /// after the span's start and start before its end, up to the first that stays.
+    fn taken_in(&self, span: Span, own: Option<usize>, gone: &Gone) -> Option<Busy>
+        ensures { IsSharedIn (is_leaving own gone.now) self.now.busy.items span result }
     {
         if !holds_instants(span) {
             return None;
         }
         let place = self.place_after(span.start);
-        first_beside(&self.busy[place..], span.end, own)
+        first_staying(&self.busy[place..], span.end, own, gone)
     }
 
     /// Takes memory for so many more.
@@ -175,14 +176,21 @@ impl Timeline {
     }
 }
 
-/// The first of these that isn't of the meeting in the own place, if it starts before the end.
-fn first_beside(busy: &[Busy], end: i64, own: Option<usize>) -> Option<Busy>
-    ensures { result ≡ find (is_beside own) (take_while (starts_before end) busy.now) }
+/// The first of these that isn't leaving the own place, if it starts before the end.
+fn first_staying(busy: &[Busy], end: i64, own: Option<usize>, gone: &Gone) -> Option<Busy>
+    ensures { result ≡ find (stays (is_leaving own gone.now)) (take_while (starts_before end) busy.now) }
 {
     busy.iter()
         .take_while(|busy| busy.single.span.start < end)
-        .find(|busy| own != Some(busy.place))
+        .find(|busy| !is_gone(busy, own, gone))
         .copied()
+}
+
+/// Whether an instance is of the meeting in the own place, and gone.
+fn is_gone(busy: &Busy, own: Option<usize>, gone: &Gone) -> bool
+    ensures { result ≡ is_leaving own gone.now busy.now }
+{
+    own == Some(busy.place) && gone.has(busy.single)
 }
 
 /// Whether a span holds an instant before year 10000.

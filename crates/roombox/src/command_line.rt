@@ -20,6 +20,9 @@ pub enum Invocation<'a> {
     Expand {
         limit: &'a str,
     },
+    Explain {
+        number: &'a str,
+    },
 }
 
 const ABOUT: &str =
@@ -41,10 +44,15 @@ const EXPAND: &str =
     "Reads one iCalendar object of one event, and prints its first instances: a line with original start, start and seconds each.\n\
     Example: roombox expand --limit 5 < examples/every-second-tuesday.ics";
 
+const EXPLAIN: &str =
+    "Prints what the number of a refusal, or of the checker's no, means and what to do about it.\nExample: roombox explain 43";
+
 /// How many instances are printed where no limit is given.
 const LIMIT: &str = "100";
 
 const ROOM_HELP: &str = "The room's address, as mailto:r1@example.com";
+
+const NUMBER_HELP: &str = "The number behind REFUSED;OBJECT=..:, `refused` or `no`";
 
 const CALENDAR_HELP: &str = "A file: an iCalendar object, as `roombox keep` prints it";
 
@@ -65,7 +73,8 @@ fn program<'a>(alloc: Global) -> Result<Command<'a>, AllocError> {
         .subcommand(Command::new(alloc, "serve").about(SERVE))?
         .subcommand(keep_command(alloc)?)?
         .subcommand(check_command(alloc)?)?
-        .subcommand(expand_command(alloc)?)
+        .subcommand(expand_command(alloc)?)?
+        .subcommand(explain_command(alloc)?)
 }
 
 fn keep_command<'a>(alloc: Global) -> Result<Command<'a>, AllocError> {
@@ -91,8 +100,14 @@ fn expand_command<'a>(alloc: Global) -> Result<Command<'a>, AllocError> {
     let limit = Arg::new(alloc, "limit")
         .long("limit")
         .value_name("N")
-        .help("How many instances at most, from 1 to 100,000 (else 100)");
+        .help("How many instances at most, from 1 to 100000 (else 100)");
     Command::new(alloc, "expand").about(EXPAND).arg(limit)
+}
+
+fn explain_command<'a>(alloc: Global) -> Result<Command<'a>, AllocError> {
+    Command::new(alloc, "explain")
+        .about(EXPLAIN)
+        .arg(required(alloc, "NUMBER", NUMBER_HELP))
 }
 
 fn required<'a>(alloc: Global, name: &'a str, help: &'a str) -> Arg<'a> {
@@ -112,6 +127,9 @@ fn invocation_of<'a>(matches: &ArgMatches<'a>) -> Invocation<'a> {
         },
         Some(("expand", words)) => Invocation::Expand {
             limit: words.get_str("limit").unwrap_or(LIMIT),
+        },
+        Some(("explain", words)) => Invocation::Explain {
+            number: words.get_str("NUMBER").unwrap_or(""),
         },
         _ => Invocation::Serve,
     }

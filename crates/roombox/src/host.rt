@@ -5,7 +5,7 @@ use ical_lines::Fault;
 use ical_values::Address;
 use sched_box::{DeviceReader, DeviceWriter, Output};
 use sched_cli::commands::{Kept, run_check, run_keep, run_serve};
-use sched_cli::run_expand;
+use sched_cli::{run_expand, run_explain};
 use sched_cli::status::{DEVICE, USAGE, report_device, report_memory, report_too_long};
 use std::alloc::Global;
 use std::fs::File;
@@ -99,10 +99,11 @@ fn invoke<R: Runtime + AllocGlobal>(rt: &R, alloc: Global, invocation: Invocatio
         Invocation::Expand { limit } => match limit_of(limit) {
             Some(limit) => invoke_expand(rt, alloc, limit),
             None => {
-                let _ = eprintln!(rt; "roombox: N is no number from 1 to 100,000: {limit:?}");
+                let _ = eprintln!(rt; "roombox: N must be a number from 1 to 100000, got {limit:?}");
                 USAGE
             }
         },
+        Invocation::Explain { number } => invoke_explain(rt, number),
     }
 }
 
@@ -113,7 +114,7 @@ fn read_room<R: Runtime + AllocGlobal>(rt: &R, alloc: Global, word: &str) -> Res
         Err(Fault::Memory) => Err(no_memory(rt)),
         Err(Fault::Refused(_)) => {
             let _ = eprintln!(rt;
-                "roombox: ROOM is no address, such as mailto:room@example.com: {word:?}"
+                "roombox: ROOM must be an address with a scheme, such as mailto:room@example.com, got {word:?}"
             );
             Err(USAGE)
         }
@@ -187,6 +188,20 @@ fn invoke_expand<R: Runtime + AllocGlobal>(rt: &R, alloc: Global, limit: usize) 
     }
     let mut writer = DeviceWriter::new(io::writer(rt));
     run_expand(alloc, octets.as_slice(), limit, &mut writer, &mut errors)
+}
+
+/// Says what the number of a refusal means; a usage fault where nothing has that number.
+fn invoke_explain<R: Runtime + AllocGlobal>(rt: &R, word: &str) -> u8 {
+    let mut errors = DeviceWriter::new(ErrorPrinter { to: rt });
+    let mut writer = DeviceWriter::new(io::writer(rt));
+    let status = match word.parse::<u8>() {
+        Ok(number) => run_explain(number, &mut writer, &mut errors),
+        Err(_) => USAGE,
+    };
+    if status == USAGE {
+        let _ = eprintln!(rt; "roombox: NUMBER must be the number of a refusal, such as 43, got {word:?}");
+    }
+    status
 }
 
 fn report_file<E: Output>(errors: &mut E, fault: FileFault) -> u8 {

@@ -1,8 +1,8 @@
 -- The rooms of a box take a message, and their answers stand one behind another.
-use Rattle.std.proofs.Common.{◌≡◌, inl, inr, ℕ, ◌+◌, ◌<◌, ◌≤◌, ℤ, List, [], ◌∷◌, ◌++◌, length, take, drop, get_or, set, Option, Some, None, refl, sym, ap, subst, ◌∙◌, arith, take_all, length-set, codes, decimal, Result, Ok, Err, OnOk}
+use Rattle.std.proofs.Common.{◌≡◌, inl, inr, false, ℕ, ◌+◌, ◌<◌, ◌≤◌, ℤ, List, [], ◌∷◌, ◌++◌, length, take, drop, get_or, set, Option, Some, None, refl, sym, ap, subst, ◌∙◌, arith, take_all, length-set, codes, decimal, Result, Ok, Err, OnOk}
 use Rattle.std.specs.Option.{option_to_list}
 use Rattle.std.specs.List.{flat_map}
-use Rattle.std.proofs.lemmas.List.{append_assoc, append-nil, take_more, take_more_set, drop_more, drop_all, drop-set-lt}
+use Rattle.std.proofs.lemmas.List.{append_assoc, append-nil, get_or-map, map-append, take-append-drop, take_more, take_more_set, drop_more, drop_all, drop-set-lt}
 use Rattle.ical_values.specs.Octets.{address_octets}
 use Rattle.itip_messages.specs.Messages.{StandsFor, IsSpelled}
 use Rattle.itip_messages.specs.declared.message.Message.{Message}
@@ -15,6 +15,8 @@ use Rattle.room_books.specs.Standing.{Stands, StepsWith}
 use Rattle.room_books.specs.declared.room.Room.{Room}
 use Rattle.sched_box.specs.Objects.{kept_of}
 use Rattle.sched_box.specs.Answering.{room_addresses, AreHosted, RoomTakes, RoomsTake, AnswersKept, sent_octets}
+use Rattle.sched_box.specs.Asked.{asks}
+use Rattle.sched_box.proofs.AskedLemmas.{left_out}
 
 -- ---- one room
 
@@ -137,6 +139,31 @@ taken_all moment message olds news i before after so end =
     let long = so.long in
     let P : List Room → List Room → Type 0 = λ a b. RoomsTake moment message a b so.octets in
     (so.octets, so.is, subst (λ a. P a news) (take_all i olds (omega arith)) (subst (P (take i olds)) (take_all i news end) so.takes))
+
+-- the rooms keep their addresses, whoever has taken it
+pub addresses_sofar : (moment : ℤ) (message : Message) (olds news : List Room) (i : ℕ) (before after : List ℕ) → TakenSofar moment message olds news i before after → room_addresses news ≡ room_addresses olds
+addresses_sofar moment message olds news i before after so =
+    let f : Room → List ℕ = λ room. address_octets room.address in
+    ap room_addresses (sym (take-append-drop i news)) ∙ map-append f (take i news) (drop i news)
+    ∙ ap (λ z. z ++ room_addresses (drop i news)) (same_addresses moment message (take i olds) (take i news) so.octets so.takes)
+    ∙ ap (λ z. room_addresses (take i olds) ++ room_addresses z) so.rest
+    ∙ sym (map-append f (take i olds) (drop i olds)) ∙ ap room_addresses (take-append-drop i olds)
+
+-- the room that comes next is as it was
+next_as_was : (moment : ℤ) (message : Message) (olds news : List Room) (i : ℕ) (before after : List ℕ) (d : Room) → TakenSofar moment message olds news i before after → i < length news → get_or news i d ≡ get_or olds i d
+next_as_was moment message olds news i before after d so l =
+    let l' : i < length olds = within_olds i (length olds) (length news) l so.long in
+    let both : get_or news i d ∷ drop (i + 1) news ≡ get_or olds i d ∷ drop (i + 1) olds = sym (drop_more news i d l) ∙ so.rest ∙ drop_more olds i d l' in
+    cc
+
+-- a room that the message isn't for is passed over
+pub taken_left : (moment : ℤ) (message : Message) (olds news : List Room) (i : ℕ) (before mid : List ℕ) (d : Room) → TakenSofar moment message olds news i before mid → i < length news
+    → asks message (get_or (room_addresses olds) i []) ≡ false → TakenSofar moment message olds (set news i (get_or news i d)) (i + 1) before mid
+taken_left moment message olds news i before mid d so l none =
+    let l' : i < length olds = within_olds i (length olds) (length news) l so.long in
+    let f : Room → List ℕ = λ room. address_octets room.address in
+    let here : get_or (room_addresses olds) i [] ≡ f (get_or news i d) = get_or-map f olds i d [] l' ∙ sym (ap f (next_as_was moment message olds news i before mid d so l)) in
+    taken_more moment message olds news i before mid mid d (get_or news i d) [] so l refl (left_out moment message (get_or news i d) (subst (λ a. asks message a ≡ false) here none)) (sym (append-nil mid))
 
 -- ---- the line for a refusal
 

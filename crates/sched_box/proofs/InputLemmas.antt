@@ -1,13 +1,11 @@
 -- What is taken of an input, from what it lends.
-use Rattle.std.proofs.Common.{◌≡◌, ◌≤◌, ℕ, Bool, true, false, List, [], ◌∷◌, ◌++◌, take, drop, length, Option, Some, None, IfSome, OnSome, ap, sym, subst, ◌∙◌, arith, take-append-drop}
+use Rattle.std.proofs.Common.{◌≡◌, ◌≤◌, ℕ, Bool, false, List, [], ◌∷◌, ◌++◌, take, drop, length, Option, Some, None, IfSome, OnSome, ap, sym, subst, ◌∙◌, arith, take-append-drop}
 use Rattle.std.proofs.lemmas.Bool.{true≢false}
 use Rattle.std.specs.Io.{StartsWith}
 use Rattle.std.specs.Io.KnownBytes.{Consumes, Keeps, IsAtEnd}
-use Rattle.sched_box.specs.Faults.{StopsFor, StreamStopsFor}
+use Rattle.sched_box.specs.Faults.{StopsFor}
 use Rattle.sched_box.specs.declared.fault.ServeFault.{ServeFault}
 use Rattle.sched_box.specs.declared.fault.ServeFault.TheVariants.{Read, Write, TooLong, Memory}
-use Rattle.sched_box.specs.declared.fault.StreamFault.{StreamFault}
-use Rattle.sched_box.specs.declared.fault.StreamFault.TheVariants as stream
 
 -- a reader that kept its octets lends their front; what is taken of what it lends is taken of it; where it lends nothing it is at its end
 pub record TakesOf (a c : Option (List ℕ)) (lent : List ℕ) (count : ℕ) : Type 0 where

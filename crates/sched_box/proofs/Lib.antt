@@ -1,5 +1,6 @@
 pub mod InputLemmas
 pub mod AnswerLemmas
+pub mod AskedLemmas
 pub mod FaultLemmas
 pub mod Lines
 pub mod ObjectLemmas

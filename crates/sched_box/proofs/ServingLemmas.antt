@@ -12,8 +12,8 @@ use Rattle.sched_box.specs.declared.fault.ServeFault.TheVariants.{Read, Write, T
 use Rattle.sched_box.specs.declared.objects.Objects.{Objects}
 use Rattle.sched_box.specs.declared.serving.ServeReport.{ServeReport}
 use Rattle.sched_box.specs.Answering.{AreHosted, IsHosted, AnswersKept, room_addresses}
-use Rattle.sched_box.specs.Objects.{kept_of, TakesObject, ReadsObject, IsStop, StopsReading}
-use Rattle.sched_box.specs.Serving.{AnswersWhole, Ends, Gives, GivesPart, IsWithinBound, ServesAll, ServesSome, ServesCut, HasRead, ServesUntil, Serves, RoomsServe, ServesStream, KeepsTexts, StopsKeeping}
+use Rattle.sched_box.specs.Objects.{kept_of, TakesObject, ReadsObject, StopsReading}
+use Rattle.sched_box.specs.Serving.{AnswersWhole, Ends, Gives, GivesPart, IsWithinBound, ServesAll, ServesSome, HasRead, ServesUntil, Serves, RoomsServe, ServesStream, KeepsTexts, StopsKeeping}
 use Rattle.std.proofs.Common.{◌≢◌, Contains, true≢false}
 use Rattle.std.specs.Str.{bytes_eq}
 use Rattle.std.proofs.lemmas.Slice.Eq.{bytes_eq-Decides}

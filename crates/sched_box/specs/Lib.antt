@@ -1,4 +1,5 @@
 pub mod Answering
+pub mod Asked
 pub mod Config
 pub mod Faults
 pub mod Objects

@@ -1,13 +1,11 @@
 //! The configuration of a box: its rooms, and no organisers yet. It is written in lines, ended by LF
 //! or CRLF, `room ADDRESS` each, in any order, ended by an empty line or by the end of the input; a
 //! preamble has one line `now STAMP` among them. This format is roombox's own.
-ghost use Rattle.std.specs.Prelude.{◌≡◌, ◌↔◌, ℕ, List, [], Bool, ℤ, Contains, IsTrue, IfOk, IfErr};
+ghost use Rattle.std.specs.Prelude.{◌≢◌, map, AllPairs, IfOk, IfErr};
 ghost use Rattle.ical_lines.specs.Fault.{RefusesOnly};
 ghost use Rattle.ical_values.specs.Octets.{address_octets};
 ghost use Rattle.ical_values.specs.Refused.{IfRefused};
 ghost use Rattle.profile.specs.faults.Faults.{is_preamble_fault};
-ghost use Rattle.profile.specs.streams.Streams.{IsPreamble, IsConfiguration};
-ghost use Rattle.sched_box.specs.Config.{config_rooms};
 ghost use Rattle.sched_box.specs.Settings.{ReadsSettings, ReadsNone};
 
 use crate::settings::{Settings, contains, refused};
@@ -26,9 +24,18 @@ const MOST_ROOMS: usize = 64;
 #[derive(Drop)]
 pub struct Config {
     rooms: Vec<Address>,
+    ghost differ: { AllPairs ◌≢◌ (map address_octets rooms.items) },
 }
 
 impl Config {
+    ghost use Rattle.std.specs.Prelude.{◌≡◌, ◌≢◌, ◌↔◌, ℕ, List, [], Bool, ℤ, AllPairs, Contains, IsTrue, IfOk, IfErr};
+    ghost use Rattle.ical_lines.specs.Fault.{RefusesOnly};
+    ghost use Rattle.ical_values.specs.Octets.{address_octets};
+    ghost use Rattle.ical_values.specs.Refused.{IfRefused};
+    ghost use Rattle.profile.specs.faults.Faults.{is_preamble_fault};
+    ghost use Rattle.profile.specs.streams.Streams.{IsPreamble, IsConfiguration};
+    ghost use Rattle.sched_box.specs.Config.{config_rooms};
+
     /// The configuration that a file spells: a preamble without its `now`.
     /// Refused: 90.
     pub fn read(alloc: Global, bytes: &[u8]) -> Result<Config, Fault>
@@ -64,9 +71,10 @@ impl Config {
         }
     }
 
-    /// The rooms, in the order of the lines.
+    /// The rooms, in the order of the lines: no two have one address.
     pub fn rooms(&self) -> &[Address]
-        ensures { result.now ≡ self.now.rooms.items }
+        ensures rooms { result.now ≡ self.now.rooms.items }
+        ensures differ { AllPairs ◌≢◌ (config_rooms self.now) }
     {
         self.rooms.as_slice()
     }

@@ -2,6 +2,7 @@
 #![tactic(auto)]
 
 pub mod config;
+mod directory;
 mod fault;
 pub mod input;
 pub mod objects;

@@ -1,6 +1,6 @@
 //! The objects of a stream, one after another: never more than one of them is in memory.
 
-ghost use Rattle.std.specs.Prelude.{◌≡◌, ◌≤◌, ◌<◌, ◌+◌, ◌-◌, ◌++◌, [], true, false, length, take, nat_lt, slice_index, if◌then◌else◌, IfOk, IfErr, OnOk, OnErr};
+ghost use Rattle.std.specs.Prelude.{◌≡◌, ◌≤◌, ◌<◌, ◌+◌, ◌-◌, ◌++◌, [], true, false, length, take, slice_index, IfOk, IfErr, OnOk, OnErr};
 ghost use Rattle.std.specs.Io.KnownBytes.{Keeps};
 ghost use Rattle.ical_lines.specs.Cut.{ends_before};
 ghost use Rattle.sched_box.specs.Faults.{KeepsButRead, StopsFor};

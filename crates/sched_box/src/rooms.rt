@@ -1,6 +1,6 @@
 //! The rooms of a box, in one value: it takes one object after another, and answers each.
 
-ghost use Rattle.std.specs.Prelude.{◌≡◌, ◌≤◌, ◌++◌, ◌<◌, ℕ, List, Contains, option_map, IfOk, IfErr, IfSome, IsNone, OnOk};
+ghost use Rattle.std.specs.Prelude.{◌≡◌, ◌≤◌, ◌++◌, ◌<◌, ℕ, List, length, Contains, option_map, IfOk, IfErr, IfSome, IsNone, OnOk};
 ghost use Rattle.ical_lines.specs.Fault.{RefusesBy};
 ghost use Rattle.ical_values.specs.Octets.{address_octets};
 ghost use Rattle.itip_messages.specs.Messages.{IsSpelled};
@@ -9,10 +9,12 @@ ghost use Rattle.room_books.specs.Standing.{Stands};
 ghost use Rattle.profile.specs.rooms.Rooms.{empty_book};
 ghost use Rattle.std.specs.Str.{bytes_eq};
 ghost use Rattle.sched_box.specs.Answering.{AnswersKept, AreHosted, RoomTakes, RoomsTake, room_addresses, sent_octets};
+ghost use Rattle.sched_box.specs.Asked.{LeavesOut, asks, directory_addresses};
 ghost use Rattle.sched_box.specs.Config.{config_rooms};
 ghost use Rattle.sched_box.specs.Objects.{kept_of};
 
 use crate::config::Config;
+use crate::directory::Directory;
 use crate::fault::ServeFault;
 use crate::objects::KEPT;
 use ical_lines::{Fault, Refusal};
@@ -27,6 +29,8 @@ use std::alloc::{AllocError, Global};
 pub(crate) struct Rooms {
     alloc: Global,
     rooms: Vec<Room>,
+    directory: Directory,
+    ghost listed: { directory_addresses directory ≡ room_addresses rooms.items },
 }
 
 impl Rooms {
@@ -36,7 +40,12 @@ impl Rooms {
         ensures hosted { IfOk result (λ rooms. AreHosted rooms.rooms.items (new_box (config_rooms config.now))) }
     {
         let rooms = rooms_of(alloc, config)?;
-        Ok(Rooms { alloc, rooms })
+        let directory = Directory::of(alloc, config.rooms())?;
+        Ok(Rooms {
+            alloc,
+            rooms,
+            directory,
+        })
     }
 
     /// The room of an address, if the box hosts it.
@@ -64,7 +73,8 @@ impl Rooms {
     {
         match read_kept(self.alloc, octets) {
             Ok(message) => {
-                take_all(&mut self.rooms, &message, now, answers)?;
+                let asked = self.directory.asked_by(self.alloc, &message)?;
+                take_all(&mut self.rooms, &asked, &message, now, answers)?;
                 Ok(0)
             }
             Err(Fault::Refused(refusal)) => {
@@ -131,18 +141,24 @@ fn read_kept(alloc: Global, octets: &[u8]) -> Result<Message, Fault>
     Message::read(alloc, octets)
 }
 
-/// Hands a message to each room in turn, and appends what it answers.
+/// Hands a message to each room that it may be for, in turn, and appends what it answers.
 fn take_all(
     rooms: &mut Vec<Room>,
+    asked: &[bool],
     message: &Message,
     now: Stamp,
     answers: &mut Vec<u8>,
 ) -> Result<(), AllocError>
-    ensures { OnOk result ((more : List ℕ) × (answers.new.items ≡ answers.old.items ++ more)
+    requires long { length asked.now ≡ length rooms.old.items }
+    requires out { LeavesOut (asks message.now) (room_addresses rooms.old.items) asked.now }
+    ensures addresses { room_addresses rooms.new.items ≡ room_addresses rooms.old.items }
+    ensures takes { OnOk result ((more : List ℕ) × (answers.new.items ≡ answers.old.items ++ more)
         × RoomsTake now message.now rooms.old.items rooms.new.items more) }
 {
-    for room in rooms.iter_mut() {
-        take_one(room, message, now, answers)?;
+    for (place, room) in rooms.iter_mut().enumerate() {
+        if asked[place] {
+            take_one(room, message, now, answers)?;
+        }
     }
     Ok(())
 }

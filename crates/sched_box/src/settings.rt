@@ -1,6 +1,6 @@
 //! The lines of a preamble or a configuration: LF or CRLF ends each, an empty one ends them all.
 
-ghost use Rattle.std.specs.Prelude.{◌≡◌, ◌↔◌, ◌<◌, ℤ, List, ℕ, length, map, Contains, IfOk, IfSome, OnOk, IfErr, OnErr, IsTrue, MatchOption};
+ghost use Rattle.std.specs.Prelude.{◌≡◌, ◌↔◌, ◌<◌, ℤ, length, map, Contains, IfOk, IfSome, OnOk, IfErr, OnErr, IsTrue, MatchOption};
 ghost use Rattle.std.specs.List.{list_any};
 ghost use Rattle.std.specs.Str.{bytes_eq};
 ghost use Rattle.profile.specs.faults.Faults.{is_preamble_fault};
@@ -9,7 +9,7 @@ ghost use Rattle.profile.specs.text.Values.{SpellsStamp, IsAddress, lower_case};
 ghost use Rattle.ical_lines.specs.Fault.{RefusesOnly};
 ghost use Rattle.ical_values.specs.Refused.{IfRefused};
 ghost use Rattle.ical_values.specs.Octets.{address_octets};
-ghost use Rattle.sched_box.specs.Settings.{Adds, AddsLine, Breaks, CanAdd, IsUnbroken, Reads, SaysNone, rooms_of};
+ghost use Rattle.sched_box.specs.Settings.{Adds, AddsLine, Breaks, CanAdd, IsUnbroken, Reads, SaysNone};
 
 use ical_lines::{Fault, Refusal};
 use ical_values::stamp::one_stamp;

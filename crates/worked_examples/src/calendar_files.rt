@@ -1,5 +1,6 @@
 //! What is answered about an object as a calendar.
 
+use crate::calendars::made;
 use crate::certificates::verdict_text;
 use cal_events::{
     Calendar, EventComponent, Instances, MeetingComponents, ParticipationStatus, Purpose, Series,
@@ -138,4 +139,10 @@ pub fn checked(
     let certificate = octets_of(alloc, certificate)?;
     let checked = check(alloc, octets, certificate.as_slice(), room)?;
     verdict_text(alloc, checked)
+}
+
+/// The certificate that is made for a calendar, or the clash.
+pub fn certified(alloc: Global, octets: &[u8], room: &Address) -> Result<String, NoAnswer> {
+    let calendar = Calendar::read(alloc, octets, room)?;
+    made(alloc, &calendar)
 }

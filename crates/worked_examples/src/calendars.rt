@@ -128,7 +128,7 @@ fn overlap(alloc: Global, calendar: &Calendar) -> Result<String, NoAnswer> {
     }
 }
 
-fn made(alloc: Global, calendar: &Calendar) -> Result<String, NoAnswer> {
+pub fn made(alloc: Global, calendar: &Calendar) -> Result<String, NoAnswer> {
     match make(alloc, calendar)? {
         Made::Clear(certificate) => {
             let mut text = Vec::new(alloc);

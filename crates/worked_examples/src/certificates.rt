@@ -1,9 +1,10 @@
-//! Cases of the texts of certificates: `certificate | TEXT` reads one, `certificate-of | COUNT` writes one, behind an octet that stands
+//! Cases of the texts of certificates: `certificate | TEXT` reads one, `certificate-of | SINGLES SERIES` writes one, behind an octet that stands
 //! there already.
 
 use clash_cert::{CertFault, Certificate};
 use clash_check::{Checked, Verdict};
 use example_cases::spelled::{escaped, octets_of};
+use example_cases::words::first_word;
 use example_cases::{Case, NoAnswer};
 use std::alloc::Global;
 
@@ -19,17 +20,17 @@ pub fn read_answer(alloc: Global, case: Case<'_>) -> Result<String, NoAnswer> {
 
 /// What is written of a certificate, and what it says.
 pub fn write_answer(alloc: Global, case: Case<'_>) -> Result<String, NoAnswer> {
-    let singles = case
-        .input()
-        .parse::<u64>()
-        .ok()
-        .ok_or(NoAnswer::Unreadable)?;
-    let certificate = Certificate::of(singles);
+    let (singles, series) = first_word(case.input());
+    let certificate = Certificate::of(count(singles)?, count(series)?);
     let mut out = Vec::from_slice(alloc, b"x")?;
     certificate.write(&mut out)?;
     let text = escaped(alloc, out.as_slice())?;
     let content = content(alloc, &certificate)?;
     Ok(format!(in alloc; "{text} | {content}")?)
+}
+
+fn count(text: &str) -> Result<u64, NoAnswer> {
+    text.parse::<u64>().ok().ok_or(NoAnswer::Unreadable)
 }
 
 fn content(alloc: Global, certificate: &Certificate) -> Result<String, NoAnswer> {

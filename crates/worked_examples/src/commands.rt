@@ -6,9 +6,10 @@ use crate::names::ROOM;
 use example_cases::Case;
 use ical_values::Address;
 use sched_cli::commands::{Kept, run_check, run_keep, run_serve};
-use sched_cli::run_expand;
+use sched_cli::{run_expand, run_explain};
 use std::io::{self, ErrorKind};
 use std::rt::Files;
+use std::str;
 
 /// What a command wrote, and its status.
 #[derive(PartialEq, Eq, Drop)]
@@ -51,6 +52,7 @@ fn run<R: Files + AllocGlobal>(rt: &R, case: Case<'_>) -> io::Result<Outcome> {
             let certificate = certificate.as_slice();
             run_check(alloc, reader, certificate, &room, &mut output, &mut errors)
         }
+        "explain" => run_explain(number_in(reader), &mut output, &mut errors),
         _ => return Err(io::Error::from(ErrorKind::InvalidData)),
     };
     Ok(Outcome {
@@ -58,6 +60,12 @@ fn run<R: Files + AllocGlobal>(rt: &R, case: Case<'_>) -> io::Result<Outcome> {
         output,
         errors,
     })
+}
+
+/// The number that an input is; 0, which nothing has, where it is none.
+fn number_in(input: &[u8]) -> u8 {
+    let text = str::from_utf8(input).unwrap_or("");
+    text.trim_end().parse::<u8>().unwrap_or(0)
 }
 
 fn kept_of(case: Case<'_>) -> Kept {

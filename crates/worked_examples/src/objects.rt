@@ -17,7 +17,7 @@
 //!     parts ROOM              the parts for a room
 //!     addressed ROOM          whether the message names the room
 
-use crate::calendar_files::{answered, checked, counted, ends, kept, series, times};
+use crate::calendar_files::{answered, certified, checked, counted, ends, kept, series, times};
 use crate::event_files::{event, instances, overlap};
 use crate::message_files::{addressed, components, message, parts};
 use crate::series_files::pairs;
@@ -85,6 +85,7 @@ fn room_answer(alloc: Global, octets: &[u8], call: &str, input: &str) -> Result<
         "pairs" => pairs(alloc, octets, &room),
         "answers" => answered(alloc, octets, &room),
         "check" => checked(alloc, octets, &room, text),
+        "make" => certified(alloc, octets, &room),
         "parts" => parts(alloc, octets, &room),
         "addressed" => addressed(alloc, octets, &room),
         _ => Err(NoAnswer::Unreadable),

@@ -37,6 +37,26 @@ pub record IsClash (all : List Booked) (a b : Booked) (t : ℤ) : Type 0 where
 abbrev pub IsClear : List Booked → Type 0
 IsClear all = (a b : Booked) (t : ℤ) → IsClash all a b t → ⊥
 
+-- two instances of different keys hold the room in the same second t, before the horizon
+pub record AreClashing (a b : Booked) (t : ℤ) : Type 0 where
+  pub differ : a.key ≢ b.key
+  pub before : t <ℤ horizon
+  pub in_first : IsWithin a.start a.end t
+  pub in_second : IsWithin b.start b.end t
+
+-- one of these instances and one of those do
+pub record HasClash (these those : Booked → Type 0) : Type 0 where
+  pub a : Booked
+  pub b : Booked
+  pub t : ℤ
+  pub first : these a
+  pub second : those b
+  pub clash : AreClashing a b t
+
+-- none of these instances clashes with one of those
+abbrev pub AreClear : (Booked → Type 0) → (Booked → Type 0) → Type 0
+AreClear these those = (a b : Booked) (t : ℤ) → these a → those b → AreClashing a b t → ⊥
+
 -- keys by organiser and UID as octets, and then by slot
 abbrev pub key_cmp : Key → Key → Ordering
 key_cmp a b = ordering_then (slice_cmp nat_cmp a.organiser b.organiser) (ordering_then (slice_cmp nat_cmp a.uid b.uid) (int_cmp a.slot b.slot))

@@ -1,6 +1,6 @@
 -- Which instances the VEVENTs of a calendar confirm in a room (RFC 5545 3.2.12, 3.8.1.11, 3.8.4.4), in series and singles.
 -- A meeting is one ORGANIZER and one UID; by RFC 5545 3.8.4.7 the UID alone is global, so this is this profile's choice.
-use Rattle.std.specs.Prelude.{◌≡◌, ◌≢◌, ◌<ℤ◌, Contains, AllPairs, All, Bool, true, not, if◌then◌else◌, ◌&&◌, List, [], ◌∷◌, ◌++◌, filter, Some, None, is_some, ℤ, ℕ}
+use Rattle.std.specs.Prelude.{◌≡◌, ◌≢◌, ◌⊎◌, ◌<ℤ◌, Contains, AllPairs, All, Bool, true, not, if◌then◌else◌, ◌&&◌, List, [], ◌∷◌, ◌++◌, filter, Some, None, is_some, ℤ, ℕ}
 use Rattle.std.specs.List.{AllZip, flat_map}
 use Rattle.profile.specs.checker.Instances.{Booked}
 use Rattle.profile.specs.series.Rules.{Parts}
@@ -100,6 +100,10 @@ pub record Confirmed : Type 0 where
 -- the instance is one of one of these series
 abbrev pub IsInSeries : List Meeting → Booked → Type 0
 IsInSeries all instance = (series : Meeting) × Contains all series × IsInstance series instance
+
+-- the instance is a single, or one of a series
+abbrev pub IsOneOf : Confirmed → Booked → Type 0
+IsOneOf confirmed instance = Contains confirmed.singles instance ⊎ IsInSeries confirmed.series instance
 
 -- these are confirmed, of these events: both in the order of the events
 pub record AreConfirmed (room : List ℕ) (events : List Event) (confirmed : Confirmed) : Type 0 where

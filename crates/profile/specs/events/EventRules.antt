@@ -1,31 +1,40 @@
 -- The rule of a VEVENT: on which days its RRULE lets it start (RFC 5545 3.3.10, 3.8.5.3). The days are those of the start's own clocks,
 -- which are those of the zone that DTSTART names, or of UTC. A day goes by its index.
-use Rattle.std.specs.Prelude.{◌≡◌, ℕ, ◌<◌, ◌⊎◌, false, true, List, codes, Option, Some, None, ℤ}
+use Rattle.std.specs.Prelude.{◌≡◌, ℕ, ◌<◌, ◌⊎◌, false, true, if◌then◌else◌, List, codes, Option, Some, None, ℤ, pos, ◌-ℤ◌}
+use Rattle.std.specs.Int.Signed.{lt_z}
+use Rattle.profile.specs.checker.Instances.{horizon}
 use Rattle.profile.specs.series.Days.{day_index}
 use Rattle.profile.specs.text.Lines.{line_value}
 use Rattle.profile.specs.text.Trees.{Tree}
 use Rattle.profile.specs.series.Rules.{Parts, RuleText, Until, UntilDay, UntilLocal, UntilInstant, rule_of, is_rule_day, last_rule_day}
 use Rattle.profile.specs.series.RuleTexts.{SpellsRule, IsLeastRuleFault}
 use Rattle.profile.specs.series.Zones.{Zone, Means, NoneFrom, IsLastDay, local_time}
-use Rattle.profile.specs.events.Properties.{Says, StandsTwice, SomeLine}
+use Rattle.profile.specs.events.Properties.{first_second, Says, StandsTwice, SomeLine}
 use Rattle.profile.specs.events.ZonedTimes.{SaysZonedTime, clock_of, EventTimes}
 
 -- ---- the last day that UNTIL allows
+
+-- the instant up to which UNTIL allows starts, where it says this one: at the least the second before the first that an event may name, and
+-- at the most the last before year 10000, as no start lies outside of these; this profile's choice
+abbrev pub as_end : ℤ → ℤ
+as_end instant =
+    if lt_z instant first_second then first_second -ℤ pos 1
+    else (if lt_z instant horizon then instant else horizon -ℤ pos 1)
 
 -- of starts at that second of their days on the clocks of a zone: without UNTIL 9999-12-31; a date is that day; a local time allows
 -- the days on which the start isn't past what it means in the zone, a UTC time those on which the start isn't past it
 abbrev pub IsLastAllowed : Zone → ℕ → Option Until → ℕ → Type 0
 IsLastAllowed zone second None last = last ≡ last_rule_day
 IsLastAllowed zone second (Some (UntilDay number)) last = last ≡ day_index number
-IsLastAllowed zone second (Some (UntilLocal local)) last = (instant : ℤ) × Means zone local instant × IsLastDay zone second instant last
-IsLastAllowed zone second (Some (UntilInstant instant)) last = IsLastDay zone second instant last
+IsLastAllowed zone second (Some (UntilLocal local)) last = (instant : ℤ) × Means zone local instant × IsLastDay zone second (as_end instant) last
+IsLastAllowed zone second (Some (UntilInstant instant)) last = IsLastDay zone second (as_end instant) last
 
 -- UNTIL allows no day from 0001-01-01 on, whose index is 366
 abbrev pub AllowsNone : Zone → ℕ → Option Until → Type 0
 AllowsNone zone second None = ⊥
 AllowsNone zone second (Some (UntilDay number)) = ⊥
-AllowsNone zone second (Some (UntilLocal local)) = (instant : ℤ) × Means zone local instant × NoneFrom zone second instant 366
-AllowsNone zone second (Some (UntilInstant instant)) = NoneFrom zone second instant 366
+AllowsNone zone second (Some (UntilLocal local)) = (instant : ℤ) × Means zone local instant × NoneFrom zone second (as_end instant) 366
+AllowsNone zone second (Some (UntilInstant instant)) = NoneFrom zone second (as_end instant) 366
 
 -- ---- what RRULE says
 

@@ -169,4 +169,4 @@ pub record IsKeptCalendar (room : List ℕ) (book : Book) (octets : List ℕ) : 
 
 -- the certificate for it: its count of singles
 abbrev pub kept_certificate : Book → List ℕ
-kept_certificate book = text_of (record { singles = length (confirmed book) })
+kept_certificate book = text_of (record { singles = length (confirmed book); series = 0 })

@@ -7,11 +7,14 @@ use Rattle.std.specs.Char.{is_ascii_alphabetic, is_ascii_digit}
 use Rattle.profile.specs.text.Lines.{line_value, is_same_name, logical_lines, reads_as_lines, written}
 use Rattle.profile.specs.text.Objects.{IsObject}
 use Rattle.profile.specs.text.Trees.{Tree, tree_name, tree_own, tree_inside, vevents}
-use Rattle.profile.specs.text.Values.{WritesStamp, WritesLocal, duration_text, escaped}
+use Rattle.profile.specs.text.Values.{SpellsDate, WritesStamp, WritesLocal, duration_text, escaped}
 use Rattle.profile.specs.events.Events.{Method, Request, Add, Cancel, Event}
 use Rattle.profile.specs.events.Properties.{first_second, is_of, SomeLine, StandsTwice, IsMissing, BothOrNeither, lines_named}
-use Rattle.profile.specs.events.ZonedTimes.{EventTimes}
-use Rattle.profile.specs.series.Zones.{Zone}
+use Rattle.profile.specs.events.ZonedTimes.{EventTimes, clock_of}
+use Rattle.profile.specs.series.Rules.{Parts, Until, UntilDay, UntilLocal, UntilInstant, text_in}
+use Rattle.profile.specs.series.RuleTexts.{rule_text}
+use Rattle.profile.specs.events.EventRules.{as_end}
+use Rattle.profile.specs.series.Zones.{Zone, Means}
 use Rattle.profile.specs.written.WrittenZones.{WritesParts}
 use Rattle.profile.specs.checker.Instances.{Key, horizon}
 use Rattle.std.specs.declared.cmp.Ordering.TheVariants.{Less}
@@ -119,6 +122,19 @@ pub record WritesTimes (name : List ℕ) (instants : List ℤ) (lines : List (Li
 abbrev pub is_in_dates : ℤ → Bool
 is_in_dates instant = lt_z instant horizon && not (lt_z instant first_second)
 
+-- the text of UNTIL: a date, or a UTC time, also of a local time, by what that means on these clocks (RFC 5545 3.3.10). That a date may
+-- stand beside a DTSTART that is a DATE-TIME is this profile's choice
+abbrev pub WritesEnd : Zone → Until → List ℕ → Type 0
+WritesEnd clock (UntilDay number) text = SpellsDate text number
+WritesEnd clock (UntilLocal local) text = (instant : ℤ) × Means clock local instant × WritesStamp text (as_end instant)
+WritesEnd clock (UntilInstant instant) text = WritesStamp text (as_end instant)
+
+-- the RRULE of an event that starts on these clocks, where it has a rule
+abbrev pub WritesRule : Zone → Option Parts → List (List ℕ) → Type 0
+WritesRule clock None lines = lines ≡ []
+WritesRule clock (Some rule) lines =
+    (end : Option (List ℕ)) × BothOrNeither (WritesEnd clock) rule.until end × (lines ≡ (codes "RRULE:" ++ rule_text (text_in rule) end) ∷ [])
+
 -- what says when an event is, in its one form: the lines of its VEVENT, unfolded and without line ends, where a zone is named `Z`; and the octets
 -- of the VTIMEZONE behind its TZID, where there is a zone
 pub record Content : Type 0 where
@@ -137,15 +153,18 @@ IsZoneRest zone rest = (parts : List (List ℕ)) × WritesParts parts zone × (r
 abbrev pub zone_text : List ℕ → List ℕ → List ℕ
 zone_text name rest = written (codes "BEGIN:VTIMEZONE" ∷ (codes "TZID:" ++ name) ∷ []) ++ rest
 
--- the content of an event: DTSTART, DURATION, RDATE and EXDATE, and its zone. Of what EXDATE names that counts which lies where a start may
+-- the content of an event: DTSTART, DURATION, RRULE, RDATE and EXDATE, and its zone. Of what EXDATE names that counts which lies where a start may
 pub record IsContent (content : Content) (event : Event) : Type 0 where
   pub start : List ℕ
   pub starts : StartsIn event.times.zone event.times start
+  pub rule : List (List ℕ)
+  pub recurs : WritesRule (clock_of event.times.zone) event.rule rule
   pub additions : List (List ℕ)
   pub adds : WritesTimes (codes "RDATE") event.additions additions
   pub exceptions : List (List ℕ)
   pub takes : WritesTimes (codes "EXDATE") (filter is_in_dates event.exceptions) exceptions
-  pub are : content.lines ≡ start ∷ (codes "DURATION:" ++ duration_text event.times.length.days event.times.length.seconds) ∷ (additions ++ exceptions)
+  pub are : content.lines ≡ start ∷ (codes "DURATION:" ++ duration_text event.times.length.days event.times.length.seconds)
+      ∷ (rule ++ (additions ++ exceptions))
   pub in_zone : BothOrNeither IsZoneRest event.times.zone content.zone
 
 -- the octets of a content: its lines, each ended by CRLF, and then its zone as it is written, no line of which is long enough to be folded.

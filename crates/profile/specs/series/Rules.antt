@@ -23,17 +23,18 @@ pub record Pattern : Type 0 where
   pub positions : List ℤ
   pub start : ℕ
 
--- a rule: its pattern, COUNT, and the last day that UNTIL allows
-pub record Parts : Type 0 where
-  pub pattern : Pattern
-  pub count : Option ℕ
-  pub last : ℕ
-
 -- what UNTIL says: the number of a day, the seconds of a local time, or an instant
 pub data Until : Type 0 where
   UntilDay : ℤ → Until
   UntilLocal : ℤ → Until
   UntilInstant : ℤ → Until
+
+-- a rule: its pattern, COUNT, the last day that UNTIL allows, and what UNTIL says
+pub record Parts : Type 0 where
+  pub pattern : Pattern
+  pub count : Option ℕ
+  pub last : ℕ
+  pub until : Option Until
 
 -- what the text of a rule says; an empty list is a part that isn't written
 pub record RuleText : Type 0 where
@@ -62,6 +63,21 @@ rule_of text start last = record {
   };
   count = text.count;
   last = last;
+  until = text.until;
+}
+
+-- what the text of a rule says
+abbrev pub text_in : Parts → RuleText
+text_in rule = record {
+  frequency = rule.pattern.frequency;
+  interval = rule.pattern.interval;
+  week_start = rule.pattern.week_start;
+  months = rule.pattern.months;
+  month_days = rule.pattern.month_days;
+  weekdays = rule.pattern.weekdays;
+  positions = rule.pattern.positions;
+  count = rule.count;
+  until = rule.until;
 }
 
 -- IMPLIED PARTS

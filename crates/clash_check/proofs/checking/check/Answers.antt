@@ -1,5 +1,8 @@
+use Rattle.std.proofs.Common.{subst}
+use Rattle.profile.specs.events.Confirmed.{Confirmed}
+use Rattle.cal_events.specs.Calendars.{HaveDifferentKeys, HaveOwnKeys}
 use Rattle.ical_values.specs.Octets.{address_octets}
-use Rattle.clash_check.proofs.VerdictLemmas.{holds_iff, refused_iff}
+use Rattle.clash_check.proofs.VerdictLemmas.{holds_iff, refused_iff, judgement_of}
 use Rattle.clash_check.proofs.checking.check.Goals as goal
 
 pub returns-in-Ok-clause-yes : goal.returns-in-Ok-clause-yes
@@ -10,3 +13,9 @@ pub returns-in-Err-Refused-clause-yes : goal.returns-in-Err-Refused-clause-yes
 returns-in-Err-Refused-clause-yes c =
     refused_iff c.one_calendar_text.ensures.or_a_fault (address_octets c.args.room.now) c.args.calendar.now c.args.certificate.now c.in-Err-Refused.field-0-0.number c.no.result.verdict
     (rw c.in-Err-Refused.field-0-is at c.in-Err-Refused.ensures.stands) c.no.ensures.no
+
+pub returns-in-Ok-clause-judged : goal.returns-in-Ok-clause-judged
+returns-in-Ok-clause-judged c =
+    judgement_of (address_octets c.args.room.now) c.args.calendar.now c.args.certificate.now c.in-Ok.calendar c.judge_read.result c.in-Ok.ensures.spells
+    (subst (λ (a : Confirmed). HaveDifferentKeys a.singles) c.calendar.view_is c.calendar.invariant.0) (subst HaveOwnKeys c.calendar.view_is c.calendar.invariant.2)
+    c.judge_read.ensures.verdict c.judge_read.ensures.made

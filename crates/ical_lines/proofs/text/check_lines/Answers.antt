@@ -1,12 +1,12 @@
 use Rattle.std.proofs.Common.{◌≡◌, ◌||◌, ◌&&◌, ltb, length, refl, ap, sym, ◌∙◌, arith}
-use Rattle.std.specs.List.{list_any, find}
+use Rattle.std.specs.List.{list_any}
 use Rattle.std.proofs.Math.Bool.{and-false}
 use Rattle.profile.specs.text.Lines.{is_faulty, line_has}
 use Rattle.ical_lines.specs.Breaks.{lines_of}
 use Rattle.ical_lines.specs.Limits.{is_bounded}
 use Rattle.ical_lines.specs.Text.{lines_left}
 use Rattle.ical_lines.proofs.BreakLemmas.{any_later, any_here, lines_of-le}
-use Rattle.ical_lines.proofs.FirstLemmas.{judged_after, next_judged, first_found, too_many, bound_stands}
+use Rattle.ical_lines.proofs.FirstLemmas.{next_judged, first_found, too_many, bound_stands}
 use Rattle.ical_lines.proofs.text.check_lines.Goals as goal
 
 pub loop-line-init : goal.loop-line-init

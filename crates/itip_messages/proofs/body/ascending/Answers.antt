@@ -1,4 +1,4 @@
-use Rattle.std.proofs.Common.{◌∙◌, subst, List, ℤ}
+use Rattle.std.proofs.Common.{subst, List, ℤ}
 use Rattle.std.specs.List.Sorted.{IsPermutation}
 use Rattle.std.proofs.lemmas.List.Filters.{dedup_is}
 use Rattle.itip_messages.proofs.BodyLemmas.{sorted_once}

@@ -1,8 +1,13 @@
-use Rattle.std.proofs.Common.{◌≡◌, ◌∙◌, ◌++◌, [], ◌∷◌, List, ℕ, ℤ, filter, codes, refl, ap, subst}
+use Rattle.std.proofs.Common.{◌≡◌, ◌∙◌, ◌++◌, ◌∷◌, List, ℤ, filter, codes, Option, refl, ap, subst}
 use Rattle.std.specs.Prelude.{Contains}
 use Rattle.profile.specs.text.Values.{duration_text}
 use Rattle.profile.specs.rooms.Messages.{WritesTimes, is_in_dates}
-use Rattle.cal_events.specs.Events.{event_of}
+use Rattle.profile.specs.series.Rules.{Parts}
+use Rattle.profile.specs.series.Zones.{Zone}
+use Rattle.profile.specs.events.ZonedTimes.{clock_of}
+use Rattle.cal_events.specs.Events.{zone_said}
+use Rattle.cal_zones.specs.Kinds.{zone_of}
+use Rattle.itip_messages.specs.Bodies.{AppendsRule}
 use Rattle.itip_messages.proofs.BodyLemmas.{body_written, clock_named}
 use Rattle.itip_messages.proofs.TimeLists.{dates_starts}
 use Rattle.itip_messages.proofs.body.canonical_body.Goals as goal
@@ -20,14 +25,20 @@ returns c =
     let start = c.in_ok-write_start.ensures in
     let adds = c.in_ok-write_times.ensures in
     let takes = c.in_ok-write_times-2.ensures in
+    let written = c.in_ok-write_rule.ensures in
+    let recurs : AppendsRule (clock_of (zone_said c.args.event.now.times.start)) c.args.event.now.rule c.write_duration.new.body.items c.write_rule.new.body.items =
+    subst (λ (z : Zone). AppendsRule z c.args.event.now.rule c.write_duration.new.body.items c.write_rule.new.body.items) c.clock.ensures
+    (subst (λ (r : Option Parts). AppendsRule (zone_of c.clock.result) r c.write_duration.new.body.items c.write_rule.new.body.items) c.as_ref.ensures.value written) in
     let zone = c.in_ok-write_zone.ensures in
     let excepted : c.deref-3.result.now ≡ filter is_in_dates c.args.event.now.exceptions.items = c.deref-3.ensures.value ∙ c.in_ok-exceptions.ensures ∙ ap (filter is_in_dates) c.deref-2.ensures.value in
     let duration = codes "DURATION:" ++ duration_text length.days length.seconds in
     record {
-      content = record { lines = start.0 ∷ duration ∷ (adds.0 ++ takes.0); zone = zone.0 };
+      content = record { lines = start.0 ∷ duration ∷ (recurs.0 ++ (adds.0 ++ takes.0)); zone = zone.0 };
       when = record {
         start = start.0;
         starts = start.1;
+        rule = recurs.0;
+        recurs = recurs.1;
         additions = adds.0;
         adds = subst (λ (l : List ℤ). WritesTimes (codes "RDATE") l adds.0) c.deref.ensures.value adds.1;
         exceptions = takes.0;
@@ -35,5 +46,5 @@ returns c =
         are = refl;
         in_zone = zone.1;
       };
-      is = body_written start.0 duration adds.0 takes.0 _ _ _ _ _ _ _ c.new-body.ensures.items start.2 c.in_ok-write_duration.ensures adds.2 takes.2 zone.2;
+      is = body_written start.0 duration recurs.0 adds.0 takes.0 _ _ _ _ _ _ _ _ c.new-body.ensures.items start.2 c.in_ok-write_duration.ensures recurs.2 adds.2 takes.2 zone.2;
     }

@@ -1,7 +1,7 @@
-use Rattle.std.proofs.Common.{◌≡◌, ◌∙◌, ◌∷◌, ◌++◌, [], List, ℕ, ℤ, sym, ap, subst, refl, arith, FitsSigned, to_z, of_z, w64, to_z-of_z, rules}
+use Rattle.std.proofs.Common.{◌≡◌, ◌∙◌, ◌∷◌, ◌++◌, List, ℤ, sym, ap, subst, FitsSigned, to_z, of_z, w64, to_z-of_z, rules}
 use Rattle.std.specs.Prelude.{Contains}
 use Rattle.std.specs.List.{AllZip}
-use Rattle.profile.specs.text.Values.{IsClockSeconds, WritesStamp}
+use Rattle.profile.specs.text.Values.{WritesStamp}
 use Rattle.cal_events.proofs.InOneOrder.{later}
 use Rattle.itip_messages.proofs.BodyLemmas.{list_written}
 use Rattle.itip_messages.proofs.body.write_list.Goals as goal

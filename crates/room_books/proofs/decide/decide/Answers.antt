@@ -1,40 +1,30 @@
--- What is decided of the own instances and the others together.
-use Rattle.std.proofs.Common.{◌++◌, subst}
-use Rattle.room_books.specs.Views.{others, HaveOverlap}
-use Rattle.room_books.proofs.Places.{others_differ}
-use Rattle.room_books.proofs.Deciding.{few_all, own_named, other_named, clear_all}
+-- What is decided of the instances that stay and those that are asked for together.
+use Rattle.std.proofs.Common.{refl, subst}
+use Rattle.std.specs.Map.{lookup}
+use Rattle.room_books.specs.declared.meeting.Outcome.TheVariants.{Accepted, Declined}
+use Rattle.room_books.specs.Views.{booked_of, same_key, singles_by, HaveOverlap}
+use Rattle.room_books.proofs.Deciding.{decides_own, decides_beside, decides_accept}
+use Rattle.room_books.proofs.Leaving.{parted_sorted}
 use Rattle.room_books.proofs.decide.decide.Goals as goal
 
-pub returns-in-Some-clause-decides : goal.returns-in-Some-clause-decides
-returns-in-Some-clause-decides c = λ distinct.
-    let k = c.args.key.now in let es = c.args.meetings.now.entries in let kept = c.args.kept.now in let wanted = c.args.wanted.now in
-    let overlap = subst (HaveOverlap (kept ++ wanted)) c.in-Some.is c.in_ok-first.ensures in (
-      few_all (others k es) k kept wanted (others_differ k es) c.args.beside c.requires.beside c.requires.few c.if-wanted-beside.false,
-      own_named (others k es) k kept wanted (others_differ k es) c.in-Some.first c.in-Some.second c.in_ok-clash.clash overlap.0 overlap.1 (overlap.2 distinct) overlap.3 c.in_ok-clash.ensures.0 c.in_ok-clash.ensures.1,
-    )
+pub returns-in-Some : goal.returns-in-Some
+returns-in-Some c = λ kept parted beside_is.
+    let k = c.args.key.now in let es = c.args.meetings.now.entries in let wanted = c.args.wanted.now in let clash = c.in_ok-clash.clash in
+    let overlap = subst (HaveOverlap wanted) c.in-Some.is c.in_ok-first.ensures in
+    decides_own k es c.keys_differ.ensures c.requires.clear c.requires.apart c.args.beside c.requires.few c.args.gone.now kept wanted parted beside_is
+    (Declined clash) clash c.in-Some.first c.in-Some.second refl c.if-wanted-beside.false overlap c.in_ok-clash.ensures.0 c.in_ok-clash.ensures.1
 
-pub returns-in-Some-busy_beside-clause-decides : goal.returns-in-Some-busy_beside-clause-decides
-returns-in-Some-busy_beside-clause-decides c = λ distinct.
-    let k = c.args.key.now in let es = c.args.meetings.now.entries in let kept = c.args.kept.now in let wanted = c.args.wanted.now in
+pub returns-in-Some-busy_beside : goal.returns-in-Some-busy_beside
+returns-in-Some-busy_beside c = λ kept parted beside_is.
+    let k = c.args.key.now in let es = c.args.meetings.now.entries in let wanted = c.args.wanted.now in let clash = c.in_ok-clash-2.clash in
     let shared = c.in-Some-busy_beside.shared in
-    let found = c.in-Some-busy_beside.ensures in (
-      few_all (others k es) k kept wanted (others_differ k es) c.args.beside c.requires.beside c.requires.few c.if-wanted-beside.false,
-      other_named (others k es) k kept wanted (others_differ k es) shared.asked _ c.in_ok-clash-2.clash found.0 found.1 found.2 c.in_ok-clash-2.ensures.0 c.in_ok-clash-2.ensures.1,
-    )
+    let found = c.in-Some-busy_beside.ensures kept (parted_sorted (singles_by (lookup (same_key k) es)) c.args.gone.now c.in_ok-gone.gone kept c.in_ok-gone.ensures parted) in
+    decides_beside k es c.keys_differ.ensures c.requires.clear c.requires.apart c.args.beside c.requires.few c.args.gone.now kept wanted parted beside_is
+    (Declined clash) clash shared.asked (booked_of shared.other.now shared.booked) refl c.if-wanted-beside.false found.0 found.1 found.2 c.in_ok-clash-2.ensures.0 c.in_ok-clash-2.ensures.1
 
-pub returns-clause-decides : goal.returns-clause-decides
-returns-clause-decides c = λ distinct.
-    let k = c.args.key.now in let es = c.args.meetings.now.entries in let kept = c.args.kept.now in let wanted = c.args.wanted.now in (
-      few_all (others k es) k kept wanted (others_differ k es) c.args.beside c.requires.beside c.requires.few c.if-wanted-beside.false,
-      clear_all (others k es) k kept wanted (others_differ k es) c.requires.clear c.in_default-busy_beside.ensures (subst (HaveOverlap (kept ++ wanted)) c.in_default.is c.in_ok-first.ensures),
-    )
-
-pub returns-clause-joins : goal.returns-clause-joins
-returns-clause-joins c = λ accepted.
-    let k = c.args.key.now in let es = c.args.meetings.now.entries in let kept = c.args.kept.now in let wanted = c.args.wanted.now in
-    let separate = subst (HaveOverlap (kept ++ wanted)) c.in_default.is c.in_ok-first.ensures in
-    record {
-      few = few_all (others k es) k kept wanted (others_differ k es) c.args.beside c.requires.beside c.requires.few c.if-wanted-beside.false;
-      clear = clear_all (others k es) k kept wanted (others_differ k es) c.requires.clear c.in_default-busy_beside.ensures separate;
-      separate = separate;
-    }
+pub returns : goal.returns
+returns c = λ kept parted beside_is.
+    let k = c.args.key.now in let es = c.args.meetings.now.entries in let wanted = c.args.wanted.now in
+    let separate = subst (HaveOverlap wanted) c.in_default.is c.in_ok-first.ensures in
+    decides_accept k es c.keys_differ.ensures c.requires.clear c.requires.apart c.args.beside c.requires.few c.args.gone.now kept wanted parted beside_is
+    Accepted refl c.if-wanted-beside.false separate (c.in_default-busy_beside.ensures kept (parted_sorted (singles_by (lookup (same_key k) es)) c.args.gone.now c.in_ok-gone.gone kept c.in_ok-gone.ensures parted))

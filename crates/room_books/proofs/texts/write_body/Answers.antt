@@ -1,13 +1,11 @@
 -- The body is cut where its zone begins, and has a zone where something stands there.
-use Rattle.std.proofs.Common.{arith, ◌∙◌, ◌≤◌, not, Some, length, take, drop, sym, ap, subst}
-use Rattle.std.specs.Prelude.{◌==◌}
-use Rattle.std.proofs.lemmas.List.Sums.{prefix_len-le-length}
+use Rattle.std.proofs.Common.{arith, ◌∙◌, Some, take, drop, sym, ap}
 use Rattle.room_books.specs.Zoning.{with_zone}
 use Rattle.room_books.proofs.NamedLines.{body_alone, body_in_zone, behind, is_nothing, is_some_zone}
 use Rattle.room_books.proofs.texts.write_body.Goals as goal
 
 pub split_at-requires : goal.split_at-requires
-split_at-requires c = subst (λ n. n ≤ length c.args.body.now) (sym c.zone_lines.ensures.place) (prefix_len-le-length (λ octet. not (octet == 66)) c.args.body.now)
+split_at-requires c = c.zone_lines.ensures.inside
 
 pub returns-then-is_empty : goal.returns-then-is_empty
 returns-then-is_empty c =

@@ -13,8 +13,8 @@ loop-address-preserved c =
     made_more _ c.loop-address.address-index _ _ c.in_ok-room.room c.address-item.result c.loop-address.invariant (omega arith) c.in_ok-push.ensures.items (c.in_ok-room.ensures.address ∙ ap address_octets c.address-item.is) c.in_ok-room.ensures.book
 
 pub returns-clause-addresses : goal.returns-clause-addresses
-returns-clause-addresses c = (all_made _ _ _ c.loop-address.invariant (omega arith)).0 ∙ ap (map address_octets) c.rooms-addresses.ensures
+returns-clause-addresses c = (all_made _ _ _ c.loop-address.invariant (omega arith)).0 ∙ ap (map address_octets) c.rooms-addresses.ensures.rooms
 
 pub returns-clause-hosted : goal.returns-clause-hosted
 returns-clause-hosted c =
-    subst (λ list. AreHosted c.loop-address.rooms.items (new_box (map address_octets list))) c.rooms-addresses.ensures (all_made _ _ _ c.loop-address.invariant (omega arith)).1
+    subst (λ list. AreHosted c.loop-address.rooms.items (new_box (map address_octets list))) c.rooms-addresses.ensures.rooms (all_made _ _ _ c.loop-address.invariant (omega arith)).1

@@ -1,4 +1,4 @@
-use Rattle.std.proofs.Common.{Contains, subst, sym}
+use Rattle.std.proofs.Common.{subst, sym}
 use Rattle.ical_values.specs.Octets.{address_octets}
 use Rattle.profile.specs.checker.Calendars.{CertificateHolds}
 use Rattle.profile.specs.streams.Streams.{new_box}

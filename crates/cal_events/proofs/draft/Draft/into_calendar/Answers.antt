@@ -3,11 +3,14 @@ use Rattle.std.specs.List.Sorted.{IsPermutation}
 use Rattle.std.proofs.lemmas.List.Sorted.{IsPermutation-sym}
 use Rattle.ical_lines.specs.Fault.{RefusesBy}
 use Rattle.ical_values.proofs.Exits.{err_exit}
-use Rattle.cal_events.specs.Calendars.{key_of}
+use Rattle.profile.specs.events.Confirmed.{Confirmed}
+use Rattle.cal_events.specs.Calendars.{key_of, booked_in}
+use Rattle.cal_events.specs.SaidSeries.{series_said}
 use Rattle.cal_events.specs.Drafts.{master_keys, IsTwoOf}
 use Rattle.cal_events.specs.declared.instance.InstanceKey.{InstanceKey}
 use Rattle.cal_events.proofs.KeyLemmas.{pairs_permutation}
 use Rattle.cal_events.proofs.ZonedLemmas.{weaker_fault}
+use Rattle.cal_events.proofs.CalendarKeys.{own_keys}
 use Rattle.cal_events.proofs.DraftKeys.{masters_there, there_masters, overrides_there, there_overrides}
 use Rattle.cal_events.proofs.DraftLemmas.{within_entries, masters_of, confirmed_of, left_within, different_keys}
 use Rattle.cal_events.proofs.draft.Draft.into_calendar.Goals as goal
@@ -45,7 +48,12 @@ invariant_of-result c =
     let masters = masters_there entries r.1 r.2.entries (pairs_permutation (map key_of c.deref.result.now) (master_keys entries) (IsPermutation-sym _ _ same) c.if-has_equal_neighbours.ensures) in
     let overrides = overrides_there entries r.1 r.2.entries c.in_ok-singles.ensures.differ in
     let shown = c.in_ok-singles.ensures.shown in
-    (different_keys r.0 r.1 c.args.self r.2 left shown masters overrides, left_within r.0 r.1 c.args.self r.2 left shown)
+    let are = confirmed_of r.0 r.1 c.args.self r.2 left shown c.in_ok-singles.series.items c.in_ok-singles.ensures.ruled in
+    let all : Confirmed = record { series = map series_said c.in_ok-singles.series.items; singles = map (booked_in entries) left } in (
+      different_keys r.0 r.1 c.args.self r.2 left shown masters overrides,
+      left_within r.0 r.1 c.args.self r.2 left shown,
+      own_keys r.0 r.1 all are masters overrides r.2.said,
+    )
 
 pub returns-clause-masters : goal.returns-clause-masters
 returns-clause-masters c room events d =

@@ -6,7 +6,7 @@ pub find_end-end-requires-clause-interval : goal.find_end-end-requires-clause-in
 find_end-end-requires-clause-interval c = interval_low (text_of c.text.inside.written) c.text.invariant.0
 
 pub invariant_of-rule : goal.invariant_of-rule
-invariant_of-rule c = (interval_low (text_of c.text.inside.written) c.text.invariant.0, c.of-begin.ensures.facts, c.find_end-end.ensures)
+invariant_of-rule c = (interval_low (text_of c.text.inside.written) c.text.invariant.0, c.of-begin.ensures.facts, c.find_end-end.ensures, c.text.invariant)
 
 pub invariant_of-rule-2 : goal.invariant_of-rule-2
-invariant_of-rule-2 c = (interval_low (text_of c.text.inside.written) c.text.invariant.0, c.of-begin.ensures.facts, c.find_end-end.ensures)
+invariant_of-rule-2 c = (interval_low (text_of c.text.inside.written) c.text.invariant.0, c.of-begin.ensures.facts, c.find_end-end.ensures, c.text.invariant)

@@ -1,10 +1,16 @@
-use Rattle.std.proofs.lemmas.Option.{MatchOption-at_some}
-use Rattle.cal_events.specs.Clashes.{Names}
-use Rattle.clash_cert.proofs.MakingLemmas.{named_at}
+use Rattle.std.proofs.Common.{ℕ, List, ◌≤◌, ◌<◌, length, subst}
+use Rattle.std.specs.Prelude.{IfNone}
+use Rattle.profile.specs.checker.Instances.{IsClear}
+use Rattle.profile.specs.events.Meetings.{Meeting}
+use Rattle.cal_period.specs.Every.{IsPairClear}
+use Rattle.cal_period.proofs.EveryPair.{where_none}
+use Rattle.clash_cert.proofs.MakingLemmas.{singles_clear, all_clear}
 use Rattle.clash_cert.proofs.making.CalendarConfirmed.clash.Goals as goal
 
-pub returns-clause-clash : goal.returns-clause-clash
-returns-clause-clash c =
-    named_at c.args.self.now.singles c.in-Some.overlap c.in_ok-clash.clash
-    (MatchOption-at_some _ (Names c.args.self.now.singles) c.in-Some.overlap c.in-Some.is c.in_ok-overlap.ensures.clash)
-    c.in_ok-clash.ensures
+pub returns-in-None-clause-clear : goal.returns-in-None-clause-clear
+returns-in-None-clause-clear c =
+    let all = c.args.self.now in
+    let clear = subst (λ o. IfNone o (IsClear all.singles)) c.in_default.is c.in_ok-overlap.ensures.clear in
+    let pairs = where_none c.sweep_all.result.shared _ _ c.in-None.is c.sweep_all.ensures.shared in
+    all_clear all (singles_clear all clear c.in_default-single_beside_series.ensures)
+    (subst (λ (l : List Meeting). (p q : ℕ) → p ≤ q → q < length l → IsPairClear l p q) c.series.ensures.are pairs)

@@ -1,15 +1,12 @@
-use Rattle.std.proofs.Common.{◌≡◌, ◌∙◌, ◌<◌, sym, ap, subst, map, List, length, refl, arith, Option, Some}
-use Rattle.std.specs.Prelude.{Contains, option_map}
+use Rattle.std.proofs.Common.{◌<◌, sym, subst, map, List, length, refl, arith, Option}
+use Rattle.std.specs.Prelude.{Contains}
 use Rattle.std.specs.List.{AllZip}
 use Rattle.std.specs.List.Sorted.{IsPermutation}
 use Rattle.std.proofs.lemmas.List.Sorted.{IsPermutation-sym, Contains-permutation, length_permutation}
 use Rattle.cal_events.specs.declared.component.EventComponent.{EventComponent}
 use Rattle.cal_events.specs.Events.{event_of}
 use Rattle.cal_events.specs.OneMeeting.{meeting_of}
-use Rattle.profile.specs.events.Events.{Event}
-use Rattle.profile.specs.events.Meetings.{events_of}
 use Rattle.profile.specs.rooms.Revisions as revisions
-use Rattle.itip_messages.specs.declared.message.MessageComponent.{MessageComponent}
 use Rattle.itip_messages.specs.Messages.{SaysComponent, method_said}
 use Rattle.itip_messages.proofs.BySlot.{sorted_by_slot}
 use Rattle.itip_messages.proofs.MessageLemmas.{master_stamp, stamp_given, slot_dated, event_is_ready, organiser_given, some_event, one_organiser, one_uid, there}

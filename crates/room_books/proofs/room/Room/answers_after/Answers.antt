@@ -1,26 +1,73 @@
-use Rattle.std.proofs.Common.{List, sym, subst, arith}
+use Rattle.std.proofs.Common.{◌≡◌, ◌≢◌, ◌∙◌, ◌++◌, [], List, length, sym, ap, subst, arith}
+use Rattle.std.specs.Prelude.{◌==◌}
+use denote.Ref.{Bor}
+use Rattle.std.proofs.lemmas.Bool.{true≢false}
+use Rattle.room_books.specs.declared.taking.Claim.{Claim}
+use Rattle.std.specs.Map.{lookup}
+use Rattle.std.proofs.lemmas.Grind.{common_steps}
 use Rattle.room_books.specs.declared.meeting.Given.{Given}
-use Rattle.cal_events.specs.declared.instance.Single.{Single}
-use Rattle.room_books.specs.Instants.{IsPartOf}
-use Rattle.room_books.specs.Takings.{IsDecision}
-use Rattle.room_books.specs.Views.{others, all_singles, MayJoin}
+use Rattle.room_books.specs.Takings.{answers_by, answers_then, kept_then, IsDecision}
+use Rattle.room_books.specs.Views.{same_key, singles_by, others, all_singles}
+use Rattle.room_books.proofs.Answered.{added_none, added_parted, answers_alone, answers_both}
+use Rattle.room_books.proofs.Joining.{joins_reordered}
+use Rattle.room_books.proofs.Leaving.{parted_part}
 use Rattle.room_books.proofs.RoomSteps.{kept_joins, answers_join}
 use Rattle.room_books.proofs.room.Room.answers_after.Goals as goal
 
+pub returns-then-is_empty-clause-added : goal.returns-then-is_empty-clause-added
+returns-then-is_empty-clause-added c =
+    let k = c.args.key.now in let es = c.args.self.now.meetings.entries in let before = answers_by (lookup (same_key k) es) in
+    let changes = c.in_ok-of.field-0 in
+    let same = answers_alone before c.args.lost.items c.args.left.items changes (ap (λ v. v.items) c.in_ok-of.ensures.lost) c.in_ok-of.ensures.new in
+    added_none (answers_then before changes) (kept_then (lookup (same_key k) es) c.args.lost.items c.args.left.items) c.new.result.items same c.new.ensures.items
+
+pub returns-then-is_empty-clause-answered : goal.returns-then-is_empty-clause-answered
+returns-then-is_empty-clause-answered c =
+    let k = c.args.key.now in let es = c.args.self.now.meetings.entries in let before = answers_by (lookup (same_key k) es) in
+    let none : c.args.asked.now ≡ [] = grind (arith, common_steps) in
+    (none, answers_alone before c.args.lost.items c.args.left.items c.in_ok-of.field-0 (ap (λ v. v.items) c.in_ok-of.ensures.lost) c.in_ok-of.ensures.new)
+
 pub returns-then-is_empty-clause-joins : goal.returns-then-is_empty-clause-joins
 returns-then-is_empty-clause-joins c =
+    let k = c.args.key.now in let es = c.args.self.now.meetings.entries in let before = answers_by (lookup (same_key k) es) in
     let few = c.args.self.now.timeline.few in let counted = c.args.self.now.counted in
-    kept_joins c.args.key.now c.args.self.now.meetings.entries (all_singles c.args.kept.items) c.keys_differ.ensures c.args.self.now.clear c.args.self.now.apart (omega (arith, few, counted))
-    (subst (λ (l : List Single). IsPartOf (all_singles c.args.kept.items) l) c.requires.before c.requires.part)
+    let changes = c.in_ok-of.field-0 in
+    let kept = kept_then (lookup (same_key k) es) c.args.lost.items c.args.left.items in
+    let same = answers_alone before c.args.lost.items c.args.left.items changes (ap (λ v. v.items) c.in_ok-of.ensures.lost) c.in_ok-of.ensures.new in
+    joins_reordered (others k es) k kept (answers_then before changes) same
+    (kept_joins k es (all_singles kept) c.keys_differ.ensures c.args.self.now.clear c.args.self.now.apart (omega (arith, few, counted))
+    (parted_part (singles_by (lookup (same_key k) es)) c.args.gone.now (all_singles kept) c.requires.parted))
+
+pub returns-clause-answered : goal.returns-clause-answered
+returns-clause-answered c =
+    let k = c.args.key.now in let es = c.args.self.now.meetings.entries in let before = answers_by (lookup (same_key k) es) in
+    let kept = kept_then (lookup (same_key k) es) c.args.lost.items c.args.left.items in
+    let some : c.args.asked.now ≢ [] = λ e. true≢false (ap (λ (l : List (Bor Claim)). length l == 0) (sym e) ∙ sym c.is_empty.ensures ∙ c.if-is_empty.false) in
+    let candidates = c.in_ok-candidates.candidates.items in
+    let decision = subst (λ (l : List Given). IsDecision (others k es) k (all_singles kept) (all_singles l) c.in_ok-outcome.outcome) c.deref.ensures.value
+    (c.in_ok-outcome.ensures (all_singles kept) c.requires.parted) in
+    let same = answers_both before c.args.lost.items c.args.left.items c.in_ok-new.new.items c.append.new.self.items c.in_ok-changes.changes (ap (λ v. v.items) c.in_ok-changes.ensures.lost) c.in_ok-append.ensures.items c.in_ok-changes.ensures.new in
+    (some, (candidates, c.in_ok-new.new.items, c.in_ok-candidates.ensures, c.in_ok-new.ensures, decision, same))
+
+pub returns-clause-added : goal.returns-clause-added
+returns-clause-added c =
+    let k = c.args.key.now in let es = c.args.self.now.meetings.entries in let before = answers_by (lookup (same_key k) es) in
+    let kept = kept_then (lookup (same_key k) es) c.args.lost.items c.args.left.items in
+    let changes = c.in_ok-changes.changes in
+    let same = answers_both before c.args.lost.items c.args.left.items c.in_ok-new.new.items c.append.new.self.items changes (ap (λ v. v.items) c.in_ok-changes.ensures.lost) c.in_ok-append.ensures.items c.in_ok-changes.ensures.new in
+    added_parted (answers_then before changes) kept c.in_ok-new.new.items c.in_ok-added.added.items same (c.in_ok-added.ensures ∙ ap all_singles c.deref-2.ensures.value)
 
 pub returns-clause-joins : goal.returns-clause-joins
 returns-clause-joins c =
-    let k = c.args.key.now in let es = c.args.self.now.meetings.entries in let kept = c.args.kept.items in
+    let k = c.args.key.now in let es = c.args.self.now.meetings.entries in let before = answers_by (lookup (same_key k) es) in
     let few = c.args.self.now.timeline.few in let counted = c.args.self.now.counted in
+    let kept = kept_then (lookup (same_key k) es) c.args.lost.items c.args.left.items in
     let joins = kept_joins k es (all_singles kept) c.keys_differ.ensures c.args.self.now.clear c.args.self.now.apart (omega (arith, few, counted))
-    (subst (λ (l : List Single). IsPartOf (all_singles kept) l) c.requires.before c.requires.part) in
+    (parted_part (singles_by (lookup (same_key k) es)) c.args.gone.now (all_singles kept) c.requires.parted) in
     let candidates = c.in_ok-candidates.candidates.items in
-    let decision = subst (λ (l : List Given). IsDecision (others k es) k (all_singles kept) (all_singles l) c.in_ok-outcome.outcome) c.deref-2.ensures.value
-    (subst (λ (l : List Given). IsDecision (others k es) k (all_singles l) (all_singles c.deref-2.result.now) c.in_ok-outcome.outcome) c.deref.ensures.value c.in_ok-outcome.ensures) in
-    subst (λ (l : List Given). MayJoin (others k es) k (all_singles l)) (sym c.in_ok-append.ensures.items)
-    (answers_join (others k es) k c.in_ok-outcome.outcome kept candidates c.in_ok-new.new.items decision c.in_ok-new.ensures joins)
+    let new = c.in_ok-new.new.items in
+    let changes = c.in_ok-changes.changes in
+    let decision = subst (λ (l : List Given). IsDecision (others k es) k (all_singles kept) (all_singles l) c.in_ok-outcome.outcome) c.deref.ensures.value
+    (c.in_ok-outcome.ensures (all_singles kept) c.requires.parted) in
+    let same = answers_both before c.args.lost.items c.args.left.items new c.append.new.self.items changes (ap (λ v. v.items) c.in_ok-changes.ensures.lost) c.in_ok-append.ensures.items c.in_ok-changes.ensures.new in
+    joins_reordered (others k es) k (kept ++ new) (answers_then before changes) same (answers_join (others k es) k c.in_ok-outcome.outcome kept candidates new decision c.in_ok-new.ensures joins)

@@ -1,7 +1,7 @@
 -- A refresh comes exactly where the message adds instances, and one of its parts is the first that was heard of its meeting.
 use Rattle.std.proofs.Common.{sym, subst, Option}
 use Rattle.ical_values.specs.Octets.{address_octets}
-use Rattle.room_books.specs.declared.meeting.Meeting.{Meeting}
+use Rattle.room_books.specs.declared.kept.Meeting.{Meeting}
 use Rattle.room_books.specs.Takings.{StandsAt}
 use Rattle.room_books.proofs.Refreshing.{not_adding, nothing_unheard, asks_for_it}
 use Rattle.room_books.proofs.room.Room.refresh_of.Goals as goal

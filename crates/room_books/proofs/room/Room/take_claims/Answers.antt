@@ -19,8 +19,8 @@ returns-clause-steps c = λ fits book st.
     let fit = fits key c.in_ok-key.ensures in
     let es = c.args.self.now.meetings.entries in
     let put = c.in_ok-put.ensures.put in
-    claims_step (address_octets c.args.self.now.address) es c.put.new.self.meetings.entries book key claims c.args.now (kind_view c.in_ok-answers.field-0.kind) put.meeting
-    (octets_in c.in_ok-answers.field-0.reply) c.args.adds (octets_in c.in_ok-answers.field-0.refresh) some st fit (c.in_ok-answers.ensures.after c.in_ok-key.ensures fit book st put.meeting put.made) put.entries
+    claims_step (address_octets c.args.self.now.address) es c.put.new.self.meetings.entries book key claims c.args.now (kind_view c.in_ok-changes.field-0.kind) put.meeting
+    (octets_in c.in_ok-changes.field-0.reply) c.args.adds (octets_in c.in_ok-changes.field-0.refresh) some st fit (c.in_ok-changes.ensures.after c.in_ok-key.ensures fit book st put.meeting put.made) put.entries
     (λ q. ap (lookup (same_key q)) put.entries ∙ lookup_put key q put.meeting es)
-    (λ own is_own meets. c.in_ok-answers.ensures.replies own put.meeting fit is_own put.made meets)
-    (λ before after b a. c.in_ok-answers.ensures.refreshes before after b (subst (λ (l : List Part). StandsFor l after) put.made.held_is a))
+    (λ own is_own meets. c.in_ok-changes.ensures.replies own put.meeting fit is_own put.made meets)
+    (λ before after b a. c.in_ok-changes.ensures.refreshes before after b (subst (λ (l : List Part). StandsFor l after) put.made.held_is a))

@@ -3,8 +3,10 @@ use Rattle.std.proofs.Common.{◌++◌, ◌∙◌, Option, List, sym, ap, subst}
 use Rattle.std.specs.Map.{lookup}
 use Rattle.itip_order.specs.Registers.{StandsFor}
 use Rattle.profile.specs.rooms.Revisions.{Part}
-use Rattle.room_books.specs.declared.meeting.Meeting.{Meeting}
-use Rattle.room_books.specs.Takings.{held_after, parts_said, IsMade}
+use Rattle.room_books.specs.declared.kept.Meeting.{Meeting}
+use Rattle.room_books.specs.declared.meeting.Given.{Given}
+use Rattle.room_books.specs.BySlot.{Reordered}
+use Rattle.room_books.specs.Takings.{answers_by, answers_then, held_after, parts_said, IsMade}
 use Rattle.room_books.specs.Views.{same_key}
 use Rattle.room_books.proofs.Afters.{held_stands}
 use Rattle.room_books.proofs.room.Room.taken_by.Goals as goal
@@ -19,12 +21,12 @@ settled-requires-clause-held c = λ history h.
 pub returns-clause-after : goal.returns-clause-after
 returns-clause-after c = λ is_key fit book st meeting is.
     let held = c.held_with-held.ensures ∙ ap (λ (o : Option Meeting). held_after o c.args.more.now) c.get.ensures.value in
-    c.in_ok-settled.ensures.after is_key fit book st meeting (subst (λ (l : List Part). IsMade l c.in_ok-settled.settled.answers.items meeting) (sym held) is)
+    c.in_ok-settled.ensures.after is_key fit book st meeting (subst (λ (l : List Part). IsMade l (answers_then (answers_by (lookup (same_key c.args.key.now) c.args.self.now.meetings.entries)) c.in_ok-settled.settled.changes) meeting) (sym held) is)
 
 pub returns-clause-replies : goal.returns-clause-replies
 returns-clause-replies c = λ own meeting fit is_own is meets.
     let held = c.held_with-held.ensures ∙ ap (λ (o : Option Meeting). held_after o c.args.more.now) c.get.ensures.value in
-    c.in_ok-reply.ensures c.args.key.now own meeting fit is_own (record { held_is = is.held_is ∙ sym held; answers_are = is.answers_are ∙ sym c.deref-2.ensures.value }) meets
+    c.in_ok-reply.ensures c.args.key.now own meeting fit is_own (record { held_is = is.held_is ∙ sym held; answers_are = subst (λ (l : List Given). Reordered (answers_then l c.in_ok-settled.settled.changes) meeting.answers.items) (sym c.answers_before-answers.ensures.are) is.answers_are }) meets
 
 pub returns-clause-refreshes : goal.returns-clause-refreshes
 returns-clause-refreshes c = λ before after b a.

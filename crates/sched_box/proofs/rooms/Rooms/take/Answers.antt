@@ -6,12 +6,12 @@ use Rattle.sched_box.proofs.rooms.Rooms.take.Goals as goal
 
 pub returns-in_ok-take_all-in-Ok-clause-answers : goal.returns-in_ok-take_all-in-Ok-clause-answers
 returns-in_ok-take_all-in-Ok-clause-answers c =
-    let (more, is, takes) = c.in_ok-take_all-in-Ok.ensures in
+    let (more, is, takes) = c.in_ok-take_all-in-Ok.ensures.takes in
     (more, is, answers_taken c.args.now c.args.number c.args.octets.now c.in-Ok.message _ _ more c.in-Ok.ensures.spells takes)
 
 pub returns-in_ok-take_all-in-Ok-clause-addresses : goal.returns-in_ok-take_all-in-Ok-clause-addresses
 returns-in_ok-take_all-in-Ok-clause-addresses c =
-    let (more, is, takes) = c.in_ok-take_all-in-Ok.ensures in
+    let (more, is, takes) = c.in_ok-take_all-in-Ok.ensures.takes in
     same_addresses _ _ _ _ _ takes
 
 pub returns-in_ok-write_refusal-in-Err-Refused-clause-answers : goal.returns-in_ok-write_refusal-in-Err-Refused-clause-answers

@@ -1,0 +1,36 @@
+use Rattle.std.proofs.Common.{map, arith}
+use Rattle.cal_events.specs.SaidSeries.{series_said}
+use Rattle.cal_period.proofs.EveryPair.{said_at, at_alone, at_pair, drawn_alone, drawn_pair}
+use Rattle.cal_period.proofs.every_pair.sweep_at.Goals as goal
+
+pub returns-then-i-j-clause-shared : goal.returns-then-i-j-clause-shared
+returns-then-i-j-clause-shared c =
+    let xs = c.args.series.now in
+    let s = c.index-series-i.result in
+    let at = said_at xs c.args.i s (omega (arith, c.requires.0, c.requires.1)) c.index-series-i.is in
+    at_alone (map series_said xs) c.args.i c.args.j (series_said s) c.sweep_alone.result at c.if-i-j.true c.sweep_alone.ensures.shared
+
+pub returns-then-i-j-clause-drawn : goal.returns-then-i-j-clause-drawn
+returns-then-i-j-clause-drawn c =
+    let xs = c.args.series.now in
+    let s = c.index-series-i.result in
+    let at = said_at xs c.args.i s (omega (arith, c.requires.0, c.requires.1)) c.index-series-i.is in
+    drawn_alone (map series_said xs) c.args.i c.args.j (series_said s) c.sweep_alone.result at c.if-i-j.true c.sweep_alone.ensures.drawn
+
+pub returns-else-i-j-clause-shared : goal.returns-else-i-j-clause-shared
+returns-else-i-j-clause-shared c =
+    let xs = c.args.series.now in
+    let s = c.index-series-i-else-i-j.result in
+    let u = c.index-series-j.result in
+    let at_i = said_at xs c.args.i s (omega (arith, c.requires.0, c.requires.1)) c.index-series-i-else-i-j.is in
+    let at_j = said_at xs c.args.j u c.requires.1 c.index-series-j.is in
+    at_pair (map series_said xs) c.args.i c.args.j (series_said s) (series_said u) c.sweep_pair.result at_i at_j c.if-i-j.false c.sweep_pair.ensures.shared
+
+pub returns-else-i-j-clause-drawn : goal.returns-else-i-j-clause-drawn
+returns-else-i-j-clause-drawn c =
+    let xs = c.args.series.now in
+    let s = c.index-series-i-else-i-j.result in
+    let u = c.index-series-j.result in
+    let at_i = said_at xs c.args.i s (omega (arith, c.requires.0, c.requires.1)) c.index-series-i-else-i-j.is in
+    let at_j = said_at xs c.args.j u c.requires.1 c.index-series-j.is in
+    drawn_pair (map series_said xs) c.args.i c.args.j (series_said s) (series_said u) c.sweep_pair.result at_i at_j c.if-i-j.false c.sweep_pair.ensures.drawn

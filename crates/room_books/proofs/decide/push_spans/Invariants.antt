@@ -1,7 +1,0 @@
--- The spans so far and those to come are those of all.
-use Rattle.std.proofs.Common.{◌≡◌, ◌++◌, drop}
-use Rattle.room_books.specs.Views.{spans_of}
-use Rattle.room_books.proofs.decide.push_spans.Given as goal
-
-abbrev pub invariant-loop-single : goal.invariant-loop-single
-invariant-loop-single l = l.spans.items ++ spans_of (drop l.single-index l.singles) ≡ l.fn.spans.items ++ spans_of l.singles

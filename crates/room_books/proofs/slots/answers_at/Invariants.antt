@@ -1,0 +1,6 @@
+use Rattle.room_books.specs.BySlot.{givens}
+use Rattle.room_books.proofs.Walking.{IsWalked}
+use Rattle.room_books.proofs.slots.answers_at.Given as goal
+
+abbrev pub invariant-loop-slot : goal.invariant-loop-slot
+invariant-loop-slot l = IsWalked l.slots l.slot-index l.answers l.rest (givens l.are.items)

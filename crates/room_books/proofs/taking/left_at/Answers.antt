@@ -1,0 +1,65 @@
+use Rattle.std.proofs.Common.{◌≡◌, ◌∙◌, ◌++◌, ◌∷◌, sym, ap, subst, List, Option, take, arith, [], None, Some, refl, append-nil}
+use Rattle.std.proofs.lemmas.List.{map-append}
+use denote.Ref.{Bor}
+use Rattle.itip_order.specs.Parts.{part_of}
+use Rattle.room_books.specs.declared.meeting.Given.{Given}
+use Rattle.room_books.specs.BySlot.{givens}
+use Rattle.room_books.specs.Instants.{Sheds, IsSplit}
+use Rattle.room_books.specs.Takings.{singles_left}
+use Rattle.room_books.specs.Views.{all_singles}
+use Rattle.room_books.specs.Standing.{KeepsSome}
+use Rattle.room_books.proofs.Loops.{one_more, flat_push}
+use Rattle.room_books.proofs.Own.{keeps_none, keeps_more}
+use Rattle.room_books.proofs.Splits.{one_shed, split_none}
+use Rattle.room_books.proofs.taking.left_at.Goals as goal
+
+some_is : {X : Type 0} (a b : X) → Some a ≡ Some b → a ≡ b
+some_is a b e = cc
+
+none_is : {X : Type 0} (a : X) → Some a ≡ None → ⊥
+none_is a e = absurd (cc)
+
+pub loop-given-init : goal.loop-given-init
+loop-given-init c =
+    let part = part_of c.args.part.now in let slots = c.args.slots.now in let before = c.args.before.now in let after = c.args.after.now in (
+      subst (λ (l : List Given). KeepsSome part slots before after [] l) (sym c.new-left.ensures.items) (keeps_none part slots before after),
+      split_none [] c.new-gone.result.items c.new-left.result.items refl c.new-gone.ensures.items c.new-left.ensures.items,
+    )
+
+pub loop-given-preserved : goal.loop-given-preserved
+loop-given-preserved c =
+    let out = c.args.out.now in
+    let i = c.loop-given.given-index in
+    let given = c.given-item.result.now in
+    let o = c.in_ok-still.field-0 in
+    let left = c.in-Some.still in
+    let part = part_of c.args.part.now in let slots = c.args.slots.now in let before = c.args.before.now in let after = c.args.after.now in
+    let more = ap givens (one_more out i c.given-item.result (omega arith) c.given-item.is) ∙ map-append (λ (g : Bor Given). g.now) (take i out) (c.given-item.result ∷ []) in
+    let old = c.loop-given.left.items in
+    let new = c.push.new.self.items in
+    let shed = subst (λ (x : Option Given). Sheds given.singles.items (singles_left x) c.loop-given.gone.items c.still.new.gone.items) c.in-Some.is c.in_ok-still.ensures.sheds in (
+      subst (λ (l : List Given). KeepsSome part slots before after l new) (sym more)
+          (keeps_more part slots before after (givens (take i out)) old new given o c.loop-given.invariant.0 c.in_ok-still.ensures.still
+          (λ found e. c.in_ok-push.ensures.items ∙ ap (λ x. old ++ x ∷ []) (some_is left found (sym c.in-Some.is ∙ e)))
+          (λ e. absurd (none_is left (sym c.in-Some.is ∙ e)))),
+      subst (λ (l : List Given). IsSplit (all_singles l) c.still.new.gone.items (all_singles new)) (sym more)
+          (one_shed (givens (take i out)) given left.singles.items (all_singles old) (all_singles new) c.loop-given.gone.items c.still.new.gone.items shed
+          (ap all_singles c.in_ok-push.ensures.items ∙ flat_push (λ (x : Given). x.singles.items) old left) c.loop-given.invariant.1),
+    )
+
+pub loop-given-preserved-in_default : goal.loop-given-preserved-in_default
+loop-given-preserved-in_default c =
+    let out = c.args.out.now in
+    let i = c.loop-given.given-index in
+    let given = c.given-item.result.now in
+    let part = part_of c.args.part.now in let slots = c.args.slots.now in let before = c.args.before.now in let after = c.args.after.now in
+    let more = ap givens (one_more out i c.given-item.result (omega arith) c.given-item.is) ∙ map-append (λ (g : Bor Given). g.now) (take i out) (c.given-item.result ∷ []) in
+    let old = c.loop-given.left.items in
+    let shed = subst (λ (x : Option Given). Sheds given.singles.items (singles_left x) c.loop-given.gone.items c.still.new.gone.items) c.in_default.is c.in_ok-still.ensures.sheds in (
+      subst (λ (l : List Given). KeepsSome part slots before after l old) (sym more)
+          (keeps_more part slots before after (givens (take i out)) old old given c.in_ok-still.field-0 c.loop-given.invariant.0 c.in_ok-still.ensures.still
+          (λ left e. absurd (none_is left (sym e ∙ c.in_default.is)))
+          (λ e. refl)),
+      subst (λ (l : List Given). IsSplit (all_singles l) c.still.new.gone.items (all_singles old)) (sym more)
+          (one_shed (givens (take i out)) given [] (all_singles old) (all_singles old) c.loop-given.gone.items c.still.new.gone.items shed (sym (append-nil (all_singles old))) c.loop-given.invariant.1),
+    )

@@ -1,0 +1,205 @@
+-- The rooms that a message isn't for: they are those whose flags stay off, and take nothing.
+use Rattle.std.proofs.Common.{◌≡◌, ◌≢◌, inl, inr, ℕ, zero, suc, ◌+◌, ◌<◌, ℤ, Bool, true, false, ◌||◌, ◌&&◌, cond, List, [], ◌∷◌, ◌++◌, length, take, get_or, set, replicate, map, Some, None, refl, sym, ap, subst, ◌∙◌, arith, AllPairs, true≢false}
+use Rattle.std.specs.List.{list_any, position}
+use Rattle.std.specs.Str.{bytes_eq}
+use Rattle.std.proofs.Math.Bool.{and-false}
+use Rattle.std.proofs.lemmas.Bool.{cases_lt, or_parts, false≢true}
+use Rattle.std.proofs.lemmas.List.{append-nil, get_or-map, get_or-set_other, get_or-set_same, get_or-take, length-map, length-take-le, map-append, take_more}
+use Rattle.std.proofs.lemmas.List.Folds.{list_any_at, list_any_more, list_any_none}
+use Rattle.std.proofs.lemmas.List.Quantifiers.{position-Some}
+use Rattle.std.proofs.lemmas.Slice.Eq.{bytes_eq-Decides}
+use Rattle.ical_values.specs.declared.address.Address.{Address}
+use Rattle.ical_values.specs.Octets.{address_octets}
+use Rattle.cal_events.specs.declared.component.Attendee.{Attendee}
+use Rattle.cal_events.specs.Events.{attendee_of}
+use Rattle.itip_messages.specs.Messages.{is_for, component_names, cancels_for_all, method_said}
+use Rattle.itip_messages.specs.declared.message.Message.{Message}
+use Rattle.itip_messages.specs.declared.message.Method.{Method}
+use Rattle.itip_messages.specs.declared.message.Method.TheVariants.{Request, Add, Cancel}
+use Rattle.itip_messages.specs.declared.message.MessageComponent.{MessageComponent}
+use Rattle.itip_messages.proofs.MessageLemmas.{addressed, no_events}
+use Rattle.profile.specs.rooms.Messages.{Accept, is_addressed, is_cancel}
+use Rattle.profile.specs.streams.Streams.{AreClaims}
+use Rattle.room_books.specs.declared.room.Room.{Room}
+use Rattle.sched_box.specs.Answering.{RoomTakes}
+use Rattle.sched_box.specs.Asked.{LeavesOut, asks, names}
+
+-- ---- look-ups
+
+-- past the end of the flags none is off
+off_within : (flags : List Bool) (place : ℕ) → get_or flags place true ≡ false → place < length flags
+off_within [] place off = absurd (true≢false off)
+off_within (f ∷ fs) zero off = omega arith
+off_within (f ∷ fs) (suc place) off = let more = off_within fs place off in omega arith
+
+-- two places of one address are one
+same_place : (xs : List (List ℕ)) → AllPairs ◌≢◌ xs → (i j : ℕ) → i < length xs → j < length xs → get_or xs i [] ≡ get_or xs j [] → i ≡ j
+same_place xs differ i j within there same =
+    elim (cases_lt i j) [
+      | inl less ↦ absurd (differ i j [] less there same)
+      | inr not_less ↦ elim (cases_lt j i) [
+        | inl more ↦ absurd (differ j i [] more within (sym same))
+        | inr not_more ↦ omega arith
+      ]
+    ]
+
+-- where it isn't true, it is false
+untrue : (b : Bool) → (b ≡ true → ⊥) → b ≡ false
+untrue true never = absurd (never refl)
+untrue false never = refl
+
+-- the address at a place, by itself
+at_place : (keys : List Address) (d : Address) (place : ℕ) → place < length keys → get_or (map address_octets keys) place [] ≡ address_octets (get_or keys place d)
+at_place keys d place within = get_or-map address_octets keys place d [] within
+
+-- where the flag is off behind a look-up that found nothing, another address was looked up
+pub off_none : (keys : List Address) (d : Address) (a : List ℕ) (flags : List Bool) → length flags ≡ length keys → list_any (λ key. bytes_eq a (address_octets key)) keys ≡ false
+    → (place : ℕ) → get_or flags place true ≡ false → bytes_eq a (get_or (map address_octets keys) place []) ≡ false
+off_none keys d a flags long none place off =
+    let flagged = off_within flags place off in
+    let within : place < length keys = omega (arith, flagged, long) in
+    untrue _ (λ here. true≢false (sym (list_any_at (λ key. bytes_eq a (address_octets key)) keys place d within (ap (bytes_eq a) (sym (at_place keys d place within)) ∙ here)) ∙ none))
+
+-- where it is off behind one that found a place, whose flag was set, it was off before, and another address was looked up
+pub off_found : (keys : List Address) (d : Address) (a : List ℕ) (flags : List Bool) (found : ℕ) → AllPairs ◌≢◌ (map address_octets keys) → length flags ≡ length keys
+    → position (λ key. bytes_eq a (address_octets key)) keys ≡ Some found → (place : ℕ) → get_or (set flags found true) place true ≡ false
+    → (get_or flags place true ≡ false) × (bytes_eq a (get_or (map address_octets keys) place []) ≡ false)
+off_found keys d a flags found differ long is place off =
+    let at = position-Some (λ key. bytes_eq a (address_octets key)) keys found d is in
+    let other : place ≢ found = λ same. true≢false (sym (get_or-set_same flags found true true (omega (arith, at.0, long))) ∙ subst (λ n. get_or (set flags found true) n true ≡ false) same off) in
+    let before : get_or flags place true ≡ false = sym (get_or-set_other flags found place true true other) ∙ off in
+    let flagged = off_within flags place before in
+    let within : place < length keys = omega (arith, flagged, long) in
+    let addresses = map address_octets keys in
+    let sized : length addresses ≡ length keys = length-map keys address_octets in
+    let there : a ≡ get_or addresses found [] = (bytes_eq-Decides a _).0 at.1 ∙ sym (at_place keys d found at.0) in
+    (before, untrue _ (λ here. other (same_place addresses differ place found (omega (arith, within, sized)) (omega (arith, at.0, sized)) (sym ((bytes_eq-Decides a _).0 here) ∙ there))))
+
+-- ---- the directory
+
+-- an address that stands for the first time goes last
+pub listed_more : (rooms : List Address) (i : ℕ) (keys newer : List Address) (x room : Address) → AllPairs ◌≢◌ (map address_octets rooms) → i < length rooms → room ≡ get_or rooms i room
+    → address_octets x ≡ address_octets room → map address_octets keys ≡ map address_octets (take i rooms)
+    → newer ≡ cond (list_any (λ key. bytes_eq (address_octets x) (address_octets key)) keys) keys (keys ++ x ∷ []) → map address_octets newer ≡ map address_octets (take (i + 1) rooms)
+listed_more rooms i keys newer x room differ within is same are made =
+    let sized : length keys ≡ i = sym (length-map keys address_octets) ∙ ap length are ∙ length-map (take i rooms) address_octets ∙ length-take-le i rooms (omega (arith, within)) in
+    let fresh : list_any (λ key. bytes_eq (address_octets x) (address_octets key)) keys ≡ false =
+    list_any_none (λ key. bytes_eq (address_octets x) (address_octets key)) keys (λ k d less. untrue _ (λ here.
+    let before : k < i = omega (arith, less, sized) in
+    let listed : address_octets (get_or keys k d) ≡ address_octets (get_or rooms k d) =
+    sym (at_place keys d k less) ∙ ap (λ list. get_or list k []) are ∙ at_place (take i rooms) d k (omega (arith, before, length-take-le i rooms (omega (arith, within)))) ∙ ap address_octets (get_or-take i rooms k d before) in
+    let one : address_octets x ≡ address_octets (get_or rooms k d) = (bytes_eq-Decides _ _).0 here ∙ listed in
+    differ k i [] before (omega (arith, within, length-map rooms address_octets))
+    (at_place rooms d k (omega (arith, before, within)) ∙ sym one ∙ same ∙ ap address_octets is ∙ sym (at_place rooms room i within)))) in
+    ap (map address_octets) (made ∙ ap (λ b. cond b keys (keys ++ x ∷ [])) fresh) ∙ map-append address_octets keys (x ∷ [])
+    ∙ ap (λ list. list ++ address_octets x ∷ []) are
+    ∙ ap (λ last. map address_octets (take i rooms) ++ last ∷ []) (same ∙ ap address_octets is)
+    ∙ sym (map-append address_octets (take i rooms) (get_or rooms i room ∷ []))
+    ∙ ap (map address_octets) (sym (take_more rooms i room within))
+
+-- ---- the loop over the attendees
+
+-- the flags after so many attendees
+pub record MarksSofar (addresses : List (List ℕ)) (attendees : List Attendee) (i : ℕ) (before after : List Bool) : Type 0 where
+  pub long : length after ≡ length before
+  pub marks : (test : List ℕ → Bool) → LeavesOut test addresses before → LeavesOut (λ room. test room || names (take i attendees) room) addresses after
+
+pub marks_none : (addresses : List (List ℕ)) (attendees : List Attendee) (flags : List Bool) → MarksSofar addresses attendees 0 flags flags
+marks_none addresses attendees flags = record { long = refl; marks = λ test so place off. ap (λ b. b || false) (so place off) }
+
+-- one attendee more
+pub marks_more : (addresses : List (List ℕ)) (attendees : List Attendee) (i : ℕ) (x : Attendee) (before old new : List Bool) → i < length attendees → x ≡ get_or attendees i x → length new ≡ length old
+    → ((place : ℕ) → get_or new place true ≡ false → (get_or old place true ≡ false) × (bytes_eq (address_octets x.address) (get_or addresses place []) ≡ false))
+    → MarksSofar addresses attendees i before old → MarksSofar addresses attendees (i + 1) before new
+marks_more addresses attendees i x before old new within is same step so = record { long = same ∙ so.long; marks = more }
+  where
+    more : (test : List ℕ → Bool) → LeavesOut test addresses before → LeavesOut (λ room. test room || names (take (i + 1) attendees) room) addresses new
+    more test had place off =
+        let room = get_or addresses place [] in
+        let p : Attendee → Bool = λ attendee. bytes_eq (address_octets attendee.address) room in
+        let both = or_parts (test room) (names (take i attendees) room) (so.marks test had place (step place off).0) in
+        let here : p (get_or attendees i x) ≡ false = sym (ap p is) ∙ (step place off).1 in
+        let all : names (take (i + 1) attendees) room ≡ false = list_any_more p attendees i x within ∙ ap (λ b. b || p (get_or attendees i x)) both.1 ∙ here in
+        ap (λ b. b || names (take (i + 1) attendees) room) both.0 ∙ all
+
+-- ---- the loop over the VEVENTs
+
+names_said : (attendees : List Attendee) (room : List ℕ) → names attendees room ≡ list_any (λ a. bytes_eq a.address room) (map attendee_of attendees)
+names_said [] room = refl
+names_said (x ∷ xs) room = ap (λ b. bytes_eq (address_octets x.address) room || b) (names_said xs room)
+
+-- what the VEVENTs so far ask
+abbrev pub asks_sofar : Message → List MessageComponent → List ℕ → Bool
+asks_sofar message components room = list_any (is_for room message) components
+
+-- the flags after so many VEVENTs
+pub record AsksSofar (message : Message) (addresses : List (List ℕ)) (i : ℕ) (flags : List Bool) : Type 0 where
+  pub long : length flags ≡ length addresses
+  pub out : LeavesOut (asks_sofar message (take i message.components.items)) addresses flags
+
+-- what marking the attendees of a VEVENT does
+abbrev pub Marking : List (List ℕ) → List Attendee → List Bool → List Bool → Type 0
+Marking addresses lines old new = (test : List ℕ → Bool) → LeavesOut test addresses old → LeavesOut (λ room. test room || names lines room) addresses new
+
+-- one VEVENT more, which isn't for all
+pub asks_more : (message : Message) (addresses : List (List ℕ)) (i : ℕ) (x : MessageComponent) (lines : List Attendee) (old new : List Bool)
+    → i < length message.components.items → x ≡ get_or message.components.items i x → map attendee_of lines ≡ x.attendees → cancels_for_all message x ≡ false → length new ≡ length old
+    → Marking addresses lines old new → AsksSofar message addresses i old → AsksSofar message addresses (i + 1) new
+asks_more message addresses i x lines old new within is are not_all same marks so = record { long = same ∙ so.long; out = more }
+  where
+    more : LeavesOut (asks_sofar message (take (i + 1) message.components.items)) addresses new
+    more place off =
+        let room = get_or addresses place [] in
+        let components = message.components.items in
+        let both = or_parts (asks_sofar message (take i components) room) (names lines room) (marks (asks_sofar message (take i components)) so.out place off) in
+        let named : component_names room x ≡ false = sym (names_said lines room ∙ ap (list_any (λ a. bytes_eq a.address room)) are) ∙ both.1 in
+        let here : is_for room message (get_or components i x) ≡ false = sym (ap (is_for room message) is) ∙ ap (λ b. b || cancels_for_all message x) named ∙ not_all in
+        list_any_more (is_for room message) components i x within ∙ ap (λ b. b || is_for room message (get_or components i x)) both.0 ∙ here
+
+on_all : (n place : ℕ) → get_or (replicate n true) place true ≡ true
+on_all zero place = refl
+on_all (suc n) zero = refl
+on_all (suc n) (suc place) = on_all n place
+
+-- one more, which is for all: all flags are on
+pub asks_all : (message : Message) (addresses : List (List ℕ)) (i n : ℕ) (lines : List Attendee) (old new : List Bool) → old ≡ replicate n true → length new ≡ length addresses
+    → Marking addresses lines old new → AsksSofar message addresses (i + 1) new
+asks_all message addresses i n lines old new on long marks = record {
+  long = long;
+  out = λ place off. absurd (true≢false (marks (λ _. true) (λ p o. absurd (true≢false (sym (ap (λ flags. get_or flags p true) on ∙ on_all n p) ∙ o))) place off));
+}
+
+-- a message that doesn't cancel is for none that it doesn't name
+pub not_cancel : (method : Method) → (method ≡ Cancel → ⊥) → is_cancel (method_said method) ≡ false
+not_cancel Request never = refl
+not_cancel Add never = refl
+not_cancel Cancel never = absurd (never refl)
+
+-- where the flag is off, whatever stands for those past the end
+pub off_at : (flags : List Bool) (place : ℕ) → place < length flags → get_or flags place false ≡ false → get_or flags place true ≡ false
+off_at [] place within off = absurd (omega arith)
+off_at (f ∷ fs) zero within off = off
+off_at (f ∷ fs) (suc place) within off = off_at fs place (omega arith) off
+
+-- ---- a room that the message isn't for
+
+-- it takes no parts, and answers nothing
+pub left_out : (moment : ℤ) (message : Message) (room : Room) → asks message (address_octets room.address) ≡ false → RoomTakes moment message room room []
+left_out moment message room none said stands before has =
+    let a = address_octets room.address in
+    let off : is_addressed a said ≡ false = sym (addressed a message said stands) ∙ none in (
+      before,
+      has,
+      record {
+        same = refl;
+        claims = [];
+        are = subst (λ r. AreClaims r said []) (sym has.at) (record { events = []; are = no_events a message said stands off; each = tt });
+        outcome = Accept;
+        step = record { taken = sym (append-nil _); answers = sym (append-nil _); decided = λ some. absurd (false≢true some) };
+        reply = None;
+        replies = refl;
+        refresh = None;
+        refreshes = and-false _;
+        is = refl;
+      },
+    )
