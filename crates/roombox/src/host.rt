@@ -5,8 +5,8 @@ use ical_lines::Fault;
 use ical_values::Address;
 use sched_box::{DeviceReader, DeviceWriter, Output};
 use sched_cli::commands::{Kept, run_check, run_keep, run_serve};
-use sched_cli::{run_expand, run_explain};
 use sched_cli::status::{DEVICE, USAGE, report_device, report_memory, report_too_long};
+use sched_cli::{run_expand, run_explain};
 use std::alloc::Global;
 use std::fs::File;
 use std::io::{self, ErrorKind, Read, Write};
@@ -99,7 +99,9 @@ fn invoke<R: Runtime + AllocGlobal>(rt: &R, alloc: Global, invocation: Invocatio
         Invocation::Expand { limit } => match limit_of(limit) {
             Some(limit) => invoke_expand(rt, alloc, limit),
             None => {
-                let _ = eprintln!(rt; "roombox: N must be a number from 1 to 100000, got {limit:?}");
+                let _ = eprintln!(rt;
+                    "roombox: N must be a number from 1 to 100000, got {limit:?}"
+                );
                 USAGE
             }
         },
@@ -199,7 +201,9 @@ fn invoke_explain<R: Runtime + AllocGlobal>(rt: &R, word: &str) -> u8 {
         Err(_) => USAGE,
     };
     if status == USAGE {
-        let _ = eprintln!(rt; "roombox: NUMBER must be the number of a refusal, such as 43, got {word:?}");
+        let _ = eprintln!(rt;
+            "roombox: NUMBER must be the number of a refusal, such as 43, got {word:?}"
+        );
     }
     status
 }

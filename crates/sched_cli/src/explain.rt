@@ -23,12 +23,8 @@ pub fn explanation(number: u8) -> Option<&'static str>
         3 => Some(
             "3: a quoted parameter value that isn't closed, or a stray quote. What to do: close it; quotes can't stand in bare values.\n",
         ),
-        4 => Some(
-            "4: a control octet, or a CR that ends no line. What to do: remove it.\n",
-        ),
-        5 => Some(
-            "5: not UTF-8. What to do: convert the object to UTF-8.\n",
-        ),
+        4 => Some("4: a control octet, or a CR that ends no line. What to do: remove it.\n"),
+        5 => Some("5: not UTF-8. What to do: convert the object to UTF-8.\n"),
         6 => Some(
             "6: more than 1048576 octets or 65536 lines. What to do: send less in one object.\n",
         ),
@@ -38,39 +34,21 @@ pub fn explanation(number: u8) -> Option<&'static str>
         11 => Some(
             "11: not a date-time, or with TZID a UTC time. What to do: fix the value or its VALUE parameter; leave out `Z` or TZID.\n",
         ),
-        12 => Some(
-            "12: not a duration, such as PT1H30M. What to do: fix the value.\n",
-        ),
-        13 => Some(
-            "13: not a UTC offset, in a VTIMEZONE. What to do: fix the value.\n",
-        ),
-        14 => Some(
-            "14: UID empty or past 1024 octets. What to do: give another UID.\n",
-        ),
+        12 => Some("12: not a duration, such as PT1H30M. What to do: fix the value.\n"),
+        13 => Some("13: not a UTC offset, in a VTIMEZONE. What to do: fix the value.\n"),
+        14 => Some("14: UID empty or past 1024 octets. What to do: give another UID.\n"),
         15 => Some(
             "15: not an address, such as mailto:ann@example.com. What to do: fix the address.\n",
         ),
-        16 => Some(
-            "16: SEQUENCE not from 0 to 2147483647. What to do: fix the number.\n",
-        ),
-        20 => Some(
-            "20: END without its BEGIN. What to do: fix the nesting.\n",
-        ),
-        21 => Some(
-            "21: BEGIN without its END. What to do: fix the nesting.\n",
-        ),
-        22 => Some(
-            "22: components more than 8 deep. What to do: flatten the object.\n",
-        ),
+        16 => Some("16: SEQUENCE not from 0 to 2147483647. What to do: fix the number.\n"),
+        20 => Some("20: END without its BEGIN. What to do: fix the nesting.\n"),
+        21 => Some("21: BEGIN without its END. What to do: fix the nesting.\n"),
+        22 => Some("22: components more than 8 deep. What to do: flatten the object.\n"),
         23 => Some(
             "23: no VCALENDAR, something outside it, or one inside it. What to do: send one VCALENDAR.\n",
         ),
-        24 => Some(
-            "24: VERSION missing, twice or not 2.0. What to do: write VERSION:2.0 once.\n",
-        ),
-        25 => Some(
-            "25: more than 200 VEVENTs. What to do: send several objects.\n",
-        ),
+        24 => Some("24: VERSION missing, twice or not 2.0. What to do: write VERSION:2.0 once.\n"),
+        25 => Some("25: more than 200 VEVENTs. What to do: send several objects.\n"),
         30 => Some(
             "30: a part of RRULE that is unknown or left out here (BYHOUR, RSCALE, ..), or FREQ below a day. What to do: leave it out.\n",
         ),
@@ -80,9 +58,7 @@ pub fn explanation(number: u8) -> Option<&'static str>
         32 => Some(
             "32: parts of RRULE that don't go together, one twice, or no FREQ. What to do: fix the rule.\n",
         ),
-        33 => Some(
-            "33: COUNT beside UNTIL. What to do: keep one.\n",
-        ),
+        33 => Some("33: COUNT beside UNTIL. What to do: keep one.\n"),
         34 => Some(
             "34: DTSTART isn't a day of its own rule. What to do: move the start, or fix the rule.\n",
         ),
@@ -98,18 +74,14 @@ pub fn explanation(number: u8) -> Option<&'static str>
         43 => Some(
             "43: no VTIMEZONE has the name that TZID gives. What to do: send the VTIMEZONE in the same object, or fix the name.\n",
         ),
-        50 => Some(
-            "50: DTEND before DTSTART. What to do: fix the times.\n",
-        ),
+        50 => Some("50: DTEND before DTSTART. What to do: fix the times.\n"),
         51 => Some(
             "51: more than 366 days, or a negative duration. What to do: send a shorter event.\n",
         ),
         52 => Some(
             "52: a time outside of the local years 1970 to 9999. What to do: roombox books from 1970 to 9999.\n",
         ),
-        53 => Some(
-            "53: two VEVENTs of one meeting without RECURRENCE-ID. What to do: send one.\n",
-        ),
+        53 => Some("53: two VEVENTs of one meeting without RECURRENCE-ID. What to do: send one.\n"),
         54 => Some(
             "54: two VEVENTs of one meeting for one instance. What to do: send one for each instance.\n",
         ),
@@ -128,15 +100,9 @@ pub fn explanation(number: u8) -> Option<&'static str>
         62 => Some(
             "62: two UIDs or ORGANIZERs in one message. What to do: send a message for each meeting.\n",
         ),
-        63 => Some(
-            "63: no ORGANIZER. What to do: name the organiser.\n",
-        ),
-        65 => Some(
-            "65: RANGE on RECURRENCE-ID. What to do: send an override for each instance.\n",
-        ),
-        66 => Some(
-            "66: no VEVENT. What to do: send a VEVENT.\n",
-        ),
+        63 => Some("63: no ORGANIZER. What to do: name the organiser.\n"),
+        65 => Some("65: RANGE on RECURRENCE-ID. What to do: send an override for each instance.\n"),
+        66 => Some("66: no VEVENT. What to do: send a VEVENT.\n"),
         67 => Some(
             "67: RRULE or RDATE beside RECURRENCE-ID, or in an ADD. What to do: leave them to the VEVENT without RECURRENCE-ID.\n",
         ),
