@@ -52,8 +52,8 @@ def row(cells):
 
 
 def paragraph(text, indent=""):
-    """A paragraph in lines of at most 140 columns."""
-    return textwrap.fill(text, 140, subsequent_indent=indent, break_long_words=False, break_on_hyphens=False)
+    """A paragraph in lines of at most 119 columns."""
+    return textwrap.fill(text, 119, subsequent_indent=indent, break_long_words=False, break_on_hyphens=False)
 
 
 def rows_of(file):
@@ -122,9 +122,9 @@ def main():
         print(row((f"`{name}`", *counts)))
     print(row(("all", *total)))
     if given.functions:
-        print("\n## The dearest functions\n")
-        said = f"Processor seconds on {given.machine.partition(' (')[0]}, other work beside it, by the progress lines of `rt check --jobs 1`: up to the first function of "
-        said += "a crate (which loads the libraries), for all its others, and for its ten dearest. A function's time holds that of the lemma files that are first cited there."
+        print("\n## The functions that cost most\n")
+        said = f"Processor seconds on {given.machine.partition(' (')[0]}, other work running, by the progress lines of `rt check --jobs 1`: up to the first function of "
+        said += "a crate (which loads the libraries), for all its others, and for the ten that cost most. A function's time holds that of the lemma files that are first cited there."
         print(paragraph(said) + "\n")
         print(*dearest(given.functions), sep="\n")
 
