@@ -2,7 +2,7 @@
 RT ?= rt
 EXAMPLE := examples/first-request.ics-stream
 
-.PHONY: try run test attack bench clean
+.PHONY: try run test attack bench layout clean
 
 # Answers the first request within about a minute. Nothing is proved this way.
 try:
@@ -25,6 +25,10 @@ FORCE:
 # The whole gate: every proof from nothing, the edits that must fail, the tests and the programs.
 test:
 	$(RT) ci
+
+# Lays out each crate as the gate wants it: a file that isn't stops its crate and all above it.
+layout:
+	@for crate in crates/*/; do (cd $$crate && $(RT) fmt) || exit 1; done
 
 # The planted edits that the gate doesn't try, in rounds: all, those of CRATE, or those of the crates that changed since a commit (SINCE).
 attack:
