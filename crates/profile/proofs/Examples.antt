@@ -12,8 +12,9 @@ use Rattle.profile.specs.events.Events.{Method, Request, Add, Cancel, may_lack_s
 use Rattle.profile.specs.events.Properties.{lines_named}
 use Rattle.profile.specs.rooms.Revisions.{Part, Whole, At, Set, Absent, Cancelled, same_meeting}
 use Rattle.profile.specs.events.Meetings.{taken_by}
-use Rattle.profile.specs.rooms.Messages.{Accept, SinglesLimit, Message, MethodFault, no_method, has_unread, no_content, list_lines, is_in_dates, cancels, is_addressed, parts_for, revision_beside, IsBody, object_lines, word}
-use Rattle.profile.specs.rooms.Rooms.{Answer, Book, Claim, empty_book, is_confirmed, wants_whole}
+use Rattle.profile.specs.rooms.Messages.{Accept, SinglesLimit, Message, MethodFault, no_method, no_content, list_lines, is_in_dates, cancels, is_addressed, parts_for, revision_beside, IsBody, object_lines, word}
+use Rattle.profile.specs.checker.Instances.{Booked}
+use Rattle.profile.specs.rooms.Rooms.{Answer, Book, Claim, confirmed, confirmed_singles, confirmed_series, empty_book, is_confirmed, wants_whole}
 use Rattle.profile.specs.rooms.Kept.{IsKept, kept_certificate, first_parts, each_once, renamed}
 use Rattle.profile.specs.streams.Streams.{Now, Room, moments, rooms, refused_line, AreObjects}
 
@@ -98,12 +99,6 @@ another_room_has_nothing : answer_of (codes "r:2") (event_with Accepted Accepted
 another_room_has_nothing = refl
 
 -- ---- messages
-
-a_rule_is_unread : has_unread (codes "DTSTART:20250310T090000Z" ∷ codes "RRULE:FREQ=DAILY" ∷ []) ≡ true
-a_rule_is_unread = refl
-
-a_list_in_a_zone_is_read : has_unread (codes "DTSTART;TZID=Z:20250310T090000" ∷ codes "RDATE;TZID=Z:20250311T090000" ∷ []) ≡ false
-a_list_in_a_zone_is_read = refl
 
 a_cancel_may_lack_its_start : may_lack_start (Some Cancel) ≡ true
 a_cancel_may_lack_its_start = refl
@@ -232,7 +227,7 @@ part_of uid sequence = record {
 }
 
 abbrev claim_of : List ℕ → ℕ → Claim
-claim_of uid sequence = record { part = part_of uid sequence; content = record { lines = codes "DTSTART:19700101T000000Z" ∷ codes "DURATION:PT1S" ∷ []; zone = None }; singles = record { key = record { organiser = codes "o:1"; uid = uid; slot = pos 0 }; start = pos 0; end = pos 1 } ∷ [] }
+claim_of uid sequence = record { part = part_of uid sequence; content = record { lines = codes "DTSTART:19700101T000000Z" ∷ codes "DURATION:PT1S" ∷ []; zone = None }; singles = record { key = record { organiser = codes "o:1"; uid = uid; slot = pos 0 }; start = pos 0; end = pos 1 } ∷ []; series = None }
 
 -- b came first and was declined; a was accepted
 abbrev two_meetings : Book
@@ -288,6 +283,35 @@ nor_where_it_was_cancelled = refl
 
 that_of_another_meeting_is_none : wants_whole true (part_of (codes "b") 0 ∷ []) (part_of (codes "b") 0 ∷ instance_part ∷ []) (instance_claim ∷ []) ≡ true
 that_of_another_meeting_is_none = refl
+
+-- ---- a series in a room
+
+abbrev booked_at : ℕ → Booked
+booked_at n = record { key = record { organiser = codes "o:1"; uid = codes "a"; slot = pos n }; start = pos n; end = pos (suc n) }
+
+-- an instance of the meeting a that is cancelled
+abbrev cancelled_at : ℕ → Part
+cancelled_at n = record (part_of (codes "a") 1) { slot = At (pos n); body = Cancelled }
+
+-- a series of two instances was accepted; these parts were taken with it
+abbrev one_series : List Part → Book
+one_series taken = record {
+  taken = part_of (codes "a") 0 ∷ taken;
+  answers = record { claim = record (claim_of (codes "a") 0) { singles = []; series = Some (booked_at 0 ∷ booked_at 9 ∷ []) }; moment = pos 9; outcome = Accept } ∷ [];
+}
+
+its_instances_are_confirmed : confirmed (one_series []) ≡ booked_at 0 ∷ booked_at 9 ∷ []
+its_instances_are_confirmed = refl
+
+they_are_no_singles : confirmed_singles (one_series []) ≡ []
+they_are_no_singles = refl
+
+one_is_hidden : confirmed (one_series (cancelled_at 9 ∷ [])) ≡ booked_at 0 ∷ []
+one_is_hidden = refl
+
+-- with no instance left it is a series too
+all_are_hidden : confirmed_series (one_series (cancelled_at 9 ∷ cancelled_at 0 ∷ [])) ≡ [] ∷ []
+all_are_hidden = refl
 
 one_single : kept_certificate two_meetings ≡ codes "ROOMCERT 1\nSINGLES 1\nSERIES 0\nDONE\n"
 one_single =

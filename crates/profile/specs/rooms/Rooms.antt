@@ -1,5 +1,6 @@
 -- The room machine: what a room keeps, and one step of it. A step is a relation, as a decline may name any clash.
-use Rattle.std.specs.Prelude.{◌≡◌, ℕ, ◌<◌, ◌≤◌, Bool, true, false, not, ◌&&◌, IsTrue, if◌then◌else◌, nat_lt, List, [], ◌∷◌, ◌++◌, length, map, filter, ℤ}
+use Rattle.std.specs.Prelude.{◌≡◌, ℕ, ◌<◌, ◌≤◌, Bool, true, false, not, ◌&&◌, IsTrue, if◌then◌else◌, nat_lt, List, [], ◌∷◌, ◌++◌, length, map, filter, Option, option_map, ℤ}
+use Rattle.std.specs.Option.{option_to_list}
 use Rattle.std.specs.List.{flat_map, list_any}
 use Rattle.std.specs.declared.cmp.Ordering.TheVariants.{Less}
 use Rattle.profile.specs.checker.Instances.{Key, Booked, IsClash, IsClear, booked_cmp}
@@ -8,11 +9,13 @@ use Rattle.profile.specs.rooms.Messages.{Content, Outcome, Accept, Busy, SeriesL
 
 -- ---- what a room keeps
 
--- a part of a message, and what it asks for if it is to take place: what says when it is, and its instances
+-- a part of a message, and what it asks for if it is to take place: what says when it is, its single instances, and those of its RRULE, if it
+-- has one
 pub record Claim : Type 0 where
   pub part : Part
   pub content : Content
   pub singles : List Booked
+  pub series : Option (List Booked)
 
 -- what was decided about a part, and when; it stays for good
 pub record Answer : Type 0 where
@@ -44,16 +47,35 @@ abbrev pub is_hidden : List Part → Part → Booked → Bool
 is_hidden taken part booked =
     is_whole part && list_any (λ other. in_view taken other && same_place other (record part { slot = At booked.key.slot })) taken
 
--- the instances of an answer that no other part hides
+-- the instances of a part that no other part hides
+abbrev pub not_hidden : List Part → Part → List Booked → List Booked
+not_hidden taken part instances = filter (λ booked. not (is_hidden taken part booked)) instances
+
+-- the single instances of an answer that no other part hides
 abbrev pub left_of : List Part → Answer → List Booked
-left_of taken answer = filter (λ booked. not (is_hidden taken answer.claim.part booked)) answer.claim.singles
+left_of taken answer = not_hidden taken answer.claim.part answer.claim.singles
 
--- the confirmed instances, where these parts were taken and so answered
-abbrev pub confirmed_in : List Part → List Answer → List Booked
-confirmed_in taken answers = flat_map (left_of taken) (filter (is_confirmed taken) answers)
+-- what no other part hides of the series of an answer, where it has one. With no instance left it is a series too
+abbrev pub series_left_of : List Part → Answer → List (List Booked)
+series_left_of taken answer = option_to_list (option_map (not_hidden taken answer.claim.part) answer.claim.series)
 
+-- the confirmed singles, where these parts were taken and so answered
+abbrev pub singles_confirmed : List Part → List Answer → List Booked
+singles_confirmed taken answers = flat_map (left_of taken) (filter (is_confirmed taken) answers)
+
+-- the confirmed series, each by its instances
+abbrev pub series_confirmed : List Part → List Answer → List (List Booked)
+series_confirmed taken answers = flat_map (series_left_of taken) (filter (is_confirmed taken) answers)
+
+abbrev pub confirmed_singles : Book → List Booked
+confirmed_singles book = singles_confirmed book.taken book.answers
+
+abbrev pub confirmed_series : Book → List (List Booked)
+confirmed_series book = series_confirmed book.taken book.answers
+
+-- all confirmed instances
 abbrev pub confirmed : Book → List Booked
-confirmed book = confirmed_in book.taken book.answers
+confirmed book = confirmed_singles book ++ flat_map (λ instances. instances) (confirmed_series book)
 
 -- ---- how new a part is, by the views before its message and after it
 
@@ -85,9 +107,16 @@ asked before after claims = filter (λ c. is_set c.part && is_fresh before after
 
 -- ---- the decision
 
--- how many single instances a room may have confirmed; this profile's choice
+-- how many series a room may have confirmed, and how many single instances; this profile's choice
+abbrev pub most_series : ℕ
+most_series = 64
+
 abbrev pub most_singles : ℕ
 most_singles = 10_000
+
+pub record IsWithinLimits (book : Book) : Type 0 where
+  pub series : length (confirmed_series book) ≤ most_series
+  pub singles : length (confirmed_singles book) ≤ most_singles
 
 -- the two keys are those of a clash, at the later start; the lesser by start, organiser, UID and slot comes first
 pub record NamesClash (all : List Booked) (first second : Key) (t : ℤ) : Type 0 where
@@ -99,13 +128,13 @@ pub record NamesClash (all : List Booked) (first second : Key) (t : ℤ) : Type 
   pub ordered : booked_cmp a b ≡ Less
   pub later : t ≡ b.start
 
--- what is decided where these would be confirmed: the limit is looked at first, then whether any two clash; any clash may be named
-abbrev pub Decides : List Booked → Outcome → Type 0
-Decides all Accept = (length all ≤ most_singles) × IsClear all
-Decides all (Busy first second t) = (length all ≤ most_singles) × NamesClash all first second t
-Decides all SinglesLimit = most_singles < length all
--- there are no series yet
-Decides all SeriesLimit = ⊥
+-- what is decided where this would be the book: the limit of series is looked at first, then that of singles, then whether any two
+-- confirmed instances clash; any clash may be named
+abbrev pub Decides : Book → Outcome → Type 0
+Decides book SeriesLimit = most_series < length (confirmed_series book)
+Decides book SinglesLimit = (length (confirmed_series book) ≤ most_series) × (most_singles < length (confirmed_singles book))
+Decides book Accept = IsWithinLimits book × IsClear (confirmed book)
+Decides book (Busy first second t) = IsWithinLimits book × NamesClash (confirmed book) first second t
 
 -- ---- a step
 
@@ -119,12 +148,12 @@ if_accepted before claims moment taken =
     record { taken = taken; answers = before.answers ++ answered moment Accept (asked before.taken taken claims) }
 
 -- A message with these parts is taken at a moment: its parts are taken, the old answers stay, and each part that is asked
--- gets the one outcome, which the instances decide that would be confirmed, were each accepted
+-- gets the one outcome, which the book decides that there would be, were each accepted
 pub record IsStep (before : Book) (claims : List Claim) (moment : ℤ) (outcome : Outcome) (after : Book) : Type 0 where
   pub taken : after.taken ≡ before.taken ++ parts_of claims
   pub answers : after.answers ≡ before.answers ++ answered moment outcome (asked before.taken after.taken claims)
   pub decided : IsTrue (nat_lt 0 (length (asked before.taken after.taken claims)))
-      → Decides (confirmed (if_accepted before claims moment after.taken)) outcome
+      → Decides (if_accepted before claims moment after.taken) outcome
 
 -- a message, at a moment
 pub record Delivery : Type 0 where
