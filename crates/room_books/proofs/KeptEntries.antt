@@ -9,7 +9,7 @@ use Rattle.std.proofs.lemmas.Cmp.{tied_itself}
 use Rattle.std.proofs.lemmas.Map.Lookups.{exact_bytes}
 use Rattle.profile.specs.checker.Instances.{Booked}
 use Rattle.profile.specs.rooms.Revisions.{Part, Slot, meeting_cmp, octets_cmp, slot_cmp, same_meeting, same_part, same_place}
-use Rattle.profile.specs.rooms.Rooms.{Claim, Answer, Book, confirmed_in, is_confirmed, is_hidden, left_of}
+use Rattle.profile.specs.rooms.Rooms.{Claim, Answer, Book, singles_confirmed, is_confirmed, is_hidden, left_of}
 use Rattle.profile.specs.rooms.Kept.{Entry, Shown, Hidden, part_kept, IsEntry, AreKeptOf, AreKept, first_parts}
 use Rattle.cal_events.proofs.InOneOrder.{head_pairs, tail_pairs}
 use Rattle.itip_order.proofs.Lists.{in_cons, in_head, in_tail, none_in_nil, filter_at, filter_from}
@@ -138,15 +138,15 @@ only_one f (x ∷ xs) a p c t h = elim (in_cons x xs a c) [
       ap (λ b. cond b (x ∷ filter f xs) (filter f xs)) fails ∙ only_one f xs a p.1 there t h
 ]
 
-none_confirmed : (taken : List Part) (xs : List Answer) → ((a : Answer) → Contains xs a → is_confirmed taken a ≡ true → ⊥) → confirmed_in taken xs ≡ []
+none_confirmed : (taken : List Part) (xs : List Answer) → ((a : Answer) → Contains xs a → is_confirmed taken a ≡ true → ⊥) → singles_confirmed taken xs ≡ []
 none_confirmed taken xs h = ap (flat_map (left_of taken)) (filter_none (is_confirmed taken) xs (λ a c. false_from_ne_true _ (h a c)))
 
 module _ (taken : List Part) where
-  one_confirmed : (a : Answer) → is_confirmed taken a ≡ true → confirmed_in taken (a ∷ []) ≡ left_of taken a
+  one_confirmed : (a : Answer) → is_confirmed taken a ≡ true → singles_confirmed taken (a ∷ []) ≡ left_of taken a
   one_confirmed a h = ap (λ b. flat_map (left_of taken) (cond b (a ∷ []) [])) h ∙ append-nil (left_of taken a)
 
   pub same_left : (es : List Entry) (xs : List Answer) → ((c : Claim) → Contains es (Shown c) → (a : Answer) × Contains xs a × (is_confirmed taken a ≡ true) × (a.claim ≡ c))
-      → ((a : Answer) → Contains xs a → is_confirmed taken a ≡ true → Contains es (Shown a.claim)) → Pairwise EntriesDiffer es → Pairwise OtherPart xs → AreSame (flat_map (own_of taken) es) (confirmed_in taken xs)
+      → ((a : Answer) → Contains xs a → is_confirmed taken a ≡ true → Contains es (Shown a.claim)) → Pairwise EntriesDiffer es → Pairwise OtherPart xs → AreSame (flat_map (own_of taken) es) (singles_confirmed taken xs)
   same_left [] xs to from d p =
       subst (λ (l : List Booked). AreSame [] l) (sym (none_confirmed taken xs (λ a c h. none_in_nil (Shown a.claim) (from a c h)))) (same_itself [])
   same_left (Hidden q ∷ es) xs to from d p =
@@ -166,7 +166,7 @@ module _ (taken : List Part) where
       let own : a.claim.part ≡ c.part = ap (λ (x : Claim). x.part) one.3 in
       let alone : filter f xs ≡ a ∷ [] = only_one f xs a p one.1 (ap (λ (q : Part). same_part q c.part) own ∙ same_part_refl c.part) (λ x e. same_part_is x.claim.part c.part e ∙ sym own) in
       let others = filter (λ x. not (f x)) xs in
-      let first : confirmed_in taken (filter f xs) ≡ own_of taken (Shown c) = ap (confirmed_in taken) alone ∙ one_confirmed a one.2 ∙ ap (λ (x : Claim). filter (λ b. not (is_hidden taken x.part b)) x.singles) one.3 in
+      let first : singles_confirmed taken (filter f xs) ≡ own_of taken (Shown c) = ap (singles_confirmed taken) alone ∙ one_confirmed a one.2 ∙ ap (λ (x : Claim). filter (λ b. not (is_hidden taken x.part b)) x.singles) one.3 in
       let rest = same_left es others
       (λ e k.
       let found = to e (in_tail (Shown c) es (Shown e) k) in
@@ -180,7 +180,7 @@ module _ (taken : List Part) where
       ])
       d.1 (pairs_filter OtherPart (λ x. not (f x)) xs p) in
       let split = same_turned _ _ (confirmed_split taken f xs) in
-      same_then _ _ _ (same_append (own_of taken (Shown c)) (confirmed_in taken (filter f xs)) (flat_map (own_of taken) es) (confirmed_in taken others)
+      same_then _ _ _ (same_append (own_of taken (Shown c)) (singles_confirmed taken (filter f xs)) (flat_map (own_of taken) es) (singles_confirmed taken others)
       (subst (λ (l : List Booked). AreSame (own_of taken (Shown c)) l) (sym first) (same_itself (own_of taken (Shown c)))) rest) split
     where
       places : {p q : Part} → p ≡ q → SamePlace p q
