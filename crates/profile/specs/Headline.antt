@@ -2,10 +2,10 @@
 -- `yes_means_free` of clash_check. That the program does what is said here of runs and of the checker's yes is what the contracts of
 -- `Room::take`, `Room::calendar_text`, `Room::certificate_text` and `check` say.
 use Rattle.std.specs.Prelude.{◌≡◌, ◌↔◌, ℕ, ℤ, ◌<ℤ◌, List, Contains, IsTrue, length, nat_lt}
-use Rattle.profile.specs.checker.Instances.{Key, Booked, IsWithin, IsClear, horizon}
+use Rattle.profile.specs.checker.Instances.{Key, Booked, IsWithin, horizon}
 use Rattle.profile.specs.checker.Calendars.{CertificateHolds, IsConfirmedIn}
 use Rattle.profile.specs.rooms.Messages.{Outcome, Accept, Busy}
-use Rattle.profile.specs.rooms.Rooms.{Book, Claim, Delivery, Runs, IsStep, NamesClash, asked, confirmed, if_accepted, empty_book, IsWithinLimits}
+use Rattle.profile.specs.rooms.Rooms.{Book, Claim, Delivery, Runs, IsStep, NamesClash, Confirms, IsClear, asked, if_accepted, empty_book, IsWithinLimits}
 use Rattle.profile.specs.streams.Streams.{IsDelivered}
 use Rattle.profile.specs.rooms.Kept.{IsKeptCalendar, kept_certificate}
 
@@ -32,5 +32,5 @@ abbrev pub AcceptedWhereClear : Type 0
 AcceptedWhereClear =
     (before : Book) (claims : List Claim) (moment : ℤ) (outcome : Outcome) (after : Book) → IsStep before claims moment outcome after
     → IsTrue (nat_lt 0 (length (asked before.taken after.taken claims)))
-    → ((outcome ≡ Accept) ↔ (IsWithinLimits (would_be before claims moment after) × IsClear (confirmed (would_be before claims moment after))))
-    × ((first second : Key) (t : ℤ) → outcome ≡ Busy first second t → NamesClash (confirmed (would_be before claims moment after)) first second t)
+    → ((outcome ≡ Accept) ↔ (IsWithinLimits (would_be before claims moment after) × IsClear (would_be before claims moment after)))
+    × ((first second : Key) (t : ℤ) → outcome ≡ Busy first second t → NamesClash (Confirms (would_be before claims moment after)) first second t)

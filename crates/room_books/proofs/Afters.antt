@@ -11,7 +11,7 @@ use Rattle.profile.specs.checker.Instances.{Booked, Key}
 use Rattle.profile.specs.text.Values.{IsClockSeconds}
 use Rattle.profile.specs.rooms.Messages.{Outcome, Accept, Busy, SeriesLimit, SinglesLimit}
 use Rattle.profile.specs.rooms.Revisions.{Part, in_view}
-use Rattle.profile.specs.rooms.Rooms.{Answer, Book, Claim, Decides, is_confirmed, is_hidden, is_fresh, is_set, left_of, confirmed_in, parts_of, asked, answered}
+use Rattle.profile.specs.rooms.Rooms.{Answer, Book, Claim, Decides, is_confirmed, is_hidden, is_fresh, is_set, left_of, singles_confirmed, parts_of, asked, answered}
 use Rattle.room_books.specs.declared.meeting.MeetingKey.{MeetingKey}
 use Rattle.room_books.specs.declared.kept.Meeting.{Meeting}
 use Rattle.cal_events.specs.declared.instance.Single.{Single}
@@ -30,7 +30,7 @@ use Rattle.room_books.proofs.Views.{view_back}
 -- ---- instants that can be written
 
 -- what is confirmed was asked for
-pub confirmed_asked : (t : List Part) (xs : List Answer) (b : Booked) → Contains (confirmed_in t xs) b → (a : Answer) × Contains xs a × Contains a.claim.singles b
+pub confirmed_asked : (t : List Part) (xs : List Answer) (b : Booked) → Contains (singles_confirmed t xs) b → (a : Answer) × Contains xs a × Contains a.claim.singles b
 confirmed_asked t xs b c =
     let found = flat_at (left_of t) (filter (is_confirmed t) xs) b c in
     (found.0, (filter_at (is_confirmed t) xs found.0 found.1).0, (filter_at (λ z. not (is_hidden t found.0.claim.part z)) found.0.claim.singles b found.2).0)

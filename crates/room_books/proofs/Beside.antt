@@ -9,7 +9,7 @@ use Rattle.itip_order.proofs.Lists.{filter_at, filter_from}
 use Rattle.profile.specs.checker.Instances.{Booked}
 use Rattle.profile.specs.rooms.Messages.{Accept}
 use Rattle.profile.specs.rooms.Revisions.{Part}
-use Rattle.profile.specs.rooms.Rooms.{Answer, Book, Claim, is_confirmed, confirmed_in, confirmed, if_accepted, parts_of, asked, answered}
+use Rattle.profile.specs.rooms.Rooms.{Answer, Book, Claim, is_confirmed, singles_confirmed, confirmed, if_accepted, parts_of, asked, answered}
 use Rattle.room_books.specs.declared.meeting.MeetingKey.{MeetingKey}
 use Rattle.room_books.specs.declared.kept.Meeting.{Meeting}
 use Rattle.room_books.specs.Views.{same_key, is_other, others, confirmed_of}
@@ -43,7 +43,7 @@ module _ (k : MeetingKey) (entries : List (MeetingKey × Meeting)) (distinct : I
   apart_from q d p e = false_from_ne_true _ (λ f. both_ways _ d (one_meeting k q p e f))
 
   -- another meeting confirms what it did
-  other_confirms : (e : MeetingKey × Meeting) → Contains entries e → same_key k e.0 ≡ false → AreSame (confirmed_in all (answers_of e.0 (filter not_own now))) (confirmed_of e)
+  other_confirms : (e : MeetingKey × Meeting) → Contains entries e → same_key k e.0 ≡ false → AreSame (singles_confirmed all (answers_of e.0 (filter not_own now))) (confirmed_of e)
   other_confirms e c d =
       let own = λ (a : Answer). is_of e.0 a.claim.part in
       let old = answers_of e.0 book.answers in
@@ -51,8 +51,8 @@ module _ (k : MeetingKey) (entries : List (MeetingKey × Meeting)) (distinct : I
       answers_apart k e.0 now d ∙ filter-append own book.answers new
       ∙ ap (λ l. old ++ l) (filter_none own new (λ a h. apart_from e.0 d a.claim.part (new_own a h))) ∙ append-nil old in
       let parts : of_meeting e.0 all ≡ of_meeting e.0 book.taken = of_more_other e.0 book.taken (parts_of claims) (λ p h. apart_from e.0 d p (parts_own k claims fit p h)) in
-      let is : confirmed_in all (answers_of e.0 (filter not_own now)) ≡ confirmed_in (of_meeting e.0 book.taken) old =
-      ap (confirmed_in all) same ∙ sym (confirmed_own e.0 all old (λ a h. (filter_at own book.answers a h).1)) ∙ ap (λ t. confirmed_in t old) parts in
+      let is : singles_confirmed all (answers_of e.0 (filter not_own now)) ≡ singles_confirmed (of_meeting e.0 book.taken) old =
+      ap (singles_confirmed all) same ∙ sym (confirmed_own e.0 all old (λ a h. (filter_at own book.answers a h).1)) ∙ ap (λ t. singles_confirmed t old) parts in
       subst (λ (l : List Booked). AreSame l (confirmed_of e)) (sym is) (zip_confirms e.0 (of_meeting e.0 book.taken) old e.1.answers.items (meeting_at entries book st distinct e c).answers)
 
   -- a confirmed answer of another meeting is one of an entry
@@ -70,7 +70,7 @@ module _ (k : MeetingKey) (entries : List (MeetingKey × Meeting)) (distinct : I
         | inr fresh ↦ absurd (both_ways _ (not-true _ from.1) (new_own a fresh))
       ] in q
 
-  others_same : AreSame (confirmed_in all (filter not_own now)) (others k entries)
+  others_same : AreSame (singles_confirmed all (filter not_own now)) (others k entries)
   others_same = partition all (filter (is_other k) entries) (filter not_own now) (IsDistinct-keys_filter same_key (is_other k) entries distinct) other_covered
       (λ e c. let from = filter_at (is_other k) entries e c in other_confirms e from.0 (not-true _ from.1))
 
@@ -83,17 +83,17 @@ module _ (k : MeetingKey) (entries : List (MeetingKey × Meeting)) (distinct : I
   abbrev own_now : List Answer
   own_now = own.answers ++ answered moment Accept (asked own.taken own_taken claims)
 
-  own_same : confirmed_in all (answers_of k now) ≡ confirmed_in own_taken own_now
+  own_same : singles_confirmed all (answers_of k now) ≡ singles_confirmed own_taken own_now
   own_same =
       sym (confirmed_own k all (answers_of k now) (λ a c. (filter_at (λ (x : Answer). is_of k x.claim.part) now a c).1))
-      ∙ (λ i. confirmed_in (taken_own k book claims fit i) (answers_own k book claims fit moment Accept i))
+      ∙ (λ i. singles_confirmed (taken_own k book claims fit i) (answers_own k book claims fit moment Accept i))
 
-  pub beside_same : (mine : List Booked) → AreSame (confirmed_in own_taken own_now) mine → AreSame (others k entries ++ mine) (confirmed (if_accepted book claims moment all))
+  pub beside_same : (mine : List Booked) → AreSame (singles_confirmed own_taken own_now) mine → AreSame (others k entries ++ mine) (confirmed (if_accepted book claims moment all))
   beside_same mine e =
       let split = confirmed_split all (λ a. is_of k a.claim.part) now in
-      let first : AreSame (confirmed_in all (answers_of k now)) mine = subst (λ (l : List Booked). AreSame l mine) (sym own_same) e in
+      let first : AreSame (singles_confirmed all (answers_of k now)) mine = subst (λ (l : List Booked). AreSame l mine) (sym own_same) e in
       let turned = same_then _ _ _ split (same_append _ _ _ _ first others_same) in
-      same_then (others k entries ++ mine) (mine ++ others k entries) (confirmed_in all now) (swapped (others k entries) mine) (same_turned _ _ turned)
+      same_then (others k entries ++ mine) (mine ++ others k entries) (singles_confirmed all now) (swapped (others k entries) mine) (same_turned _ _ turned)
     where
       swapped : (xs ys : List Booked) → AreSame (xs ++ ys) (ys ++ xs)
       swapped xs ys = subst (λ (l : List Booked). AreSame (xs ++ l) (ys ++ xs)) (append-nil ys) (subst (λ (l : List Booked). AreSame (xs ++ (ys ++ [])) (ys ++ l)) (append-nil xs) (same_swap xs ys []))

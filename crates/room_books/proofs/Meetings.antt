@@ -13,7 +13,7 @@ use Rattle.std.proofs.lemmas.Slice.Eq.{bytes_eq-Decides}
 use Rattle.ical_values.specs.Octets.{address_octets, text_octets}
 use Rattle.profile.specs.checker.Instances.{Booked}
 use Rattle.profile.specs.rooms.Revisions.{Part, octets_cmp, At, slot_cmp, meeting_cmp, same_place, is_whole, is_greatest, implies, allows, in_view, same_meeting, stands_beside}
-use Rattle.profile.specs.rooms.Rooms.{Answer, is_accept, is_confirmed, is_hidden, left_of, confirmed_in}
+use Rattle.profile.specs.rooms.Rooms.{Answer, is_accept, is_confirmed, is_hidden, left_of, singles_confirmed}
 use Rattle.itip_order.proofs.Lists.{all_at, all_from, any_at, any_from, in_head, in_tail, filter_at, filter_from}
 use Rattle.itip_order.proofs.Order.{is_eq_true, then_equal}
 use Rattle.itip_order.proofs.Registers.{greatest_at, greatest_from, eq_refl, implies_at, implies_from}
@@ -149,7 +149,7 @@ left_same k h p (b ∷ bs) e =
     ap (λ t. cond (not t) (b ∷ filter (λ b. not (is_hidden (of_meeting k h) p b)) bs) (filter (λ b. not (is_hidden (of_meeting k h) p b)) bs)) (hidden_of k h p b e)
     ∙ ap (λ l. cond (not (is_hidden h p b)) (b ∷ l) l) (left_same k h p bs e)
 
-pub confirmed_own : (k : MeetingKey) (h : List Part) (xs : List Answer) → ((a : Answer) → Contains xs a → is_of k a.claim.part ≡ true) → confirmed_in (of_meeting k h) xs ≡ confirmed_in h xs
+pub confirmed_own : (k : MeetingKey) (h : List Part) (xs : List Answer) → ((a : Answer) → Contains xs a → is_of k a.claim.part ≡ true) → singles_confirmed (of_meeting k h) xs ≡ singles_confirmed h xs
 confirmed_own k h xs own =
     ap (flat_map (left_of (of_meeting k h))) (filter_same (is_confirmed (of_meeting k h)) (is_confirmed h) xs (λ a c. ap (λ b. is_accept a.outcome && b) (view_of k h a.claim.part (own a c))))
     ∙ flat_same (left_of (of_meeting k h)) (left_of h) (filter (is_confirmed h) xs) (λ a c. left_same k h a.claim.part a.claim.singles (own a (filter_at (is_confirmed h) xs a c).0))

@@ -13,7 +13,7 @@ use Rattle.itip_order.proofs.Registers.{place_sym, place_trans, greatest_at, gre
 use Rattle.profile.specs.checker.Instances.{Booked}
 use Rattle.profile.specs.rooms.Revisions as Revision
 use Rattle.profile.specs.rooms.Revisions.{Part, Whole, At, in_view, same_place, is_whole, is_greatest, implies, allows, slot_cmp, same_meeting, stands_beside}
-use Rattle.profile.specs.rooms.Rooms.{Answer, Book, is_accept, is_hidden, left_of, confirmed_in}
+use Rattle.profile.specs.rooms.Rooms.{Answer, Book, is_accept, is_hidden, left_of, singles_confirmed}
 use Rattle.room_books.specs.declared.meeting.MeetingKey.{MeetingKey}
 use Rattle.room_books.specs.declared.kept.Meeting.{Meeting}
 use Rattle.cal_events.specs.declared.instance.Single.{Single}
@@ -72,7 +72,7 @@ left_booked k t p (s ∷ xs) e =
     at_test false r = r
 
 -- one answer whose part is in the view
-pub one_confirmed : (t : List Part) (a : Answer) → in_view t a.claim.part ≡ true → confirmed_in t (a ∷ []) ≡ cond (is_accept a.outcome) (left_of t a) []
+pub one_confirmed : (t : List Part) (a : Answer) → in_view t a.claim.part ≡ true → singles_confirmed t (a ∷ []) ≡ cond (is_accept a.outcome) (left_of t a) []
 one_confirmed t a seen = at_test (is_accept a.outcome) (in_view t a.claim.part) seen
   where
     at_test : (b c : Bool) → c ≡ true → flat_map (left_of t) (cond (b && c) (a ∷ []) []) ≡ cond b (left_of t a) []
@@ -205,7 +205,7 @@ module _ (key : MeetingKey) (own : Book) (more : List Part) (is_own : IsOwn key 
     hidden_still : (b : Booked) → not (is_hidden (own.taken ++ more) a.claim.part b) ≡ true → not (is_hidden own.taken a.claim.part b) ≡ true
     hidden_still b h = not_from_false _ (false_from_ne_true _ (λ hidden. both_ways _ (not-true _ h) (hidden_stays own.taken more a.claim.part b a_taken stays hidden)))
 
-    confirms : booked_list key left.singles.items ≡ confirmed_in (own.taken ++ more) (a ∷ [])
+    confirms : booked_list key left.singles.items ≡ singles_confirmed (own.taken ++ more) (a ∷ [])
     confirms =
         let now = own.taken ++ more in
         let f : Booked → Bool = λ b. not (is_hidden now a.claim.part b) in

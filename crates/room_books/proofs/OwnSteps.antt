@@ -13,7 +13,7 @@ use Rattle.profile.specs.checker.Instances.{Booked}
 use Rattle.profile.specs.rooms.Messages.{Accept}
 use Rattle.profile.specs.rooms.Messages as messages
 use Rattle.profile.specs.rooms.Revisions.{Part, in_view}
-use Rattle.profile.specs.rooms.Rooms.{Answer, Book, Claim, is_accept, is_hidden, confirmed_in, parts_of, asked, answered}
+use Rattle.profile.specs.rooms.Rooms.{Answer, Book, Claim, is_accept, is_hidden, singles_confirmed, parts_of, asked, answered}
 use Rattle.room_books.specs.declared.meeting.MeetingKey.{MeetingKey}
 use Rattle.room_books.specs.declared.meeting.Outcome.{Outcome}
 use Rattle.room_books.specs.declared.meeting.Outcome.TheVariants.{Accepted}
@@ -146,9 +146,9 @@ module _ (k : MeetingKey) (own : Book) (is_own : IsOwn k own) (claims : List Cla
 
   -- what the meeting would confirm, were they accepted
   pub would_confirm : (kept candidates : List Given) → AreGiven k t stayed kept → AllZip (IsGiven k t) candidates_said candidates
-      → AreSame (confirmed_in t (own.answers ++ candidates_said)) (booked_list k (all_singles kept ++ all_singles candidates))
+      → AreSame (singles_confirmed t (own.answers ++ candidates_said)) (booked_list k (all_singles kept ++ all_singles candidates))
   would_confirm kept candidates z w =
-      subst (λ (l : List Single). AreSame (confirmed_in t (own.answers ++ candidates_said)) (booked_list k l)) (flat_map-append (λ (g : Given). g.singles.items) kept candidates)
+      subst (λ (l : List Single). AreSame (singles_confirmed t (own.answers ++ candidates_said)) (booked_list k l)) (flat_map-append (λ (g : Given). g.singles.items) kept candidates)
       (zip_confirms k t (own.answers ++ candidates_said) (kept ++ candidates) (given_after Accept kept candidates z w))
 
   pub slots_differ : Pairwise OtherPart own.answers → (kept candidates : List Given) → AreGiven k t stayed kept → AllZip (IsGiven k t) candidates_said candidates
@@ -156,7 +156,7 @@ module _ (k : MeetingKey) (own : Book) (is_own : IsOwn k own) (claims : List Cla
   slots_differ once kept candidates z w =
       let order = z.order ++ candidates_said in
       let same = re_left candidates_said stayed z.order z.same in
-      let confirms : confirmed_in t order ≡ booked_list k (all_singles kept ++ all_singles candidates) =
+      let confirms : singles_confirmed t order ≡ booked_list k (all_singles kept ++ all_singles candidates) =
       given_confirms k t order (kept ++ candidates) (zip_both (IsGiven k t) z.order kept candidates_said candidates z.each w) ∙ ap (booked_list k) (flat_map-append (λ (g : Given). g.singles.items) kept candidates) in
       slots_apart k (all_singles kept ++ all_singles candidates)
       (subst (Pairwise OtherSlot) confirms

@@ -6,7 +6,7 @@ use Rattle.std.proofs.lemmas.Bool.{both_ways, not-true, false_from_ne_true}
 use Rattle.std.proofs.lemmas.Map.Keys.{IsDistinct-head, IsDistinct-tail}
 use Rattle.profile.specs.checker.Instances.{Booked}
 use Rattle.profile.specs.rooms.Revisions.{Part}
-use Rattle.profile.specs.rooms.Rooms.{Answer, is_confirmed, left_of, confirmed_in}
+use Rattle.profile.specs.rooms.Rooms.{Answer, is_confirmed, left_of, singles_confirmed}
 use Rattle.itip_order.proofs.Lists.{in_cons, in_head, in_tail, none_in_nil, filter_at}
 use Rattle.room_books.specs.declared.meeting.MeetingKey.{MeetingKey}
 use Rattle.room_books.specs.declared.kept.Meeting.{Meeting}
@@ -27,23 +27,23 @@ flat_cond : (f : Answer → List Booked) (b : Bool) (a : Answer) (xs : List Answ
 flat_cond f true a xs = refl
 flat_cond f false a xs = refl
 
-confirmed_cons : (t : List Part) (a : Answer) (xs : List Answer) → confirmed_in t (a ∷ xs) ≡ cond (is_confirmed t a) (left_of t a ++ confirmed_in t xs) (confirmed_in t xs)
+confirmed_cons : (t : List Part) (a : Answer) (xs : List Answer) → singles_confirmed t (a ∷ xs) ≡ cond (is_confirmed t a) (left_of t a ++ singles_confirmed t xs) (singles_confirmed t xs)
 confirmed_cons t a xs = flat_cond (left_of t) (is_confirmed t a) a (filter (is_confirmed t) xs)
 
-confirmed_cond : (t : List Part) (b : Bool) (a : Answer) (xs : List Answer) → confirmed_in t (cond b (a ∷ xs) xs) ≡ cond b (cond (is_confirmed t a) (left_of t a ++ confirmed_in t xs) (confirmed_in t xs)) (confirmed_in t xs)
+confirmed_cond : (t : List Part) (b : Bool) (a : Answer) (xs : List Answer) → singles_confirmed t (cond b (a ∷ xs) xs) ≡ cond b (cond (is_confirmed t a) (left_of t a ++ singles_confirmed t xs) (singles_confirmed t xs)) (singles_confirmed t xs)
 confirmed_cond t true a xs = confirmed_cons t a xs
 confirmed_cond t false a xs = refl
 
-pub confirmed_split : (t : List Part) (f : Answer → Bool) (xs : List Answer) → AreSame (confirmed_in t xs) (confirmed_in t (filter f xs) ++ confirmed_in t (filter (λ a. not (f a)) xs))
+pub confirmed_split : (t : List Part) (f : Answer → Bool) (xs : List Answer) → AreSame (singles_confirmed t xs) (singles_confirmed t (filter f xs) ++ singles_confirmed t (filter (λ a. not (f a)) xs))
 confirmed_split t f [] = same_itself []
 confirmed_split t f (a ∷ xs) =
     let rest = confirmed_split t f xs in
     let l = confirmed_cons t a xs in
     let y = confirmed_cond t (f a) a (filter f xs) in
     let n = confirmed_cond t (not (f a)) a (filter (λ x. not (f x)) xs) in
-    let P : List Booked → Type 0 = λ z. AreSame z (confirmed_in t (filter f (a ∷ xs)) ++ confirmed_in t (filter (λ x. not (f x)) (a ∷ xs))) in
-    subst P (sym l) (subst (AreSame (cond (is_confirmed t a) (left_of t a ++ confirmed_in t xs) (confirmed_in t xs))) (sym (λ i. y i ++ n i))
-    (split_step (is_confirmed t a) (f a) (left_of t a) (confirmed_in t xs) (confirmed_in t (filter f xs)) (confirmed_in t (filter (λ x. not (f x)) xs)) rest))
+    let P : List Booked → Type 0 = λ z. AreSame z (singles_confirmed t (filter f (a ∷ xs)) ++ singles_confirmed t (filter (λ x. not (f x)) (a ∷ xs))) in
+    subst P (sym l) (subst (AreSame (cond (is_confirmed t a) (left_of t a ++ singles_confirmed t xs) (singles_confirmed t xs))) (sym (λ i. y i ++ n i))
+    (split_step (is_confirmed t a) (f a) (left_of t a) (singles_confirmed t xs) (singles_confirmed t (filter f xs)) (singles_confirmed t (filter (λ x. not (f x)) xs)) rest))
 
 -- answers of one meeting are not among those of another
 apart_step : (q : MeetingKey) (b : Bool) (a : Answer) (rest xs : List Answer) → answers_of q rest ≡ answers_of q xs → (b ≡ true → is_of q a.claim.part ≡ false) → answers_of q (cond (not b) (a ∷ rest) rest) ≡ answers_of q (a ∷ xs)
@@ -66,10 +66,10 @@ differs k (x ∷ xs) d e c = elim (in_cons x xs e c) [
 -- what the answers confirm is what the meetings do, where each does what its own answers confirm
 pub partition : (t : List Part) (es : List (MeetingKey × Meeting)) (xs : List Answer) → IsDistinct same_key (keys_of es)
     → ((a : Answer) → Contains xs a → is_confirmed t a ≡ true → (e : MeetingKey × Meeting) × Contains es e × (is_of e.0 a.claim.part ≡ true))
-    → ((e : MeetingKey × Meeting) → Contains es e → AreSame (confirmed_in t (answers_of e.0 xs)) (confirmed_of e))
-    → AreSame (confirmed_in t xs) (all_confirmed es)
+    → ((e : MeetingKey × Meeting) → Contains es e → AreSame (singles_confirmed t (answers_of e.0 xs)) (confirmed_of e))
+    → AreSame (singles_confirmed t xs) (all_confirmed es)
 partition t [] xs d covered each =
-    let none : confirmed_in t xs ≡ [] = ap (flat_map (left_of t)) (filter_none (is_confirmed t) xs (λ a c. false_from_ne_true _ (λ h. none_in_nil _ (covered a c h).1))) in
+    let none : singles_confirmed t xs ≡ [] = ap (flat_map (left_of t)) (filter_none (is_confirmed t) xs (λ a c. false_from_ne_true _ (λ h. none_in_nil _ (covered a c h).1))) in
     subst (λ (l : List Booked). AreSame l []) (sym none) (same_itself [])
 partition t (e ∷ es) xs d covered each =
     let own = λ (a : Answer). is_of e.0 a.claim.part in
@@ -83,8 +83,8 @@ partition t (e ∷ es) xs d covered each =
       | inl here ↦ absurd (both_ways _ (not-true _ from.1) (subst (λ (z : MeetingKey × Meeting). is_of z.0 a.claim.part ≡ true) (sym here) found.2))
       | inr there ↦ (found.0, there, found.2)
     ] in q)
-    (λ x c. subst (λ (l : List Answer). AreSame (confirmed_in t l) (confirmed_of x)) (sym (answers_apart e.0 x.0 xs (differs e.0 es (IsDistinct-head same_key e.0 (keys_of es) d) x c))) (each x (in_tail e es x c))) in
-    let first : AreSame (confirmed_in t (answers_of e.0 xs)) (confirmed_of e) = each e (in_head e es) in
-    same_then (confirmed_in t xs) (confirmed_in t (answers_of e.0 xs) ++ confirmed_in t rest) (all_confirmed (e ∷ es))
+    (λ x c. subst (λ (l : List Answer). AreSame (singles_confirmed t l) (confirmed_of x)) (sym (answers_apart e.0 x.0 xs (differs e.0 es (IsDistinct-head same_key e.0 (keys_of es) d) x c))) (each x (in_tail e es x c))) in
+    let first : AreSame (singles_confirmed t (answers_of e.0 xs)) (confirmed_of e) = each e (in_head e es) in
+    same_then (singles_confirmed t xs) (singles_confirmed t (answers_of e.0 xs) ++ singles_confirmed t rest) (all_confirmed (e ∷ es))
     (confirmed_split t own xs)
-    (same_append (confirmed_in t (answers_of e.0 xs)) (confirmed_of e) (confirmed_in t rest) (all_confirmed es) first others)
+    (same_append (singles_confirmed t (answers_of e.0 xs)) (confirmed_of e) (singles_confirmed t rest) (all_confirmed es) first others)

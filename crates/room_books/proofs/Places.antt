@@ -20,7 +20,7 @@ use Rattle.cal_events.specs.declared.instance.Single.{Single}
 use Rattle.cal_events.specs.declared.sweep.Span.{Span}
 use Rattle.room_books.specs.declared.timeline.Busy.{Busy}
 use Rattle.room_books.specs.Instants.{HaveInstant, AreSeparate}
-use Rattle.room_books.specs.Views.{same_key, is_other, booked_of, booked_list, slots_of, confirmed_singles, confirmed_of, confirmed_at, singles_in, singles_by, others, all_confirmed, span_of}
+use Rattle.room_books.specs.Views.{same_key, is_other, booked_of, booked_list, slots_of, meeting_singles, confirmed_of, confirmed_at, singles_in, singles_by, others, all_confirmed, span_of}
 use Rattle.room_books.specs.Timelines.{is_place, HoldsInstants, holds_instants, busy_in, has_single, AreAt, IsTimelineOf, IsFreeBut, IsChanged}
 use Rattle.room_books.proofs.Timelines.{has_at, has_from, single_at, single_from, holds_from}
 use Rattle.room_books.proofs.Keys.{key_congr, only_place, place_is_own}
@@ -70,7 +70,7 @@ flat_from (x ∷ es) e b c h = elim (in_cons x es e c) [
 ]
 
 -- what a place confirms is of the entry in it
-single_of_entry : (o : Option Entry) (s : Single) → Contains (singles_in o) s → (e : Entry) × (o ≡ Some e) × Contains (confirmed_singles e.1) s
+single_of_entry : (o : Option Entry) (s : Single) → Contains (singles_in o) s → (e : Entry) × (o ≡ Some e) × Contains (meeting_singles e.1) s
 single_of_entry None s c = absurd (none_in_nil s c)
 single_of_entry (Some e) s c = (e, refl, c)
 
@@ -78,7 +78,7 @@ single_of_entry (Some e) s c = (e, refl, c)
 pub others_differ : (k : MeetingKey) (es : List Entry) (s : Single) (b : Booked) → Contains (others k es) b → b.key ≢ (booked_of k s).key
 others_differ k es s b c =
     let f = in_flat (filter (is_other k) es) b c in
-    let r = in_booked f.0.0 (confirmed_singles f.0.1) b f.2 in
+    let r = in_booked f.0.0 (meeting_singles f.0.1) b f.2 in
     λ e. booked_differs k f.0.0 s r.0 (not-true _ (filter_at (is_other k) es f.0 f.1).1) (ap (λ (z : Booked). z.key) r.2 ∙ e)
 
 -- ---- the other meetings
@@ -97,15 +97,15 @@ module _ (k : MeetingKey) (es : List Entry) (distinct : IsDistinct same_key (key
       let f = in_flat (filter (is_other k) es) b c in
       let e = f.0 in
       let both = filter_at (is_other k) es e f.1 in
-      let s = in_booked e.0 (confirmed_singles e.1) b f.2 in
+      let s = in_booked e.0 (meeting_singles e.1) b f.2 in
       let at : slice_get es both.0.0 ≡ Some e = slice_get-get_or es both.0.0 e both.0.1 ∙ ap Some both.0.2 in
       (both.0.0, s.0, subst (λ (o : Option Entry). Contains (singles_in o) s.0) (sym at) s.1, ap span_of s.2, key_at both.0.0 e at ∙ not-true _ both.1)
 
   -- and what stands in another place is one of them
-  pub other_from : (q : ℕ) (e : Entry) (s : Single) → slice_get es q ≡ Some e → Contains (confirmed_singles e.1) s → is_place own q ≡ false → Contains (others k es) (booked_of e.0 s)
+  pub other_from : (q : ℕ) (e : Entry) (s : Single) → slice_get es q ≡ Some e → Contains (meeting_singles e.1) s → is_place own q ≡ false → Contains (others k es) (booked_of e.0 s)
   other_from q e s at h n = flat_from (filter (is_other k) es) e (booked_of e.0 s)
       (filter_from (is_other k) es e (entry_in es q e at) (ap not (sym (key_at q e at) ∙ n)))
-      (booked_from e.0 (confirmed_singles e.1) s h)
+      (booked_from e.0 (meeting_singles e.1) s h)
 
 -- ---- by the timeline
 
@@ -123,7 +123,7 @@ pub holds_shared : (a b : Span) (t : ℤ) → HaveInstant a b t → HoldsInstant
 holds_shared a b t h = let s = h.in_second in let e = h.before in let x = s.0 in let y = s.1 in (omega (arith, ints), omega (arith, ints))
 
 -- what is there is of an entry
-pub real_entry : (es : List Entry) (items : List Busy) → IsTimelineOf (confirmed_at es) items → (b : Busy) → Contains items b → (e : Entry) × (slice_get es b.place ≡ Some e) × Contains (confirmed_singles e.1) b.single
+pub real_entry : (es : List Entry) (items : List Busy) → IsTimelineOf (confirmed_at es) items → (b : Busy) → Contains items b → (e : Entry) × (slice_get es b.place ≡ Some e) × Contains (meeting_singles e.1) b.single
 real_entry es items timeline b c = single_of_entry (slice_get es b.place) b.single (real (confirmed_at es) items timeline b c)
 
 -- ---- the count
@@ -138,7 +138,7 @@ count_at : (k : MeetingKey) (e : Entry) (es : List Entry) (t : Bool) → same_ke
     → length (flat_map confirmed_of (cond (not t) (e ∷ filter (is_other k) es) (filter (is_other k) es))) + length (singles_by (cond t (Some e.1) (lookup (same_key k) es))) ≡ length (confirmed_of e ++ all_confirmed es)
 count_at k e es true same distinct h =
     let n = ap (λ l. length (flat_map confirmed_of l)) (no_others k e.0 es same (IsDistinct-head same_key e.0 (keys_of es) distinct)) in
-    let o = length-map (confirmed_singles e.1) (booked_of e.0) in
+    let o = length-map (meeting_singles e.1) (booked_of e.0) in
     omega (arith, n, o, length-append (confirmed_of e) (all_confirmed es))
 count_at k e es false other distinct h =
     omega (arith, h, length-append (confirmed_of e) (others k es), length-append (confirmed_of e) (all_confirmed es))
@@ -161,13 +161,13 @@ pub suc_is : (n : ℕ) → 1 + n ≡ suc n
 suc_is n = omega arith
 
 module _ (k : MeetingKey) (m : Meeting) where
-  held_put_at : (e : Entry) (es : List Entry) (t : Bool) → (confirmed_at (put k m es) (place_of k es) ≡ confirmed_singles m)
-      → confirmed_at (cond t ((e.0, m) ∷ es) (e ∷ put k m es)) (cond (not t) (1 + place_of k es) 0) ≡ confirmed_singles m
+  held_put_at : (e : Entry) (es : List Entry) (t : Bool) → (confirmed_at (put k m es) (place_of k es) ≡ meeting_singles m)
+      → confirmed_at (cond t ((e.0, m) ∷ es) (e ∷ put k m es)) (cond (not t) (1 + place_of k es) 0) ≡ meeting_singles m
   held_put_at e es true h = refl
   held_put_at e es false h = ap (confirmed_at (e ∷ put k m es)) (suc_is (place_of k es)) ∙ h
 
   -- its place confirms what it does
-  pub held_put : (es : List Entry) → confirmed_at (put k m es) (place_of k es) ≡ confirmed_singles m
+  pub held_put : (es : List Entry) → confirmed_at (put k m es) (place_of k es) ≡ meeting_singles m
   held_put [] = refl
   held_put (e ∷ es) = held_put_at e es (same_key k e.0) (held_put es)
 
@@ -187,21 +187,21 @@ module _ (k : MeetingKey) (m : Meeting) where
   held_other [] q n = ap singles_in (past_one q n)
   held_other (e ∷ es) q n = held_other_at e es (same_key k e.0) q (held_other es) n
 
-  put_count_at : (e : Entry) (es : List Entry) (t : Bool) → length (all_confirmed (put k m es)) + length (singles_by (lookup (same_key k) es)) ≡ length (all_confirmed es) + length (confirmed_singles m)
-      → length (all_confirmed (cond t ((e.0, m) ∷ es) (e ∷ put k m es))) + length (singles_by (cond t (Some e.1) (lookup (same_key k) es))) ≡ length (confirmed_of e ++ all_confirmed es) + length (confirmed_singles m)
+  put_count_at : (e : Entry) (es : List Entry) (t : Bool) → length (all_confirmed (put k m es)) + length (singles_by (lookup (same_key k) es)) ≡ length (all_confirmed es) + length (meeting_singles m)
+      → length (all_confirmed (cond t ((e.0, m) ∷ es) (e ∷ put k m es))) + length (singles_by (cond t (Some e.1) (lookup (same_key k) es))) ≡ length (confirmed_of e ++ all_confirmed es) + length (meeting_singles m)
   put_count_at e es true h =
-      let a = length-map (confirmed_singles e.1) (booked_of e.0) in
-      let b = length-map (confirmed_singles m) (booked_of e.0) in
-      omega (arith, a, b, length-append (confirmed_of e) (all_confirmed es), length-append (booked_list e.0 (confirmed_singles m)) (all_confirmed es))
+      let a = length-map (meeting_singles e.1) (booked_of e.0) in
+      let b = length-map (meeting_singles m) (booked_of e.0) in
+      omega (arith, a, b, length-append (confirmed_of e) (all_confirmed es), length-append (booked_list e.0 (meeting_singles m)) (all_confirmed es))
   put_count_at e es false h = omega (arith, h, length-append (confirmed_of e) (all_confirmed es), length-append (confirmed_of e) (all_confirmed (put k m es)))
 
   -- all that is confirmed grows by what the meeting confirms, less what it did
-  pub put_count : (es : List Entry) → length (all_confirmed (put k m es)) + length (singles_by (lookup (same_key k) es)) ≡ length (all_confirmed es) + length (confirmed_singles m)
-  put_count [] = let b = length-map (confirmed_singles m) (booked_of k) in omega (arith, b, length-append (booked_list k (confirmed_singles m)) [])
+  pub put_count : (es : List Entry) → length (all_confirmed (put k m es)) + length (singles_by (lookup (same_key k) es)) ≡ length (all_confirmed es) + length (meeting_singles m)
+  put_count [] = let b = length-map (meeting_singles m) (booked_of k) in omega (arith, b, length-append (booked_list k (meeting_singles m)) [])
   put_count (e ∷ es) = put_count_at e es (same_key k e.0) (put_count es)
 
   -- the timeline of the entries with this one
-  pub timeline_put : (es : List Entry) (old new : List Busy) → IsTimelineOf (confirmed_at es) old → IsChanged (place_of k es) (confirmed_singles m) old new → IsTimelineOf (confirmed_at (put k m es)) new
+  pub timeline_put : (es : List Entry) (old new : List Busy) → IsTimelineOf (confirmed_at es) old → IsChanged (place_of k es) (meeting_singles m) old new → IsTimelineOf (confirmed_at (put k m es)) new
   timeline_put es old new timeline changed = record {
     held = λ x. elim (cases_Bool (x.place == place_of k es)) [
       | inl own ↦ (
@@ -249,7 +249,7 @@ module _ (k : MeetingKey) (es : List Entry) (distinct : IsDistinct same_key (key
       let other = other_key b.place e.0 e.1 n in
       let booked = booked_of e.0.0 b.single in
       let among : Contains (others k es) booked = flat_from (filter (is_other k) es) e.0 booked
-      (filter_from (is_other k) es e.0 (entry_in es b.place e.0 e.1) (ap not other)) (booked_from e.0.0 (confirmed_singles e.0.1) b.single e.2) in
+      (filter_from (is_other k) es e.0 (entry_in es b.place e.0 e.1) (ap not other)) (booked_from e.0.0 (meeting_singles e.0.1) b.single e.2) in
       clear booked (booked_of k s) t record {
         first = Contains-append_left (others k es) (booked_list k singles) booked among;
         second = Contains-append_right (others k es) (booked_list k singles) (booked_of k s) (booked_from k singles s c);

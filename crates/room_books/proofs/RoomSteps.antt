@@ -21,7 +21,7 @@ use Rattle.room_books.specs.declared.meeting.MeetingKey.{MeetingKey}
 use Rattle.room_books.specs.declared.kept.Meeting.{Meeting}
 use Rattle.cal_events.specs.declared.instance.Single.{Single}
 use Rattle.room_books.specs.Instants.{AreSeparate, IsPartOf}
-use Rattle.room_books.specs.Views.{same_key, booked_of, booked_list, all_singles, confirmed_singles, singles_by, outcome_of, others, all_confirmed, AreAllApart, MayJoin}
+use Rattle.room_books.specs.Views.{same_key, booked_of, booked_list, all_singles, meeting_singles, singles_by, outcome_of, others, all_confirmed, AreAllApart, MayJoin}
 use Rattle.room_books.proofs.Places.{others_count}
 use Rattle.room_books.proofs.Putting.{clear_kept}
 
@@ -33,13 +33,13 @@ found_apart k (e ∷ es) h = at_test (same_key k e.0) (found_apart k es (λ x c.
     at_test true r = h e (in_head e es)
     at_test false r = r
 
-pub put_apart : (k : MeetingKey) (m : Meeting) (es : List (MeetingKey × Meeting)) → AreAllApart es → AreSeparate (confirmed_singles m) → AreAllApart (insert_entry same_key es k m)
-put_apart k m [] h s x c = elim (in_cons (k, m) [] x c) [ inl here ↦ subst (λ (z : MeetingKey × Meeting). AreSeparate (confirmed_singles z.1)) here s | inr none ↦ absurd (none_in_nil x none) ]
+pub put_apart : (k : MeetingKey) (m : Meeting) (es : List (MeetingKey × Meeting)) → AreAllApart es → AreSeparate (meeting_singles m) → AreAllApart (insert_entry same_key es k m)
+put_apart k m [] h s x c = elim (in_cons (k, m) [] x c) [ inl here ↦ subst (λ (z : MeetingKey × Meeting). AreSeparate (meeting_singles z.1)) here s | inr none ↦ absurd (none_in_nil x none) ]
 put_apart k m (e ∷ es) h s x c = at_test (same_key k e.0) (put_apart k m es (λ y d. h y (in_tail e es y d)) s x) c
   where
-    at_test : (b : Bool) → (Contains (insert_entry same_key es k m) x → AreSeparate (confirmed_singles x.1)) → Contains (cond b ((e.0, m) ∷ es) (e ∷ insert_entry same_key es k m)) x → AreSeparate (confirmed_singles x.1)
-    at_test true r d = elim (in_cons (e.0, m) es x d) [ inl here ↦ subst (λ (z : MeetingKey × Meeting). AreSeparate (confirmed_singles z.1)) here s | inr there ↦ h x (in_tail e es x there) ]
-    at_test false r d = elim (in_cons e (insert_entry same_key es k m) x d) [ inl here ↦ subst (λ (z : MeetingKey × Meeting). AreSeparate (confirmed_singles z.1)) here (h e (in_head e es)) | inr there ↦ r there ]
+    at_test : (b : Bool) → (Contains (insert_entry same_key es k m) x → AreSeparate (meeting_singles x.1)) → Contains (cond b ((e.0, m) ∷ es) (e ∷ insert_entry same_key es k m)) x → AreSeparate (meeting_singles x.1)
+    at_test true r d = elim (in_cons (e.0, m) es x d) [ inl here ↦ subst (λ (z : MeetingKey × Meeting). AreSeparate (meeting_singles z.1)) here s | inr there ↦ h x (in_tail e es x there) ]
+    at_test false r d = elim (in_cons e (insert_entry same_key es k m) x d) [ inl here ↦ subst (λ (z : MeetingKey × Meeting). AreSeparate (meeting_singles z.1)) here (h e (in_head e es)) | inr there ↦ r there ]
 
 -- what a meeting keeps may be confirmed beside the others
 pub kept_joins : (k : MeetingKey) (es : List (MeetingKey × Meeting)) (kept : List Single) → IsDistinct same_key (keys_of es) → IsClear (all_confirmed es) → AreAllApart es → length (all_confirmed es) ≤ 10_000

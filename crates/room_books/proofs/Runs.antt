@@ -8,7 +8,7 @@ use Rattle.std.proofs.lemmas.Grind.{flat_map-append}
 use Rattle.profile.specs.checker.Instances.{Booked, IsClear}
 use Rattle.profile.specs.rooms.Revisions.{Part, in_view}
 use Rattle.profile.specs.rooms.Messages.{Outcome, Accept, Busy, SeriesLimit, SinglesLimit}
-use Rattle.profile.specs.rooms.Rooms.{Claim, Answer, Book, empty_book, is_accept, is_confirmed, is_hidden, left_of, confirmed_in, confirmed, is_fresh, is_set, parts_of, asked, most_singles, Decides, answered, IsStep, Delivery, Runs}
+use Rattle.profile.specs.rooms.Rooms.{Claim, Answer, Book, empty_book, is_accept, is_confirmed, is_hidden, left_of, singles_confirmed, confirmed, is_fresh, is_set, parts_of, asked, most_singles, Decides, answered, IsStep, Delivery, Runs}
 use Rattle.itip_order.proofs.Lists.{in_cons, in_head, in_tail, none_in_nil, filter_at}
 use Rattle.room_books.proofs.Pairs.{map_at, map_from}
 use Rattle.room_books.proofs.Views.{view_back, hidden_stays}
@@ -83,7 +83,7 @@ within_filter q p f g (a ∷ xs) h = step (q a) (p a) (h a (in_head a xs)) (with
     step false false h w = w
 
 -- after more parts the old answers confirm no more than before
-pub confirmed_back : (taken more : List Part) (answers : List Answer) → ((a : Answer) → Contains answers a → Contains taken a.claim.part) → IsWithin (confirmed_in (taken ++ more) answers) (confirmed_in taken answers)
+pub confirmed_back : (taken more : List Part) (answers : List Answer) → ((a : Answer) → Contains answers a → Contains taken a.claim.part) → IsWithin (singles_confirmed (taken ++ more) answers) (singles_confirmed taken answers)
 confirmed_back taken more answers known =
     within_filter (is_confirmed (taken ++ more)) (is_confirmed taken) (left_of (taken ++ more)) (left_of taken) answers (λ a c e.
     let both = and_parts _ _ e in
@@ -93,10 +93,10 @@ confirmed_back taken more answers known =
           not_from_false _ (false_from_ne_true _ (λ hidden. both_ways _ (not-true _ left) (hidden_stays taken more part b (known a c) both.1 hidden)))),
     ))
 
-pub confirmed_split : (taken : List Part) (xs ys : List Answer) → confirmed_in taken (xs ++ ys) ≡ confirmed_in taken xs ++ confirmed_in taken ys
+pub confirmed_split : (taken : List Part) (xs ys : List Answer) → singles_confirmed taken (xs ++ ys) ≡ singles_confirmed taken xs ++ singles_confirmed taken ys
 confirmed_split taken xs ys = ap (flat_map (left_of taken)) (filter-append (is_confirmed taken) xs ys) ∙ flat_map-append (left_of taken) (filter (is_confirmed taken) xs) (filter (is_confirmed taken) ys)
 
-declined_are : (taken : List Part) (moment : ℤ) (outcome : Outcome) (claims : List Claim) → is_accept outcome ≡ false → confirmed_in taken (answered moment outcome claims) ≡ []
+declined_are : (taken : List Part) (moment : ℤ) (outcome : Outcome) (claims : List Claim) → is_accept outcome ≡ false → singles_confirmed taken (answered moment outcome claims) ≡ []
 declined_are taken moment outcome [] e = refl
 declined_are taken moment outcome (c ∷ cs) e =
     ap (λ b. flat_map (left_of taken) (cond (b && in_view taken c.part) (record { claim = c; moment = moment; outcome = outcome } ∷ filter (is_confirmed taken) (answered moment outcome cs)) (filter (is_confirmed taken) (answered moment outcome cs)))) e
@@ -106,7 +106,7 @@ good_none : (old : List Booked) (new : List Booked) → Good old → new ≡ [] 
 good_none old new g e = subst Good (sym (ap (λ l. old ++ l) e ∙ append-nil old)) g
 
 -- where those that stayed are good, what was decided leaves good ones
-decided_good : (old : List Booked) (taken : List Part) (moment : ℤ) (outcome : Outcome) (claims : List Claim) → Good old → (IsTrue (nat_lt 0 (length claims)) → Decides (old ++ confirmed_in taken (answered moment Accept claims)) outcome) → Good (old ++ confirmed_in taken (answered moment outcome claims))
+decided_good : (old : List Booked) (taken : List Part) (moment : ℤ) (outcome : Outcome) (claims : List Claim) → Good old → (IsTrue (nat_lt 0 (length claims)) → Decides (old ++ singles_confirmed taken (answered moment Accept claims)) outcome) → Good (old ++ singles_confirmed taken (answered moment outcome claims))
 decided_good old taken moment Accept [] g d = good_none old [] g refl
 decided_good old taken moment Accept (c ∷ cs) g d =
     let both = d (lt-ltb 0 (length (c ∷ cs)) (omega arith)) in
@@ -154,9 +154,9 @@ pub step_sound : (before : Book) (claims : List Claim) (moment : ℤ) (outcome :
 step_sound before claims moment outcome after s sound =
     let asked_now = asked before.taken after.taken claims in
     let is_asked = λ (c : Claim) (h : Contains asked_now c). filter_at (λ c. is_set c.part && is_fresh before.taken after.taken c.part) claims c h in
-    let stayed = subst (λ (t : List Part). IsWithin (confirmed_in t before.answers) (confirmed before)) (sym s.taken) (confirmed_back before.taken (parts_of claims) before.answers sound.known) in
+    let stayed = subst (λ (t : List Part). IsWithin (singles_confirmed t before.answers) (confirmed before)) (sym s.taken) (confirmed_back before.taken (parts_of claims) before.answers sound.known) in
     let kept = within_good _ _ stayed sound.good in
-    let now = decided_good (confirmed_in after.taken before.answers) after.taken moment outcome asked_now kept
+    let now = decided_good (singles_confirmed after.taken before.answers) after.taken moment outcome asked_now kept
     (λ some. subst (λ (l : List Booked). Decides l outcome) (confirmed_split after.taken before.answers (answered moment Accept asked_now)) (s.decided some)) in
     record {
       known = λ a c.
@@ -168,7 +168,7 @@ step_sound before claims moment outcome after s sound =
                 Contains-append_right before.taken (parts_of claims) a.claim.part
                 (subst (λ (c : Claim). Contains (parts_of claims) c.part) (sym found.2) (map_from (λ (c : Claim). c.part) claims found.0 (is_asked found.0 found.1).0))
           ]);
-      good = subst Good (sym (ap (confirmed_in after.taken) s.answers ∙ confirmed_split after.taken before.answers (answered moment outcome asked_now))) now;
+      good = subst Good (sym (ap (singles_confirmed after.taken) s.answers ∙ confirmed_split after.taken before.answers (answered moment outcome asked_now))) now;
     }
 
 empty_sound : IsSound empty_book

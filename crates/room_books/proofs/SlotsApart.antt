@@ -8,7 +8,7 @@ use Rattle.itip_order.proofs.Lists.{in_head, in_tail, filter_at, any_from}
 use Rattle.profile.specs.checker.Instances.{Booked}
 use Rattle.profile.specs.rooms.Revisions.{Part, Slot, Whole, At, slot_cmp, same_place, in_view}
 use Rattle.profile.specs.rooms.Messages.{Outcome}
-use Rattle.profile.specs.rooms.Rooms.{Answer, Claim, is_confirmed, is_hidden, is_set, is_fresh, left_of, confirmed_in, asked, answered}
+use Rattle.profile.specs.rooms.Rooms.{Answer, Claim, is_confirmed, is_hidden, is_set, is_fresh, left_of, singles_confirmed, asked, answered}
 use Rattle.room_books.specs.declared.meeting.MeetingKey.{MeetingKey}
 use Rattle.cal_events.specs.declared.instance.Single.{Single}
 use Rattle.room_books.specs.Standing.{is_of, IsOfSlot, IsFitting, Pairwise}
@@ -71,7 +71,7 @@ module _ (k : MeetingKey) (t : List Part) where
       (λ x y c d same. let found = flat_at (left_of t) xs y d in
       no_slot_twice a found.0 (h a (in_head a xs)) (h found.0 (in_tail a xs found.0 found.1)) (p.0 found.0 found.1) x y c found.2 same)
 
-  pub confirmed_apart : (xs : List Answer) → ((a : Answer) → Contains xs a → IsSeen a) → Pairwise OtherPart xs → Pairwise OtherSlot (confirmed_in t xs)
+  pub confirmed_apart : (xs : List Answer) → ((a : Answer) → Contains xs a → IsSeen a) → Pairwise OtherPart xs → Pairwise OtherSlot (singles_confirmed t xs)
   confirmed_apart xs h p = left_apart (filter (is_confirmed t) xs) (λ a c. h a (filter_at (is_confirmed t) xs a c).0) (pairs_filter OtherPart (is_confirmed t) xs p)
 
 -- and so do those of the instances that spell them

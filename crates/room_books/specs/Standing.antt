@@ -12,7 +12,7 @@ use Rattle.profile.specs.checker.Instances.{Booked, IsClear}
 use Rattle.profile.specs.text.Values.{IsClockSeconds}
 use Rattle.profile.specs.rooms.Revisions.{Part, Slot, Whole, At, Body, Set, Absent, Cancelled, in_view}
 use Rattle.profile.specs.rooms.Messages.{Outcome}
-use Rattle.profile.specs.rooms.Rooms.{Claim, Answer, Book, Kind, is_set, parts_of, asked, answered, confirmed, confirmed_in, most_singles, IsStep, kind_of}
+use Rattle.profile.specs.rooms.Rooms.{Claim, Answer, Book, Kind, is_set, parts_of, asked, answered, confirmed, singles_confirmed, most_singles, IsStep, kind_of}
 use Rattle.profile.specs.rooms.Kept.{Replies, Refreshes, first_parts}
 use Rattle.room_books.specs.declared.meeting.MeetingKey.{MeetingKey}
 use Rattle.room_books.specs.declared.kept.Meeting.{Meeting}
@@ -95,7 +95,7 @@ pub record IsGiven (key : MeetingKey) (taken : List Part) (answer : Answer) (giv
   pub slot : slot_of given.slot ≡ answer.claim.part.slot
   pub moment : given.moment ≡ answer.moment
   pub outcome : outcome_of given.outcome ≡ answer.outcome
-  pub confirms : booked_list key given.singles.items ≡ confirmed_in taken (answer ∷ [])
+  pub confirms : booked_list key given.singles.items ≡ singles_confirmed taken (answer ∷ [])
 
 -- all instants of an answer can be written as stamps
 pub record IsDated (given : Given) : Type 0 where

@@ -53,21 +53,21 @@ abbrev pub all_singles : List Given → List Single
 all_singles answers = flat_map (λ given. given.singles.items) answers
 
 -- the instances for which a meeting holds the room
-abbrev pub confirmed_singles : Meeting → List Single
-confirmed_singles meeting = all_singles meeting.answers.items
+abbrev pub meeting_singles : Meeting → List Single
+meeting_singles meeting = all_singles meeting.answers.items
 
 -- what a meeting has confirmed
 abbrev pub confirmed_of : MeetingKey × Meeting → List Booked
-confirmed_of entry = booked_list entry.0 (confirmed_singles entry.1)
+confirmed_of entry = booked_list entry.0 (meeting_singles entry.1)
 
 -- what the meeting that was found has confirmed, nothing where none was
 abbrev pub singles_by : Option Meeting → List Single
 singles_by None = []
-singles_by (Some meeting) = confirmed_singles meeting
+singles_by (Some meeting) = meeting_singles meeting
 
 abbrev pub singles_in : Option (MeetingKey × Meeting) → List Single
 singles_in None = []
-singles_in (Some entry) = confirmed_singles entry.1
+singles_in (Some entry) = meeting_singles entry.1
 
 -- what the meeting in a place has confirmed, nothing past the end
 abbrev pub confirmed_at : List (MeetingKey × Meeting) → ℕ → List Single
@@ -115,4 +115,4 @@ pub record MayJoin (others : List Booked) (key : MeetingKey) (singles : List Sin
 
 -- no two instances of one meeting share an instant
 abbrev pub AreAllApart : List (MeetingKey × Meeting) → Type 0
-AreAllApart entries = (entry : MeetingKey × Meeting) → Contains entries entry → AreSeparate (confirmed_singles entry.1)
+AreAllApart entries = (entry : MeetingKey × Meeting) → Contains entries entry → AreSeparate (meeting_singles entry.1)

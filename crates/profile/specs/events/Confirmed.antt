@@ -104,11 +104,11 @@ pub record AreApart (event : Event) (singles : List Booked) : Type 0 where
 abbrev pub has_series : Event → Bool
 has_series event = is_master event && is_some event.rule
 
--- the instances of an event that its RRULE gives, where it has one
-abbrev pub AreOfRule : Event → Option (List Booked) → Type 0
+-- the instances of this meeting are those of an event that its RRULE gives, where it has one
+abbrev pub AreOfRule : Event → Option Meeting → Type 0
 AreOfRule event None = has_series event ≡ false
-AreOfRule event (Some instances) =
-    (has_series event ≡ true) × ((instance : Booked) → Contains instances instance ↔ (IsInstance (alone event) instance × IsOfSeries event instance))
+AreOfRule event (Some series) =
+    (has_series event ≡ true) × ((instance : Booked) → IsInstance series instance ↔ (IsInstance (alone event) instance × IsOfSeries event instance))
 
 -- ---- what is confirmed in a room
 

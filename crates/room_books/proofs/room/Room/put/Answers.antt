@@ -5,7 +5,7 @@ use Rattle.std.proofs.lemmas.List.Sorted.{IsPermutation-sym, IsPermutation-trans
 use Rattle.room_books.specs.declared.meeting.Given.{Given}
 use Rattle.room_books.specs.declared.timeline.Busy.{Busy}
 use Rattle.room_books.specs.Takings.{answers_by, answers_then}
-use Rattle.room_books.specs.Views.{confirmed_at, confirmed_singles, all_singles, all_confirmed, others, same_key, singles_by, AreAllApart}
+use Rattle.room_books.specs.Views.{confirmed_at, meeting_singles, all_singles, all_confirmed, others, same_key, singles_by, AreAllApart}
 use Rattle.room_books.specs.Timelines.{IsShift, IsChanged, IsTimelineOf}
 use Rattle.profile.specs.checker.Instances.{IsClear}
 use Rattle.room_books.proofs.Joining.{joins_reordered}
@@ -52,19 +52,19 @@ invariant_of-self-2 c =
     let answers = answers_then (answers_by (lookup (same_key k) es)) c.args.changes in
     let now = all_singles answers in
     let own = re_flat (λ (g : Given). g.singles.items) answers m.answers.items put.made.answers_are in
-    let is = IsPermutation-trans (shifts.kept ++ added) now (confirmed_singles m) (IsPermutation-sym now (shifts.kept ++ added) shifts.after_is) (re_permutation now (confirmed_singles m) own) in
+    let is = IsPermutation-trans (shifts.kept ++ added) now (meeting_singles m) (IsPermutation-sym now (shifts.kept ++ added) shifts.after_is) (re_permutation now (meeting_singles m) own) in
     let joins = joins_reordered (others k es) k answers m.answers.items put.made.answers_are c.requires.joins in
     let shift = subst (λ (n : ℕ). IsShift n gone shifts.kept added c.reserve.new.self.busy.items) (sym c.in_ok-place.ensures.place)
     (subst (λ (l : List Busy). IsShift (place_of k es) gone shifts.kept added l) (sym c.reserve.ensures.busy)
     (shift_of k es c.keys_differ.ensures c.args.self.now.timeline.busy.items c.args.self.now.timed c.args.self.now.apart gone added now shifts c.requires.joins)) in
-    let changed = subst (λ (items : List Busy). IsChanged (place_of k es) (confirmed_singles m) items c.change.new.self.busy.items) c.reserve.ensures.busy
-    (changed_reordered (place_of k es) (shifts.kept ++ added) (confirmed_singles m) c.reserve.new.self.busy.items c.change.new.self.busy.items is
+    let changed = subst (λ (items : List Busy). IsChanged (place_of k es) (meeting_singles m) items c.change.new.self.busy.items) c.reserve.ensures.busy
+    (changed_reordered (place_of k es) (shifts.kept ++ added) (meeting_singles m) c.reserve.new.self.busy.items c.change.new.self.busy.items is
     (subst (λ (n : ℕ). IsChanged n (shifts.kept ++ added) c.reserve.new.self.busy.items c.change.new.self.busy.items) c.in_ok-place.ensures.place (c.change.ensures.changed shifts.kept shift))) in
     record {
       timed = subst (λ l. IsTimelineOf (confirmed_at l) c.change.new.self.busy.items) (sym put.entries) (timeline_put k m es c.args.self.now.timeline.busy.items c.change.new.self.busy.items c.args.self.now.timed changed);
       counted =
           (let n = put_count k m es in let b = parted_length (singles_by (lookup (same_key k) es)) gone shifts.kept shifts.parted in let r = c.reserve.ensures.confirmed in
-          let a = parted_length now shifts.kept added shifts.after_is in let l = re_length now (confirmed_singles m) own in let f = c.change.ensures.confirmed in let was = c.args.self.now.counted in
+          let a = parted_length now shifts.kept added shifts.after_is in let l = re_length now (meeting_singles m) own in let f = c.change.ensures.confirmed in let was = c.args.self.now.counted in
           let all = ap (λ l. length (all_confirmed l)) put.entries in
           omega (arith, n, b, r, a, l, f, was, all));
       clear = subst (λ l. IsClear (all_confirmed l)) (sym put.entries) (put_clear k m es c.keys_differ.ensures joins.clear);
