@@ -33,7 +33,7 @@ module _ (room octets : List ℕ) (given : Message) (s : SpellsMessage octets gi
   asked_for : (event : Event) (claim : Claim) → Contains (events_of given.meeting) event → IsClaim room given event claim → IsAskedFor room claim
   asked_for event claim c is = record {
     asked = record { octets = octets; given = given; spells = s; event = event; among = c; is_part = is.part };
-    books = is.singles;
+    books = is.asks;
   }
 
   abbrev Here : List Event → Type 0
@@ -123,7 +123,7 @@ pub keeps_none : (room : List ℕ) → KeepsAll room empty_book
 keeps_none room = record {
   sound = record {
     known = λ a c. absurd (none_in_nil a c);
-    good = record { clear = λ a b t c. none_in_nil a c.first; few = omega arith };
+    good = record { clear = λ a b t c. none_in_nil a c.first; few = record { series = omega arith; singles = omega arith } };
   };
   taken = λ p c. absurd (none_in_nil p c);
   each = λ a c. absurd (none_in_nil a c);
