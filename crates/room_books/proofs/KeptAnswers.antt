@@ -187,7 +187,7 @@ message_of octets given spells event c =
       lines = found.0;
       says = found.2;
       clean = λ line l. clean_value true octets line spells.lines (vevent_among true spells.tree (logical_lines octets) found.0 spells.object found.1 line l);
-      ready = All-contains IsReady (events_of given.meeting) event (of_message spells.tree given.method given.meeting s spells.says.read).ready c;
+      ready = All-contains IsReady (events_of given.meeting) event (of_message spells.tree given.method given.meeting s).ready c;
     }
 
 -- what is known of the organiser, the UID and the number of a part
