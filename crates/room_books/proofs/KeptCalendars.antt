@@ -6,7 +6,6 @@ use Rattle.std.specs.Ordering.{is_eq}
 use Rattle.std.specs.List.{flat_map, list_all, list_any, Contains, AllZip}
 use Rattle.std.proofs.lemmas.Bool.{and_parts, and_from, true≢false, cases_Bool, both_ways}
 use Rattle.std.proofs.Math.Bool.{and-false}
-use Rattle.std.proofs.lemmas.List.Elements.{Contains-append_left, Contains-append_right, Contains-append_cases}
 use Rattle.profile.specs.text.Lines.{is_content, logical_lines, reads_as_lines, written}
 use Rattle.profile.specs.text.Objects.{is_property, IsObject}
 use Rattle.profile.specs.text.Trees.{tree_name, tree_own, tree_inside}
@@ -15,10 +14,10 @@ use Rattle.profile.specs.events.Meetings.{Meeting, is_master}
 use Rattle.profile.specs.events.Starts.{IsInstance}
 use Rattle.profile.specs.events.Confirmed.{Confirmed, AreConfirmed, AreOfRule, AreSingles, IsInSeries, IsOneOf, IsReplaced, IsSeries, alone, by_its_rule, has_series, is_kept, is_series}
 use Rattle.profile.specs.checker.Calendars.{SaysCalendar, SpellsCalendar, CertificateHolds}
-use Rattle.profile.specs.checker.Instances.{AreClear, Booked, Key}
+use Rattle.profile.specs.checker.Instances.{Booked, Key}
 use Rattle.profile.specs.rooms.Messages.{opening_lines, slot_of, slot_named}
 use Rattle.profile.specs.rooms.Revisions.{Part, Slot, Whole, At, in_view, is_whole, same_meeting, same_part, same_place, slot_cmp}
-use Rattle.profile.specs.rooms.Rooms.{Claim, Answer, Book, Delivery, Runs, empty_book, confirmed, confirmed_series, confirmed_singles, is_confirmed, is_hidden, is_set, not_hidden}
+use Rattle.profile.specs.rooms.Rooms.{Claim, Answer, Book, Delivery, Runs, empty_book, Confirms, Recurring, confirmed_series, confirmed_singles, is_confirmed, is_hidden, is_set}
 use Rattle.profile.specs.rooms.Kept.{Entry, Shown, Hidden, part_kept, IsKept, IsEntry, AreKept, IsKeptEvent, IsKeptCalendar, kept_certificate, zone_texts, zones_kept}
 use Rattle.profile.specs.streams.Streams.{AsksFor, IsDelivered}
 use Rattle.cal_events.proofs.OwnSingles.{master_alone}
@@ -38,7 +37,7 @@ use Rattle.room_books.proofs.KeptReplaced.{replaced_by}
 use Rattle.room_books.proofs.KeptRuns.{KeepsAll, runs_keep}
 use Rattle.room_books.proofs.KeptZones.{Lines, LinesBack, ZoneBack, IsKeptTree, kept_spelled, vevent_lines}
 use Rattle.room_books.proofs.Loops.{zip_from, zip_to}
-use Rattle.room_books.proofs.Pairs.{flat_at, flat_from, pairs_from}
+use Rattle.room_books.proofs.Pairs.{pairs_from}
 use Rattle.room_books.proofs.Reordering.{re_back, re_flat, re_in, re_length}
 use Rattle.room_books.proofs.ZonesIn.{HasZone, HaveZones, has_zone, zones_kept_are}
 
@@ -154,17 +153,23 @@ saids_differ room (s ∷ ss) (e ∷ es) z d = (
 
 -- ---- what is confirmed
 
--- the single instances that are left of an entry, and of a claim
+-- the single instances that are left of a claim, and of an entry
 abbrev singles_of_claim : List Part → Claim → List Booked
-singles_of_claim taken claim = not_hidden taken claim.part claim.singles
+singles_of_claim taken claim = filter (λ booked. not (is_hidden taken claim.part booked)) claim.singles
 
 abbrev singles_of : List Part → Entry → List Booked
 singles_of taken (Shown claim) = singles_of_claim taken claim
 singles_of taken (Hidden part) = []
 
 -- and the series of a claim, where it has one
-abbrev series_of_claim : List Part → Claim → List (List Booked)
-series_of_claim taken claim = option_to_list (option_map (not_hidden taken claim.part) claim.series)
+abbrev recurring_of : Part → Option Meeting → List Recurring
+recurring_of part series = option_to_list (option_map (λ meeting. record { part = part; meeting = meeting }) series)
+
+abbrev series_of_claim : Claim → List Recurring
+series_of_claim claim = recurring_of claim.part claim.series
+
+abbrev all_series : List Entry → List Recurring
+all_series entries = flat_map series_of_claim (claims_kept entries)
 
 -- the series of an event among others
 abbrev series_of : List Event → Event → Meeting
@@ -173,9 +178,9 @@ series_of saids said = record { master = Some (by_its_rule said (replaced_by sai
 its_series : (saids : List Event) (said : Event) → IsSeries saids said (series_of saids said)
 its_series saids said = record { replaced = (replaced_by said saids).0; are = (replaced_by said saids).1; is = refl }
 
--- the series has these instances
-abbrev HasInstances : Meeting → List Booked → Type 0
-HasInstances series instances = (b : Booked) → IsInstance series b ↔ Contains instances b
+-- the instances of the series are those of the other that no other part hides
+abbrev IsLeft : List Part → Meeting → Recurring → Type 0
+IsLeft taken series recurring = (b : Booked) → IsInstance series b ↔ (IsInstance recurring.meeting b × (is_hidden taken recurring.part b ≡ false))
 
 series_where : (room : List ℕ) (said : Event) → is_series room said ≡ (is_kept room said && has_series said)
 series_where room said = by (is_kept room said) (is_master said) (is_some said.rule)
@@ -305,32 +310,32 @@ module _ (room : List ℕ) (book : Book) (k : KeepsAll room book) (entries : Lis
 
   -- ---- its series
 
-  series_one : (claim : Claim) → Contains entries (Shown claim) → (said : Event) → SaysEntry room said (Shown claim) → (instances : List Booked) → AreOfRule said (Some instances)
-      → HasInstances (series_of saids said) (not_hidden book.taken claim.part instances)
-  series_one claim c said s instances of =
-      series_left saids said (is_hidden book.taken claim.part) (hiding claim c said s) instances of (series_of saids said) (its_series saids said)
+  series_one : (claim : Claim) → Contains entries (Shown claim) → (said : Event) → SaysEntry room said (Shown claim) → (meeting : Meeting) → AreOfRule said (Some meeting)
+      → IsLeft book.taken (series_of saids said) (record { part = claim.part; meeting = meeting })
+  series_one claim c said s meeting of = series_left saids said (is_hidden book.taken claim.part) (hiding claim c said s) meeting (series_of saids said) of (its_series saids said)
 
   -- the series of these are those of these entries
+  abbrev with_rules : List Event → List Event
+  with_rules ss = filter (is_series room) ss
+
   abbrev AreSeries : List Event → List Entry → Type 0
-  AreSeries ss es = AllZip HasInstances (map (series_of saids) (filter (is_series room) ss)) (flat_map (series_of_claim book.taken) (claims_kept es))
+  AreSeries ss es = AllZip (IsLeft book.taken) (map (series_of saids) (with_rules ss)) (all_series es)
 
   series_shown : (claim : Claim) → Contains entries (Shown claim) → (said : Event) → SaysEntry room said (Shown claim) → (ss : List Event) (es : List Entry) → AreSeries ss es → AreSeries (said ∷ ss) (Shown claim ∷ es)
   series_shown claim c said s ss es rest = go claim.series s.state.1.1
     where
-      go : (o : Option (List Booked)) → AreOfRule said o
-          → AllZip HasInstances (map (series_of saids) (filter (is_series room) (said ∷ ss))) (option_to_list (option_map (not_hidden book.taken claim.part) o) ++ flat_map (series_of_claim book.taken) (claims_kept es))
+      go : (o : Option Meeting) → AreOfRule said o → AllZip (IsLeft book.taken) (map (series_of saids) (with_rules (said ∷ ss))) (recurring_of claim.part o ++ all_series es)
       go None of =
           let none : is_series room said ≡ false = series_where room said ∙ ap (λ b. is_kept room said && b) of ∙ and-false (is_kept room said) in
-          subst (λ b. AllZip HasInstances (map (series_of saids) (cond b (said ∷ filter (is_series room) ss) (filter (is_series room) ss))) (flat_map (series_of_claim book.taken) (claims_kept es))) (sym none) rest
-      go (Some instances) of =
+          subst (λ b. AllZip (IsLeft book.taken) (map (series_of saids) (cond b (said ∷ with_rules ss) (with_rules ss))) (all_series es)) (sym none) rest
+      go (Some meeting) of =
           let some : is_series room said ≡ true = series_where room said ∙ and_from _ _ s.state.0 of.0 in
-          subst (λ b. AllZip HasInstances (map (series_of saids) (cond b (said ∷ filter (is_series room) ss) (filter (is_series room) ss)))
-          (not_hidden book.taken claim.part instances ∷ flat_map (series_of_claim book.taken) (claims_kept es))) (sym some) (series_one claim c said s instances of, rest)
+          subst (λ b. AllZip (IsLeft book.taken) (map (series_of saids) (cond b (said ∷ with_rules ss) (with_rules ss))) (record { part = claim.part; meeting = meeting } ∷ all_series es)) (sym some) (series_one claim c said s meeting of, rest)
 
   series_hidden : (part : Part) (said : Event) → SaysEntry room said (Hidden part) → (ss : List Event) (es : List Entry) → AreSeries ss es → AreSeries (said ∷ ss) (Hidden part ∷ es)
   series_hidden part said s ss es rest =
       let none : is_series room said ≡ false = series_where room said ∙ ap (λ b. b && has_series said) s.state in
-      subst (λ b. AllZip HasInstances (map (series_of saids) (cond b (said ∷ filter (is_series room) ss) (filter (is_series room) ss))) (flat_map (series_of_claim book.taken) (claims_kept es))) (sym none) rest
+      subst (λ b. AllZip (IsLeft book.taken) (map (series_of saids) (cond b (said ∷ with_rules ss) (with_rules ss))) (all_series es)) (sym none) rest
 
   series_all : (ss : List Event) (es : List Entry) → AllZip (SaysEntry room) ss es → ((e : Entry) → Contains es e → Contains entries e) → AreSeries ss es
   series_all [] [] y f = tt
@@ -355,18 +360,15 @@ each_series saids (s ∷ ss) = (its_series saids s, each_series saids ss)
 all_singles : Book → List Entry → List Booked
 all_singles book entries = flat_map (singles_of_claim book.taken) (claims_kept entries)
 
-all_series : Book → List Entry → List (List Booked)
-all_series book entries = flat_map (series_of_claim book.taken) (claims_kept entries)
-
 -- what the events of a calendar confirm, where these are its entries
 record SpellsEntries (room : List ℕ) (book : Book) (entries : List Entry) (octets : List ℕ) : Type 0 where
   series : List Meeting
-  each : AllZip HasInstances series (all_series book entries)
+  each : AllZip (IsLeft book.taken) series (all_series entries)
   spells : SpellsCalendar room octets (record { series = series; singles = all_singles book entries })
 
 module _ (back : LinesBack) (reads : ReadsLines) (zone_back : ZoneBack) where
   calendar_spelled : (room : List ℕ) (book : Book) → KeepsAll room book → (octets : List ℕ) (c : IsKeptCalendar room book octets) → SpellsEntries room book c.entries octets
-  unfolding all_singles all_series
+  unfolding all_singles
   calendar_spelled room book keeps octets c =
       let zones = zones_kept c.entries in
       let b = all_back room book keeps zones c.entries c.events (λ e h. let p = entry_placed book c.entries c.kept e h in (p.first, p.is)) c.each in
@@ -410,7 +412,7 @@ pub record SpellsConfirmed (room : List ℕ) (book : Book) (calendar : List ℕ)
   pub spells : SpellsCalendar room calendar all
   pub singles : length all.singles ≡ length (confirmed_singles book)
   pub series : length all.series ≡ length (confirmed_series book)
-  pub exact : (b : Booked) → IsOneOf all b ↔ Contains (confirmed book) b
+  pub exact : (b : Booked) → IsOneOf all b ↔ Confirms book b
 
 module _ (room : List ℕ) (book : Book) (keeps : KeepsAll room book) (entries : List Entry) (are : AreKept book entries) where
   claims : Reordered (claims_kept entries) (claims_confirmed book)
@@ -422,34 +424,28 @@ module _ (room : List ℕ) (book : Book) (keeps : KeepsAll room book) (entries :
       subst (λ (l : List Booked). Reordered (flat_map (singles_of_claim book.taken) (claims_kept entries)) l) (of_claims (singles_of_claim book.taken) (filter (is_confirmed book.taken) book.answers))
       (re_flat (singles_of_claim book.taken) (claims_kept entries) (claims_confirmed book) claims)
 
-  series_are : Reordered (all_series book entries) (confirmed_series book)
-  unfolding all_series
+  series_are : Reordered (all_series entries) (confirmed_series book)
   series_are =
-      subst (λ (l : List (List Booked)). Reordered (flat_map (series_of_claim book.taken) (claims_kept entries)) l) (of_claims (series_of_claim book.taken) (filter (is_confirmed book.taken) book.answers))
-      (re_flat (series_of_claim book.taken) (claims_kept entries) (claims_confirmed book) claims)
+      subst (λ (l : List Recurring). Reordered (flat_map series_of_claim (claims_kept entries)) l) (of_claims series_of_claim (filter (is_confirmed book.taken) book.answers))
+      (re_flat series_of_claim (claims_kept entries) (claims_confirmed book) claims)
 
-  module _ (series : List Meeting) (each : AllZip HasInstances series (all_series book entries)) where
+  module _ (series : List Meeting) (each : AllZip (IsLeft book.taken) series (all_series entries)) where
     abbrev all : Confirmed
     all = record { series = series; singles = all_singles book entries }
 
-    abbrev in_series : List Booked
-    in_series = flat_map (λ instances. instances) (confirmed_series book)
-
-    one_to : (b : Booked) → IsOneOf all b → Contains (confirmed book) b
-    one_to b (inl c) = Contains-append_left (confirmed_singles book) in_series b (re_in (all_singles book entries) (confirmed_singles book) singles_are b c)
+    one_to : (b : Booked) → IsOneOf all b → Confirms book b
+    one_to b (inl c) = inl (re_in (all_singles book entries) (confirmed_singles book) singles_are b c)
     one_to b (inr (m, c, is)) =
-        let l = zip_to HasInstances series (all_series book entries) m each c in
-        Contains-append_right (confirmed_singles book) in_series b
-        (flat_from (λ instances. instances) (confirmed_series book) l.0 b (re_in (all_series book entries) (confirmed_series book) series_are l.0 l.1) ((l.2 b).0 is))
+        let r = zip_to (IsLeft book.taken) series (all_series entries) m each c in
+        let left = (r.2 b).0 is in
+        inr (record { series = r.0; among = re_in (all_series entries) (confirmed_series book) series_are r.0 r.1; is = left.0; shown = left.1 })
 
-    one_from : (b : Booked) → Contains (confirmed book) b → IsOneOf all b
-    one_from b c = elim (Contains-append_cases (confirmed_singles book) in_series b c) [
-      | inl single ↦ inl (re_in (confirmed_singles book) (all_singles book entries) (re_back (all_singles book entries) (confirmed_singles book) singles_are) b single)
-      | inr of ↦
-          let l = flat_at (λ instances. instances) (confirmed_series book) b of in
-          let m = zip_from HasInstances series (all_series book entries) l.0 each (re_in (confirmed_series book) (all_series book entries) (re_back (all_series book entries) (confirmed_series book) series_are) l.0 l.1) in
-          inr (m.0, m.1, (m.2 b).1 l.2)
-    ]
+    one_from : (b : Booked) → Confirms book b → IsOneOf all b
+    one_from b (inl c) = inl (re_in (confirmed_singles book) (all_singles book entries) (re_back (all_singles book entries) (confirmed_singles book) singles_are) b c)
+    one_from b (inr l) =
+        let among = re_in (confirmed_series book) (all_series entries) (re_back (all_series entries) (confirmed_series book) series_are) l.series l.among in
+        let m = zip_from (IsLeft book.taken) series (all_series entries) l.series each among in
+        inr (m.0, m.1, (m.2 b).1 (l.is, l.shown))
 
 keeps_same : LinesBack → ReadsLines → ZoneBack → (room : List ℕ) (book : Book) → KeepsAll room book → (calendar : List ℕ) → IsKeptCalendar room book calendar → SpellsConfirmed room book calendar
 keeps_same back reads zone_back room book keeps calendar c =
@@ -458,7 +454,7 @@ keeps_same back reads zone_back room book keeps calendar c =
       all = record { series = s.series; singles = all_singles book c.entries };
       spells = s.spells;
       singles = re_length (all_singles book c.entries) (confirmed_singles book) (singles_are room book keeps c.entries c.kept);
-      series = zip_long HasInstances s.series (all_series book c.entries) s.each ∙ re_length (all_series book c.entries) (confirmed_series book) (series_are room book keeps c.entries c.kept);
+      series = zip_long (IsLeft book.taken) s.series (all_series c.entries) s.each ∙ re_length (all_series c.entries) (confirmed_series book) (series_are room book keeps c.entries c.kept);
       exact = λ b. (one_to room book keeps c.entries c.kept s.series s.each b, one_from room book keeps c.entries c.kept s.series s.each b);
     }
 
@@ -471,14 +467,7 @@ keeps_pass back reads zone_back room book keeps calendar c =
       confirmed = s.all;
       spells = s.spells;
       stands = stands s.all (record { singles = length (confirmed_singles book); series = length (confirmed_series book) }) (omega (arith, few.singles), omega (arith, few.series)) (sym s.singles) (sym s.series)
-          (λ a b t x y clash. keeps.sound.good.clear a b t (record {
-            first = (s.exact a).0 x;
-            second = (s.exact b).0 y;
-            differ = clash.differ;
-            before = clash.before;
-            in_first = clash.in_first;
-            in_second = clash.in_second;
-          }));
+          (λ a b t x y clash. keeps.sound.good.clear a b t ((s.exact a).0 x) ((s.exact b).0 y) clash);
     }
 
 pub kept_same : LinesBack → ReadsLines → ZoneBack → (room : List ℕ) (deliveries : List Delivery) → ((d : Delivery) → Contains deliveries d → IsDelivered room d)

@@ -16,7 +16,7 @@ use Rattle.profile.specs.text.Values.{SpellsDate, SpellsDuration, SpellsSequence
 use Rattle.profile.specs.text.Trees.{Tree, tree, none, more, tree_name, tree_own, tree_inside}
 use Rattle.profile.specs.text.Objects.{IsObject}
 use Rattle.profile.specs.text.Objects.SpellsBody.{nothing, property}
-use Rattle.profile.specs.checker.Instances.{Booked, IsClear, IsWithin}
+use Rattle.profile.specs.checker.Instances.{Booked, IsWithin}
 use Rattle.profile.specs.series.Days.{Daily, days_before_year, days_of_months, greatest, year_of, month_of, year_days_before, year_days_after, month_days_before, month_days_after, weekday_of, period_of}
 use Rattle.profile.specs.series.Rules.{Parts, RuleText, UntilDay, rule_of, is_rule_day, is_within_count, is_counted, is_placed, mates_before, mates_after, is_mate, count_days, is_base, is_in_step, passes, passes_month, passes_month_day, passes_weekday, last_rule_day, go_together}
 use Rattle.profile.specs.series.RuleTexts.{rule_parts, after_key, months_from, numbers_from, entries_from, SpellsRule, IsKnownPart, EndsAt as UntilKey}
@@ -24,17 +24,18 @@ use Rattle.profile.specs.series.Zones.{Constant, Means, local_time}
 use Rattle.profile.specs.events.ZonedTimes.{EventTimes}
 use Rattle.profile.specs.events.EventRules.{GivesRule, SaysEventRule}
 use Rattle.profile.specs.events.Events.{Event, NeedsAction, Cancel, Request, SaysEvent, meeting_said}
+use Rattle.profile.specs.events.Meetings.{Meeting}
 use Rattle.profile.specs.events.Starts.{ComesBefore, EndsAt, IsInstance, IsRuleStart, key_at}
 use Rattle.profile.specs.events.Confirmed.{AreApart, AreOfRule, IsOfSeries, alone}
 use Rattle.profile.specs.rooms.Messages as messages
 use Rattle.profile.specs.rooms.Messages.{Content, SpellsMessage, IsContent, IsPart, WritesTimes, Accept, no_content, opening_lines}
 use Rattle.profile.specs.rooms.Revisions.{Part, Whole, At, Cancelled, Set, is_whole, slot_cmp}
-use Rattle.profile.specs.rooms.Rooms.{Answer, Book, Claim, Delivery, Runs, empty_book, confirmed, confirmed_series, answered}
+use Rattle.profile.specs.rooms.Rooms.{Answer, Book, Claim, Confirms, Delivery, IsClear, IsLeftOf, Recurring, Runs, empty_book, confirmed_series, is_hidden, answered}
 use Rattle.profile.specs.streams.Streams.{IsDelivered}
 use Rattle.profile.specs.rooms.Kept.{Entry, Shown, Hidden, part_kept, IsEntry, AreKeptOf, IsKept, IsKeptCalendar}
 use Rattle.cal_events.proofs.Meanings.{utc_instant, utc_means}
 use Rattle.cal_events.proofs.OneInstance.{booked_same}
-use Rattle.cal_events.proofs.OwnSingles.{IsAtStart, alone_master, master_alone}
+use Rattle.cal_events.proofs.OwnSingles.{IsAtStart, at_start, from_start}
 use Rattle.itip_order.proofs.Lasting.{view_taken}
 use Rattle.itip_order.proofs.Lists.{in_cons, in_head, in_tail, none_in_nil}
 use Rattle.ical_values.proofs.Readings.{stamp_written}
@@ -161,10 +162,6 @@ spells_two_days = record {
 first_listed : is_rule_day rule 739_685 ≡ true
 unfolding is_rule_day is_within_count is_counted is_placed mates_before mates_after is_mate count_days is_base is_in_step passes passes_month passes_month_day passes_weekday weekday_of year_days_before year_days_after month_days_before month_days_after month_of year_of greatest days_of_months period_of
 first_listed = refl
-
-second_listed : is_rule_day rule 739_686 ≡ true
-unfolding is_rule_day is_within_count is_counted is_placed mates_before mates_after is_mate count_days is_base is_in_step passes passes_month passes_month_day passes_weekday weekday_of year_days_before year_days_after month_days_before month_days_after month_of year_of greatest days_of_months period_of
-second_listed = refl
 
 gives : GivesRule (Constant (pos 0)) (pos 1_741_597_200) two_days rule
 gives = record { day = 739_685; second = 32_400; on = (omega arith, refl); last = 739_686; allowed = refl; is = refl; starts = first_listed }
@@ -299,6 +296,9 @@ is_part = record { organiser = refl; uid = refl; slot = refl; revision = refl; b
 
 -- its instances
 
+abbrev series : Meeting
+series = record { master = Some event; overrides = [] }
+
 abbrev booked_at : ℤ → ℤ → Booked
 booked_at start end = record { key = record { organiser = codes "mailto:ann@example.com"; uid = codes "a"; slot = start }; start = start; end = end }
 
@@ -310,9 +310,6 @@ second = booked_at (pos 1_741_683_600) (pos 1_741_687_200)
 
 first_starts : IsRuleStart times rule (pos 1_741_597_200)
 first_starts = record { first = 739_685; second = 32_400; on = (omega arith, refl); day = 739_685; listed = first_listed; means = utc_means (pos 1_741_597_200) }
-
-second_starts : IsRuleStart times rule (pos 1_741_683_600)
-second_starts = record { first = 739_685; second = 32_400; on = (omega arith, refl); day = 739_686; listed = second_listed; means = utc_means (pos 1_741_683_600) }
 
 -- no other day is the rule's
 days : (day : ℕ) → is_rule_day rule day ≡ true → (day ≡ 739_685) ⊎ (day ≡ 739_686)
@@ -342,18 +339,6 @@ own_first = record {
   ends = (pos 1_741_597_200, inl (refl, refl), refl);
 }
 
-own_second : IsAtStart event second
-own_second = record {
-  starts = record {
-    given = inl second_starts;
-    in_dates = (omega (arith, ints), omega (arith, ints));
-    not_excepted = none_in_nil (pos 1_741_683_600);
-    not_overridden = none_in_nil (Some (pos 1_741_683_600));
-  };
-  key = refl;
-  ends = (pos 1_741_683_600, inl (refl, refl), refl);
-}
-
 -- an instance that starts then is the one
 one_at : (b : Booked) → IsAtStart event b → (start : ℤ) → b.start ≡ start → b ≡ booked_at start (start +ℤ pos 3600)
 one_at b s start e = booked_same b (booked_at start (start +ℤ pos 3600)) (s.key ∙ ap (key_at event) e) e (at_end s.ends)
@@ -362,39 +347,32 @@ one_at b s start e = booked_same b (booked_at start (start +ℤ pos 3600)) (s.ke
     at_end (later, inl d, same) = same ∙ ap (λ t. t +ℤ pos 3600) (d.1 ∙ e)
     at_end (later, inr d, same) = absurd (omega (arith, d.0))
 
-its_series : AreOfRule event (Some (first ∷ second ∷ []))
-its_series = (refl, λ b. (to b, from b))
-  where
-    at_first : (b : Booked) → first ≡ b → IsInstance (alone event) b × IsOfSeries event b
-    at_first b e = subst (λ (x : Booked). IsInstance (alone event) x × IsOfSeries event x) e (alone_master event first refl own_first, record { master = refl; rule = rule; has = refl; starts = first_starts })
+-- each instance is the first or the second
+which : (b : Booked) → IsInstance series b → (b ≡ first) ⊎ (b ≡ second)
+which b is =
+    let s = at_start event b is in
+    elim s.starts.given [
+      | inl g ↦ elim (starts_then b.start g) [ inl e ↦ inl (one_at b s (pos 1_741_597_200) e) | inr e ↦ inr (one_at b s (pos 1_741_683_600) e) ]
+      | inr c ↦ absurd (none_in_nil b.start c)
+    ]
 
-    at_second : (b : Booked) → second ≡ b → IsInstance (alone event) b × IsOfSeries event b
-    at_second b e = subst (λ (x : Booked). IsInstance (alone event) x × IsOfSeries event x) e (alone_master event second refl own_second, record { master = refl; rule = rule; has = refl; starts = second_starts })
+-- and is one of the series
+of_series : (b : Booked) → IsInstance series b → IsOfSeries event b
+of_series b is =
+    elim (at_start event b is).starts.given [ inl g ↦ record { master = refl; rule = rule; has = refl; starts = g } | inr c ↦ absurd (none_in_nil b.start c) ]
 
-    to : (b : Booked) → Contains (first ∷ second ∷ []) b → IsInstance (alone event) b × IsOfSeries event b
-    to b c = elim (in_cons first (second ∷ []) b c) [ inl e ↦ at_first b e | inr rest ↦ at_second b (sym (only second b rest)) ]
-
-    from : (b : Booked) → IsInstance (alone event) b × IsOfSeries event b → Contains (first ∷ second ∷ []) b
-    from b (is, of) =
-        let s = master_alone event b refl is in
-        let rule_is : of.rule ≡ rule = same_Some of.rule rule (sym of.has) in
-        elim (starts_then b.start (subst (λ (r : Parts). IsRuleStart times r b.start) rule_is of.starts)) [
-          | inl e ↦ subst (λ (x : Booked). Contains (first ∷ second ∷ []) x) (sym (one_at b s (pos 1_741_597_200) e)) (in_head first (second ∷ []))
-          | inr e ↦ subst (λ (x : Booked). Contains (first ∷ second ∷ []) x) (sym (one_at b s (pos 1_741_683_600) e)) (in_tail first (second ∷ []) second (in_head second []))
-        ]
+its_series : AreOfRule event (Some series)
+its_series = (refl, λ b. (λ is. (is, of_series b is), λ own. own.0))
 
 no_singles : AreApart event []
 no_singles = record {
   each = All-nil (λ b. IsInstance (alone event) b × (IsOfSeries event b → ⊥));
   ordered = pairs_from ComesBefore [] tt;
-  all = λ b is apart. absurd (apart (of_series b (master_alone event b refl is)));
+  all = λ b is apart. absurd (apart (of_series b is));
 }
-  where
-    of_series : (b : Booked) → IsAtStart event b → IsOfSeries event b
-    of_series b s = elim s.starts.given [ inl g ↦ record { master = refl; rule = rule; has = refl; starts = g } | inr c ↦ absurd (none_in_nil b.start c) ]
 
 abbrev claim : Claim
-claim = record { part = part; content = content; singles = []; series = Some (first ∷ second ∷ []) }
+claim = record { part = part; content = content; singles = []; series = Some series }
 
 abbrev delivery : Delivery
 delivery = record { claims = claim ∷ []; moment = pos 1_740_830_500 }
@@ -578,11 +556,19 @@ once_taken = record { taken = part ∷ []; answers = answered (pos 1_740_830_500
 abbrev both_taken : Book
 both_taken = record { taken = part ∷ gone_part ∷ []; answers = answered (pos 1_740_830_500) Accept (claim ∷ []) }
 
-clear_both : IsClear (first ∷ second ∷ [])
-clear_both a b t c = by (which a c.first) (which b c.second)
+abbrev recurring : Recurring
+recurring = record { part = part; meeting = series }
+
+-- what is confirmed is an instance of the series
+of_it : (taken : List Part) (b : Booked) → IsLeftOf taken (recurring ∷ []) b → IsInstance series b
+of_it taken b l = subst (λ (r : Recurring). IsInstance r.meeting b) (only recurring l.series l.among) l.is
+
+clear_both : IsClear once_taken
+clear_both a b t c d clash = by (found a c) (found b d)
   where
-    which : (x : Booked) → Contains (first ∷ second ∷ []) x → (x ≡ first) ⊎ (x ≡ second)
-    which x k = elim (in_cons first (second ∷ []) x k) [ inl e ↦ inl (sym e) | inr rest ↦ inr (only second x rest) ]
+    found : (x : Booked) → Confirms once_taken x → (x ≡ first) ⊎ (x ≡ second)
+    found x (inl k) = absurd (none_in_nil x k)
+    found x (inr l) = which x (of_it (part ∷ []) x l)
 
     apart : (x y : Booked) → x ≡ first → y ≡ second → IsWithin x.start x.end t → IsWithin y.start y.end t → ⊥
     apart x y d e before after =
@@ -591,10 +577,10 @@ clear_both a b t c = by (which a c.first) (which b c.second)
         omega (arith, ints, ends, starts)
 
     by : (a ≡ first) ⊎ (a ≡ second) → (b ≡ first) ⊎ (b ≡ second) → ⊥
-    by (inl d) (inl e) = c.differ (ap (λ (z : Booked). z.key) (d ∙ sym e))
-    by (inl d) (inr e) = apart a b d e c.in_first c.in_second
-    by (inr d) (inl e) = apart b a e d c.in_second c.in_first
-    by (inr d) (inr e) = c.differ (ap (λ (z : Booked). z.key) (d ∙ sym e))
+    by (inl d) (inl e) = clash.differ (ap (λ (z : Booked). z.key) (d ∙ sym e))
+    by (inl d) (inr e) = apart a b d e clash.in_first clash.in_second
+    by (inr d) (inl e) = apart b a e d clash.in_second clash.in_first
+    by (inr d) (inr e) = clash.differ (ap (λ (z : Booked). z.key) (d ∙ sym e))
 
 a_run : Runs empty_book (delivery ∷ cancelling ∷ []) both_taken
 a_run = (
@@ -604,12 +590,22 @@ a_run = (
   (both_taken, Accept, record { taken = refl; answers = refl; decided = λ h. absurd (false≢true h) }, refl),
 )
 
--- one series, with its first day alone
-one_series : confirmed_series both_taken ≡ (first ∷ []) ∷ []
+-- one series, and of it the first day alone
+one_series : confirmed_series both_taken ≡ recurring ∷ []
 one_series = refl
 
-one_confirmed : confirmed both_taken ≡ first ∷ []
-one_confirmed = refl
+first_confirmed : Confirms both_taken first
+first_confirmed = inr (record { series = recurring; among = in_head recurring []; is = from_start event first own_first; shown = refl })
+
+no_other : (b : Booked) → Confirms both_taken b → b ≡ first
+no_other b (inl c) = absurd (none_in_nil b c)
+no_other b (inr l) =
+    elim (which b (of_it (part ∷ gone_part ∷ []) b l)) [
+      | inl e ↦ e
+      | inr e ↦
+          let part_is : l.series.part ≡ part = ap (λ (r : Recurring). r.part) (only recurring l.series l.among) in
+          absurd (false≢true (sym l.shown ∙ (λ i. is_hidden (part ∷ gone_part ∷ []) (part_is i) (e i))))
+    ]
 
 -- ---- what is kept
 

@@ -164,10 +164,10 @@ module _ (event : Event) (number : ℕ) (organiser : List ℕ) (stamp : ℤ) (ro
   has_too : has_series kept ≡ has_series event
   has_too = ap (λ b. is_master event && b) (both_rules event.rule back same)
 
-  of_rule_kept : (series : Option (List Booked)) → AreOfRule event series → AreOfRule kept series
+  of_rule_kept : (series : Option Meeting) → AreOfRule event series → AreOfRule kept series
   of_rule_kept None h = has_too ∙ h
-  of_rule_kept (Some instances) h = (has_too ∙ h.0, λ b. (
-    λ c. let own = (h.1 b).0 c in (instance_to b own.0, series_to b own.1),
+  of_rule_kept (Some series) h = (has_too ∙ h.0, λ b. (
+    λ is. let own = (h.1 b).0 is in (instance_to b own.0, series_to b own.1),
     λ own. (h.1 b).1 (instance_from b own.0, series_from b own.1),
   ))
 
@@ -209,18 +209,17 @@ module _ (saids : List Event) (said : Event) (hidden : Booked → Bool) (h : IsH
           let own = All-contains (λ x. IsInstance (alone said) x × (IsOfSeries said x → ⊥)) singles b a.each c in
           record { kept = kept; is = among_others b own.0 shown; apart = own.1 }
 
-  -- and as those of a series
-  pub series_left : (instances : List Booked) → AreOfRule said (Some instances) → (series : Meeting) → IsSeries saids said series
-      → (b : Booked) → IsInstance series b ↔ Contains (filter (λ b. not (hidden b)) instances) b
-  series_left instances of series s b =
+  -- and as those of a series: the instances of the meeting that no other part hides
+  pub series_left : (meeting series : Meeting) → AreOfRule said (Some meeting) → IsSeries saids said series
+      → (b : Booked) → IsInstance series b ↔ (IsInstance meeting b × (hidden b ≡ false))
+  series_left meeting series of s b =
       let both = and_parts _ _ of.0 in (
         λ is.
             let own = of_its_series saids said both.0 series s both.1 b is in
-            in_filtered (λ b. not (hidden b)) instances b ((of.1 b).1 (own.0.is, own.1)) (not_hidden_there b own.0),
-        λ c.
-            let from = of_filtered (λ b. not (hidden b)) instances b c in
-            let own = (of.1 b).0 from.0 in
-            in_its_series saids said both.0 series s b (among_others b own.0 from.1) own.1,
+            ((of.1 b).1 (own.0.is, own.1), not-true _ (not_hidden_there b own.0)),
+        λ left.
+            let own = (of.1 b).0 left.0 in
+            in_its_series saids said both.0 series s b (among_others b own.0 (not_from_false _ left.1)) own.1,
       )
 
 -- of what isn't kept nothing is left

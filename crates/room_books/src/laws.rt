@@ -3,7 +3,8 @@
 ghost use Rattle.std.specs.Prelude.{◌≡◌, ◌≤◌, ◌↔◌, ℕ, ℤ, List, length, Contains};
 ghost use Rattle.profile.specs.checker.Instances.{Booked, IsClear};
 ghost use Rattle.profile.specs.events.Confirmed.{Confirmed, IsOneOf};
-ghost use Rattle.profile.specs.rooms.Rooms.{Answer, Book, Delivery, Runs, empty_book, confirmed, confirmed_series, confirmed_singles, most_singles};
+ghost use Rattle.profile.specs.rooms.Rooms.{Answer, Book, Delivery, Runs, empty_book, confirmed, most_singles};
+ghost use Rattle.profile.specs.rooms.Rooms.{Confirms, confirmed_series, confirmed_singles};
 ghost use Rattle.profile.specs.streams.Streams.{IsDelivered, AllAnswers, Hosted, new_box};
 ghost use Rattle.profile.specs.rooms.Kept.{IsKeptCalendar, kept_certificate};
 ghost use Rattle.profile.specs.checker.Calendars.{CertificateHolds, SpellsCalendar};
@@ -47,7 +48,7 @@ pub fn kept_texts_spell()
         → ((taken : Delivery) → Contains deliveries taken → IsDelivered room taken) → Runs empty_book deliveries book → IsKeptCalendar room book text
         → (all : Confirmed) × SpellsCalendar room text all
         × (length all.singles ≡ length (confirmed_singles book)) × (length all.series ≡ length (confirmed_series book))
-        × ((booked : Booked) → IsOneOf all booked ↔ Contains (confirmed book) booked) }
+        × ((booked : Booked) → IsOneOf all booked ↔ Confirms book booked) }
 {
     ical_lines::lines_read_back();
     cal_zones::zone_reads_back();
