@@ -21,7 +21,7 @@ use Rattle.std.proofs.lemmas.Option.{same_Some}
 use Rattle.profile.specs.events.Confirmed.{is_kept}
 use Rattle.profile.specs.events.Properties.{Says, BothOrNeither, StandsAtMostOnce, IsAddressLine, IsUidLine, IsSequenceLine, is_of, lines_named}
 use Rattle.profile.specs.rooms.Messages as messages
-use Rattle.profile.specs.rooms.Messages.{Content, SpellsMessage, IsPart, IsBody, IsContent, IsZoneRest, TellsSlot, cancels, own_revision, later_of, raised_to, slot_named, names_room}
+use Rattle.profile.specs.rooms.Messages.{Content, SpellsMessage, IsPart, IsBody, IsContent, TellsSlot, cancels, own_revision, raised_to, slot_named, names_room}
 use Rattle.profile.specs.rooms.Revisions.{Part, Slot, Whole, At, Revision, Body, Set, Absent, Cancelled, revision_cmp}
 use Rattle.profile.specs.rooms.Rooms.{Claim, is_set, is_set_body}
 use Rattle.profile.specs.rooms.Kept.{IsEventOf, IsKeptEvent, HidesSlot, Shown}

@@ -12,8 +12,8 @@ use Rattle.profile.specs.text.Trees.{tree_name, tree_own, tree_inside}
 use Rattle.profile.specs.events.Events.{Event, SaysEvent, meeting_said}
 use Rattle.profile.specs.events.Meetings.{Meeting, is_master}
 use Rattle.profile.specs.events.Starts.{IsInstance}
-use Rattle.profile.specs.events.Confirmed.{Confirmed, AreConfirmed, AreOfRule, AreSingles, IsInSeries, IsOneOf, IsReplaced, IsSeries, alone, by_its_rule, has_series, is_kept, is_series}
-use Rattle.profile.specs.checker.Calendars.{SaysCalendar, SpellsCalendar, CertificateHolds}
+use Rattle.profile.specs.events.Confirmed.{Confirmed, AreConfirmed, AreOfRule, AreSingles, IsOneOf, IsReplaced, IsSeries, alone, by_its_rule, has_series, is_kept, is_series}
+use Rattle.profile.specs.checker.Calendars.{SpellsCalendar, CertificateHolds}
 use Rattle.profile.specs.checker.Instances.{Booked, Key}
 use Rattle.profile.specs.rooms.Messages.{opening_lines, slot_of, slot_named}
 use Rattle.profile.specs.rooms.Revisions.{Part, Slot, Whole, At, in_view, is_whole, same_meeting, same_part, same_place, slot_cmp}
@@ -277,6 +277,16 @@ module _ (room : List ℕ) (book : Book) (k : KeepsAll room book) (entries : Lis
     whole_said : (b : Booked) → is_hidden book.taken claim.part b ≡ true → said.recurrence ≡ None
     whole_said b h = whole_there said.recurrence (s.slot ∙ slot_same claim.part.slot Whole (and_parts _ _ h).0)
 
+    -- an event that says an entry of that place stands for it
+    replaced_there : (b : Booked) (event : Event) (entry : Entry) (other : Part) → Contains saids event → SaysEntry room event entry → part_kept entry ≡ other → SamePlace other (record claim.part { slot = At b.key.slot }) → b.key.slot ≡ b.start
+        → IsReplaced saids said b.start
+    replaced_there b event entry other among e same place start = record {
+      override = event;
+      among = among;
+      of = e.meeting ∙ (λ i. ((same i).organiser, (same i).uid)) ∙ (λ i. (place.organiser i, place.uid i)) ∙ sym s.meeting;
+      is = instant_there event.recurrence b.start (e.slot ∙ ap (λ (q : Part). q.slot) same ∙ place.slot ∙ ap At start);
+    }
+
     -- and something stands for it
     stood_for : (b : Booked) → IsInstance (alone said) b → is_hidden book.taken claim.part b ≡ true → IsReplaced saids said b.start
     stood_for b own h =
@@ -287,13 +297,8 @@ module _ (room : List ℕ) (book : Book) (k : KeepsAll room book) (entries : Lis
         let none = whole_said b h in
         let instance : is_whole found.0 ≡ false = ap (λ (o : Slot). is_eq (slot_cmp o Whole)) place.slot in
         let entry = other_entry claim c both.0 found.0 seen.0 (meeting_from claim.part found.0 (sym place.organiser) (sym place.uid)) instance in
-        let other = zip_from (SaysEntry room) saids entries entry.0 z entry.1 in
-        record {
-          override = other.0;
-          among = other.1;
-          of = other.2.meeting ∙ (λ i. ((entry.2 i).organiser, (entry.2 i).uid)) ∙ (λ i. (place.organiser i, place.uid i)) ∙ sym s.meeting;
-          is = instant_there other.0.recurrence b.start (other.2.slot ∙ ap (λ (q : Part). q.slot) entry.2 ∙ place.slot ∙ ap At (at_slot b own none));
-        }
+        let event = zip_from (SaysEntry room) saids entries entry.0 z entry.1 in
+        replaced_there b event.0 entry.0 found.0 event.1 event.2 entry.2 place (at_slot b own none)
 
     hiding : IsHiding saids said (is_hidden book.taken claim.part)
     hiding = record { stands = stood_for; hides = stands_for; master = λ b h. ap (λ (o : Option ℤ). not (is_some o)) (whole_said b h) }

@@ -1,5 +1,5 @@
 -- What a room keeps: each entry of another meeting or slot, and they claim what the book confirms.
-use Rattle.std.proofs.Common.{◌≡◌, ◌≢◌, ◌∙◌, Bool, true, false, List, [], ◌∷◌, ◌++◌, filter, map, refl, sym, ap, subst, inl, inr}
+use Rattle.std.proofs.Common.{◌≡◌, ◌≢◌, ◌∙◌, true, List, [], ◌∷◌, ◌++◌, filter, map, refl, sym, ap, subst, inl, inr}
 use Rattle.std.specs.Prelude.{AllPairs}
 use Rattle.std.specs.declared.cmp.Ordering.TheVariants.{Less, Equal}
 use Rattle.std.specs.Ordering.{is_eq, ordering_then}

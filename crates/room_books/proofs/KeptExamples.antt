@@ -1,24 +1,22 @@
 -- A worked run: the octets of a REQUEST are delivered, for each of two days, and the room accepts it; then those of a CANCEL, of the second day.
 -- The room keeps a series, with one start of it hidden.
-use Rattle.std.proofs.Common.{false, ◌≡◌, ◌≢◌, ℕ, suc, ◌≤◌, ◌⊎◌, ℤ, pos, ◌+ℤ◌, ◌-ℤ◌, ◌≤ℤ◌, ◌<ℤ◌, true, ◌&&◌, List, [], ◌∷◌, ◌++◌, codes, Some, None, inl, inr, refl, sym, ap, subst, arith, ◌∙◌}
-use Rattle.std.specs.Prelude.{◌↔◌, nat_le}
+use Rattle.std.proofs.Common.{false, ◌≡◌, ◌≢◌, ℕ, ◌≤◌, ◌⊎◌, ℤ, pos, ◌+ℤ◌, ◌≤ℤ◌, ◌<ℤ◌, true, List, [], ◌∷◌, ◌++◌, codes, Some, None, inl, inr, refl, sym, ap, subst, arith, ◌∙◌}
 use Rattle.std.specs.List.{Contains}
 use Rattle.std.specs.Str.{is_utf8, chars}
 use Rattle.std.specs.declared.cmp.Ordering.TheVariants.{Less}
 use Rattle.std.proofs.lemmas.Bool.{and_parts, cases_lt, false≢true, leb-true}
 use Rattle.std.proofs.lemmas.Int.{ints}
 use Rattle.std.proofs.lemmas.List.Elements.{All-from_recursion, All-nil}
-use Rattle.std.proofs.lemmas.Option.{same_Some}
 use Rattle.std.specs.Fmt.{digits}
 use lib.Utf8.{encode}
 use Rattle.profile.specs.text.Lines.{logical_lines, reads_as_lines, written}
-use Rattle.profile.specs.text.Values.{SpellsDate, SpellsDuration, SpellsSequence, WritesStamp, IsAddress, unescaped}
+use Rattle.profile.specs.text.Values.{SpellsDate, SpellsDuration, WritesStamp, IsAddress, unescaped}
 use Rattle.profile.specs.text.Trees.{Tree, tree, none, more, tree_name, tree_own, tree_inside}
 use Rattle.profile.specs.text.Objects.{IsObject}
 use Rattle.profile.specs.text.Objects.SpellsBody.{nothing, property}
 use Rattle.profile.specs.checker.Instances.{Booked, IsWithin}
 use Rattle.profile.specs.series.Days.{Daily, days_before_year, days_of_months, greatest, year_of, month_of, year_days_before, year_days_after, month_days_before, month_days_after, weekday_of, period_of}
-use Rattle.profile.specs.series.Rules.{Parts, RuleText, UntilDay, rule_of, is_rule_day, is_within_count, is_counted, is_placed, mates_before, mates_after, is_mate, count_days, is_base, is_in_step, passes, passes_month, passes_month_day, passes_weekday, last_rule_day, go_together}
+use Rattle.profile.specs.series.Rules.{Parts, RuleText, UntilDay, rule_of, is_rule_day, is_within_count, is_counted, is_placed, mates_before, mates_after, is_mate, count_days, is_base, is_in_step, passes, passes_month, passes_month_day, passes_weekday, go_together}
 use Rattle.profile.specs.series.RuleTexts.{rule_parts, after_key, months_from, numbers_from, entries_from, SpellsRule, IsKnownPart, EndsAt as UntilKey}
 use Rattle.profile.specs.series.Zones.{Constant, Means, local_time}
 use Rattle.profile.specs.events.ZonedTimes.{EventTimes}

@@ -1,5 +1,5 @@
 -- What a message's event gives to its kept VEVENT: when it is, and the lines that say it.
-use Rattle.std.proofs.Common.{◌≡◌, ◌∙◌, refl, sym, ap, subst, inl, inr, ℕ, zero, suc, ℤ, pos, ◌+◌, ◌*◌, ◌≤◌, Bool, true, false, ◌||◌, ◌&&◌, cond, List, [], ◌∷◌, ◌++◌, length, codes, Option, Some, None, arith, lt-ltb}
+use Rattle.std.proofs.Common.{◌≡◌, ◌∙◌, refl, sym, ap, subst, inl, inr, ℕ, zero, suc, ℤ, ◌+◌, ◌*◌, ◌≤◌, Bool, true, false, ◌||◌, ◌&&◌, cond, List, [], ◌∷◌, ◌++◌, length, codes, Option, Some, None, arith, lt-ltb}
 use Rattle.std.specs.Prelude.{filter, Contains, is_some}
 use Rattle.std.specs.Option.{option_to_list}
 use Rattle.std.specs.List.{list_all, list_any, flat_map, AllZip}
@@ -18,7 +18,8 @@ use Rattle.profile.specs.series.Rules.{Parts, RuleText}
 use Rattle.profile.specs.series.RuleTexts.{SpellsRule}
 use Rattle.profile.specs.events.EventRules.{GivesRule, SaysEventRule}
 use Rattle.profile.specs.rooms.Messages.{Content, IsContent, WritesRule, WritesTimes, cancels, is_in_dates, list_lines}
-use Rattle.profile.specs.series.Zones.{Zone, Constant, IsOneMeaning, Means}
+use Rattle.profile.specs.series.Zones.{Zone, IsOneMeaning, Means}
+use Rattle.cal_events.proofs.Meanings.{utc_instant}
 use Rattle.cal_events.proofs.SaidRules.{no_rule, rule_found}
 use Rattle.ical_lines.proofs.CleanLines.{IsClean, is_shown, clean_shown, valued}
 use Rattle.ical_values.proofs.Spans.{duration_written}
@@ -53,10 +54,6 @@ pub record EventFacts (event : Event) (added : Bool) : Type 0 where
   pub once : (added || is_some event.recurrence) ≡ true → event.rule ≡ None
   -- the rule is that of a text
   pub recurs : IsRuled event.times event.rule
-
-utc_instant : (local t : ℤ) → Means (Constant (pos 0)) local t → t ≡ local
-utc_instant local t (inl x) = omega (arith, ints, x.shown.1, x.shown.2)
-utc_instant local t (inr x) = absurd x.listed
 
 zone_there : (object : Tree) (name : Option (List ℕ)) (text : List ℕ) (zone : Option Zone) (local : ℤ) → SpellsZoned object name text zone local → is_some name ≡ is_some zone
 zone_there object None text None local s = refl
