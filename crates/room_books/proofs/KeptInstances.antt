@@ -166,10 +166,13 @@ module _ (event : Event) (number : ℕ) (organiser : List ℕ) (stamp : ℤ) (ro
 
   of_rule_kept : (series : Option Meeting) → AreOfRule event series → AreOfRule kept series
   of_rule_kept None h = has_too ∙ h
-  of_rule_kept (Some series) h = (has_too ∙ h.0, λ b. (
-    λ is. let own = (h.1 b).0 is in (instance_to b own.0, series_to b own.1),
-    λ own. (h.1 b).1 (instance_from b own.0, series_from b own.1),
-  ))
+  of_rule_kept (Some series) h = (
+    has_too ∙ h.0,
+    λ b. (
+      λ is. let own = (h.1 b).0 is in (instance_to b own.0, series_to b own.1),
+      λ own. (h.1 b).1 (instance_from b own.0, series_from b own.1),
+    ),
+  )
 
   pub kept_asks : (claim : Claim) → AsksFor true event claim → AsksFor true kept claim
   kept_asks claim (a, r) = (
