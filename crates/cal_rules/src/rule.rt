@@ -15,7 +15,7 @@ use std::alloc::AllocError;
 use std::marker::Model;
 
 /// A rule from the day of DTSTART on (RFC 5545 3.8.5.3). Its days go to 9999-12-31.
-#[derive(Drop)]
+#[derive(Clone, Drop)]
 pub struct Rule {
     written: Written,
     start: DayFacts,

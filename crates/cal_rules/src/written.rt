@@ -28,7 +28,7 @@ pub enum Until {
 }
 
 /// The parts of a rule. An empty list is a part that isn't written.
-#[derive(Drop)]
+#[derive(Clone, Drop)]
 pub(crate) struct Written {
     pub frequency: Frequency,
     pub interval: u16,
