@@ -12,11 +12,12 @@ use Rattle.cal_events.specs.declared.component.EventComponent.{EventComponent}
 use Rattle.cal_events.specs.declared.event.Event.{Event}
 use Rattle.cal_events.specs.declared.instance.InstanceKey.{InstanceKey}
 
--- an event of a master with RRULE alone
+-- an event of a master with RRULE alone, to which nothing is added
 abbrev pub IsRuled : Event → Type 0
 IsRuled event =
     (is_some event.master ≡ true)
-    × (((master : EventComponent) → event.master ≡ Some master → is_some master.rule ≡ true) × (length event.overrides.items ≡ 0))
+    × (((master : EventComponent) → event.master ≡ Some master → (is_some master.rule ≡ true) × (length master.additions.items ≡ 0))
+    × (length event.overrides.items ≡ 0))
 
 -- a master by its rule alone, without these starts, as if EXDATE named them, and without who attends
 abbrev pub ruled_without : Said → List ℤ → Said
