@@ -15,7 +15,7 @@ use std::alloc::AllocError;
 use std::marker::Model;
 
 /// A rule from the day of DTSTART on (RFC 5545 3.8.5.3). Its days go to 9999-12-31.
-#[derive(Clone, Drop)]
+#[derive(Drop)]
 pub struct Rule {
     written: Written,
     start: DayFacts,
@@ -38,6 +38,20 @@ impl Model for Rule {
 
     ghost invariant = { λ r. (1 ≤ r.written.interval) × AreFacts r.start
         × EndsAt (parts_of r.written r.start.index (day_index r.last)) r.end × IsAllowed (text_of r.written) };
+}
+
+impl Clone for Rule {
+    ghost is_clone = { λ rule copy. copy ≡ rule };
+
+    fn clone(&self) -> Result<Rule, AllocError> {
+        let written = self.written.clone()?;
+        Ok(Rule {
+            written,
+            start: self.start,
+            last: self.last,
+            end: self.end,
+        })
+    }
 }
 
 impl Rule {
