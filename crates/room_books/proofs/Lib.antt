@@ -35,6 +35,8 @@ pub mod KeptWhen
 pub mod KeptEvents
 pub mod KeptInstances
 pub mod KeptEntries
+pub mod KeptReplaced
+pub mod Members
 pub mod KeptLines
 pub mod KeptExamples
 pub mod Examples

@@ -1,8 +1,10 @@
 //! What holds of each room, whatever it takes: laws, with nothing to do.
 
-ghost use Rattle.std.specs.Prelude.{◌≡◌, ◌≤◌, ◌↔◌, ℕ, ℤ, List, [], length, Contains};
+ghost use Rattle.std.specs.Prelude.{◌≡◌, ◌↔◌, ℕ, ℤ, List, length, Contains};
 ghost use Rattle.profile.specs.checker.Instances.{Booked};
+ghost use Rattle.profile.specs.events.Confirmed.{Confirmed, IsOneOf};
 ghost use Rattle.profile.specs.rooms.Rooms.{Answer, Book, Delivery, Runs, empty_book, IsClear, IsWithinLimits};
+ghost use Rattle.profile.specs.rooms.Rooms.{Confirms, confirmed_series, confirmed_singles};
 ghost use Rattle.profile.specs.streams.Streams.{IsDelivered, AllAnswers, Hosted, new_box};
 ghost use Rattle.profile.specs.rooms.Kept.{IsKeptCalendar, kept_certificate};
 ghost use Rattle.profile.specs.checker.Calendars.{CertificateHolds, SpellsCalendar};
@@ -40,12 +42,13 @@ pub fn kept_texts_pass()
     cal_zones::zone_reads_back();
 }
 
-/// And that calendar spells exactly what the room has confirmed: the same instances, and as many, without series.
+/// And that calendar spells exactly what the room has confirmed: as many singles, as many series, and the same instances.
 pub fn kept_texts_spell()
     ensures { (room : List ℕ) (deliveries : List Delivery) (book : Book) (text : List ℕ)
         → ((taken : Delivery) → Contains deliveries taken → IsDelivered room taken) → Runs empty_book deliveries book → IsKeptCalendar room book text
-        → (all : List Booked) × SpellsCalendar room text (record { series = []; singles = all }) × (length all ≡ length (confirmed book))
-        × ((booked : Booked) → Contains all booked ↔ Contains (confirmed book) booked) }
+        → (all : Confirmed) × SpellsCalendar room text all
+        × (length all.singles ≡ length (confirmed_singles book)) × (length all.series ≡ length (confirmed_series book))
+        × ((booked : Booked) → IsOneOf all booked ↔ Confirms book booked) }
 {
     ical_lines::lines_read_back();
     cal_zones::zone_reads_back();
