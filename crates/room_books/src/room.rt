@@ -31,7 +31,7 @@ ghost use Rattle.profile.specs.rooms.Revisions.{slot_cmp};
 ghost use Rattle.room_books.specs.Takings.{StandsAt, IsMade, IsDecision, IsWholeDecision, IsAnswered, IsKindOf, MayJoinAll};
 ghost use Rattle.room_books.specs.Standing.{Stands, StepsWith, AreFitting, IsMeetingAfter, IsOwn, Meets, IsPutIn, IsRenewed};
 
-use crate::answer::{Answer, Kind};
+use crate::answer::{Answer, Kind, LimitKind};
 use crate::claims::claims_of;
 use crate::decide::{
     MOST_SERIES, Meetings, Shared, busy_beside_series, clash_between, decide, keys_differ,
