@@ -1,7 +1,8 @@
 //! The rule of a VEVENT (RFC 5545 3.3.10, 3.8.5.3): first the text of its RRULE, then the rule that it gives from the event's start on.
 
-ghost use Rattle.profile.specs.events.Properties.{IsMissing};
-ghost use Rattle.std.specs.Prelude.{◌≡◌, ◌<◌, ℕ, List, IfOk, IfErr, MatchOption, Some, option_map, Bool, codes, true};
+ghost use Rattle.std.specs.List.{list_any};
+ghost use Rattle.profile.specs.events.Properties.{is_of};
+ghost use Rattle.std.specs.Prelude.{◌≡◌, ◌<◌, ℕ, List, IfOk, IfErr, MatchOption, Some, option_map, Bool, codes};
 ghost use Rattle.ical_lines.specs.Fault.{RefusesBy};
 ghost use Rattle.cal_rules.specs.Views.{until_of};
 ghost use Rattle.cal_zones.specs.Kinds.{zone_of};
@@ -45,16 +46,18 @@ impl SaidRule {
         Ok(SaidRule { text })
     }
 
-    /// The rule of an event with these times, None where there is no RRULE.
+    /// The rule of an event with these times, whose DTSTART stands or doesn't. None where there is no RRULE, or no DTSTART from which it would
+    /// give days, as there need be none in what is cancelled.
     /// Refused: 34 where DTSTART isn't one of the rule's days, or UNTIL leaves no day.
-    pub(crate) fn judge(self, times: &EventTimes) -> Result<Option<Rule>, Fault>
-        ensures says { (lines : List (List ℕ)) → IsRuleSaid lines self → IfOk result (SaysEventRule lines (times_of times.now)) }
-        ensures stands { (may_lack : Bool) (object : Tree) (lines : List (List ℕ)) → IsRuleSaid lines self → SaysTimes may_lack object lines (times_of times.now)
-            → (may_lack ≡ true → IsMissing (codes "RRULE") lines) → IfErr result (RefusesBy (EventRuleFault object lines)) }
+    pub(crate) fn judge(self, times: &EventTimes, has_start: bool) -> Result<Option<Rule>, Fault>
+        ensures says { (lines : List (List ℕ)) → IsRuleSaid lines self → has_start ≡ list_any (is_of (codes "DTSTART")) lines
+            → IfOk result (SaysEventRule lines (times_of times.now)) }
+        ensures stands { (may_lack : Bool) (object : Tree) (lines : List (List ℕ)) → IsRuleSaid lines self → has_start ≡ list_any (is_of (codes "DTSTART")) lines
+            → SaysTimes may_lack object lines (times_of times.now) → IfErr result (RefusesBy (EventRuleFault object lines)) }
     {
         match self.text {
-            Some(text) => Ok(Some(rule_from(text, times.start)?)),
-            None => Ok(None),
+            Some(text) if has_start => Ok(Some(rule_from(text, times.start)?)),
+            Some(_) | None => Ok(None),
         }
     }
 }

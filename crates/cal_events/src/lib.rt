@@ -36,8 +36,7 @@ pub use instance::{HORIZON, Instance, InstanceKey, OwnedKey, Single};
 pub use instances::Instances;
 pub use meeting_components::MeetingComponents;
 pub use reading::{
-    one_calendar, one_calendar_text, refuse_unread_events, series_and_singles_divide,
-    singles_are_confirmed,
+    one_calendar, one_calendar_text, series_and_singles_divide, singles_are_confirmed,
 };
 pub use series::Series;
 pub use sweep::{Overlap, Span, first_overlap};

@@ -1,29 +1,40 @@
 -- What the components of a message ask of a room.
-use Rattle.std.specs.Prelude.{◌≡◌, ℕ, List, [], Contains, if◌then◌else◌}
+use Rattle.std.specs.Prelude.{◌≡◌, ℕ, List, [], Contains, Option, None, option_copied, if◌then◌else◌}
 use Rattle.itip_messages.specs.declared.message.Message.{Message}
 use Rattle.itip_messages.specs.declared.message.MessageComponent.{MessageComponent}
 use Rattle.itip_messages.specs.Messages.{part_for}
 use Rattle.itip_order.specs.Parts.{part_of}
 use Rattle.itip_order.specs.declared.part.Part.{Part}
 use Rattle.profile.specs.rooms.Messages as profile
+use Rattle.profile.specs.rooms.Revisions.{Part as Said, Slot, Whole, At}
 use Rattle.profile.specs.rooms.Rooms.{is_set}
 use Rattle.profile.specs.streams.Streams.{AreClaims}
 use Rattle.room_books.specs.declared.meeting.MeetingKey.{MeetingKey}
-use Rattle.cal_events.specs.declared.instance.Single.{Single}
+use Rattle.cal_events.specs.declared.series.Series.{Series}
 use Rattle.room_books.specs.declared.taking.Claim.{Claim}
 use Rattle.room_books.specs.Takings.{claims_said}
 use Rattle.room_books.specs.Standing.{AreFitting}
 use Rattle.room_books.specs.Views.{IsKeyOf}
 
--- the claim of a part that asks for these instances, if it is to take place
-pub record IsAsking (part : Part) (asked : List Single) (claim : Claim) : Type 0 where
+-- the series that a part asks for: that of its component, where the part is of the whole
+abbrev pub series_at : Slot → Option Series → Option Series
+series_at Whole series = series
+series_at (At t) series = None
+
+abbrev pub series_asked : Said → MessageComponent → Option Series
+series_asked part component = series_at part.slot component.series
+
+-- the claim of a part that asks for the instances of the component, if it is to take place
+pub record IsAsking (part : Part) (component : MessageComponent) (claim : Claim) : Type 0 where
   pub part_is : claim.part ≡ part
-  pub singles : claim.singles.items ≡ (if is_set (part_of part) then asked else [])
+  pub singles : claim.singles.items ≡ (if is_set (part_of part) then component.singles.items else [])
+  pub series : option_copied claim.series ≡ (if is_set (part_of part) then series_asked (part_of part) component else None)
 
 -- the claim that a component is for a room
 pub record IsClaimIn (room : List ℕ) (message : Message) (component : MessageComponent) (claim : Claim) : Type 0 where
   pub part_is : part_of claim.part ≡ part_for room message component
   pub singles : claim.singles.items ≡ (if is_set (part_for room message component) then component.singles.items else [])
+  pub series : option_copied claim.series ≡ (if is_set (part_for room message component) then series_asked (part_for room message component) component else None)
 
 -- these are the claims of the message, of the meeting of any of them
 pub record AreClaimed (room : List ℕ) (said : profile.Message) (claims : List Claim) : Type 0 where

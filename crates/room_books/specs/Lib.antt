@@ -9,3 +9,4 @@ pub mod Replying
 pub mod Claiming
 pub mod BySlot
 pub mod Touching
+pub mod Recurrings

@@ -1,12 +1,14 @@
 //! The name of a meeting, and the answers to its parts.
 
-ghost use Rattle.std.specs.Prelude.{◌≡◌, IfOk};
+ghost use Rattle.std.specs.Prelude.{◌≡◌, map, IfOk, IfSome, OnOk, ◌++◌};
 ghost use Rattle.ical_values.specs.Octets.{address_octets, text_octets};
 ghost use Rattle.cal_events.specs.Calendars.{instance_of, owned_key_of};
-ghost use Rattle.room_books.specs.Views.{all_singles, booked_of, IsKeyOf};
+ghost use Rattle.itip_order.specs.Parts.{slot_of};
+ghost use Rattle.profile.specs.rooms.Revisions as revisions;
+ghost use Rattle.room_books.specs.Views.{all_series, all_singles, booked_of, IsKeyOf};
 
 use crate::answer::LimitKind;
-use cal_events::{Instance, InstanceKey, OwnedKey, Single};
+use cal_events::{Instance, InstanceKey, OwnedKey, Series, Single};
 use clash_cert::Clash;
 use ical_values::{Address, Stamp, Text};
 use itip_order::Slot;
@@ -79,6 +81,10 @@ pub struct Given {
     pub outcome: Outcome,
     /// None unless the part was accepted, and none that another part in the view stands for.
     pub singles: Vec<Single>,
+    /// The instances that its RRULE gives, without those that another part in the view stands for. None unless the part was accepted. A whole
+    /// alone recurs.
+    pub series: Option<Series>,
+    ghost whole: { IfSome series (λ _. slot_of slot ≡ revisions.Whole) },
 }
 
 /// The instances that these answers confirm.
@@ -90,4 +96,31 @@ pub(crate) fn singles_of(alloc: Global, answers: &[Given]) -> Result<Vec<Single>
         singles.extend_from_slice(&given.singles)?;
     }
     Ok(singles)
+}
+
+/// The series that these answers confirm.
+pub(crate) fn series_of<'a>(
+    alloc: Global,
+    answers: &'a [Given],
+) -> Result<Vec<&'a Series>, AllocError>
+    ensures { IfOk result (λ series. map (λ one. one.now) series.items ≡ all_series answers.now) }
+{
+    let mut series = Vec::new(alloc);
+    push_series(&mut series, answers)?;
+    Ok(series)
+}
+
+/// Puts the series that answers confirm behind others.
+pub(crate) fn push_series<'a>(
+    series: &mut Vec<&'a Series>,
+    answers: &'a [Given],
+) -> Result<(), AllocError>
+    ensures { OnOk result (map (λ one. one.now) series.new.items ≡ map (λ one. one.now) series.old.items ++ all_series answers.now) }
+{
+    for given in answers {
+        if let Some(one) = &given.series {
+            series.push(one)?;
+        }
+    }
+    Ok(())
 }

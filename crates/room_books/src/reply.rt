@@ -34,7 +34,7 @@ use std::alloc::{AllocError, Global};
 pub fn reply_to(
     alloc: Global,
     room: &Address,
-    claims: &[Claim],
+    claims: &[Claim<'_>],
     held: &Together<'_>,
     before: &[Given],
     changes: &Changes,
@@ -56,9 +56,9 @@ pub fn reply_to(
 /// The claims that a reply answers: their parts are to take place, and in the view.
 fn shown_in<'a>(
     alloc: Global,
-    claims: &'a [Claim],
+    claims: &'a [Claim<'a>],
     held: &Together<'_>,
-) -> Result<Vec<&'a Claim>, AllocError>
+) -> Result<Vec<&'a Claim<'a>>, AllocError>
     ensures { IfOk result (λ shown. (history : List revisions.Part) → StandsFor held.now history → AreShown history claims.now shown.items) }
 {
     let mut shown = Vec::new(alloc);
@@ -74,7 +74,7 @@ fn shown_in<'a>(
 fn reply_of(
     alloc: Global,
     room: &Address,
-    shown: &[&Claim],
+    shown: &[&Claim<'_>],
     before: &[Given],
     changes: &Changes,
 ) -> Result<Vec<u8>, AllocError>
@@ -92,7 +92,7 @@ fn reply_of(
 fn write_answers(
     object: &mut ObjectWriter,
     room: &Address,
-    shown: &[&Claim],
+    shown: &[&Claim<'_>],
     before: &[Given],
     changes: &Changes,
 ) -> Result<(), AllocError>

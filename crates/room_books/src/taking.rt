@@ -17,32 +17,44 @@ ghost use Rattle.room_books.specs.Instants.{IsPartOf, IsParted, IsSplit, Sheds};
 ghost use Rattle.room_books.specs.Touching.{IsUntouched};
 ghost use Rattle.room_books.specs.declared.meeting.Given.{Given};
 ghost use Rattle.room_books.specs.Standing.{KeepsAll, KeepsSome};
-ghost use Rattle.room_books.specs.Takings.{StandsAt, held_after, AreAsked, booked_in, left_in, IsLeftOf, IsAccepted, IsDecided, IsKindOf};
+ghost use Rattle.profile.specs.checker.Instances.{Booked};
+ghost use Rattle.room_books.specs.Takings.{LeavesAll, StandsAt, held_after, AreAsked, booked_in, left_in, IsLeftOf, IsAccepted, IsDecided, IsKindOf};
 ghost use Rattle.room_books.specs.Takings.{IsLeftAlone, IsStill, kept_then, kind_view, parts_said, singles_left};
 
 use crate::answer::Kind;
 use crate::kept::Meeting;
 use crate::meeting::{Given, Outcome};
 use crate::slots::{answers_at, answers_of, is_touched};
-use cal_events::Single;
+use crate::series::{hides_start, series_beside, series_left};
+use cal_events::{Series, Single};
 use ical_values::Stamp;
 use itip_order::{Body, Held, Part, Slot, Together};
 use std::alloc::{AllocError, Global};
 
 /// A part of a message, and the instances that it asks for: none where it isn't to take place.
 #[derive(Drop)]
-pub struct Claim {
+pub struct Claim<'a> {
     pub part: Part,
     pub singles: Vec<Single>,
+    /// Those that its RRULE gives, if it has one. A whole alone recurs.
+    pub series: Option<&'a Series>,
+    ghost whole: { IfSome series (λ _. slot_of part.slot ≡ revisions.Whole) },
 }
 
-impl Claim {
+impl<'a> Claim<'a> {
     /// Whether the part is to take place.
     pub fn is_set(&self) -> bool
         ensures { result ≡ is_set (part_of self.now.part) }
     {
-        matches!(self.part.body, Body::Set(_))
+        takes_place(&self.part)
     }
+}
+
+/// Whether a part is to take place.
+pub fn takes_place(part: &Part) -> bool
+    ensures { result ≡ is_set (part_of part.now) }
+{
+    matches!(part.body, Body::Set(_))
 }
 
 /// What becomes of the answers of a meeting before anything new is decided.
@@ -65,7 +77,7 @@ pub struct Views<'a> {
 }
 
 /// The parts of these claims, as they are taken.
-pub fn parts_of(alloc: Global, claims: &[Claim]) -> Result<Held, AllocError>
+pub fn parts_of(alloc: Global, claims: &[Claim<'_>]) -> Result<Held, AllocError>
     ensures { IfOk result (λ parts. StandsFor parts (parts_said claims.now)) }
 {
     let mut parts = Held::new(alloc);
@@ -123,8 +135,8 @@ impl<'a> Views<'a> {
     pub fn asked<'b>(
         &self,
         alloc: Global,
-        claims: &'b [Claim],
-    ) -> Result<Vec<&'b Claim>, AllocError>
+        claims: &'b [Claim<'b>],
+    ) -> Result<Vec<&'b Claim<'b>>, AllocError>
         ensures { IfOk result (λ asked. (before after : List revisions.Part) → StandsAt (option_copied self.now.before) before → StandsFor self.now.after.now after
             → AreAsked before after claims.now asked.items) }
     {
@@ -138,7 +150,7 @@ impl<'a> Views<'a> {
     }
 
     /// What became of a message with these claims, where this was decided of those that get an answer now.
-    pub fn kind_of(&self, claims: &[Claim], outcome: &Option<Outcome>) -> Result<Kind, AllocError>
+    pub fn kind_of(&self, claims: &[Claim<'_>], outcome: &Option<Outcome>) -> Result<Kind, AllocError>
         ensures { IfOk result (λ kind. (before after : List revisions.Part) → StandsAt (option_copied self.now.before) before → StandsFor self.now.after.now after
             → IsKindOf before after claims.now outcome.now kind) }
     {
@@ -154,7 +166,7 @@ impl<'a> Views<'a> {
         Ok(Kind::Stale)
     }
 
-    fn any_fresh(&self, claims: &[Claim]) -> bool
+    fn any_fresh(&self, claims: &[Claim<'_>]) -> bool
         ensures { (before after : List revisions.Part) → StandsAt (option_copied self.now.before) before → StandsFor self.now.after.now after
             → result ≡ list_any (rooms.is_fresh before after) (parts_said claims.now) }
     {
@@ -166,7 +178,7 @@ impl<'a> Views<'a> {
         false
     }
 
-    fn any_same(&self, claims: &[Claim]) -> bool
+    fn any_same(&self, claims: &[Claim<'_>]) -> bool
         ensures { (before after : List revisions.Part) → StandsAt (option_copied self.now.before) before → StandsFor self.now.after.now after
             → result ≡ list_any (rooms.is_same before after) (parts_said claims.now) }
     {
@@ -179,7 +191,7 @@ impl<'a> Views<'a> {
     }
 
     /// The first claim whose part is fresh where nothing of the whole was ever taken, if there is one.
-    pub fn unheard<'b>(&self, claims: &'b [Claim]) -> Option<&'b Claim>
+    pub fn unheard<'b>(&self, claims: &'b [Claim<'b>]) -> Option<&'b Claim<'b>>
         ensures found { IfSome result (λ claim. Contains claims.now claim.now) }
         ensures wanted { (before after : List revisions.Part) → StandsAt (option_copied self.now.before) before → StandsFor self.now.after.now after
             → is_some result ≡ list_any (λ part. rooms.is_fresh before after part && rooms.lacks_whole after part) (parts_said claims.now) }
@@ -336,10 +348,10 @@ fn stays(
 fn confirms_all(held: &Together<'_>, part: &Part, slots: &[Slot], answers: &[Given]) -> bool
     requires { IsSortedByKey slot_of slot_cmp slots.now }
     ensures { IsTrue result → (history : List revisions.Part) → StandsFor held.now history → (given : Given) → Contains answers.now given
-        → given.singles.items ≡ takings.left_beside slots.now history (part_of part.now) given.singles.items }
+        → LeavesAll slots.now history (part_of part.now) given }
 {
     for given in answers {
-        if any_hidden(held, part, slots, &given.singles) {
+        if !given.confirms_all(held, part, slots) {
             return false;
         }
     }
@@ -404,6 +416,20 @@ fn still(
 }
 
 impl Given {
+    /// Whether no part of these slots in the view stands for an instance that this answer to a part confirms.
+    fn confirms_all(&self, held: &Together<'_>, part: &Part, slots: &[Slot]) -> bool
+        requires { IsSortedByKey slot_of slot_cmp slots.now }
+        ensures { IsTrue result → (history : List revisions.Part) → StandsFor held.now history → LeavesAll slots.now history (part_of part.now) self.now }
+    {
+        if any_hidden(held, part, slots, &self.singles) {
+            return false;
+        }
+        match &self.series {
+            Some(series) => !hides_start(held, part, slots, series),
+            None => true,
+        }
+    }
+
     /// The same answer to a part, with those of its instances that no part of these slots in the view stands for; the others go
     /// behind those that are gone.
     fn left(
@@ -420,11 +446,16 @@ impl Given {
     {
         let outcome = self.outcome.clone()?;
         let singles = left_beside(alloc, held, part, slots, &self.singles, gone)?;
+        let series = match &self.series {
+            Some(series) => Some(series_beside(alloc, held, part, slots, series)?),
+            None => None,
+        };
         Ok(Given {
             slot: self.slot,
             moment: self.moment,
             outcome,
             singles,
+            series,
         })
     }
 
@@ -432,29 +463,42 @@ impl Given {
     fn accepted(
         alloc: Global,
         held: &Together<'_>,
-        claim: &Claim,
+        claim: &Claim<'_>,
         moment: Stamp,
     ) -> Result<Given, AllocError>
         ensures { IfOk result (IsAccepted held.now claim.now moment) }
     {
         let singles = left_of(alloc, held, &claim.part, &claim.singles)?;
+        let series = match claim.series {
+            Some(series) => Some(series_left(alloc, held, &claim.part, series)?),
+            None => None,
+        };
         Ok(Given {
             slot: claim.part.slot,
             moment,
             outcome: Outcome::Accepted,
             singles,
+            series,
         })
     }
 
     /// The same answer with what was decided: it confirms something only where that is to accept it.
-    fn decided(mut self, alloc: Global, outcome: &Outcome) -> Result<Given, AllocError>
+    fn decided(self, alloc: Global, outcome: &Outcome) -> Result<Given, AllocError>
         ensures { IfOk result (IsDecided self outcome.now) }
     {
-        if !is_accept(outcome) {
-            self.singles = Vec::new(alloc);
+        let mut singles = Vec::new(alloc);
+        let mut series = None;
+        if is_accept(outcome) {
+            singles = self.singles;
+            series = self.series;
         }
-        self.outcome = outcome.clone()?;
-        Ok(self)
+        Ok(Given {
+            slot: self.slot,
+            moment: self.moment,
+            outcome: outcome.clone()?,
+            singles,
+            series,
+        })
     }
 }
 
@@ -477,7 +521,7 @@ fn left_of(
 {
     let mut left = Vec::new(alloc);
     for single in singles {
-        if is_hidden(held, part, *single) {
+        if is_hidden(held, part, single.slot) {
             continue;
         }
         left.push(*single)?;
@@ -510,12 +554,13 @@ fn left_beside(
     Ok(left)
 }
 
-/// Whether another part in the view stands for an instance of a part.
-fn is_hidden(held: &Together<'_>, part: &Part, single: Single) -> bool
-    ensures { (history : List revisions.Part) → StandsFor held.now history → result ≡ rooms.is_hidden history (part_of part.now) (booked_in (part_of part.now) single) }
+/// Whether another part in the view stands for the instance of a part with this original start.
+pub fn is_hidden(held: &Together<'_>, part: &Part, start: i64) -> bool
+    ensures { (history : List revisions.Part) → StandsFor held.now history → (booked : Booked) → booked.key.slot ≡ start
+        → result ≡ rooms.is_hidden history (part_of part.now) booked }
 {
     match part.slot {
-        Slot::Whole => held.part_in(part, Slot::At(single.slot)).is_some(),
+        Slot::Whole => held.part_in(part, Slot::At(start)).is_some(),
         Slot::At(_) => false,
     }
 }
@@ -527,14 +572,14 @@ fn is_hidden_by(slots: &[Slot], held: &Together<'_>, part: &Part, single: Single
         → result ≡ (touching.is_touched slots.now (revisions.At single.slot) && rooms.is_hidden history (part_of part.now) (booked_in
         (part_of part.now) single)) }
 {
-    is_touched(slots, Slot::At(single.slot)) && is_hidden(held, part, single)
+    is_touched(slots, Slot::At(single.slot)) && is_hidden(held, part, single.slot)
 }
 
 /// The answers to claims at a moment, were they accepted.
 pub fn candidates(
     alloc: Global,
     held: &Together<'_>,
-    asked: &[&Claim],
+    asked: &[&Claim<'_>],
     moment: Stamp,
 ) -> Result<Vec<Given>, AllocError>
     ensures { IfOk result (λ given. AllZip (λ claim given. IsAccepted held.now claim.now moment given) asked.now given.items) }
