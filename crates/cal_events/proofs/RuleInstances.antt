@@ -61,20 +61,17 @@ end_on times start = let l = later_on times.length.days in (l.0 +ℤ pos times.l
 module _ (master : EventComponent) (rule : Parts) (one : IsOneMeaning (clock_of (event_of master).times.zone)) where
   module _ (second : ℕ) where
     -- on a day before that one
-    IsBelow : ℕ → ℤ → Type 0
+    abbrev IsBelow : ℕ → ℤ → Type 0
     IsBelow k t = (day : ℕ) × (day < k) × (is_rule_day rule day ≡ true) × Means (clock_of (event_of master).times.zone) (local_time day second) t
 
     below : (k : ℕ) → (starts : List ℤ) × ((t : ℤ) → Contains starts t ↔ IsBelow k t)
-    unfolding IsBelow
     below zero = ([], λ t. ((λ c. absurd (none_in t c)), λ h. absurd (omega (arith, h.1))))
     below (suc n) = go (is_rule_day rule n) refl (below n)
       where
         later_day : (t : ℤ) → IsBelow n t → IsBelow (suc n) t
-        unfolding IsBelow
         later_day t h = (h.0, omega (arith, h.1), h.2, h.3)
 
         go : (b : Bool) → is_rule_day rule n ≡ b → (starts : List ℤ) × ((t : ℤ) → Contains starts t ↔ IsBelow n t) → (starts : List ℤ) × ((t : ℤ) → Contains starts t ↔ IsBelow (suc n) t)
-        unfolding IsBelow
         go true e r =
             let m = meant_on master.times.start.zone (local_time n second) in (
               m.0 ∷ r.0,
@@ -112,11 +109,9 @@ module _ (master : EventComponent) (rule : Parts) (one : IsOneMeaning (clock_of 
   HasStarts starts = (t : ℤ) → Contains starts t ↔ IsRuleStart (event_of master).times rule t
 
   rule_starts : (k : ℕ) → 3_652_424 < k → (starts : List ℤ) × HasStarts starts
-  unfolding IsBelow
   rule_starts k past = go (master.times.start.local +ℤ pos 62_167_219_200) refl
     where
       go : (d : ℤ) → master.times.start.local +ℤ pos 62_167_219_200 ≡ d → (starts : List ℤ) × HasStarts starts
-      unfolding IsBelow
       go (pos n) e =
           let second = n % 86_400 in
           let on : IsOnDay master.times.start.local (n / 86_400) second = (omega arith, omega (arith, ints, e)) in
@@ -189,12 +184,12 @@ module _ (master : EventComponent) (one : (a b : Booked) → IsInstance (of_mast
               ],
             ),
           )
-      go (inr no) r = (
+      go (inr not) r = (
         r.0,
         λ b. (
           (λ c. let h = (r.1 b).0 c in (later x b.start xs h.0, h.1)),
           λ h. elim (first_or_later x b.start xs h.0) [
-            | inl same ↦ absurd (no (subst IsShown (sym same) (own_shown b h.1)))
+            | inl same ↦ absurd (not (subst IsShown (sym same) (own_shown b h.1)))
             | inr d ↦ (r.1 b).1 (d, h.1)
           ],
         ),

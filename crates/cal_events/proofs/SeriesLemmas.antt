@@ -286,8 +286,8 @@ series_of event is some series same = record {
     both a b p q = rw p (q)
 
 -- a series without some of its instances: nothing is added to its master
-pub left_of : (master : Event) → length master.additions ≡ 0 → (hidden : List ℤ) (series left : Whole) → series ≡ of_master master → left ≡ of_master (ruled_without master hidden) → IsLeftOf series hidden left
-left_of master none hidden series left same made = record {
+pub left_of : (master : Event) → length master.additions ≡ 0 → (hidden : List ℤ) (series rest : Whole) → series ≡ of_master master → rest ≡ of_master (ruled_without master hidden) → IsLeftOf series hidden rest
+left_of master none hidden series rest same made = record {
   instances = λ b. (
     (λ h. let x = of_ruled master hidden b (subst (λ (m : Whole). IsInstance m b) made h) in (subst (λ (m : Whole). IsInstance m b) (sym same) (from_start master b x.at), x.shown)),
     λ h. let x = at_start master b (subst (λ (m : Whole). IsInstance m b) same h.0) in
