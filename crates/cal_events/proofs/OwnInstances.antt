@@ -1,12 +1,11 @@
 -- The instances of an event by itself that no rule gives: what its starts, or its own start, make.
-use Rattle.std.proofs.Common.{◌≡◌, ◌∙◌, ℕ, ◌<◌, ◌+◌, zero, suc, true, List, [], ◌∷◌, ◌++◌, length, take, get_or, map, subst, sym, refl, ap, inl, inr, arith, ℤ, pos, ◌<ℤ◌, ◌≤ℤ◌}
+use Rattle.std.proofs.Common.{◌≡◌, ◌∙◌, ℕ, ◌<◌, ◌+◌, zero, suc, List, [], ◌∷◌, ◌++◌, length, take, get_or, map, subst, sym, refl, ap, inl, inr, arith, ℤ, pos, ◌<ℤ◌, ◌≤ℤ◌}
 use Rattle.std.specs.Prelude.{Some, None, All, AllPairs, Contains}
 use Rattle.std.specs.List.{AllZip}
 use Rattle.std.proofs.lemmas.Option.{same_Some}
 use Rattle.std.proofs.lemmas.List.Elements.{All-nil, All-cons}
 use Rattle.profile.specs.checker.Instances.{Booked}
 use Rattle.profile.specs.events.Properties.{first_second}
-use Rattle.profile.specs.events.ZonedTimes.{clock_of}
 use Rattle.profile.specs.events.Events.{Event}
 use Rattle.profile.specs.events.Starts.{IsStart, IsInstance, EndsAt, ComesBefore, AreInstancesFrom, key_at}
 use Rattle.profile.specs.events.Confirmed.{alone, IsOfSeries, AreApart}

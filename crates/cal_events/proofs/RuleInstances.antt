@@ -1,6 +1,6 @@
 -- All instances of a series as a list, in no order: what its rule gives before year 10000.
-use Rattle.std.proofs.Common.{◌≡◌, ◌∙◌, ℕ, zero, suc, ◌+◌, ◌*◌, ◌/◌, ◌%◌, ◌<◌, Bool, true, false, List, [], ◌∷◌, length, refl, sym, ap, subst, inl, inr, ◌⊎◌, arith, ℤ, pos, negsuc, ◌+ℤ◌, ◌<ℤ◌, ◌≤ℤ◌}
-use Rattle.std.specs.Prelude.{Option, Some, None, Contains, option_map, ◌↔◌}
+use Rattle.std.proofs.Common.{◌≡◌, ◌∙◌, ℕ, zero, suc, ◌*◌, ◌/◌, ◌%◌, ◌<◌, Bool, true, false, List, [], ◌∷◌, length, map, refl, sym, ap, subst, inl, inr, ◌⊎◌, arith, ℤ, pos, negsuc, ◌+ℤ◌}
+use Rattle.std.specs.Prelude.{Option, Some, None, is_some, Contains, option_map, ◌&&◌, ◌↔◌}
 use Rattle.std.specs.Ordering.{int_eq}
 use Rattle.std.specs.List.{list_any}
 use Rattle.std.proofs.lemmas.Bool.{cases_order, true≢false}
@@ -11,11 +11,11 @@ use Rattle.profile.specs.series.Rules.{Parts, is_rule_day}
 use Rattle.profile.specs.series.Zones.{IsOffsetAt, Means, IsOneMeaning, local_time}
 use Rattle.profile.specs.events.EventRules.{IsOnDay}
 use Rattle.profile.specs.events.Events.{Method, Event, SaysEvent}
-use Rattle.profile.specs.events.Meetings.{Meeting as Whole}
+use Rattle.profile.specs.events.Meetings.{Meeting as Whole, is_master}
 use Rattle.profile.specs.events.Properties.{first_second}
 use Rattle.profile.specs.events.ZonedTimes.{clock_of}
 use Rattle.profile.specs.events.Starts.{key_at, IsGiven, IsRuleStart, IsInstance, IsDaysLater, EndsAt}
-use Rattle.profile.specs.events.Confirmed.{AreOfRule}
+use Rattle.profile.specs.events.Confirmed.{alone, has_series, IsOfSeries, AreOfRule}
 use Rattle.cal_zones.specs.Kinds.{zone_of}
 use Rattle.cal_zones.specs.declared.zone.Zone as kept
 use Rattle.cal_zones.proofs.Meant.{meant, in_force}
@@ -61,20 +61,17 @@ end_on times start = let l = later_on times.length.days in (l.0 +ℤ pos times.l
 module _ (master : EventComponent) (rule : Parts) (one : IsOneMeaning (clock_of (event_of master).times.zone)) where
   module _ (second : ℕ) where
     -- on a day before that one
-    IsBelow : ℕ → ℤ → Type 0
+    abbrev IsBelow : ℕ → ℤ → Type 0
     IsBelow k t = (day : ℕ) × (day < k) × (is_rule_day rule day ≡ true) × Means (clock_of (event_of master).times.zone) (local_time day second) t
 
     below : (k : ℕ) → (starts : List ℤ) × ((t : ℤ) → Contains starts t ↔ IsBelow k t)
-    unfolding IsBelow
     below zero = ([], λ t. ((λ c. absurd (none_in t c)), λ h. absurd (omega (arith, h.1))))
     below (suc n) = go (is_rule_day rule n) refl (below n)
       where
         later_day : (t : ℤ) → IsBelow n t → IsBelow (suc n) t
-        unfolding IsBelow
         later_day t h = (h.0, omega (arith, h.1), h.2, h.3)
 
         go : (b : Bool) → is_rule_day rule n ≡ b → (starts : List ℤ) × ((t : ℤ) → Contains starts t ↔ IsBelow n t) → (starts : List ℤ) × ((t : ℤ) → Contains starts t ↔ IsBelow (suc n) t)
-        unfolding IsBelow
         go true e r =
             let m = meant_on master.times.start.zone (local_time n second) in (
               m.0 ∷ r.0,
@@ -112,11 +109,9 @@ module _ (master : EventComponent) (rule : Parts) (one : IsOneMeaning (clock_of 
   HasStarts starts = (t : ℤ) → Contains starts t ↔ IsRuleStart (event_of master).times rule t
 
   rule_starts : (k : ℕ) → 3_652_424 < k → (starts : List ℤ) × HasStarts starts
-  unfolding IsBelow
   rule_starts k past = go (master.times.start.local +ℤ pos 62_167_219_200) refl
     where
       go : (d : ℤ) → master.times.start.local +ℤ pos 62_167_219_200 ≡ d → (starts : List ℤ) × HasStarts starts
-      unfolding IsBelow
       go (pos n) e =
           let second = n % 86_400 in
           let on : IsOnDay master.times.start.local (n / 86_400) second = (omega arith, omega (arith, ints, e)) in
@@ -189,12 +184,12 @@ module _ (master : EventComponent) (one : (a b : Booked) → IsInstance (of_mast
               ],
             ),
           )
-      go (inr no) r = (
+      go (inr not) r = (
         r.0,
         λ b. (
           (λ c. let h = (r.1 b).0 c in (later x b.start xs h.0, h.1)),
           λ h. elim (first_or_later x b.start xs h.0) [
-            | inl same ↦ absurd (no (subst IsShown (sym same) (own_shown b h.1)))
+            | inl same ↦ absurd (not (subst IsShown (sym same) (own_shown b h.1)))
             | inr d ↦ (r.1 b).1 (d, h.1)
           ],
         ),
@@ -219,8 +214,8 @@ listed_instances series =
       λ b. (
         (λ c. subst (λ (w : Whole). IsInstance w b) (sym m.2) ((all.1 b).0 c).1),
         λ h.
-        let k = subst (λ (w : Whole). IsInstance w b) m.2 h in
-        (all.1 b).1 ((starts.1 b.start).1 (starts_by_rule master rule ruled.1 (series.ruled.1.0 master m.1).1 b (at_start (event_of master) b k)), k),
+            let k = subst (λ (w : Whole). IsInstance w b) m.2 h in
+            (all.1 b).1 ((starts.1 b.start).1 (starts_by_rule master rule ruled.1 (series.ruled.1.0 master m.1).1 b (at_start (event_of master) b k)), k),
       ),
     )
   where
@@ -261,3 +256,35 @@ of_its_rule event series is = (
 
 pub said_timely : (object : Tree) {m : Option Method} (lines : List (List ℕ)) (event : Event) → SaysEvent object m lines event → IsTimely event
 said_timely object lines event s = let x = event_sound object lines event s in record { steady = x.steady; starts = x.starts }
+
+-- ---- each instance of an event is of its series, or apart from it
+
+abbrev starts_of : Series → List ℤ
+starts_of series = map (λ (y : Booked). y.start) (instances_of series)
+
+pub of_series_or_apart : (event : Event) (series : Series) → IsSeriesOf event (series_said series) → (b : Booked) → IsInstance (alone event) b → IsOfSeries event b ⊎ (IsOfSeries event b → ⊥)
+of_series_or_apart event series is b h = go (list_any (λ own. int_eq own b.start) (starts_of series)) refl
+  where
+    start_in : (all : List Booked) (y : Booked) → Contains all y → Contains (map (λ (z : Booked). z.start) all) y.start
+    start_in [] y c = absurd (none_in y c)
+    start_in (x ∷ all) y (zero, w, e) = (zero, omega arith, ap (λ (z : Booked). z.start) e)
+    start_in (x ∷ all) y (suc k, w, e) = later x.start y.start (map (λ (z : Booked). z.start) all) (start_in all y (k, omega (arith, w), e))
+
+    in_start : (all : List Booked) (t : ℤ) → Contains (map (λ (z : Booked). z.start) all) t → (y : Booked) × Contains all y × (y.start ≡ t)
+    in_start [] t c = absurd (none_in t c)
+    in_start (x ∷ all) t (zero, w, e) = (x, (zero, omega arith, refl), e)
+    in_start (x ∷ all) t (suc k, w, e) = let r = in_start all t (k, omega (arith, w), e) in (r.0, later x r.0 all r.1, r.2)
+
+    go : (found : Bool) → list_any (λ own. int_eq own b.start) (starts_of series) ≡ found → IsOfSeries event b ⊎ (IsOfSeries event b → ⊥)
+    go true e =
+        let y = in_start (instances_of series) b.start (has_at (starts_of series) b.start e) in
+        let of = ((is.instances y.0).0 (are_instances series y.0 y.1)).1 in
+        inl (record { master = of.master; rule = of.rule; has = of.has; starts = subst (IsRuleStart event.times of.rule) y.2 of.starts })
+    go false e = inr (λ of. true≢false (sym (has_from (starts_of series) b.start (start_in (instances_of series) b (all_instances series b ((is.instances b).1 (h, of))))) ∙ e))
+
+-- an event without a series has no instance of one
+pub apart_without : (event : Event) (b : Booked) → has_series event ≡ false → IsOfSeries event b → ⊥
+apart_without event b none of = true≢false (sym (both (is_master event) (is_some event.rule) of.master (ap (λ (o : Option Parts). is_some o) of.has)) ∙ none)
+  where
+    both : (a b : Bool) → a ≡ true → b ≡ true → (a && b) ≡ true
+    both a b p q = rw p (q)

@@ -22,7 +22,7 @@ use Rattle.cal_events.specs.Names.{name_said}
 use Rattle.cal_events.specs.Drafts.{override_key, override_keys, IsSaid}
 use Rattle.cal_events.specs.OwnInstances.{IsSteady}
 use Rattle.cal_events.specs.Ruled.{IsByItsRule, IsRuled, ruled_without}
-use Rattle.cal_events.specs.SaidSeries.{IsMasterOf, IsSeriesOf, IsLeftOf}
+use Rattle.cal_events.specs.SaidSeries.{IsSeriesOf, IsLeftOf}
 use Rattle.cal_events.specs.Meetings.{IsNamed}
 use Rattle.cal_events.specs.Overlapping.{HaveOneEnd, AreDated}
 use Rattle.cal_events.specs.Events.{event_of}
@@ -270,9 +270,9 @@ series_of event is some series same = record {
   has = both (is_master event) (is_some event.rule) is some;
   instances = λ b. (
     (λ h.
-    let x = of_ruled event [] b (subst (λ (m : Whole). IsInstance m b) same h) in
-    let r = given_rule event.times event.rule b.start some x.given in
-    (alone_master event b (no_recurrence event is) x.at, record { master = is; rule = r.0; has = r.1; starts = r.2 })),
+        let x = of_ruled event [] b (subst (λ (m : Whole). IsInstance m b) same h) in
+        let r = given_rule event.times event.rule b.start some x.given in
+        (alone_master event b (no_recurrence event is) x.at, record { master = is; rule = r.0; has = r.1; starts = r.2 })),
     λ h. subst (λ (m : Whole). IsInstance m b) (sym same) (to_ruled event [] b (record {
       at = master_alone event b (no_recurrence event is) h.0;
       given = rule_gives event.times event.rule h.1.rule b.start h.1.has h.1.starts;
@@ -286,12 +286,12 @@ series_of event is some series same = record {
     both a b p q = rw p (q)
 
 -- a series without some of its instances: nothing is added to its master
-pub left_of : (master : Event) → length master.additions ≡ 0 → (hidden : List ℤ) (series left : Whole) → series ≡ of_master master → left ≡ of_master (ruled_without master hidden) → IsLeftOf series hidden left
-left_of master none hidden series left same made = record {
+pub left_of : (master : Event) → length master.additions ≡ 0 → (hidden : List ℤ) (series rest : Whole) → series ≡ of_master master → rest ≡ of_master (ruled_without master hidden) → IsLeftOf series hidden rest
+left_of master none hidden series rest same made = record {
   instances = λ b. (
     (λ h. let x = of_ruled master hidden b (subst (λ (m : Whole). IsInstance m b) made h) in (subst (λ (m : Whole). IsInstance m b) (sym same) (from_start master b x.at), x.shown)),
     λ h. let x = at_start master b (subst (λ (m : Whole). IsInstance m b) same h.0) in
-    subst (λ (m : Whole). IsInstance m b) (sym made) (to_ruled master hidden b (record { at = x; given = elim x.starts.given [ inl g ↦ g | inr c ↦ absurd (none_in b.start (subst (λ (l : List ℤ). Contains l b.start) (empty_list master.additions none) c)) ]; shown = h.1 })),
+        subst (λ (m : Whole). IsInstance m b) (sym made) (to_ruled master hidden b (record { at = x; given = elim x.starts.given [ inl g ↦ g | inr c ↦ absurd (none_in b.start (subst (λ (l : List ℤ). Contains l b.start) (empty_list master.additions none) c)) ]; shown = h.1 })),
   );
   master = λ own is. let e : master ≡ own = same_Some master own (sym (ap (λ (m : Whole). m.master) same) ∙ is) in made ∙ ap (λ (m : Event). of_master (ruled_without m hidden)) e;
 }

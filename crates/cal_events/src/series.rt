@@ -61,11 +61,7 @@ impl Series {
     }
 
     /// That of a master by itself, without the instances at these starts. It fails only for memory.
-    fn of_copy(
-        alloc: Global,
-        master: &EventComponent,
-        starts: &[i64],
-    ) -> Result<Series, AllocError>
+    fn of_copy(alloc: Global, master: &EventComponent, starts: &[i64]) -> Result<Series, AllocError>
         requires clock { HasGoodClock (event_of master.now) }
         requires ends { HaveOneEnd (record { master = Some (ruled_without (event_of master.now) starts.now); overrides = [] }) }
         requires rule { is_some master.now.rule ≡ true }
