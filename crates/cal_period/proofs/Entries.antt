@@ -1,5 +1,5 @@
 -- Where a series is entered.
-use Rattle.std.proofs.Common.{◌≡◌, inl, inr, ◌⊎◌, subst, sym, arith, ℤ, pos, negsuc, ◌+ℤ◌, ◌-ℤ◌, ◌<ℤ◌, ◌≤ℤ◌, ap, w64}
+use Rattle.std.proofs.Common.{◌≡◌, inl, inr, ◌⊎◌, subst, sym, arith, ℤ, pos, negsuc, ◌*◌, ◌+ℤ◌, ◌-ℤ◌, ◌<ℤ◌, ◌≤ℤ◌, ap, w64}
 use Rattle.std.specs.Prelude.{Option, Some, None, option_map}
 use Rattle.std.specs.Int.{saturate_signed}
 use Rattle.std.proofs.lemmas.Bool.{cases_lt}

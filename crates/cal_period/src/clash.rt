@@ -1,5 +1,4 @@
 //! A search for a clash of two series. No memory is taken.
-ghost use Rattle.std.specs.Prelude.{ℤ};
 ghost use Rattle.cal_events.specs.SaidSeries.{series_said};
 ghost use Rattle.cal_period.specs.Onward.{IsSharedByPair, IsFirstStart, MeetFrom, IsEntry};
 
@@ -64,5 +63,6 @@ fn clash_onward<'a>(
 fn entry(series: &Series, by: i64) -> i64
     ensures { IsEntry (series_said series.now) by result }
 {
+    known_by_start();
     by.saturating_sub(series.width())
 }
