@@ -1,12 +1,11 @@
 -- Where a series is entered.
-use Rattle.std.proofs.Common.{◌≡◌, inl, inr, ◌⊎◌, subst, sym, arith, ℤ, pos, negsuc, ◌*◌, ◌+ℤ◌, ◌-ℤ◌, ◌<ℤ◌, ◌≤ℤ◌, ap, w64}
+use Rattle.std.proofs.Common.{◌≡◌, inl, inr, ◌⊎◌, subst, arith, ℤ, pos, negsuc, ◌*◌, ◌+ℤ◌, ◌-ℤ◌, ◌<ℤ◌, ◌≤ℤ◌, ap, w64}
 use Rattle.std.specs.Prelude.{Some, None, option_map, ◌↔◌}
 use Rattle.std.specs.Int.{saturate_signed, int_max}
 use Rattle.std.proofs.lemmas.Bool.{cases_lt}
 use Rattle.std.proofs.lemmas.Int.{ints, by_lt_z}
 use Rattle.profile.specs.checker.Instances.{Booked, horizon}
 use Rattle.profile.specs.series.Zones.{Zone, Means, IsBounds}
-use Rattle.profile.specs.events.Properties.{first_second, length_seconds}
 use Rattle.profile.specs.events.ZonedTimes.{EventTimes, clock_of}
 use Rattle.profile.specs.events.Events.{Event as Said}
 use Rattle.profile.specs.events.Meetings.{Meeting}

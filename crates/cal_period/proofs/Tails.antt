@@ -99,9 +99,8 @@ module _ (a b : Meeting) (by : ℤ) (from : MeetFrom a b by) (of_a of_b : Instan
       in_first = g.tail;
       in_second = at.in_second;
       abreast = abreast_past a b (place_of first.next) (place_of second.next) at.abreast next (ap place_of is) (place_of new.next) (no_later second.next before) g.further g.one
-      (λ y k s. meets_none_since b by (place_of second.next) second.last next at.in_second.last none y k s (shared_late b a by (from_turned a b by from) y (instance_of next) k.0 (next_is a of_a first.next next at.in_first.ahead is) s));
+          (λ y k s. meets_none_since b by (place_of second.next) second.last next at.in_second.last none y k s (shared_late b a by (from_turned a b by from) y (instance_of next) k.0 (next_is a of_a first.next next at.in_first.ahead is) s));
     }
-
       where
         own : next.start <ℤ horizon
         own = (at.in_first.ahead.known.dates (instance_of next) (next_is a of_a first.next next at.in_first.ahead is)).1

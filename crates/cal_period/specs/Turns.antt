@@ -1,6 +1,5 @@
 -- Which of two walks goes on.
 use Rattle.std.specs.Prelude.{◌≡◌, ◌≤ℤ◌, Some, None, IfSome}
-use Rattle.cal_events.specs.declared.instance.Instance.{Instance}
 use Rattle.cal_period.specs.declared.walk.Walk.{Walk}
 use Rattle.cal_period.specs.declared.abreast.Turn.{Turn}
 use Rattle.cal_period.specs.declared.abreast.Turn.TheVariants.{First, Second, Over}

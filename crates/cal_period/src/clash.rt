@@ -27,11 +27,7 @@ fn first_start(series: &Series) -> Option<i64>
 }
 
 /// Two instances, one of each series, that share an instant, where the later series begins at an instant.
-fn clash_onward<'a>(
-    a: &'a Series,
-    b: &'a Series,
-    from: i64,
-) -> Option<(Instance<'a>, Instance<'a>)>
+fn clash_onward<'a>(a: &'a Series, b: &'a Series, from: i64) -> Option<(Instance<'a>, Instance<'a>)>
     requires { MeetFrom (series_said a.now) (series_said b.now) from }
     ensures { IsSharedByPair (series_said a.now) (series_said b.now) result }
 {
