@@ -1,18 +1,17 @@
 -- Where a series is entered.
-use Rattle.std.proofs.Common.{◌≡◌, inl, inr, ◌⊎◌, subst, sym, arith, ℤ, pos, negsuc, ◌+ℤ◌, ◌-ℤ◌, ◌<ℤ◌, ◌≤ℤ◌, ap, w64}
-use Rattle.std.specs.Prelude.{Option, Some, None, option_map}
-use Rattle.std.specs.Int.{saturate_signed}
+use Rattle.std.proofs.Common.{◌≡◌, inl, inr, ◌⊎◌, subst, arith, ℤ, pos, negsuc, ◌*◌, ◌+ℤ◌, ◌-ℤ◌, ◌<ℤ◌, ◌≤ℤ◌, ap, w64}
+use Rattle.std.specs.Prelude.{Some, None, option_map, ◌↔◌}
+use Rattle.std.specs.Int.{saturate_signed, int_max}
 use Rattle.std.proofs.lemmas.Bool.{cases_lt}
-use Rattle.std.proofs.lemmas.Int.{ints}
+use Rattle.std.proofs.lemmas.Int.{ints, by_lt_z}
 use Rattle.profile.specs.checker.Instances.{Booked, horizon}
 use Rattle.profile.specs.series.Zones.{Zone, Means, IsBounds}
-use Rattle.profile.specs.events.Properties.{first_second, length_seconds}
 use Rattle.profile.specs.events.ZonedTimes.{EventTimes, clock_of}
 use Rattle.profile.specs.events.Events.{Event as Said}
 use Rattle.profile.specs.events.Meetings.{Meeting}
 use Rattle.profile.specs.events.Starts.{IsInstance, EndsAt, IsWidth}
 use Rattle.cal_events.specs.Events.{event_of}
-use Rattle.cal_events.specs.Left.{GivesFirst}
+use Rattle.cal_events.specs.Left.{IsLeft, GivesFirst}
 use Rattle.cal_events.specs.SaidSeries.{series_said, IsMasterOf, AreKnownByStart}
 use Rattle.cal_events.specs.declared.instance.Instance.{Instance}
 use Rattle.cal_events.specs.declared.instances.Instances.{Instances}
@@ -20,7 +19,7 @@ use Rattle.cal_events.specs.declared.series.Series.{Series}
 use Rattle.cal_events.proofs.DraftKeys.{some_there}
 use Rattle.cal_events.proofs.OwnSingles.{at_start}
 use Rattle.cal_events.proofs.SeriesLemmas.{alone_said}
-use Rattle.cal_period.specs.Walks.{AreAllLeft}
+use Rattle.cal_period.specs.Walks.{AreAllLeft, AreLeftFrom}
 use Rattle.cal_period.specs.Onward.{AreNoneBefore, IsFirstStart, MeetFrom, IsEntry}
 use Rattle.cal_period.proofs.Going.{at_first, not_less}
 
@@ -72,6 +71,9 @@ entry_is series by n entry known fits length last is =
       | inr at ↦ (omega (arith, ints, at, is, fits), λ b h l. let d = (known.dates b h).0 in absurd (omega (arith, ints, at, is, l, d)))
     ]
 
+pub entered : (series : Meeting) (by entry : ℤ) (left : Instances) → by <ℤ horizon → IsEntry series by entry → ((b : Booked) → IsLeft left b ↔ (IsInstance series b × (entry ≤ℤ b.start))) → AreLeftFrom series by entry left
+entered series by entry left before is others = record { early = omega (arith, ints, before, is.0); before = is.1; others = others }
+
 -- ---- the first starts
 
 pub first_at : (series : Meeting) (old new : Instances) (first : Instance) → AreKnownByStart series → AreAllLeft series old → GivesFirst old (Some first) new → IsFirstStart series (Some first.start)
@@ -85,6 +87,8 @@ first_at series old new first known all given =
 pub none_at : (series : Meeting) (old new : Instances) → AreKnownByStart series → AreAllLeft series old → GivesFirst old None new → IsFirstStart series None
 none_at series old new known all given b is = given.1.0 b ((all b).1 is)
 
-pub later_start : (a b : Meeting) (s t m : ℤ) → IsFirstStart a (Some s) → IsFirstStart b (Some t) → ((m ≡ s) × (t ≤ℤ s)) ⊎ ((m ≡ t) × (s ≤ℤ t)) → MeetFrom a b m
-later_start a b s t m f g (inl (e, l)) = record { before = omega (arith, ints, e, f.0); begins = inl (λ x h. let d = f.1 x h in omega (arith, ints, e, d)) }
-later_start a b s t m f g (inr (e, l)) = record { before = omega (arith, ints, e, g.0); begins = inr (λ x h. let d = g.1 x h in omega (arith, ints, e, d)) }
+pub later_start : (a b : Meeting) (s t m : ℤ) → IsFirstStart a (Some s) → IsFirstStart b (Some t) → m ≡ int_max s t → MeetFrom a b m
+later_start a b s t m f g is =
+    by_lt_z t s
+    (λ l. let e : m ≡ s = grind (arith, ints, is, l) in record { before = omega (arith, ints, e, f.0); begins = inl (λ x h. let d = f.1 x h in omega (arith, ints, e, d)) })
+    (λ l. let e : m ≡ t = grind (arith, ints, is, l) in record { before = omega (arith, ints, e, g.0); begins = inr (λ x h. let d = g.1 x h in omega (arith, ints, e, d)) })

@@ -102,7 +102,7 @@ at_first series old new first known all given =
 pub at_entry : (series : Meeting) (by entry : ℤ) (old new : Instances) (first : Option Instance) → AreKnownByStart series → AreLeftFrom series by entry old → GivesFirst old first new
     → Enters series by entry new (record { next = first; last = None; count = 0 })
 at_entry series by entry old new first known from given =
-    let a = advance series known entry from.early old new from.left first given in
+    let a = advance series known entry from.early old new from.others first given in
     let early = λ (b : Booked) (h : IsBehind series (place_of first) b). earlier_than b.start entry (λ late. omega (arith, ints, h.1, a.none b h.0 late)) in
     let over = λ (b : Booked) (h : IsBehind series (place_of first) b). from.before b h.0 (early b h) in
     record { tail = record { ahead = a.ahead; last = over }; none = early; over = over }

@@ -94,13 +94,23 @@ module _ (a b : Meeting) (by : ℤ) (from : MeetFrom a b by) (of_a of_b : Instan
         let behind = behind_since b by (place_of second.next) second.last last at.in_second.last m.0 in
         abreast_found a b (place_of first.next) (place_of second.next) at.abreast next (ap place_of is) own (at.in_first.ahead.known.dates (instance_of next) own).1 last behind (m.1, m.2)
 
-    pub onward_past : (rest : Instances) (new : Walk) → next.start ≤ℤ place_of second.next → MeetsNone second.last next → GoesOn a by next first rest new → AreOnward a b by rest of_b new second
+    pub onward_past : (rest : Instances) (new : Walk) → IfSome second.next (λ y. next.start ≤ℤ y.start) → MeetsNone second.last next → GoesOn a by next first rest new → AreOnward a b by rest of_b new second
     onward_past rest new before none g = record {
       in_first = g.tail;
       in_second = at.in_second;
-      abreast = abreast_past a b (place_of first.next) (place_of second.next) at.abreast next (ap place_of is) (place_of new.next) (omega (arith, ints, before, ap place_of is)) g.further g.one
-      (λ y k s. meets_none_since b by (place_of second.next) second.last next at.in_second.last none y k s (shared_late a b by from (instance_of next) y (next_is a of_a first.next next at.in_first.ahead is) k.0 (turned y (instance_of next) s)));
+      abreast = abreast_past a b (place_of first.next) (place_of second.next) at.abreast next (ap place_of is) (place_of new.next) (no_later second.next before) g.further g.one
+          (λ y k s. meets_none_since b by (place_of second.next) second.last next at.in_second.last none y k s (shared_late b a by (from_turned a b by from) y (instance_of next) k.0 (next_is a of_a first.next next at.in_first.ahead is) s));
     }
+      where
+        own : next.start <ℤ horizon
+        own = (at.in_first.ahead.known.dates (instance_of next) (next_is a of_a first.next next at.in_first.ahead is)).1
+
+        here : place_of first.next ≡ next.start
+        here = ap place_of is
+
+        no_later : (o : Option Instance) → IfSome o (λ y. next.start ≤ℤ y.start) → place_of first.next ≤ℤ place_of o
+        no_later None l = omega (arith, ints, here, own)
+        no_later (Some y) l = omega (arith, ints, here, l)
 
   -- what is still to come of the one shares nothing with the other
   still_clear : MeetsNoMore first second → (x y : Booked) → IsInstance a x → IsInstance b y → place_of first.next ≤ℤ x.start → Share x y → ⊥
@@ -111,7 +121,7 @@ module _ (a b : Meeting) (by : ℤ) (from : MeetFrom a b by) (of_a of_b : Instan
       go (Some i) late m =
           let end : place_of second.next ≡ horizon = ap place_of m.0 in
           let behind = all_behind b of_b second.next at.in_second.ahead (omega (arith, ints, end)) y k in
-          over_since b by (place_of second.next) second.last i.start at.in_second.last m.1 y x behind late (turned x y s) (shared_late a b by from x y h k s)
+          over_since b by (place_of second.next) second.last i.start at.in_second.last m.1 y x behind late (turned x y s) (shared_late b a by (from_turned a b by from) y x k h (turned x y s))
 
 pub onward_end : (a b : Meeting) (by : ℤ) → MeetFrom a b by → (of_a of_b : Instances) (first second : Walk) → AreOnward a b by of_a of_b first second → MeetsNoMore first second → MeetsNoMore second first → AreClear a b
 onward_end a b by from of_a of_b first second at none_a none_b x y h k s =

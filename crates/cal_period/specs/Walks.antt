@@ -78,7 +78,7 @@ pub record EndsLater (old : Option Instance) (next later : Instance) : Type 0 wh
 pub record AreLeftFrom (series : Meeting) (by entry : ℤ) (left : Instances) : Type 0 where
   pub early : entry ≤ℤ horizon
   pub before : (b : Booked) → IsInstance series b → b.start <ℤ entry → b.end ≤ℤ by
-  pub left : (b : Booked) → IsLeft left b ↔ (IsInstance series b × (entry ≤ℤ b.start))
+  pub others : (b : Booked) → IsLeft left b ↔ (IsInstance series b × (entry ≤ℤ b.start))
 
 -- the one of those behind that ends last, if there are any that aren't over by an instant
 abbrev pub IsLastSince : Meeting → ℤ → ℤ → Option Instance → Type 0

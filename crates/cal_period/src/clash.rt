@@ -1,5 +1,4 @@
 //! A search for a clash of two series. No memory is taken.
-ghost use Rattle.std.specs.Prelude.{ℤ};
 ghost use Rattle.cal_events.specs.SaidSeries.{series_said};
 ghost use Rattle.cal_period.specs.Onward.{IsSharedByPair, IsFirstStart, MeetFrom, IsEntry};
 
@@ -28,11 +27,7 @@ fn first_start(series: &Series) -> Option<i64>
 }
 
 /// Two instances, one of each series, that share an instant, where the later series begins at an instant.
-fn clash_onward<'a>(
-    a: &'a Series,
-    b: &'a Series,
-    from: i64,
-) -> Option<(Instance<'a>, Instance<'a>)>
+fn clash_onward<'a>(a: &'a Series, b: &'a Series, from: i64) -> Option<(Instance<'a>, Instance<'a>)>
     requires { MeetFrom (series_said a.now) (series_said b.now) from }
     ensures { IsSharedByPair (series_said a.now) (series_said b.now) result }
 {
@@ -64,5 +59,6 @@ fn clash_onward<'a>(
 fn entry(series: &Series, by: i64) -> i64
     ensures { IsEntry (series_said series.now) by result }
 {
+    known_by_start();
     by.saturating_sub(series.width())
 }
