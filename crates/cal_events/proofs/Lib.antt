@@ -5,6 +5,7 @@ pub mod TextLemmas
 pub mod EntryLemmas
 pub mod ReadingLemmas
 pub mod RuleLemmas
+pub mod SaidRules
 pub mod TreeLemmas
 pub mod Meanings
 pub mod NumberLemmas

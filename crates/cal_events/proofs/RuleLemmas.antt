@@ -1,6 +1,6 @@
 -- The rule that a text gives from the start of an event on.
 use Rattle.std.specs.List.{list_any}
-use Rattle.std.proofs.Common.{◌≡◌, ℕ, Bool, true, false, List, ◌<◌, filter, codes, sym, ap, refl, subst, inr, ℤ, pos, ◌-ℤ◌, to_z, of_z, w64, arith, ◌∙◌, cond, length, [], ◌∷◌, rules}
+use Rattle.std.proofs.Common.{◌≡◌, ℕ, Bool, true, false, List, filter, codes, sym, ap, refl, subst, inr, ℤ, pos, ◌-ℤ◌, to_z, of_z, w64, arith, ◌∙◌, cond, length, suc, [], ◌∷◌, ◌||◌}
 use Rattle.std.specs.Prelude.{Option, Some, None, Result, Ok, Err, IfOk, IfErr, IfSome, IsSome, MatchOption, ◌↔◌}
 use Rattle.std.proofs.lemmas.Bool.{false≢true, or_parts}
 use Rattle.ical_lines.specs.Fault.{RefusesBy}
@@ -101,7 +101,12 @@ none_named p (line ∷ lines) h =
     ap (λ b. cond b (line ∷ filter p lines) (filter p lines)) both.0 ∙ none_named p lines both.1
 
 pub some_named : (p : List ℕ → Bool) (lines : List (List ℕ)) → list_any p lines ≡ true → filter p lines ≡ [] → ⊥
-some_named p lines h missing = let k : 0 < length (filter p lines) = search rules in let e : length (filter p lines) ≡ 0 = ap length missing in absurd (omega (arith, k, e))
+some_named p [] h missing = false≢true h
+some_named p (line ∷ lines) h missing = go (some_named p lines) (p line) h missing
+  where
+    go : (list_any p lines ≡ true → filter p lines ≡ [] → ⊥) → (b : Bool) → (b || list_any p lines) ≡ true → cond b (line ∷ filter p lines) (filter p lines) ≡ [] → ⊥
+    go rest true h e = let k : suc (length (filter p lines)) ≡ 0 = ap length e in absurd (omega (arith, k))
+    go rest false h e = rest h e
 
 -- ---- what is said
 

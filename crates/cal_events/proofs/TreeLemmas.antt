@@ -15,9 +15,8 @@ use Rattle.profile.specs.text.Objects.{SpellsTree, has_version}
 use Rattle.profile.specs.text.Trees.{Tree, tree_name, tree_own, vevents}
 use Rattle.profile.specs.checker.Calendars.{CalendarFault, CalendarTextFault, in_lines, in_tree, no_version, in_vevents}
 use Rattle.cal_events.specs.Drafts.{IsDraftOf, IsDraftIn}
-use Rattle.profile.specs.faults.Faults.{is_calendar_fault}
+use Rattle.profile.specs.faults.Faults.{is_calendar_fault, is_meeting_event_fault}
 use Rattle.cal_events.specs.Events.{is_vevent, vevents_of}
-use Rattle.cal_events.specs.declared.component.Purpose.TheVariants.{Meeting}
 use Rattle.cal_events.specs.declared.draft.Draft.{Draft}
 use Rattle.cal_events.proofs.ReadingLemmas.{events_in}
 use Rattle.ical_values.proofs.Exits.{err_exit}

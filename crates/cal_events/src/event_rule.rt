@@ -56,8 +56,9 @@ impl SaidRule {
             → SaysTimes may_lack object lines (times_of times.now) → IfErr result (RefusesBy (EventRuleFault object lines)) }
     {
         match self.text {
-            Some(text) if has_start => Ok(Some(rule_from(text, times.start)?)),
-            Some(_) | None => Ok(None),
+            Some(_) if !has_start => Ok(None),
+            Some(text) => Ok(Some(rule_from(text, times.start)?)),
+            None => Ok(None),
         }
     }
 }

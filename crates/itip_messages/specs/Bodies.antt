@@ -73,9 +73,9 @@ IsTold (UntilInstant instant) = Unit {0}
 abbrev pub EndIsTold : Option Parts → Type 0
 EndIsTold rule = (said : Parts) → rule ≡ Some said → (end : Until) → said.until ≡ Some end → IsTold end
 
--- what a message's VEVENT says of when its event is: it has no rule, and all its instants lie in the dates that an event may name
+-- what a message's VEVENT says of when its event is: the end of its rule can be written, and its start and all that is added lie in the
+-- dates that an event may name
 pub record IsReady (event : Event) : Type 0 where
-  pub once : event.rule ≡ None
   pub ends : EndIsTold event.rule
   pub timely : IsTimely event
   pub listed : (instant : ℤ) → Contains event.additions instant → IsNamed instant

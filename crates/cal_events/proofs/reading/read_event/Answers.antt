@@ -1,6 +1,5 @@
 use Rattle.std.proofs.lemmas.Result.{IfErr-weaker}
 use Rattle.ical_lines.specs.Fault.{RefusesOnly, RefusesBy}
-use Rattle.ical_tree.specs.Tree.{component_lines}
 use Rattle.profile.specs.faults.Faults.{is_meeting_event_fault}
 use Rattle.profile.specs.events.Events.{EventFault}
 use Rattle.cal_events.specs.Events.{method_read}

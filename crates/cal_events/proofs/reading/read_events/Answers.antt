@@ -40,12 +40,12 @@ loop-component-preserved c =
     let here = subst (λ (l : List Component). x ≡ get_or l i x) same c.component-item.is in
     let new = c.if-is_named.events.items in
     elim c.if-is_named.branch [
-      | then-is_named+in_ok-read_event+in_ok-push w ↦ subst (λ vs. AllZip (SaysEvent object m) vs (map event_of new)) (sym (take_event all i x within here (sym w.if-is_named.ensures)))
-            (event_pushed object m (events_in (take i all)) (component_lines x) c.loop-component.events.items new w.in_ok-read_event.field-0 c.loop-component.invariant
-            (subst (λ (t : Tree). SaysEvent t m (component_lines x) (event_of w.in_ok-read_event.field-0)) (ap tree_of c.in_ok-zones.ensures.object) w.in_ok-read_event.ensures.says) (ap (λ v. v.items) w.events-is ∙ w.in_ok-push.ensures.items)),
-        read_event (has_unread_for c.args.purpose) all i x within here (sym w.if-is_named.ensures) c.loop-component.invariant.1 w.in_ok-read_event.ensures.read,
-      )
-      | else-is_named w ↦ (
-        subst (λ vs. AllZip (SaysEvent object m) vs (map event_of new)) (sym (take_other all i x within here (sym w.if-is_named.ensures)))
-            (subst (λ es. AllZip (SaysEvent object m) (events_in (take i all)) (map event_of es)) (sym (ap (λ v. v.items) w.events-is)) c.loop-component.invariant)
+      | then-is_named+in_ok-read_event+in_ok-push w ↦
+          subst (λ vs. AllZip (SaysEvent object m) vs (map event_of new)) (sym (take_event all i x within here (sym w.if-is_named.ensures)))
+          (event_pushed object m (events_in (take i all)) (component_lines x) c.loop-component.events.items new w.in_ok-read_event.field-0 c.loop-component.invariant
+          (subst (λ (t : Tree). SaysEvent t m (component_lines x) (event_of w.in_ok-read_event.field-0)) (ap tree_of c.in_ok-zones.ensures.object) w.in_ok-read_event.ensures.says)
+          (ap (λ v. v.items) w.events-is ∙ w.in_ok-push.ensures.items))
+      | else-is_named w ↦
+          subst (λ vs. AllZip (SaysEvent object m) vs (map event_of new)) (sym (take_other all i x within here (sym w.if-is_named.ensures)))
+          (subst (λ es. AllZip (SaysEvent object m) (events_in (take i all)) (map event_of es)) (sym (ap (λ v. v.items) w.events-is)) c.loop-component.invariant)
     ]

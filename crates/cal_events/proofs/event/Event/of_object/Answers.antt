@@ -1,10 +1,8 @@
-use Rattle.std.proofs.Common.{◌≡◌, sym, subst, ap, true, false, inl, inr, Bool, List, map, ℕ}
+use Rattle.std.proofs.Common.{◌≡◌, sym, subst, ap, map}
 use Rattle.std.specs.Prelude.{option_map, None}
-use Rattle.std.specs.Option.{option_to_list}
-use Rattle.std.specs.List.{list_any}
 use Rattle.ical_lines.specs.Fault.{RefusesBy}
 use Rattle.ical_tree.specs.Tree.{tree_of}
-use Rattle.profile.specs.events.Meetings.{Meeting as Said, SaysMeeting, MeetingFault}
+use Rattle.profile.specs.events.Meetings.{SaysMeeting, MeetingFault}
 use Rattle.profile.specs.checker.Instances.{Booked}
 use Rattle.ical_values.proofs.Exits.{err_exit}
 use Rattle.cal_events.specs.Events.{event_of}

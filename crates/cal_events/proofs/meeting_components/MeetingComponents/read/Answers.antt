@@ -1,10 +1,10 @@
-use Rattle.std.proofs.Common.{◌≡◌, ◌∙◌, ◌≢◌, ◌<◌, sym, subst, refl, Bool, List, map, filter, length, ℤ}
+use Rattle.std.proofs.Common.{◌≡◌, ◌≢◌, ◌<◌, subst, refl, Bool, List, map, filter, length, ℤ}
 use Rattle.std.specs.Prelude.{AllPairs, MatchBool, option_map}
 use Rattle.std.specs.Option.{option_to_list}
 use Rattle.profile.specs.events.Events.{Event}
 use Rattle.ical_lines.specs.Fault.{RefusesBy}
 use Rattle.ical_tree.specs.Tree.{tree_of}
-use Rattle.profile.specs.events.Meetings.{taken_by, is_master, is_override, AreOfOne, MeetingFault}
+use Rattle.profile.specs.events.Meetings.{is_master, is_override, AreOfOne, MeetingFault}
 use Rattle.ical_values.proofs.Exits.{err_exit}
 use Rattle.cal_events.specs.declared.component.EventComponent.{EventComponent}
 use Rattle.cal_events.specs.Events.{event_of, method_read, vevents_of, IsFaultAmong}
