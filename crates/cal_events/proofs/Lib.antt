@@ -33,6 +33,7 @@ pub mod OwnKeys
 pub mod DraftKeys
 pub mod OwnSingles
 pub mod SeriesLemmas
+pub mod RuleInstances
 pub mod DraftLemmas
 pub mod ConfirmedLemmas
 pub mod CalendarKeys
