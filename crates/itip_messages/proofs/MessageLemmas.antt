@@ -1,11 +1,11 @@
 -- What the lines of a message say, and what is wrong with them.
-use Rattle.std.proofs.Common.{◌≡◌, ◌∙◌, ℕ, zero, suc, ◌<◌, ◌+◌, Bool, true, false, ◌&&◌, ◌||◌, cond, eqb, ap₂, filter, take, List, [], ◌∷◌, ◌++◌, length, map, get_or, refl, sym, ap, subst, arith, inl, inr, Option, Some, None, IsSome, is_some, option_map, unwrap_or}
+use Rattle.std.proofs.Common.{◌≡◌, ◌∙◌, ℕ, zero, suc, ◌<◌, ◌+◌, Bool, true, false, not, ◌&&◌, ◌||◌, cond, eqb, ap₂, filter, take, List, [], ◌∷◌, ◌++◌, length, map, get_or, refl, sym, ap, subst, arith, inl, inr, Option, Some, None, IsSome, is_some, option_map, unwrap_or, ℤ}
 use Rattle.ical_lines.specs.Fault.{RefusesBy, RefusesOnly}
-use Rattle.std.specs.Prelude.{◌↔◌, Result, Ok, Err, IfErr, Contains, codes}
+use Rattle.std.specs.Prelude.{◌↔◌, MatchOption, Result, Ok, Err, IfErr, Contains, codes}
 use Rattle.std.specs.Option.{option_to_list}
 use Rattle.std.specs.List.{list_any, AllZip}
 use Rattle.std.specs.Str.{bytes_eq}
-use Rattle.std.proofs.lemmas.Bool.{true≢false}
+use Rattle.std.proofs.lemmas.Bool.{true≢false, and_parts}
 use Rattle.std.proofs.lemmas.List.{map-append, append-nil, length-map}
 use Rattle.std.proofs.lemmas.List.Elements.{filter_more, All-contains}
 use Rattle.ical_lines.specs.declared.fault.Fault.{Fault}
@@ -16,6 +16,7 @@ use Rattle.profile.specs.text.Lines.{line_value}
 use Rattle.profile.specs.text.Trees.{Tree, tree_own}
 use Rattle.profile.specs.events.Events as events
 use Rattle.profile.specs.events.Events.{Event}
+use Rattle.profile.specs.events.Confirmed.{has_series}
 use Rattle.profile.specs.events.Meetings.{Meeting, events_of, SaysMeeting, MeetingFault}
 use Rattle.profile.specs.rooms.Messages as profile
 use Rattle.profile.specs.rooms.Messages.{SaysMessage, NamesMethod, MethodFault, bad_method, unread_method, MessageFault, in_meeting, is_unread_method, is_method}
@@ -27,8 +28,11 @@ use Rattle.cal_events.specs.declared.component.Purpose.{Purpose}
 use Rattle.cal_events.specs.declared.meeting_components.MeetingComponents.{MeetingComponents}
 use Rattle.cal_events.specs.Events.{event_of, method_read}
 use Rattle.cal_events.specs.OneMeeting.{meeting_of, is_components_fault}
+use Rattle.cal_events.specs.SaidSeries.{IsSeriesOf, series_said}
+use Rattle.cal_events.specs.declared.series.Series.{Series}
 use Rattle.cal_events.proofs.EventLemmas.{some_line}
 use Rattle.cal_events.proofs.InOneOrder.{in_mapped, of_filtered}
+use Rattle.itip_order.specs.Parts.{slot_of}
 use Rattle.itip_order.proofs.Lists.{any_at, any_from}
 use Rattle.itip_messages.specs.declared.message.Message.{Message}
 use Rattle.itip_messages.specs.declared.message.MessageComponent.{MessageComponent}
@@ -282,6 +286,19 @@ module _ (room : List ℕ) (message : Message) (said : profile.Message) (s : Sta
     each = subst (λ (ps : List revisions.Part). AllZip IsPartOf (filter (is_part_for room said.method) s.events) ps) (sym are)
         (parts_zip (filter (is_part_for room said.method) s.events) (filter (has_part room message) message.components.items) kept_among kept_components);
   }
+
+-- ---- series
+
+-- what has a series is the whole meeting
+pub series_of_whole : (method : events.Method) (whole : Option revisions.Revision) (event : Event) (component : MessageComponent) → SaysComponent method whole event component
+    → (series : Series) → component.series ≡ Some series → slot_of component.slot ≡ revisions.Whole
+series_of_whole method whole event component s series is =
+    let of : IsSeriesOf event (series_said series) = subst (λ (o : Option Series). MatchOption o (has_series event ≡ false) (λ x. IsSeriesOf event (series_said x))) is s.series in
+    s.slot ∙ unnamed event.recurrence (and_parts (not (is_some event.recurrence)) (is_some event.rule) of.has).0
+  where
+    unnamed : (r : Option ℤ) → not (is_some r) ≡ true → profile.slot_named r ≡ revisions.Whole
+    unnamed None h = refl
+    unnamed (Some t) h = absurd (true≢false (sym h))
 
 -- ---- the loop over the components
 
