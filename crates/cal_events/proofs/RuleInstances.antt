@@ -245,12 +245,9 @@ left_instances series left starts is b = (
   λ c. all_instances left b ((is.instances b).1 (are_instances series b c.0, c.1)),
 )
 
--- those of an event's series are those that its rule gives
-pub of_its_rule : (event : Event) (series : Series) → IsSeriesOf event (series_said series) → AreOfRule event (Some (instances_of series))
-of_its_rule event series is = (
-  is.has,
-  λ b. ((λ c. (is.instances b).0 (are_instances series b c)), λ h. all_instances series b ((is.instances b).1 h)),
-)
+-- an event's series has those that its rule gives
+pub of_its_rule : (event : Event) (series : Series) → IsSeriesOf event (series_said series) → AreOfRule event (Some (series_said series))
+of_its_rule event series is = (is.has, is.instances)
 
 -- ---- the times of what was read
 
