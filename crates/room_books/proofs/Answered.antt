@@ -11,7 +11,7 @@ use Rattle.room_books.specs.declared.kept.Changes.{Changes}
 use Rattle.room_books.specs.declared.meeting.MeetingKey.{MeetingKey}
 use Rattle.room_books.specs.declared.meeting.Given.{Given}
 use Rattle.room_books.specs.declared.meeting.Outcome.{Outcome}
-use Rattle.room_books.specs.declared.taking.Claim.{Claim}
+use Rattle.room_books.specs.declared.claim.Claim.{Claim}
 use Rattle.room_books.specs.BySlot.{Reordered, left_without}
 use Rattle.room_books.specs.BySlot.Reordered.{re_then}
 use Rattle.room_books.specs.Instants.{IsParted}

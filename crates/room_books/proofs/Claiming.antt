@@ -34,7 +34,7 @@ use Rattle.profile.specs.rooms.Rooms.{is_set}
 use Rattle.profile.specs.streams.Streams.{AsksFor, IsClaim}
 use Rattle.profile.specs.text.Values.{IsClockSeconds}
 use Rattle.cal_events.specs.declared.instance.Single.{Single}
-use Rattle.room_books.specs.declared.taking.Claim.{Claim}
+use Rattle.room_books.specs.declared.claim.Claim.{Claim}
 use Rattle.room_books.specs.Claiming.{IsClaimIn, AreClaimed}
 use Rattle.room_books.specs.Takings.{body_content, booked_in, claim_said, claims_said}
 use Rattle.room_books.specs.Standing.{Pairwise, IsFitting, IsText, IsOfSlot, SlotDated}

@@ -19,7 +19,7 @@ use Rattle.room_books.specs.declared.kept.Meeting.{Meeting}
 use Rattle.room_books.specs.declared.meeting.Outcome.{Outcome}
 use Rattle.room_books.specs.declared.meeting.Outcome.TheVariants.{Accepted}
 use Rattle.room_books.specs.declared.meeting.Given.{Given}
-use Rattle.room_books.specs.declared.taking.Claim.{Claim as Asking}
+use Rattle.room_books.specs.declared.claim.Claim.{Claim as Asking}
 use Rattle.room_books.specs.Takings.{claim_said, claims_said, kind_view, AreAsked, IsAnswered, IsKindOf}
 use Rattle.room_books.specs.Views.{same_key, booked_list, all_singles, others, outcome_of}
 use Rattle.itip_order.specs.declared.part.Slot.{Slot}

@@ -19,7 +19,7 @@ use Rattle.room_books.specs.declared.meeting.Outcome.{Outcome}
 use Rattle.room_books.specs.declared.meeting.Outcome.TheVariants.{Accepted}
 use Rattle.cal_events.specs.declared.instance.Single.{Single}
 use Rattle.room_books.specs.declared.meeting.Given.{Given}
-use Rattle.room_books.specs.declared.taking.Claim.{Claim as Asking}
+use Rattle.room_books.specs.declared.claim.Claim.{Claim as Asking}
 use Rattle.room_books.specs.Takings.{claim_said, booked_in, IsAccepted, IsDecided}
 use Rattle.room_books.specs.Views.{booked_list, all_singles, slots_of, outcome_of}
 use Rattle.room_books.specs.Standing.{is_of, AreFitting, IsOwn, AreGiven, IsGiven, Pairwise, standing}

@@ -1,5 +1,5 @@
 -- What a message does to its meeting.
-use Rattle.std.specs.Prelude.{◌≡◌, ◌≢◌, ◌⊎◌, ◌↔◌, ◌<◌, ◌≤◌, ◌++◌, ℕ, ℤ, Bool, true, false, Contains, not, ◌&&◌, nat_lt, IsTrue, if◌then◌else◌, List, [], ◌∷◌, take, drop, ◌==◌, length, map, filter, AllPairs, Option, Some, None, option_copied, option_map, is_some, Vec}
+use Rattle.std.specs.Prelude.{◌≡◌, ◌≢◌, ◌⊎◌, ◌↔◌, ◌<◌, ◌≤◌, ◌++◌, ℕ, ℤ, Bool, true, false, Contains, not, ◌&&◌, nat_lt, IsTrue, if◌then◌else◌, List, [], ◌∷◌, take, drop, ◌==◌, length, map, filter, AllPairs, Option, Some, None, option_map, is_some, Vec}
 use Rattle.std.specs.List.{AllZip}
 use denote.Ref.{Bor}
 use Rattle.profile.specs.text.Values.{IsClockSeconds}
@@ -26,7 +26,7 @@ use Rattle.room_books.specs.BySlot.{Reordered, left_without}
 use Rattle.cal_events.specs.declared.instance.Single.{Single}
 use Rattle.room_books.specs.declared.meeting.Given.{Given}
 use Rattle.room_books.specs.declared.meeting.Outcome.{Outcome}
-use Rattle.room_books.specs.declared.taking.Claim.{Claim}
+use Rattle.room_books.specs.declared.claim.Claim.{Claim}
 use Rattle.room_books.specs.declared.meeting.MeetingKey.{MeetingKey}
 use Rattle.room_books.specs.Views.{outcome_of, all_singles, all_series, booked_list, joined, slots_of, IsClearIn, MayJoin, Recurs, SeriesMayJoin}
 use Rattle.room_books.specs.Instants.{IsPartOf}
@@ -89,7 +89,7 @@ claim_said claim = record {
   part = part_of claim.part;
   content = body_content (part_of claim.part).body;
   singles = map (booked_in (part_of claim.part)) claim.singles.items;
-  series = option_map (λ series. series_said series.now) claim.series;
+  series = option_map series_said claim.series;
 }
 
 abbrev pub claims_said : List Claim → List rooms.Claim
@@ -185,7 +185,7 @@ pub record IsAccepted (held : List revisions.Part) (claim : Claim) (moment : ℤ
   pub moment_is : given.moment ≡ moment
   pub outcome : outcome_of given.outcome ≡ messages.Accept
   pub singles : (history : List revisions.Part) → StandsFor held history → given.singles.items ≡ left_in history (part_of claim.part) claim.singles.items
-  pub series : (history : List revisions.Part) → StandsFor held history → IsSeriesLeft (rooms.is_hidden history (part_of claim.part)) (option_copied claim.series) given.series
+  pub series : (history : List revisions.Part) → StandsFor held history → IsSeriesLeft (rooms.is_hidden history (part_of claim.part)) claim.series given.series
   pub part : IsPartOf given.singles.items claim.singles.items
 
 -- a candidate with what was decided: it confirms something only where that is to accept it

@@ -1,6 +1,6 @@
 //! What a message asks of a room: a claim for each of its parts.
 
-ghost use Rattle.std.specs.Prelude.{◌≡◌, ◌<◌, ◌^◌, [], ◌∷◌, filter, IfOk, IfSome, Option, option_copied, if◌then◌else◌};
+ghost use Rattle.std.specs.Prelude.{◌≡◌, ◌<◌, ◌^◌, [], ◌∷◌, filter, IfOk, IfSome, Option, if◌then◌else◌};
 ghost use Rattle.std.specs.List.{AllZip, list_any};
 ghost use Rattle.ical_values.specs.Octets.{address_octets};
 ghost use Rattle.itip_messages.specs.Messages.{StandsFor, has_part};
@@ -8,9 +8,9 @@ ghost use Rattle.itip_order.specs.Parts.{part_of, slot_of};
 ghost use Rattle.profile.specs.rooms.Revisions.{Whole};
 ghost use Rattle.profile.specs.rooms.Messages as profile;
 ghost use Rattle.profile.specs.rooms.Rooms.{is_set};
-ghost use Rattle.room_books.specs.Claiming.{series_asked, AreClaimed, IsAsking, IsClaimIn};
+ghost use Rattle.room_books.specs.Claiming.{series_asked, AreClaimed, IsAsking, IsClaimIn, IsSameSeries};
 
-use crate::taking::{Claim, takes_place};
+use crate::claim::{Claim, takes_place};
 use cal_events::Series;
 use ical_values::Address;
 use itip_messages::{Message, MessageComponent};
@@ -18,11 +18,11 @@ use itip_order::{Part, Slot};
 use std::alloc::{AllocError, Global};
 
 /// The claims that a message has for a room, the whole meeting first and then its instances; none where it isn't addressed to it.
-pub fn claims_of<'a>(
+pub fn claims_of(
     alloc: Global,
-    message: &'a Message,
+    message: &Message,
     room: &Address,
-) -> Result<Vec<Claim<'a>>, AllocError>
+) -> Result<Vec<Claim>, AllocError>
     ensures { IfOk result (λ claims. (said : profile.Message) → StandsFor message.now said → AreClaimed (address_octets room.now) said claims.items) }
 {
     if !message.is_addressed_to(room) {
@@ -34,11 +34,11 @@ pub fn claims_of<'a>(
 /// A claim for each component that is a part for the room.
 // Apart from `claims_of`, which most rooms leave at its first line.
 #[inline(never)]
-fn all_claims<'a>(
+fn all_claims(
     alloc: Global,
-    message: &'a Message,
+    message: &Message,
     room: &Address,
-) -> Result<Vec<Claim<'a>>, AllocError>
+) -> Result<Vec<Claim>, AllocError>
     ensures { IfOk result (λ claims. AllZip (IsClaimIn (address_octets room.now) message.now) (filter (has_part (address_octets room.now) message.now) message.now.components.items) claims.items) }
 {
     let mut claims = Vec::new(alloc);
@@ -51,12 +51,12 @@ fn all_claims<'a>(
 }
 
 /// The claim that a component is for a room.
-fn claim_in<'a>(
+fn claim_in(
     alloc: Global,
     message: &Message,
-    component: &'a MessageComponent,
+    component: &MessageComponent,
     room: &Address,
-) -> Result<Claim<'a>, AllocError>
+) -> Result<Claim, AllocError>
     ensures { IfOk result (IsClaimIn (address_octets room.now) message.now component.now) }
 {
     let part = message.part(component, room)?;
@@ -64,18 +64,18 @@ fn claim_in<'a>(
 }
 
 /// The claim of a part that asks for the instances of a component, if it is to take place.
-fn claim_for<'a>(
+fn claim_for(
     alloc: Global,
     part: Part,
-    component: &'a MessageComponent,
-) -> Result<Claim<'a>, AllocError>
+    component: &MessageComponent,
+) -> Result<Claim, AllocError>
     ensures { IfOk result (IsAsking part component.now) }
 {
     let mut singles = Vec::new(alloc);
     let mut series = None;
     if takes_place(&part) {
         singles.extend_from_slice(&component.singles)?;
-        series = series_for(&part, component);
+        series = series_for(alloc, &part, component)?;
     }
     Ok(Claim {
         part,
@@ -84,13 +84,20 @@ fn claim_for<'a>(
     })
 }
 
-/// The series that a component has where its part is of the whole; an instance alone has none.
-fn series_for<'a>(part: &Part, component: &'a MessageComponent) -> Option<&'a Series>
-    ensures is { option_copied result ≡ series_asked (part_of part.now) component.now }
-    ensures whole { IfSome result (λ _. slot_of part.now.slot ≡ Whole) }
+/// A copy of the series that a component has, where its part is of the whole; an instance alone has none.
+fn series_for(
+    alloc: Global,
+    part: &Part,
+    component: &MessageComponent,
+) -> Result<Option<Series>, AllocError>
+    ensures same { IfOk result (IsSameSeries (series_asked (part_of part.now) component.now)) }
+    ensures whole { IfOk result (λ series. IfSome series (λ _. slot_of part.now.slot ≡ Whole)) }
 {
-    match part.slot {
-        Slot::Whole => component.series.as_ref(),
-        Slot::At(_) => None,
+    let Slot::Whole = part.slot else {
+        return Ok(None);
+    };
+    match &component.series {
+        Some(series) => Ok(Some(series.without(alloc, &[])?)),
+        None => Ok(None),
     }
 }

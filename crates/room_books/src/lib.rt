@@ -2,7 +2,9 @@
 #![tactic(auto)]
 
 pub mod answer;
+mod claim;
 mod claims;
+mod confirming;
 mod decide;
 mod gone;
 mod kept;

@@ -1,18 +1,15 @@
 //! The name of a meeting, and the answers to its parts.
 
-ghost use Rattle.std.specs.Prelude.{◌≡◌, map, IfOk, IfSome, OnOk, ◌++◌};
-ghost use Rattle.ical_values.specs.Octets.{address_octets, text_octets};
-ghost use Rattle.cal_events.specs.Calendars.{instance_of, owned_key_of};
+ghost use Rattle.std.specs.Prelude.{◌≡◌, IfOk, IfSome};
 ghost use Rattle.itip_order.specs.Parts.{slot_of};
 ghost use Rattle.profile.specs.rooms.Revisions as revisions;
-ghost use Rattle.room_books.specs.Views.{all_series, all_singles, booked_of, IsKeyOf};
 
 use crate::answer::LimitKind;
 use cal_events::{Instance, InstanceKey, OwnedKey, Series, Single};
 use clash_cert::Clash;
 use ical_values::{Address, Stamp, Text};
 use itip_order::Slot;
-use std::alloc::{AllocError, Global};
+use std::alloc::AllocError;
 
 /// A meeting's name: the UID of an ORGANIZER.
 #[derive(PartialEq, Eq, Hash, Drop)]
@@ -22,6 +19,10 @@ pub struct MeetingKey {
 }
 
 impl MeetingKey {
+    ghost use Rattle.ical_values.specs.Octets.{address_octets, text_octets};
+    ghost use Rattle.cal_events.specs.Calendars.{instance_of, owned_key_of};
+    ghost use Rattle.room_books.specs.Views.{booked_of, IsKeyOf};
+
     /// The name of the meeting that has this ORGANIZER's address and this UID, both copied (RFC 5545 3.8.4.7).
     /// It fails only where memory runs out.
     pub fn of(organiser: &Address, uid: &Text) -> Result<MeetingKey, AllocError>
@@ -85,42 +86,4 @@ pub struct Given {
     /// alone recurs.
     pub series: Option<Series>,
     ghost whole: { IfSome series (λ _. slot_of slot ≡ revisions.Whole) },
-}
-
-/// The instances that these answers confirm.
-pub(crate) fn singles_of(alloc: Global, answers: &[Given]) -> Result<Vec<Single>, AllocError>
-    ensures { IfOk result (λ singles. singles.items ≡ all_singles answers.now) }
-{
-    let mut singles = Vec::new(alloc);
-    for given in answers {
-        singles.extend_from_slice(&given.singles)?;
-    }
-    Ok(singles)
-}
-
-/// The series that these answers confirm.
-pub(crate) fn series_of<'a>(
-    alloc: Global,
-    answers: &'a [Given],
-) -> Result<Vec<&'a Series>, AllocError>
-    ensures { IfOk result (λ series. map (λ one. one.now) series.items ≡ all_series answers.now) }
-{
-    let mut series = Vec::new(alloc);
-    push_series(&mut series, answers)?;
-    Ok(series)
-}
-
-/// Puts the series that answers confirm behind others.
-pub(crate) fn push_series<'a>(
-    series: &mut Vec<&'a Series>,
-    answers: &'a [Given],
-) -> Result<(), AllocError>
-    ensures { OnOk result (map (λ one. one.now) series.new.items ≡ map (λ one. one.now) series.old.items ++ all_series answers.now) }
-{
-    for given in answers {
-        if let Some(one) = &given.series {
-            series.push(one)?;
-        }
-    }
-    Ok(())
 }

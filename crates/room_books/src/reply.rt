@@ -20,7 +20,7 @@ use crate::answer::LimitKind;
 use crate::kept::Changes;
 use crate::meeting::{Given, Outcome};
 use crate::slots::answer_after;
-use crate::taking::Claim;
+use crate::claim::Claim;
 use clash_cert::Clash;
 use ical_values::{Address, Stamp};
 use itip_messages::{Conflict, Decision, ObjectWriter, ReplyEvent, write_event};
@@ -34,7 +34,7 @@ use std::alloc::{AllocError, Global};
 pub fn reply_to(
     alloc: Global,
     room: &Address,
-    claims: &[Claim<'_>],
+    claims: &[Claim],
     held: &Together<'_>,
     before: &[Given],
     changes: &Changes,
@@ -56,9 +56,9 @@ pub fn reply_to(
 /// The claims that a reply answers: their parts are to take place, and in the view.
 fn shown_in<'a>(
     alloc: Global,
-    claims: &'a [Claim<'a>],
+    claims: &'a [Claim],
     held: &Together<'_>,
-) -> Result<Vec<&'a Claim<'a>>, AllocError>
+) -> Result<Vec<&'a Claim>, AllocError>
     ensures { IfOk result (λ shown. (history : List revisions.Part) → StandsFor held.now history → AreShown history claims.now shown.items) }
 {
     let mut shown = Vec::new(alloc);
@@ -74,7 +74,7 @@ fn shown_in<'a>(
 fn reply_of(
     alloc: Global,
     room: &Address,
-    shown: &[&Claim<'_>],
+    shown: &[&Claim],
     before: &[Given],
     changes: &Changes,
 ) -> Result<Vec<u8>, AllocError>
@@ -92,7 +92,7 @@ fn reply_of(
 fn write_answers(
     object: &mut ObjectWriter,
     room: &Address,
-    shown: &[&Claim<'_>],
+    shown: &[&Claim],
     before: &[Given],
     changes: &Changes,
 ) -> Result<(), AllocError>

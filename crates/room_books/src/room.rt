@@ -32,19 +32,21 @@ ghost use Rattle.room_books.specs.Takings.{StandsAt, IsMade, IsDecision, IsWhole
 ghost use Rattle.room_books.specs.Standing.{Stands, StepsWith, AreFitting, IsMeetingAfter, IsOwn, Meets, IsPutIn, IsRenewed};
 
 use crate::answer::{Answer, Kind, LimitKind};
+use crate::claim::Claim;
 use crate::claims::claims_of;
+use crate::confirming::{count_series, kept_series, series_of, singles_of};
 use crate::decide::{
     MOST_SERIES, Meetings, Shared, busy_beside_series, clash_between, decide, keys_differ,
 };
 use crate::gone::Gone;
 use crate::kept::{Changes, Meeting};
-use crate::meeting::{Given, MeetingKey, Outcome, series_of, singles_of};
+use crate::meeting::{Given, MeetingKey, Outcome};
 use crate::recurring::{Recurring, clash_from, push_all, single_beside};
 use crate::refresh::refresh_to;
 use crate::reply::reply_to;
-use crate::slots::{answers_of, count_series, kept_series, slots_of};
+use crate::slots::{answers_of, slots_of};
 use crate::taking::{
-    self, Kept, Views, candidates, decided, held_with, is_accept, parts_of,
+    Kept, Views, candidates, decided, held_with, is_accept, parts_of,
 };
 use crate::texts::{calendar_of, certificate_octets};
 use crate::timeline::Timeline;
@@ -204,7 +206,7 @@ impl Room {
     fn take_claims(
         &mut self,
         first: &Part,
-        claims: &[taking::Claim],
+        claims: &[Claim],
         adds: bool,
         now: Stamp,
     ) -> Result<Answer, AllocError>
@@ -239,7 +241,7 @@ impl Room {
         &self,
         key: &MeetingKey,
         first: &Part,
-        claims: &[taking::Claim],
+        claims: &[Claim],
         more: &Held,
         adds: bool,
         now: Stamp,
@@ -301,7 +303,7 @@ impl Room {
     fn refresh_of(
         &self,
         key: &MeetingKey,
-        claims: &[taking::Claim],
+        claims: &[Claim],
         adds: bool,
         held: &Together<'_>,
         moment: Stamp,
@@ -340,7 +342,7 @@ impl Room {
         &self,
         key: &MeetingKey,
         first: &Part,
-        claims: &[taking::Claim],
+        claims: &[Claim],
         held: &Together<'_>,
         now: Stamp,
     ) -> Result<Settled, AllocError>
@@ -385,7 +387,7 @@ impl Room {
         held: &Together<'_>,
         lost: Vec<Slot>,
         left: Vec<Given>,
-        asked: &[&taking::Claim],
+        asked: &[&Claim],
         gone: &[Single],
         now: Stamp,
     ) -> Result<Answered, AllocError>

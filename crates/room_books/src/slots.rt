@@ -1,25 +1,23 @@
 //! Slots: those of a message's parts, and the answers of a meeting by theirs.
 
-ghost use Rattle.std.specs.Prelude.{◌≡◌, ◌++◌, filter, length, map, IfOk, OnOk, IfSome, IfNone, Contains};
+ghost use Rattle.std.specs.Prelude.{◌≡◌, ◌++◌, filter, IfOk, OnOk, IfSome, IfNone, Contains};
 ghost use Rattle.std.specs.List.Sorted.{IsPermutation, IsSortedByKey};
 ghost use Rattle.profile.specs.rooms.Revisions.{slot_cmp};
 ghost use Rattle.itip_order.specs.Parts.{slot_of};
 ghost use Rattle.room_books.specs.declared.meeting.Given.{Given};
 ghost use Rattle.room_books.specs.Takings.{answers_then, parts_said};
 ghost use Rattle.room_books.specs.Touching as touching;
-ghost use Rattle.room_books.specs.Views.{all_series};
 ghost use Rattle.room_books.specs.Touching.{AllTouch};
-ghost use Rattle.room_books.specs.BySlot.{AreBySlot, givens, is_at, is_below, left_without, is_up_to, taken_at, IsPlace};
+ghost use Rattle.room_books.specs.BySlot.{AreBySlot, givens, is_at, is_below, is_up_to, taken_at, IsPlace};
 
 use crate::kept::Changes;
-use crate::meeting::{Given, push_series};
-use crate::taking::Claim;
-use cal_events::Series;
+use crate::meeting::Given;
+use crate::claim::Claim;
 use itip_order::Slot;
 use std::alloc::{AllocError, Global};
 
 /// The slots of the parts of these claims, in order.
-pub fn slots_of(alloc: Global, claims: &[Claim<'_>]) -> Result<Vec<Slot>, AllocError>
+pub fn slots_of(alloc: Global, claims: &[Claim]) -> Result<Vec<Slot>, AllocError>
     ensures rises { IfOk result (λ slots. IsSortedByKey slot_of slot_cmp slots.items) }
     ensures all { IfOk result (λ slots. AllTouch slots.items (parts_said claims.now)) }
 {
@@ -132,37 +130,4 @@ pub fn answer_after<'a>(before: &'a [Given], changes: &'a Changes, slot: Slot) -
         return None;
     };
     Some(given)
-}
-
-/// How many series answers confirm: a whole alone recurs.
-pub fn count_series(answers: &[Given]) -> usize
-    requires { AreBySlot answers.now }
-    ensures { result ≡ length (all_series answers.now) }
-{
-    let mut count = 0;
-    for given in answers_of(answers, Slot::Whole) {
-        if given.series.is_some() {
-            count += 1;
-        }
-    }
-    count
-}
-
-/// The series of the answers that stay where those of these slots, in order, are lost and this is left of them.
-pub fn kept_series<'a>(
-    alloc: Global,
-    answers: &'a [Given],
-    lost: &[Slot],
-    left: &'a [Given],
-) -> Result<Vec<&'a Series>, AllocError>
-    requires answers { AreBySlot answers.now }
-    requires lost { IsSortedByKey slot_of slot_cmp lost.now }
-    ensures { IfOk result (λ series. map (λ one. one.now) series.items ≡ all_series (left_without lost.now answers.now ++ left.now)) }
-{
-    let mut series = Vec::new(alloc);
-    if !is_touched(lost, Slot::Whole) {
-        push_series(&mut series, answers_of(answers, Slot::Whole))?;
-    }
-    push_series(&mut series, left)?;
-    Ok(series)
 }

@@ -22,40 +22,15 @@ ghost use Rattle.room_books.specs.Takings.{LeavesAll, StandsAt, held_after, AreA
 ghost use Rattle.room_books.specs.Takings.{IsLeftAlone, IsStill, kept_then, kind_view, parts_said, singles_left};
 
 use crate::answer::Kind;
+use crate::claim::Claim;
 use crate::kept::Meeting;
 use crate::meeting::{Given, Outcome};
 use crate::slots::{answers_at, answers_of, is_touched};
 use crate::series::{hides_start, series_beside, series_left};
-use cal_events::{Series, Single};
+use cal_events::Single;
 use ical_values::Stamp;
-use itip_order::{Body, Held, Part, Slot, Together};
+use itip_order::{Held, Part, Slot, Together};
 use std::alloc::{AllocError, Global};
-
-/// A part of a message, and the instances that it asks for: none where it isn't to take place.
-#[derive(Drop)]
-pub struct Claim<'a> {
-    pub part: Part,
-    pub singles: Vec<Single>,
-    /// Those that its RRULE gives, if it has one. A whole alone recurs.
-    pub series: Option<&'a Series>,
-    ghost whole: { IfSome series (λ _. slot_of part.slot ≡ revisions.Whole) },
-}
-
-impl<'a> Claim<'a> {
-    /// Whether the part is to take place.
-    pub fn is_set(&self) -> bool
-        ensures { result ≡ is_set (part_of self.now.part) }
-    {
-        takes_place(&self.part)
-    }
-}
-
-/// Whether a part is to take place.
-pub fn takes_place(part: &Part) -> bool
-    ensures { result ≡ is_set (part_of part.now) }
-{
-    matches!(part.body, Body::Set(_))
-}
 
 /// What becomes of the answers of a meeting before anything new is decided.
 #[derive(Drop)]
@@ -77,7 +52,7 @@ pub struct Views<'a> {
 }
 
 /// The parts of these claims, as they are taken.
-pub fn parts_of(alloc: Global, claims: &[Claim<'_>]) -> Result<Held, AllocError>
+pub fn parts_of(alloc: Global, claims: &[Claim]) -> Result<Held, AllocError>
     ensures { IfOk result (λ parts. StandsFor parts (parts_said claims.now)) }
 {
     let mut parts = Held::new(alloc);
@@ -135,8 +110,8 @@ impl<'a> Views<'a> {
     pub fn asked<'b>(
         &self,
         alloc: Global,
-        claims: &'b [Claim<'b>],
-    ) -> Result<Vec<&'b Claim<'b>>, AllocError>
+        claims: &'b [Claim],
+    ) -> Result<Vec<&'b Claim>, AllocError>
         ensures { IfOk result (λ asked. (before after : List revisions.Part) → StandsAt (option_copied self.now.before) before → StandsFor self.now.after.now after
             → AreAsked before after claims.now asked.items) }
     {
@@ -150,7 +125,7 @@ impl<'a> Views<'a> {
     }
 
     /// What became of a message with these claims, where this was decided of those that get an answer now.
-    pub fn kind_of(&self, claims: &[Claim<'_>], outcome: &Option<Outcome>) -> Result<Kind, AllocError>
+    pub fn kind_of(&self, claims: &[Claim], outcome: &Option<Outcome>) -> Result<Kind, AllocError>
         ensures { IfOk result (λ kind. (before after : List revisions.Part) → StandsAt (option_copied self.now.before) before → StandsFor self.now.after.now after
             → IsKindOf before after claims.now outcome.now kind) }
     {
@@ -166,7 +141,7 @@ impl<'a> Views<'a> {
         Ok(Kind::Stale)
     }
 
-    fn any_fresh(&self, claims: &[Claim<'_>]) -> bool
+    fn any_fresh(&self, claims: &[Claim]) -> bool
         ensures { (before after : List revisions.Part) → StandsAt (option_copied self.now.before) before → StandsFor self.now.after.now after
             → result ≡ list_any (rooms.is_fresh before after) (parts_said claims.now) }
     {
@@ -178,7 +153,7 @@ impl<'a> Views<'a> {
         false
     }
 
-    fn any_same(&self, claims: &[Claim<'_>]) -> bool
+    fn any_same(&self, claims: &[Claim]) -> bool
         ensures { (before after : List revisions.Part) → StandsAt (option_copied self.now.before) before → StandsFor self.now.after.now after
             → result ≡ list_any (rooms.is_same before after) (parts_said claims.now) }
     {
@@ -191,7 +166,7 @@ impl<'a> Views<'a> {
     }
 
     /// The first claim whose part is fresh where nothing of the whole was ever taken, if there is one.
-    pub fn unheard<'b>(&self, claims: &'b [Claim<'b>]) -> Option<&'b Claim<'b>>
+    pub fn unheard<'b>(&self, claims: &'b [Claim]) -> Option<&'b Claim>
         ensures found { IfSome result (λ claim. Contains claims.now claim.now) }
         ensures wanted { (before after : List revisions.Part) → StandsAt (option_copied self.now.before) before → StandsFor self.now.after.now after
             → is_some result ≡ list_any (λ part. rooms.is_fresh before after part && rooms.lacks_whole after part) (parts_said claims.now) }
@@ -463,13 +438,13 @@ impl Given {
     fn accepted(
         alloc: Global,
         held: &Together<'_>,
-        claim: &Claim<'_>,
+        claim: &Claim,
         moment: Stamp,
     ) -> Result<Given, AllocError>
         ensures { IfOk result (IsAccepted held.now claim.now moment) }
     {
         let singles = left_of(alloc, held, &claim.part, &claim.singles)?;
-        let series = match claim.series {
+        let series = match &claim.series {
             Some(series) => Some(series_left(alloc, held, &claim.part, series)?),
             None => None,
         };
@@ -579,7 +554,7 @@ fn is_hidden_by(slots: &[Slot], held: &Together<'_>, part: &Part, single: Single
 pub fn candidates(
     alloc: Global,
     held: &Together<'_>,
-    asked: &[&Claim<'_>],
+    asked: &[&Claim],
     moment: Stamp,
 ) -> Result<Vec<Given>, AllocError>
     ensures { IfOk result (λ given. AllZip (λ claim given. IsAccepted held.now claim.now moment given) asked.now given.items) }

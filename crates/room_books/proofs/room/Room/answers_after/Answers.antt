@@ -2,7 +2,7 @@ use Rattle.std.proofs.Common.{◌≡◌, ◌≢◌, ◌∙◌, ◌++◌, [], Lis
 use Rattle.std.specs.Prelude.{◌==◌}
 use denote.Ref.{Bor}
 use Rattle.std.proofs.lemmas.Bool.{true≢false}
-use Rattle.room_books.specs.declared.taking.Claim.{Claim}
+use Rattle.room_books.specs.declared.claim.Claim.{Claim}
 use Rattle.std.specs.Map.{lookup}
 use Rattle.std.proofs.lemmas.Grind.{common_steps}
 use Rattle.room_books.specs.declared.meeting.Given.{Given}
