@@ -1,9 +1,9 @@
 //! What a part of a message asks of a room.
 
-ghost use Rattle.std.specs.Prelude.{◌≡◌, IfSome};
-ghost use Rattle.itip_order.specs.Parts.{part_of, slot_of};
-ghost use Rattle.profile.specs.rooms.Revisions as revisions;
+ghost use Rattle.std.specs.Prelude.{◌≡◌, true};
+ghost use Rattle.itip_order.specs.Parts.{part_of};
 ghost use Rattle.profile.specs.rooms.Rooms.{is_set};
+ghost use Rattle.room_books.specs.Wholes.{is_of_whole};
 
 use cal_events::{Series, Single};
 use itip_order::{Body, Part};
@@ -15,7 +15,7 @@ pub struct Claim {
     pub singles: Vec<Single>,
     /// Those that its RRULE gives, if it has one. A whole alone recurs.
     pub series: Option<Series>,
-    ghost whole: { IfSome series (λ _. slot_of part.slot ≡ revisions.Whole) },
+    ghost whole: { is_of_whole series part.slot ≡ true },
 }
 
 impl Claim {

@@ -1,11 +1,11 @@
 //! What a message asks of a room: a claim for each of its parts.
 
-ghost use Rattle.std.specs.Prelude.{◌≡◌, ◌<◌, ◌^◌, [], ◌∷◌, filter, IfOk, IfSome, Option, if◌then◌else◌};
+ghost use Rattle.std.specs.Prelude.{◌≡◌, ◌<◌, ◌^◌, [], ◌∷◌, filter, true, IfOk, Option, if◌then◌else◌};
 ghost use Rattle.std.specs.List.{AllZip, list_any};
 ghost use Rattle.ical_values.specs.Octets.{address_octets};
 ghost use Rattle.itip_messages.specs.Messages.{StandsFor, has_part};
-ghost use Rattle.itip_order.specs.Parts.{part_of, slot_of};
-ghost use Rattle.profile.specs.rooms.Revisions.{Whole};
+ghost use Rattle.itip_order.specs.Parts.{part_of};
+ghost use Rattle.room_books.specs.Wholes.{is_of_whole};
 ghost use Rattle.profile.specs.rooms.Messages as profile;
 ghost use Rattle.profile.specs.rooms.Rooms.{is_set};
 ghost use Rattle.room_books.specs.Claiming.{series_asked, AreClaimed, IsAsking, IsClaimIn, IsSameSeries};
@@ -91,7 +91,7 @@ fn series_for(
     component: &MessageComponent,
 ) -> Result<Option<Series>, AllocError>
     ensures same { IfOk result (IsSameSeries (series_asked (part_of part.now) component.now)) }
-    ensures whole { IfOk result (λ series. IfSome series (λ _. slot_of part.now.slot ≡ Whole)) }
+    ensures whole { IfOk result (λ series. is_of_whole series part.now.slot ≡ true) }
 {
     let Slot::Whole = part.slot else {
         return Ok(None);

@@ -1,8 +1,7 @@
 //! The name of a meeting, and the answers to its parts.
 
-ghost use Rattle.std.specs.Prelude.{◌≡◌, IfOk, IfSome};
-ghost use Rattle.itip_order.specs.Parts.{slot_of};
-ghost use Rattle.profile.specs.rooms.Revisions as revisions;
+ghost use Rattle.std.specs.Prelude.{◌≡◌, true, IfOk};
+ghost use Rattle.room_books.specs.Wholes.{is_of_whole};
 
 use crate::answer::LimitKind;
 use cal_events::{Instance, InstanceKey, OwnedKey, Series, Single};
@@ -85,5 +84,5 @@ pub struct Given {
     /// The instances that its RRULE gives, without those that another part in the view stands for. None unless the part was accepted. A whole
     /// alone recurs.
     pub series: Option<Series>,
-    ghost whole: { IfSome series (λ _. slot_of slot ≡ revisions.Whole) },
+    ghost whole: { is_of_whole series slot ≡ true },
 }
