@@ -6,6 +6,9 @@ pub mod Timelines
 pub mod Changing
 pub mod Places
 pub mod Same
+pub mod SameSeries
+pub mod SeriesLeft
+pub mod Rekeyed
 pub mod Deciding
 pub mod Putting
 pub mod Meetings
