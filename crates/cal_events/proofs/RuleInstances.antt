@@ -28,7 +28,7 @@ use Rattle.cal_events.specs.declared.event_times.EventTimes as declared
 use Rattle.cal_events.specs.declared.series.Series.{Series}
 use Rattle.cal_events.proofs.DraftKeys.{some_there}
 use Rattle.cal_events.proofs.HiddenLemmas.{has_at, has_from}
-use Rattle.cal_events.proofs.InOneOrder.{first_or_later, later, none_in}
+use Rattle.cal_events.proofs.InOneOrder.{first_or_later, later, none_in, in_mapped, of_mapped}
 use Rattle.cal_events.proofs.InstanceLemmas.{last_of_rule, one_second}
 use Rattle.cal_events.proofs.Meanings.{utc_means}
 use Rattle.cal_events.proofs.OneInstance.{event_sound}
@@ -265,22 +265,12 @@ starts_of series = map (λ (y : Booked). y.start) (instances_of series)
 pub of_series_or_apart : (event : Event) (series : Series) → IsSeriesOf event (series_said series) → (b : Booked) → IsInstance (alone event) b → IsOfSeries event b ⊎ (IsOfSeries event b → ⊥)
 of_series_or_apart event series is b h = go (list_any (λ own. int_eq own b.start) (starts_of series)) refl
   where
-    start_in : (all : List Booked) (y : Booked) → Contains all y → Contains (map (λ (z : Booked). z.start) all) y.start
-    start_in [] y c = absurd (none_in y c)
-    start_in (x ∷ all) y (zero, w, e) = (zero, omega arith, ap (λ (z : Booked). z.start) e)
-    start_in (x ∷ all) y (suc k, w, e) = later x.start y.start (map (λ (z : Booked). z.start) all) (start_in all y (k, omega (arith, w), e))
-
-    in_start : (all : List Booked) (t : ℤ) → Contains (map (λ (z : Booked). z.start) all) t → (y : Booked) × Contains all y × (y.start ≡ t)
-    in_start [] t c = absurd (none_in t c)
-    in_start (x ∷ all) t (zero, w, e) = (x, (zero, omega arith, refl), e)
-    in_start (x ∷ all) t (suc k, w, e) = let r = in_start all t (k, omega (arith, w), e) in (r.0, later x r.0 all r.1, r.2)
-
     go : (found : Bool) → list_any (λ own. int_eq own b.start) (starts_of series) ≡ found → IsOfSeries event b ⊎ (IsOfSeries event b → ⊥)
     go true e =
-        let y = in_start (instances_of series) b.start (has_at (starts_of series) b.start e) in
+        let y = of_mapped (λ (z : Booked). z.start) (instances_of series) b.start (has_at (starts_of series) b.start e) in
         let of = ((is.instances y.0).0 (are_instances series y.0 y.1)).1 in
         inl (record { master = of.master; rule = of.rule; has = of.has; starts = subst (IsRuleStart event.times of.rule) y.2 of.starts })
-    go false e = inr (λ of. true≢false (sym (has_from (starts_of series) b.start (start_in (instances_of series) b (all_instances series b ((is.instances b).1 (h, of))))) ∙ e))
+    go false e = inr (λ of. true≢false (sym (has_from (starts_of series) b.start (in_mapped (λ (z : Booked). z.start) (instances_of series) b (all_instances series b ((is.instances b).1 (h, of))))) ∙ e))
 
 -- an event without a series has no instance of one
 pub apart_without : (event : Event) (b : Booked) → has_series event ≡ false → IsOfSeries event b → ⊥
