@@ -1,13 +1,13 @@
 //! The rule of a VEVENT (RFC 5545 3.3.10, 3.8.5.3): first the text of its RRULE, then the rule that it gives from the event's start on.
 
-ghost use Rattle.std.specs.List.{list_any};
-ghost use Rattle.profile.specs.events.Properties.{is_of};
 ghost use Rattle.std.specs.Prelude.{◌≡◌, ◌<◌, ℕ, List, IfOk, IfErr, MatchOption, Some, option_map, Bool, codes};
+ghost use Rattle.std.specs.List.{list_any};
 ghost use Rattle.ical_lines.specs.Fault.{RefusesBy};
 ghost use Rattle.cal_rules.specs.Views.{until_of};
 ghost use Rattle.cal_zones.specs.Kinds.{zone_of};
 ghost use Rattle.profile.specs.series.Days.{day_index};
 ghost use Rattle.profile.specs.text.Trees.{Tree};
+ghost use Rattle.profile.specs.events.Properties.{is_of};
 ghost use Rattle.profile.specs.events.ZonedTimes.{SaysTimes, clock_of};
 ghost use Rattle.profile.specs.events.EventRules as event_rules;
 ghost use Rattle.profile.specs.events.EventRules.{IsLastAllowed, AllowsNone, GivesRule, SaysEventRule, IsOutside, EventRuleFault};
@@ -46,8 +46,8 @@ impl SaidRule {
         Ok(SaidRule { text })
     }
 
-    /// The rule of an event with these times, whose DTSTART stands or doesn't. None where there is no RRULE, or no DTSTART from which it would
-    /// give days, as there need be none in what is cancelled.
+    /// The rule of an event with these times, with DTSTART or without. None where RRULE is missing, and where DTSTART is, as it may be in what
+    /// is cancelled: then there is no day to begin from.
     /// Refused: 34 where DTSTART isn't one of the rule's days, or UNTIL leaves no day.
     pub(crate) fn judge(self, times: &EventTimes, has_start: bool) -> Result<Option<Rule>, Fault>
         ensures says { (lines : List (List ℕ)) → IsRuleSaid lines self → has_start ≡ list_any (is_of (codes "DTSTART")) lines

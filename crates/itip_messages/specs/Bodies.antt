@@ -1,5 +1,5 @@
 -- What the octets of a body are.
-use Rattle.std.specs.Prelude.{◌≡◌, ℕ, ◌≤◌, ◌-◌, Bool, ◌&&◌, ◌==◌, nat_lt, get_or, if◌then◌else◌, Contains, List, [], ◌∷◌, ◌++◌, codes, take, drop, length, option_map, unwrap_or, Option, None, Some, ℤ, pos, ◌≤ℤ◌}
+use Rattle.std.specs.Prelude.{◌≡◌, ℕ, ◌≤◌, ◌-◌, Bool, ◌&&◌, ◌==◌, nat_lt, get_or, if◌then◌else◌, Contains, List, [], ◌∷◌, ◌++◌, codes, take, drop, length, option_map, unwrap_or, Option, Some, ℤ, pos, ◌≤ℤ◌}
 use Rattle.std.specs.List.{flat_map, AllZip, position_or_len}
 use Rattle.profile.specs.text.Values.{WritesStamp}
 use Rattle.profile.specs.events.Properties.{BothOrNeither}
