@@ -12,6 +12,7 @@ use cal_events::{Instance, Series, known_by_start};
 pub fn clash_of_pair<'a>(a: &'a Series, b: &'a Series) -> Option<(Instance<'a>, Instance<'a>)>
     ensures { IsSharedByPair (series_said a.now) (series_said b.now) result }
 {
+    known_by_start();
     let first = first_start(a)?;
     let second = first_start(b)?;
     clash_onward(a, b, first.max(second))
