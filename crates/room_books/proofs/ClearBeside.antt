@@ -33,7 +33,7 @@ use Rattle.room_books.proofs.Rekeyed.{of_series, to_series}
 
 -- ---- places of lists
 
-none_some : {X : Type 0} (x : X) → None ≡ Some x → ⊥
+pub none_some : {X : Type 0} (x : X) → None ≡ Some x → ⊥
 none_some x e = true≢false (sym (ap (λ o. is_some o) e))
 
 module _ {X : Type 0} where

@@ -1,32 +1,38 @@
 -- The series of a room's meetings: those of a meeting, those of the others, and where they stand.
-use Rattle.std.proofs.Common.{◌≡◌, ◌≢◌, ◌∙◌, ◌<◌, ◌≤◌, ◌+◌, ℕ, Bool, true, false, not, cond, List, [], ◌∷◌, ◌++◌, ◌⊎◌, inl, inr, length, get_or, map, take, subst, sym, refl, ap, arith, Option, None, Some}
+use Rattle.std.proofs.Common.{◌≡◌, ◌≢◌, ◌∙◌, ◌<◌, ◌≤◌, ◌+◌, ℕ, Bool, true, false, not, cond, List, [], ◌∷◌, ◌++◌, ◌⊎◌, inl, inr, length, get_or, map, take, append_assoc, subst, sym, refl, ap, arith, length-append, Option, None, Some}
 use Rattle.std.specs.Prelude.{slice_get, ◌==◌}
 use Rattle.std.specs.List.{Contains, IsDistinct, filter, flat_map, list_any, position}
 use Rattle.std.specs.Option.{option_eq, option_to_list}
 use Rattle.std.specs.Ordering.{is_eq}
 use Rattle.std.specs.Map.{lookup, keys_of}
 use Rattle.std.proofs.lemmas.Bool.{cases_Bool, both_ways, not-true, eq-eqb, eqb-true}
-use Rattle.std.proofs.lemmas.List.{get_or_default}
+use Rattle.std.proofs.lemmas.List.{get_or_default, length-map, map-append}
 use Rattle.std.proofs.lemmas.List.Elements.{Contains-append_left, Contains-append_right, Contains-append_cases}
 use Rattle.std.proofs.lemmas.Option.{slice_get_within, slice_get-get_or, get_or_from_slice_get}
 use Rattle.itip_order.proofs.Lists.{none_in_nil, in_cons, filter_at, filter_from, any_at, any_from}
 use Rattle.itip_order.specs.declared.part.Slot.{Slot}
 use Rattle.itip_order.specs.Parts.{slot_of}
+use denote.Ref.{Bor}
+use Rattle.profile.specs.checker.Instances.{Booked}
+use Rattle.profile.specs.events.Confirmed.{IsInSeries}
 use Rattle.profile.specs.events.Meetings.{Meeting as Whole}
+use Rattle.profile.specs.events.Starts.{IsInstance}
 use Rattle.profile.specs.rooms.Revisions as revisions
+use Rattle.cal_events.specs.declared.instance.Single.{Single}
 use Rattle.cal_events.specs.declared.series.Series.{Series}
 use Rattle.room_books.specs.declared.kept.Meeting.{Meeting}
 use Rattle.room_books.specs.declared.meeting.Given.{Given}
 use Rattle.room_books.specs.declared.meeting.MeetingKey.{MeetingKey}
 use Rattle.room_books.specs.declared.recurring.Recurring.{Recurring}
 use Rattle.room_books.specs.BySlot.{is_at}
-use Rattle.room_books.specs.Recurrings.{AreAllOf, recurring_said}
+use Rattle.room_books.specs.Recurrings.{AreAllOf, keyed_of, recurring_said}
 use Rattle.room_books.specs.Timelines.{is_place}
-use Rattle.room_books.specs.Views.{all_series, has_place, is_other, other_recurring, recurring_at, recurring_by, recurring_of, same_key, series_at, series_in, series_list, series_of, AreRecurring}
+use Rattle.room_books.specs.Views.{all_series, booked_of, has_place, is_other, other_recurring, recurring_at, recurring_by, recurring_of, same_key, series_at, series_in, series_list, series_of, AreRecurring}
 use Rattle.room_books.specs.Wholes.{is_of_whole}
 use Rattle.room_books.proofs.Loops.{one_more}
 use Rattle.room_books.proofs.Pairs.{flat_at, flat_from, map_at, map_from}
-use Rattle.room_books.proofs.Places.{key_at}
+use Rattle.room_books.proofs.Places.{booked_differs, key_at}
+use Rattle.room_books.proofs.Rekeyed.{of_series}
 
 -- ---- a whole alone recurs
 
@@ -118,3 +124,40 @@ place_eq (Some p) place = refl
 
 pub place_there : (places lent : List ℕ) → lent ≡ places → (i : ℕ) → i < length lent → get_or lent i 0 ≡ get_or places i (get_or lent i 0)
 place_there places lent e i within = ap (λ l. get_or l i 0) e ∙ get_or_default places i 0 (get_or lent i 0) (subst (λ (l : List ℕ). i < length l) e within)
+
+-- an instance of a series of another meeting has a key of its own
+pub other_series_differ : (k : MeetingKey) (es : List (MeetingKey × Meeting)) (x : Single) (b : Booked) → IsInSeries (other_recurring k es) b → b.key ≢ (booked_of k x).key
+other_series_differ k es x b (one, among, is) =
+    let f = flat_at recurring_of (filter (is_other k) es) one among in
+    let s = map_at (series_of f.0.0) (all_series f.0.1.answers.items) one f.2 in
+    let y = of_series f.0.0 s.0 b (subst (λ (w : Whole). IsInstance w b) (sym s.2) is) in
+    λ e. booked_differs k f.0.0 x y.0 (not-true _ (filter_at (is_other k) es f.0 f.1).1) (sym (ap (λ (z : Booked). z.key) y.2) ∙ e)
+
+-- ---- series of the meeting are put behind those of the others
+
+abbrev pub lent_keyed : MeetingKey → Bor Series → MeetingKey × Series
+lent_keyed k one = (k, one.now)
+
+abbrev pub own_keyed : MeetingKey → Series → MeetingKey × Series
+own_keyed k one = (k, one)
+
+abbrev pub now_of : List (Bor Series) → List Series
+now_of lent = map (λ (one : Bor Series). one.now) lent
+
+keyed_now : (k : MeetingKey) (lent : List (Bor Series)) → map (lent_keyed k) lent ≡ map (own_keyed k) (now_of lent)
+keyed_now k [] = refl
+keyed_now k (one ∷ lent) = ap (λ l. lent_keyed k one ∷ l) (keyed_now k lent)
+
+module _ (k : MeetingKey) (first mid all : List Recurring) (kept wanted : List (Bor Series))
+    (kept_is : map keyed_of mid ≡ map keyed_of first ++ map (lent_keyed k) kept) (wanted_is : map keyed_of all ≡ map keyed_of mid ++ map (lent_keyed k) wanted) where
+  pub pushed_both : map keyed_of all ≡ map keyed_of first ++ map (own_keyed k) (now_of kept ++ now_of wanted)
+  pushed_both =
+      wanted_is ∙ ap (λ l. l ++ map (lent_keyed k) wanted) (kept_is ∙ ap (λ l. map keyed_of first ++ l) (keyed_now k kept))
+      ∙ ap (λ l. (map keyed_of first ++ map (own_keyed k) (now_of kept)) ++ l) (keyed_now k wanted)
+      ∙ append_assoc (map keyed_of first) (map (own_keyed k) (now_of kept)) (map (own_keyed k) (now_of wanted))
+      ∙ ap (λ l. map keyed_of first ++ l) (sym (map-append (own_keyed k) (now_of kept) (now_of wanted)))
+
+  pub pushed_from : length mid ≡ length first + length (now_of kept)
+  pushed_from =
+      let a = length-map mid keyed_of in let b = length-map first keyed_of in let c = length-map kept (lent_keyed k) in let d = length-map kept (λ (one : Bor Series). one.now) in
+      omega (arith, a, b, c, d, ap length kept_is, length-append (map keyed_of first) (map (lent_keyed k) kept))
