@@ -81,3 +81,4 @@ pub mod HiddenStarts
 pub mod Recurrings
 pub mod ClearBeside
 pub mod RoomSeries
+pub mod PutSeries
