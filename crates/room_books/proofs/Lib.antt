@@ -82,3 +82,5 @@ pub mod Recurrings
 pub mod ClearBeside
 pub mod RoomSeries
 pub mod PutSeries
+pub mod WholeDeciding
+pub mod AllConfirmed
