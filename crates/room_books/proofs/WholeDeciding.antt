@@ -13,12 +13,13 @@ use Rattle.profile.specs.checker.Instances.{Booked, Key}
 use Rattle.profile.specs.events.Confirmed.{Confirmed, IsOneOf}
 use Rattle.profile.specs.rooms.Messages as messages
 use Rattle.profile.specs.rooms.Rooms.{is_accept, most_series, most_singles}
+use Rattle.itip_order.specs.declared.part.Slot.{Slot}
 use Rattle.room_books.specs.declared.kept.Meeting.{Meeting}
 use Rattle.room_books.specs.declared.meeting.Given.{Given}
 use Rattle.room_books.specs.declared.meeting.MeetingKey.{MeetingKey}
 use Rattle.room_books.specs.declared.meeting.Outcome.{Outcome}
 use Rattle.room_books.specs.Recurrings.{AreClearBeside}
-use Rattle.room_books.specs.Takings.{answers_by, AreOfOneMeeting, DecidesAmong, DecidesOf, IsDecision, IsWholeDecision}
+use Rattle.room_books.specs.Takings.{answers_by, kept_then, AreOfOneMeeting, DecidesAmong, DecidesOf, IsDecision, IsWholeDecision}
 use Rattle.room_books.specs.Views.{all_recurring, all_series, all_singles, booked_list, joined, other_recurring, outcome_of, same_key, series_by, series_list, series_of, IsClearIn}
 use Rattle.room_books.proofs.Deciding.{names_more}
 use Rattle.room_books.proofs.Places.{other_series_count}
@@ -117,3 +118,9 @@ pub beside_as : (others : Confirmed) (k : MeetingKey) (own : List Single) (kept 
 beside_as others k own kept kept' singles singles' wanted wanted' found found' a b c d h =
     subst (AreClearBeside others k own kept' singles' wanted') d (subst (λ (l : List Series). AreClearBeside others k own kept' singles' l found) c
     (subst (λ (l : List Single). AreClearBeside others k own kept' l wanted found) b (subst (λ (l : List Series). AreClearBeside others k own l singles wanted found) a h)))
+
+pub whole_as : (others : Confirmed) (k : MeetingKey) (before : Option Meeting) (lost lost' : List Slot) (left left' candidates candidates' : List Given) (outcome : Outcome) → lost ≡ lost' → left ≡ left' → candidates ≡ candidates'
+    → IsWholeDecision others k (kept_then before lost left) candidates outcome → IsWholeDecision others k (kept_then before lost' left') candidates' outcome
+whole_as others k before lost lost' left left' candidates candidates' outcome a b c h =
+    subst (λ (l : List Given). IsWholeDecision others k (kept_then before lost' left') l outcome) c (subst (λ (l : List Given). IsWholeDecision others k (kept_then before lost' l) candidates outcome) b
+    (subst (λ (l : List Slot). IsWholeDecision others k (kept_then before l left) candidates outcome) a h))
