@@ -75,3 +75,6 @@ pub mod SlotPlaces
 pub mod Looking
 pub mod Answered
 pub mod Walking
+pub mod Fewer
+pub mod WholeAlone
+pub mod HiddenStarts
