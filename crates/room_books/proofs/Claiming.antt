@@ -1,6 +1,6 @@
 -- The claims of a message: at most one, of the part and the instance of its event.
 use Rattle.std.proofs.Common.{arith, ◌⊎◌, ◌<ℤ◌, ◌≤ℤ◌, ◌≡◌, ◌≢◌, ◌∙◌, ℕ, ℤ, ◌<◌, ◌+◌, Bool, true, false, cond, List, [], ◌∷◌, ◌++◌, take, length, get_or, map, Result, Ok, Err, IfOk, inl, inr, Option, None, Some, refl, sym, ap, subst}
-use Rattle.std.specs.Prelude.{slice_get, if◌then◌else◌, unwrap_or, option_map, All, AllPairs}
+use Rattle.std.specs.Prelude.{slice_get, if◌then◌else◌, unwrap_or, option_map, is_some, not, ◌&&◌, All, AllPairs, IfSome, MatchOption}
 use Rattle.std.specs.declared.cmp.Ordering.TheVariants.{Less, Equal}
 use Rattle.std.specs.List.{AllZip, Contains, filter, list_any}
 use Rattle.std.proofs.lemmas.Cmp.{tied_itself}
@@ -19,13 +19,15 @@ use Rattle.itip_order.proofs.Lists.{in_cons, in_head, in_tail, none_in_nil}
 use Rattle.itip_order.proofs.Order.{slot_total}
 use Rattle.profile.specs.checker.Instances.{Key, Booked}
 use Rattle.profile.specs.events.Events.{Event}
-use Rattle.profile.specs.events.Properties.{first_second}
-use Rattle.profile.specs.events.Starts.{AreInstancesFrom, ComesBefore, IsInstance, key_at}
-use Rattle.profile.specs.events.Confirmed.{alone}
+use Rattle.profile.specs.events.Starts.{ComesBefore, IsInstance, key_at}
+use Rattle.profile.specs.events.Confirmed.{alone, has_series, AreApart, AreOfRule, IsOfSeries}
+use Rattle.std.proofs.lemmas.Bool.{and_parts}
 use Rattle.cal_events.specs.OwnInstances.{booked_at, IsTimely}
-use Rattle.cal_events.proofs.OwnSingles.{master_alone, of_both, one_by_key, override_alone}
+use Rattle.cal_events.specs.SaidSeries.{series_said, IsLeftOf, IsSeriesOf}
+use Rattle.cal_events.specs.declared.series.Series.{Series}
+use Rattle.cal_events.proofs.OwnSingles.{master_alone, not_a_master, of_both, one_by_key, override_alone}
 use Rattle.itip_messages.proofs.BodyLemmas.{clock_named}
-use Rattle.profile.specs.events.Meetings.{events_of}
+use Rattle.profile.specs.events.Meetings.{Meeting, events_of, is_master}
 use Rattle.profile.specs.rooms.Messages as profile
 use Rattle.profile.specs.rooms.Messages.{Content, IsPart, canonical, no_content, cancels, is_addressed, is_part_for, names_room, own_revision}
 use Rattle.profile.specs.rooms.Revisions.{Part, Slot, Body, Whole, At, Set, Absent, Cancelled, slot_cmp}
@@ -35,9 +37,9 @@ use Rattle.profile.specs.streams.Streams.{AsksFor, IsClaim}
 use Rattle.profile.specs.text.Values.{IsClockSeconds}
 use Rattle.cal_events.specs.declared.instance.Single.{Single}
 use Rattle.room_books.specs.declared.claim.Claim.{Claim}
-use Rattle.room_books.specs.Claiming.{IsClaimIn, AreClaimed}
+use Rattle.room_books.specs.Claiming.{series_asked, series_at, IsClaimIn, IsSameSeries, AreClaimed}
 use Rattle.room_books.specs.Takings.{body_content, booked_in, claim_said, claims_said}
-use Rattle.room_books.specs.Standing.{Pairwise, IsFitting, IsText, IsOfSlot, SlotDated}
+use Rattle.room_books.specs.Standing.{Pairwise, IsFitting, IsFittingSeries, IsText, IsOfSlot, SlotDated}
 use Rattle.room_books.proofs.Bodies.{body_of}
 use Rattle.room_books.proofs.Loops.{zip_push, one_more}
 use Rattle.room_books.proofs.Meetings.{is_of_from}
@@ -54,9 +56,9 @@ zip_more {X} {Y} R items all i x ys new y same h e is z r =
     subst (λ (l : List X). AllZip R (take (i + 1) l) new) same
     (subst (λ (l : List X). AllZip R l new) (sym (one_more items i x h e)) (subst (λ (l : List Y). AllZip R (take i items ++ x ∷ []) l) (sym is) (zip_push R (take i items) ys x y old r)))
 
--- what a part asks for with these instances
-abbrev said : Part → List Single → rooms.Claim
-said part singles = record { part = part; content = body_content part.body; singles = map (booked_in part) singles }
+-- what a part asks for with these instances, singles and series
+abbrev said : Part → List Single → Option Meeting → rooms.Claim
+said part singles series = record { part = part; content = body_content part.body; singles = map (booked_in part) singles; series = series }
 
 -- the first claim of a list is one of it
 pub first_in : (claims : List Claim) (claim : Claim) → Some claim ≡ slice_get claims 0 → Contains claims claim
@@ -119,7 +121,7 @@ module _ (event : Event) (timely : IsTimely event) (dated : IsDated (profile.slo
           }
 
   abbrev IsHere : Booked → Type 0
-  IsHere b = IsInstance (alone event) b × (first_second ≤ℤ b.start)
+  IsHere b = IsInstance (alone event) b × (IsOfSeries event b → ⊥)
 
   -- no two have one slot
   own_apart : (own : List Booked) → All IsHere own → AllPairs ComesBefore own → Pairwise (λ (a b : Booked). a.key.slot ≢ b.key.slot) own
@@ -136,6 +138,63 @@ module _ (event : Event) (timely : IsTimely event) (dated : IsDated (profile.slo
       never_before_itself : (y : Booked) → ComesBefore y y → ⊥
       never_before_itself y (inl l) = omega (arith, ints, l)
       never_before_itself y (inr l) = let w : y.key.slot <ℤ y.key.slot = l.1 in omega (arith, ints, w)
+
+-- ---- the series of an event by itself
+
+-- one that stands for an instance has none
+no_series : (event : Event) (t : ℤ) → At t ≡ profile.slot_of event → has_series event ≡ false
+no_series event t e = go (of_both event)
+  where
+    go : (event.recurrence ≡ None) ⊎ ((slot : ℤ) × (event.recurrence ≡ Some slot)) → has_series event ≡ false
+    go (inl none) = let x : At t ≡ Whole = e ∙ ap profile.slot_named none in absurd (cc)
+    go (inr (slot, is)) = ap (λ (r : Option ℤ). not (is_some r) && is_some event.rule) is
+
+-- the series that is asked for is that of its rule
+of_rule : (event : Event) (slot : Slot) → slot ≡ profile.slot_of event → (own asked : Option Series) → MatchOption own (has_series event ≡ false) (λ series. IsSeriesOf event (series_said series)) → IsSameSeries (series_at slot own) asked
+    → AreOfRule event (option_map series_said asked)
+of_rule event Whole e None None says same = says
+of_rule event Whole e None (Some asked) says same = absurd same
+of_rule event Whole e (Some own) None says same = absurd same
+of_rule event Whole e (Some own) (Some asked) says same = (says.has, λ b. (λ h. (says.instances b).0 ((same b).0 h), λ h. (same b).1 ((says.instances b).1 h)))
+of_rule event (At t) e own None says same = no_series event t e
+of_rule event (At t) e own (Some asked) says same = absurd same
+
+-- a copy of it is the same
+pub same_copy : (slot : Slot) → slot ≡ Whole → (own : Option Series) (series copy : Series) → own ≡ Some series → IsLeftOf (series_said series) [] (series_said copy) → IsSameSeries (series_at slot own) (Some copy)
+same_copy slot whole own series copy is left =
+    subst (λ (s : Slot). IsSameSeries (series_at s own) (Some copy)) (sym whole) (subst (λ (o : Option Series). IsSameSeries o (Some copy)) (sym is)
+    (λ b. (λ h. ((left.instances b).0 h).0, λ h. (left.instances b).1 (h, λ c. none_in_nil b.start c))))
+
+-- of what isn't to take place none is
+none_asked : (asked : Option Series) → IsSameSeries None asked → asked ≡ None
+none_asked None same = refl
+none_asked (Some asked) same = absurd same
+
+-- a series is of the whole, its instances are known by their starts, and none of them is one that no rule gives
+module _ (event : Event) (timely : IsTimely event) (dated : IsDated (profile.slot_of event)) (part : Part) (slot : part.slot ≡ profile.slot_of event) (organiser : part.organiser ≡ unwrap_or event.organiser []) (uid : part.uid ≡ event.uid) where
+  series_fits : (content : Content) (singles : List Booked) (o : Option Meeting) → AreOfRule event o → ((y : Booked) → Contains singles y → IsHere event timely dated y)
+      → IfSome o (IsFittingSeries (record { part = part; content = content; singles = singles; series = o }))
+  series_fits content singles None rule here = tt
+  series_fits content singles (Some series) rule here =
+      let master : is_master event ≡ true = (and_parts (is_master event) (is_some event.rule) rule.0).0 in
+      let none : event.recurrence ≡ None = not_override (of_both event) master in
+      let own : (b : Booked) → IsInstance series b → IsInstance (alone event) b = λ b h. ((rule.1 b).0 h).0 in
+      let key : (b : Booked) → IsInstance series b → b.key ≡ key_at event b.key.slot = λ b h. (own_instance event timely dated b (own b h)).key in
+      record {
+        whole = slot ∙ ap profile.slot_named none;
+        organiser = λ b h. ap (λ (k : Key). k.organiser) (key b h) ∙ sym organiser;
+        uid = λ b h. ap (λ (k : Key). k.uid) (key b h) ∙ sym uid;
+        slot = λ b h. ap (λ (k : Key). k.slot) (master_alone event b none (own b h)).key;
+        starts = λ b h. (own_instance event timely dated b (own b h)).start;
+        apart = λ a b c h same.
+            let single = here a c in
+            let one : b ≡ a = one_by_key event b a timely.steady (own b h) single.0 (key b h ∙ ap (key_at event) (sym same) ∙ sym (own_instance event timely dated a single.0).key) in
+            single.1 (subst (IsOfSeries event) one ((rule.1 b).0 h).1);
+      }
+    where
+      not_override : (event.recurrence ≡ None) ⊎ ((slot : ℤ) × (event.recurrence ≡ Some slot)) → is_master event ≡ true → event.recurrence ≡ None
+      not_override (inl none) h = none
+      not_override (inr (slot, is)) h = absurd (not_a_master event slot is h)
 
 -- ---- the claim of one component
 
@@ -171,8 +230,12 @@ module _ (room : List ℕ) (message : Message) (given : profile.Message) (s : St
   abbrev asked_for : Bool → List Single
   asked_for b = if b then component.singles.items else []
 
-  asks : claim_said claim ≡ said part (asked_for (is_set part))
-  asks = λ i. said (x.part_is i) (x.singles i)
+  -- and the series
+  abbrev recurs : Option Meeting
+  recurs = option_map series_said claim.series
+
+  asks : claim_said claim ≡ said part (asked_for (is_set part)) recurs
+  asks = λ i. said (x.part_is i) (x.singles i) recurs
 
   booked_is : (single : Single) → booked_in part single ≡ booked_at event single
   booked_is single =
@@ -183,41 +246,56 @@ module _ (room : List ℕ) (message : Message) (given : profile.Message) (s : St
   all_booked [] = refl
   all_booked (y ∷ ys) = λ i. booked_is y i ∷ all_booked ys i
 
-  -- they are all that the event has by itself
-  are_all : AreInstancesFrom (alone event) first_second (map (booked_in part) component.singles.items)
-  are_all = subst (AreInstancesFrom (alone event) first_second) (sym (all_booked component.singles.items)) says.singles
+  -- they are all that the event has by itself but for its series
+  are_apart : AreApart event (map (booked_in part) component.singles.items)
+  are_apart = subst (AreApart event) (sym (all_booked component.singles.items)) says.singles
 
-  asks_for : (b : Bool) → AsksFor b event (map (booked_in part) (asked_for b))
-  asks_for true = are_all
-  asks_for false = refl
+  abbrev Series_asked : Bool → Type 0
+  Series_asked b = IsSameSeries (if b then series_asked part component else None) claim.series
+
+  rule : Series_asked true → AreOfRule event recurs
+  rule same = of_rule event part.slot says.slot component.series claim.series says.series same
+
+  asks_for : (b : Bool) → Series_asked b → AsksFor b event (said part (asked_for b) recurs)
+  asks_for true same = (are_apart, rule same)
+  asks_for false same = (refl, ap (option_map series_said) (none_asked claim.series same))
 
   pub is_claim : IsClaim room given event (claim_said claim)
   is_claim = subst (IsClaim room given event) (sym asks) (record {
     part = subst (λ (c : Content). IsPart room given event c part) (sym (content_is off named part.body body_there)) (part_said room message given s event component among says);
-    singles = asks_for (is_set part);
+    asks = asks_for (is_set part) x.series;
   })
 
-  fits_with : (singles : List Single) → ((y : Booked) → Contains (map (booked_in part) singles) y → IsOwn event y) → Pairwise (λ (a b : Booked). a.key.slot ≢ b.key.slot) (map (booked_in part) singles) → IsFitting (said part singles)
-  fits_with singles own apart = record {
+  organiser_is : address_octets message.organiser ≡ unwrap_or event.organiser []
+  organiser_is = ap (λ o. unwrap_or o []) (sym (s.organiser event among))
+
+  fits_with : (singles : List Single) → ((y : Booked) → Contains (map (booked_in part) singles) y → IsOwn event y) → Pairwise (λ (a b : Booked). a.key.slot ≢ b.key.slot) (map (booked_in part) singles)
+      → IfSome recurs (IsFittingSeries (said part singles recurs)) → IsFitting (said part singles recurs)
+  fits_with singles own apart series = record {
     content = refl;
     text = texts off named part.body body_there;
-    organiser = λ y c. ap (λ (k : Key). k.organiser) (own y c).key ∙ ap (λ o. unwrap_or o []) (s.organiser event among);
+    organiser = λ y c. ap (λ (k : Key). k.organiser) (own y c).key ∙ sym organiser_is;
     uid = λ y c. ap (λ (k : Key). k.uid) (own y c).key ∙ sym (s.uid event among);
     slot = λ y c. subst (λ (o : Slot). IsOfSlot o y.key.slot) (sym says.slot) (own y c).slot;
     differ = apart;
     starts = λ y c. (own y c).start;
     slots = λ y c. (own y c).slot_at;
+    recurs = series;
   }
 
-  fits_by : (b : Bool) → IsFitting (said part (asked_for b))
-  fits_by false = fits_with [] (λ y c. absurd (none_in_nil y c)) tt
-  fits_by true =
+  fits_by : (b : Bool) → Series_asked b → IsFitting (said part (asked_for b) recurs)
+  fits_by false same =
+      fits_with [] (λ y c. absurd (none_in_nil y c)) tt
+      (subst (λ (o : Option Series). IfSome (option_map series_said o) (IsFittingSeries (said part [] recurs))) (sym (none_asked claim.series same)) tt)
+  fits_by true same =
       let all = map (booked_in part) component.singles.items in
       let timely = says.ready.timely in
-      fits_with component.singles.items (λ y c. own_instance event timely says.dated y (All-contains (IsHere event timely says.dated) all y are_all.each c).0) (own_apart event timely says.dated all are_all.each are_all.ordered)
+      let here : (y : Booked) → Contains all y → IsHere event timely says.dated y = λ y c. All-contains (IsHere event timely says.dated) all y are_apart.each c in
+      fits_with component.singles.items (λ y c. own_instance event timely says.dated y (here y c).0) (own_apart event timely says.dated all are_apart.each are_apart.ordered)
+      (series_fits event timely says.dated part says.slot organiser_is (s.uid event among) (body_content part.body) all recurs (rule same) here)
 
   pub fits : IsFitting (claim_said claim)
-  fits = subst IsFitting (sym asks) (fits_by (is_set part))
+  fits = subst IsFitting (sym asks) (fits_by (is_set part) x.series)
 
   pub slot_there : (claim_said claim).part.slot ≡ profile.slot_of event
   slot_there = ap (λ (p : Part). p.slot) x.part_is ∙ says.slot
