@@ -1,6 +1,6 @@
 -- Series that are left of others, without some of their instances.
 use Rattle.std.proofs.Common.{◌≡◌, ℤ, List, [], ◌∷◌, ◌++◌, inl, inr, sym, subst, arith, length-append}
-use Rattle.std.specs.List.{Contains, flat_map}
+use Rattle.std.specs.List.{Contains}
 use Rattle.std.specs.Option.{option_to_list}
 use Rattle.std.proofs.lemmas.Grind.{flat_map-append}
 use Rattle.std.proofs.lemmas.List.Elements.{Contains-append_left, Contains-append_right, Contains-append_cases}
@@ -9,7 +9,7 @@ use Rattle.cal_events.specs.SaidSeries.{series_said, IsLeftOf}
 use Rattle.cal_events.specs.declared.series.Series.{Series}
 use Rattle.cal_events.specs.declared.instance.Single.{Single}
 use Rattle.room_books.specs.BySlot.{Reordered}
-use Rattle.room_books.specs.Views.{all_series, AreFewer, Recurs, RecursIn}
+use Rattle.room_books.specs.Views.{all_series, AreFewer, Recurs}
 use Rattle.room_books.specs.declared.meeting.Given.{Given}
 use Rattle.room_books.proofs.Loops.{flat_push}
 use Rattle.room_books.proofs.Reordering.{re_back, re_flat, re_in, re_length, re_swapped}
