@@ -1,5 +1,5 @@
 -- Where a series is entered.
-use Rattle.std.proofs.Common.{◌≡◌, inl, inr, ◌⊎◌, subst, arith, ℤ, pos, negsuc, ◌*◌, ◌+ℤ◌, ◌-ℤ◌, ◌<ℤ◌, ◌≤ℤ◌, ap, w64}
+use Rattle.std.proofs.Common.{◌≡◌, inl, inr, ◌⊎◌, refl, subst, arith, ℤ, pos, negsuc, ◌*◌, ◌+ℤ◌, ◌-ℤ◌, ◌<ℤ◌, ◌≤ℤ◌, ap, w64}
 use Rattle.std.specs.Prelude.{Some, None, option_map, ◌↔◌}
 use Rattle.std.specs.Int.{saturate_signed, int_max}
 use Rattle.std.proofs.lemmas.Bool.{cases_lt}
@@ -10,6 +10,7 @@ use Rattle.profile.specs.events.ZonedTimes.{EventTimes, clock_of}
 use Rattle.profile.specs.events.Events.{Event as Said}
 use Rattle.profile.specs.events.Meetings.{Meeting}
 use Rattle.profile.specs.events.Starts.{IsInstance, EndsAt, IsWidth}
+use Rattle.cal_events.specs.Calendars.{instance_of}
 use Rattle.cal_events.specs.Events.{event_of}
 use Rattle.cal_events.specs.Left.{IsLeft, GivesFirst}
 use Rattle.cal_events.specs.SaidSeries.{series_said, IsMasterOf, AreKnownByStart}
@@ -20,7 +21,7 @@ use Rattle.cal_events.proofs.DraftKeys.{some_there}
 use Rattle.cal_events.proofs.OwnSingles.{at_start}
 use Rattle.cal_events.proofs.SeriesLemmas.{alone_said}
 use Rattle.cal_period.specs.Walks.{AreAllLeft, AreLeftFrom}
-use Rattle.cal_period.specs.Onward.{AreNoneBefore, IsFirstStart, MeetFrom, IsEntry}
+use Rattle.cal_period.specs.Onward.{IsFirstStart, MeetFrom, IsEntry}
 use Rattle.cal_period.proofs.Going.{at_first, not_less}
 
 -- ---- how long instances last
@@ -79,16 +80,16 @@ entered series by entry left before is others = record { early = omega (arith, i
 pub first_at : (series : Meeting) (old new : Instances) (first : Instance) → AreKnownByStart series → AreAllLeft series old → GivesFirst old (Some first) new → IsFirstStart series (Some first.start)
 first_at series old new first known all given =
     let at = at_first series old new (Some first) known all given in
-    ((known.dates _ at.stands.ahead.is).1, λ b is. from_there b is)
-  where
-    from_there : AreNoneBefore series first.start
-    from_there b is = not_less first.start b.start (λ less. (at_first series old new (Some first) known all given).none b (is, less))
+    ((λ b is. not_less first.start b.start (λ less. at.none b (is, less))), (instance_of first, at.stands.ahead.is, refl))
 
 pub none_at : (series : Meeting) (old new : Instances) → AreKnownByStart series → AreAllLeft series old → GivesFirst old None new → IsFirstStart series None
 none_at series old new known all given b is = given.1.0 b ((all b).1 is)
 
-pub later_start : (a b : Meeting) (s t m : ℤ) → IsFirstStart a (Some s) → IsFirstStart b (Some t) → m ≡ int_max s t → MeetFrom a b m
-later_start a b s t m f g is =
+begins_early : (series : Meeting) (t : ℤ) → AreKnownByStart series → IsFirstStart series (Some t) → t <ℤ horizon
+begins_early series t known (none, (b, is, at)) = let d = (known.dates b is).1 in omega (arith, ints, d, at)
+
+pub later_start : (a b : Meeting) (s t m : ℤ) → AreKnownByStart a → AreKnownByStart b → IsFirstStart a (Some s) → IsFirstStart b (Some t) → m ≡ int_max s t → MeetFrom a b m
+later_start a b s t m known_a known_b f g is =
     by_lt_z t s
-    (λ l. let e : m ≡ s = grind (arith, ints, is, l) in record { before = omega (arith, ints, e, f.0); begins = inl (λ x h. let d = f.1 x h in omega (arith, ints, e, d)) })
-    (λ l. let e : m ≡ t = grind (arith, ints, is, l) in record { before = omega (arith, ints, e, g.0); begins = inr (λ x h. let d = g.1 x h in omega (arith, ints, e, d)) })
+    (λ l. let e : m ≡ s = grind (arith, ints, is, l) in let d = begins_early a s known_a f in record { before = omega (arith, ints, e, d); begins = inl (λ x h. let n = f.0 x h in omega (arith, ints, e, n)) })
+    (λ l. let e : m ≡ t = grind (arith, ints, is, l) in let d = begins_early b t known_b g in record { before = omega (arith, ints, e, d); begins = inr (λ x h. let n = g.0 x h in omega (arith, ints, e, n)) })

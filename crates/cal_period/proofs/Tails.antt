@@ -1,5 +1,5 @@
 -- Two walks that begin where two series first can meet.
-use Rattle.std.proofs.Common.{◌≡◌, ap, subst, inl, inr, ◌⊎◌, arith, ℤ, ◌<ℤ◌, ◌≤ℤ◌}
+use Rattle.std.proofs.Common.{◌≡◌, ap, subst, inl, inr, arith, ℤ, ◌<ℤ◌, ◌≤ℤ◌}
 use Rattle.std.specs.Prelude.{Option, Some, None, IfSome}
 use Rattle.std.proofs.lemmas.Int.{ints, by_lt_z}
 use Rattle.profile.specs.checker.Instances.{Booked, horizon}
@@ -56,9 +56,6 @@ over_since series by place (Some z) start l m x y h far s late =
 
 pub behind_since : (series : Meeting) (by place : ℤ) (last : Option Instance) (z : Instance) → IsLastSince series by place last → last ≡ Some z → IsBehind series place (instance_of z)
 behind_since series by place last z l e = (subst (IsLastSince series by place) e l).0
-
-before_or_from : (x y : ℤ) → (x <ℤ y) ⊎ (y ≤ℤ x)
-before_or_from x y = by_lt_z x y (λ less. inl less) (λ most. inr most)
 
 -- ---- two walks
 
@@ -125,11 +122,7 @@ module _ (a b : Meeting) (by : ℤ) (from : MeetFrom a b by) (of_a of_b : Instan
 
 pub onward_end : (a b : Meeting) (by : ℤ) → MeetFrom a b by → (of_a of_b : Instances) (first second : Walk) → AreOnward a b by of_a of_b first second → MeetsNoMore first second → MeetsNoMore second first → AreClear a b
 onward_end a b by from of_a of_b first second at none_a none_b x y h k s =
-    elim (before_or_from x.start (place_of first.next)) [
-      | inl l ↦ elim (before_or_from y.start (place_of second.next)) [
-        | inl m ↦ at.abreast.clear x y (h, l) (k, m) s
-        | inr far ↦
-            still_clear b a by (from_turned a b by from) of_b of_a second first (onward_turned a b by of_a of_b first second at) none_b y x k h far (turned x y s)
-      ]
-      | inr far ↦ still_clear a b by from of_a of_b first second at none_a x y h k far s
-    ]
+    by_lt_z x.start (place_of first.next)
+    (λ l. by_lt_z y.start (place_of second.next) (λ m. at.abreast.clear x y (h, l) (k, m) s)
+    (λ far. still_clear b a by (from_turned a b by from) of_b of_a second first (onward_turned a b by of_a of_b first second at) none_b y x k h far (turned x y s)))
+    (λ far. still_clear a b by from of_a of_b first second at none_a x y h k far s)

@@ -1,5 +1,5 @@
 -- What the search for a clash of two series says, and where it begins.
-use Rattle.std.specs.Prelude.{◌⊎◌, ℤ, ◌≤ℤ◌, ◌<ℤ◌, Option, MatchOption}
+use Rattle.std.specs.Prelude.{◌≡◌, ◌⊎◌, ℤ, ◌≤ℤ◌, ◌<ℤ◌, Option, MatchOption}
 use Rattle.profile.specs.checker.Instances.{Booked, horizon}
 use Rattle.profile.specs.events.Meetings.{Meeting}
 use Rattle.profile.specs.events.Starts.{IsInstance}
@@ -15,9 +15,10 @@ IsSharedByPair a b shared = MatchOption shared (AreClear a b) (λ s. ArePair a b
 abbrev pub AreNoneBefore : Meeting → ℤ → Type 0
 AreNoneBefore series instant = (b : Booked) → IsInstance series b → instant ≤ℤ b.start
 
--- the first start of a series, if it has one
+-- an instance of a series starts then, and none earlier; or it has none
 abbrev pub IsFirstStart : Meeting → Option ℤ → Type 0
-IsFirstStart series first = MatchOption first ((b : Booked) → IsInstance series b → ⊥) (λ t. (t <ℤ horizon) × AreNoneBefore series t)
+IsFirstStart series first =
+    MatchOption first ((b : Booked) → IsInstance series b → ⊥) (λ t. AreNoneBefore series t × ((b : Booked) × IsInstance series b × (b.start ≡ t)))
 
 -- two series first meet then or later: one of them begins then
 pub record MeetFrom (a b : Meeting) (instant : ℤ) : Type 0 where

@@ -1,4 +1,5 @@
-//! A search for a clash of two series. No memory is taken.
+//! A search for a clash of two series. It goes past the starts of both from where the later of them begins, less a width, to the end of the one
+//! that ends first. No memory is taken.
 ghost use Rattle.cal_events.specs.SaidSeries.{series_said};
 ghost use Rattle.cal_period.specs.Onward.{IsSharedByPair, IsFirstStart, MeetFrom, IsEntry};
 
@@ -11,6 +12,7 @@ use cal_events::{Instance, Series, known_by_start};
 pub fn clash_of_pair<'a>(a: &'a Series, b: &'a Series) -> Option<(Instance<'a>, Instance<'a>)>
     ensures { IsSharedByPair (series_said a.now) (series_said b.now) result }
 {
+    known_by_start();
     let first = first_start(a)?;
     let second = first_start(b)?;
     clash_onward(a, b, first.max(second))
@@ -26,7 +28,7 @@ fn first_start(series: &Series) -> Option<i64>
     Some(first.start)
 }
 
-/// Two instances, one of each series, that share an instant, where the later series begins at an instant.
+/// Two instances, one of each series, that share an instant, where the later of the series begins at an instant.
 fn clash_onward<'a>(a: &'a Series, b: &'a Series, from: i64) -> Option<(Instance<'a>, Instance<'a>)>
     requires { MeetFrom (series_said a.now) (series_said b.now) from }
     ensures { IsSharedByPair (series_said a.now) (series_said b.now) result }

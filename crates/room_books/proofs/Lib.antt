@@ -78,3 +78,6 @@ pub mod Walking
 pub mod Fewer
 pub mod WholeAlone
 pub mod HiddenStarts
+pub mod Recurrings
+pub mod ClearBeside
+pub mod RoomSeries

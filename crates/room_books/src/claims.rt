@@ -71,16 +71,12 @@ fn claim_for(
 ) -> Result<Claim, AllocError>
     ensures { IfOk result (IsAsking part component.now) }
 {
-    if !takes_place(&part) {
-        return Ok(Claim {
-            part,
-            singles: Vec::new(alloc),
-            series: None,
-        });
-    }
     let mut singles = Vec::new(alloc);
-    singles.extend_from_slice(&component.singles)?;
-    let series = series_for(alloc, &part, component)?;
+    let mut series = None;
+    if takes_place(&part) {
+        singles.extend_from_slice(&component.singles)?;
+        series = series_for(alloc, &part, component)?;
+    }
     Ok(Claim {
         part,
         singles,
@@ -100,9 +96,8 @@ fn series_for(
     let Slot::Whole = part.slot else {
         return Ok(None);
     };
-    let Some(series) = &component.series else {
-        return Ok(None);
-    };
-    let copy = series.without(alloc, &[])?;
-    Ok(Some(copy))
+    match &component.series {
+        Some(series) => Ok(Some(series.without(alloc, &[])?)),
+        None => Ok(None),
+    }
 }

@@ -486,13 +486,13 @@ impl Room {
 
     /// A clash of two instances of which one is asked for, and one is of a series. The meeting keeps these series, and asks for these singles
     /// and series.
-    fn clash_in_series(
-        &self,
-        key: &MeetingKey,
+    fn clash_in_series<'a>(
+        &'a self,
+        key: &'a MeetingKey,
         gone: &[Single],
-        kept: &[&Series],
+        kept: &[&'a Series],
         singles: &[Single],
-        wanted: &[&Series],
+        wanted: &[&'a Series],
     ) -> Result<Option<Clash>, AllocError>
         requires parted { (own : List Single) × IsParted (singles_by (lookup (same_key key.now) self.now.meetings.entries)) gone.now own }
         ensures { IfOk result (λ found. (own : List Single)
