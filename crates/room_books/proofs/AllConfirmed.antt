@@ -1,6 +1,6 @@
 -- All that a room has confirmed, in series and singles: what of it a meeting keeps, and what all is once a meeting confirms something else.
-use Rattle.std.proofs.Common.{◌≡◌, ◌∙◌, ◌≤◌, ◌+◌, ℕ, Bool, true, false, not, cond, List, [], ◌∷◌, ◌++◌, ◌⊎◌, inl, inr, length, map, subst, sym, refl, ap, arith, length-append, Option, None, Some}
-use Rattle.std.specs.List.{Contains, IsDistinct, filter, flat_map}
+use Rattle.std.proofs.Common.{◌≡◌, ◌∙◌, ◌≤◌, ℕ, Bool, true, false, not, cond, List, [], ◌∷◌, ◌⊎◌, inl, inr, length, subst, sym, refl, ap, arith, length-append, Some}
+use Rattle.std.specs.List.{Contains, IsDistinct, filter}
 use Rattle.std.specs.Option.{option_to_list}
 use Rattle.std.specs.Map.{lookup, keys_of}
 use Rattle.std.proofs.lemmas.Bool.{and_from}
@@ -10,8 +10,8 @@ use Rattle.std.proofs.lemmas.Map.Keys.{IsDistinct-tail, IsDistinct-head}
 use Rattle.std.proofs.lemmas.Slice.Eq.{bytes_eq-Decides}
 use Rattle.indexmap.specs.IndexMap.{insert_entry}
 use Rattle.ical_values.specs.Octets.{address_octets, text_octets}
-use Rattle.itip_order.proofs.Lists.{none_in_nil, in_head, in_tail, in_cons, filter_at, filter_from}
-use Rattle.profile.specs.checker.Instances.{Booked, AreClear}
+use Rattle.itip_order.proofs.Lists.{none_in_nil, in_head, in_tail, in_cons, filter_at}
+use Rattle.profile.specs.checker.Instances.{Booked}
 use Rattle.profile.specs.events.Meetings.{Meeting as Whole}
 use Rattle.profile.specs.events.Starts.{IsInstance}
 use Rattle.profile.specs.events.Confirmed.{Confirmed, IsInSeries, IsOneOf}
@@ -24,7 +24,7 @@ use Rattle.room_books.specs.declared.meeting.MeetingKey.{MeetingKey}
 use Rattle.room_books.specs.BySlot.{Reordered}
 use Rattle.room_books.specs.Instants.{IsParted}
 use Rattle.room_books.specs.Takings.{MayJoinAll}
-use Rattle.room_books.specs.Views.{all_confirmed, all_recurring, all_series, all_singles, beside, booked_list, booked_of, in_room, is_other, joined, meeting_singles, other_recurring, others, recurring_of, same_key, series_by, series_list, series_of, singles_by, AreFewer, IsClearIn, Recurs, RecursIn, SeriesMayJoin}
+use Rattle.room_books.specs.Views.{all_recurring, all_series, all_singles, beside, booked_list, in_room, is_other, joined, meeting_singles, other_recurring, others, recurring_of, same_key, series_by, series_list, series_of, singles_by, AreFewer, IsClearIn, RecursIn, SeriesMayJoin}
 use Rattle.room_books.proofs.Leaving.{kept_within}
 use Rattle.room_books.proofs.Pairs.{flat_at, flat_from, map_at, map_from}
 use Rattle.room_books.proofs.Places.{in_booked, booked_from, no_others, other_series_count}
@@ -123,8 +123,7 @@ module _ (k : MeetingKey) (m : Meeting) where
           | inl other ↦ (one, Contains-append_left (other_recurring k es) (series_list k (all_series m.answers.items)) one (flat_from recurring_of (filter (is_other k) es) f.0 one other f.2), is)
           | inr mine ↦
               let s = map_at (series_of f.0.0) (all_series f.0.1.answers.items) one f.2 in
-              let x = of_series f.0.0 s.0 b (subst (λ (w : Whole). IsInstance w b) (sym s.2) is) in
-              (
+              let x = of_series f.0.0 s.0 b (subst (λ (w : Whole). IsInstance w b) (sym s.2) is) in (
                 series_of k s.0,
                 Contains-append_right (other_recurring k es) (series_list k (all_series m.answers.items)) (series_of k s.0)
                     (map_from (series_of k) (all_series m.answers.items) s.0 (subst (λ (z : Meeting). Contains (all_series z.answers.items) s.0) mine.1 s.1)),
@@ -152,12 +151,16 @@ module _ (others : Confirmed) (k : MeetingKey) (a b : List Given) (same : Reorde
         Contains-append_right others.singles (booked_list k (all_singles a)) x (subst (Contains (booked_list k (all_singles a))) s.2
         (booked_from k (all_singles a) s.0 (re_in (all_singles b) (all_singles a) (re_flat the_singles b a (re_back a b same)) s.0 s.1))))
   ])
-  back_one x (inr (one, c, is)) = inr (one, elim (Contains-append_cases others.series (series_list k (all_series b)) one c) [
-    | inl other ↦ Contains-append_left others.series (series_list k (all_series a)) one other
-    | inr mine ↦ (let s = map_at (series_of k) (all_series b) one mine in
-        Contains-append_right others.series (series_list k (all_series a)) one (subst (Contains (series_list k (all_series a))) s.2
-        (map_from (series_of k) (all_series a) s.0 (re_in (all_series b) (all_series a) (re_flat the_series b a (re_back a b same)) s.0 s.1))))
-  ], is)
+  back_one x (inr (one, c, is)) = inr (
+    one,
+    elim (Contains-append_cases others.series (series_list k (all_series b)) one c) [
+      | inl other ↦ Contains-append_left others.series (series_list k (all_series a)) one other
+      | inr mine ↦ (let s = map_at (series_of k) (all_series b) one mine in
+          Contains-append_right others.series (series_list k (all_series a)) one (subst (Contains (series_list k (all_series a))) s.2
+          (map_from (series_of k) (all_series a) s.0 (re_in (all_series b) (all_series a) (re_flat the_series b a (re_back a b same)) s.0 s.1))))
+    ],
+    is,
+  )
 
   pub all_reordered : MayJoinAll others k a → MayJoinAll others k b
   all_reordered j = record {

@@ -1,5 +1,5 @@
 -- What a meeting asks for beside all that stays: which two instances clash, and that none do.
-use Rattle.std.proofs.Common.{◌≡◌, ◌≢◌, ◌∙◌, ◌+◌, ◌<◌, ◌≤◌, ℕ, zero, suc, ℤ, ◌⊎◌, inl, inr, List, [], ◌∷◌, ◌++◌, length, take, map, get_or, append_assoc, subst, sym, refl, ap, arith, length-append, Option, None, Some}
+use Rattle.std.proofs.Common.{◌≡◌, ◌≢◌, ◌∙◌, ◌+◌, ◌<◌, ◌≤◌, ℕ, zero, suc, ℤ, ◌⊎◌, inl, inr, List, [], ◌∷◌, ◌++◌, length, take, map, append_assoc, subst, sym, refl, ap, arith, length-append, Option, None, Some}
 use Rattle.std.specs.Prelude.{is_some, slice_get}
 use Rattle.std.specs.List.{Contains}
 use Rattle.std.proofs.lemmas.Bool.{true≢false}
@@ -17,12 +17,11 @@ use Rattle.clash_cert.specs.Makings.{AreNamed}
 use Rattle.cal_events.specs.Calendars.{owned_key_of}
 use Rattle.cal_events.specs.declared.instance.Single.{Single}
 use Rattle.cal_events.specs.declared.series.Series.{Series}
-use Rattle.cal_events.specs.declared.sweep.Span.{Span}
 use Rattle.room_books.specs.declared.decide.Shared.{Shared}
 use Rattle.room_books.specs.declared.meeting.MeetingKey.{MeetingKey}
 use Rattle.room_books.specs.declared.recurring.Recurring.{Recurring}
 use Rattle.room_books.specs.Instants.{HaveInstant, IsLater, Overlap}
-use Rattle.room_books.specs.Recurrings.{AreAllOf, AreBeside, AreClearBeside, AreClearFrom, AreNewClear, IsAlone, IsAmong, IsFoundAt, keyed_of, recurring_said}
+use Rattle.room_books.specs.Recurrings.{AreAllOf, AreBeside, AreClearFrom, AreNewClear, IsAlone, keyed_of, recurring_said}
 use Rattle.room_books.specs.Takings.{AreOfOneMeeting}
 use Rattle.room_books.specs.Views.{booked_of, booked_list, joined, series_list, series_of, span_of, AreBusyIn, IsClearIn, Recurs, RecursIn}
 use Rattle.room_books.proofs.Deciding.{names_these}
@@ -297,8 +296,11 @@ module _ (others : Confirmed) (k : MeetingKey) (own singles : List Single) (kept
 
         go : IsOf p r → IsOneOf now (booked_of r.key.now x)
         go (of_other l c) = inr (recurring_said r, Contains-append_left others.series (series_list k (kept ++ wanted)) (recurring_said r) c, instance)
-        go (of_own l key c) = inr (series_of k r.series.now, Contains-append_right others.series (series_list k (kept ++ wanted)) (series_of k r.series.now) (map_from (series_of k) (kept ++ wanted) r.series.now c),
-          subst (λ (q : MeetingKey). IsInstance (series_of q r.series.now) (booked_of r.key.now x)) key instance)
+        go (of_own l key c) = inr (
+          series_of k r.series.now,
+          Contains-append_right others.series (series_list k (kept ++ wanted)) (series_of k r.series.now) (map_from (series_of k) (kept ++ wanted) r.series.now c),
+          subst (λ (q : MeetingKey). IsInstance (series_of q r.series.now) (booked_of r.key.now x)) key instance,
+        )
 
     -- a single of the meeting and an instance of a series have different keys
     single_differs : (s : Single) (p : ℕ) (r : Recurring) (x : Single) → Contains (own ++ singles) s → slice_get all p ≡ Some r → Recurs r.series.now x → (booked_of k s).key ≢ (booked_of r.key.now x).key

@@ -1,16 +1,14 @@
 -- What a meeting's answers confirm is what the answers of its book do.
-use Rattle.std.proofs.Common.{◌≡◌, Option, None, Some, List, [], ◌∷◌, ◌++◌, map, refl, sym, ap, ◌∙◌, subst}
+use Rattle.std.proofs.Common.{◌≡◌, List, [], ◌∷◌, ◌++◌, refl, sym, ap, ◌∙◌, subst}
 use Rattle.std.specs.Option.{option_to_list}
 use Rattle.std.specs.List.{AllZip, filter, flat_map}
 use Rattle.profile.specs.checker.Instances.{Booked}
-use Rattle.profile.specs.events.Meetings.{Meeting as Whole}
 use Rattle.std.proofs.lemmas.Bool.{and_parts}
 use Rattle.std.proofs.lemmas.Grind.{flat_map-append}
 use Rattle.std.proofs.lemmas.List.{map-append}
 use Rattle.std.proofs.lemmas.List.Elements.{filter-append}
 use Rattle.profile.specs.rooms.Revisions.{Part, in_view}
 use Rattle.profile.specs.rooms.Rooms.{Answer, Recurring, is_accept, is_confirmed, left_of, recurring_in, singles_confirmed, series_confirmed}
-use Rattle.cal_events.specs.declared.series.Series.{Series}
 use Rattle.room_books.specs.declared.meeting.MeetingKey.{MeetingKey}
 use Rattle.room_books.specs.declared.meeting.Given.{Given}
 use Rattle.room_books.specs.Views.{booked_of, booked_list, all_singles, all_series, series_of, series_list}

@@ -1,7 +1,7 @@
 -- The entries of a room's meetings, and what all of them confirm.
 use Rattle.std.proofs.Common.{◌≡◌, Bool, true, false, cond, List, [], ◌∷◌, Some, refl, sym, ◌∙◌, subst, length}
 use Rattle.std.specs.Cmp.{IsEquivalence, both_ways as same_tests}
-use Rattle.std.specs.List.{Contains, IsDistinct, filter}
+use Rattle.std.specs.List.{Contains, IsDistinct}
 use Rattle.std.specs.Map.{keys_of, lookup}
 use Rattle.std.proofs.lemmas.Map.Views.{lookup-from_Contains}
 use Rattle.itip_order.proofs.Lists.{in_head, in_tail, filter_at}

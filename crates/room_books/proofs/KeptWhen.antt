@@ -4,7 +4,6 @@ use Rattle.std.specs.Prelude.{filter, Contains, is_some}
 use Rattle.std.specs.Option.{option_to_list}
 use Rattle.std.specs.List.{list_all, list_any, flat_map, AllZip}
 use Rattle.std.proofs.lemmas.Bool.{and_from, false≢true, true≢false, or_parts}
-use Rattle.std.proofs.lemmas.Int.{ints}
 use Rattle.std.proofs.lemmas.List.Folds.{list_all-append}
 use Rattle.profile.specs.text.Lines.{is_content, line_param, line_value}
 use Rattle.profile.specs.text.Objects.{is_property}

@@ -1,5 +1,5 @@
 -- The answers of a meeting after claims of it were taken are those of its own book.
-use Rattle.std.proofs.Common.{◌≡◌, ◌≢◌, ◌∙◌, ℤ, Bool, true, false, not, cond, List, [], ◌∷◌, ◌++◌, map, refl, sym, ap, subst, inl, inr, Option, None, length, arith}
+use Rattle.std.proofs.Common.{◌≡◌, ◌≢◌, ◌∙◌, ℤ, Bool, true, false, not, cond, List, [], ◌∷◌, ◌++◌, map, refl, sym, ap, subst, inl, inr, Option, None, arith}
 use Rattle.std.specs.Option.{option_to_list}
 use denote.Ref.{Bor}
 use Rattle.std.specs.Prelude.{if◌then◌else◌}

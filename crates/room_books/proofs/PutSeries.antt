@@ -1,8 +1,8 @@
 -- The series of a room once one of its meetings has others: where they stand, how many there are, and that all is clear.
 use Rattle.std.proofs.Common.{◌≡◌, ◌≢◌, ◌∙◌, ℕ, ◌<◌, ◌≤◌, ◌+◌, Bool, true, false, not, cond, List, [], ◌∷◌, ◌++◌, ◌⊎◌, inl, inr, refl, sym, ap, subst, length, arith, length-append}
-use Rattle.std.specs.Prelude.{◌==◌, slice_get}
+use Rattle.std.specs.Prelude.{◌==◌}
 use Rattle.std.specs.Option.{option_to_list}
-use Rattle.std.specs.List.{Contains, IsDistinct, filter, list_any}
+use Rattle.std.specs.List.{Contains, IsDistinct, filter}
 use Rattle.std.specs.Map.{keys_of}
 use Rattle.std.proofs.lemmas.Bool.{both_ways, cases_Bool, eq-eqb, eqb-true}
 use Rattle.std.proofs.lemmas.List.{length-map}
@@ -13,13 +13,12 @@ use Rattle.itip_order.proofs.Lists.{any_at, any_from, in_cons, in_head, in_tail,
 use Rattle.profile.specs.checker.Instances.{Booked}
 use Rattle.profile.specs.events.Confirmed.{IsOneOf}
 use Rattle.profile.specs.events.Meetings.{Meeting as Whole}
-use Rattle.cal_events.specs.declared.instance.Single.{Single}
 use Rattle.cal_events.specs.declared.series.Series.{Series}
 use Rattle.room_books.specs.BySlot.{Reordered}
 use Rattle.room_books.specs.declared.meeting.MeetingKey.{MeetingKey}
 use Rattle.room_books.specs.declared.kept.Meeting.{Meeting}
 use Rattle.room_books.specs.declared.meeting.Given.{Given}
-use Rattle.room_books.specs.Views.{all_series, all_singles, beside, booked_list, booked_of, has_place, in_room, is_other, joined, meeting_singles, other_recurring, others, recurring_of, all_recurring, same_key, series_at, series_list, series_of, AreRecurring, IsClearIn}
+use Rattle.room_books.specs.Views.{all_series, all_singles, beside, booked_list, has_place, in_room, is_other, joined, meeting_singles, other_recurring, others, recurring_of, all_recurring, same_key, series_at, series_list, series_of, AreRecurring, IsClearIn}
 use Rattle.room_books.proofs.Keys.{key_congr}
 use Rattle.room_books.proofs.Meetings.{key_from}
 use Rattle.room_books.proofs.Pairs.{flat_at, flat_from, map_at, map_from}

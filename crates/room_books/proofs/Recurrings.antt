@@ -1,26 +1,24 @@
 -- Series beside singles and beside one another: instances that share an instant, as loops look for them.
-use Rattle.std.proofs.Common.{◌≡◌, ◌≢◌, ◌∙◌, ◌+◌, ◌<◌, ◌≤◌, ℕ, ℤ, ◌≤ℤ◌, ◌⊎◌, inl, inr, suc, List, [], ◌∷◌, ◌++◌, length, take, drop, get_or, map, append_assoc, subst, sym, refl, ap, arith, length-drop, Option, None, Some}
-use Rattle.std.specs.Prelude.{slice_get, option_map, MatchOption}
+use Rattle.std.proofs.Common.{◌≡◌, ◌∙◌, ◌+◌, ◌<◌, ◌≤◌, ℕ, ℤ, ◌≤ℤ◌, ◌⊎◌, inl, inr, suc, List, [], ◌∷◌, ◌++◌, length, take, drop, get_or, map, append_assoc, subst, sym, ap, arith, length-drop, Option, None, Some}
+use Rattle.std.specs.Prelude.{slice_get, option_map}
 use Rattle.std.specs.List.{Contains}
 use Rattle.std.proofs.Math.Seq.{drop-cons}
 use Rattle.std.proofs.lemmas.Int.{ints}
 use Rattle.std.proofs.lemmas.List.{map-append}
-use Rattle.std.proofs.lemmas.Option.{slice_get_within, slice_get-get_or, get_or_from_slice_get}
-use Rattle.itip_order.proofs.Lists.{none_in_nil, in_cons}
+use Rattle.std.proofs.lemmas.Option.{slice_get-get_or, get_or_from_slice_get}
+use Rattle.itip_order.proofs.Lists.{in_cons}
 use Rattle.profile.specs.checker.Instances.{Key, Booked}
-use Rattle.profile.specs.events.Meetings.{Meeting as Whole}
 use Rattle.profile.specs.events.Starts.{IsInstance, IsFirstOverlap, SharesInstant}
-use Rattle.cal_period.specs.Clear.{AreClear, ArePair, AreTwo, IsClear, ShareStart}
+use Rattle.cal_period.specs.Clear.{AreClear, AreTwo, IsClear, ShareStart}
 use Rattle.cal_events.specs.Calendars.{instance_of}
 use Rattle.cal_events.specs.SaidSeries.{series_said, AreKnownByStart}
 use Rattle.cal_events.specs.declared.instance.Instance.{Instance}
 use Rattle.cal_events.specs.declared.instance.Single.{Single}
 use Rattle.cal_events.specs.declared.series.Series.{Series}
 use Rattle.cal_events.specs.declared.sweep.Span.{Span}
-use Rattle.room_books.specs.declared.decide.Shared.{Shared}
 use Rattle.room_books.specs.declared.recurring.Recurring.{Recurring}
-use Rattle.room_books.specs.Instants.{HaveInstant, IsLater, Overlap}
-use Rattle.room_books.specs.Recurrings.{AreBeside, AreClearFrom, IsAlone, IsAmong, IsBesideOne}
+use Rattle.room_books.specs.Instants.{HaveInstant, Overlap}
+use Rattle.room_books.specs.Recurrings.{AreBeside, IsAlone}
 use Rattle.room_books.specs.Views.{span_of, Recurs}
 use Rattle.room_books.proofs.Loops.{one_more}
 
@@ -77,8 +75,7 @@ none_shared s span found first none x t r h =
 pub first_shared : (s : Series) (span : Span) (found : Option Instance) (i : Instance) (x : Single) → IsFirstOverlap (series_said s) span.start span.end (option_map instance_of found) → found ≡ Some i
     → x.slot ≡ i.key.slot → x.span.start ≡ i.start → x.span.end ≡ i.end → Recurs s x × Overlap span x.span
 first_shared s span found i x first some slot start end =
-    let is = subst (λ (o : Option Instance). IsFirstOverlap (series_said s) span.start span.end (option_map instance_of o)) some first in
-    (
+    let is = subst (λ (o : Option Instance). IsFirstOverlap (series_said s) span.start span.end (option_map instance_of o)) some first in (
       recurs_as s (instance_of i) x is.0 slot start end,
       overlap_turned x.span span (overlap_at x.span span (instance_of i) (span_as (instance_of i) x start end) is.1.0),
     )
@@ -149,8 +146,7 @@ pub clear_to_more : (all : List Recurring) (from k : ℕ) (d : Recurring) → k 
     → AreClearTo all from k → AreClearTo all from (k + 1)
 clear_to_more all from k d within beside alone before place r first last at = elim (at_end place last) [
   | inl e ↦
-      let same : get_or all k d ≡ r = ap (λ n. get_or all n d) (sym e) ∙ get_or_from_slice_get all place r d at in
-      (
+      let same : get_or all k d ≡ r = ap (λ n. get_or all n d) (sym e) ∙ get_or_from_slice_get all place r d at in (
         subst (λ (n : ℕ). AreBeside (Recurs r.series.now) (take n all) None) (sym e) (subst (λ (z : Recurring). AreBeside (Recurs z.series.now) (take k all) None) same beside),
         subst (λ (z : Recurring). IsAlone z.series.now None) same alone,
       )

@@ -1,5 +1,5 @@
 -- The series of a meeting in a room: its instances are those that recur, by the key of the meeting.
-use Rattle.std.proofs.Common.{◌≡◌, ◌∙◌, [], subst, sym, refl, ap, ℤ}
+use Rattle.std.proofs.Common.{◌≡◌, ◌∙◌, [], subst, sym, refl, ap}
 use Rattle.std.specs.Prelude.{option_map}
 use Rattle.profile.specs.checker.Instances.{Key, Booked}
 use Rattle.profile.specs.events.Events.{Event}
@@ -45,8 +45,7 @@ module _ (key : MeetingKey) (s : Series) where
   of_series b k =
       let h = at_start (of_key key own) b (subst (λ (w : Whole). IsInstance w b) rekeyed_is k) in
       let x : Single = record { slot = b.start; span = span_of b } in
-      let before : Booked = record { key = key_at own b.start; start = b.start; end = b.end } in
-      (
+      let before : Booked = record { key = key_at own b.start; start = b.start; end = b.end } in (
         x,
         record {
           booked = before;

@@ -1,15 +1,15 @@
 -- The series of a room's meetings: those of a meeting, those of the others, and where they stand.
-use Rattle.std.proofs.Common.{◌≡◌, ◌≢◌, ◌∙◌, ◌<◌, ◌≤◌, ◌+◌, ℕ, Bool, true, false, not, cond, List, [], ◌∷◌, ◌++◌, ◌⊎◌, inl, inr, length, get_or, map, take, append_assoc, subst, sym, refl, ap, arith, length-append, Option, None, Some}
+use Rattle.std.proofs.Common.{◌≡◌, ◌≢◌, ◌∙◌, ◌<◌, ◌+◌, ℕ, true, false, not, cond, List, [], ◌∷◌, ◌++◌, inl, inr, length, get_or, map, take, append_assoc, subst, sym, refl, ap, arith, length-append, Option, None, Some}
 use Rattle.std.specs.Prelude.{slice_get, ◌==◌}
-use Rattle.std.specs.List.{Contains, IsDistinct, filter, flat_map, list_any, position}
+use Rattle.std.specs.List.{Contains, IsDistinct, filter, position}
 use Rattle.std.specs.Option.{option_eq, option_to_list}
 use Rattle.std.specs.Ordering.{is_eq}
-use Rattle.std.specs.Map.{lookup, keys_of}
-use Rattle.std.proofs.lemmas.Bool.{cases_Bool, both_ways, not-true, eq-eqb, eqb-true}
+use Rattle.std.specs.Map.{keys_of}
+use Rattle.std.proofs.lemmas.Bool.{cases_Bool, both_ways, not-true, eqb-true}
 use Rattle.std.proofs.lemmas.List.{get_or_default, length-map, map-append}
 use Rattle.std.proofs.lemmas.List.Elements.{Contains-append_left, Contains-append_right, Contains-append_cases}
 use Rattle.std.proofs.lemmas.Option.{slice_get_within, slice_get-get_or, get_or_from_slice_get}
-use Rattle.itip_order.proofs.Lists.{none_in_nil, in_cons, filter_at, filter_from, any_at, any_from}
+use Rattle.itip_order.proofs.Lists.{none_in_nil, in_cons, filter_at, filter_from, any_at}
 use Rattle.itip_order.specs.declared.part.Slot.{Slot}
 use Rattle.itip_order.specs.Parts.{slot_of}
 use denote.Ref.{Bor}
@@ -27,10 +27,10 @@ use Rattle.room_books.specs.declared.recurring.Recurring.{Recurring}
 use Rattle.room_books.specs.BySlot.{is_at}
 use Rattle.room_books.specs.Recurrings.{AreAllOf, keyed_of, recurring_said}
 use Rattle.room_books.specs.Timelines.{is_place}
-use Rattle.room_books.specs.Views.{all_series, booked_of, has_place, is_other, other_recurring, recurring_at, recurring_by, recurring_of, same_key, series_at, series_in, series_list, series_of, AreRecurring}
+use Rattle.room_books.specs.Views.{all_series, booked_of, is_other, other_recurring, recurring_at, recurring_by, recurring_of, same_key, series_at, series_in, series_list, series_of, AreRecurring}
 use Rattle.room_books.specs.Wholes.{is_of_whole}
 use Rattle.room_books.proofs.Loops.{one_more}
-use Rattle.room_books.proofs.Pairs.{flat_at, flat_from, map_at, map_from}
+use Rattle.room_books.proofs.Pairs.{flat_at, flat_from, map_at}
 use Rattle.room_books.proofs.Places.{booked_differs, key_at}
 use Rattle.room_books.proofs.Rekeyed.{of_series}
 
@@ -105,14 +105,14 @@ module _ (k : MeetingKey) (es : List (MeetingKey × Meeting)) (distinct : IsDist
   pub there_all : (places : List ℕ) (all : List Recurring) → AreRecurring (series_at es) places → AreThere k es own places (map recurring_said all) → AreAllOf (other_recurring k es) all
   there_all places all recurs h one = (
     (λ c.
-      let f = flat_at recurring_of (filter (is_other k) es) one c in
-      let both = filter_at (is_other k) es f.0 f.1 in
-      let s = map_at (series_of f.0.0) (all_series f.0.1.answers.items) one f.2 in
-      let place = both.0.0 in
-      let at : slice_get es place ≡ Some f.0 = slice_get-get_or es place f.0 both.0.1 ∙ ap Some both.0.2 in
-      let p = any_at (λ q. q == place) places (recurs place s.0 (subst (λ (o : Option (MeetingKey × Meeting)). Contains (series_in o) s.0) (sym at) s.1)) in
-      h.each place one (subst (Contains places) (eqb-true p.0 place p.2) p.1) (key_at k es distinct own own_is place f.0 at ∙ not-true _ both.1)
-      (subst (λ (o : Option (MeetingKey × Meeting)). Contains (recurring_by o) one) (sym at) f.2)),
+        let f = flat_at recurring_of (filter (is_other k) es) one c in
+        let both = filter_at (is_other k) es f.0 f.1 in
+        let s = map_at (series_of f.0.0) (all_series f.0.1.answers.items) one f.2 in
+        let place = both.0.0 in
+        let at : slice_get es place ≡ Some f.0 = slice_get-get_or es place f.0 both.0.1 ∙ ap Some both.0.2 in
+        let p = any_at (λ q. q == place) places (recurs place s.0 (subst (λ (o : Option (MeetingKey × Meeting)). Contains (series_in o) s.0) (sym at) s.1)) in
+        h.each place one (subst (Contains places) (eqb-true p.0 place p.2) p.1) (key_at k es distinct own own_is place f.0 at ∙ not-true _ both.1)
+        (subst (λ (o : Option (MeetingKey × Meeting)). Contains (recurring_by o) one) (sym at) f.2)),
     h.others one,
   )
 

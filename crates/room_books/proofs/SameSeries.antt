@@ -1,11 +1,10 @@
 -- Series of a book, as far as other parts leave them, and series that a room keeps: as many, with the same instances.
-use Rattle.std.proofs.Common.{◌≡◌, false, List, [], ◌∷◌, ◌++◌, ◌<◌, ◌≤◌, inl, inr, refl, sym, ◌∙◌, length, arith, length-append}
-use Rattle.std.specs.Prelude.{◌↔◌}
+use Rattle.std.proofs.Common.{◌≡◌, List, [], ◌++◌, ◌≤◌, inl, inr, refl, sym, ◌∙◌, length, arith, length-append}
 use Rattle.std.specs.List.{Contains}
 use Rattle.std.proofs.lemmas.List.Elements.{Contains-append_left, Contains-append_right, Contains-append_cases}
 use Rattle.itip_order.proofs.Lists.{none_in_nil}
-use Rattle.profile.specs.checker.Instances.{Booked, AreClashing}
-use Rattle.profile.specs.events.Confirmed.{Confirmed, IsOneOf, IsInSeries}
+use Rattle.profile.specs.checker.Instances.{Booked}
+use Rattle.profile.specs.events.Confirmed.{Confirmed, IsOneOf}
 use Rattle.profile.specs.events.Meetings.{Meeting as Series}
 use Rattle.profile.specs.rooms.Messages.{Outcome, Accept, Busy, SeriesLimit, SinglesLimit}
 use Rattle.profile.specs.rooms.Revisions.{Part}

@@ -4,7 +4,7 @@ use Rattle.std.specs.Prelude.{IfSome, option_map}
 use Rattle.std.specs.Option.{option_to_list}
 use Rattle.std.specs.List.{Contains}
 use Rattle.itip_order.proofs.Lists.{in_cons, in_head, none_in_nil}
-use Rattle.profile.specs.checker.Instances.{Key, Booked}
+use Rattle.profile.specs.checker.Instances.{Booked}
 use Rattle.profile.specs.events.Confirmed.{IsInSeries}
 use Rattle.profile.specs.events.Meetings.{Meeting as Whole}
 use Rattle.profile.specs.events.Starts.{IsInstance}
@@ -16,7 +16,7 @@ use Rattle.cal_events.specs.declared.series.Series.{Series}
 use Rattle.room_books.specs.declared.meeting.MeetingKey.{MeetingKey}
 use Rattle.room_books.specs.Standing.{is_of, AreSameSeries, IsFittingSeries}
 use Rattle.room_books.specs.Takings.{IsSeriesLeft}
-use Rattle.room_books.specs.Views.{booked_of, series_of, series_list, span_of, Recurs}
+use Rattle.room_books.specs.Views.{booked_of, series_of, series_list, span_of}
 use Rattle.room_books.proofs.Meetings.{is_of_parts}
 use Rattle.room_books.proofs.Rekeyed.{to_series, of_series}
 
@@ -71,12 +71,12 @@ module _ (key : MeetingKey) where
       long = p.long;
       same = λ b. (
         λ lf. (
-          let shown = before b (shown_at u lf.series lf.among b lf.shown) in
-          one_in l b (less_of at s l left b (in_one s b ((p.same b).0 (earlier b lf))) shown.1)),
+            let shown = before b (shown_at u lf.series lf.among b lf.shown) in
+            one_in l b (less_of at s l left b (in_one s b ((p.same b).0 (earlier b lf))) shown.1)),
         λ i. (
-          let was = more_of at s l left b (in_one l b i) in
-          let lf = (p.same b).1 (one_in s b was.0) in
-          record { series = lf.series; among = lf.among; is = lf.is; shown = at_part u lf.series lf.among b (now b (shown_at t lf.series lf.among b lf.shown) was.1) }),
+            let was = more_of at s l left b (in_one l b i) in
+            let lf = (p.same b).1 (one_in s b was.0) in
+            record { series = lf.series; among = lf.among; is = lf.is; shown = at_part u lf.series lf.among b (now b (shown_at t lf.series lf.among b lf.shown) was.1) }),
       );
     }
 
@@ -106,15 +106,15 @@ module _ (key : MeetingKey) where
         long = refl;
         same = λ b. (
           λ lf. (
-            let is = only one lf.series lf.among in
-            let inside : IsInstance (series_said s) b = subst (λ (r : Recurring). IsInstance r.meeting b) (sym is) lf.is in
-            let shown : is_hidden t claim.part b ≡ false = subst (λ (r : Recurring). is_hidden t r.part b ≡ false) (sym is) lf.shown in
-            one_in l b (subst (IsInstance (series_of key l)) (own_booked claim.part b (single b) own (fits.organiser b inside) (fits.uid b inside) refl refl)
-            (to_series key l (single b) record { booked = b; is = (left b).1 (inside, shown); slot = refl; span = refl }))),
+              let is = only one lf.series lf.among in
+              let inside : IsInstance (series_said s) b = subst (λ (r : Recurring). IsInstance r.meeting b) (sym is) lf.is in
+              let shown : is_hidden t claim.part b ≡ false = subst (λ (r : Recurring). is_hidden t r.part b ≡ false) (sym is) lf.shown in
+              one_in l b (subst (IsInstance (series_of key l)) (own_booked claim.part b (single b) own (fits.organiser b inside) (fits.uid b inside) refl refl)
+              (to_series key l (single b) record { booked = b; is = (left b).1 (inside, shown); slot = refl; span = refl }))),
           λ i. (
-            let x = of_series key l b (in_one l b i) in
-            let was = (left x.1.booked).0 x.1.is in
-            let same : x.1.booked ≡ b = sym (own_booked claim.part x.1.booked x.0 own (fits.organiser x.1.booked was.0) (fits.uid x.1.booked was.0) x.1.slot x.1.span) ∙ sym x.2 in
-            record { series = one; among = in_head one []; is = subst (IsInstance (series_said s)) same was.0; shown = subst (λ (z : Booked). is_hidden t claim.part z ≡ false) same was.1 }),
+              let x = of_series key l b (in_one l b i) in
+              let was = (left x.1.booked).0 x.1.is in
+              let same : x.1.booked ≡ b = sym (own_booked claim.part x.1.booked x.0 own (fits.organiser x.1.booked was.0) (fits.uid x.1.booked was.0) x.1.slot x.1.span) ∙ sym x.2 in
+              record { series = one; among = in_head one []; is = subst (IsInstance (series_said s)) same was.0; shown = subst (λ (z : Booked). is_hidden t claim.part z ≡ false) same was.1 }),
         );
       }

@@ -1,7 +1,7 @@
 -- The decision of singles and series: by the limits, by the singles alone, and by the series.
-use Rattle.std.proofs.Common.{◌≡◌, ◌∙◌, ◌≤◌, ◌<◌, ◌+◌, ℕ, ℤ, Bool, true, false, List, ◌++◌, inl, length, Option, None, Some, Vec, vec_len, refl, rules, subst, sym, ap, arith, length-append}
+use Rattle.std.proofs.Common.{◌≡◌, ◌∙◌, ◌≤◌, ◌<◌, ◌+◌, ℕ, ℤ, true, false, List, ◌++◌, inl, length, Option, None, Some, Vec, vec_len, refl, rules, subst, sym, ap, arith, length-append}
 use denote.Ref.{Bor}
-use Rattle.std.specs.List.{Contains, IsDistinct}
+use Rattle.std.specs.List.{IsDistinct}
 use Rattle.std.specs.Map.{lookup, keys_of}
 use Rattle.std.proofs.lemmas.Bool.{true≢false, both_ways}
 use Rattle.std.proofs.lemmas.List.{length-map}
@@ -9,7 +9,7 @@ use Rattle.clash_cert.specs.declared.making.Clash.{Clash}
 use Rattle.cal_events.specs.Calendars.{owned_key_of}
 use Rattle.cal_events.specs.declared.instance.Single.{Single}
 use Rattle.cal_events.specs.declared.series.Series.{Series}
-use Rattle.profile.specs.checker.Instances.{Booked, Key}
+use Rattle.profile.specs.checker.Instances.{Key}
 use Rattle.profile.specs.events.Confirmed.{Confirmed, IsOneOf}
 use Rattle.profile.specs.rooms.Messages as messages
 use Rattle.profile.specs.rooms.Rooms.{is_accept, most_series, most_singles}
@@ -19,8 +19,8 @@ use Rattle.room_books.specs.declared.meeting.Given.{Given}
 use Rattle.room_books.specs.declared.meeting.MeetingKey.{MeetingKey}
 use Rattle.room_books.specs.declared.meeting.Outcome.{Outcome}
 use Rattle.room_books.specs.Recurrings.{AreClearBeside}
-use Rattle.room_books.specs.Takings.{answers_by, kept_then, AreOfOneMeeting, DecidesAmong, DecidesOf, IsDecision, IsWholeDecision}
-use Rattle.room_books.specs.Views.{all_recurring, all_series, all_singles, booked_list, joined, other_recurring, outcome_of, same_key, series_by, series_list, series_of, IsClearIn}
+use Rattle.room_books.specs.Takings.{answers_by, kept_then, DecidesAmong, DecidesOf, IsDecision, IsWholeDecision}
+use Rattle.room_books.specs.Views.{all_recurring, all_series, all_singles, joined, other_recurring, outcome_of, same_key, series_by, series_list, series_of, IsClearIn}
 use Rattle.room_books.proofs.Deciding.{names_more}
 use Rattle.room_books.proofs.Places.{other_series_count}
 use Rattle.room_books.proofs.RoomSeries.{now_of}

@@ -18,11 +18,7 @@ use itip_order::{Part, Slot};
 use std::alloc::{AllocError, Global};
 
 /// The claims that a message has for a room, the whole meeting first and then its instances; none where it isn't addressed to it.
-pub fn claims_of(
-    alloc: Global,
-    message: &Message,
-    room: &Address,
-) -> Result<Vec<Claim>, AllocError>
+pub fn claims_of(alloc: Global, message: &Message, room: &Address) -> Result<Vec<Claim>, AllocError>
     ensures { IfOk result (λ claims. (said : profile.Message) → StandsFor message.now said → AreClaimed (address_octets room.now) said claims.items) }
 {
     if !message.is_addressed_to(room) {
@@ -34,11 +30,7 @@ pub fn claims_of(
 /// A claim for each component that is a part for the room.
 // Apart from `claims_of`, which most rooms leave at its first line.
 #[inline(never)]
-fn all_claims(
-    alloc: Global,
-    message: &Message,
-    room: &Address,
-) -> Result<Vec<Claim>, AllocError>
+fn all_claims(alloc: Global, message: &Message, room: &Address) -> Result<Vec<Claim>, AllocError>
     ensures { IfOk result (λ claims. AllZip (IsClaimIn (address_octets room.now) message.now) (filter (has_part (address_octets room.now) message.now) message.now.components.items) claims.items) }
 {
     let mut claims = Vec::new(alloc);
@@ -64,11 +56,7 @@ fn claim_in(
 }
 
 /// The claim of a part that asks for the instances of a component, if it is to take place.
-fn claim_for(
-    alloc: Global,
-    part: Part,
-    component: &MessageComponent,
-) -> Result<Claim, AllocError>
+fn claim_for(alloc: Global, part: Part, component: &MessageComponent) -> Result<Claim, AllocError>
     ensures { IfOk result (IsAsking part component.now) }
 {
     let mut singles = Vec::new(alloc);

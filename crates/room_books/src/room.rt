@@ -46,9 +46,7 @@ use crate::recurring::{Recurring, clash_from, push_all, single_beside};
 use crate::refresh::refresh_to;
 use crate::reply::reply_to;
 use crate::slots::{answers_of, slots_of};
-use crate::taking::{
-    Kept, Views, candidates, decided, held_with, is_accept, parts_of,
-};
+use crate::taking::{Kept, Views, candidates, decided, held_with, is_accept, parts_of};
 use crate::texts::{calendar_of, certificate_octets};
 use crate::timeline::Timeline;
 use cal_events::{Series, Single};

@@ -1,5 +1,5 @@
 -- What shares no instant with what stays in the timeline shares none with what stays confirmed.
-use Rattle.std.proofs.Common.{None, map, sym, subst, ◌∙◌}
+use Rattle.std.proofs.Common.{None, sym, subst, ◌∙◌}
 use denote.Ref.{Bor}
 use Rattle.cal_events.specs.declared.series.Series.{Series}
 use Rattle.room_books.specs.Timelines.{AreTaken, is_leaving}
@@ -22,8 +22,7 @@ returns-in_err-other c =
 pub returns-in-Some : goal.returns-in-Some
 returns-in-Some c = λ kept parted.
     let k = c.args.key.now in let es = c.args.meetings.now.entries in
-    let one = c.series-item.result in
-    (
+    let one = c.series-item.result in (
       (one.now, map_from series_now c.args.all.now one (c.loop-series.series-index, c.loop-series-test.true, sym c.series-item.is), c.in-Some.ensures.0),
       staying_is k es c.get_index_of-own.ensures.unique c.get_index_of-own.result c.get_index_of-own.ensures.index
           c.args.timeline.now.busy.items c.requires.timed c.requires.apart c.args.gone.now kept parted c.in-Some.busy c.in-Some.ensures.1.0 c.in-Some.ensures.1.1

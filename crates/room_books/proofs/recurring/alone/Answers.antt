@@ -1,5 +1,5 @@
 -- An instance of a series is known by its start.
-use Rattle.std.proofs.Common.{None, Some, subst, sym, ◌∙◌}
+use Rattle.std.proofs.Common.{subst, sym}
 use Rattle.std.specs.Prelude.{MatchOption}
 use Rattle.cal_events.specs.SaidSeries.{series_said}
 use Rattle.cal_events.specs.Calendars.{instance_of}

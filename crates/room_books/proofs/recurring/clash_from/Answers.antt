@@ -1,4 +1,4 @@
-use Rattle.std.proofs.Common.{◌≤◌, ◌<◌, ℕ, get_or, inl, inr, ap, arith}
+use Rattle.std.proofs.Common.{get_or, inl, inr, ap, arith}
 use Rattle.std.proofs.lemmas.List.{get_or_default}
 use Rattle.std.proofs.lemmas.Option.{slice_get_within}
 use Rattle.room_books.specs.declared.recurring.Recurring.{Recurring}
@@ -10,18 +10,24 @@ loop-place-init c = λ place r first last at. absurd (omega (arith, first, last)
 
 pub returns-in-Some : goal.returns-in-Some
 returns-in-Some c =
-    let d = c.index-all-place-in-loop-place.result in
-    (c.loop-place.place, get_or c.args.all.now c.loop-place.place d, c.loop-place.auto.place,
-      record { at = at_place c.args.all.now c.loop-place.place d c.loop-place-test.true; found = inl c.in-Some.ensures })
+    let d = c.index-all-place-in-loop-place.result in (
+      c.loop-place.place,
+      get_or c.args.all.now c.loop-place.place d,
+      c.loop-place.auto.place,
+      record { at = at_place c.args.all.now c.loop-place.place d c.loop-place-test.true; found = inl c.in-Some.ensures },
+    )
 
 pub returns-in-Some-alone : goal.returns-in-Some-alone
 returns-in-Some-alone c =
-    let d = c.index-all-place-in-loop-place.result in
-    (c.loop-place.place, get_or c.args.all.now c.loop-place.place d, c.loop-place.auto.place,
+    let d = c.index-all-place-in-loop-place.result in (
+      c.loop-place.place,
+      get_or c.args.all.now c.loop-place.place d,
+      c.loop-place.auto.place,
       record {
         at = at_place c.args.all.now c.loop-place.place d c.loop-place-test.true;
         found = inr (c.in-Some-alone.ensures, ap (λ (r : Recurring). r.key.now) (get_or_default c.args.all.now c.loop-place.place c.index-all-place.result d c.loop-place-test.true));
-      })
+      },
+    )
 
 pub loop-place-preserved : goal.loop-place-preserved
 loop-place-preserved c =

@@ -1,4 +1,4 @@
-use Rattle.std.proofs.Common.{Some, refl, subst, sym}
+use Rattle.std.proofs.Common.{refl, subst, sym}
 use Rattle.cal_events.specs.Calendars.{instance_of}
 use Rattle.room_books.specs.Views.{Recurs}
 use Rattle.room_books.proofs.Recurrings.{AreFreeOf, holds_all, holds_more, none_of_pair, overlap_start, recurs_as, span_as}
@@ -8,8 +8,7 @@ pub returns-in-Some : goal.returns-in-Some
 returns-in-Some c =
     let r = c.recurring-item.result in
     let a = instance_of c.in-Some.asked in let b = instance_of c.in-Some.booked in
-    let x = c.as_single.ensures in let y = c.as_single-in-Some.ensures in
-    (
+    let x = c.as_single.ensures in let y = c.as_single-in-Some.ensures in (
       recurs_as c.args.series.now a c.as_single.result c.in-Some.ensures.first x.slot x.start x.end,
       record {
         recurring = r;

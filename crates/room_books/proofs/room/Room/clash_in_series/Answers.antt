@@ -1,8 +1,5 @@
 -- The series of the others come first, then those that the meeting keeps, then those that it asks for.
 use Rattle.std.proofs.Common.{◌≡◌, ◌++◌, ◌∙◌, List, None, Some, Contains, Vec, length, vec_len, rules, sym, subst}
-use Rattle.cal_events.specs.declared.instance.Single.{Single}
-use Rattle.cal_events.specs.declared.series.Series.{Series}
-use Rattle.room_books.specs.declared.decide.Shared.{Shared}
 use Rattle.room_books.specs.declared.recurring.Recurring.{Recurring}
 use Rattle.room_books.specs.Recurrings.{AreBeside, AreNewClear}
 use Rattle.room_books.specs.Views.{beside, booked_list, others}

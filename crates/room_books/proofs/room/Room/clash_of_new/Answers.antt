@@ -1,4 +1,4 @@
-use Rattle.std.proofs.Common.{List, map, ◌++◌}
+use Rattle.std.proofs.Common.{map, ◌++◌}
 use Rattle.std.specs.Map.{lookup}
 use denote.Ref.{Bor}
 use Rattle.cal_events.specs.declared.series.Series.{Series}

@@ -1,21 +1,18 @@
 -- The others have all series less those of the meeting.
-use Rattle.std.proofs.Common.{◌≡◌, ◌∙◌, ◌++◌, ◌≤◌, List, length, Some, None, map, false, not, refl, sym, ap, subst, arith}
+use Rattle.std.proofs.Common.{◌≡◌, ◌∙◌, ◌++◌, List, Some, None, false, refl, sym, ap, subst, arith}
 use Rattle.std.specs.Map.{lookup}
 use Rattle.profile.specs.rooms.Rooms.{is_accept}
 use Rattle.cal_events.specs.declared.instance.Single.{Single}
-use Rattle.cal_events.specs.declared.series.Series.{Series}
 use Rattle.room_books.specs.declared.meeting.Given.{Given}
 use Rattle.room_books.specs.declared.meeting.Outcome.TheVariants.{Declined, Limit}
 use Rattle.room_books.specs.declared.answer.LimitKind.TheVariants as limits
 use Rattle.room_books.specs.BySlot.{left_without}
-use Rattle.room_books.specs.Recurrings.{AreClearBeside}
-use Rattle.room_books.specs.Takings.{answers_by, kept_then, IsDecision}
+use Rattle.room_books.specs.Takings.{kept_then, IsDecision}
 use Rattle.room_books.specs.Views.{all_series, all_singles, beside, others, outcome_of, same_key, singles_by}
 use Rattle.room_books.proofs.AllConfirmed.{kept_clear}
 use Rattle.room_books.proofs.Leaving.{kept_within}
-use Rattle.room_books.proofs.Places.{other_series_count}
 use Rattle.room_books.proofs.RoomSeries.{now_of}
-use Rattle.room_books.proofs.WholeDeciding.{accept_of, beside_as, lent_long, many_series, series_accept, series_before, series_beside, series_clash, series_long, singles_decide}
+use Rattle.room_books.proofs.WholeDeciding.{accept_of, beside_as, lent_long, many_series, series_accept, series_beside, series_clash, series_long, singles_decide}
 use Rattle.room_books.proofs.room.Room.decide.Goals as goal
 
 pub overflow_sub-others : goal.overflow_sub-others

@@ -16,12 +16,13 @@ pub returns-in-Some : goal.returns-in-Some
 returns-in-Some c =
     let b = get_or c.deref-busy-items.result.now c.loop-busy.busy-index nothing in
     let f = first_shared c.args.series.now b.single.span c.first_overlap.result c.in-Some.instance c.as_single.result c.first_overlap.ensures c.in-Some.is
-    c.as_single.ensures.slot c.as_single.ensures.start c.as_single.ensures.end in
-    (
+    c.as_single.ensures.slot c.as_single.ensures.start c.as_single.ensures.end in (
       f.0,
-      (subst (λ (l : List Busy). Contains l b) c.deref-busy-items.ensures.value (Contains-get_or c.deref-busy-items.result.now c.loop-busy.busy-index nothing c.loop-busy-test.true),
-      (sym c.is_gone.ensures ∙ c.if-is_gone.false),
-      overlap_turned b.single.span c.as_single.result.span f.1),
+      (
+        subst (λ (l : List Busy). Contains l b) c.deref-busy-items.ensures.value (Contains-get_or c.deref-busy-items.result.now c.loop-busy.busy-index nothing c.loop-busy-test.true),
+        (sym c.is_gone.ensures ∙ c.if-is_gone.false),
+        overlap_turned b.single.span c.as_single.result.span f.1,
+      ),
     )
 
 pub loop-busy-preserved-then-is_gone : goal.loop-busy-preserved-then-is_gone
