@@ -75,3 +75,9 @@ pub mod SlotPlaces
 pub mod Looking
 pub mod Answered
 pub mod Walking
+pub mod Fewer
+pub mod WholeAlone
+pub mod HiddenStarts
+pub mod Recurrings
+pub mod ClearBeside
+pub mod RoomSeries

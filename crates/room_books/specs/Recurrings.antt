@@ -20,9 +20,9 @@ use Rattle.room_books.specs.Views.{booked_list, joined, series_of, AreBusyIn, Is
 abbrev pub recurring_said : Recurring → Whole
 recurring_said recurring = series_of recurring.key.now recurring.series.now
 
--- a series of the meeting with this key
-abbrev pub recurring_in : Bor MeetingKey → Bor Series → Recurring
-recurring_in key series = record { key = key; series = series }
+-- a series with the key of its meeting
+abbrev pub keyed_of : Recurring → MeetingKey × Series
+keyed_of recurring = (recurring.key.now, recurring.series.now)
 
 -- the instance is one of a series of these, of the meeting with this key
 pub record IsAmong (all : List Recurring) (key : MeetingKey) (single : Single) : Type 0 where

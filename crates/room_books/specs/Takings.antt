@@ -1,6 +1,7 @@
 -- What a message does to its meeting.
 use Rattle.std.specs.Prelude.{◌≡◌, ◌≢◌, ◌⊎◌, ◌↔◌, ◌<◌, ◌≤◌, ◌++◌, ℕ, ℤ, Bool, true, false, Contains, not, ◌&&◌, nat_lt, IsTrue, if◌then◌else◌, List, [], ◌∷◌, take, drop, ◌==◌, length, map, filter, AllPairs, Option, Some, None, option_map, is_some, Vec}
 use Rattle.std.specs.List.{AllZip}
+use Rattle.std.specs.Option.{option_to_list}
 use denote.Ref.{Bor}
 use Rattle.profile.specs.text.Values.{IsClockSeconds}
 use Rattle.cal_events.specs.Calendars.{owned_key_of}
@@ -178,6 +179,11 @@ pub record IsLeftOf (slots : List Slot) (held : List revisions.Part) (of : revis
 abbrev pub singles_left : Option Given → List Single
 singles_left None = []
 singles_left (Some left) = left.singles.items
+
+-- and the series that it confirms
+abbrev pub series_still : Option Given → List Series
+series_still None = []
+series_still (Some left) = option_to_list left.series
 
 -- the answer to a claim at a moment, were it accepted
 pub record IsAccepted (held : List revisions.Part) (claim : Claim) (moment : ℤ) (given : Given) : Type 0 where

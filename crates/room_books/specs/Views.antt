@@ -1,7 +1,7 @@
 -- What the types of a room stand for, and what is decided of an instance.
-use Rattle.std.specs.Prelude.{◌≡◌, ◌≢◌, ℕ, ℤ, Bool, not, ◌&&◌, List, [], ◌++◌, ◌≤◌, length, map, filter, Contains, AllPairs, Option, Some, None, option_map, slice_get}
+use Rattle.std.specs.Prelude.{◌≡◌, ◌≢◌, ℕ, ℤ, Bool, true, not, ◌&&◌, ◌==◌, List, [], ◌++◌, ◌≤◌, length, map, filter, Contains, AllPairs, Option, Some, None, option_map, slice_get}
 use Rattle.std.specs.Option.{option_to_list}
-use Rattle.std.specs.List.{flat_map}
+use Rattle.std.specs.List.{flat_map, list_any}
 use Rattle.std.specs.Str.{bytes_eq}
 use Rattle.ical_values.specs.Octets.{address_octets, text_octets}
 use Rattle.cal_events.specs.Calendars.{owned_key_of}
@@ -206,6 +206,10 @@ pub record SeriesMayJoin (others : Confirmed) (key : MeetingKey) (singles : List
   pub few : length (others.series ++ series_list key series) ≤ most_series
   pub clear : IsClearIn (joined others key singles series)
 
+-- the place is one of these
+abbrev pub has_place : List ℕ → ℕ → Bool
+has_place places place = list_any (λ own. own == place) places
+
 -- each place at which there are series is one of these
 abbrev pub AreRecurring : (ℕ → List Series) → List ℕ → Type 0
-AreRecurring at places = (place : ℕ) (series : Series) → Contains (at place) series → Contains places place
+AreRecurring at places = (place : ℕ) (series : Series) → Contains (at place) series → has_place places place ≡ true

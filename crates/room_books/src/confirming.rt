@@ -37,17 +37,32 @@ pub(crate) fn series_of<'a>(
 }
 
 /// Puts the series that answers confirm behind others.
-pub(crate) fn push_series<'a>(
-    series: &mut Vec<&'a Series>,
-    answers: &'a [Given],
-) -> Result<(), AllocError>
+fn push_series<'a>(series: &mut Vec<&'a Series>, answers: &'a [Given]) -> Result<(), AllocError>
     ensures { OnOk result (map (λ one. one.now) series.new.items ≡ map (λ one. one.now) series.old.items ++ all_series answers.now) }
 {
     for given in answers {
-        if let Some(one) = &given.series {
-            series.push(one)?;
-        }
+        let Some(one) = &given.series else {
+            continue;
+        };
+        series.push(one)?;
     }
+    Ok(())
+}
+
+/// Puts the series of the answers that stay behind others, where those of these slots, in order, are lost.
+fn push_kept<'a>(
+    series: &mut Vec<&'a Series>,
+    answers: &'a [Given],
+    lost: &[Slot],
+) -> Result<(), AllocError>
+    requires answers { AreBySlot answers.now }
+    requires lost { IsSortedByKey slot_of slot_cmp lost.now }
+    ensures { OnOk result (map (λ one. one.now) series.new.items ≡ map (λ one. one.now) series.old.items ++ all_series (left_without lost.now answers.now)) }
+{
+    if is_touched(lost, Slot::Whole) {
+        return Ok(());
+    }
+    push_series(series, answers_of(answers, Slot::Whole))?;
     Ok(())
 }
 
@@ -77,9 +92,7 @@ pub fn kept_series<'a>(
     ensures { IfOk result (λ series. map (λ one. one.now) series.items ≡ all_series (left_without lost.now answers.now ++ left.now)) }
 {
     let mut series = Vec::new(alloc);
-    if !is_touched(lost, Slot::Whole) {
-        push_series(&mut series, answers_of(answers, Slot::Whole))?;
-    }
+    push_kept(&mut series, answers, lost)?;
     push_series(&mut series, left)?;
     Ok(series)
 }

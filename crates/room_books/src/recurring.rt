@@ -3,7 +3,7 @@
 ghost use Rattle.std.specs.Prelude.{◌≡◌, ◌++◌, ◌≤◌, length, map, Contains, OnOk};
 ghost use Rattle.cal_events.specs.declared.series.Series.{Series};
 ghost use Rattle.room_books.specs.Views.{Recurs};
-ghost use Rattle.room_books.specs.Recurrings.{AreBeside, AreClearFrom, IsAlone, IsBesideOne, recurring_in};
+ghost use Rattle.room_books.specs.Recurrings.{AreBeside, AreClearFrom, IsAlone, IsBesideOne, keyed_of};
 
 use crate::decide::Shared;
 use crate::meeting::MeetingKey;
@@ -24,7 +24,7 @@ pub(crate) fn push_all<'a>(
     key: &'a MeetingKey,
     series: &[&'a Series],
 ) -> Result<(), AllocError>
-    ensures { OnOk result (all.new.items ≡ all.old.items ++ map (recurring_in key) series.now) }
+    ensures { OnOk result (map keyed_of all.new.items ≡ map keyed_of all.old.items ++ map (λ one. (key.now, one.now)) series.now) }
 {
     for one in series {
         all.push(Recurring { key, series: one })?;

@@ -14,7 +14,8 @@ ghost use Rattle.profile.specs.checker.Instances.{IsClear};
 ghost use Rattle.itip_messages.specs.Messages.{StandsFor};
 ghost use Rattle.profile.specs.rooms.Messages as profile;
 ghost use Rattle.profile.specs.streams.Streams.{AreClaims};
-ghost use Rattle.profile.specs.rooms.Rooms.{Claim, Book, empty_book};
+ghost use Rattle.profile.specs.rooms.Rooms as rooms;
+ghost use Rattle.profile.specs.rooms.Rooms.{Book, empty_book};
 ghost use Rattle.profile.specs.rooms.Kept.{kept_certificate, IsKeptCalendar, Refreshes, Replies};
 ghost use Rattle.room_books.specs.Instants.{AreSeparate, IsParted, Shifts};
 ghost use Rattle.room_books.specs.Views.{same_key, all_confirmed, all_singles, booked_list, confirmed_at, singles_by, others, AreAllApart, IsKeyOf};
@@ -169,7 +170,7 @@ impl Room {
     pub fn take(&mut self, message: &Message, now: Stamp) -> Result<Answer, AllocError>
         // From each book that the room stands for it makes a step of the room machine, with the claims of the message.
         ensures steps { IfOk result (λ answer. (said : profile.Message) → StandsFor message.now said → (book : Book) → Stands self.old.meetings.entries book
-            → (claims : List Claim) × AreClaims (address_octets self.old.address) said claims
+            → (claims : List rooms.Claim) × AreClaims (address_octets self.old.address) said claims
             × StepsWith (address_octets self.old.address) self.new.meetings.entries book claims now (kind_view answer.kind) (reply_octets answer) (profile.is_add said.method) (refresh_octets answer)) }
         ensures address { self.new.address ≡ self.old.address }
         ensures err { OnErr result (IsUnchanged self.old.meetings self.new.meetings) }
@@ -486,13 +487,13 @@ impl Room {
 
     /// A clash of two instances of which one is asked for, and one is of a series. The meeting keeps these series, and asks for these singles
     /// and series.
-    fn clash_in_series(
-        &self,
-        key: &MeetingKey,
+    fn clash_in_series<'a>(
+        &'a self,
+        key: &'a MeetingKey,
         gone: &[Single],
-        kept: &[&Series],
+        kept: &[&'a Series],
         singles: &[Single],
-        wanted: &[&Series],
+        wanted: &[&'a Series],
     ) -> Result<Option<Clash>, AllocError>
         requires parted { (own : List Single) × IsParted (singles_by (lookup (same_key key.now) self.now.meetings.entries)) gone.now own }
         ensures { IfOk result (λ found. (own : List Single)

@@ -11,7 +11,8 @@ ghost use Rattle.profile.specs.rooms.Revisions.{slot_cmp};
 ghost use Rattle.room_books.specs.Takings as takings;
 ghost use Rattle.room_books.specs.Touching as touching;
 ghost use Rattle.itip_order.specs.Registers.{StandsFor};
-ghost use Rattle.room_books.specs.Views.{outcome_of, all_singles, singles_by};
+ghost use Rattle.room_books.specs.Views.{outcome_of, all_singles, all_series, series_by, singles_by, AreFewer};
+ghost use Rattle.std.specs.Option.{option_to_list};
 ghost use Rattle.room_books.specs.BySlot.{AreBySlot, givens};
 ghost use Rattle.room_books.specs.Instants.{IsPartOf, IsParted, IsSplit, Sheds};
 ghost use Rattle.room_books.specs.Touching.{IsUntouched};
@@ -19,7 +20,7 @@ ghost use Rattle.room_books.specs.declared.meeting.Given.{Given};
 ghost use Rattle.room_books.specs.Standing.{KeepsAll, KeepsSome};
 ghost use Rattle.profile.specs.checker.Instances.{Booked};
 ghost use Rattle.room_books.specs.Takings.{LeavesAll, StandsAt, held_after, AreAsked, booked_in, left_in, IsLeftOf, IsAccepted, IsDecided, IsKindOf};
-ghost use Rattle.room_books.specs.Takings.{IsLeftAlone, IsStill, kept_then, kind_view, parts_said, singles_left};
+ghost use Rattle.room_books.specs.Takings.{IsLeftAlone, IsStill, kept_then, kind_view, parts_said, series_still, singles_left};
 
 use crate::answer::Kind;
 use crate::claim::Claim;
@@ -197,6 +198,8 @@ impl<'a> Views<'a> {
         ensures parted { IfOk result (λ kept.
             IsParted (singles_by (option_copied self.now.before)) kept.gone.items
             (all_singles (kept_then (option_copied self.now.before) kept.lost.items kept.left.items))) }
+        ensures fewer { IfOk result (λ kept.
+            AreFewer (series_by (option_copied self.now.before)) (all_series (kept_then (option_copied self.now.before) kept.lost.items kept.left.items))) }
         ensures rises { IfOk result (λ kept. IsSortedByKey slot_of slot_cmp kept.lost.items) }
     {
         let Some(meeting) = self.before else {
@@ -229,6 +232,7 @@ fn left_at(
     ensures lost { IfOk result (λ kept. kept.lost ≡ lost) }
     ensures left { IfOk result (λ kept. KeepsSome (part_of part.now) slots.now before.now after.now (givens out.now) kept.left.items) }
     ensures split { IfOk result (λ kept. IsSplit (all_singles (givens out.now)) kept.gone.items (all_singles kept.left.items)) }
+    ensures fewer { IfOk result (λ kept. AreFewer (all_series (givens out.now)) (all_series kept.left.items)) }
 {
     let mut left = Vec::new(alloc);
     let mut gone = Vec::new(alloc);
@@ -378,6 +382,7 @@ fn still(
     requires { IsSortedByKey slot_of slot_cmp slots.now }
     ensures still { IfOk result (IsStill slots.now before.now after.now (part_of part.now) given.now) }
     ensures sheds { IfOk result (λ still. Sheds given.now.singles.items (singles_left still) gone.old.items gone.new.items) }
+    ensures fewer { IfOk result (λ still. AreFewer (option_to_list given.now.series) (series_still still)) }
 {
     let Some(own) = before.part_in(part, given.slot) else {
         gone.extend_from_slice(&given.singles)?;
@@ -399,10 +404,7 @@ impl Given {
         if any_hidden(held, part, slots, &self.singles) {
             return false;
         }
-        match &self.series {
-            Some(series) => !hides_start(held, part, slots, series),
-            None => true,
-        }
+        !hides_start(held, part, slots, &self.series)
     }
 
     /// The same answer to a part, with those of its instances that no part of these slots in the view stands for; the others go
@@ -418,13 +420,11 @@ impl Given {
         requires { IsSortedByKey slot_of slot_cmp slots.now }
         ensures left { IfOk result (IsLeftOf slots.now held.now (part_of part.now) self.now) }
         ensures sheds { IfOk result (λ left. Sheds self.now.singles.items left.singles.items gone.old.items gone.new.items) }
+        ensures fewer { IfOk result (λ left. AreFewer (option_to_list self.now.series) (option_to_list left.series)) }
     {
         let outcome = self.outcome.clone()?;
         let singles = left_beside(alloc, held, part, slots, &self.singles, gone)?;
-        let series = match &self.series {
-            Some(series) => Some(series_beside(alloc, held, part, slots, series)?),
-            None => None,
-        };
+        let series = series_beside(alloc, held, part, slots, &self.series)?;
         Ok(Given {
             slot: self.slot,
             moment: self.moment,
@@ -444,10 +444,7 @@ impl Given {
         ensures { IfOk result (IsAccepted held.now claim.now moment) }
     {
         let singles = left_of(alloc, held, &claim.part, &claim.singles)?;
-        let series = match &claim.series {
-            Some(series) => Some(series_left(alloc, held, &claim.part, series)?),
-            None => None,
-        };
+        let series = series_left(alloc, held, &claim.part, &claim.series)?;
         Ok(Given {
             slot: claim.part.slot,
             moment,
@@ -461,18 +458,22 @@ impl Given {
     fn decided(self, alloc: Global, outcome: &Outcome) -> Result<Given, AllocError>
         ensures { IfOk result (IsDecided self outcome.now) }
     {
-        let mut singles = Vec::new(alloc);
-        let mut series = None;
-        if is_accept(outcome) {
-            singles = self.singles;
-            series = self.series;
+        let outcome = outcome.clone()?;
+        if is_accept(&outcome) {
+            return Ok(Given {
+                slot: self.slot,
+                moment: self.moment,
+                outcome,
+                singles: self.singles,
+                series: self.series,
+            });
         }
         Ok(Given {
             slot: self.slot,
             moment: self.moment,
-            outcome: outcome.clone()?,
-            singles,
-            series,
+            outcome,
+            singles: Vec::new(alloc),
+            series: None,
         })
     }
 }
@@ -496,7 +497,7 @@ fn left_of(
 {
     let mut left = Vec::new(alloc);
     for single in singles {
-        if is_hidden(held, part, single.slot) {
+        if is_hidden(held, part, *single) {
             continue;
         }
         left.push(*single)?;
@@ -529,8 +530,15 @@ fn left_beside(
     Ok(left)
 }
 
+/// Whether another part in the view stands for an instance of a part.
+fn is_hidden(held: &Together<'_>, part: &Part, single: Single) -> bool
+    ensures { (history : List revisions.Part) → StandsFor held.now history → result ≡ rooms.is_hidden history (part_of part.now) (booked_in (part_of part.now) single) }
+{
+    is_start_hidden(held, part, single.slot)
+}
+
 /// Whether another part in the view stands for the instance of a part with this original start.
-pub fn is_hidden(held: &Together<'_>, part: &Part, start: i64) -> bool
+pub fn is_start_hidden(held: &Together<'_>, part: &Part, start: i64) -> bool
     ensures { (history : List revisions.Part) → StandsFor held.now history → (booked : Booked) → booked.key.slot ≡ start
         → result ≡ rooms.is_hidden history (part_of part.now) booked }
 {
@@ -547,7 +555,7 @@ fn is_hidden_by(slots: &[Slot], held: &Together<'_>, part: &Part, single: Single
         → result ≡ (touching.is_touched slots.now (revisions.At single.slot) && rooms.is_hidden history (part_of part.now) (booked_in
         (part_of part.now) single)) }
 {
-    is_touched(slots, Slot::At(single.slot)) && is_hidden(held, part, single.slot)
+    is_touched(slots, Slot::At(single.slot)) && is_hidden(held, part, single)
 }
 
 /// The answers to claims at a moment, were they accepted.

@@ -1,12 +1,10 @@
 -- What is kept is what the meeting had confirmed less what is gone.
-use Rattle.std.proofs.Common.{◌∙◌, List, subst, arith}
+use Rattle.std.proofs.Common.{arith}
 use Rattle.std.specs.Map.{lookup}
-use Rattle.cal_events.specs.declared.instance.Single.{Single}
-use Rattle.room_books.specs.Takings.{IsDecision}
-use Rattle.room_books.specs.Views.{same_key, singles_by, others}
+use Rattle.room_books.specs.Views.{same_key, singles_by}
 use Rattle.room_books.proofs.Leaving.{parted_length}
 use Rattle.room_books.proofs.Places.{others_count}
-use Rattle.room_books.proofs.room.Room.decide.Goals as goal
+use Rattle.room_books.proofs.room.Room.decide_singles.Goals as goal
 
 pub overflow_sub-beside : goal.overflow_sub-beside
 overflow_sub-beside c =
@@ -22,5 +20,4 @@ returns c = λ kept parted.
     let n = others_count k es c.keys_differ.ensures in
     let b = parted_length (singles_by (lookup (same_key k) es)) c.args.gone.now kept parted in
     let counted = c.args.self.now.counted in let r = c.confirmed.ensures in
-    subst (λ (l : List Single). IsDecision (others k es) k kept l c.in_ok-outcome.outcome) (c.deref.ensures.value ∙ c.in_ok-wanted.ensures)
-    (c.in_ok-outcome.ensures kept parted (omega (arith, n, b, r, counted)))
+    c.in_ok-outcome.ensures kept parted (omega (arith, n, b, r, counted))
