@@ -1,17 +1,15 @@
 -- Series that are left of others, without some of their instances.
-use Rattle.std.proofs.Common.{◌≡◌, ◌∙◌, ◌≤◌, ℤ, true, false, Bool, List, [], ◌∷◌, ◌++◌, length, inl, inr, Option, None, Some, refl, sym, ap, subst, arith, length-append}
-use Rattle.std.specs.List.{Contains, flat_map}
+use Rattle.std.proofs.Common.{◌≡◌, ℤ, List, [], ◌∷◌, ◌++◌, inl, inr, sym, subst, arith, length-append}
+use Rattle.std.specs.List.{Contains}
 use Rattle.std.specs.Option.{option_to_list}
 use Rattle.std.proofs.lemmas.Grind.{flat_map-append}
 use Rattle.std.proofs.lemmas.List.Elements.{Contains-append_left, Contains-append_right, Contains-append_cases}
-use Rattle.itip_order.specs.declared.part.Slot.{Slot}
 use Rattle.itip_order.proofs.Lists.{in_cons, in_head, none_in_nil}
 use Rattle.cal_events.specs.SaidSeries.{series_said, IsLeftOf}
 use Rattle.cal_events.specs.declared.series.Series.{Series}
 use Rattle.cal_events.specs.declared.instance.Single.{Single}
 use Rattle.room_books.specs.BySlot.{Reordered}
-use Rattle.room_books.specs.Views.{all_series, AreFewer, Recurs, RecursIn}
-use Rattle.room_books.specs.Wholes.{is_of_whole}
+use Rattle.room_books.specs.Views.{all_series, AreFewer, Recurs}
 use Rattle.room_books.specs.declared.meeting.Given.{Given}
 use Rattle.room_books.proofs.Loops.{flat_push}
 use Rattle.room_books.proofs.Reordering.{re_back, re_flat, re_in, re_length, re_swapped}
@@ -48,12 +46,6 @@ fewer_one series left starts is = record {
 
     recurs : (single : Single) → Recurs left single → Recurs series single
     recurs single r = record { booked = r.booked; is = ((is.instances r.booked).0 r.is).0; slot = r.slot; span = r.span }
-
--- a whole alone recurs, with fewer series too
-pub whole_fewer : (before after : Option Series) (slot : Slot) → AreFewer (option_to_list before) (option_to_list after) → is_of_whole before slot ≡ true → is_of_whole after slot ≡ true
-whole_fewer before None slot f whole = refl
-whole_fewer None (Some left) slot f whole = absurd (let h = f.shorter in omega (arith, h))
-whole_fewer (Some series) (Some left) slot f whole = whole
 
 -- ---- of answers
 

@@ -1,22 +1,20 @@
 -- The starts of a part's series for which other parts stand, slot by slot.
-use Rattle.std.proofs.Common.{◌≡◌, ◌∙◌, ℕ, ◌+◌, ◌<◌, ℤ, ◌⊎◌, Bool, true, false, ◌&&◌, ◌||◌, List, [], ◌∷◌, ◌++◌, length, map, take, get_or, inl, inr, Option, None, Some, refl, sym, ap, subst, arith}
+use Rattle.std.proofs.Common.{◌≡◌, ◌∙◌, ℕ, ◌+◌, ◌<◌, ℤ, ◌⊎◌, Bool, true, false, ◌&&◌, ◌||◌, List, [], ◌∷◌, ◌++◌, length, map, take, get_or, inl, inr, Option, None, Some, refl, sym, ap, subst}
 use Rattle.std.specs.List.{Contains, list_any}
-use Rattle.std.specs.Prelude.{◌↔◌, IsTrue}
 use Rattle.std.specs.Ordering.{is_eq}
-use Rattle.std.proofs.lemmas.Bool.{and_parts, and_from, both_ways, cases_Bool, false_from_ne_true, true≢false}
+use Rattle.std.proofs.lemmas.Bool.{and_parts, and_from, both_ways, false_from_ne_true, true≢false}
 use Rattle.std.proofs.lemmas.List.{take_more}
 use Rattle.std.proofs.lemmas.List.Elements.{Contains-append_left, Contains-append_cases, Contains-push}
 use Rattle.std.proofs.lemmas.List.Folds.{list_any-append}
 use Rattle.itip_order.specs.declared.part.Slot.{Slot as OwnSlot}
 use Rattle.itip_order.specs.Parts.{slot_of}
-use Rattle.itip_order.specs.Registers.{StandsFor, at_slot}
+use Rattle.itip_order.specs.Registers.{StandsFor}
 use Rattle.itip_order.proofs.Lists.{any_at, any_from, in_cons, none_in_nil}
 use Rattle.itip_order.proofs.Order.{is_eq_true, slot_same, then_equal}
 use Rattle.itip_order.proofs.Registers.{in_view_at}
 use Rattle.profile.specs.checker.Instances.{Booked}
-use Rattle.profile.specs.events.Meetings.{Meeting}
-use Rattle.profile.specs.events.Starts.{IsInstance, ComesBefore}
-use Rattle.profile.specs.rooms.Revisions.{Part, Slot, Whole, At, in_view, is_whole, meeting_cmp, place_cmp, same_place, slot_cmp}
+use Rattle.profile.specs.events.Starts.{IsInstance}
+use Rattle.profile.specs.rooms.Revisions.{Part, At, in_view, is_whole, meeting_cmp, place_cmp, same_place, slot_cmp}
 use Rattle.profile.specs.rooms.Rooms.{is_hidden}
 use Rattle.cal_events.specs.SaidSeries.{series_said, AreKnownByStart, IsLeftOf}
 use Rattle.cal_events.specs.declared.series.Series.{Series}

@@ -81,3 +81,6 @@ pub mod HiddenStarts
 pub mod Recurrings
 pub mod ClearBeside
 pub mod RoomSeries
+pub mod PutSeries
+pub mod WholeDeciding
+pub mod AllConfirmed

@@ -70,7 +70,7 @@ found_single k [] s c = absurd (none_in_nil s c)
 found_single k (e ∷ es) s c = found_step k e es s (same_key k e.0) refl c (found_single k es s)
 
 module _ (k : MeetingKey) (es : List (MeetingKey × Meeting)) (kept : List Single) (own : (s : Single) → Contains kept s → Contains (singles_by (lookup (same_key k) es)) s) where
-  kept_in : (b : Booked) → Contains (others k es ++ booked_list k kept) b → Contains (all_confirmed es) b
+  pub kept_in : (b : Booked) → Contains (others k es ++ booked_list k kept) b → Contains (all_confirmed es) b
   kept_in b c = elim (Contains-append_cases (others k es) (booked_list k kept) b c) [
     | inl other ↦ (let f = in_flat (filter (is_other k) es) b other in flat_from es f.0 b (filter_at (is_other k) es f.0 f.1).0 f.2)
     | inr here ↦ (

@@ -79,7 +79,7 @@ book_same k q book e = λ i. record {
 }
 
 -- a series of one meeting is the same however its name is spelled
-series_same : (k q : MeetingKey) (series : List Series) → same_key k q ≡ true → series_list k series ≡ series_list q series
+pub series_same : (k q : MeetingKey) (series : List Series) → same_key k q ≡ true → series_list k series ≡ series_list q series
 series_same k q [] e = refl
 series_same k q (s ∷ series) e =
     let parts = key_parts k q e in

@@ -1,13 +1,12 @@
 -- Of a meeting's answers those to the whole alone have a series.
-use Rattle.std.proofs.Common.{◌≡◌, ◌∙◌, ℕ, ◌+◌, ◌≤◌, Bool, true, false, not, cond, List, [], ◌∷◌, ◌++◌, length, map, Option, None, Some, refl, sym, ap, subst, arith, append-nil}
-use Rattle.std.specs.List.{filter, flat_map}
+use Rattle.std.proofs.Common.{◌≡◌, ◌∙◌, ◌+◌, ◌≤◌, Bool, true, false, not, cond, List, [], ◌∷◌, ◌++◌, length, Option, None, Some, refl, sym, ap, arith}
+use Rattle.std.specs.List.{filter}
 use Rattle.std.specs.Option.{option_to_list}
-use Rattle.std.specs.Ordering.{is_eq}
 use Rattle.std.proofs.lemmas.Bool.{true≢false}
 use Rattle.itip_order.specs.declared.part.Slot.{Slot}
 use Rattle.itip_order.specs.Parts.{slot_of}
 use Rattle.profile.specs.rooms.Revisions as revisions
-use Rattle.profile.specs.rooms.Revisions.{Whole, slot_cmp}
+use Rattle.profile.specs.rooms.Revisions.{Whole}
 use Rattle.cal_events.specs.declared.series.Series.{Series}
 use Rattle.room_books.specs.BySlot.{is_at, left_without}
 use Rattle.room_books.specs.Touching.{is_touched}

@@ -1,7 +1,7 @@
 //! A room takes messages one after another. A message is taken whole or not at all: everything is computed
 //! beside the room, and put into it by the last step.
 
-ghost use Rattle.std.specs.Prelude.{◌≡◌, ◌≢◌, ◌<◌, ◌≤◌, ◌+◌, ◌++◌, ℕ, List, [], Contains, length, map, IfOk, OnOk, OnErr, IsTrue};
+ghost use Rattle.std.specs.Prelude.{◌≡◌, ◌≢◌, ◌⊎◌, ◌<◌, ◌≤◌, ◌+◌, ◌++◌, ℕ, List, [], Contains, length, map, IfOk, OnOk, OnErr, IsTrue};
 ghost use Rattle.std.specs.Vec.{vec_len, vec_capacity};
 ghost use Rattle.std.specs.List.{IsDistinct};
 ghost use Rattle.std.specs.Map.{lookup};
@@ -620,16 +620,17 @@ fn mark(places: &mut Vec<usize>, place: usize, is_one: bool)
     requires room { vec_len places.old + 1 ≤ vec_capacity places.old }
     ensures others { (other : ℕ) → other ≢ place → Contains places.old.items other → Contains places.new.items other }
     ensures own { IsTrue is_one → Contains places.new.items place }
+    ensures no_more { (other : ℕ) → Contains places.new.items other → Contains places.old.items other ⊎ (IsTrue is_one × (other ≡ place)) }
 {
     match places.iter().position(|own| *own == place) {
         Some(at) if !is_one => {
             places.remove(at);
         }
-        Some(_) => {}
-        // there is room for it
-        None => {
+        None if is_one => {
+            // there is room for it
             let _ = places.push(place);
         }
+        _ => {}
     }
 }
 

@@ -1,4 +1,4 @@
-use Rattle.std.proofs.Common.{◌≡◌, ◌≢◌, ◌∙◌, true, ℤ, ◌≤ℤ◌, inl, sym, ap, subst, nat_eq, of_z, w64, rules, arith}
+use Rattle.std.proofs.Common.{◌≡◌, ◌≢◌, true, ℤ, inl, subst, nat_eq, of_z, w64, arith}
 use Rattle.std.specs.Prelude.{nat_eq}
 use Rattle.std.proofs.lemmas.Bool.{both_ways}
 use Rattle.std.proofs.lemmas.Cmp.{nat_eq_equiv}

@@ -1,4 +1,4 @@
-use Rattle.std.proofs.Common.{ℤ, List, sym, subst}
+use Rattle.std.proofs.Common.{ℤ, List, subst}
 use Rattle.itip_order.specs.Parts.{part_of}
 use Rattle.cal_events.specs.SaidSeries.{series_said, IsLeftOf}
 use Rattle.room_books.proofs.Fewer.{fewer_one}

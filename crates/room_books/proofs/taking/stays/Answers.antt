@@ -4,7 +4,7 @@ use Rattle.itip_order.specs.Parts.{part_of, slot_of}
 use Rattle.itip_order.specs.Registers.{at_slot, StandsFor}
 use Rattle.itip_order.proofs.Lists.{filter_from}
 use Rattle.profile.specs.rooms.Revisions as revisions
-use Rattle.profile.specs.rooms.Revisions.{Part, same_place}
+use Rattle.profile.specs.rooms.Revisions.{Part}
 use Rattle.room_books.specs.declared.meeting.Given.{Given}
 use Rattle.room_books.specs.BySlot.{is_at}
 use Rattle.room_books.specs.Takings.{IsViewed, LeavesAll}

@@ -1,4 +1,4 @@
-use Rattle.std.proofs.Common.{◌≡◌, ◌∙◌, ℕ, Bool, List, [], None, Option, cond, refl, sym, ap, rules}
+use Rattle.std.proofs.Common.{◌≡◌, ◌∙◌, Bool, [], None, cond, refl, sym, ap, rules}
 use Rattle.profile.specs.rooms.Rooms as rooms
 use Rattle.room_books.specs.Views.{outcome_of}
 use Rattle.room_books.specs.declared.meeting.Outcome.{Outcome}
