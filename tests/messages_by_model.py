@@ -4,7 +4,8 @@
 
 Each stream has REQUESTs, ADDs and CANCELs of few meetings for two rooms: times in UTC and in four zones, near gaps and folds; RRULE, RDATE, EXDATE,
 nominal days, instances by RECURRENCE-ID, statuses, cancellations without a start; older messages late, and messages again. Compared are the answers to
-each object, the confirmed instances of each room's kept calendar, how many singles and series its certificate counts, and that `check` says yes to it.
+each object and the clash that a decline names, the confirmed instances of each room's kept calendar, how many singles and series its certificate
+counts, and that `check` says yes to it.
 Instants are zoneinfo's, the days of rules dateutil's. A weekly rule without an end is expanded to 30 years: within 28 of them every year has come with
 each weekday on each date, and so with every change of the clocks. It ends with 1 where any differed.
 """
@@ -229,7 +230,8 @@ def stream(rng):
 
 class Room:
     def __init__(self, address):
-        self.address, self.parts, self.answers, self.wholes = address, {}, {}, set()
+        # what would have been confirmed stays with each decline
+        self.address, self.parts, self.answers, self.wholes, self.beside = address, {}, {}, set(), {}
 
     def in_view(self, key):
         uid, slot = key
@@ -286,11 +288,23 @@ class Room:
             spans = sorted((start, end) for _, _, start, end in held if start < end)
             clear = all(after[0] >= before[1] for before, after in zip(spans, spans[1:]))
             self.answers.update({key: clear for key in asked})
+            self.beside.update({key: held for key in asked})
         first = lambda key: (key[1] is not None, key[1] or 0)
-        words = ["ACCEPTED" if self.answers[key] else "DECLINED" for key in sorted(shown, key=first) if self.parts[key][1] == "set"]
+        words = [("ACCEPTED", None) if self.answers[key] else ("DECLINED", self.beside[key]) for key in sorted(shown, key=first) if self.parts[key][1] == "set"]
         if method == "ADD" and fresh and not had_whole and uid not in self.wholes:
-            words.append("REFRESH")
+            words.append(("REFRESH", None))
         return words
+
+
+def names_clash(data, held):
+    """Whether the seven words of a decline name two of these instances that clash, the first one first, at the later start."""
+    at, *words = data.split(" ")
+    pairs = [(words[2], words[0]), (words[5], words[3])]
+    a, b = ([one for one in held if (one[0], utc(one[1])) == pair] for pair in pairs)
+    if len(a) != 1 or len(b) != 1 or {words[1], words[4]} != {"mailto:ann@example.com"}:
+        return False
+    (uid, slot, start, end), (other_uid, other_slot, other_start, other_end) = a[0], b[0]
+    return start < end and other_start < other_end and other_start < end and (start, uid, slot) < (other_start, other_uid, other_slot) and at == utc(other_start)
 
 
 # ---- the program
@@ -304,11 +318,13 @@ def answered(text):
     words = []
     for line in unfolded(text).split("\r\n"):
         if line.startswith("ATTENDEE;PARTSTAT="):
-            words.append(line.split("=")[1].split(":")[0])
+            words.append((line.split("=")[1].split(":")[0], None))
+        elif line.startswith("REQUEST-STATUS:4.1;"):
+            words[-1] = (words[-1][0], line.rpartition(";")[2])
         elif line.startswith("METHOD:REFRESH"):
-            words.append("REFRESH")
+            words.append(("REFRESH", None))
         elif line.startswith("REFUSED"):
-            words.append(line)
+            words.append((line, None))
     return words
 
 
@@ -364,9 +380,11 @@ def main():
         wanted = [word for method, uid, events, _ in messages for room in rooms for word in room.take(method, uid, events)]
         found = answered(run(program, given=text))
         objects += len(messages)
-        accepted += found.count("ACCEPTED")
-        declined += found.count("DECLINED")
-        wrong = [("answers", found, wanted)] if found != wanted else []
+        said, expected = [word for word, _ in found], [word for word, _ in wanted]
+        accepted += said.count("ACCEPTED")
+        declined += said.count("DECLINED")
+        wrong = [("answers", said, expected)] if said != expected else []
+        wrong += [("clash", data) for (word, data), (_, held) in zip(found, wanted) if not wrong and word == "DECLINED" and not names_clash(data, held)]
         for room in rooms:
             calendar = run(program, "keep", room.address, given=text)
             certificate = run(program, "keep", "--certificate", room.address, given=text)
