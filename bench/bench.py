@@ -144,6 +144,8 @@ EVENTS = 2_000
 MEETINGS = 9_000
 # How often one instance of a meeting is revised.
 REVISIONS = 1_000
+# Endless series of a room beside which another one is revised.
+ENDLESS_ONES = 60
 # How often a hostile object or line stands in a run, so that the program's own start counts for little.
 HOSTILE = 20
 
@@ -291,6 +293,49 @@ def beside_a_series(count):
         start = (datetime(2025, 1, 6, 12) + timedelta(days=number)).strftime("%Y%m%dT%H%M%SZ")
         yield crlf(EVENT.format(number=number, room=ROOM.format(0), start=start))
     yield crlf("END:VCALENDAR\n")
+
+
+def recurring(number, start, rule, sequence=0, zone=""):
+    """A request for a series, in UTC or in New York."""
+    request = REQUEST.replace("SEQUENCE:0", f"SEQUENCE:{sequence}").replace("BEGIN:VEVENT", zone + "BEGIN:VEVENT", 1)
+    if zone:
+        request = request.replace("DTSTART:{start}", "DTSTART;TZID=America/New_York:{start}")
+        start = start.removesuffix("Z")
+    return crlf(request.format(number=number, room=ROOM.format(0), start=start, extra=f"RRULE:{rule}\n"))
+
+
+def two_series(zone=""):
+    """Requests for two endless daily series of one room, an hour apart."""
+    yield preamble(1)
+    for number in range(2):
+        yield recurring(number, f"20250106T{9 + number:02}0000Z", "FREQ=DAILY", zone=zone)
+
+
+def singles_then_series(count, series):
+    """Requests for so many singles at noon, one a day, and then for so many endless daily series at nine, ten .."""
+    yield preamble(1)
+    for number in range(count):
+        start = (datetime(2025, 1, 6, 12) + timedelta(days=number)).strftime("%Y%m%dT%H%M%SZ")
+        yield crlf(REQUEST.format(number=number, room=ROOM.format(0), start=start, extra=""))
+    for number in range(series):
+        yield recurring(count + number, "20250106T090000Z", "FREQ=DAILY")
+
+
+def beside_many(count):
+    """Requests for ENDLESS_ONES endless series, each once in 97 years, and then so many revisions of a short daily one, which moves to and fro."""
+    yield preamble(1)
+    for number in range(ENDLESS_ONES):
+        start = (datetime(2025, 3, 3) + timedelta(hours=number)).strftime("%Y%m%dT%H%M%SZ")
+        yield recurring(number, start, "FREQ=YEARLY;INTERVAL=97")
+    for sequence in range(count):
+        yield recurring(ENDLESS_ONES, f"20250610T{9 + sequence % 2:02}0000Z", "FREQ=DAILY;COUNT=5", sequence)
+
+
+def after(program, pieces, accepted, first, first_accepted):
+    """The seconds that a stream takes beyond those of its first part."""
+    whole, peak, size = serve(program, pieces, accepted)
+    part, _, _ = serve(program, first, first_accepted)
+    return max(whole - part, 1e-3), peak, size
 
 
 def run(words, stream, folder=None):
@@ -489,6 +534,12 @@ def main():
     grown("the same in New York", (3,), lambda _: check(program, endless(["FREQ=DAILY"] * 2, NEW_YORK), 0, 2), None)
     grown("pairs of 8 endless weekly series", (36,), lambda _: check(program, endless(["FREQ=WEEKLY"] * 8), 0, 8), None)
     grown("singles beside an endless daily series", (1_000, 10_000), lambda count: check(program, beside_a_series(count), count, 1), None)
+    grown("a room's two endless daily series", (2,), lambda count: serve(program, two_series(), count), None)
+    grown("the same in New York", (2,), lambda count: serve(program, two_series(NEW_YORK), count), None)
+    joined = lambda count: after(program, singles_then_series(count, 1), count + 1, singles_then_series(count, 0), count)
+    grown("a daily series asked beside singles", (1_000, 9_999), joined, None)
+    revised = lambda count: after(program, beside_many(count), ENDLESS_ONES + count, beside_many(0), ENDLESS_ONES)
+    grown(f"revisions of a series beside {ENDLESS_ONES} endless", (100, REVISIONS), revised, None)
     for work, start, rule in RULES:
         grown(work, (9_500, 95_000), lambda count: in_utc(program, start, rule, count), None)
     grown("instances of a day each in New York", (9_500, 95_000), lambda count: in_new_york(program, count), None)

@@ -221,7 +221,10 @@ def refusals(cases, program):
     cases.holds("RANGE in an ADD", number(message("ADD", vevent(slot=slot)).replace("RECURRENCE-ID:", "RECURRENCE-ID;RANGE=THISANDFUTURE:")), "65")
     berlin = "RECURRENCE-ID;TZID=Europe/Berlin:20250310T100000"
     cases.holds("RECURRENCE-ID in a zone that isn't there", number(message("REQUEST", vevent(slot=slot)).replace("RECURRENCE-ID:" + slot, berlin)), "43")
-    cases.holds("RRULE", number(request(lines=("DURATION:PT1H", "RRULE:FREQ=DAILY"))), "99")
+    cases.holds("RRULE", one(request(lines=("DURATION:PT1H", "RRULE:FREQ=DAILY"))), ["ACCEPTED"])
+    cases.holds("RRULE in an ADD", number(message("ADD", vevent(lines=("DURATION:PT1H", "RRULE:FREQ=DAILY")))), "67")
+    cases.holds("RRULE beside RECURRENCE-ID", number(message("REQUEST", vevent(slot=slot, lines=("DURATION:PT1H", "RRULE:FREQ=DAILY")))), "67")
+    cases.holds("a start that isn't on its rule", number(request(lines=("DURATION:PT1H", "RRULE:FREQ=WEEKLY;BYDAY=TU"))), "34")
     cases.holds("TZID of a zone that isn't there", number(request().replace("DTSTART:20250310T090000Z", "DTSTART;TZID=Europe/Berlin:20250310T090000")), "43")
     cases.holds("a UTC time with TZID", number(request().replace("DTSTART:", "DTSTART;TZID=Europe/Berlin:")), "11")
     cases.holds("a period in RDATE", number(request(lines=("DURATION:PT1H", "RDATE;VALUE=PERIOD:20250311T090000Z/PT1H"))), "56")
@@ -316,6 +319,98 @@ def times_in_zones(cases, program):
     cases.holds("and how many", run(program, "keep", "--certificate", R1, given=stream)[1], "ROOMCERT 1\nSINGLES 4\nSERIES 0\nDONE\n")
 
 
+def recurring(uid="s", sequence=0, start="20250310T090000Z", rule="FREQ=DAILY;COUNT=3", lines=(), length="PT1H"):
+    """A REQUEST of a series; without more of three days from a Monday on."""
+    return request(uid, sequence, start, (f"DURATION:{length}", f"RRULE:{rule}", *lines))
+
+
+def series(cases, program):
+    first, second, third = "20250310T090000Z", "20250311T090000Z", "20250312T090000Z"
+    hour = ("DURATION:PT1H",)
+
+    def tried(what, wanted, *objects):
+        cases.holds(what, answers(program, *objects), wanted)
+
+    def status(*objects):
+        """What the last decline says."""
+        lines = unfolded(run(program, given=PREAMBLE + "".join(objects))[1]).split("\r\n")
+        return [line.partition(".;")[2] or line for line in lines if line.startswith(("REQUEST-STATUS:4.1", "X-ROOM-LIMIT"))][-1:]
+
+    def words(instant, *instances):
+        return [" ".join([instant, *(f"{slot} mailto:ann@example.com {uid}" for slot, uid in instances)])]
+
+    three = recurring()
+    tried("a series", ["ACCEPTED", "DECLINED", "ACCEPTED"], three, request("b", start=third, lines=hour), request("c", start="20250313T090000Z", lines=hour))
+    tried("a single before a series", ["ACCEPTED", "DECLINED"], request("b", start=third, lines=hour), three)
+    mondays, leap_days = recurring("w", rule="FREQ=WEEKLY"), recurring("y", start="20240229T090000Z", rule="FREQ=YEARLY")
+    tried("a clash in the year 2044", ["ACCEPTED", "DECLINED"], mondays, leap_days)
+    cases.holds("it is named, if no other is there", status(mondays, recurring("y", start="20240229T090000Z", rule="FREQ=YEARLY;COUNT=6")), words("20440229T090000Z", ("20440229T090000Z", "w"), ("20440229T090000Z", "y")))
+    tried("endless series one after the other", ["ACCEPTED", "ACCEPTED"], mondays, recurring("y", start="20240229T100000Z", rule="FREQ=YEARLY"))
+    cases.holds("a series that clashes with itself", status(recurring(length="PT30H", rule="FREQ=DAILY;COUNT=2")), words(second, (first, "s"), (second, "s")))
+    cases.holds("an instance on another one of its series", status(three, message("REQUEST", vevent("s", 1, second, slot=third))), words(second, (second, "s"), (third, "s")))
+    tried("RDATE within its own rule", ["DECLINED"], recurring(lines=("RDATE:20250311T093000Z",)))
+    tried("RRULE in another order is the same part", ["ACCEPTED", "ACCEPTED", "ACCEPTED"], three, recurring(rule="COUNT=3;FREQ=DAILY;INTERVAL=1;WKST=MO"), three)
+    tried("the greater RRULE of one revision counts", ["ACCEPTED", "ACCEPTED"], three, recurring(rule="FREQ=DAILY;COUNT=4"), three)
+    tried("a revision over its own old times", ["ACCEPTED", "ACCEPTED"], three, recurring(sequence=1, start="20250310T093000Z"))
+    tried("a declined revision gives the old times up", ["ACCEPTED", "ACCEPTED", "DECLINED", "ACCEPTED"], request("b", start="20250320T090000Z", lines=hour), three, recurring(sequence=1, start="20250320T090000Z"), request("c", start=second, lines=hour))
+    gone = message("CANCEL", vevent("s", 1, second, slot=second))
+    tried("a CANCEL of one instance", ["ACCEPTED", "ACCEPTED", "DECLINED"], three, gone, request("b", start=second, lines=hour), request("c", start=third, lines=hour))
+    tried("a CANCEL of one instance before its series", ["ACCEPTED", "ACCEPTED"], gone, request("b", start=second, lines=hour), three)
+    tried("a newer series has it again", ["ACCEPTED", "ACCEPTED", "DECLINED"], three, gone, recurring(sequence=2), request("b", start=second, lines=hour))
+    tried("a CANCEL of a series", ["ACCEPTED", "ACCEPTED"], three, request("s", 1, method="CANCEL"), request("b", start=second, lines=hour))
+    tried("an instance is moved", ["ACCEPTED", "ACCEPTED", "ACCEPTED", "DECLINED"], three, message("REQUEST", vevent("s", 1, "20250311T150000Z", slot=second)), request("b", start=second, lines=hour), request("c", start="20250311T153000Z", lines=hour))
+    tried("an instance is added", ["ACCEPTED", "ACCEPTED", "DECLINED"], three, message("ADD", vevent("s", 0, "20250313T090000Z")), request("b", start="20250313T090000Z", lines=hour))
+    tried("EXDATE of a series", ["ACCEPTED", "ACCEPTED"], recurring(lines=(f"EXDATE:{second}",)), request("b", start=second, lines=hour))
+
+    many = [recurring(f"s{n}", start=f"20250310T{n // 6:02}{n % 6}000Z", rule="FREQ=DAILY;COUNT=2", length="PT10M") for n in range(65)]
+    cases.holds("the 65th series", status(*many), ["X-ROOM-LIMIT:SERIES"])
+    cases.holds("the limit comes before a clash", status(*many[:64], recurring("s64", start="20250310T000000Z", rule="FREQ=DAILY;COUNT=2")), ["X-ROOM-LIMIT:SERIES"])
+    tried("64 series and a single", ["ACCEPTED"] * 65, *many[:64], request("b", start="20250310T120000Z", lines=hour))
+    none_left = message("CANCEL", vevent("s0", 1, "20250310T000000Z", slot="20250310T000000Z"), vevent("s0", 1, "20250311T000000Z", slot="20250311T000000Z"))
+    cases.holds("a series without a start left counts", status(*many[:64], none_left, many[64]), ["X-ROOM-LIMIT:SERIES"])
+    tried("until it is cancelled", ["ACCEPTED"] * 65, *many[:64], none_left, request("s0", 1, method="CANCEL"), many[64])
+    tried("or has a newer revision", ["ACCEPTED"] * 66, *many[:64], none_left, request("s0", 2, "20250310T000000Z", ("DURATION:PT10M",)), many[64])
+
+
+def kept_series(cases, program):
+    def lines_of(*objects):
+        return unfolded(run(program, "keep", R1, given=PREAMBLE + "".join(objects))[1]).split("\r\n")
+
+    def rule_of(rule, start="20250310T090000Z"):
+        return [line for line in lines_of(recurring(start=start, rule=rule)) if line.startswith("RRULE")]
+
+    def certified(what, wanted, *objects):
+        """The certificate is this one, and the checker says yes to it and the calendar."""
+        stream = PREAMBLE + "".join(objects)
+        with tempfile.TemporaryDirectory() as folder:
+            calendar, certificate = Path(folder, "r1.ics"), Path(folder, "r1.cert")
+            for path, words in ((calendar, ("keep", R1)), (certificate, ("keep", "--certificate", R1))):
+                path.write_text(run(program, *words, given=stream)[1], newline="")
+            cases.holds(what, (certificate.read_text(), run(program, "check", calendar, certificate, R1)[1]), (wanted, "yes\n"))
+
+    cases.holds("RRULE in one order", rule_of("WKST=SU;BYDAY=TH,MO,TH;INTERVAL=2;UNTIL=20250601T120000Z;FREQ=WEEKLY"), ["RRULE:FREQ=WEEKLY;UNTIL=20250601T120000Z;INTERVAL=2;BYDAY=MO,TH;WKST=SU"])
+    cases.holds("what is implied isn't written", rule_of("FREQ=MONTHLY;INTERVAL=1;BYSETPOS=1,-1,1;BYDAY=FR,MO;WKST=MO;COUNT=3", "20250303T090000Z"), ["RRULE:FREQ=MONTHLY;COUNT=3;BYDAY=MO,FR;BYSETPOS=-1,1"])
+    cases.holds("months before days", rule_of("FREQ=YEARLY;BYMONTHDAY=-1,10;BYMONTH=4,3;COUNT=4"), ["RRULE:FREQ=YEARLY;COUNT=4;BYMONTH=3,4;BYMONTHDAY=-1,10"])
+    cases.holds("UNTIL as a date", rule_of("FREQ=DAILY;UNTIL=20250312"), ["RRULE:FREQ=DAILY;UNTIL=20250312"])
+    york = zone_of("York", (11, "1SU", 2, "-0400", "-0500"), (3, "2SU", 2, "-0500", "-0400"))
+    event = [line.replace("DTSTART:", "DTSTART;TZID=York:") for line in vevent("s", 0, "20250310T090000", ("DURATION:PT1H", "RRULE:FREQ=YEARLY;UNTIL=99991231T220000"))]
+    cases.holds("UNTIL past year 9999", [line for line in lines_of(message("REQUEST", york, event)) if line.startswith("RRULE:FREQ=YEARLY;U")], ["RRULE:FREQ=YEARLY;UNTIL=99991231T235959Z"])
+    cases.holds("RRULE before the lists", [line.partition(":")[0] for line in lines_of(recurring(lines=("EXDATE:20250311T090000Z", "RDATE:20250311T150000Z")))][3:-2],
+                ["BEGIN", "UID", "SEQUENCE", "DTSTAMP", "DTSTART", "DURATION", "RRULE", "RDATE", "EXDATE", "ORGANIZER", "ATTENDEE;PARTSTAT=ACCEPTED", "END"])
+    gone = message("CANCEL", vevent("s", 1, "20250311T090000Z", slot="20250311T090000Z"))
+    cases.holds("a cancelled start of a series", [line for line in lines_of(recurring(), gone) if line.startswith(("RECURRENCE-ID", "STATUS"))], ["RECURRENCE-ID:20250311T090000Z", "STATUS:CANCELLED"])
+    one, two = "ROOMCERT 1\nSINGLES 0\nSERIES 1\nPAIR 1 1 END\nDONE\n", "ROOMCERT 1\nSINGLES 0\nSERIES 2\nPAIR 1 1 END\nPAIR 1 2 END\nPAIR 2 2 END\nDONE\n"
+    certified("its certificate", one, recurring(), gone)
+    certified("two endless series", two, recurring(rule="FREQ=DAILY;INTERVAL=2"), recurring("t", start="20250311T090000Z", rule="FREQ=DAILY;INTERVAL=2"))
+    certified("RDATE is a single unless the rule gives it", one.replace("SINGLES 0", "SINGLES 1"), recurring(lines=("RDATE:20250311T150000Z,20250312T090000Z",)))
+    moved = message("REQUEST", vevent("s", 1, "20250311T150000Z", slot="20250311T090000Z"))
+    certified("so is an instance with a VEVENT of its own", one.replace("SINGLES 0", "SINGLES 1"), recurring(), moved)
+    certified("a series all of whose starts are excepted", one, recurring(lines=("EXDATE:20250310T090000Z,20250311T090000Z,20250312T090000Z",)))
+    examples = Path(__file__).resolve().parent.parent / "examples"
+    found = run(program, given=(examples / "series-across-summer-time.ics-stream").read_bytes())
+    cases.holds("the example of a series", found, (0, (examples / "series-across-summer-time.replies").read_bytes().decode(), ""))
+
+
 def numbers_of_guide():
     """The numbers in the tables of docs/PROFILE.md, of refusals and of the checker's no."""
     text = (Path(__file__).resolve().parent.parent / "docs" / "PROFILE.md").read_text(encoding="utf-8")
@@ -333,7 +428,7 @@ def explained(cases, program):
 
 def main():
     program, cases = str(Path(sys.argv[1]).resolve()), Cases()
-    for part in (preambles, decisions, instances, added, replies, refusals, kept, zones, times_in_zones, explained):
+    for part in (preambles, decisions, instances, added, replies, refusals, kept, zones, times_in_zones, series, kept_series, explained):
         part(cases, program)
     print(f"{cases.count} cases, {cases.failed} failed")
     return 1 if cases.failed else 0

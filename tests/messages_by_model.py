@@ -2,9 +2,12 @@
 
     python3 tests/messages_by_model.py bin/roombox [--streams 300] [--seed 1]
 
-Each stream has REQUESTs, ADDs and CANCELs of few meetings for two rooms: times in UTC and in four zones, near gaps and folds; RDATE, EXDATE, nominal
-days, instances by RECURRENCE-ID, statuses, cancellations without a start; older messages late, and messages again. Compared are the answers to each
-object, the confirmed instances of each room's kept calendar, and that `check` says yes to it. Instants are zoneinfo's. It ends with 1 where any differed.
+Each stream has REQUESTs, ADDs and CANCELs of few meetings for two rooms: times in UTC and in four zones, near gaps and folds; RRULE, RDATE, EXDATE,
+nominal days, instances by RECURRENCE-ID, statuses, cancellations without a start; older messages late, and messages again. Compared are the answers to
+each object and the clash that a decline names, the confirmed instances of each room's kept calendar, how many singles and series its certificate
+counts, and that `check` says yes to it.
+Instants are zoneinfo's, the days of rules dateutil's. A weekly rule without an end is expanded to 30 years: within 28 of them every year has come with
+each weekday on each date, and so with every change of the clocks. It ends with 1 where any differed.
 """
 
 import argparse
@@ -15,6 +18,8 @@ import tempfile
 from datetime import datetime, timedelta, timezone
 from pathlib import Path
 from zoneinfo import ZoneInfo
+
+from dateutil.rrule import rrulestr
 
 ROOMS = ["mailto:r1@example.com", "mailto:r2@example.com"]
 NOW = "20250102T000000Z"
@@ -57,6 +62,56 @@ def written(name, local, zone, alias):
 # ---- what a message says
 
 
+WEEKDAYS = ["MO", "TU", "WE", "TH", "FR", "SA", "SU"]
+YEARS = 30
+
+
+class Rule:
+    """A rule without its UNTIL, and up to which instant or to which local date that allows starts."""
+
+    def __init__(self, text, until=None, date=None):
+        self.text, self.until, self.date = text, until, date
+
+    def starts(self, local, zone):
+        last = local + timedelta(days=365 * YEARS)
+        for day in rrulestr("RRULE:" + self.text, dtstart=local):
+            start = instant(day, zone)
+            if day > last or (self.until is not None and start > self.until) or (self.date is not None and day.date() > self.date):
+                return
+            yield start
+
+
+def rule_for(rng, local, zone):
+    """A rule that gives its own start, and its text in a message."""
+    own, other = WEEKDAYS[local.weekday()], rng.choice(WEEKDAYS)
+    every = rng.choice(["", ";INTERVAL=2", ";INTERVAL=1"])
+    form = rng.choice([f"FREQ=DAILY{every}", f"FREQ=WEEKLY{every}", f"FREQ=WEEKLY{every};BYDAY={other},{own}", f"FREQ=DAILY;BYDAY={own},{other}", "FREQ=MONTHLY",
+                       f"FREQ=MONTHLY;BYMONTHDAY={local.day}", f"FREQ=MONTHLY;BYDAY={(local.day + 6) // 7}{own}", "FREQ=YEARLY"])
+    ending = rng.choices(["count", "until", "date", "never"], [6, 2, 2, 1])[0]
+    if ending == "never":
+        return Rule("FREQ=WEEKLY"), "FREQ=WEEKLY"
+    if ending == "count":
+        text = f"{form};COUNT={rng.randrange(1, 7)}"
+        return Rule(text), ";".join(rng.sample(text.split(";"), len(text.split(";"))))
+    far = local + timedelta(days=rng.randrange(0, 12))
+    if ending == "date":
+        return Rule(form, date=far.date()), f"UNTIL={far.strftime('%Y%m%d')};{form}"
+    until = instant(far, zone) + rng.choice([0, 0, 1, 3600])
+    return Rule(form, until=until), f"{form};UNTIL={utc(until)}"
+
+
+def kept_rule(line):
+    """The rule of a kept RRULE line."""
+    parts = line.split(":", 1)[1].split(";")
+    until = next((entry.split("=")[1] for entry in parts if entry.startswith("UNTIL=")), None)
+    text = ";".join(entry for entry in parts if not entry.startswith("UNTIL="))
+    if until is None:
+        return Rule(text)
+    if len(until) == 8:
+        return Rule(text, date=datetime.strptime(until, "%Y%m%d").date())
+    return Rule(text, until=int(datetime.strptime(until, "%Y%m%dT%H%M%SZ").replace(tzinfo=timezone.utc).timestamp()))
+
+
 class Said:
     """One VEVENT: when it is, which instance, its revision, and the rooms that it names."""
 
@@ -68,12 +123,19 @@ class Said:
             return start + self.seconds
         return instant(clock(start, self.zone) + timedelta(days=self.days), self.zone) + self.seconds
 
-    def singles(self):
+    def rule_starts(self):
+        if self.rule is None or self.slot is not None:
+            return set()
+        if "on_rule" not in self.__dict__:
+            self.on_rule = set(self.rule.starts(self.local, self.zone))
+        return self.on_rule
+
+    def instances(self):
         own = instant(self.local, self.zone)
         if self.slot is not None:
             return [(self.slot, own, self.end(own))]
-        starts = {own, *self.added} - set(self.taken)
-        return [(start, start, self.end(start)) for start in sorted(starts)]
+        starts = ({own} if self.rule is None else self.rule_starts()) | set(self.added)
+        return [(start, start, self.end(start)) for start in sorted(starts - set(self.taken))]
 
 
 def when(rng, days):
@@ -89,10 +151,14 @@ def said(rng, days, slot, revision, zones, starts):
     others = [instant(when(rng, days), rng.choice([None, *zones])) for _ in range(rng.randrange(4))]
     added = [] if slot is not None or rng.random() < 0.5 else others
     taken = [] if rng.random() < 0.6 else rng.sample([own, *others], rng.randrange(1, 2 + len(others)))
-    starts += [own, *added]
+    rule, rule_text = rule_for(rng, local, zone) if slot is None and rng.random() < 0.5 else (None, None)
+    given = sorted(rule.starts(local, zone))[:4] if rule else [own]
+    if rule and rng.random() < 0.2:
+        taken = taken + rng.sample(given, rng.randrange(1, 1 + len(given)))
+    starts += [*given, *added]
     whole_days = rng.random() < 0.2
     return Said(zone=zone, local=local, days=1 if whole_days else 0, seconds=rng.choice([0, 1800]) if whole_days else rng.choice([0, 1800, 3600, 5400]), added=added, taken=taken,
-                slot=slot, revision=revision, names=[room for room in ROOMS if rng.random() < 0.8], cancelled=rng.random() < 0.1, without_start=False)
+                rule=rule, rule_text=rule_text, slot=slot, revision=revision, names=[room for room in ROOMS if rng.random() < 0.8], cancelled=rng.random() < 0.1, without_start=False)
 
 
 def lines_of(rng, uid, event, alias, method):
@@ -105,6 +171,8 @@ def lines_of(rng, uid, event, alias, method):
         lines.append(written("DTSTART", event.local, event.zone, alias))
         length = (f"P{event.days}D" if event.days else "P") + (f"T{event.seconds // 60}M" if event.seconds or not event.days else "")
         lines.append(f"DURATION:{length}")
+    if event.rule_text:
+        lines.append(f"RRULE:{event.rule_text}")
     for name, times in (("RDATE", event.added), ("EXDATE", event.taken)):
         if times:
             lines.append(f"{name}:" + ",".join(utc(at) for at in rng.sample(times, len(times))))
@@ -137,7 +205,7 @@ def stream(rng):
         if method == "ADD":
             events = [said(rng, days, 0, (sequence, stamp), zones, []) for _ in range(rng.randrange(1, 3))]
             for event in events:
-                event.slot, event.added, event.taken = instant(event.local, event.zone), [], []
+                event.slot, event.added, event.taken, event.rule_text = instant(event.local, event.zone), [], [], None
         else:
             events = [said(rng, days, None, (sequence, stamp), zones, own)] if rng.random() < 0.8 else []
             for _ in range(rng.randrange(0 if events else 1, 3)):
@@ -162,7 +230,8 @@ def stream(rng):
 
 class Room:
     def __init__(self, address):
-        self.address, self.parts, self.answers, self.wholes = address, {}, {}, set()
+        # what would have been confirmed stays with each decline
+        self.address, self.parts, self.answers, self.wholes, self.beside = address, {}, {}, set(), {}
 
     def in_view(self, key):
         uid, slot = key
@@ -177,11 +246,21 @@ class Room:
         found = []
         for key in accepted:
             uid, slot = key
-            for single in self.parts[key][2].singles():
-                if slot is None and self.in_view((uid, single[0])):
+            for instance in self.parts[key][2].instances():
+                if slot is None and self.in_view((uid, instance[0])):
                     continue
-                found.append((uid, *single))
+                found.append((uid, *instance))
         return found
+
+    def counts(self):
+        """How many singles and how many series are confirmed."""
+        accepted = [key for key, answer in self.answers.items() if answer]
+        wholes = {uid: self.parts[(uid, None)][2] for uid, slot in accepted if slot is None}
+        singles = 0
+        for key in accepted:
+            on_rule = self.parts[key][2].rule_starts()
+            singles += len([1 for instance in self.confirmed([key]) if key[1] is not None or instance[1] not in on_rule])
+        return singles, len([1 for whole in wholes.values() if whole.rule])
 
     def take(self, method, uid, events):
         for_room = [event for event in events if self.address in event.names or (method == "CANCEL" and not event.names)]
@@ -206,13 +285,26 @@ class Room:
         asked = [key for key in fresh if self.parts[key][1] == "set"]
         if asked:
             held = self.confirmed([key for key, accepted in self.answers.items() if accepted] + asked)
-            clear = not any(a[2] < b[3] and b[2] < a[3] and a[2] < a[3] and b[2] < b[3] for n, a in enumerate(held) for b in held[:n])
+            spans = sorted((start, end) for _, _, start, end in held if start < end)
+            clear = all(after[0] >= before[1] for before, after in zip(spans, spans[1:]))
             self.answers.update({key: clear for key in asked})
+            self.beside.update({key: held for key in asked})
         first = lambda key: (key[1] is not None, key[1] or 0)
-        words = ["ACCEPTED" if self.answers[key] else "DECLINED" for key in sorted(shown, key=first) if self.parts[key][1] == "set"]
+        words = [("ACCEPTED", None) if self.answers[key] else ("DECLINED", self.beside[key]) for key in sorted(shown, key=first) if self.parts[key][1] == "set"]
         if method == "ADD" and fresh and not had_whole and uid not in self.wholes:
-            words.append("REFRESH")
+            words.append(("REFRESH", None))
         return words
+
+
+def names_clash(data, held):
+    """Whether the seven words of a decline name two of these instances that clash, the first one first, at the later start."""
+    at, *words = data.split(" ")
+    pairs = [(words[2], words[0]), (words[5], words[3])]
+    a, b = ([one for one in held if (one[0], utc(one[1])) == pair] for pair in pairs)
+    if len(a) != 1 or len(b) != 1 or {words[1], words[4]} != {"mailto:ann@example.com"}:
+        return False
+    (uid, slot, start, end), (other_uid, other_slot, other_start, other_end) = a[0], b[0]
+    return start < end and other_start < other_end and other_start < end and (start, uid, slot) < (other_start, other_uid, other_slot) and at == utc(other_start)
 
 
 # ---- the program
@@ -226,11 +318,13 @@ def answered(text):
     words = []
     for line in unfolded(text).split("\r\n"):
         if line.startswith("ATTENDEE;PARTSTAT="):
-            words.append(line.split("=")[1].split(":")[0])
+            words.append((line.split("=")[1].split(":")[0], None))
+        elif line.startswith("REQUEST-STATUS:4.1;"):
+            words[-1] = (words[-1][0], line.rpartition(";")[2])
         elif line.startswith("METHOD:REFRESH"):
-            words.append("REFRESH")
+            words.append(("REFRESH", None))
         elif line.startswith("REFUSED"):
-            words.append(line)
+            words.append((line, None))
     return words
 
 
@@ -258,11 +352,11 @@ def kept_instances(text):
         text = event["DURATION"].split(":")[1][1:]
         days, _, rest = text.partition("T")
         one = Said(zone=zone, local=local, days=int(days.rstrip("D") or 0), seconds=int(rest.rstrip("S") or 0), added=times(event.get("RDATE")), taken=times(event.get("EXDATE")),
-                   slot=times(event.get("RECURRENCE-ID"))[0] if "RECURRENCE-ID" in event else None)
+                   rule=kept_rule(event["RRULE"]) if "RRULE" in event else None, slot=times(event.get("RECURRENCE-ID"))[0] if "RECURRENCE-ID" in event else None)
         masters.append((event["UID"].split(":")[1], one, "STATUS" in event))
     for uid, one, cancelled in masters:
         hidden = {other.slot for name, other, _ in masters if name == uid and other.slot is not None} if one.slot is None else set()
-        found += [] if cancelled else [(uid, *single) for single in one.singles() if single[0] not in hidden]
+        found += [] if cancelled else [(uid, *instance) for instance in one.instances() if instance[0] not in hidden]
     return sorted(found)
 
 
@@ -286,9 +380,11 @@ def main():
         wanted = [word for method, uid, events, _ in messages for room in rooms for word in room.take(method, uid, events)]
         found = answered(run(program, given=text))
         objects += len(messages)
-        accepted += found.count("ACCEPTED")
-        declined += found.count("DECLINED")
-        wrong = [("answers", found, wanted)] if found != wanted else []
+        said, expected = [word for word, _ in found], [word for word, _ in wanted]
+        accepted += said.count("ACCEPTED")
+        declined += said.count("DECLINED")
+        wrong = [("answers", said, expected)] if said != expected else []
+        wrong += [("clash", data) for (word, data), (_, held) in zip(found, wanted) if not wrong and word == "DECLINED" and not names_clash(data, held)]
         for room in rooms:
             calendar = run(program, "keep", room.address, given=text)
             certificate = run(program, "keep", "--certificate", room.address, given=text)
@@ -299,7 +395,8 @@ def main():
                 Path(folder, "c").write_text(calendar, newline="")
                 Path(folder, "k").write_text(certificate, newline="")
                 verdict = run(program, "check", f"{folder}/c", f"{folder}/k", room.address)
-            if verdict != "yes\n" or f"SINGLES {len(held)}\n" not in certificate:
+            singles, series = room.counts()
+            if verdict != "yes\n" or f"SINGLES {singles}\nSERIES {series}\n" not in certificate:
                 wrong.append((room.address, verdict, certificate))
         if wrong:
             differ += 1

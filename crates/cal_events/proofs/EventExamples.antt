@@ -99,7 +99,7 @@ say object = record {
     most = omega arith;
     in_dates = (omega (arith, ints), omega (arith, ints), omega (arith, ints));
   });
-  rule = record { line = None; once = refl; stands = no_need; is = tt };
+  rule = record { text = None; spells = record { line = None; once = refl; stands = no_need; is = tt }; gives = tt };
   occurrences = record {
     is = record { line = None; once = refl; stands = no_need; is = tt };
     adds = (tt, omega arith);

@@ -5,6 +5,7 @@ pub mod TextLemmas
 pub mod EntryLemmas
 pub mod ReadingLemmas
 pub mod RuleLemmas
+pub mod SaidRules
 pub mod TreeLemmas
 pub mod Meanings
 pub mod NumberLemmas
@@ -32,6 +33,7 @@ pub mod OwnKeys
 pub mod DraftKeys
 pub mod OwnSingles
 pub mod SeriesLemmas
+pub mod RuleInstances
 pub mod DraftLemmas
 pub mod ConfirmedLemmas
 pub mod CalendarKeys

@@ -1,8 +1,8 @@
 -- The event with its instances that an object says, or the fault that stands there.
 use Rattle.std.proofs.Common.{◌≡◌, ◌≢◌, ◌∙◌, ℕ, zero, suc, ◌<◌, Bool, true, false, ◌&&◌, cond, List, [], ◌∷◌, ◌++◌, length, map, filter, get_or, append-nil, sym, ap, subst, refl, inl, inr, arith, ℤ, pos, ◌||◌}
 use Rattle.std.specs.Option.{option_to_list}
-use Rattle.std.specs.Prelude.{Option, Some, None, is_some, Contains, AllPairs, unwrap_or, Result, Ok, Err, IfOk, IfErr}
-use Rattle.std.specs.List.{AllZip, list_all, list_any}
+use Rattle.std.specs.Prelude.{Option, Some, None, Contains, AllPairs, unwrap_or, Result, Ok, Err, IfOk, IfErr}
+use Rattle.std.specs.List.{AllZip, list_all}
 use Rattle.std.proofs.lemmas.List.Folds.{list_all-map}
 use Rattle.std.specs.Str.{bytes_eq}
 use Rattle.std.specs.Result.{IsErrAnd}
@@ -24,14 +24,10 @@ use Rattle.profile.specs.text.Lines.{logical_lines, reads_as_lines}
 use Rattle.profile.specs.text.Trees.{Tree, vevents}
 use Rattle.profile.specs.events.Events.{Event, SaysEvent, meeting_said, Method}
 use Rattle.profile.specs.events.Meetings.{Meeting, taken_by, is_same_meeting, is_master, is_override, is_meeting_fault, AreOfOne, InstancesDiffer, SaysMeeting, SpellsMeeting, MeetingFault, in_event, two_masters, two_overrides, no_event, two_meetings, MeetingTextFault, in_lines, in_tree, no_version, many_events, in_vevents}
-use Rattle.cal_events.proofs.ReadingLemmas.{never, unread_among}
-use Rattle.cal_events.specs.OneMeeting.{IsUnreadOrNoMeeting}
-use Rattle.cal_events.specs.declared.component.Purpose.{Purpose}
-use Rattle.cal_events.specs.Events.{event_of, has_unread_for, IsUnreadOrFaultAmong}
+use Rattle.cal_events.specs.Events.{event_of, IsFaultAmong}
 use Rattle.cal_events.specs.declared.component.EventComponent.{EventComponent}
 use Rattle.cal_events.specs.Meetings.{instants_said, IsNotOne}
 use Rattle.cal_events.specs.SaidMeetings.{said_meeting}
-use Rattle.cal_events.specs.declared.component.Purpose.TheVariants as purposes
 use Rattle.cal_events.specs.declared.event.Event as declared
 use Rattle.cal_events.proofs.ObjectFaults.{no_object}
 
@@ -129,9 +125,8 @@ none_said object m [] z = refl
 none_said object m (v ∷ vs) z = absurd z
 
 module _ (object : Tree) (vs : List (List (List ℕ))) (same : vevents object ≡ vs) where
-  pub among_there : (purpose : Purpose) (n : ℕ) → IsUnreadOrFaultAmong object purpose vs n → IsUnreadOrNoMeeting object purpose n
-  among_there purpose n (lines, c, inl (is, h)) = inl (is, ap (list_any (has_unread_for purpose)) same ∙ unread_among (has_unread_for purpose) vs lines c h)
-  among_there purpose n (lines, c, inr f) = inr (in_event lines (subst (λ (x : List (List (List ℕ))). Contains x lines) (sym same) c) f)
+  pub among_there : (m : Option Method) (n : ℕ) → IsFaultAmong object m vs n → MeetingFault object m n
+  among_there m n (lines, c, f) = in_event lines (subst (λ (x : List (List (List ℕ))). Contains x lines) (sym same) c) f
 
   module _ (m : Option Method) (events : List Event) (zip : AllZip (SaysEvent object m) vs events) where
     pub said : AllZip (SaysEvent object m) (vevents object) events
@@ -162,15 +157,6 @@ module _ (object : Tree) (vs : List (List (List ℕ))) (same : vevents object �
         overrides = kept ∙ sym rest;
         differ = subst InstancesDiffer (sym rest) (subst (λ (os : List (Option ℤ)). AllPairs ◌≢◌ os) of_them (differ_some instants differ));
       }
-
--- for an event with its instances nothing is left unread
-pub all_read : (object : Tree) (n : ℕ) → IsUnreadOrNoMeeting object purposes.Meeting n → MeetingFault object None n
-all_read object n (inl (is, h)) = absurd (true≢false (sym h ∙ none (vevents object)))
-  where
-    none : (vs : List (List (List ℕ))) → list_any (has_unread_for purposes.Meeting) vs ≡ false
-    none [] = refl
-    none (v ∷ vs) = ap (λ b. b || list_any (has_unread_for purposes.Meeting) vs) (never v) ∙ none vs
-all_read object n (inr fault) = fault
 
 -- the numbers of what stands between them
 pub not_one_number : (events : List Event) (n : ℕ) → IsNotOne events n → is_meeting_fault n ≡ true

@@ -1,25 +1,18 @@
 -- The numbers of the faults of a VEVENT, and which of them are left where no time names a zone.
-use Rattle.std.proofs.Common.{eqb, ◌≡◌, ◌∙◌, ap, sym, refl, inl, inr, ℕ, Bool, true, false, cond, ◌&&◌, ◌||◌, ◌<◌, List, [], ◌∷◌, length, subst, codes, arith}
-use Rattle.std.specs.Prelude.{Option, Some, None, Contains, is_some, ◌⊎◌}
-use Rattle.std.specs.List.{list_any, flat_map}
-use Rattle.std.proofs.lemmas.Bool.{true≢false, or_parts, or_right}
-use Rattle.std.proofs.lemmas.List.Folds.{list_any_at}
-use Rattle.std.proofs.lemmas.List.Elements.{All-contains, All-filter, All-contains_itself, filter_passes}
+use Rattle.std.proofs.Common.{eqb, ◌≡◌, ◌∙◌, ap, refl, inl, inr, ℕ, Bool, true, false, cond, ◌||◌, List, codes}
+use Rattle.std.specs.Prelude.{Option, Some, None, ◌⊎◌}
 use Rattle.ical_lines.specs.Fault.{RefusesOnly, RefusesBy}
 use Rattle.ical_lines.specs.declared.fault.Fault.{Fault}
 use Rattle.ical_lines.specs.declared.fault.Fault.TheVariants.{Refused, Memory}
-use Rattle.profile.specs.faults.Faults.{is_event_fault, is_zoned_event_fault, is_zone_fault, is_unread, is_rule_fault, is_series_event_fault, is_meeting_event_fault}
+use Rattle.profile.specs.faults.Faults.{is_event_fault, is_zoned_event_fault, is_zone_fault, is_rule_fault, is_series_event_fault, is_meeting_event_fault}
 use Rattle.profile.specs.text.Lines.{line_param, line_value}
 use Rattle.profile.specs.text.Trees.{Tree}
 use Rattle.profile.specs.series.ZoneTexts.{PartsFault, no_part, in_part, ruled, other_parts, unruled, unmatched, close, TimesFault, dates, missing, twice as part_twice, fixed, bad_start as bad_part, bad_from, bad_to}
-use Rattle.profile.specs.events.Properties.{TimeKind, DateTime, Date, Period, Other, time_kind, UnfixedOrMalformed, IsDateText, IsLocalText, KindFault, ends_in_z, is_of, lines_named}
-use Rattle.profile.specs.events.ZonedTimes.{is_in_zone, zone_named, DateOrMalformed, LocalFault, NamedFault, FaultIn, ZonedTimeFault, EventTimesFault, bad_start, bad_end, bad_duration, ends_early, ends_late, lasts_long, starts_out, ends_out, no_start, twice as times_twice, end_and_duration}
+use Rattle.profile.specs.events.Properties.{TimeKind, DateTime, Date, Period, Other, time_kind, UnfixedOrMalformed, IsDateText, IsLocalText, KindFault, ends_in_z}
+use Rattle.profile.specs.events.ZonedTimes.{zone_named, DateOrMalformed, LocalFault, NamedFault, FaultIn, ZonedTimeFault, EventTimesFault, bad_start, bad_end, bad_duration, ends_early, ends_late, lasts_long, starts_out, ends_out, no_start, twice as times_twice, end_and_duration}
 use Rattle.profile.specs.series.RuleTexts.{RuleFault, unknown, bad_value, no_frequency, two_frequencies, twice as rule_twice, apart, two_ends}
 use Rattle.profile.specs.events.EventRules.{EventRuleFault, bad_rule, starts_outside, two_rules}
-use Rattle.profile.specs.events.Occurrences.{recurs_as_instance, Entry, EntryFault, entries_of, entries_named, EntriesFault, in_entry, too_many, OccurrenceFault, bad_recurrence, bad_additions, bad_exceptions, recurrence_out, additions_out, two_recurrences, ranged, recurs}
-use Rattle.cal_events.specs.declared.component.Purpose.{Purpose}
-use Rattle.cal_events.specs.declared.component.Purpose.TheVariants.{Request, Add, Cancel, Meeting}
-use Rattle.cal_events.specs.Events.{is_message, has_unread_for, is_fault_for, is_unread_fault, method_read}
+use Rattle.profile.specs.events.Occurrences.{Entry, EntryFault, entries_named, EntriesFault, in_entry, too_many, OccurrenceFault, bad_recurrence, bad_additions, bad_exceptions, recurrence_out, additions_out, two_recurrences, ranged, recurs}
 use Rattle.profile.specs.events.Events.{EventFault, in_times, in_rule, in_occurrences, bad_stamp, bad_uid, bad_organiser, bad_attendee, bad_sequence, no_uid, no_stamp_given, twice, no_organiser, Method}
 
 abbrev Lines : Type 0
@@ -161,20 +154,6 @@ component_number object m lines n (no_organiser t x) = refl
 
 -- ---- what a VEVENT is refused for
 
-pub number_for : (object : Tree) (purpose : Purpose) (lines : Lines) (n : ℕ) → EventFault object (method_read purpose) lines n → is_fault_for purpose n ≡ true
-number_for object purpose lines n f = ap (λ b. b || is_unread_fault purpose n) (component_number object (method_read purpose) lines n f)
-
-pub refused_for : (object : Tree) (purpose : Purpose) (lines : Lines) → (f : Fault) → RefusesBy (EventFault object (method_read purpose) lines) f
-    → RefusesOnly (is_fault_for purpose) f
-refused_for object purpose lines Memory s = tt
-refused_for object purpose lines (Refused r) s = number_for object purpose lines r.number s
-
-pub unread_for : (purpose : Purpose) (lines : Lines) (n : ℕ) → n ≡ 99 → has_unread_for purpose lines ≡ true → is_fault_for purpose n ≡ true
-unread_for Request lines n e h = ap (is_fault_for Request) e
-unread_for Add lines n e h = ap (is_fault_for Add) e
-unread_for Cancel lines n e h = ap (is_fault_for Cancel) e
-unread_for Meeting lines n e h = absurd (true≢false (sym h ∙ none lines))
-  where
-    none : (lines : Lines) → list_any (λ _. false) lines ≡ false
-    none [] = refl
-    none (line ∷ lines) = none lines
+pub refused_for : (object : Tree) (m : Option Method) (lines : Lines) → (f : Fault) → RefusesBy (EventFault object m lines) f → RefusesOnly is_meeting_event_fault f
+refused_for object m lines Memory s = tt
+refused_for object m lines (Refused r) s = component_number object m lines r.number s

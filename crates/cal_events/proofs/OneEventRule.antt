@@ -1,5 +1,5 @@
 -- The lines of a VEVENT say at most one rule, and none where a fault stands in it.
-use Rattle.std.proofs.Common.{◌≡◌, ◌∙◌, ℕ, ◌<◌, ◌≤◌, Bool, true, false, List, codes, subst, sym, ap, inl, inr, arith, ℤ, ◌≤ℤ◌}
+use Rattle.std.proofs.Common.{◌≡◌, ◌∙◌, ℕ, ◌<◌, ◌≤◌, Bool, true, false, List, [], ◌∷◌, codes, subst, sym, ap, refl, inl, inr, arith, ℤ, ◌≤ℤ◌}
 use Rattle.std.specs.Prelude.{Option, Some, None}
 use Rattle.std.proofs.lemmas.Bool.{true≢false, cases_order}
 use Rattle.std.proofs.lemmas.Bool.Decides.{nat_tests}
@@ -8,10 +8,11 @@ use Rattle.std.proofs.lemmas.Option.{same_Some}
 use Rattle.profile.specs.text.Lines.{line_value}
 use Rattle.profile.specs.text.Trees.{Tree}
 use Rattle.profile.specs.series.Rules.{Parts, RuleText, Until, UntilDay, UntilLocal, UntilInstant, rule_of, is_rule_day, is_counted}
-use Rattle.profile.specs.series.RuleTexts.{SpellsRule, RuleFault}
+use Rattle.profile.specs.series.RuleTexts.{SpellsRule, RuleFault, IsLeastRuleFault}
 use Rattle.profile.specs.series.Zones.{Zone, IsOneMeaning, NoneFrom, IsLastDay}
+use Rattle.profile.specs.events.Properties.{BothOrNeither, SomeLine, lines_named}
 use Rattle.profile.specs.events.ZonedTimes.{SaysZonedTime, clock_of, is_in_zone, first_local, EventTimes, SaysEventTimes, SaysTimes}
-use Rattle.profile.specs.events.EventRules.{as_end, IsLastAllowed, AllowsNone, IsOnDay, GivesRule, IsRuleLine, SaysEventRule, IsOutside, EventRuleFault, bad_rule, starts_outside, two_rules}
+use Rattle.profile.specs.events.EventRules.{as_end, IsLastAllowed, AllowsNone, IsOnDay, GivesRule, IsRuleText, GivesBeside, SaysEventRule, IsOutside, EventRuleFault, bad_rule, starts_outside, two_rules}
 use Rattle.ical_tree.proofs.OneLine.{IsFunctional, only_line}
 use Rattle.cal_events.proofs.OneTimes.{Lines, OneZonedTime, OneDuration, at_most_one, clock_one, one_times_by, clock_by, none_there}
 use Rattle.cal_events.proofs.Said.{same_said, said_by}
@@ -60,17 +61,25 @@ same_given zone local one text a b g h =
     let last = same_last zone h.second one text.until g.last h.last (subst (λ (s : ℕ). IsLastAllowed zone s text.until g.last) e.1 g.allowed) h.allowed in
     g.is ∙ ap (λ d. rule_of text d g.last) e.0 ∙ ap (λ l. rule_of text h.day l) last ∙ sym h.is
 
-rule_one : OneRule → (times : EventTimes) → IsOneMeaning (clock_of times.zone) → IsFunctional (IsRuleLine times)
-rule_one rules times one line a b (text, spelled, g) (other, said, h) =
-    same_given (clock_of times.zone) times.local one other a b
-    (subst (λ (t : RuleText). GivesRule (clock_of times.zone) times.local t a) (rules (line_value line) text other spelled said) g) h
+text_one : OneRule → IsFunctional IsRuleText
+text_one rules line a b h k = rules (line_value line) a b h k
+
+same_beside : (starts : Lines) (times : EventTimes) → IsOneMeaning (clock_of times.zone) → (text : Option RuleText) (a b : Option Parts) → GivesBeside starts times text a → GivesBeside starts times text b → a ≡ b
+same_beside [] times one text a b g h = g ∙ sym h
+same_beside (start ∷ more) times one None None None g h = refl
+same_beside (start ∷ more) times one None None (Some b) g h = absurd h
+same_beside (start ∷ more) times one None (Some a) b g h = absurd g
+same_beside (start ∷ more) times one (Some text) None b g h = absurd g
+same_beside (start ∷ more) times one (Some text) (Some a) None g h = absurd h
+same_beside (start ∷ more) times one (Some text) (Some a) (Some b) g h = ap Some (same_given (clock_of times.zone) times.local one text a b g h)
 
 pub one_event_rule : OneZonedTime → OneDuration → OneRule → {may : Bool} (object : Tree) (lines : Lines) (s t : EventTimes) (a b : Option Parts) → SaysTimes may object lines s → SaysTimes may object lines t
     → SaysEventRule lines s a → SaysEventRule lines t b → a ≡ b
 one_event_rule zoned two rules object lines s t a b h k p q =
-    let e = one_times_by zoned two object lines s t h k in
-    same_said (IsRuleLine t) (codes "RRULE") false lines a b (rule_one rules t (clock_by object lines t k))
-    (subst (λ (x : EventTimes). SaysEventRule lines x a) e p) q
+    let starts = lines_named (codes "DTSTART") lines in
+    let text : p.text ≡ q.text = same_said IsRuleText (codes "RRULE") false lines p.text q.text (text_one rules) p.spells q.spells in
+    same_beside starts t (clock_by object lines t k) q.text a b
+    (subst (λ (x : Option RuleText). GivesBeside starts t x a) text (subst (λ (x : EventTimes). GivesBeside starts x p.text a) (one_times_by zoned two object lines s t h k) p.gives)) q.gives
 
 -- ---- no fault stands where a rule is said
 
@@ -78,6 +87,11 @@ one_event_rule zoned two rules object lines s t a b h k p q =
 is_up_to_last : (rule : Parts) (day : ℕ) → is_rule_day rule day ≡ true → day ≤ rule.last
 unfolding is_rule_day is_counted
 is_up_to_last rule day h = grind (arith, nat_tests)
+
+no_text_fault : OneRule → NoRuleFault → (lines : Lines) (times : EventTimes) (rule : Option Parts) → SaysEventRule lines times rule → (n : ℕ)
+    → SomeLine (codes "RRULE") (λ line. IsLeastRuleFault (line_value line) n) lines → ⊥
+no_text_fault rules none lines times rule r n l =
+    let f = said_by IsRuleText _ (codes "RRULE") false lines r.text r.spells l in none (line_value l.0) n f.0 l.2.stands f.1
 
 module _ (zoned : OneZonedTime) (rules : OneRule) (none : NoRuleFault) (object : Tree) (lines : Lines) (times : EventTimes) (rule : Option Parts) (s : SaysEventTimes object lines times) (r : SaysEventRule lines times rule) where
   the_clock : IsOneMeaning (clock_of times.zone)
@@ -106,24 +120,34 @@ module _ (zoned : OneZonedTime) (rules : OneRule) (none : NoRuleFault) (object :
             true≢false (sym starts ∙ false_there)
       ]
 
+  -- the rule that the text gives from the start that stands there
+  given : (text : RuleText) → r.text ≡ Some text → (x : Parts) × GivesRule (clock_of times.zone) times.local text x
+  given text e =
+      both rule
+      (subst (λ (t : Option RuleText). BothOrNeither (GivesRule (clock_of times.zone) times.local) t rule) e
+      (subst (λ (starts : Lines). GivesBeside starts times r.text rule) s.once r.gives))
+    where
+      both : (o : Option Parts) → BothOrNeither (GivesRule (clock_of times.zone) times.local) (Some text) o → (x : Parts) × GivesRule (clock_of times.zone) times.local text x
+      both None g = absurd g
+      both (Some x) g = (x, g)
+
   pub no_rule_fault : (n : ℕ) → EventRuleFault object lines n → ⊥
-  no_rule_fault n (bad_rule l) =
-      let f = said_by (IsRuleLine times) _ (codes "RRULE") false lines rule r l in none (line_value l.0) n f.1.0 l.2.stands f.1.1
+  no_rule_fault n (bad_rule l) = no_text_fault rules none lines times rule r n l
   no_rule_fault n (starts_outside (start, there, l)) =
-      let f = said_by (IsRuleLine times) _ (codes "RRULE") false lines rule r l in
+      let f = said_by IsRuleText _ (codes "RRULE") false lines r.text r.spells l in
+      let g = given f.0 f.2 in
       let out = l.2 in
       let line = same_Some s.line start (only_line (codes "DTSTART") lines (Some s.line) start s.once there) in
       let z = zoned object start (line_value start) out.zone times.zone out.local times.local out.says (subst (λ (x : List ℕ). SaysZonedTime object x times.zone times.local) line s.says) in
-      let text = rules (line_value l.0) out.text f.1.0 out.spelled f.1.1 in
-      not_outside f.1.0 f.0 f.1.2
+      let text = rules (line_value l.0) out.text f.0 out.spelled f.1 in
+      not_outside f.0 g.0 g.1
       (subst (λ (t : RuleText). IsOutside (clock_of times.zone) times.local t) text
       (subst (λ (x : ℤ). IsOutside (clock_of times.zone) x out.text) z.1 (subst (λ (x : Option Zone). IsOutside (clock_of x) out.local out.text) z.0 out.outside)))
-  no_rule_fault n (two_rules h) = let l = at_most_one (codes "RRULE") lines r.line r.once in absurd (omega (arith, l, h))
+  no_rule_fault n (two_rules h) = let l = at_most_one (codes "RRULE") lines r.spells.line r.spells.once in absurd (omega (arith, l, h))
 
 pub no_rule_fault_by : OneZonedTime → OneRule → NoRuleFault → {may : Bool} (object : Tree) (lines : Lines) (times : EventTimes) (rule : Option Parts) → SaysTimes may object lines times → SaysEventRule lines times rule
     → (n : ℕ) → EventRuleFault object lines n → ⊥
 no_rule_fault_by zoned rules none object lines times rule (inl s) r n f = no_rule_fault zoned rules none object lines times rule s r n f
-no_rule_fault_by zoned rules none object lines times rule (inr (_, s)) r n (bad_rule l) =
-    let f = said_by (IsRuleLine times) _ (codes "RRULE") false lines rule r l in none (line_value l.0) n f.1.0 l.2.stands f.1.1
+no_rule_fault_by zoned rules none object lines times rule (inr (_, s)) r n (bad_rule l) = no_text_fault rules none lines times rule r n l
 no_rule_fault_by zoned rules none object lines times rule (inr (_, s)) r n (starts_outside l) = none_there _ lines s.missing l
-no_rule_fault_by zoned rules none object lines times rule (inr (_, s)) r n (two_rules h) = let l = at_most_one (codes "RRULE") lines r.line r.once in absurd (omega (arith, l, h))
+no_rule_fault_by zoned rules none object lines times rule (inr (_, s)) r n (two_rules h) = let l = at_most_one (codes "RRULE") lines r.spells.line r.spells.once in absurd (omega (arith, l, h))

@@ -24,7 +24,7 @@ use Rattle.cal_events.specs.OwnInstances.{IsSteady}
 use Rattle.cal_zones.proofs.Zones.{unique, once_constant, once_single, once_pair}
 use Rattle.cal_events.proofs.Meanings.{one_meaning}
 use Rattle.cal_events.proofs.OneTimes.{Lines}
-use Rattle.cal_events.proofs.Clocks.{ReadsWith, near, single_in_force, pair_in_force, single_reads, pair_reads, constant_reads}
+use Rattle.cal_events.proofs.Clocks.{ReadsWith, near, single_in_force, pair_in_force, single_reads, pair_reads, constant_reads, ascends}
 
 -- ---- the clocks of a zone
 
@@ -67,6 +67,7 @@ utc_steady = record {
   offset = λ t p q h j. unique (Constant (pos 0)) t p q (once_constant (pos 0)) h j;
   meaning = one_meaning (Constant (pos 0)) tt;
   keeps = keeps_near (Constant (pos 0)) tt;
+  ascends = ascends (Constant (pos 0)) tt;
 }
 
 clock_steady : (object : Tree) (line text : List ℕ) (zone : Option Zone) (local : ℤ) → SaysZonedText object line text zone local → IsSteady (clock_of zone)
@@ -75,7 +76,7 @@ clock_steady object line text (Some zone) local h = spelled (line_param (codes "
   where
     named : (o : Option Tree) → SaysZoneOf o zone → IsSteady zone
     named None says = absurd says
-    named (Some part) says = record { offset = one_offset_of zone _ _ _ says; meaning = one_meaning zone says.matched; keeps = keeps_near zone says.matched }
+    named (Some part) says = record { offset = one_offset_of zone _ _ _ says; meaning = one_meaning zone says.matched; keeps = keeps_near zone says.matched; ascends = ascends zone says.matched }
 
     spelled : (o : Option (List ℕ)) → SpellsZoned object o text (Some zone) local → IsSteady zone
     spelled None says = absurd says

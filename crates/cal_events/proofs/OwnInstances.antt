@@ -1,46 +1,47 @@
--- The instances of an event by itself that has no rule: what its starts, or its own start, make.
-use Rattle.std.proofs.Common.{◌≡◌, ◌∙◌, ℕ, ◌<◌, ◌+◌, zero, suc, true, List, [], ◌∷◌, ◌++◌, length, take, get_or, map, subst, sym, refl, ap, inl, inr, arith, ℤ, pos, ◌<ℤ◌, ◌≤ℤ◌}
-use Rattle.std.specs.Prelude.{Option, Some, None, All, AllPairs, Contains, is_some}
+-- The instances of an event by itself that no rule gives: what its starts, or its own start, make.
+use Rattle.std.proofs.Common.{◌≡◌, ◌∙◌, ℕ, ◌<◌, ◌+◌, zero, suc, List, [], ◌∷◌, ◌++◌, length, take, get_or, map, subst, sym, refl, ap, inl, inr, arith, ℤ, pos, ◌<ℤ◌, ◌≤ℤ◌}
+use Rattle.std.specs.Prelude.{Some, None, All, AllPairs, Contains}
 use Rattle.std.specs.List.{AllZip}
-use Rattle.std.proofs.lemmas.Bool.{true≢false}
 use Rattle.std.proofs.lemmas.Option.{same_Some}
 use Rattle.std.proofs.lemmas.List.Elements.{All-nil, All-cons}
 use Rattle.profile.specs.checker.Instances.{Booked}
-use Rattle.profile.specs.series.Rules.{Parts}
 use Rattle.profile.specs.events.Properties.{first_second}
-use Rattle.profile.specs.events.ZonedTimes.{clock_of}
 use Rattle.profile.specs.events.Events.{Event}
 use Rattle.profile.specs.events.Starts.{IsStart, IsInstance, EndsAt, ComesBefore, AreInstancesFrom, key_at}
-use Rattle.profile.specs.events.Confirmed.{alone}
+use Rattle.profile.specs.events.Confirmed.{alone, IsOfSeries, AreApart}
 use Rattle.cal_events.specs.OwnInstances.{booked_at, IsMade, IsTimely}
 use Rattle.cal_events.specs.SingleStarts.{IsSingleStart, IsOnRule, AreSingleStarts}
 use Rattle.cal_events.specs.declared.instance.Single.{Single}
 use Rattle.std.proofs.lemmas.List.{take_more}
 use Rattle.cal_events.proofs.EventLemmas.{push_zip}
 use Rattle.cal_events.proofs.InOneOrder.{later, none_in, head_pairs, tail_pairs, cons_pairs}
-use Rattle.cal_events.proofs.OwnSingles.{IsAtStart, alone_master, master_alone, alone_override, override_alone, one_by_key}
+use Rattle.cal_events.proofs.OwnSingles.{IsAtStart, alone_master, master_alone, alone_override, override_alone, one_by_key, of_both, is_a_master, not_a_master}
+use Rattle.cal_events.proofs.PlainSingles.{no_rule}
 
 module _ (event : Event) (t : IsTimely event) where
   abbrev booked : Single → Booked
   booked = booked_at event
 
   abbrev IsHere : Booked → Type 0
-  IsHere b = IsInstance (alone event) b × (first_second ≤ℤ b.start)
+  IsHere b = IsInstance (alone event) b × (IsOfSeries event b → ⊥)
 
   -- ---- a master
 
-  module _ (none : event.recurrence ≡ None) (once : event.rule ≡ None) where
-    no_rule : (instant : ℤ) → IsOnRule event instant → ⊥
-    no_rule instant (rule, is, starts) = true≢false (sym (ap (λ (o : Option Parts). is_some o) is) ∙ ap (λ (o : Option Parts). is_some o) once)
+  module _ (none : event.recurrence ≡ None) where
+    on_rule : (b : Booked) → IsOfSeries event b → IsOnRule event b.start
+    on_rule b series = (series.rule, series.has, series.starts)
 
-    made : (start : ℤ) (s : Single) → IsMade event start start s → IsStart event [] start → IsHere (booked s)
+    of_series : (b : Booked) → IsOnRule event b.start → IsOfSeries event b
+    of_series b on = record { master = is_a_master event none; rule = on.0; has = on.1; starts = on.2 }
+
+    made : (start : ℤ) (s : Single) → IsMade event start start s → IsSingleStart event start → IsHere (booked s)
     made start s m h = (
       alone_master event (booked s) none (record {
-        starts = subst (IsStart event []) (sym m.starts) h;
+        starts = subst (IsStart event []) (sym m.starts) h.0;
         key = ap (key_at event) (m.slot_is ∙ sym m.starts);
         ends = subst (λ (u : ℤ). EndsAt event.times u s.span.end) (sym m.starts) m.ends;
       }),
-      subst (λ (u : ℤ). first_second ≤ℤ u) (sym m.starts) h.in_dates.0,
+      λ series. h.1 (subst (IsOnRule event) m.starts (on_rule (booked s) series)),
     )
 
     abbrev AreMade : List ℤ → List Single → Type 0
@@ -63,7 +64,7 @@ module _ (event : Event) (t : IsTimely event) where
     mapped (x ∷ xs) s (zero, w, e) = (zero, omega arith, ap booked e)
     mapped (x ∷ xs) s (suc k, w, e) = later (booked x) (booked s) (map booked xs) (mapped xs s (k, omega (arith, w), e))
 
-    each : (starts : List ℤ) (own : List Single) → AreMade starts own → ((u : ℤ) → Contains starts u → IsStart event [] u) → All IsHere (map booked own)
+    each : (starts : List ℤ) (own : List Single) → AreMade starts own → ((u : ℤ) → Contains starts u → IsSingleStart event u) → All IsHere (map booked own)
     each starts [] z h = All-nil IsHere
     each [] (s ∷ ss) z h = absurd z
     each (x ∷ xs) (s ∷ ss) z h = All-cons IsHere (booked s) (map booked ss) (made x s z.0 (h x (zero, omega arith, refl))) (each xs ss z.1 (λ u c. h u (later x u xs c)))
@@ -76,29 +77,30 @@ module _ (event : Event) (t : IsTimely event) where
         (λ b c. let r = of_start xs ss b z.1 c in inl (subst (λ (u : ℤ). u <ℤ b.start) (sym z.0.starts) (subst (λ (u : ℤ). x <ℤ u) (sym r.2) (head_pairs ◌<ℤ◌ x r.0 xs p r.1))))
         (in_order xs ss z.1 (tail_pairs ◌<ℤ◌ x xs p))
 
-    pub master_instances : (starts : List ℤ) (own : List Single) → AreSingleStarts event starts → AreMade starts own → AreInstancesFrom (alone event) first_second (map booked own)
-    master_instances starts own are z = record {
-      each = each starts own z (λ u c. (at starts u are.each c).0);
+    pub master_apart : (starts : List ℤ) (own : List Single) → AreSingleStarts event starts → AreMade starts own → AreApart event (map booked own)
+    master_apart starts own are z = record {
+      each = each starts own z (λ u c. at starts u are.each c);
       ordered = in_order starts own z are.ascending;
-      all = λ b h from. all b (master_alone event b none h) h;
+      all = λ b h apart. all b (master_alone event b none h) h apart;
     }
       where
         at : (starts : List ℤ) (u : ℤ) → All (IsSingleStart event) starts → Contains starts u → IsSingleStart event u
         at starts u h (k, w, e) = subst (IsSingleStart event) e (h k u w)
 
-        all : (b : Booked) → IsAtStart event b → IsInstance (alone event) b → Contains (map booked own) b
-        all b s h =
-            let r = among starts own b.start z (are.all b.start (s.starts, no_rule b.start)) in
-            let same : booked r.0 ≡ b = one_by_key event (booked r.0) b t.steady (made b.start r.0 r.2 s.starts).0 h (ap (key_at event) r.2.slot_is ∙ sym s.key) in
+        all : (b : Booked) → IsAtStart event b → IsInstance (alone event) b → (IsOfSeries event b → ⊥) → Contains (map booked own) b
+        all b s h apart =
+            let single : IsSingleStart event b.start = (s.starts, λ on. apart (of_series b on)) in
+            let r = among starts own b.start z (are.all b.start single) in
+            let same : booked r.0 ≡ b = one_by_key event (booked r.0) b t.steady (made b.start r.0 r.2 single).0 h (ap (key_at event) r.2.slot_is ∙ sym s.key) in
             subst (Contains (map booked own)) same (mapped own r.0 r.1)
 
   -- ---- one instance
 
-  pub own_instance : (slot : ℤ) (s : Single) → event.recurrence ≡ Some slot → IsMade event slot event.times.start s → AreInstancesFrom (alone event) first_second (booked s ∷ [])
-  own_instance slot s is m = record {
-    each = All-cons IsHere (booked s) [] (own, subst (λ (u : ℤ). first_second ≤ℤ u) (sym m.starts) t.starts.0) (All-nil IsHere);
+  pub own_apart : (slot : ℤ) (s : Single) → event.recurrence ≡ Some slot → IsMade event slot event.times.start s → AreApart event (booked s ∷ [])
+  own_apart slot s is m = record {
+    each = All-cons IsHere (booked s) [] (own, λ series. not_a_master event slot is series.master) (All-nil IsHere);
     ordered = cons_pairs ComesBefore (booked s) [] (λ y c. absurd (none_in y c)) (λ i j d l w. absurd (omega (arith, w)));
-    all = λ b h from. (
+    all = λ b h apart. (
       zero,
       omega arith,
       one_by_key event (booked s) b t.steady own h (
@@ -115,6 +117,22 @@ module _ (event : Event) (t : IsTimely event) where
         starts = m.starts;
         ends = subst (λ (u : ℤ). EndsAt event.times u s.span.end) (sym m.starts) m.ends;
       })
+
+  -- ---- without a rule
+
+  from_first : (b : Booked) → IsInstance (alone event) b → first_second ≤ℤ b.start
+  from_first b h = elim (of_both event) [
+    | inl none ↦ (master_alone event b none h).starts.in_dates.0
+    | inr (slot, is) ↦ subst (λ (u : ℤ). first_second ≤ℤ u) (sym (override_alone event b slot is h).starts) t.starts.0
+  ]
+
+  -- then all instances are apart
+  pub apart_once : (all : List Booked) → event.rule ≡ None → AreApart event all → AreInstancesFrom (alone event) first_second all
+  apart_once all once a = record {
+    each = λ k d w. let x = a.each k d w in (x.0, from_first (get_or all k d) x.0);
+    ordered = a.ordered;
+    all = λ b h from. a.all b h (no_rule event b once);
+  }
 
 -- ---- one start more
 

@@ -1,29 +1,21 @@
 -- An object's VEVENTs, what they say, and the calendar's entries.
-use Rattle.std.proofs.Common.{◌≡◌, ℕ, zero, ◌+◌, ◌<◌, Bool, true, false, cond, List, [], ◌∷◌, ◌++◌, ◌||◌, length, map, filter, get_or, take, drop, subst, sym, refl, ap, inl, inr, ◌∙◌, arith, Option}
+use Rattle.std.proofs.Common.{◌≡◌, ℕ, zero, ◌+◌, ◌<◌, true, false, cond, List, [], ◌∷◌, ◌++◌, length, map, filter, get_or, take, drop, subst, sym, refl, ap, ◌∙◌, arith, Option, None}
 use Rattle.ical_lines.specs.Fault.{RefusesBy}
 use Rattle.std.specs.Prelude.{Contains}
-use Rattle.std.proofs.lemmas.Bool.{true≢false}
-use Rattle.std.specs.List.{list_any, AllZip}
+use Rattle.std.specs.List.{AllZip}
 use Rattle.std.proofs.lemmas.List.{map-append, take-append-drop, append-nil}
 use Rattle.std.proofs.lemmas.List.Elements.{Contains-append_right, filter_more, filter-append}
-use Rattle.std.proofs.lemmas.List.Folds.{list_any-append, list_any_at}
 use Rattle.ical_lines.specs.declared.fault.Fault.{Fault}
 use Rattle.ical_lines.specs.declared.fault.Fault.TheVariants.{Refused, Memory}
 use Rattle.ical_tree.specs.Tree.{component_lines}
 use Rattle.ical_tree.specs.declared.component.Component.{Component}
 use Rattle.ical_tree.proofs.OneLine.{at_place}
 use Rattle.profile.specs.text.Trees.{Tree, vevents}
-use Rattle.profile.specs.events.Events.{Event, SaysEvent, Method}
+use Rattle.profile.specs.events.Events.{Event, EventFault, SaysEvent, Method}
 use Rattle.profile.specs.checker.Calendars.{CalendarFault, in_event}
-use Rattle.cal_events.specs.declared.component.Purpose.TheVariants.{Meeting}
 use Rattle.cal_events.specs.declared.component.EventComponent.{EventComponent}
-use Rattle.cal_events.specs.Events.{event_of, is_vevent, IsUnreadOrFault}
+use Rattle.cal_events.specs.Events.{event_of, is_vevent}
 use Rattle.cal_events.proofs.EventLemmas.{push_zip}
-
--- nothing is left unread where everything is read
-pub never : (lines : List (List ℕ)) → list_any (λ _. false) lines ≡ false
-never [] = refl
-never (line ∷ lines) = never lines
 
 -- ---- the VEVENTs among some components
 
@@ -69,24 +61,6 @@ is_among cs i c w e h =
     subst (λ (l : List Lines). Contains l (component_lines c)) (sym whole)
     (Contains-append_right (events_in (take i cs)) (component_lines c ∷ events_in (drop (i + 1) cs)) (component_lines c) (zero, omega arith, refl))
 
--- what is left decides whether something isn't read yet
-pub unread_first : (U : Lines → Bool) (lines : Lines) (rest : List Lines) (all : List Lines) → list_any U all ≡ list_any U (lines ∷ rest) → U lines ≡ true → list_any U all ≡ true
-unread_first U lines rest all e h = e ∙ ap (λ b. b || list_any U rest) h
-
-pub unread_next : (U : Lines → Bool) (lines : Lines) (rest : List Lines) (all : List Lines) → list_any U all ≡ list_any U (lines ∷ rest) → U lines ≡ false → list_any U all ≡ list_any U rest
-unread_next U lines rest all e h = e ∙ ap (λ b. b || list_any U rest) h
-
--- one VEVENT more that is read
-pub read_event : (U : Lines → Bool) (cs : List Component) (i : ℕ) (c : Component) → i < length cs → c ≡ get_or cs i c → is_vevent c ≡ true
-    → list_any U (events_in (take i cs)) ≡ false → U (component_lines c) ≡ false → list_any U (events_in (take (i + 1) cs)) ≡ false
-read_event U cs i c w e h before here =
-    ap (list_any U) (take_event cs i c w e h) ∙ list_any-append U (events_in (take i cs)) (component_lines c ∷ []) ∙ ap (λ b. b || (U (component_lines c) || false)) before
-    ∙ ap (λ b. b || false) here
-
--- one of the VEVENTs that isn't read
-pub unread_among : (U : Lines → Bool) (vs : List Lines) (lines : Lines) → Contains vs lines → U lines ≡ true → list_any U vs ≡ true
-unread_among U vs lines (k, w, e) h = list_any_at U vs k lines w (ap U e ∙ h)
-
 -- ---- events, and entries
 
 pub event_pushed : (object : Tree) (m : Option Method) (vs : List Lines) (lines : Lines) (old new : List EventComponent) (event : EventComponent)
@@ -97,8 +71,7 @@ event_pushed object m vs lines old new event zip says n =
     (push_zip (SaysEvent object m) vs (map event_of old) lines (event_of event) zip says)
 
 -- a VEVENT that is refused has a fault, which stands in the object
-pub event_stands : (object : Tree) (vs : List Lines) (lines : Lines) (f : Fault) → vevents object ≡ vs → Contains vs lines → RefusesBy (IsUnreadOrFault object Meeting lines) f
+pub event_stands : (object : Tree) (vs : List Lines) (lines : Lines) (f : Fault) → vevents object ≡ vs → Contains vs lines → RefusesBy (EventFault object None lines) f
     → RefusesBy (CalendarFault object) f
 event_stands object vs lines Memory e h s = tt
-event_stands object vs lines (Refused r) e h (inl u) = absurd (true≢false (sym u.1 ∙ never lines))
-event_stands object vs lines (Refused r) e h (inr s) = in_event lines (subst (λ (xs : List Lines). Contains xs lines) (sym e) h) s
+event_stands object vs lines (Refused r) e h s = in_event lines (subst (λ (xs : List Lines). Contains xs lines) (sym e) h) s

@@ -1,11 +1,6 @@
 -- The rule that a text gives from the start of an event on.
-use Rattle.std.specs.Option.{option_to_list}
 use Rattle.std.specs.List.{list_any}
-use Rattle.profile.specs.events.Events.{may_lack_start}
-use Rattle.cal_events.specs.Events.{has_unread_for, method_read}
-use Rattle.cal_events.specs.declared.component.Purpose.TheVariants.{Request, Add, Cancel, Meeting}
-use Rattle.cal_events.specs.declared.component.Purpose.{Purpose}
-use Rattle.std.proofs.Common.{◌≡◌, ℕ, Bool, true, false, List, codes, sym, ap, refl, subst, inr, ℤ, pos, ◌-ℤ◌, to_z, of_z, w64, arith, ◌∙◌, cond, length, true≢false, [], ◌∷◌}
+use Rattle.std.proofs.Common.{◌≡◌, ℕ, Bool, true, false, List, filter, codes, sym, ap, refl, subst, inr, ℤ, pos, ◌-ℤ◌, to_z, of_z, w64, arith, ◌∙◌, cond, length, suc, [], ◌∷◌, ◌||◌}
 use Rattle.std.specs.Prelude.{Option, Some, None, Result, Ok, Err, IfOk, IfErr, IfSome, IsSome, MatchOption, ◌↔◌}
 use Rattle.std.proofs.lemmas.Bool.{false≢true, or_parts}
 use Rattle.ical_lines.specs.Fault.{RefusesBy}
@@ -21,10 +16,9 @@ use Rattle.std.specs.Int.Signed.{lt_z}
 use Rattle.std.proofs.lemmas.Int.{ints}
 use Rattle.profile.specs.checker.Instances.{horizon}
 use Rattle.profile.specs.series.Zones.{Zone, Means, NoneFrom, IsLastDay, IsNearEpoch}
-use Rattle.profile.specs.events.Properties.{first_second, StandsAtMostOnce, Says, BothOrNeither, IsMissing, is_of, lines_named}
+use Rattle.profile.specs.events.Properties.{first_second, StandsAtMostOnce, Says, BothOrNeither, is_of, lines_named}
 use Rattle.profile.specs.events.ZonedTimes.{clock_of, EventTimes, SaysEventTimes}
-use Rattle.profile.specs.events.EventRules.{as_end, IsLastAllowed, AllowsNone, IsOnDay, GivesRule, IsOutside, StartsOutside, EventRuleFault, starts_outside}
-use Rattle.cal_events.specs.Zoned.{IsRuleText}
+use Rattle.profile.specs.events.EventRules.{as_end, IsLastAllowed, AllowsNone, IsOnDay, GivesRule, IsRuleText, GivesBeside, SaysEventRule, IsOutside, StartsOutside, EventRuleFault, starts_outside}
 use Rattle.cal_events.proofs.EventLemmas.{some_line}
 
 -- ---- the last day
@@ -99,24 +93,40 @@ spelled_by : (line : Option (List ℕ)) (text : RuleText) → BothOrNeither IsRu
 spelled_by None text h = absurd h
 spelled_by (Some x) text h = (x, refl, h)
 
--- where a start may be missing RRULE isn't read
-pub rule_needs_start : (purpose : Purpose) (lines : List (List ℕ)) → has_unread_for purpose lines ≡ false → may_lack_start (method_read purpose) ≡ true → IsMissing (codes "RRULE") lines
-rule_needs_start Request lines h m = absurd (true≢false (sym m))
-rule_needs_start Add lines h m = absurd (true≢false (sym m))
-rule_needs_start Meeting lines h m = absurd (true≢false (sym m))
-rule_needs_start Cancel lines h m = none lines h
-  where
-    none : (ls : List (List ℕ)) → list_any (is_of (codes "RRULE")) ls ≡ false → lines_named (codes "RRULE") ls ≡ []
-    none [] h = refl
-    none (l ∷ ls) h =
-        let both = or_parts (is_of (codes "RRULE") l) (list_any (is_of (codes "RRULE")) ls) h in
-        ap (λ b. cond b (l ∷ lines_named (codes "RRULE") ls) (lines_named (codes "RRULE") ls)) both.0 ∙ none ls both.1
+-- a line is among some exactly where there are such
+none_named : (p : List ℕ → Bool) (lines : List (List ℕ)) → list_any p lines ≡ false → filter p lines ≡ []
+none_named p [] h = refl
+none_named p (line ∷ lines) h =
+    let both = or_parts (p line) (list_any p lines) h in
+    ap (λ b. cond b (line ∷ filter p lines) (filter p lines)) both.0 ∙ none_named p lines both.1
 
--- a rule that stands isn't missing
-pub rule_there : (lines : List (List ℕ)) (said : Option RuleText) (text : RuleText) → said ≡ Some text → Says (codes "RRULE") false IsRuleText lines said → IsMissing (codes "RRULE") lines → ⊥
-rule_there lines said text e s missing =
-    let l = spelled_by s.line text (subst (λ (o : Option RuleText). BothOrNeither IsRuleText s.line o) e s.is) in
-    let k : 0 ≡ 1 = sym (ap length missing) ∙ ap length (s.once ∙ ap option_to_list l.1) in absurd (omega (arith, k))
+pub some_named : (p : List ℕ → Bool) (lines : List (List ℕ)) → list_any p lines ≡ true → filter p lines ≡ [] → ⊥
+some_named p [] h missing = false≢true h
+some_named p (line ∷ lines) h missing = go (some_named p lines) (p line) h missing
+  where
+    go : (list_any p lines ≡ true → filter p lines ≡ [] → ⊥) → (b : Bool) → (b || list_any p lines) ≡ true → cond b (line ∷ filter p lines) (filter p lines) ≡ [] → ⊥
+    go rest true h e = let k : suc (length (filter p lines)) ≡ 0 = ap length e in absurd (omega (arith, k))
+    go rest false h e = rest h e
+
+-- ---- what is said
+
+module _ (lines : List (List ℕ)) (times : EventTimes) (text : Option RuleText) (spells : Says (codes "RRULE") false IsRuleText lines text) where
+  -- beside a start
+  pub says_beside : (rule : Option Parts) → list_any (is_of (codes "DTSTART")) lines ≡ true → BothOrNeither (GivesRule (clock_of times.zone) times.local) text rule
+      → SaysEventRule lines times rule
+  says_beside rule starts gives = record { text = text; spells = spells; gives = go (lines_named (codes "DTSTART") lines) (some_named (is_of (codes "DTSTART")) lines starts) }
+    where
+      go : (starts : List (List ℕ)) → (starts ≡ [] → ⊥) → GivesBeside starts times text rule
+      go [] some = absurd (some refl)
+      go (start ∷ more) some = gives
+
+  -- without a start
+  pub says_without : list_any (is_of (codes "DTSTART")) lines ≡ false → SaysEventRule lines times None
+  says_without none = record {
+    text = text;
+    spells = spells;
+    gives = subst (λ (starts : List (List ℕ)). GivesBeside starts times text None) (sym (none_named (is_of (codes "DTSTART")) lines none)) refl;
+  }
 
 pub outside_stands : (object : Tree) (lines : List (List ℕ)) (times : EventTimes) (said : Option RuleText) (text : RuleText) (n : ℕ) → said ≡ Some text
     → Says (codes "RRULE") false IsRuleText lines said → SaysEventTimes object lines times → (n ≡ 34) × IsOutside (clock_of times.zone) times.local text

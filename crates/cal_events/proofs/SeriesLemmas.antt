@@ -1,5 +1,5 @@
 -- Series: what they are of their masters, and that they are one for each.
-use Rattle.std.proofs.Common.{◌≡◌, ◌∙◌, ℕ, zero, suc, true, List, [], ◌∷◌, ◌++◌, ◌<◌, length, get_or, subst, sym, refl, ap, inl, inr, ◌⊎◌, arith, ℤ, ◌<ℤ◌, map}
+use Rattle.std.proofs.Common.{◌≡◌, ◌∙◌, ℕ, zero, suc, Bool, true, ◌&&◌, List, [], ◌∷◌, ◌++◌, ◌<◌, length, get_or, subst, sym, refl, ap, inl, inr, ◌⊎◌, arith, ℤ, ◌<ℤ◌, map}
 use Rattle.std.specs.Prelude.{Option, Some, None, Contains, is_some, option_map}
 use Rattle.std.specs.List.{AllZip}
 use Rattle.std.specs.List.Sorted.{IsPermutation}
@@ -13,14 +13,16 @@ use Rattle.profile.specs.checker.Instances.{Key, Booked}
 use Rattle.profile.specs.series.Rules.{Parts}
 use Rattle.profile.specs.events.Events.{Event, meeting_said}
 use Rattle.profile.specs.events.Meetings.{Meeting as Whole, is_master}
-use Rattle.profile.specs.events.ZonedTimes.{EventTimes}
+use Rattle.profile.specs.events.ZonedTimes.{EventTimes, clock_of}
 use Rattle.profile.specs.events.Starts.{key_at, IsGiven, IsRuleStart, IsInstance, EndsAt}
 use Rattle.profile.specs.events.Confirmed.{IsReplaced, IsInstanceAmong, IsOfSeries, by_its_rule, IsSeries}
 use Rattle.cal_events.specs.Calendars.{key_in}
 use Rattle.cal_events.specs.Entries.{Name}
 use Rattle.cal_events.specs.Names.{name_said}
 use Rattle.cal_events.specs.Drafts.{override_key, override_keys, IsSaid}
-use Rattle.cal_events.specs.Ruled.{IsByItsRule, IsRuled}
+use Rattle.cal_events.specs.OwnInstances.{IsSteady}
+use Rattle.cal_events.specs.Ruled.{IsByItsRule, IsRuled, ruled_without}
+use Rattle.cal_events.specs.SaidSeries.{IsSeriesOf, IsLeftOf}
 use Rattle.cal_events.specs.Meetings.{IsNamed}
 use Rattle.cal_events.specs.Overlapping.{HaveOneEnd, AreDated}
 use Rattle.cal_events.specs.Events.{event_of}
@@ -31,7 +33,7 @@ use Rattle.std.specs.List.{filter_map}
 use Rattle.cal_events.proofs.DraftKeys.{some_there, replaced_key, key_replaced, entry_overrides}
 use Rattle.cal_events.proofs.InOneOrder.{later, none_in, one_order}
 use Rattle.cal_events.proofs.OneInstance.{end_one, booked_same}
-use Rattle.cal_events.proofs.OwnSingles.{of_master, at_start, from_start, master_alone, alone_master, of_both, not_a_master, steady}
+use Rattle.cal_events.proofs.OwnSingles.{IsAtStart, of_master, at_start, from_start, master_alone, alone_master, of_both, not_a_master, steady}
 
 -- ---- lists
 
@@ -46,7 +48,7 @@ given_rule : (times : EventTimes) (o : Option Parts) (t : ℤ) → is_some o ≡
 given_rule times None t h g = absurd (false≢true h)
 given_rule times (Some rule) t h g = (rule, refl, g)
 
-rule_gives : (times : EventTimes) (o : Option Parts) (rule : Parts) (t : ℤ) → o ≡ Some rule → IsRuleStart times rule t → IsGiven times o t
+pub rule_gives : (times : EventTimes) (o : Option Parts) (rule : Parts) (t : ℤ) → o ≡ Some rule → IsRuleStart times rule t → IsGiven times o t
 rule_gives times o rule t e h = subst (λ (x : Option Parts). IsGiven times x t) (sym e) h
 
 no_recurrence : (event : Event) → is_master event ≡ true → event.recurrence ≡ None
@@ -182,7 +184,7 @@ zip_mapped R S f g h (v ∷ vs) (w ∷ ws) z = (h v w z.0, zip_mapped R S f g h 
 
 -- ---- the starts of a series
 
-empty_list : {X : Type 0} (xs : List X) → length xs ≡ 0 → xs ≡ []
+pub empty_list : {X : Type 0} (xs : List X) → length xs ≡ 0 → xs ≡ []
 empty_list [] h = refl
 empty_list (x ∷ xs) h = absurd (omega (arith, h))
 
@@ -217,3 +219,92 @@ key_of_start event r master e b h =
     let x = at_start (event_of m.0) b (subst (λ (w : Whole). IsInstance w b) is h) in
     let same : event_of m.0 ≡ master = same_Some (event_of m.0) master (sym (ap (option_map event_of) m.1) ∙ e) in
     x.key ∙ ap (λ (v : Event). key_at v b.start) same
+
+-- ---- a master by its rule alone, without some starts
+
+module _ (master : Event) (hidden : List ℤ) (b : Booked) where
+  abbrev left : Event
+  left = ruled_without master hidden
+
+  -- at a start that its rule gives, and that is none of those
+  pub record IsAtRuleStart : Type 0 where
+    pub at : IsAtStart master b
+    pub given : IsGiven master.times master.rule b.start
+    pub shown : Contains hidden b.start → ⊥
+
+  pub of_ruled : IsInstance (of_master left) b → IsAtRuleStart
+  of_ruled h =
+      let x = at_start left b h in
+      let g : IsGiven master.times master.rule b.start = elim x.starts.given [ inl g ↦ g | inr c ↦ absurd (none_in b.start c) ] in
+      record {
+        at = record {
+          starts = record {
+            given = inl g;
+            in_dates = x.starts.in_dates;
+            not_excepted = λ c. x.starts.not_excepted (Contains-append_left master.exceptions hidden b.start c);
+            not_overridden = x.starts.not_overridden;
+          };
+          key = x.key;
+          ends = x.ends;
+        };
+        given = g;
+        shown = λ c. x.starts.not_excepted (Contains-append_right master.exceptions hidden b.start c);
+      }
+
+  pub to_ruled : IsAtRuleStart → IsInstance (of_master left) b
+  to_ruled h =
+      from_start left b (record {
+        starts = record {
+          given = inl h.given;
+          in_dates = h.at.starts.in_dates;
+          not_excepted = λ c. elim (in_one_of master.exceptions hidden b.start c) [ inl d ↦ h.at.starts.not_excepted d | inr d ↦ h.shown d ];
+          not_overridden = h.at.starts.not_overridden;
+        };
+        key = h.at.key;
+        ends = h.at.ends;
+      })
+
+-- the series of an event by itself
+pub series_of : (event : Event) → is_master event ≡ true → is_some event.rule ≡ true → (series : Whole) → series ≡ of_master (ruled_without event []) → IsSeriesOf event series
+series_of event is some series same = record {
+  has = both (is_master event) (is_some event.rule) is some;
+  instances = λ b. (
+    (λ h.
+        let x = of_ruled event [] b (subst (λ (m : Whole). IsInstance m b) same h) in
+        let r = given_rule event.times event.rule b.start some x.given in
+        (alone_master event b (no_recurrence event is) x.at, record { master = is; rule = r.0; has = r.1; starts = r.2 })),
+    λ h. subst (λ (m : Whole). IsInstance m b) (sym same) (to_ruled event [] b (record {
+      at = master_alone event b (no_recurrence event is) h.0;
+      given = rule_gives event.times event.rule h.1.rule b.start h.1.has h.1.starts;
+      shown = λ c. none_in b.start c;
+    })),
+  );
+  master = same;
+}
+  where
+    both : (a b : Bool) → a ≡ true → b ≡ true → (a && b) ≡ true
+    both a b p q = rw p (q)
+
+-- a series without some of its instances: nothing is added to its master
+pub left_of : (master : Event) → length master.additions ≡ 0 → (hidden : List ℤ) (series rest : Whole) → series ≡ of_master master → rest ≡ of_master (ruled_without master hidden) → IsLeftOf series hidden rest
+left_of master none hidden series rest same made = record {
+  instances = λ b. (
+    (λ h. let x = of_ruled master hidden b (subst (λ (m : Whole). IsInstance m b) made h) in (subst (λ (m : Whole). IsInstance m b) (sym same) (from_start master b x.at), x.shown)),
+    λ h. let x = at_start master b (subst (λ (m : Whole). IsInstance m b) same h.0) in
+        subst (λ (m : Whole). IsInstance m b) (sym made) (to_ruled master hidden b (record { at = x; given = elim x.starts.given [ inl g ↦ g | inr c ↦ absurd (none_in b.start (subst (λ (l : List ℤ). Contains l b.start) (empty_list master.additions none) c)) ]; shown = h.1 })),
+  );
+  master = λ own is. let e : master ≡ own = same_Some master own (sym (ap (λ (m : Whole). m.master) same) ∙ is) in made ∙ ap (λ (m : Event). of_master (ruled_without m hidden)) e;
+}
+
+-- its instances end where they did
+pub left_ends : (master : Event) (hidden : List ℤ) → HaveOneEnd (of_master master) → HaveOneEnd (of_master (ruled_without master hidden))
+left_ends master hidden one a b h k start slot = one a b (from_start master a (of_ruled master hidden a h).at) (from_start master b (of_ruled master hidden b k).at) start slot
+
+-- of a steady clock they end at one instant
+pub steady_ends : (master : Event) (hidden : List ℤ) → IsSteady (clock_of master.times.zone) → HaveOneEnd (of_master (ruled_without master hidden))
+steady_ends master hidden clock a b h k start slot =
+    end_one master.times b.start a.end b.end clock (subst (λ (t : ℤ). EndsAt master.times t a.end) start (of_ruled master hidden a h).at.ends) (of_ruled master hidden b k).at.ends
+
+-- the master of a series
+pub own_master : (event : declared.Event) → IsRuled event → (m : EventComponent) × (event.master ≡ Some m) × (said_meeting event ≡ of_master (event_of m))
+own_master event r = let m = some_there event.master r.0 in (m.0, m.1, alone_said event r.1.1 m.0 m.1)

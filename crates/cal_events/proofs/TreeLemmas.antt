@@ -15,9 +15,8 @@ use Rattle.profile.specs.text.Objects.{SpellsTree, has_version}
 use Rattle.profile.specs.text.Trees.{Tree, tree_name, tree_own, vevents}
 use Rattle.profile.specs.checker.Calendars.{CalendarFault, CalendarTextFault, in_lines, in_tree, no_version, in_vevents}
 use Rattle.cal_events.specs.Drafts.{IsDraftOf, IsDraftIn}
-use Rattle.profile.specs.faults.Faults.{is_calendar_fault}
-use Rattle.cal_events.specs.Events.{is_vevent, vevents_of, is_fault_for}
-use Rattle.cal_events.specs.declared.component.Purpose.TheVariants.{Meeting}
+use Rattle.profile.specs.faults.Faults.{is_calendar_fault, is_meeting_event_fault}
+use Rattle.cal_events.specs.Events.{is_vevent, vevents_of}
 use Rattle.cal_events.specs.declared.draft.Draft.{Draft}
 use Rattle.cal_events.proofs.ReadingLemmas.{events_in}
 use Rattle.ical_values.proofs.Exits.{err_exit}
@@ -74,6 +73,6 @@ draft_spelled (Ok draft) room octets c lines object says =
     record { lines = lines; tree = tree_of c; object = object_tree false c (logical_lines octets) object; of = says }
 draft_spelled (Err e) room octets c lines object says = tt
 
-pub only_calendar : (f : Fault) → RefusesOnly (is_fault_for Meeting) f → RefusesOnly is_calendar_fault f
+pub only_calendar : (f : Fault) → RefusesOnly is_meeting_event_fault f → RefusesOnly is_calendar_fault f
 only_calendar Memory h = tt
 only_calendar (Refused x) h = search rules

@@ -1,9 +1,7 @@
 -- What the types of a VEVENT that was read stand for.
-use Rattle.std.specs.Prelude.{ℕ, Bool, ◌&&◌, ◌||◌, true, false, List, length, map, filter, option_map, Option, None, Some, is_some, codes, Contains, ◌≡◌, ◌⊎◌, ◌<◌, ℤ, pos, ◌<ℤ◌}
+use Rattle.std.specs.Prelude.{ℕ, Bool, List, length, map, filter, option_map, Option, None, Some, is_some, codes, Contains, ◌≡◌, ◌<◌, ℤ, pos, ◌<ℤ◌}
 use Rattle.ical_values.specs.Octets.{address_octets, text_octets}
 use Rattle.ical_values.specs.declared.duration.Duration.{Duration}
-use Rattle.std.specs.List.{list_any}
-use Rattle.profile.specs.faults.Faults.{is_unread, is_meeting_event_fault}
 use Rattle.profile.specs.events.Events as profile
 use Rattle.profile.specs.events.Properties as properties
 use Rattle.profile.specs.events.Properties.{length_seconds, time_kind}
@@ -38,24 +36,6 @@ method_read Meeting = None
 -- a message needs ORGANIZER and DTSTAMP, a calendar doesn't
 abbrev pub is_message : Purpose → Bool
 is_message purpose = is_some (method_read purpose)
-
--- what isn't read yet for a purpose: in a message RRULE
-abbrev pub is_unread_for : Purpose → List ℕ → Bool
-is_unread_for Request line = properties.is_of (codes "RRULE") line
-is_unread_for Add line = properties.is_of (codes "RRULE") line
-is_unread_for Cancel line = properties.is_of (codes "RRULE") line
-is_unread_for Meeting line = false
-
-abbrev pub has_unread_for : Purpose → List (List ℕ) → Bool
-has_unread_for purpose lines = list_any (is_unread_for purpose) lines
-
--- in a message there is what isn't read yet
-abbrev pub is_unread_fault : Purpose → ℕ → Bool
-is_unread_fault purpose n = is_unread n && is_message purpose
-
--- the numbers of its refusals
-abbrev pub is_fault_for : Purpose → ℕ → Bool
-is_fault_for purpose n = is_meeting_event_fault n || is_unread_fault purpose n
 
 abbrev pub participation_of : ParticipationStatus → profile.Participation
 participation_of NeedsAction = profile.NeedsAction
@@ -122,11 +102,6 @@ is_vevent c = is_same_name (component_name c) (codes "VEVENT")
 abbrev pub vevents_of : Component → List (List (List ℕ))
 vevents_of object = map component_lines (filter is_vevent (component_children object))
 
--- a VEVENT that is read for a purpose has a fault, or a line that isn't read yet
-abbrev pub IsUnreadOrFault : Tree → Purpose → List (List ℕ) → ℕ → Type 0
-IsUnreadOrFault object purpose lines n =
-    ((n ≡ 99) × (has_unread_for purpose lines ≡ true)) ⊎ profile.EventFault object (method_read purpose) lines n
-
--- one of these VEVENTs has
-abbrev pub IsUnreadOrFaultAmong : Tree → Purpose → List (List (List ℕ)) → ℕ → Type 0
-IsUnreadOrFaultAmong object purpose vevents n = (lines : List (List ℕ)) × Contains vevents lines × IsUnreadOrFault object purpose lines n
+-- one of these VEVENTs has this fault
+abbrev pub IsFaultAmong : Tree → Option profile.Method → List (List (List ℕ)) → ℕ → Type 0
+IsFaultAmong object method vevents n = (lines : List (List ℕ)) × Contains vevents lines × profile.EventFault object method lines n

@@ -5,14 +5,17 @@ use Rattle.profile.specs.series.Zones.{Zone, IsOffsetAt, IsOneOffset, IsOneMeani
 use Rattle.profile.specs.events.ZonedTimes.{clock_of}
 use Rattle.profile.specs.events.Events.{Event}
 use Rattle.profile.specs.events.Starts.{EndsAt, key_at}
+use Rattle.cal_events.specs.Instances.{IsAscending}
 use Rattle.cal_events.specs.Meetings.{IsNamed}
 use Rattle.cal_events.specs.declared.instance.Single.{Single}
 
--- at each instant the clocks have one offset, a local time means one instant, and it isn't much later with another offset
+-- at each instant the clocks have one offset, a local time means one instant, it isn't much later with another offset, and one that is much
+-- later means a later instant
 pub record IsSteady (z : Zone) : Type 0 where
   pub offset : IsOneOffset z
   pub meaning : IsOneMeaning z
   pub keeps : (t offset local u : ℤ) → IsOffsetAt z t offset → Means z local u → (local -ℤ offset) ≤ℤ (u +ℤ pos 43_200)
+  pub ascends : IsAscending z
 
 -- the times of an event are such as some VEVENT says
 pub record IsTimely (event : Event) : Type 0 where

@@ -1,5 +1,5 @@
 -- A series while it is made: its master by its rule alone, and the instants for which overrides of its meeting stand.
-use Rattle.std.specs.Prelude.{◌≡◌, ◌↔◌, ◌<ℤ◌, Bool, true, AllPairs, Contains, List, [], Some, is_some, length, ℤ}
+use Rattle.std.specs.Prelude.{◌≡◌, ◌↔◌, ◌<ℤ◌, Bool, true, AllPairs, Contains, List, [], ◌++◌, Some, is_some, length, ℤ}
 use Rattle.std.specs.Ordering.{ordering_then, nat_cmp, is_lt, is_eq}
 use Rattle.std.specs.Cmp.Lexicographic.{slice_cmp}
 use Rattle.std.specs.declared.cmp.Ordering.{Ordering}
@@ -12,11 +12,28 @@ use Rattle.cal_events.specs.declared.component.EventComponent.{EventComponent}
 use Rattle.cal_events.specs.declared.event.Event.{Event}
 use Rattle.cal_events.specs.declared.instance.InstanceKey.{InstanceKey}
 
--- an event of a master with RRULE alone
+-- an event of a master with RRULE alone, to which nothing is added
 abbrev pub IsRuled : Event → Type 0
 IsRuled event =
     (is_some event.master ≡ true)
-    × (((master : EventComponent) → event.master ≡ Some master → is_some master.rule ≡ true) × (length event.overrides.items ≡ 0))
+    × (((master : EventComponent) → event.master ≡ Some master → (is_some master.rule ≡ true) × (length master.additions.items ≡ 0))
+    × (length event.overrides.items ≡ 0))
+
+-- a master by its rule alone, without these starts, as if EXDATE named them, and without who attends
+abbrev pub ruled_without : Said → List ℤ → Said
+ruled_without master starts = record {
+  uid = master.uid;
+  organiser = master.organiser;
+  stamp = master.stamp;
+  sequence = master.sequence;
+  cancelled = master.cancelled;
+  recurrence = master.recurrence;
+  times = master.times;
+  rule = master.rule;
+  additions = [];
+  exceptions = master.exceptions ++ starts;
+  attendees = [];
+}
 
 -- ---- the keys of one meeting
 

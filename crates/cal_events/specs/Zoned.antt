@@ -2,9 +2,7 @@
 use Rattle.std.specs.Prelude.{◌≡◌, ◌↔◌, ◌⊎◌, ℕ, Bool, true, false, IsTrue, List, codes, Option, Some, None, ℤ, pos, negsuc, ◌≤ℤ◌, ◌+ℤ◌}
 use Rattle.profile.specs.text.Trees.{Tree}
 use Rattle.profile.specs.series.Zones.{Zone, Means}
-use Rattle.profile.specs.text.Lines.{line_value}
-use Rattle.profile.specs.series.Rules.{RuleText}
-use Rattle.profile.specs.series.RuleTexts.{SpellsRule}
+use Rattle.profile.specs.events.EventRules.{IsRuleText}
 use Rattle.profile.specs.events.Properties.{Length, LastsFor, StandsAtMostOnce, IsMissing, Says}
 use Rattle.profile.specs.events.ZonedTimes.{is_in_zone, IsInDates, SaysZonedTime, clock_of}
 use Rattle.cal_events.specs.Events.{length_of, zone_said}
@@ -61,10 +59,6 @@ pub record AreSaidAlone (object : Tree) (lines : List (List ℕ)) (said : SaidTi
 -- what the three say, where DTSTART may be missing or not
 abbrev pub AreSaidBy : Bool → Tree → List (List ℕ) → SaidTimes → Type 0
 AreSaidBy may_lack object lines said = AreSaid object lines said ⊎ ((may_lack ≡ true) × AreSaidAlone object lines said)
-
--- a line of RRULE spells this rule
-abbrev pub IsRuleText : List ℕ → RuleText → Type 0
-IsRuleText line text = SpellsRule (line_value line) text
 
 -- what RRULE says by itself
 abbrev pub IsRuleSaid : List (List ℕ) → SaidRule → Type 0

@@ -1,6 +1,6 @@
 //! One VEVENT, read: its values, judged one property after another in a fixed order, and then
 //! together (RFC 5545 3.6.1).
-ghost use Rattle.std.specs.Prelude.{ℕ, List, [], unwrap_or, ◌≡◌, ◌⊎◌, ◌↔◌, Bool, Some, map, codes, pos, ◌+ℤ◌, option_map, true, false, IfOk, IfErr, OnOk, IsTrue, Option};
+ghost use Rattle.std.specs.Prelude.{ℕ, List, [], unwrap_or, ◌≡◌, ◌⊎◌, ◌↔◌, Some, map, codes, pos, ◌+ℤ◌, option_map, true, IfOk, IfErr, IsTrue, Option};
 ghost use Rattle.std.specs.List.{AllZip};
 ghost use Rattle.ical_lines.specs.Fault.{RefusesOnly, RefusesBy};
 ghost use Rattle.ical_lines.specs.Text.{line_text};
@@ -12,14 +12,14 @@ ghost use Rattle.profile.specs.events.Events.{Event, Method, adds_instances, may
 ghost use Rattle.profile.specs.events.Occurrences.{SaysStatus};
 ghost use Rattle.profile.specs.events.Properties.{StandsTwice, length_seconds, lines_named, malformed_number, Says, IsUidLine, IsAddressLine, IsStampLine, IsDateText, IsLocalText, IsNoAddress, UnfixedOrMalformed, time_kind, DateTime, KindFault, TimeFault};
 ghost use Rattle.cal_events.specs.Zones.{object_of, AreRead};
-ghost use Rattle.cal_events.specs.Events.{is_message, method_read, has_unread_for, is_fault_for, IsUnreadOrFault, participation_of, attendee_of, length_of, event_of, said_kind, IsTime};
+ghost use Rattle.cal_events.specs.Events.{is_message, method_read, participation_of, attendee_of, length_of, event_of, said_kind, IsTime};
 
 use crate::event_rule::SaidRule;
 use crate::event_times::{EventTimes, SaidTimes, seconds_of};
 use crate::occurrences::{
     Listing, SaidInstant, SaidInstants, judge_recurrence, refuse_recurring_instance,
 };
-use crate::properties::{optional, refuse_unread, required};
+use crate::properties::{has, optional, required};
 use crate::zoned::one_zoned_time;
 use crate::zones::Zones;
 use cal_rules::{Rule, one_rule};
@@ -32,10 +32,10 @@ use ical_values::stamp::{ends_in_z, one_stamp};
 use ical_values::{Address, LocalTime, Sequence, Stamp, Text};
 use std::alloc::Global;
 
-/// What a VEVENT is read for: this says which properties have to stand, and which aren't read yet.
+/// What a VEVENT is read for: this says which properties have to stand.
 #[derive(Clone, Copy, PartialEq, Eq)]
 pub enum Purpose {
-    /// A message for an event that is to take place: UID, DTSTAMP, DTSTART and ORGANIZER have to stand. RRULE isn't read yet.
+    /// A message for an event that is to take place: UID, DTSTAMP, DTSTART and ORGANIZER have to stand.
     Request,
     /// A message that adds instances to one: the same, and none of them recurs.
     Add,
@@ -129,12 +129,11 @@ pub struct EventComponent {
 
 impl EventComponent {
     /// Reads the properties of a VEVENT, whose times may name these zones.
-    /// Refused, in this order: 99 for what isn't read yet for this purpose; of UID, ORGANIZER, DTSTAMP, SEQUENCE and STATUS 10
-    /// and 14 to 16 for a value, 61 and 63 for one that is missing or stands twice; as by `SaidInstant::read_recurrence` for
-    /// RECURRENCE-ID; as by `SaidTimes::read` for DTSTART, DTEND and DURATION; 61 and 30 to 33 for RRULE; as by
-    /// `SaidInstants::read` for RDATE and EXDATE; 15 for an ATTENDEE; as by `SaidTimes::judge` for the times together; 52 for a
-    /// RECURRENCE-ID or an RDATE outside of the dates that an event may name; 67 for RRULE or RDATE in a single instance; 34 for
-    /// a DTSTART that isn't one of the rule's days.
+    /// Refused, in this order: of UID, ORGANIZER, DTSTAMP, SEQUENCE and STATUS 10 and 14 to 16 for a value, 61 and 63 for one that
+    /// is missing or stands twice; as by `SaidInstant::read_recurrence` for RECURRENCE-ID; as by `SaidTimes::read` for DTSTART,
+    /// DTEND and DURATION; 61 and 30 to 33 for RRULE; as by `SaidInstants::read` for RDATE and EXDATE; 15 for an ATTENDEE; as by
+    /// `SaidTimes::judge` for the times together; 52 for a RECURRENCE-ID or an RDATE outside of the dates that an event may name;
+    /// 67 for RRULE or RDATE in a single instance; 34 for a DTSTART that isn't one of the rule's days.
     pub(crate) fn read(
         alloc: Global,
         zones: &Zones<'_, '_>,
@@ -142,24 +141,6 @@ impl EventComponent {
         purpose: Purpose,
     ) -> Result<EventComponent, Fault>
         requires zones { AreRead zones.now }
-        ensures says { IfOk result (λ event. SaysEvent (object_of zones.now) (method_read purpose) properties.now (event_of event)) }
-        ensures read { OnOk result (has_unread_for purpose properties.now ≡ false) }
-        ensures refuses { IfErr result (RefusesOnly (is_fault_for purpose)) }
-        ensures stands { IfErr result (RefusesBy (IsUnreadOrFault (object_of zones.now) purpose properties.now)) }
-    {
-        refuse_unread(properties, purpose)?;
-        EventComponent::read_values(alloc, zones, properties, purpose)
-    }
-
-    /// The same where nothing is left unread.
-    fn read_values(
-        alloc: Global,
-        zones: &Zones<'_, '_>,
-        properties: &Properties<'_>,
-        purpose: Purpose,
-    ) -> Result<EventComponent, Fault>
-        requires zones { AreRead zones.now }
-        requires read { has_unread_for purpose properties.now ≡ false }
         ensures says { IfOk result (λ event. SaysEvent (object_of zones.now) (method_read purpose) properties.now (event_of event)) }
         ensures stands { IfErr result (RefusesBy (EventFault (object_of zones.now) (method_read purpose) properties.now)) }
     {
@@ -178,7 +159,7 @@ impl EventComponent {
         let recurrence = judge_recurrence(said_recurrence)?;
         let additions = said_additions.judge()?;
         refuse_recurring_instance(properties, purpose.adds_instances())?;
-        let rule = said_rule.judge(&times)?;
+        let rule = said_rule.judge(&times, has(properties, "DTSTART"))?;
         Ok(EventComponent {
             uid,
             organiser,

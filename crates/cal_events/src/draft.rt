@@ -207,7 +207,7 @@ fn is_kept(event: &EventComponent, room: &Address) -> bool
 }
 
 /// Whether it is a master with RRULE.
-fn is_series(event: &EventComponent) -> bool
+pub(crate) fn is_series(event: &EventComponent) -> bool
     ensures { result ≡ is_master (event_of event.now) && is_some event.now.rule }
 {
     event.recurrence.is_none() && event.rule.is_some()

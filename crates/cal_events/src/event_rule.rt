@@ -1,12 +1,13 @@
 //! The rule of a VEVENT (RFC 5545 3.3.10, 3.8.5.3): first the text of its RRULE, then the rule that it gives from the event's start on.
 
-ghost use Rattle.profile.specs.events.Properties.{IsMissing};
-ghost use Rattle.std.specs.Prelude.{◌≡◌, ◌<◌, ℕ, List, IfOk, IfErr, MatchOption, Some, option_map, Bool, codes, true};
+ghost use Rattle.std.specs.Prelude.{◌≡◌, ◌<◌, ℕ, List, IfOk, IfErr, MatchOption, Some, option_map, Bool, codes};
+ghost use Rattle.std.specs.List.{list_any};
 ghost use Rattle.ical_lines.specs.Fault.{RefusesBy};
 ghost use Rattle.cal_rules.specs.Views.{until_of};
 ghost use Rattle.cal_zones.specs.Kinds.{zone_of};
 ghost use Rattle.profile.specs.series.Days.{day_index};
 ghost use Rattle.profile.specs.text.Trees.{Tree};
+ghost use Rattle.profile.specs.events.Properties.{is_of};
 ghost use Rattle.profile.specs.events.ZonedTimes.{SaysTimes, clock_of};
 ghost use Rattle.profile.specs.events.EventRules as event_rules;
 ghost use Rattle.profile.specs.events.EventRules.{IsLastAllowed, AllowsNone, GivesRule, SaysEventRule, IsOutside, EventRuleFault};
@@ -45,14 +46,17 @@ impl SaidRule {
         Ok(SaidRule { text })
     }
 
-    /// The rule of an event with these times, None where there is no RRULE.
+    /// The rule of an event with these times, with DTSTART or without. None where RRULE is missing, and where DTSTART is, as it may be in what
+    /// is cancelled: then there is no day to begin from.
     /// Refused: 34 where DTSTART isn't one of the rule's days, or UNTIL leaves no day.
-    pub(crate) fn judge(self, times: &EventTimes) -> Result<Option<Rule>, Fault>
-        ensures says { (lines : List (List ℕ)) → IsRuleSaid lines self → IfOk result (SaysEventRule lines (times_of times.now)) }
-        ensures stands { (may_lack : Bool) (object : Tree) (lines : List (List ℕ)) → IsRuleSaid lines self → SaysTimes may_lack object lines (times_of times.now)
-            → (may_lack ≡ true → IsMissing (codes "RRULE") lines) → IfErr result (RefusesBy (EventRuleFault object lines)) }
+    pub(crate) fn judge(self, times: &EventTimes, has_start: bool) -> Result<Option<Rule>, Fault>
+        ensures says { (lines : List (List ℕ)) → IsRuleSaid lines self → has_start ≡ list_any (is_of (codes "DTSTART")) lines
+            → IfOk result (SaysEventRule lines (times_of times.now)) }
+        ensures stands { (may_lack : Bool) (object : Tree) (lines : List (List ℕ)) → IsRuleSaid lines self → has_start ≡ list_any (is_of (codes "DTSTART")) lines
+            → SaysTimes may_lack object lines (times_of times.now) → IfErr result (RefusesBy (EventRuleFault object lines)) }
     {
         match self.text {
+            Some(_) if !has_start => Ok(None),
             Some(text) => Ok(Some(rule_from(text, times.start)?)),
             None => Ok(None),
         }

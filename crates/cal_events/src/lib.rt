@@ -36,10 +36,9 @@ pub use instance::{HORIZON, Instance, InstanceKey, OwnedKey, Single};
 pub use instances::Instances;
 pub use meeting_components::MeetingComponents;
 pub use reading::{
-    one_calendar, one_calendar_text, refuse_unread_events, series_and_singles_divide,
-    singles_are_confirmed,
+    one_calendar, one_calendar_text, series_and_singles_divide, singles_are_confirmed,
 };
 pub use series::Series;
 pub use sweep::{Overlap, Span, first_overlap};
-pub use whole::{all_instances, all_starts, known_by_start};
+pub use whole::{all_instances, all_starts, known_by_start, listed_series};
 pub use zoned::{ZonedTime, one_zoned_time};

@@ -1,12 +1,12 @@
 //! The VEVENTs of one meeting (RFC 5545 3.8.4.4, RFC 5546 3.2): of one UID and one ORGANIZER, and each of another slot of it.
 
-ghost use Rattle.std.specs.Prelude.{◌≡◌, ◌≢◌, ◌<◌, Some, true, false, AllPairs, length, map, filter, option_map, IfOk, IfErr, OnOk, MatchBool};
+ghost use Rattle.std.specs.Prelude.{◌≡◌, ◌≢◌, ◌<◌, Some, AllPairs, length, map, filter, option_map, IfOk, IfErr, OnOk, MatchBool};
 ghost use Rattle.std.specs.Option.{option_to_list};
-ghost use Rattle.std.specs.List.{list_all, list_any};
+ghost use Rattle.std.specs.List.{list_all};
 ghost use Rattle.ical_lines.specs.Fault.{RefusesOnly, RefusesBy};
 ghost use Rattle.ical_tree.specs.Tree.{tree_of};
-ghost use Rattle.profile.specs.events.Meetings.{as_added, events_of, is_same_meeting, is_master, is_override, taken_by, AreOfOne, SaysMeeting};
-ghost use Rattle.cal_events.specs.Events.{event_of, has_unread_for, method_read, vevents_of};
+ghost use Rattle.profile.specs.events.Meetings.{as_added, events_of, is_same_meeting, is_master, is_override, taken_by, AreOfOne, SaysMeeting, MeetingFault};
+ghost use Rattle.cal_events.specs.Events.{event_of, method_read};
 ghost use Rattle.cal_events.specs.Meetings.{instants_said, IsNotOne};
 
 use crate::component::{EventComponent, Purpose};
@@ -28,7 +28,7 @@ pub struct MeetingComponents {
 }
 
 impl MeetingComponents {
-    ghost use Rattle.cal_events.specs.OneMeeting.{meeting_of, IsUnreadOrNoMeeting, is_meeting_fault_for};
+    ghost use Rattle.cal_events.specs.OneMeeting.{meeting_of, is_components_fault};
 
     /// The VEVENTs of an object, read for a purpose. Those of an ADD are taken as the instances of their own starts.
     /// Refused: as by `EventComponent::read` for one of them; 66 where there is none; 62 for two UIDs or two ORGANIZERs; 53 for two without
@@ -39,10 +39,9 @@ impl MeetingComponents {
         purpose: Purpose,
     ) -> Result<MeetingComponents, Fault>
         ensures says { IfOk result (λ meeting. SaysMeeting (tree_of object.now) (method_read purpose) (meeting_of meeting)) }
-        ensures read { OnOk result (list_any (has_unread_for purpose) (vevents_of object.now) ≡ false) }
         ensures instants { IfOk result (λ meeting. map Some meeting.instants.items ≡ instants_said (map event_of meeting.overrides.items)) }
-        ensures refuses { IfErr result (RefusesOnly (is_meeting_fault_for purpose)) }
-        ensures stands { IfErr result (RefusesBy (IsUnreadOrNoMeeting (tree_of object.now) purpose)) }
+        ensures refuses { IfErr result (RefusesOnly is_components_fault) }
+        ensures stands { IfErr result (RefusesBy (MeetingFault (tree_of object.now) (method_read purpose))) }
     {
         let components = read_events(alloc, object, purpose)?;
         judge_meeting(&components)?;

@@ -1,10 +1,10 @@
-//! The instances of a VEVENT by itself, where it has no rule (RFC 5545 3.8.5.2, 3.8.5.1, 3.8.4.4).
+//! The instances of a VEVENT by itself that no rule gives (RFC 5545 3.8.5.2, 3.8.5.1, 3.8.4.4).
 ghost use Rattle.std.specs.Prelude.{◌≡◌, ◌∷◌, [], None, map, Contains, IfOk};
 ghost use Rattle.std.specs.List.{AllZip};
 ghost use Rattle.profile.specs.series.Zones.{IsNearEpoch};
 ghost use Rattle.profile.specs.events.Properties.{first_second};
 ghost use Rattle.profile.specs.events.Starts.{AreInstancesFrom};
-ghost use Rattle.profile.specs.events.Confirmed.{alone};
+ghost use Rattle.profile.specs.events.Confirmed.{alone, AreApart};
 ghost use Rattle.cal_events.specs.Events.{event_of};
 ghost use Rattle.cal_events.specs.OwnInstances.{booked_at, IsMade, IsTimely};
 
@@ -15,19 +15,18 @@ use crate::sweep::Span;
 use std::alloc::{AllocError, Global};
 
 impl EventComponent {
-    /// The instances of an event without RRULE, by start, each once, whichever of them other VEVENTs stand for: of one with RECURRENCE-ID its
-    /// own; of another one those at DTSTART and at what RDATE adds, but for what EXDATE names. None where there is an RRULE.
+    /// The instances of an event that its RRULE doesn't give, by start, each once, whichever of them other VEVENTs stand for: of one with
+    /// RECURRENCE-ID its own; of another one those at what RDATE adds, and where there is no RRULE at DTSTART, but for what EXDATE names.
     /// It fails only for memory.
     pub fn singles(&self, alloc: Global) -> Result<Vec<Single>, AllocError>
         // of an event that some VEVENT says
-        ensures { IfOk result (λ singles. self.now.rule ≡ None → IsTimely (event_of self.now)
+        requires { IsTimely (event_of self.now) }
+        ensures apart { IfOk result (λ singles. AreApart (event_of self.now) (map (booked_at (event_of self.now)) singles.items)) }
+        ensures once { IfOk result (λ singles. self.now.rule ≡ None → IsTimely (event_of self.now)
             → AreInstancesFrom (alone (event_of self.now)) first_second (map (booked_at (event_of self.now)) singles.items)) }
     {
         if let Some(slot) = self.recurrence {
             return self.own_single(alloc, slot);
-        }
-        if self.rule.is_some() {
-            return Ok(Vec::new(alloc));
         }
         let starts = single_starts(alloc, self)?;
         self.singles_at(alloc, &starts)

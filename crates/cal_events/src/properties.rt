@@ -1,10 +1,9 @@
-//! The properties of one VEVENT by their names (RFC 5545 3.6.1, 3.8), and what isn't read yet.
-ghost use Rattle.std.specs.Prelude.{◌≡◌, ◌⊎◌, Some, true, false, option_map, IfOk, IfErr, OnOk, OnErr};
+//! The properties of one VEVENT by their names (RFC 5545 3.6.1, 3.8).
+ghost use Rattle.std.specs.Prelude.{◌≡◌, ◌⊎◌, Some, option_map, IfOk, IfErr};
+ghost use Rattle.std.specs.List.{list_any};
 ghost use Rattle.ical_lines.specs.Text.{line_text};
-ghost use Rattle.profile.specs.events.Properties.{IsMissing, StandsAtMostOnce, StandsTwice};
-ghost use Rattle.cal_events.specs.Events.{is_unread_for, has_unread_for};
+ghost use Rattle.profile.specs.events.Properties.{is_of, IsMissing, StandsAtMostOnce, StandsTwice};
 
-use crate::component::Purpose;
 use ical_lines::{Line, Refusal};
 use ical_tree::Properties;
 
@@ -31,37 +30,14 @@ pub(crate) fn required<'a>(properties: &Properties<'a>, name: &str) -> Result<Li
     properties.required(name, Refusal::BAD_PROPERTY)
 }
 
-/// Refuses a VEVENT that isn't read yet for a purpose, for one of its lines.
-/// Refused: 99.
-pub(crate) fn refuse_unread(event: &Properties<'_>, purpose: Purpose) -> Result<(), Refusal>
-    ensures read { OnOk result (has_unread_for purpose event.now ≡ false) }
-    ensures refuses { IfErr result (λ e. e.number ≡ 99) }
-    ensures unread { OnErr result (has_unread_for purpose event.now ≡ true) }
+/// Whether a line of a property stands there.
+pub(crate) fn has(properties: &Properties<'_>, name: &str) -> bool
+    ensures { result ≡ list_any (is_of name.now) properties.now }
 {
-    if has_unread_line(event, purpose) {
-        return Err(Refusal::NOT_YET);
-    }
-    Ok(())
-}
-
-/// Whether a VEVENT has a line that isn't read yet for a purpose.
-fn has_unread_line(event: &Properties<'_>, purpose: Purpose) -> bool
-    ensures { result ≡ has_unread_for purpose event.now }
-{
-    for line in event.lines() {
-        if is_unread(*line, purpose) {
+    for line in properties.lines() {
+        if line.is_named(name) {
             return true;
         }
     }
     false
-}
-
-/// Whether a line isn't read yet for a purpose: in a message RRULE.
-fn is_unread(line: Line<'_>, purpose: Purpose) -> bool
-    ensures { result ≡ is_unread_for purpose (line_text line.entry) }
-{
-    match purpose {
-        Purpose::Request | Purpose::Add | Purpose::Cancel => line.is_named("RRULE"),
-        Purpose::Meeting => false,
-    }
 }

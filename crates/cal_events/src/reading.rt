@@ -1,22 +1,21 @@
 //! A calendar read from its octets (RFC 5545 3.4), for one room: open limits, METHOD not looked at.
-ghost use Rattle.std.specs.Prelude.{ℕ, List, ◌≡◌, ◌⊎◌, [], true, false, map, Contains, IfOk, IfErr, OnOk};
-ghost use Rattle.std.specs.List.{list_any, AllZip};
+ghost use Rattle.std.specs.Prelude.{ℕ, List, ◌≡◌, ◌⊎◌, [], map, Contains, IfOk, IfErr};
+ghost use Rattle.std.specs.List.{AllZip};
 ghost use Rattle.ical_lines.specs.Fault.{RefusesOnly, RefusesBy};
 ghost use Rattle.ical_values.specs.Octets.{address_octets};
-ghost use Rattle.profile.specs.faults.Faults.{is_calendar_fault, is_unread};
+ghost use Rattle.profile.specs.faults.Faults.{is_calendar_fault, is_meeting_event_fault};
 ghost use Rattle.profile.specs.checker.Instances.{Booked};
 ghost use Rattle.profile.specs.checker.Calendars.{SaysCalendar, SpellsCalendar, IsConfirmedIn, CalendarFault, CalendarTextFault};
-ghost use Rattle.profile.specs.events.Events.{Event, SaysEvent};
+ghost use Rattle.profile.specs.events.Events.{Event, EventFault, SaysEvent};
 ghost use Rattle.profile.specs.events.Confirmed.{Confirmed, IsConfirmed, IsInSeries, AreConfirmed};
 ghost use Rattle.profile.specs.text.Trees.{Tree};
 ghost use Rattle.ical_tree.specs.Tree.{component_lines, tree_of};
 ghost use Rattle.cal_events.specs.Zones.{object_of, AreRead};
-ghost use Rattle.cal_events.specs.Events.{IsUnreadOrFault, IsUnreadOrFaultAmong, method_read, has_unread_for, is_fault_for, event_of, vevents_of};
+ghost use Rattle.cal_events.specs.Events.{IsFaultAmong, method_read, event_of, vevents_of};
 
 use crate::calendar::Calendar;
 use crate::component::{EventComponent, Purpose, one_event};
 use crate::draft::Draft;
-use crate::properties::refuse_unread;
 use crate::zones::Zones;
 use ical_lines::Fault;
 use ical_tree::{Component, Properties, one_tree};
@@ -98,26 +97,6 @@ pub fn series_and_singles_divide()
     one_event();
 }
 
-/// Refuses an object with a VEVENT that has something that roombox doesn't read yet for a purpose.
-/// Refused: 99.
-pub fn refuse_unread_events(
-    alloc: Global,
-    object: &Component,
-    purpose: Purpose,
-) -> Result<(), Fault>
-    ensures read { OnOk result (list_any (has_unread_for purpose) (vevents_of object.now) ≡ false) }
-    ensures refuses { IfErr result (RefusesOnly is_unread) }
-    ensures stands { IfErr result (RefusesBy (λ n. (n ≡ 99) × (list_any (has_unread_for purpose) (vevents_of object.now) ≡ true))) }
-{
-    for component in object.children() {
-        if component.is_named("VEVENT") {
-            let properties = Properties::of(alloc, component)?;
-            refuse_unread(&properties, purpose)?;
-        }
-    }
-    Ok(())
-}
-
 /// What a VEVENT says, whose times may name these zones. Its lines are parsed once, for all that is asked of them.
 /// Refused: as by `EventComponent::read`.
 pub(crate) fn read_event(
@@ -128,9 +107,8 @@ pub(crate) fn read_event(
 ) -> Result<EventComponent, Fault>
     requires zones { AreRead zones.now }
     ensures says { IfOk result (λ event. SaysEvent (object_of zones.now) (method_read purpose) (component_lines component.now) (event_of event)) }
-    ensures read { OnOk result (has_unread_for purpose (component_lines component.now) ≡ false) }
-    ensures refuses { IfErr result (RefusesOnly (is_fault_for purpose)) }
-    ensures stands { IfErr result (RefusesBy (IsUnreadOrFault (object_of zones.now) purpose (component_lines component.now))) }
+    ensures refuses { IfErr result (RefusesOnly is_meeting_event_fault) }
+    ensures stands { IfErr result (RefusesBy (EventFault (object_of zones.now) (method_read purpose) (component_lines component.now))) }
 {
     let properties = Properties::of(alloc, component)?;
     EventComponent::read(alloc, zones, &properties, purpose)
@@ -144,9 +122,8 @@ pub fn read_events(
     purpose: Purpose,
 ) -> Result<Vec<EventComponent>, Fault>
     ensures says { IfOk result (λ events. AllZip (SaysEvent (tree_of object.now) (method_read purpose)) (vevents_of object.now) (map event_of events.items)) }
-    ensures read { OnOk result (list_any (has_unread_for purpose) (vevents_of object.now) ≡ false) }
-    ensures refuses { IfErr result (RefusesOnly (is_fault_for purpose)) }
-    ensures stands { IfErr result (RefusesBy (IsUnreadOrFaultAmong (tree_of object.now) purpose (vevents_of object.now))) }
+    ensures refuses { IfErr result (RefusesOnly is_meeting_event_fault) }
+    ensures stands { IfErr result (RefusesBy (IsFaultAmong (tree_of object.now) (method_read purpose) (vevents_of object.now))) }
 {
     let zones = Zones::of(alloc, object)?;
     let mut events = Vec::new(alloc);

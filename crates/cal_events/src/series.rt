@@ -1,31 +1,37 @@
-//! The series of a calendar: a master by its rule alone (RFC 5545 3.8.5.3). What RDATE adds belongs to none.
-ghost use Rattle.std.specs.Prelude.{◌≡◌, ◌≢◌, ◌↔◌, ◌≤ℤ◌, true, Some, is_some, map, option_map, filter, AllPairs, IfOk};
+//! A series: a master by its rule alone (RFC 5545 3.8.5.3). What RDATE adds belongs to none.
+ghost use Rattle.std.specs.Prelude.{◌≡◌, ◌≢◌, ◌↔◌, ◌≤ℤ◌, true, false, [], Some, is_some, map, option_map, filter, AllPairs, IfOk, MatchOption};
 ghost use Rattle.profile.specs.checker.Instances.{Booked};
 ghost use Rattle.profile.specs.events.Meetings.{is_master};
 ghost use Rattle.profile.specs.events.Starts.{IsInstance, IsFirstOverlap, IsWidth};
-ghost use Rattle.profile.specs.events.Confirmed.{by_its_rule};
+ghost use Rattle.profile.specs.events.Confirmed.{by_its_rule, has_series};
 ghost use Rattle.profile.specs.events.Events.{Event as Said, meeting_said};
 ghost use Rattle.profile.specs.events.ZonedTimes.{clock_of};
 ghost use Rattle.cal_zones.specs.Kinds.{zone_of};
 ghost use Rattle.cal_events.specs.Calendars.{key_of, owned_key_of, instance_of};
 ghost use Rattle.cal_events.specs.Drafts.{IsSaid, AreInOrder};
 ghost use Rattle.cal_events.specs.Events.{event_of};
+ghost use Rattle.cal_events.specs.Instances.{HasGoodClock};
 ghost use Rattle.cal_events.specs.Left.{IsLeft};
+ghost use Rattle.cal_events.specs.Overlapping.{HaveOneEnd};
+ghost use Rattle.cal_events.specs.OwnInstances.{IsTimely};
 ghost use Rattle.cal_events.specs.SaidMeetings.{said_meeting};
-ghost use Rattle.cal_events.specs.Ruled.{IsRuled, AreSlotsOf, IsByItsRule, cmp_to, is_of};
+ghost use Rattle.cal_events.specs.Ruled.{IsRuled, AreSlotsOf, IsByItsRule, cmp_to, is_of, ruled_without};
 
 use crate::component::EventComponent;
+use crate::draft::is_series;
 use crate::entries::organiser_of;
 use crate::event::Event;
 use crate::instance::{Instance, InstanceKey, OwnedKey};
 use crate::instances::Instances;
+use crate::single_starts::copied;
 use crate::sweep::Span;
 use cal_rules::Rule;
 use cal_zones::Zone;
 use std::alloc::{AllocError, Global};
 use std::cmp::Ordering;
 
-/// A series: a master with RRULE that the room has accepted, by its rule alone. What overrides of its meeting stand for is none of its starts.
+/// A series: a master with RRULE, by its rule alone. In a calendar it is one that the room has accepted, and what overrides of its meeting
+/// stand for is none of its starts.
 #[derive(Drop)]
 pub struct Series {
     pub(crate) event: Event,
@@ -33,7 +39,7 @@ pub struct Series {
 }
 
 impl Series {
-    ghost use Rattle.cal_events.specs.SaidSeries.{series_said, IsMasterOf};
+    ghost use Rattle.cal_events.specs.SaidSeries.{series_said, IsMasterOf, IsLeftOf};
 
     /// The series of a master, where overrides stand for these instances, in order. It fails only for memory.
     pub(crate) fn of(
@@ -52,6 +58,25 @@ impl Series {
         let master = by_its_rule(alloc, master, &replaced)?;
         let event = Event::of_master(alloc, master)?;
         Ok(Series { event })
+    }
+
+    /// That of a master by itself, without the instances at these starts. It fails only for memory.
+    fn of_copy(alloc: Global, master: &EventComponent, starts: &[i64]) -> Result<Series, AllocError>
+        requires clock { HasGoodClock (event_of master.now) }
+        requires ends { HaveOneEnd (record { master = Some (ruled_without (event_of master.now) starts.now); overrides = [] }) }
+        requires rule { is_some master.now.rule ≡ true }
+        ensures { IfOk result (λ series. series_said series ≡ record { master = Some (ruled_without (event_of master.now) starts.now); overrides = [] }) }
+    {
+        let master = ruled_copy(alloc, master, starts)?;
+        let event = Event::of_master(alloc, master)?;
+        Ok(Series { event })
+    }
+
+    /// The series without the instances at these starts, as if EXDATE named them. In time n log n. It fails only for memory.
+    pub fn without(&self, alloc: Global, starts: &[i64]) -> Result<Series, AllocError>
+        ensures { IfOk result (λ left. IsLeftOf (series_said self.now) starts.now (series_said left)) }
+    {
+        Series::of_copy(alloc, self.master(), starts)
     }
 
     /// Its starts at an instant or later, in seconds from 1970-01-01T00:00:00Z, with their ends: ascending, each once. Takes no memory, and
@@ -117,6 +142,51 @@ impl Series {
             None => unreachable!(),
         }
     }
+}
+
+impl EventComponent {
+    ghost use Rattle.cal_events.specs.SaidSeries.{series_said, IsSeriesOf};
+
+    /// The series of an event by itself: what its RRULE gives, but for what EXDATE names, and whatever other VEVENTs stand for. None where it
+    /// has no RRULE, or stands for one instance. It fails only for memory.
+    pub fn series(&self, alloc: Global) -> Result<Option<Series>, AllocError>
+        // of an event that some VEVENT says
+        requires { IsTimely (event_of self.now) }
+        ensures { IfOk result (λ found. MatchOption found (has_series (event_of self.now) ≡ false) (λ series. IsSeriesOf (event_of self.now) (series_said series))) }
+    {
+        if !is_series(self) {
+            return Ok(None);
+        }
+        Ok(Some(Series::of_copy(alloc, self, &[])?))
+    }
+}
+
+/// A copy of a master by its rule alone, without these starts. Who attends isn't kept. It fails only for memory.
+fn ruled_copy(
+    alloc: Global,
+    master: &EventComponent,
+    starts: &[i64],
+) -> Result<EventComponent, AllocError>
+    ensures { IfOk result (λ copy. event_of copy ≡ ruled_without (event_of master.now) starts.now) }
+{
+    let uid = master.uid.clone()?;
+    let organiser = master.organiser.clone()?;
+    let rule = master.rule.clone()?;
+    let mut exceptions = copied(alloc, &master.exceptions)?;
+    exceptions.extend_from_slice(starts)?;
+    Ok(EventComponent {
+        uid,
+        organiser,
+        stamp: master.stamp,
+        sequence: master.sequence,
+        cancelled: master.cancelled,
+        recurrence: master.recurrence,
+        times: master.times,
+        rule,
+        additions: Vec::new(alloc),
+        exceptions,
+        attendees: Vec::new(alloc),
+    })
 }
 
 /// A master without what RDATE adds, and without what overrides stand for. It fails only for memory.

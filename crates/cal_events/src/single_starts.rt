@@ -39,7 +39,7 @@ fn candidates(alloc: Global, master: &EventComponent) -> Result<Instants, AllocE
     Ok(Instants::of(instants))
 }
 
-fn copied(alloc: Global, instants: &[i64]) -> Result<Vec<i64>, AllocError>
+pub(crate) fn copied(alloc: Global, instants: &[i64]) -> Result<Vec<i64>, AllocError>
     ensures { IfOk result (λ copy. copy.items ≡ instants.now) }
 {
     let mut copy = Vec::new(alloc);

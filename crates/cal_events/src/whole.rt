@@ -1,6 +1,6 @@
 //! What the instances of an event are when they are taken to their end.
 
-ghost use Rattle.std.specs.Prelude.{ℕ, List, ℤ, ◌≡◌, ◌↔◌, ◌≤ℤ◌};
+ghost use Rattle.std.specs.Prelude.{ℕ, List, Contains, ℤ, ◌≡◌, ◌↔◌, ◌≤ℤ◌};
 ghost use Rattle.profile.specs.checker.Instances.{Booked};
 ghost use Rattle.profile.specs.events.Meetings.{SpellsMeeting};
 ghost use Rattle.profile.specs.events.Starts.{IsInstance, AreInstancesFrom};
@@ -23,6 +23,11 @@ pub fn all_starts()
 /// The instances of a series are known by their starts.
 pub fn known_by_start()
     ensures { (series : Series) → AreKnownByStart (series_said series) }
+{}
+
+/// All instances of a series are the elements of some list: they start before year 10000.
+pub fn listed_series()
+    ensures { (series : Series) → (all : List Booked) × ((b : Booked) → Contains all b ↔ IsInstance (series_said series) b) }
 {}
 
 /// Of an event that octets spell, `Event::instances` gives all instances that start at an instant or later, by start and then by slot, each

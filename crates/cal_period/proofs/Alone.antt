@@ -22,13 +22,13 @@ alone_first series left walk b = record { stands = b.stands; clear = λ x y h k 
 
 module _ (series : Meeting) (left : Instances) (walk : Walk) (at : IsAloneAt series left walk) where
   pub alone_end : horizon ≤ℤ place_of walk.next → IsClear series
-  alone_end far = λ x y h k differ s. at.clear x y (all_behind series left walk at.stands far x h) (all_behind series left walk at.stands far y k) differ s
+  alone_end far = λ x y h k differ s. at.clear x y (all_behind series left walk.next at.stands.ahead far x h) (all_behind series left walk.next at.stands.ahead far y k) differ s
 
   module _ (next : Instance) (is : walk.next ≡ Some next) where
     pub alone_found : (last : Instance) → Meets walk.last next last → AreTwo series (instance_of last) (instance_of next)
     alone_found last m =
-        let known = at.stands.known in
-        let own = next_is series left walk next at.stands is in
+        let known = at.stands.ahead.known in
+        let own = next_is series left walk.next next at.stands.ahead is in
         let behind = met_behind series (place_of walk.next) walk.last last at.stands.last m.0 in
         let before : last.start <ℤ next.start = subst (λ (t : ℤ). last.start <ℤ t) (ap place_of is) behind.1 in
         record {

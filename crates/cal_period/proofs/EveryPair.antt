@@ -1,13 +1,12 @@
 -- All pairs of series, one after another.
-use Rattle.std.proofs.Common.{◌≡◌, ◌≢◌, ◌∙◌, ◌==◌, ◌⊎◌, ℕ, zero, suc, ◌+◌, ◌-◌, ◌<◌, ◌≤◌, true, false, cond, Bool, List, [], ◌∷◌, length, map, get_or, min, subst, sym, refl, ap, inl, inr, arith}
+use Rattle.std.proofs.Common.{◌≡◌, ◌∙◌, ◌==◌, ℕ, zero, suc, ◌+◌, ◌-◌, ◌<◌, ◌≤◌, true, false, cond, Bool, List, [], ◌∷◌, length, map, get_or, min, subst, sym, refl, ap, inl, inr, arith}
 use Rattle.std.specs.Prelude.{Option, Some, None, option_map, MatchOption}
-use Rattle.std.specs.List.{AllZip, slice_get}
+use Rattle.std.specs.List.{slice_get}
 use Rattle.std.proofs.lemmas.Bool.{cases_lt}
 use Rattle.std.proofs.lemmas.Bool.Decides.{nat_tests}
 use Rattle.std.proofs.lemmas.Option.{same_Some, slice_get-get_or, slice_get-map}
 use Rattle.profile.specs.checker.Instances as instances
 use Rattle.profile.specs.checker.Instances.{Booked, AreClashing}
-use Rattle.profile.specs.checker.Certificates.{IsPairBefore}
 use Rattle.profile.specs.events.Properties.{first_second}
 use Rattle.profile.specs.events.Meetings.{Meeting}
 use Rattle.profile.specs.events.Starts.{IsInstance, AreInstancesFrom}
@@ -17,7 +16,7 @@ use Rattle.cal_events.specs.declared.instance.Instance.{Instance}
 use Rattle.cal_events.specs.declared.series.Series.{Series}
 use Rattle.cal_period.specs.Clear.{AreClear, IsClear, ArePair, AreTwo}
 use Rattle.cal_period.specs.Swept.{IsPairSwept, IsAloneSwept, ArePairDrawn, AreAloneDrawn}
-use Rattle.cal_period.specs.Every.{IsPairClear, PairShares, IsAtSwept, IsRowClear, IsFoundInRow, IsFound, AreLists, pair_count, row_count, pairs_count, all_count, IsDrawn, IsAtDrawn}
+use Rattle.cal_period.specs.Every.{IsPairClear, PairShares, IsAtSwept, IsRowClear, IsFoundInRow, IsFound, AreLists, pair_count, row_count, pairs_count, IsDrawn, IsAtDrawn}
 use Rattle.cal_period.specs.declared.sweep.Swept.{Swept}
 use Rattle.cal_period.specs.declared.every_pair.Shared.{Shared}
 

@@ -16,21 +16,26 @@ use Rattle.cal_events.specs.declared.instance.Instance.{Instance}
 use Rattle.cal_events.specs.declared.instances.Bound.{Bound}
 use Rattle.cal_events.specs.declared.instances.Instances.{Instances}
 use Rattle.cal_events.proofs.WholeLists.{order, after_later}
-use Rattle.cal_period.specs.Walks.{place_of, AreAllLeft, IsBehind, IsLast, Stands, Begins, GoesPast, EndsLater}
+use Rattle.cal_period.specs.Walks.{place_of, AreAllLeft, AreLeftFrom, AreCounted, IsAhead, IsBehind, IsLast, IsLastSince, Begins, Enters, GoesPast, GoesOn, EndsLater}
 use Rattle.cal_period.specs.declared.walk.Walk.{Walk}
 use Rattle.cal_period.proofs.Counts.{count_none, count_past, earlier}
 
 -- of a series in which those from an instant on were left, one more was given
 record Advances (series : Meeting) (from : ℤ) (found : Option Instance) (new : Instances) : Type 0 where
-  next : IfSome found (λ i. IsInstance series (instance_of i))
-  rest : (b : Booked) → IsLeft new b ↔ (IsInstance series b × (place_of found <ℤ b.start))
+  ahead : IsAhead series new found
   further : from ≤ℤ place_of found
   none : (b : Booked) → IsInstance series b → from ≤ℤ b.start → place_of found ≤ℤ b.start
 
-not_less : (x y : ℤ) → (y <ℤ x → ⊥) → x ≤ℤ y
+pub not_less : (x y : ℤ) → (y <ℤ x → ⊥) → x ≤ℤ y
 not_less x y h = elim (order x y) [
   | inl l ↦ omega (arith, ints, l)
   | inr o ↦ elim o [ inl e ↦ omega (arith, ints, e) | inr l ↦ absurd (h l) ]
+]
+
+earlier_than : (x y : ℤ) → (y ≤ℤ x → ⊥) → x <ℤ y
+earlier_than x y h = elim (order x y) [
+  | inl l ↦ l
+  | inr o ↦ elim o [ inl e ↦ absurd (h (omega (arith, ints, e))) | inr l ↦ absurd (h (omega (arith, ints, l))) ]
 ]
 
 module _ (series : Meeting) (known : AreKnownByStart series) (from : ℤ) (early : from ≤ℤ horizon) (old new : Instances) (left : (b : Booked) → IsLeft old b ↔ (IsInstance series b × (from ≤ℤ b.start))) where
@@ -58,8 +63,7 @@ module _ (series : Meeting) (known : AreKnownByStart series) (from : ℤ) (early
 
     advance_one : Advances series from (Some i) new
     advance_one = record {
-      next = is_one;
-      rest = λ b. (left_then b, still_left b);
+      ahead = record { known = known; is = is_one; rest = λ b. (left_then b, still_left b) };
       further = late;
       none = λ b is l. not_less i.start b.start (λ less. given.1.1 b ((left b).1 (is, l)) (inl less));
     }
@@ -70,8 +74,7 @@ module _ (series : Meeting) (known : AreKnownByStart series) (from : ℤ) (early
 
   advance : (found : Option Instance) → GivesFirst old found new → Advances series from found new
   advance None given = record {
-    next = tt;
-    rest = λ b. (none_left given b, λ h. absurd (omega (arith, ints, h.1, (known.dates b h.0).1)));
+    ahead = record { known = known; is = tt; rest = λ b. (none_left given b, λ h. absurd (omega (arith, ints, h.1, (known.dates b h.0).1))) };
     further = early;
     none = λ b is l. absurd (given.1.0 b ((left b).1 (is, l)));
   }
@@ -86,9 +89,7 @@ at_first series old new first known all given =
     let none = λ (b : Booked) (h : IsBehind series (place_of first) b). absurd (omega (arith, ints, h.1, a.none b h.0 (known.dates b h.0).0)) in
     record {
       stands = record {
-        known = known;
-        next = a.next;
-        rest = a.rest;
+        ahead = a.ahead;
         last = none;
         count = λ xs are.
             let zero = count_none (place_of first) xs (λ y c. let e = All-contains (λ (b : Booked). IsInstance series b × (first_second ≤ℤ b.start)) xs y are.each c in a.none y e.0 e.1) in
@@ -97,9 +98,18 @@ at_first series old new first known all given =
       none = none;
     }
 
+-- those that start before the entry are behind
+pub at_entry : (series : Meeting) (by entry : ℤ) (old new : Instances) (first : Option Instance) → AreKnownByStart series → AreLeftFrom series by entry old → GivesFirst old first new
+    → Enters series by entry new (record { next = first; last = None; count = 0 })
+at_entry series by entry old new first known from given =
+    let a = advance series known entry from.early old new from.others first given in
+    let early = λ (b : Booked) (h : IsBehind series (place_of first) b). earlier_than b.start entry (λ late. omega (arith, ints, h.1, a.none b h.0 late)) in
+    let over = λ (b : Booked) (h : IsBehind series (place_of first) b). from.before b h.0 (early b h) in
+    record { tail = record { ahead = a.ahead; last = over }; none = early; over = over }
+
 -- ---- past one instance
 
-module _ (series : Meeting) (old new : Instances) (walk : Walk) (s : Stands series old walk) (next : Instance) (is : walk.next ≡ Some next) (after : Option Instance) (given : GivesFirst old after new) where
+module _ (series : Meeting) (old new : Instances) (walk : Walk) (ahead : IsAhead series old walk.next) (next : Instance) (is : walk.next ≡ Some next) (after : Option Instance) (given : GivesFirst old after new) where
   abbrev here : ℤ
   here = place_of walk.next
 
@@ -107,19 +117,19 @@ module _ (series : Meeting) (old new : Instances) (walk : Walk) (s : Stands seri
   starts = ap place_of is
 
   one : IsInstance series (instance_of next)
-  one = subst (λ (o : Option Instance). IfSome o (λ i. IsInstance series (instance_of i))) is s.next
+  one = subst (λ (o : Option Instance). IfSome o (λ i. IsInstance series (instance_of i))) is ahead.is
 
   there : Advances series (here +ℤ pos 1) after new
   there =
-      advance series s.known (here +ℤ pos 1) (let d = (s.known.dates (instance_of next) one).1 in omega (arith, ints, d, starts)) old new
-      (λ b. ((λ l. let r = (s.rest b).0 l in (r.0, omega (arith, ints, r.1))), λ h. (s.rest b).1 (h.0, omega (arith, ints, h.1)))) after given
+      advance series ahead.known (here +ℤ pos 1) (let d = (ahead.known.dates (instance_of next) one).1 in omega (arith, ints, d, starts)) old new
+      (λ b. ((λ l. let r = (ahead.rest b).0 l in (r.0, omega (arith, ints, r.1))), λ h. (ahead.rest b).1 (h.0, omega (arith, ints, h.1)))) after given
 
   -- what is behind was behind, or is that one
   was : (b : Booked) → IsBehind series (place_of after) b → IsBehind series here b ⊎ (b ≡ instance_of next)
   was b h = elim (order b.start here) [
     | inl l ↦ inl (h.0, l)
     | inr o ↦ elim o [
-      | inl e ↦ inr (s.known.one b (instance_of next) h.0 one (e ∙ starts))
+      | inl e ↦ inr (ahead.known.one b (instance_of next) h.0 one (e ∙ starts))
       | inr l ↦ absurd (omega (arith, ints, h.1, there.none b h.0 (omega (arith, ints, l))))
     ]
   ]
@@ -128,32 +138,52 @@ module _ (series : Meeting) (old new : Instances) (walk : Walk) (s : Stands seri
   ends_before None later l e b h = absurd (l b h)
   ends_before (Some x) later l e b h = omega (arith, ints, l.1 b h, e)
 
-  later_behind : (last : Option Instance) (later : Instance) → IsLast series here last → (last ≡ Some later) ⊎ (later ≡ next) → IsBehind series (place_of after) (instance_of later)
-  later_behind last later l (inl e) =
-      let h = (subst (IsLast series here) e l).0 in (h.0, omega (arith, ints, h.1, there.further))
+  ends_since : (by : ℤ) (last : Option Instance) (later : Instance) → IsLastSince series by here last → IfSome last (λ l. l.end ≤ℤ later.end) → (b : Booked) → IsBehind series here b
+      → (b.end ≤ℤ by) ⊎ (b.end ≤ℤ later.end)
+  ends_since by None later l e b h = inl (l b h)
+  ends_since by (Some x) later l e b h = elim (l.1 b h) [ inl over ↦ inl over | inr m ↦ inr (omega (arith, ints, m, e)) ]
+
+  later_behind : (last : Option Instance) (later : Instance) → (last ≡ Some later → IsBehind series here (instance_of later)) → (last ≡ Some later) ⊎ (later ≡ next)
+      → IsBehind series (place_of after) (instance_of later)
+  later_behind last later l (inl e) = let h = l e in (h.0, omega (arith, ints, h.1, there.further))
   later_behind last later l (inr e) =
       subst (λ (i : Instance). IsBehind series (place_of after) (instance_of i)) (sym e) (one, omega (arith, ints, starts, there.further))
 
-  pub gone_past : (later : Instance) (count : ℕ) → EndsLater walk.last next later → count ≡ min (walk.count + 1) 18446744073709551615
+  pub gone_past : IsLast series here walk.last → AreCounted series here walk.count → (later : Instance) (count : ℕ) → EndsLater walk.last next later → count ≡ min (walk.count + 1) 18446744073709551615
       → GoesPast series next walk new (record { next = after; last = Some later; count = count })
-  gone_past later count ends counted = record {
+  gone_past last so_far later count ends counted = record {
     stands = record {
-      known = s.known;
-      next = there.next;
-      rest = there.rest;
+      ahead = there.ahead;
       last = (
-        later_behind walk.last later s.last ends.one,
+        later_behind walk.last later (λ e. (subst (IsLast series here) e last).0) ends.one,
         λ b h. elim (was b h) [
-          | inl old ↦ ends_before walk.last later s.last ends.than_old b old
+          | inl old ↦ ends_before walk.last later last ends.than_old b old
           | inr same ↦ subst (λ (x : Booked). x.end ≤ℤ later.end) (sym same) ends.than_next
         ],
       );
       count = λ xs are.
-          let more = count_past series s.known here (place_of after) (instance_of next) xs (sym starts) (omega (arith, ints, there.further))
+          let more = count_past series ahead.known here (place_of after) (instance_of next) xs (sym starts) (omega (arith, ints, there.further))
           (λ b h l. there.none b h (omega (arith, ints, l)))
-          (λ y c. (All-contains (λ (b : Booked). IsInstance series b × (first_second ≤ℤ b.start)) xs y are.each c).0) are.ordered (are.all (instance_of next) one (s.known.dates (instance_of next) one).0) in
-          let before = s.count xs are in
+          (λ y c. (All-contains (λ (b : Booked). IsInstance series b × (first_second ≤ℤ b.start)) xs y are.each c).0) are.ordered (are.all (instance_of next) one (ahead.known.dates (instance_of next) one).0) in
+          let before = so_far xs are in
           omega (arith, more, before, counted);
+    };
+    further = omega (arith, ints, there.further);
+    one = was;
+  }
+
+  pub gone_on : (by : ℤ) → IsLastSince series by here walk.last → (later : Instance) (count : ℕ) → EndsLater walk.last next later
+      → GoesOn series by next walk new (record { next = after; last = Some later; count = count })
+  gone_on by last later count ends = record {
+    tail = record {
+      ahead = there.ahead;
+      last = (
+        later_behind walk.last later (λ e. (subst (IsLastSince series by here) e last).0) ends.one,
+        λ b h. elim (was b h) [
+          | inl old ↦ ends_since by walk.last later last ends.than_old b old
+          | inr same ↦ inr (subst (λ (x : Booked). x.end ≤ℤ later.end) (sym same) ends.than_next)
+        ],
+      );
     };
     further = omega (arith, ints, there.further);
     one = was;

@@ -5,3 +5,5 @@ pub mod Alone
 pub mod Pairs
 pub mod EveryPair
 pub mod Sharers
+pub mod Entries
+pub mod Tails

@@ -1,17 +1,17 @@
 -- Singles beside series, one after another.
-use Rattle.std.proofs.Common.{◌≡◌, ◌∙◌, ℕ, ◌+◌, ◌<◌, ◌≤◌, List, length, get_or, map, subst, sym, refl, ap, inl, inr, arith, ℤ}
-use Rattle.std.specs.Prelude.{Option, Some, None, option_map, Contains, MatchOption}
+use Rattle.std.proofs.Common.{◌≡◌, ◌∙◌, ℕ, ◌+◌, ◌<◌, ◌≤◌, List, length, subst, sym, ap, inl, inr, arith, ℤ}
+use Rattle.std.specs.Prelude.{Option, Some, None, option_map, Contains}
 use Rattle.std.specs.List.{slice_get}
 use Rattle.std.proofs.lemmas.Bool.{cases_lt}
-use Rattle.std.proofs.lemmas.Option.{same_Some, slice_get-get_or, slice_get_within}
+use Rattle.std.proofs.lemmas.Option.{same_Some, slice_get-get_or}
 use Rattle.profile.specs.checker.Instances.{Booked}
 use Rattle.profile.specs.events.Meetings.{Meeting}
 use Rattle.profile.specs.events.Starts.{IsInstance, SharesInstant, IsFirstOverlap}
-use Rattle.profile.specs.events.Confirmed.{Confirmed, IsInSeries}
+use Rattle.profile.specs.events.Confirmed.{Confirmed}
 use Rattle.cal_events.specs.Calendars.{instance_of}
 use Rattle.cal_events.specs.declared.instance.Instance.{Instance}
 use Rattle.cal_period.specs.declared.beside.Beside.{Beside}
-use Rattle.cal_period.specs.Besides.{IsSharer, HasNoSharer, IsSharerOr, IsBeside, IsSingleOr}
+use Rattle.cal_period.specs.Besides.{IsSharer, HasNoSharer, IsBeside, IsSingleOr}
 
 -- ---- the series for one span
 

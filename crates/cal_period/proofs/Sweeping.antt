@@ -15,7 +15,7 @@ use Rattle.cal_events.specs.declared.instance.Instance.{Instance}
 use Rattle.cal_events.specs.declared.instances.Instances.{Instances}
 use Rattle.cal_period.specs.Clear.{ShareStart}
 use Rattle.cal_period.specs.Swept.{IsCountOf, IsAtMost}
-use Rattle.cal_period.specs.Walks.{place_of, AreAllLeft, IsBehind, IsLast, Stands, MeetsNone}
+use Rattle.cal_period.specs.Walks.{place_of, AreAllLeft, IsAhead, IsBehind, IsLast, Stands, MeetsNone}
 use Rattle.cal_period.specs.declared.walk.Walk.{Walk}
 use Rattle.cal_period.proofs.Counts.{count_all}
 
@@ -65,29 +65,26 @@ all_left series from left known early h b = (
   λ is. (h b).1 (is, let d = (known.dates b is).0 in omega (arith, ints, d, early)),
 )
 
-pub next_is : (series : Meeting) (left : Instances) (walk : Walk) (next : Instance) → Stands series left walk → walk.next ≡ Some next → IsInstance series (instance_of next)
-next_is series left walk next s e = subst (λ (o : Option Instance). IfSome o (λ i. IsInstance series (instance_of i))) e s.next
+pub next_is : (series : Meeting) (left : Instances) (o : Option Instance) (next : Instance) → IsAhead series left o → o ≡ Some next → IsInstance series (instance_of next)
+next_is series left o next a e = subst (λ (p : Option Instance). IfSome p (λ i. IsInstance series (instance_of i))) e a.is
 
-pub place_within : (series : Meeting) (left : Instances) (walk : Walk) → Stands series left walk → place_of walk.next ≤ℤ horizon
-place_within series left walk s = go walk.next s.next
-  where
-    go : (next : Option Instance) → IfSome next (λ i. IsInstance series (instance_of i)) → place_of next ≤ℤ horizon
-    go None h = omega (arith, ints)
-    go (Some i) h = let d = (s.known.dates (instance_of i) h).1 in omega (arith, ints, d)
+pub place_within : (series : Meeting) (left : Instances) (next : Option Instance) → IsAhead series left next → place_of next ≤ℤ horizon
+place_within series left None a = omega (arith, ints)
+place_within series left (Some i) a = let d = (a.known.dates (instance_of i) a.is).1 in omega (arith, ints, d)
 
 pub none_is : (next : Option Instance) → ((i : Instance) → next ≡ Some i → ⊥) → next ≡ None
 none_is None h = refl
 none_is (Some i) h = absurd (h i refl)
 
 -- at its end all are behind
-pub all_behind : (series : Meeting) (left : Instances) (walk : Walk) → Stands series left walk → horizon ≤ℤ place_of walk.next → (x : Booked) → IsInstance series x → IsBehind series (place_of walk.next) x
-all_behind series left walk s far x is = (is, let d = (s.known.dates x is).1 in omega (arith, ints, d, far))
+pub all_behind : (series : Meeting) (left : Instances) (next : Option Instance) → IsAhead series left next → horizon ≤ℤ place_of next → (x : Booked) → IsInstance series x → IsBehind series (place_of next) x
+all_behind series left next a far x is = (is, let d = (a.known.dates x is).1 in omega (arith, ints, d, far))
 
 -- and all are counted
 pub all_counted : (series : Meeting) (left : Instances) (walk : Walk) → Stands series left walk → horizon ≤ℤ place_of walk.next → IsCountOf series walk.count
 all_counted series left walk s far xs are =
     let n = s.count xs are in
-    let all = count_all (place_of walk.next) xs (λ y c. (all_behind series left walk s far y (All-contains (λ (b : Booked). IsInstance series b × (first_second ≤ℤ b.start)) xs y are.each c).0).1) in
+    let all = count_all (place_of walk.next) xs (λ y c. (all_behind series left walk.next s.ahead far y (All-contains (λ (b : Booked). IsInstance series b × (first_second ≤ℤ b.start)) xs y are.each c).0).1) in
     omega (arith, n, all)
 
 -- never more
@@ -105,9 +102,9 @@ abs_is : (d : ℤ) → pos 0 ≤ℤ d → pos (unsigned_abs d) ≡ d
 abs_is (pos n) h = refl
 abs_is (negsuc n) h = absurd (omega (arith, ints, h))
 
-pub fewer_left : (series : Meeting) (left : Instances) (old new : Walk) → Stands series left new → place_of old.next <ℤ place_of new.next → steps_left new < steps_left old
-fewer_left series left old new s further =
-    let within = place_within series left new s in
+pub fewer_left : (series : Meeting) (left : Instances) (old new : Walk) → IsAhead series left new.next → place_of old.next <ℤ place_of new.next → steps_left new < steps_left old
+fewer_left series left old new ahead further =
+    let within = place_within series left new.next ahead in
     let a = abs_is (horizon -ℤ place_of new.next) (omega (arith, ints, within)) in
     let b = abs_is (horizon -ℤ place_of old.next) (omega (arith, ints, within, further)) in
     omega (arith, ints, a, b, further)

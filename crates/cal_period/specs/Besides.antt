@@ -1,5 +1,5 @@
 -- What a search for a single beside a series says. Singles and series are counted from 0.
-use Rattle.std.specs.Prelude.{◌≡◌, ◌<◌, ℕ, ℤ, List, Contains, length, MatchOption, Option, Some}
+use Rattle.std.specs.Prelude.{◌≡◌, ℕ, ℤ, List, Contains, MatchOption, Option, Some}
 use Rattle.std.specs.List.{slice_get}
 use Rattle.profile.specs.checker.Instances.{Booked}
 use Rattle.profile.specs.events.Meetings.{Meeting}

@@ -35,11 +35,15 @@ AreCounted series place n =
 abbrev pub AreAllLeft : Meeting → Instances → Type 0
 AreAllLeft series left = (b : Booked) → IsLeft left b ↔ IsInstance series b
 
--- a walk stands in a series, and what comes after its next instance is left
-pub record Stands (series : Meeting) (left : Instances) (walk : Walk) : Type 0 where
+-- an instance of a series is next, and what comes after it is left; or none is
+pub record IsAhead (series : Meeting) (left : Instances) (next : Option Instance) : Type 0 where
   pub known : AreKnownByStart series
-  pub next : IfSome walk.next (λ i. IsInstance series (instance_of i))
-  pub rest : (b : Booked) → IsLeft left b ↔ (IsInstance series b × (place_of walk.next <ℤ b.start))
+  pub is : IfSome next (λ i. IsInstance series (instance_of i))
+  pub rest : (b : Booked) → IsLeft left b ↔ (IsInstance series b × (place_of next <ℤ b.start))
+
+-- a walk stands in a series
+pub record Stands (series : Meeting) (left : Instances) (walk : Walk) : Type 0 where
+  pub ahead : IsAhead series left walk.next
   pub last : IsLast series (place_of walk.next) walk.last
   pub count : AreCounted series (place_of walk.next) walk.count
 
@@ -67,3 +71,34 @@ pub record EndsLater (old : Option Instance) (next later : Instance) : Type 0 wh
   pub one : (old ≡ Some later) ⊎ (later ≡ next)
   pub than_next : next.end ≤ℤ later.end
   pub than_old : IfSome old (λ l. l.end ≤ℤ later.end)
+
+-- ---- a walk that begins in the middle
+
+-- all that start before an entry are over by an instant, and the others are left
+pub record AreLeftFrom (series : Meeting) (by entry : ℤ) (left : Instances) : Type 0 where
+  pub early : entry ≤ℤ horizon
+  pub before : (b : Booked) → IsInstance series b → b.start <ℤ entry → b.end ≤ℤ by
+  pub others : (b : Booked) → IsLeft left b ↔ (IsInstance series b × (entry ≤ℤ b.start))
+
+-- the one of those behind that ends last, if there are any that aren't over by an instant
+abbrev pub IsLastSince : Meeting → ℤ → ℤ → Option Instance → Type 0
+IsLastSince series by place last =
+    MatchOption last ((b : Booked) → IsBehind series place b → b.end ≤ℤ by)
+    (λ l. IsBehind series place (instance_of l) × ((b : Booked) → IsBehind series place b → (b.end ≤ℤ by) ⊎ (b.end ≤ℤ l.end)))
+
+-- a walk stands in a series, as one that begins at its first does, but that it passed over instances that are over by an instant
+pub record Tail (series : Meeting) (by : ℤ) (left : Instances) (walk : Walk) : Type 0 where
+  pub ahead : IsAhead series left walk.next
+  pub last : IsLastSince series by (place_of walk.next) walk.last
+
+-- it stands at the first instance from an entry on: those behind start before that, and are over by the instant
+pub record Enters (series : Meeting) (by entry : ℤ) (left : Instances) (walk : Walk) : Type 0 where
+  pub tail : Tail series by left walk
+  pub none : (b : Booked) → IsBehind series (place_of walk.next) b → b.start <ℤ entry
+  pub over : (b : Booked) → IsBehind series (place_of walk.next) b → b.end ≤ℤ by
+
+-- it went past one instance
+pub record GoesOn (series : Meeting) (by : ℤ) (i : Instance) (old : Walk) (left : Instances) (new : Walk) : Type 0 where
+  pub tail : Tail series by left new
+  pub further : place_of old.next <ℤ place_of new.next
+  pub one : (b : Booked) → IsBehind series (place_of new.next) b → IsBehind series (place_of old.next) b ⊎ (b ≡ instance_of i)

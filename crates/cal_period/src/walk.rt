@@ -1,10 +1,10 @@
 //! A walk through the instances of a series, by start. Of those behind it remembers the one that ends last.
-ghost use Rattle.std.specs.Prelude.{◌≡◌, Option, Some, IfSome, IfNone};
+ghost use Rattle.std.specs.Prelude.{◌≡◌, ◌≤ℤ◌, false, ℤ, Option, Some, IfSome, IfNone};
 ghost use Rattle.profile.specs.events.Meetings.{Meeting};
 ghost use Rattle.cal_events.specs.Left.{GivesFirst};
 ghost use Rattle.cal_events.specs.SaidSeries.{AreKnownByStart};
 ghost use Rattle.cal_events.specs.declared.instances.Instances.{Instances};
-ghost use Rattle.cal_period.specs.Walks.{place_of, AreAllLeft, Begins, Stands, GoesPast, MeetsNone, Meets, EndsLater};
+ghost use Rattle.cal_period.specs.Walks.{place_of, AreAllLeft, AreLeftFrom, Begins, Enters, Stands, Tail, GoesPast, GoesOn, MeetsNone, Meets, EndsLater};
 
 use cal_events::{HORIZON, Instance};
 
@@ -20,10 +20,12 @@ pub(crate) struct Walk<'a> {
 }
 
 impl<'a> Walk<'a> {
-    /// A walk that stands at the first instance.
+    /// A walk that stands at the first instance, of all or of those from an entry on.
     pub(crate) fn to(first: Option<Instance<'a>>) -> Walk<'a>
-        ensures { (series : Meeting) (old new : Instances) → AreKnownByStart series → AreAllLeft series old
+        ensures begins { (series : Meeting) (old new : Instances) → AreKnownByStart series → AreAllLeft series old
             → GivesFirst old first.entry new → Begins series new result }
+        ensures enters { (series : Meeting) (by entry : ℤ) (old new : Instances) → AreKnownByStart series → AreLeftFrom series by entry old
+            → GivesFirst old first.entry new → Enters series by entry new result }
     {
         Walk {
             next: first,
@@ -54,11 +56,23 @@ impl<'a> Walk<'a> {
         Some(last)
     }
 
+    /// Whether an instance behind it is still going on at an instant.
+    pub(crate) fn reaches(&self, instant: i64) -> bool
+        ensures { result ≡ false → IfSome self.now.last (λ l. l.end ≤ℤ instant) }
+    {
+        match self.last {
+            Some(last) => instant < last.end,
+            None => false,
+        }
+    }
+
     /// Past its next instance, where another comes after that.
     pub(crate) fn past(&self, next: Instance<'a>, after: Option<Instance<'a>>) -> Walk<'a>
         requires { self.now.next ≡ Some next }
-        ensures { (series : Meeting) (old new : Instances) → Stands series old self.now → GivesFirst old after.entry new
+        ensures stands { (series : Meeting) (old new : Instances) → Stands series old self.now → GivesFirst old after.entry new
             → GoesPast series next.entry self.now new result }
+        ensures tail { (series : Meeting) (by : ℤ) (old new : Instances) → Tail series by old self.now → GivesFirst old after.entry new
+            → GoesOn series by next.entry self.now new result }
     {
         Walk {
             next: after,

@@ -40,6 +40,20 @@ impl Model for Rule {
         × EndsAt (parts_of r.written r.start.index (day_index r.last)) r.end × IsAllowed (text_of r.written) };
 }
 
+impl Clone for Rule {
+    ghost is_clone = { λ rule copy. copy ≡ rule };
+
+    fn clone(&self) -> Result<Rule, AllocError> {
+        let written = self.written.clone()?;
+        Ok(Rule {
+            written,
+            start: self.start,
+            last: self.last,
+            end: self.end,
+        })
+    }
+}
+
 impl Rule {
     ghost use Rattle.std.specs.Prelude.{◌≡◌, ◌+◌, ◌++◌, true, false, map, option_map, MatchOption, IfOk, IfErr, OnOk, OnErr};
     ghost use Rattle.cal_days.specs.Views.{frequency_of};

@@ -11,6 +11,7 @@ ghost use Rattle.cal_rules.specs.Known.{AreFacts};
 use crate::facts::DayFacts;
 use cal_days::{Day, Frequency, PeriodIndex};
 use ical_values::{LocalTime, Stamp};
+use std::alloc::AllocError;
 
 /// An entry of BYDAY: a weekday, 0 for Monday, and the number before it, 0 where none is written.
 #[derive(Clone, Copy, PartialEq, Eq)]
@@ -39,6 +40,28 @@ pub(crate) struct Written {
     pub positions: Vec<i16>,
     pub count: Option<u32>,
     pub until: Option<Until>,
+}
+
+impl Clone for Written {
+    ghost is_clone = { λ written copy. text_of copy ≡ text_of written };
+
+    fn clone(&self) -> Result<Written, AllocError> {
+        let months = self.months.clone()?;
+        let month_days = self.month_days.clone()?;
+        let weekdays = self.weekdays.clone()?;
+        let positions = self.positions.clone()?;
+        Ok(Written {
+            frequency: self.frequency,
+            interval: self.interval,
+            week_start: self.week_start,
+            months,
+            month_days,
+            weekdays,
+            positions,
+            count: self.count,
+            until: self.until,
+        })
+    }
 }
 
 impl Written {

@@ -167,7 +167,7 @@ begun o t = begun_by o t ((t +ℤ o.offset_from) -ℤ local_time 0 o.second) (om
 
 -- ---- an offset is in force, and a local time means an instant
 
-in_force : (k : rust.Form) (t : ℤ) → (offset : ℤ) × IsOffsetAt (kind_of k) t offset
+pub in_force : (k : rust.Form) (t : ℤ) → (offset : ℤ) × IsOffsetAt (kind_of k) t offset
 in_force (the.Constant f) t = (f.offset, refl)
 in_force (the.Single a) t =
     elim (begun a t) [
@@ -210,7 +210,7 @@ ends_there (the.Single a) = ordered a.offset_from a.offset_to
 ends_there (the.Pair p) = let o = ordered p.standard.offset_from p.standard.offset_to in (o.0, o.1, (o.2, p.there, p.back))
 
 -- each local time means an instant
-meant : (z : kept.Zone) (local : ℤ) → (t : ℤ) × Means (zone_of z) local t
+pub meant : (z : kept.Zone) (local : ℤ) → (t : ℤ) × Means (zone_of z) local t
 meant z local =
     let ends = ends_there z.kind in
     let least = ends.0 in

@@ -1,12 +1,12 @@
 -- The events of a message's meeting: what is known of each, and their order by slots.
-use Rattle.std.proofs.Common.{cond, codes, ◌≡◌, ◌≢◌, ◌∙◌, ℕ, zero, suc, ◌<◌, ◌+◌, Bool, true, false, not, ◌⊎◌, List, [], ◌∷◌, ◌++◌, length, map, filter, get_or, refl, sym, ap, subst, arith, inl, inr, length-append, ℤ, Option, Some, None, is_some, Ordering}
+use Rattle.std.proofs.Common.{◌≡◌, ◌≢◌, ◌∙◌, ℕ, zero, suc, ◌<◌, ◌+◌, Bool, true, false, not, ◌⊎◌, List, [], ◌∷◌, ◌++◌, length, map, filter, get_or, refl, sym, ap, subst, arith, inl, inr, length-append, ℤ, Option, Some, None, is_some, Ordering}
 use Rattle.std.specs.Prelude.{Contains, All, AllPairs}
 use Rattle.std.specs.Option.{option_to_list}
-use Rattle.std.specs.List.{list_any, AllZip}
+use Rattle.std.specs.List.{AllZip}
 use Rattle.std.specs.List.Sorted.{IsPermutation, IsSortedByKey}
 use Rattle.std.specs.declared.cmp.Ordering.TheVariants.{Less, Equal, Greater}
 use Rattle.std.specs.Ordering.{is_lt, is_eq, ordering_reverse}
-use Rattle.std.proofs.lemmas.Bool.{true≢false, or_parts}
+use Rattle.std.proofs.lemmas.Bool.{true≢false}
 use Rattle.std.proofs.lemmas.Option.{same_Some}
 use Rattle.std.proofs.lemmas.List.{length-map}
 use Rattle.std.proofs.lemmas.List.Elements.{All-append, All-map, All-cons, All-nil, All-filter, Contains-append_cases}
@@ -15,14 +15,11 @@ use Rattle.std.proofs.lemmas.List.Kept.{AllPairs-filter}
 use Rattle.std.proofs.lemmas.List.Sorted.{IsPermutation-map, IsPermutation-sym, Contains-permutation, ranks_by, sorted_far}
 use Rattle.profile.specs.text.Trees.{Tree, vevents}
 use Rattle.profile.specs.events.Events.{Method, Request, Add, Cancel, Event, SaysEvent}
-use Rattle.profile.specs.events.Properties.{BothOrNeither, is_of, lines_named}
-use Rattle.profile.specs.events.EventRules.{IsRuleLine, SaysEventRule}
+use Rattle.profile.specs.events.Properties.{BothOrNeither}
 use Rattle.profile.specs.events.Occurrences.{Entry, IsInside}
-use Rattle.profile.specs.events.ZonedTimes.{EventTimes}
-use Rattle.profile.specs.series.Rules.{Parts}
 use Rattle.profile.specs.events.Events.{meeting_said}
 use Rattle.profile.specs.events.Meetings.{Meeting, as_added, taken_by, events_of, is_master, is_override, AreOfOne, InstancesDiffer, SaysMeeting}
-use Rattle.profile.specs.rooms.Messages.{AreBySlot, has_unread, slot_of, slot_named}
+use Rattle.profile.specs.rooms.Messages.{AreBySlot, slot_of, slot_named}
 use Rattle.profile.specs.rooms.Revisions.{Slot, Whole, At, slot_cmp}
 use Rattle.itip_order.proofs.Order.{slot_total}
 use Rattle.std.specs.FinMap.{int_cmp-IsAntisymmetric}
@@ -84,22 +81,7 @@ starts_dated object m (v ∷ vs) [] z = absurd z
 starts_dated object m (v ∷ vs) (e ∷ es) z =
     All-cons (λ (e : Event). IsDated (slot_of (as_added e))) e es (in_stamps (Some e.times.start) (λ t is. subst IsNamed (same_Some e.times.start t is) (event_sound object v e z.0).starts)) (starts_dated object m vs es z.1)
 
--- and it has no rule, and says only instants that a stamp writes
-no_rule_line : (lines : Lines) → has_unread lines ≡ false → lines_named (codes "RRULE") lines ≡ []
-no_rule_line [] h = refl
-no_rule_line (line ∷ lines) h =
-    let both = or_parts (is_of (codes "RRULE") line) (has_unread lines) h in
-    let rest = lines_named (codes "RRULE") lines in
-    ap (λ b. cond b (line ∷ rest) rest) both.0 ∙ no_rule_line lines both.1
-
-no_rule : (lines : Lines) (times : EventTimes) (rule : Option Parts) → has_unread lines ≡ false → SaysEventRule lines times rule → rule ≡ None
-no_rule lines times rule h s = go s.line rule (sym (no_rule_line lines h) ∙ s.once) s.is
-  where
-    go : (line : Option (List ℕ)) (rule : Option Parts) → [] ≡ option_to_list line → BothOrNeither (IsRuleLine times) line rule → rule ≡ None
-    go None None e b = refl
-    go None (Some r) e b = absurd b
-    go (Some l) rule e b = let k : 0 ≡ 1 = ap length e in absurd (omega (arith, k))
-
+-- and says only instants that a stamp writes
 inside_named : (object : Tree) (entry : Entry) (t : ℤ) → IsInside object entry t → IsNamed t
 inside_named object (line, text) t (_, _, _, _, dates) = (dates.1, dates.2)
 
@@ -110,28 +92,25 @@ listed object (e ∷ es) [] z t c = absurd z
 listed object (e ∷ es) (x ∷ xs) z t (zero, w, same) = subst IsNamed same (inside_named object e x z.0)
 listed object (e ∷ es) (x ∷ xs) z t (suc k, w, same) = listed object es xs z.1 t (k, omega (arith, w), same)
 
-event_ready : (object : Tree) (m : Method) (lines : Lines) (event : Event) → SaysEvent object (Some m) lines event → has_unread lines ≡ false → IsReady event
-event_ready object m lines event s h =
+event_ready : (object : Tree) (m : Method) (lines : Lines) (event : Event) → SaysEvent object (Some m) lines event → IsReady event
+event_ready object m lines event s =
     let sound = event_sound object lines event s in
     record {
-      once = no_rule lines event.times event.rule h s.rule;
       ends = rule_told lines event.times event.rule s.rule;
       timely = record { steady = sound.steady; starts = sound.starts };
       listed = listed object _ event.additions s.occurrences.inside;
     }
 
-ready : (object : Tree) (m : Method) (vs : List Lines) (es : List Event) → AllZip (SaysEvent object (Some m)) vs es → list_any has_unread vs ≡ false → All IsReady es
-ready object m [] [] z h = All-nil IsReady
-ready object m [] (e ∷ es) z h = absurd z
-ready object m (v ∷ vs) [] z h = absurd z
-ready object m (v ∷ vs) (e ∷ es) z h =
-    let both = or_parts (has_unread v) (list_any has_unread vs) h in
-    All-cons IsReady e es (event_ready object m v e z.0 both.0) (ready object m vs es z.1 both.1)
+ready : (object : Tree) (m : Method) (vs : List Lines) (es : List Event) → AllZip (SaysEvent object (Some m)) vs es → All IsReady es
+ready object m [] [] z = All-nil IsReady
+ready object m [] (e ∷ es) z = absurd z
+ready object m (v ∷ vs) [] z = absurd z
+ready object m (v ∷ vs) (e ∷ es) z = All-cons IsReady e es (event_ready object m v e z.0) (ready object m vs es z.1)
 
 -- also as an instance that is added
 ready_added : (es : List Event) → All IsReady es → All (λ e. IsReady (as_added e)) es
 ready_added es a k e w =
-    let r = a k e w in record { once = r.once; ends = r.ends; timely = record { steady = r.timely.steady; starts = r.timely.starts }; listed = r.listed }
+    let r = a k e w in record { ends = r.ends; timely = record { steady = r.timely.steady; starts = r.timely.starts }; listed = r.listed }
 
 -- ---- as a method takes them
 
@@ -198,8 +177,8 @@ slots_differ (Some e) os m n h =
 
 -- ---- what a message says is a meeting of that kind
 
-pub of_message : (object : Tree) (method : Method) (meeting : Meeting) → SaysMeeting object (Some method) meeting → list_any has_unread (vevents object) ≡ false → IsOfMessage meeting
-of_message object method meeting s h =
+pub of_message : (object : Tree) (method : Method) (meeting : Meeting) → SaysMeeting object (Some method) meeting → IsOfMessage meeting
+of_message object method meeting s =
     let events = taken_by (Some method) s.events in
     let same : filter is_master events ++ filter is_override events ≡ events_of meeting = (λ i. s.master i ++ s.overrides i) in
     let P : List Event → Type 0 = λ es. (e : Event) → Contains es e → Contains events e in
@@ -211,7 +190,7 @@ of_message object method meeting s h =
     let whole = ap length same in
     let some : 0 < length events = taken_some method s.events s.some in
     let given_organiser = organised object method (vevents object) s.events s.says in
-    let all_ready = ready object method (vevents object) s.events s.says h in
+    let all_ready = ready object method (vevents object) s.events s.says in
     let given_stamp = stamped object method (vevents object) s.events s.says in
     record {
       some = omega (arith, long, sum, whole, some);

@@ -1,11 +1,11 @@
 -- What the lines of a message say, and what is wrong with them.
-use Rattle.std.proofs.Common.{◌≡◌, ◌∙◌, ℕ, zero, suc, ◌<◌, ◌+◌, Bool, true, false, ◌&&◌, ◌||◌, cond, eqb, ap₂, filter, take, List, [], ◌∷◌, ◌++◌, length, map, get_or, refl, sym, ap, subst, arith, inl, inr, Option, Some, None, IsSome, is_some, option_map, unwrap_or}
+use Rattle.std.proofs.Common.{◌≡◌, ◌∙◌, ℕ, zero, suc, ◌<◌, ◌+◌, Bool, true, false, not, ◌&&◌, ◌||◌, cond, eqb, ap₂, filter, take, List, [], ◌∷◌, ◌++◌, length, map, get_or, refl, sym, ap, subst, arith, inl, inr, Option, Some, None, IsSome, is_some, option_map, unwrap_or, ℤ}
 use Rattle.ical_lines.specs.Fault.{RefusesBy, RefusesOnly}
-use Rattle.std.specs.Prelude.{◌↔◌, Result, Ok, Err, IfErr, Contains, codes}
+use Rattle.std.specs.Prelude.{◌↔◌, MatchOption, Result, Ok, Err, IfErr, Contains, codes}
 use Rattle.std.specs.Option.{option_to_list}
 use Rattle.std.specs.List.{list_any, AllZip}
 use Rattle.std.specs.Str.{bytes_eq}
-use Rattle.std.proofs.lemmas.Bool.{true≢false}
+use Rattle.std.proofs.lemmas.Bool.{true≢false, and_parts}
 use Rattle.std.proofs.lemmas.List.{map-append, append-nil, length-map}
 use Rattle.std.proofs.lemmas.List.Elements.{filter_more, All-contains}
 use Rattle.ical_lines.specs.declared.fault.Fault.{Fault}
@@ -13,23 +13,26 @@ use Rattle.ical_lines.specs.declared.fault.Fault.TheVariants.{Refused, Memory}
 use Rattle.ical_lines.specs.declared.fault.Refusal.{Refusal}
 use Rattle.profile.specs.faults.Faults.{is_between, is_object_fault, is_meeting_event_fault, is_message_fault, is_unread}
 use Rattle.profile.specs.text.Lines.{line_value}
-use Rattle.profile.specs.text.Trees.{Tree, tree_own, vevents}
+use Rattle.profile.specs.text.Trees.{Tree, tree_own}
 use Rattle.profile.specs.events.Events as events
 use Rattle.profile.specs.events.Events.{Event}
+use Rattle.profile.specs.events.Confirmed.{has_series}
 use Rattle.profile.specs.events.Meetings.{Meeting, events_of, SaysMeeting, MeetingFault}
 use Rattle.profile.specs.rooms.Messages as profile
-use Rattle.profile.specs.rooms.Messages.{SaysMessage, NamesMethod, has_unread, MethodFault, bad_method, unread_method, MessageFault, in_meeting, not_yet, is_unread_method, is_method}
+use Rattle.profile.specs.rooms.Messages.{SaysMessage, NamesMethod, MethodFault, bad_method, unread_method, MessageFault, in_meeting, is_unread_method, is_method}
 use Rattle.profile.specs.rooms.Messages.{AreParts, AreBySlot, Content, no_content, IsPart, IsBody, IsContent, names_room, is_addressed, is_part_for, parts_for, own_revision, cancels, is_cancel, canonical}
 use Rattle.profile.specs.rooms.Revisions as revisions
 use Rattle.profile.specs.events.Properties.{StandsAtMostOnce}
 use Rattle.cal_events.specs.declared.component.EventComponent.{EventComponent}
 use Rattle.cal_events.specs.declared.component.Purpose.{Purpose}
-use Rattle.cal_events.specs.declared.component.Purpose.TheVariants as purposes
 use Rattle.cal_events.specs.declared.meeting_components.MeetingComponents.{MeetingComponents}
-use Rattle.cal_events.specs.Events.{event_of, method_read, has_unread_for}
-use Rattle.cal_events.specs.OneMeeting.{meeting_of, is_meeting_fault_for, IsUnreadOrNoMeeting}
+use Rattle.cal_events.specs.Events.{event_of, method_read}
+use Rattle.cal_events.specs.OneMeeting.{meeting_of, is_components_fault}
+use Rattle.cal_events.specs.SaidSeries.{IsSeriesOf, series_said}
+use Rattle.cal_events.specs.declared.series.Series.{Series}
 use Rattle.cal_events.proofs.EventLemmas.{some_line}
 use Rattle.cal_events.proofs.InOneOrder.{in_mapped, of_filtered}
+use Rattle.itip_order.specs.Parts.{slot_of}
 use Rattle.itip_order.proofs.Lists.{any_at, any_from}
 use Rattle.itip_messages.specs.declared.message.Message.{Message}
 use Rattle.itip_messages.specs.declared.message.MessageComponent.{MessageComponent}
@@ -66,65 +69,33 @@ pub in_message : (object : Tree) (method : Method) (purpose : Purpose) (meeting 
     → SaysMeeting object (Some (method_said method)) meeting
 in_message object method purpose meeting e says = subst (λ (m : Option events.Method). SaysMeeting object m meeting) (ap method_read e ∙ read_for method) says
 
--- what isn't read yet for a method is what isn't read yet in a message
-unread_for : (method : Method) (vs : List Lines) → list_any (has_unread_for (purpose_of method)) vs ≡ list_any has_unread vs
-unread_for Request vs = refl
-unread_for Add vs = refl
-unread_for Cancel vs = refl
-
-pub all_read : (method : Method) (purpose : Purpose) (vs : List Lines) → purpose ≡ purpose_of method → list_any (has_unread_for purpose) vs ≡ false → list_any has_unread vs ≡ false
-all_read method purpose vs e h = sym (unread_for method vs) ∙ ap (λ p. list_any (has_unread_for p) vs) (sym e) ∙ h
-
 -- what the VEVENTs of a message are refused for
 pub meeting_stands : (object : Tree) (method : Method) (purpose : Purpose) (f : Fault) → NamesMethod (tree_own object) (method_said method) → purpose ≡ purpose_of method
-    → RefusesBy (IsUnreadOrNoMeeting object purpose) f → RefusesBy (MessageFault object) f
+    → RefusesBy (MeetingFault object (method_read purpose)) f → RefusesBy (MessageFault object) f
 meeting_stands object method purpose Memory named e s = tt
-meeting_stands object method purpose (Refused r) named e (inl u) =
-    subst (MessageFault object) (sym u.0) (not_yet (sym (unread_for method (vevents object)) ∙ ap (λ p. list_any (has_unread_for p) (vevents object)) (sym e) ∙ u.1))
-meeting_stands object method purpose (Refused r) named e (inr s) =
+meeting_stands object method purpose (Refused r) named e s =
     in_meeting (method_said method) named (subst (λ (m : Option events.Method). MeetingFault object m r.number) (ap method_read e ∙ read_for method) s)
 
 -- its numbers
-pub meeting_numbers : (method : Method) (purpose : Purpose) (f : Fault) → purpose ≡ purpose_of method → RefusesOnly (is_meeting_fault_for purpose) f → RefusesOnly is_message_fault f
-meeting_numbers method purpose Memory e h = tt
-meeting_numbers method purpose (Refused r) e h = wider method r.number (subst (λ p. is_meeting_fault_for p r.number ≡ true) e h)
+pub meeting_numbers : (f : Fault) → RefusesOnly is_components_fault f → RefusesOnly is_message_fault f
+meeting_numbers Memory h = tt
+meeting_numbers (Refused r) h =
+    wide (is_object_fault r.number) (is_meeting_event_fault r.number) (is_between 53 54 r.number) (eqb r.number 60) (eqb r.number 62) (eqb r.number 66) (is_unread r.number) h
   where
-    wide : (object event unread two one none method_ : Bool) → ((event || unread) || two || one || none) ≡ true → (object || event || two || method_ || one || none || unread) ≡ true
-    wide true event unread two one none method_ h = refl
-    wide false true unread two one none method_ h = refl
-    wide false false unread true one none method_ h = refl
-    wide false false unread false one none true h = refl
-    wide false false unread false true none false h = refl
-    wide false false unread false false true false h = refl
-    wide false false true false false false false h = refl
-    wide false false false false false false false h = absurd (true≢false (sym h))
-
-    of_both : (n : ℕ) → ((is_meeting_event_fault n || (is_unread n && true)) || is_between 53 54 n || eqb n 62 || eqb n 66) ≡ true → is_message_fault n ≡ true
-    of_both n h =
-        wide (is_object_fault n) (is_meeting_event_fault n) (is_unread n) (is_between 53 54 n) (eqb n 62) (eqb n 66) (eqb n 60)
-        (sym (ap (λ b. (is_meeting_event_fault n || b) || is_between 53 54 n || eqb n 62 || eqb n 66) (with_true (is_unread n))) ∙ h)
-      where
-        with_true : (b : Bool) → (b && true) ≡ b
-        with_true true = refl
-        with_true false = refl
-
-    wider : (method : Method) (n : ℕ) → is_meeting_fault_for (purpose_of method) n ≡ true → is_message_fault n ≡ true
-    wider Request n h = of_both n h
-    wider Add n h = of_both n h
-    wider Cancel n h = of_both n h
-
--- what isn't read yet is a fault
-pub unread_stands : (object : Tree) (vs : List Lines) (f : Fault) → vevents object ≡ vs → RefusesBy (λ n. (n ≡ 99) × (list_any (has_unread_for purposes.Request) vs ≡ true)) f
-    → RefusesBy (MessageFault object) f
-unread_stands object vs Memory e s = tt
-unread_stands object vs (Refused r) e s = subst (MessageFault object) (sym s.0) (not_yet (ap (list_any has_unread) e ∙ s.1))
+    wide : (object event two method_ one none unread : Bool) → (event || two || one || none) ≡ true → (object || event || two || method_ || one || none || unread) ≡ true
+    wide true event two method_ one none unread h = refl
+    wide false true two method_ one none unread h = refl
+    wide false false true method_ one none unread h = refl
+    wide false false false true one none unread h = refl
+    wide false false false false true none unread h = refl
+    wide false false false false false true unread h = refl
+    wide false false false false false false unread h = absurd (true≢false (sym h))
 
 -- the object says the message
-pub message_said : (object : Tree) (own : Lines) (vs : List Lines) (method : Method) (purpose : Purpose) (meeting : Meeting) → tree_own object ≡ own → vevents object ≡ vs → NamesMethod own (method_said method)
-    → purpose ≡ purpose_of method → list_any (has_unread_for purpose) vs ≡ false → SaysMeeting object (method_read purpose) meeting → SaysMessage object (record { method = method_said method; meeting = meeting })
-message_said object own vs method purpose meeting mine inner named e read says = record {
+pub message_said : (object : Tree) (own : Lines) (method : Method) (purpose : Purpose) (meeting : Meeting) → tree_own object ≡ own → NamesMethod own (method_said method)
+    → purpose ≡ purpose_of method → SaysMeeting object (method_read purpose) meeting → SaysMessage object (record { method = method_said method; meeting = meeting })
+message_said object own method purpose meeting mine named e says = record {
   method = subst (λ (x : Lines). NamesMethod x (method_said method)) (sym mine) named;
-  read = ap (list_any has_unread) inner ∙ all_read method purpose vs e read;
   says = in_message object method purpose meeting e says;
 }
 
@@ -315,6 +286,19 @@ module _ (room : List ℕ) (message : Message) (said : profile.Message) (s : Sta
     each = subst (λ (ps : List revisions.Part). AllZip IsPartOf (filter (is_part_for room said.method) s.events) ps) (sym are)
         (parts_zip (filter (is_part_for room said.method) s.events) (filter (has_part room message) message.components.items) kept_among kept_components);
   }
+
+-- ---- series
+
+-- what has a series is the whole meeting
+pub series_of_whole : (method : events.Method) (whole : Option revisions.Revision) (event : Event) (component : MessageComponent) → SaysComponent method whole event component
+    → (series : Series) → component.series ≡ Some series → slot_of component.slot ≡ revisions.Whole
+series_of_whole method whole event component s series is =
+    let of : IsSeriesOf event (series_said series) = subst (λ (o : Option Series). MatchOption o (has_series event ≡ false) (λ x. IsSeriesOf event (series_said x))) is s.series in
+    s.slot ∙ unnamed event.recurrence (and_parts (not (is_some event.recurrence)) (is_some event.rule) of.has).0
+  where
+    unnamed : (r : Option ℤ) → not (is_some r) ≡ true → profile.slot_named r ≡ revisions.Whole
+    unnamed None h = refl
+    unnamed (Some t) h = absurd (true≢false (sym h))
 
 -- ---- the loop over the components
 

@@ -12,7 +12,7 @@ use Rattle.profile.specs.text.Objects.{SpellsTree, IsObject, has_version, lines_
 use Rattle.profile.specs.text.Trees.{Tree, tree_name, tree_own, tree_inside}
 use Rattle.profile.specs.events.Events.{Method, Request, Add, Cancel, Event, SaysEvent, EventFault}
 use Rattle.profile.specs.events.Meetings.{SaysMeeting, MeetingFault}
-use Rattle.profile.specs.rooms.Messages.{Message, method_word, NamesMethod, SaysMessage, SpellsMessage, MethodFault, two_methods, bad_method, unread_method, no_method, MessageFault, in_method, in_meeting, not_yet, is_unread_method, is_method}
+use Rattle.profile.specs.rooms.Messages.{Message, method_word, NamesMethod, SaysMessage, SpellsMessage, MethodFault, two_methods, bad_method, unread_method, no_method, MessageFault, in_method, in_meeting, is_unread_method, is_method}
 use Rattle.cal_events.proofs.OneMeeting.{no_meeting_fault, one_said as one_meeting}
 use Rattle.profile.specs.streams.Streams.{ObjectFault}
 
@@ -102,7 +102,6 @@ no_message_fault one sound object a n s (in_method h) = no_method_fault (tree_ow
 no_message_fault one sound object a n s (in_meeting method named h) =
     let same = one_method (tree_own object) method a.method named s.method in
     no_meeting_fault one sound object (Some a.method) a.meeting n s.says (subst (λ (m : Method). MeetingFault object (Some m) n) same h)
-no_message_fault one sound object a n s (not_yet h) = true≢false (sym h ∙ s.read)
 
 -- ---- octets
 

@@ -12,7 +12,7 @@ use Rattle.profile.specs.series.Rules.{Parts, RuleText, Until, UntilDay, UntilLo
 use Rattle.profile.specs.series.RuleTexts.{HandsIn, IsGiven, SaysOr, SpellsRule, SpellsUntil, as_written, rule_text, values_of}
 use Rattle.profile.specs.series.Zones.{IsLastDay, IsOneMeaning, Zone}
 use Rattle.profile.specs.events.Properties.{BothOrNeither, first_second}
-use Rattle.profile.specs.events.EventRules.{GivesRule, IsLastAllowed, IsRuleLine, SaysEventRule, as_end}
+use Rattle.profile.specs.events.EventRules.{GivesRule, IsLastAllowed, SaysEventRule, as_end}
 use Rattle.profile.specs.events.ZonedTimes.{EventTimes}
 use Rattle.profile.specs.rooms.Messages.{WritesEnd, WritesRule}
 use Rattle.ical_values.proofs.Readings.{stamp_written}
@@ -21,6 +21,7 @@ use Rattle.cal_rules.proofs.OneRule.{is_allowed}
 use Rattle.cal_rules.proofs.SameDays.{same_days}
 use Rattle.cal_days.proofs.Dates.{named, year_ends}
 use Rattle.cal_zones.proofs.OneDay.{year_start_grows}
+use Rattle.cal_events.proofs.SaidRules.{rule_found}
 use Rattle.itip_messages.specs.Bodies.{EndIsTold, IsTold}
 use Rattle.itip_messages.proofs.WrittenOctets.{is_early, rule_text_early}
 
@@ -121,11 +122,6 @@ told (value ∷ []) (Some until) s end e = subst IsTold (same_Some until end e) 
 told (value ∷ other ∷ values) until s end e = absurd s
 
 pub rule_told : (lines : List (List ℕ)) (times : EventTimes) (rule : Option Parts) → SaysEventRule lines times rule → EndIsTold rule
-rule_told lines times rule s said is end e = go s.line rule s.is is
-  where
-    go : (line : Option (List ℕ)) (rule : Option Parts) → BothOrNeither (IsRuleLine times) line rule → rule ≡ Some said → IsTold end
-    go None None b i = absurd (true≢false (ap (λ (o : Option Parts). elim o [ None ↦ true | Some _ ↦ false ]) i))
-    go None (Some r) b i = absurd b
-    go (Some l) None b i = absurd b
-    go (Some l) (Some r) (text, spelled, g) i =
-        told (values_of (codes "UNTIL=") (line_value l)) text.until spelled.says.until end (sym (ap (λ (p : Parts). p.until) g.is) ∙ ap (λ (p : Parts). p.until) (same_Some r said i) ∙ e)
+rule_told lines times rule s said is end e =
+    let found = rule_found lines times rule s said is in
+    told (values_of (codes "UNTIL=") (line_value found.line)) found.text.until found.spelled.says.until end (sym (ap (λ (p : Parts). p.until) found.gives.is) ∙ e)

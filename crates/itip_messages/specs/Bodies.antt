@@ -1,5 +1,5 @@
 -- What the octets of a body are.
-use Rattle.std.specs.Prelude.{◌≡◌, ℕ, ◌≤◌, ◌-◌, Bool, ◌&&◌, ◌==◌, nat_lt, get_or, if◌then◌else◌, Contains, List, [], ◌∷◌, ◌++◌, codes, take, drop, length, option_map, unwrap_or, Option, None, Some, ℤ, pos, ◌≤ℤ◌}
+use Rattle.std.specs.Prelude.{◌≡◌, ℕ, ◌≤◌, ◌-◌, Bool, ◌&&◌, ◌==◌, nat_lt, get_or, if◌then◌else◌, Contains, List, [], ◌∷◌, ◌++◌, codes, take, drop, length, option_map, unwrap_or, Option, Some, ℤ, pos, ◌≤ℤ◌}
 use Rattle.std.specs.List.{flat_map, AllZip, position_or_len}
 use Rattle.profile.specs.text.Values.{WritesStamp}
 use Rattle.profile.specs.events.Properties.{BothOrNeither}
@@ -73,9 +73,9 @@ IsTold (UntilInstant instant) = Unit {0}
 abbrev pub EndIsTold : Option Parts → Type 0
 EndIsTold rule = (said : Parts) → rule ≡ Some said → (end : Until) → said.until ≡ Some end → IsTold end
 
--- what a message's VEVENT says of when its event is: it has no rule, and all its instants lie in the dates that an event may name
+-- what a message's VEVENT says of when its event is: the end of its rule can be written, and its start and all that is added lie in the
+-- dates that an event may name
 pub record IsReady (event : Event) : Type 0 where
-  pub once : event.rule ≡ None
   pub ends : EndIsTold event.rule
   pub timely : IsTimely event
   pub listed : (instant : ℤ) → Contains event.additions instant → IsNamed instant

@@ -1,14 +1,13 @@
 -- What a message that was read stands for, and the parts of it.
-use Rattle.std.specs.Prelude.{◌≡◌, ◌≢◌, ℕ, ◌<◌, ◌⊎◌, ◌||◌, ◌&&◌, ◌==◌, Bool, true, false, List, [], length, map, filter, Contains, All, AllPairs, Option, Some, is_some, option_map, if◌then◌else◌}
+use Rattle.std.specs.Prelude.{◌≡◌, ◌≢◌, ℕ, ◌<◌, ◌⊎◌, ◌||◌, ◌&&◌, ◌==◌, Bool, true, false, List, [], length, map, filter, Contains, All, AllPairs, MatchOption, Option, Some, is_some, option_map, if◌then◌else◌}
 use Rattle.ical_lines.specs.Fault.{RefusesBy}
 use Rattle.std.specs.List.{list_any, AllZip}
 use Rattle.std.specs.Str.{bytes_eq}
 use Rattle.profile.specs.text.Trees.{Tree}
 use Rattle.profile.specs.events.Events.{Event}
-use Rattle.profile.specs.events.Properties.{first_second}
-use Rattle.profile.specs.events.Starts.{AreInstancesFrom}
-use Rattle.profile.specs.events.Confirmed.{alone}
+use Rattle.profile.specs.events.Confirmed.{AreApart, has_series}
 use Rattle.cal_events.specs.OwnInstances.{booked_at}
+use Rattle.cal_events.specs.SaidSeries.{IsSeriesOf, series_said}
 use Rattle.itip_messages.specs.Bodies.{IsCanonical, IsReady}
 use Rattle.profile.specs.rooms.Messages as profile
 use Rattle.profile.specs.rooms.Messages.{IsContent, canonical, cancels, is_cancel, raised_to, own_revision, AreBySlot, SaysMessage, SpellsMessage, MessageTextFault, is_method, is_unread_method}
@@ -56,7 +55,8 @@ pub record SaysComponent (method : events.Method) (whole : Option revisions.Revi
   pub dated : IsDated (profile.slot_of event)
   pub revision : revision_of component.revision ≡ raised_to whole (own_revision event)
   pub ready : IsReady event
-  pub singles : AreInstancesFrom (alone event) first_second (map (booked_at event) component.singles.items)
+  pub singles : AreApart event (map (booked_at event) component.singles.items)
+  pub series : MatchOption component.series (has_series event ≡ false) (λ series. IsSeriesOf event (series_said series))
   pub cancelled : component.cancelled ≡ cancels method event
   pub canonical : IsCanonical component.canonical.items event
   pub attendees : component.attendees ≡ event.attendees

@@ -20,7 +20,7 @@ ghost use Rattle.itip_messages.specs.Messages.{IsDated, IsMessageOf, IsOfMessage
 
 use crate::attendees::Attendees;
 use crate::body::canonical_body;
-use cal_events::{EventComponent, MeetingComponents, Purpose, Single, refuse_unread_events};
+use cal_events::{EventComponent, MeetingComponents, Purpose, Series, Single};
 use ical_lines::{Fault, Limits, Line, Refusal, Unfolded};
 use ical_tree::{Component, Properties, read_object};
 use ical_values::{Address, Text};
@@ -113,8 +113,10 @@ pub struct MessageComponent {
     pub slot: Slot,
     /// SEQUENCE and DTSTAMP, or those of the whole meeting in the message, if they are later.
     pub revision: Revision,
-    /// Its instances by start, each once, whichever of them other components stand for.
+    /// Its instances that its RRULE doesn't give, by start, each once, whichever of them other components stand for.
     pub singles: Vec<Single>,
+    /// Those that it gives, likewise; None where it has no RRULE, or stands for one instance. It is made once for all rooms.
+    pub series: Option<Series>,
     /// Whether it isn't to take place: METHOD is CANCEL, or its STATUS is CANCELLED (RFC 5545 3.8.1.11).
     pub cancelled: bool,
     /// The body in its one form, and its VTIMEZONE behind it: two bodies are the same where these octets are.
@@ -140,12 +142,14 @@ impl MessageComponent {
         let slot = slot_in(&event);
         let revision = raised(whole, own_revision(&event));
         let singles = event.singles(alloc)?;
+        let series = event.series(alloc)?;
         let cancelled = method.cancels(&event);
         let attendees = Attendees::of(alloc, event.attendees)?;
         Ok(MessageComponent {
             slot,
             revision,
             singles,
+            series,
             cancelled,
             canonical,
             attendees,
@@ -178,9 +182,9 @@ pub struct Message {
 
 impl Message {
     /// Reads a message.
-    /// Refused: 1 to 6 and 20 to 25 for the object, 99 for what isn't read yet, 60 for another METHOD or two, 66
-    /// without a VEVENT, 10 to 16, 40 to 43, 50 to 52, 55, 56, 61, 63, 65 and 67 for a VEVENT, 62 for two meetings, 53 for two
-    /// VEVENTs without RECURRENCE-ID, 54 for two of one instance.
+    /// Refused: 1 to 6 and 20 to 25 for the object, 99 for a METHOD that isn't read yet or none, 60 for another one or two, 66
+    /// without a VEVENT, 10 to 16, 30 to 34, 40 to 43, 50 to 52, 55, 56, 61, 63, 65 and 67 for a VEVENT, 62 for two meetings, 53 for
+    /// two VEVENTs without RECURRENCE-ID, 54 for two of one instance.
     pub fn read(alloc: Global, bytes: &[u8]) -> Result<Message, Fault>
         ensures spells { IfOk result (IsSpelled bytes.now) }
         ensures refuses { IfErr result (RefusesOnly is_message_fault) }
@@ -194,22 +198,6 @@ impl Message {
     /// The message that an object is.
     /// Refused: as by `read`, but for the object.
     pub fn of_object(alloc: Global, object: &Component) -> Result<Message, Fault>
-        ensures says { IfOk result (IsMessageOf (tree_of object.now)) }
-        ensures refuses { IfErr result (RefusesOnly is_message_fault) }
-        ensures stands { IfErr result (RefusesBy (MessageFault (tree_of object.now))) }
-    {
-        match Message::of_readable(alloc, object) {
-            Ok(message) => Ok(message),
-            Err(fault) => {
-                // what isn't read yet goes before any other fault
-                refuse_unread_events(alloc, object, Purpose::Request)?;
-                Err(fault)
-            }
-        }
-    }
-
-    /// The same, where any fault may go before what isn't read yet.
-    fn of_readable(alloc: Global, object: &Component) -> Result<Message, Fault>
         ensures says { IfOk result (IsMessageOf (tree_of object.now)) }
         ensures refuses { IfErr result (RefusesOnly is_message_fault) }
         ensures stands { IfErr result (RefusesBy (MessageFault (tree_of object.now))) }

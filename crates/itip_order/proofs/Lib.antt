@@ -9,3 +9,4 @@ pub mod Steps
 pub mod Orders
 pub mod Lasting
 pub mod Joined
+pub mod SlotsOf

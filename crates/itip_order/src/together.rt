@@ -1,6 +1,6 @@
 //! Registers in which parts are looked up: those of one value, or of two together, without a copy.
 
-ghost use Rattle.std.specs.Prelude.{◌≡◌, Contains, List, IsTrue, IfOk, IfErr, IfSome, IfNone};
+ghost use Rattle.std.specs.Prelude.{◌≡◌, ◌++◌, Contains, List, map, IsTrue, IfOk, IfErr, IfSome, IfNone, OnOk};
 ghost use Rattle.std.specs.declared.cmp.Ordering.TheVariants.{Equal};
 ghost use Rattle.itip_order.specs.Parts.{part_of, parts_of, slot_of};
 ghost use Rattle.itip_order.specs.Registers.{is_ascending, is_allowed_by, at_slot, StandsFor, IsAt, IsGap, IsInView, HasNone, IsRegister};
@@ -8,6 +8,7 @@ ghost use Rattle.itip_order.specs.Registers.{HasNoRegister};
 ghost use Rattle.profile.specs.rooms.Revisions as revisions;
 
 use crate::part::{Body, Part, Slot};
+use std::alloc::{AllocError, Global};
 use std::cmp::Ordering;
 use std::marker::Model;
 
@@ -71,6 +72,17 @@ impl<'a> Together<'a> {
         Some(found)
     }
 
+    /// The slots of all parts that are held, in no order; one of which both values took parts comes twice.
+    pub fn slots(&self, alloc: Global) -> Result<Vec<Slot>, AllocError>
+        ensures { IfOk result (λ slots. (part : revisions.Part) → Contains self.now part → Contains (map slot_of slots.items) part.slot) }
+    {
+        let _ = &self.first;
+        let mut slots = Vec::new(alloc);
+        push_slots(&mut slots, self.first)?;
+        push_slots(&mut slots, self.second)?;
+        Ok(slots)
+    }
+
     /// The Whole of its meeting leaves the part in the view.
     pub(crate) fn allows(&self, part: &Part) -> bool
         ensures { result ≡ is_allowed_by self.now (part_of part.now) }
@@ -101,6 +113,16 @@ impl<'a> Together<'a> {
         }
         Some(second)
     }
+}
+
+/// Puts the slots of registers behind others.
+fn push_slots(slots: &mut Vec<Slot>, registers: &[Part]) -> Result<(), AllocError>
+    ensures { OnOk result (map slot_of slots.new.items ≡ map slot_of slots.old.items ++ map (λ part. slot_of part.slot) registers.now) }
+{
+    for register in registers {
+        slots.push(register.slot)?;
+    }
+    Ok(())
 }
 
 /// The register of a slot of the part's meeting.

@@ -1,7 +1,7 @@
 -- Worked examples of definitions, computed. Those of the other files stand beside the crates that meet them: Lines in ical_lines,
 -- Objects in ical_tree, Days and Values in cal_days and ical_values, Instances in cal_events, Certificates in clash_cert,
 -- Revisions in itip_order, Messages in itip_messages, Rooms in room_books.
-use Rattle.std.proofs.Common.{decimal, ◌≡◌, ◌<◌, ◌∙◌, ℕ, zero, suc, pos, negsuc, true, false, List, [], ◌∷◌, ◌++◌, Some, None, refl, codes, ap, arith, get_or, lit<}
+use Rattle.std.proofs.Common.{decimal, ◌≡◌, ◌<◌, ◌∙◌, ℕ, ℤ, zero, suc, pos, negsuc, true, false, List, [], ◌∷◌, ◌++◌, Some, None, refl, codes, length, ap, arith, get_or, lit<}
 use Rattle.std.proofs.lemmas.Bool.{false≢true}
 use Rattle.std.proofs.lemmas.Fmt.{decimal_digit}
 use Rattle.profile.specs.faults.Faults.{is_event_fault, is_calendar_fault, is_message_fault}
@@ -11,9 +11,10 @@ use Rattle.profile.specs.text.Trees.{Tree, tree, none, more, vevents}
 use Rattle.profile.specs.events.Events.{Method, Request, Add, Cancel, may_lack_start, Event, Participation, Accepted, Declined, NeedsAction, answer_named, answer_of}
 use Rattle.profile.specs.events.Properties.{lines_named}
 use Rattle.profile.specs.rooms.Revisions.{Part, Whole, At, Set, Absent, Cancelled, same_meeting}
-use Rattle.profile.specs.events.Meetings.{taken_by}
-use Rattle.profile.specs.rooms.Messages.{Accept, SinglesLimit, Message, MethodFault, no_method, has_unread, no_content, list_lines, is_in_dates, cancels, is_addressed, parts_for, revision_beside, IsBody, object_lines, word}
-use Rattle.profile.specs.rooms.Rooms.{Answer, Book, Claim, empty_book, is_confirmed, wants_whole}
+use Rattle.profile.specs.events.Meetings.{Meeting, taken_by}
+use Rattle.profile.specs.rooms.Messages.{Accept, SinglesLimit, Message, MethodFault, no_method, no_content, list_lines, is_in_dates, cancels, is_addressed, parts_for, revision_beside, IsBody, object_lines, word}
+use Rattle.profile.specs.checker.Instances.{Booked}
+use Rattle.profile.specs.rooms.Rooms.{Answer, Book, Claim, confirmed_singles, confirmed_series, empty_book, is_confirmed, is_hidden, wants_whole}
 use Rattle.profile.specs.rooms.Kept.{IsKept, kept_certificate, first_parts, each_once, renamed}
 use Rattle.profile.specs.streams.Streams.{Now, Room, moments, rooms, refused_line, AreObjects}
 
@@ -98,12 +99,6 @@ another_room_has_nothing : answer_of (codes "r:2") (event_with Accepted Accepted
 another_room_has_nothing = refl
 
 -- ---- messages
-
-a_rule_is_unread : has_unread (codes "DTSTART:20250310T090000Z" ∷ codes "RRULE:FREQ=DAILY" ∷ []) ≡ true
-a_rule_is_unread = refl
-
-a_list_in_a_zone_is_read : has_unread (codes "DTSTART;TZID=Z:20250310T090000" ∷ codes "RDATE;TZID=Z:20250311T090000" ∷ []) ≡ false
-a_list_in_a_zone_is_read = refl
 
 a_cancel_may_lack_its_start : may_lack_start (Some Cancel) ≡ true
 a_cancel_may_lack_its_start = refl
@@ -232,7 +227,7 @@ part_of uid sequence = record {
 }
 
 abbrev claim_of : List ℕ → ℕ → Claim
-claim_of uid sequence = record { part = part_of uid sequence; content = record { lines = codes "DTSTART:19700101T000000Z" ∷ codes "DURATION:PT1S" ∷ []; zone = None }; singles = record { key = record { organiser = codes "o:1"; uid = uid; slot = pos 0 }; start = pos 0; end = pos 1 } ∷ [] }
+claim_of uid sequence = record { part = part_of uid sequence; content = record { lines = codes "DTSTART:19700101T000000Z" ∷ codes "DURATION:PT1S" ∷ []; zone = None }; singles = record { key = record { organiser = codes "o:1"; uid = uid; slot = pos 0 }; start = pos 0; end = pos 1 } ∷ []; series = None }
 
 -- b came first and was declined; a was accepted
 abbrev two_meetings : Book
@@ -288,6 +283,38 @@ nor_where_it_was_cancelled = refl
 
 that_of_another_meeting_is_none : wants_whole true (part_of (codes "b") 0 ∷ []) (part_of (codes "b") 0 ∷ instance_part ∷ []) (instance_claim ∷ []) ≡ true
 that_of_another_meeting_is_none = refl
+
+-- ---- a series in a room
+
+abbrev no_meeting : Meeting
+no_meeting = record { master = None; overrides = [] }
+
+-- an instance of the meeting a that is cancelled
+abbrev cancelled_at : ℤ → Part
+cancelled_at t = record (part_of (codes "a") 1) { slot = At t; body = Cancelled }
+
+-- a series was accepted; these parts were taken with it
+abbrev one_series : List Part → Book
+one_series taken = record {
+  taken = part_of (codes "a") 0 ∷ taken;
+  answers = record { claim = record (claim_of (codes "a") 0) { singles = []; series = Some no_meeting }; moment = pos 9; outcome = Accept } ∷ [];
+}
+
+its_instances_are_no_singles : confirmed_singles (one_series []) ≡ []
+its_instances_are_no_singles = refl
+
+-- an instance of it that another part hides is still one of a series, and the series counts
+it_counts : length (confirmed_series (one_series (cancelled_at (pos 0) ∷ []))) ≡ 1
+it_counts = refl
+
+abbrev booked_at : ℕ → Booked
+booked_at n = record { key = record { organiser = codes "o:1"; uid = codes "a"; slot = pos n }; start = pos n; end = pos (suc n) }
+
+one_is_hidden : is_hidden (one_series (cancelled_at (pos 9) ∷ [])).taken (part_of (codes "a") 0) (booked_at 9) ≡ true
+one_is_hidden = refl
+
+another_is_not : is_hidden (one_series (cancelled_at (pos 9) ∷ [])).taken (part_of (codes "a") 0) (booked_at 0) ≡ false
+another_is_not = refl
 
 one_single : kept_certificate two_meetings ≡ codes "ROOMCERT 1\nSINGLES 1\nSERIES 0\nDONE\n"
 one_single =

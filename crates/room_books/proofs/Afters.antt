@@ -1,5 +1,5 @@
 -- A meeting after a message, where it was the meeting of its own book before.
-use Rattle.std.proofs.Common.{◌≡◌, ℤ, true, not, ◌&&◌, List, [], ◌∷◌, ◌++◌, Option, None, Some, inl, inr, sym, subst}
+use Rattle.std.proofs.Common.{◌≡◌, ℤ, true, not, ◌&&◌, List, [], ◌∷◌, ◌++◌, Option, None, Some, inl, inr, refl, sym, subst}
 use Rattle.std.specs.List.{AllZip, Contains, filter}
 use Rattle.std.proofs.lemmas.Bool.{and_from, both_ways, cases_Bool, not_from_false}
 use Rattle.std.proofs.lemmas.List.Elements.{Contains-append_left, Contains-append_right, Contains-append_cases}
@@ -11,7 +11,9 @@ use Rattle.profile.specs.checker.Instances.{Booked, Key}
 use Rattle.profile.specs.text.Values.{IsClockSeconds}
 use Rattle.profile.specs.rooms.Messages.{Outcome, Accept, Busy, SeriesLimit, SinglesLimit}
 use Rattle.profile.specs.rooms.Revisions.{Part, in_view}
-use Rattle.profile.specs.rooms.Rooms.{Answer, Book, Claim, Decides, is_confirmed, is_hidden, is_fresh, is_set, left_of, confirmed_in, parts_of, asked, answered}
+use Rattle.profile.specs.rooms.Rooms.{Answer, Book, Claim, Confirms, Decides, IsLeftOf, is_confirmed, is_hidden, is_fresh, is_set, left_of, recurring_in, singles_confirmed, series_confirmed, parts_of, asked, answered}
+use Rattle.profile.specs.events.Meetings.{Meeting as Whole}
+use Rattle.profile.specs.events.Starts.{IsInstance}
 use Rattle.room_books.specs.declared.meeting.MeetingKey.{MeetingKey}
 use Rattle.room_books.specs.declared.kept.Meeting.{Meeting}
 use Rattle.cal_events.specs.declared.instance.Single.{Single}
@@ -25,26 +27,33 @@ use Rattle.room_books.proofs.Givens.{given_from, given_reordered, given_to}
 use Rattle.room_books.proofs.OwnSteps.{answer_to, stayed, given_after}
 use Rattle.room_books.proofs.Pairs.{flat_at, map_at, map_from}
 use Rattle.room_books.proofs.Places.{booked_from}
+use Rattle.room_books.proofs.SlotsApart.{has_series}
 use Rattle.room_books.proofs.Views.{view_back}
 
 -- ---- instants that can be written
 
 -- what is confirmed was asked for
-pub confirmed_asked : (t : List Part) (xs : List Answer) (b : Booked) → Contains (confirmed_in t xs) b → (a : Answer) × Contains xs a × Contains a.claim.singles b
+pub confirmed_asked : (t : List Part) (xs : List Answer) (b : Booked) → Contains (singles_confirmed t xs) b → (a : Answer) × Contains xs a × Contains a.claim.singles b
 confirmed_asked t xs b c =
     let found = flat_at (left_of t) (filter (is_confirmed t) xs) b c in
     (found.0, (filter_at (is_confirmed t) xs found.0 found.1).0, (filter_at (λ z. not (is_hidden t found.0.claim.part z)) found.0.claim.singles b found.2).0)
 
-pub outcome_dated : (all : List Booked) (outcome : Outcome) → ((b : Booked) → Contains all b → IsClockSeconds b.start × IsClockSeconds b.key.slot) → Decides all outcome → OutcomeDated outcome
-outcome_dated all Accept h d = tt
-outcome_dated all (Busy a b t) h d =
+-- and so was what recurs
+pub recurring_asked : (k : MeetingKey) (t : List Part) (xs : List Answer) (b : Booked) → IsLeftOf t (series_confirmed t xs) b → (a : Answer) × (series : Whole) × Contains xs a × (a.claim.series ≡ Some series) × IsInstance series b
+recurring_asked k t xs b l =
+    let found = flat_at recurring_in (filter (is_confirmed t) xs) l.series l.among in
+    (found.0, l.series.meeting, (filter_at (is_confirmed t) xs found.0 found.1).0, has_series k t found.0 l.series found.0.claim.series refl found.2, l.is)
+
+pub outcome_dated : (book : Book) (outcome : Outcome) → ((b : Booked) → Confirms book b → IsClockSeconds b.start × IsClockSeconds b.key.slot) → Decides book outcome → OutcomeDated outcome
+outcome_dated book Accept h d = tt
+outcome_dated book (Busy a b t) h d =
     let n = d.1 in (
-      subst IsClockSeconds (sym n.later) (h n.b n.clash.second).0,
-      subst (λ (key : Key). IsClockSeconds key.slot) n.first_is (h n.a n.clash.first).1,
-      subst (λ (key : Key). IsClockSeconds key.slot) n.second_is (h n.b n.clash.second).1,
+      subst IsClockSeconds (sym n.later) (h n.b n.of_second).0,
+      subst (λ (key : Key). IsClockSeconds key.slot) n.first_is (h n.a n.of_first).1,
+      subst (λ (key : Key). IsClockSeconds key.slot) n.second_is (h n.b n.of_second).1,
     )
-outcome_dated all SeriesLimit h d = tt
-outcome_dated all SinglesLimit h d = tt
+outcome_dated book SeriesLimit h d = tt
+outcome_dated book SinglesLimit h d = tt
 
 given_dated : (k : MeetingKey) (t : List Part) (a : Answer) (given : Given) → IsGiven k t a given → IsFitting a.claim → OutcomeDated a.outcome → IsDated given
 given_dated k t a given g fit dated =

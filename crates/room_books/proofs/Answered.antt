@@ -4,14 +4,14 @@ use Rattle.std.specs.List.Sorted.{IsPermutation}
 use Rattle.std.proofs.lemmas.Grind.{flat_map-append}
 use denote.Ref.{Bor}
 use Rattle.itip_order.specs.declared.part.Slot.{Slot as OwnSlot}
-use Rattle.profile.specs.checker.Instances.{Booked}
+use Rattle.profile.specs.events.Confirmed.{Confirmed}
 use Rattle.profile.specs.rooms.Revisions.{Part}
 use Rattle.cal_events.specs.declared.instance.Single.{Single}
 use Rattle.room_books.specs.declared.kept.Changes.{Changes}
 use Rattle.room_books.specs.declared.meeting.MeetingKey.{MeetingKey}
 use Rattle.room_books.specs.declared.meeting.Given.{Given}
 use Rattle.room_books.specs.declared.meeting.Outcome.{Outcome}
-use Rattle.room_books.specs.declared.taking.Claim.{Claim}
+use Rattle.room_books.specs.declared.claim.Claim.{Claim}
 use Rattle.room_books.specs.BySlot.{Reordered, left_without}
 use Rattle.room_books.specs.BySlot.Reordered.{re_then}
 use Rattle.room_books.specs.Instants.{IsParted}
@@ -40,7 +40,7 @@ pub added_none : (now kept : List Given) (added : List Single) → Reordered kep
 added_none now kept added r e =
     added_parted now kept [] added (subst (λ (l : List Given). Reordered l now) (sym (append-nil kept)) r) e
 
-pub answered_reordered : (others : List Booked) (key : MeetingKey) (held : List Part) (moment : ℤ) (kept : List Given) (asked : List (Bor Claim)) (xs ys : List Given) (outcome : Option Outcome) → Reordered xs ys
+pub answered_reordered : (others : Confirmed) (key : MeetingKey) (held : List Part) (moment : ℤ) (kept : List Given) (asked : List (Bor Claim)) (xs ys : List Given) (outcome : Option Outcome) → Reordered xs ys
     → IsAnswered others key held moment kept asked xs outcome → IsAnswered others key held moment kept asked ys outcome
 answered_reordered others key held moment kept asked xs ys None r a = (a.0, re_then kept xs ys a.1 r)
 answered_reordered others key held moment kept asked xs ys (Some outcome) r a = (a.0, (a.1.0, a.1.1, a.1.2, a.1.3, a.1.4, re_then (kept ++ a.1.1) xs ys a.1.5 r))

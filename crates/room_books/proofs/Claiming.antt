@@ -1,6 +1,7 @@
 -- The claims of a message: at most one, of the part and the instance of its event.
-use Rattle.std.proofs.Common.{arith, ◌⊎◌, ◌<ℤ◌, ◌≤ℤ◌, ◌≡◌, ◌≢◌, ◌∙◌, ℕ, ℤ, ◌<◌, ◌+◌, Bool, true, false, cond, List, [], ◌∷◌, ◌++◌, take, length, get_or, map, Result, Ok, Err, IfOk, inl, inr, Option, None, Some, refl, sym, ap, subst}
-use Rattle.std.specs.Prelude.{slice_get, if◌then◌else◌, unwrap_or, option_map, All, AllPairs}
+use Rattle.std.proofs.Common.{arith, ◌⊎◌, ◌<ℤ◌, ◌≡◌, ◌≢◌, ◌∙◌, ℕ, ℤ, ◌<◌, ◌+◌, Bool, true, false, cond, List, [], ◌∷◌, ◌++◌, take, length, get_or, map, Result, Ok, Err, IfOk, inl, inr, Option, None, Some, refl, sym, ap, subst}
+use Rattle.std.specs.Prelude.{slice_get, if◌then◌else◌, ◌&&◌, not, is_some, unwrap_or, option_map, All, AllPairs, IfSome, MatchOption}
+use Rattle.std.proofs.lemmas.Bool.{and_parts, both_ways}
 use Rattle.std.specs.declared.cmp.Ordering.TheVariants.{Less, Equal}
 use Rattle.std.specs.List.{AllZip, Contains, filter, list_any}
 use Rattle.std.proofs.lemmas.Cmp.{tied_itself}
@@ -19,13 +20,14 @@ use Rattle.itip_order.proofs.Lists.{in_cons, in_head, in_tail, none_in_nil}
 use Rattle.itip_order.proofs.Order.{slot_total}
 use Rattle.profile.specs.checker.Instances.{Key, Booked}
 use Rattle.profile.specs.events.Events.{Event}
-use Rattle.profile.specs.events.Properties.{first_second}
-use Rattle.profile.specs.events.Starts.{AreInstancesFrom, ComesBefore, IsInstance, key_at}
-use Rattle.profile.specs.events.Confirmed.{alone}
+use Rattle.profile.specs.events.Starts.{ComesBefore, IsInstance, key_at}
+use Rattle.profile.specs.events.Confirmed.{alone, has_series, AreApart, AreOfRule, IsOfSeries}
+use Rattle.cal_events.specs.SaidSeries.{series_said, IsSeriesOf}
+use Rattle.cal_events.specs.declared.series.Series.{Series}
 use Rattle.cal_events.specs.OwnInstances.{booked_at, IsTimely}
 use Rattle.cal_events.proofs.OwnSingles.{master_alone, of_both, one_by_key, override_alone}
 use Rattle.itip_messages.proofs.BodyLemmas.{clock_named}
-use Rattle.profile.specs.events.Meetings.{events_of}
+use Rattle.profile.specs.events.Meetings.{Meeting as Recurs, events_of, is_master}
 use Rattle.profile.specs.rooms.Messages as profile
 use Rattle.profile.specs.rooms.Messages.{Content, IsPart, canonical, no_content, cancels, is_addressed, is_part_for, names_room, own_revision}
 use Rattle.profile.specs.rooms.Revisions.{Part, Slot, Body, Whole, At, Set, Absent, Cancelled, slot_cmp}
@@ -34,10 +36,10 @@ use Rattle.profile.specs.rooms.Rooms.{is_set}
 use Rattle.profile.specs.streams.Streams.{AsksFor, IsClaim}
 use Rattle.profile.specs.text.Values.{IsClockSeconds}
 use Rattle.cal_events.specs.declared.instance.Single.{Single}
-use Rattle.room_books.specs.declared.taking.Claim.{Claim}
-use Rattle.room_books.specs.Claiming.{IsClaimIn, AreClaimed}
+use Rattle.room_books.specs.declared.claim.Claim.{Claim}
+use Rattle.room_books.specs.Claiming.{series_asked, series_at, AreClaimed, IsClaimIn, IsSameSeries}
 use Rattle.room_books.specs.Takings.{body_content, booked_in, claim_said, claims_said}
-use Rattle.room_books.specs.Standing.{Pairwise, IsFitting, IsText, IsOfSlot, SlotDated}
+use Rattle.room_books.specs.Standing.{Pairwise, IsFitting, IsFittingSeries, IsText, IsOfSlot, SlotDated}
 use Rattle.room_books.proofs.Bodies.{body_of}
 use Rattle.room_books.proofs.Loops.{zip_push, one_more}
 use Rattle.room_books.proofs.Meetings.{is_of_from}
@@ -54,9 +56,9 @@ zip_more {X} {Y} R items all i x ys new y same h e is z r =
     subst (λ (l : List X). AllZip R (take (i + 1) l) new) same
     (subst (λ (l : List X). AllZip R l new) (sym (one_more items i x h e)) (subst (λ (l : List Y). AllZip R (take i items ++ x ∷ []) l) (sym is) (zip_push R (take i items) ys x y old r)))
 
--- what a part asks for with these instances
-abbrev said : Part → List Single → rooms.Claim
-said part singles = record { part = part; content = body_content part.body; singles = map (booked_in part) singles }
+-- what a part asks for with these instances and this series
+abbrev said : Part → List Single → Option Series → rooms.Claim
+said part singles series = record { part = part; content = body_content part.body; singles = map (booked_in part) singles; series = option_map series_said series }
 
 -- the first claim of a list is one of it
 pub first_in : (claims : List Claim) (claim : Claim) → Some claim ≡ slice_get claims 0 → Contains claims claim
@@ -119,7 +121,17 @@ module _ (event : Event) (timely : IsTimely event) (dated : IsDated (profile.slo
           }
 
   abbrev IsHere : Booked → Type 0
-  IsHere b = IsInstance (alone event) b × (first_second ≤ℤ b.start)
+  IsHere b = IsInstance (alone event) b × (IsOfSeries event b → ⊥)
+
+  one_slot : (a b : Booked) → IsInstance (alone event) a → IsInstance (alone event) b → a.key.slot ≡ b.key.slot → a ≡ b
+  one_slot a b h k same = one_by_key event a b timely.steady h k ((own_instance a h).key ∙ ap (key_at event) same ∙ sym (own_instance b k).key)
+
+  -- that of a master starts at its slot
+  own_start : (b : Booked) → is_master event ≡ true → IsInstance (alone event) b → b.key.slot ≡ b.start
+  own_start b master h = elim (of_both event) [
+    | inl e ↦ ap (λ (k : Key). k.slot) (master_alone event b e h).key
+    | inr o ↦ absurd (both_ways (is_master event) (ap (λ (r : Option ℤ). not (is_some r)) o.1) master)
+  ]
 
   -- no two have one slot
   own_apart : (own : List Booked) → All IsHere own → AllPairs ComesBefore own → Pairwise (λ (a b : Booked). a.key.slot ≢ b.key.slot) own
@@ -128,7 +140,7 @@ module _ (event : Event) (timely : IsTimely event) (dated : IsDated (profile.slo
     λ y c same.
         let here = All-contains IsHere (b ∷ bs) b h (in_head b bs) in
         let there = All-contains IsHere (b ∷ bs) y h (in_tail b bs y c) in
-        let one : b ≡ y = one_by_key event b y timely.steady here.0 there.0 ((own_instance b here.0).key ∙ ap (key_at event) same ∙ sym (own_instance y there.0).key) in
+        let one : b ≡ y = one_slot b y here.0 there.0 same in
         never_before_itself y (subst (λ (x : Booked). ComesBefore x y) one (head_pairs ComesBefore b y bs up c)),
     own_apart bs (All-tail IsHere b bs h) (tail_pairs ComesBefore b bs up),
   )
@@ -171,8 +183,8 @@ module _ (room : List ℕ) (message : Message) (given : profile.Message) (s : St
   abbrev asked_for : Bool → List Single
   asked_for b = if b then component.singles.items else []
 
-  asks : claim_said claim ≡ said part (asked_for (is_set part))
-  asks = λ i. said (x.part_is i) (x.singles i)
+  asks : claim_said claim ≡ said part (asked_for (is_set part)) claim.series
+  asks = λ i. said (x.part_is i) (x.singles i) claim.series
 
   booked_is : (single : Single) → booked_in part single ≡ booked_at event single
   booked_is single =
@@ -183,22 +195,42 @@ module _ (room : List ℕ) (message : Message) (given : profile.Message) (s : St
   all_booked [] = refl
   all_booked (y ∷ ys) = λ i. booked_is y i ∷ all_booked ys i
 
-  -- they are all that the event has by itself
-  are_all : AreInstancesFrom (alone event) first_second (map (booked_in part) component.singles.items)
-  are_all = subst (AreInstancesFrom (alone event) first_second) (sym (all_booked component.singles.items)) says.singles
+  -- they are all that the event has by itself, apart from its series
+  are_all : AreApart event (map (booked_in part) component.singles.items)
+  are_all = subst (AreApart event) (sym (all_booked component.singles.items)) says.singles
 
-  asks_for : (b : Bool) → AsksFor b event (map (booked_in part) (asked_for b))
-  asks_for true = are_all
-  asks_for false = refl
+  -- the event has the series of the component, which has one only where its part is of the whole
+  has_it : (o : Slot) → profile.slot_of event ≡ o → MatchOption (series_at o component.series) (has_series event ≡ false) (λ series. IsSeriesOf event (series_said series))
+  has_it Whole e = says.series
+  has_it (At t) e = none event.recurrence refl e
+    where
+      none : (r : Option ℤ) → event.recurrence ≡ r → profile.slot_named r ≡ At t → has_series event ≡ false
+      none None f g = absurd (cc)
+      none (Some u) f g = ap (λ (z : Option ℤ). not (is_some z) && is_some event.rule) f
+
+  same_rule : (o c : Option Series) → MatchOption o (has_series event ≡ false) (λ series. IsSeriesOf event (series_said series)) → IsSameSeries o c → AreOfRule event (option_map series_said c)
+  same_rule None None m same = m
+  same_rule None (Some c) m same = absurd same
+  same_rule (Some s) None m same = absurd same
+  same_rule (Some s) (Some c) m same = (m.has, λ b. ((λ h. (m.instances b).0 ((same b).0 h)), λ h. (same b).1 ((m.instances b).1 h)))
+
+  no_series : (c : Option Series) → IsSameSeries None c → option_map series_said c ≡ None
+  no_series None same = refl
+  no_series (Some c) same = absurd same
+
+  asks_for : (b : Bool) → IsSameSeries (if b then series_asked part component else None) claim.series → AsksFor b event (said part (asked_for b) claim.series)
+  asks_for true same = (are_all, same_rule (series_at part.slot component.series) claim.series (has_it part.slot (sym says.slot)) same)
+  asks_for false same = (refl, no_series claim.series same)
 
   pub is_claim : IsClaim room given event (claim_said claim)
   is_claim = subst (IsClaim room given event) (sym asks) (record {
     part = subst (λ (c : Content). IsPart room given event c part) (sym (content_is off named part.body body_there)) (part_said room message given s event component among says);
-    singles = asks_for (is_set part);
+    asks = asks_for (is_set part) x.series;
   })
 
-  fits_with : (singles : List Single) → ((y : Booked) → Contains (map (booked_in part) singles) y → IsOwn event y) → Pairwise (λ (a b : Booked). a.key.slot ≢ b.key.slot) (map (booked_in part) singles) → IsFitting (said part singles)
-  fits_with singles own apart = record {
+  fits_with : (singles : List Single) → ((y : Booked) → Contains (map (booked_in part) singles) y → IsOwn event y) → Pairwise (λ (a b : Booked). a.key.slot ≢ b.key.slot) (map (booked_in part) singles)
+      → IfSome (option_map series_said claim.series) (IsFittingSeries (said part singles claim.series)) → IsFitting (said part singles claim.series)
+  fits_with singles own apart recurs = record {
     content = refl;
     text = texts off named part.body body_there;
     organiser = λ y c. ap (λ (k : Key). k.organiser) (own y c).key ∙ ap (λ o. unwrap_or o []) (s.organiser event among);
@@ -207,17 +239,42 @@ module _ (room : List ℕ) (message : Message) (given : profile.Message) (s : St
     differ = apart;
     starts = λ y c. (own y c).start;
     slots = λ y c. (own y c).slot_at;
+    recurs = recurs;
   }
 
-  fits_by : (b : Bool) → IsFitting (said part (asked_for b))
-  fits_by false = fits_with [] (λ y c. absurd (none_in_nil y c)) tt
-  fits_by true =
+  -- an instance of the series is one of the event's, which is a master
+  fits_series : (o : Option Recurs) → AreOfRule event o → IfSome o (IsFittingSeries (said part component.singles.items claim.series))
+  fits_series None r = tt
+  fits_series (Some series) r =
+      let timely = says.ready.timely in
+      let here : (b : Booked) → IsInstance series b → IsInstance (alone event) b × IsOfSeries event b = λ b h. (r.1 b).0 h in
+      let own : (b : Booked) → IsInstance series b → IsOwn event b = λ b h. own_instance event timely says.dated b (here b h).0 in
+      let master : is_master event ≡ true = (and_parts (is_master event) (is_some event.rule) r.0).0 in
+      record {
+        whole = says.slot ∙ whole event.recurrence refl master;
+        organiser = λ b h. ap (λ (k : Key). k.organiser) (own b h).key ∙ ap (λ o. unwrap_or o []) (s.organiser event among);
+        uid = λ b h. ap (λ (k : Key). k.uid) (own b h).key ∙ sym (s.uid event among);
+        slot = λ b h. own_start event timely says.dated b master (here b h).0;
+        starts = λ b h. (own b h).start;
+        apart = λ a b c h same.
+            let single = All-contains (IsHere event timely says.dated) (map (booked_in part) component.singles.items) a are_all.each c in
+            single.1 (subst (IsOfSeries event) (sym (one_slot event timely says.dated a b single.0 (here b h).0 same)) (here b h).1);
+      }
+    where
+      whole : (r : Option ℤ) → event.recurrence ≡ r → is_master event ≡ true → profile.slot_of event ≡ Whole
+      whole None f g = ap profile.slot_named f
+      whole (Some t) f g = absurd (both_ways (is_master event) (ap (λ (z : Option ℤ). not (is_some z)) f) g)
+
+  fits_by : (b : Bool) → IsSameSeries (if b then series_asked part component else None) claim.series → IsFitting (said part (asked_for b) claim.series)
+  fits_by false same = fits_with [] (λ y c. absurd (none_in_nil y c)) tt (subst (λ (o : Option Recurs). IfSome o (IsFittingSeries (said part [] claim.series))) (sym (no_series claim.series same)) tt)
+  fits_by true same =
       let all = map (booked_in part) component.singles.items in
       let timely = says.ready.timely in
       fits_with component.singles.items (λ y c. own_instance event timely says.dated y (All-contains (IsHere event timely says.dated) all y are_all.each c).0) (own_apart event timely says.dated all are_all.each are_all.ordered)
+      (fits_series (option_map series_said claim.series) (same_rule (series_at part.slot component.series) claim.series (has_it part.slot (sym says.slot)) same))
 
   pub fits : IsFitting (claim_said claim)
-  fits = subst IsFitting (sym asks) (fits_by (is_set part))
+  fits = subst IsFitting (sym asks) (fits_by (is_set part) x.series)
 
   pub slot_there : (claim_said claim).part.slot ≡ profile.slot_of event
   slot_there = ap (λ (p : Part). p.slot) x.part_is ∙ says.slot

@@ -20,14 +20,15 @@ use Rattle.cal_events.specs.declared.sweep.Span.{Span}
 use Rattle.cal_events.specs.declared.sweep.Overlap.{Overlap as Found}
 use Rattle.profile.specs.checker.Instances.{Key, Booked, IsWithin, IsClear, key_cmp, booked_cmp}
 use Rattle.profile.specs.rooms.Messages as messages
-use Rattle.profile.specs.rooms.Rooms.{Decides, NamesClash, is_accept}
+use Rattle.profile.specs.rooms.Rooms as rooms
+use Rattle.profile.specs.rooms.Rooms.{is_accept}
 use Rattle.std.specs.Map.{lookup, keys_of}
 use Rattle.room_books.specs.declared.meeting.MeetingKey.{MeetingKey}
 use Rattle.cal_events.specs.declared.instance.Single.{Single}
 use Rattle.room_books.specs.declared.kept.Meeting.{Meeting}
 use Rattle.room_books.specs.declared.meeting.Outcome.{Outcome}
 use Rattle.room_books.specs.Instants.{HaveInstant, IsLater, IsParted, Overlap, AreSeparate}
-use Rattle.room_books.specs.Takings.{IsDecision}
+use Rattle.room_books.specs.Takings.{DecidesAmong, IsDecision, NamesClash}
 use Rattle.room_books.specs.Views.{all_confirmed, booked_of, booked_list, others, outcome_of, same_key, singles_by, slots_of, spans_of, span_of, AreAllApart, HaveOverlap, IsFree}
 use Rattle.room_books.proofs.Leaving.{Apart, kept_separate, kept_within}
 use Rattle.room_books.proofs.Pairs.{map_from, pairs_append, pairs_from}
@@ -55,9 +56,9 @@ later_is_first : (a b : Span) (t : ℤ) → IsLater a b t → b.start ≤ℤ a.s
 later_is_first a b t l h = elim l.one [ inl e ↦ e | inr e ↦ (let s = l.first in omega (arith, ints)) ]
 
 -- two instances that share an instant are named as a decline does
-pub names_two : (all : List Booked) (x y : Booked) (clash : Clash) → Contains all x → Contains all y → x.key ≢ y.key → Overlap (span_of x) (span_of y)
-    → IsLater (span_of x) (span_of y) clash.instant → AreNamed x y clash.instant clash → NamesClash all (owned_key_of clash.first) (owned_key_of clash.second) clash.instant
-names_two all x y clash in_x in_y differ overlap later named =
+pub names_these : (these : Booked → Type 0) (x y : Booked) (clash : Clash) → these x → these y → x.key ≢ y.key → Overlap (span_of x) (span_of y)
+    → IsLater (span_of x) (span_of y) clash.instant → AreNamed x y clash.instant clash → rooms.NamesClash these (owned_key_of clash.first) (owned_key_of clash.second) clash.instant
+names_these these x y clash in_x in_y differ overlap later named =
     let shared = overlap clash.instant later in
     elim (cases_Bool (is_lt (booked_cmp y x))) [
       | inl before ↦
@@ -66,7 +67,9 @@ names_two all x y clash in_x in_y differ overlap later named =
           record {
             a = y;
             b = x;
-            clash = record { first = in_y; second = in_x; differ = λ e. differ (sym e); before = shared.before; in_first = shared.in_second; in_second = shared.in_first };
+            of_first = in_y;
+            of_second = in_x;
+            clash = record { differ = λ e. differ (sym e); before = shared.before; in_first = shared.in_second; in_second = shared.in_first };
             first_is = sym h.first;
             second_is = sym h.second;
             ordered = less_from_before y x before;
@@ -78,13 +81,44 @@ names_two all x y clash in_x in_y differ overlap later named =
           record {
             a = x;
             b = y;
-            clash = record { first = in_x; second = in_y; differ = differ; before = shared.before; in_first = shared.in_first; in_second = shared.in_second };
+            of_first = in_x;
+            of_second = in_y;
+            clash = record { differ = differ; before = shared.before; in_first = shared.in_first; in_second = shared.in_second };
             first_is = sym h.first;
             second_is = sym h.second;
             ordered = less_from_not_before x y differ after;
             later = later_is (span_of x) (span_of y) clash.instant later order;
           }
     ]
+
+-- two of a list
+pub names_two : (all : List Booked) (x y : Booked) (clash : Clash) → Contains all x → Contains all y → x.key ≢ y.key → Overlap (span_of x) (span_of y)
+    → IsLater (span_of x) (span_of y) clash.instant → AreNamed x y clash.instant clash → NamesClash all (owned_key_of clash.first) (owned_key_of clash.second) clash.instant
+names_two all x y clash in_x in_y differ overlap later named =
+    let n = names_these (Contains all) x y clash in_x in_y differ overlap later named in
+    record {
+      a = n.a;
+      b = n.b;
+      clash = record { first = n.of_first; second = n.of_second; differ = n.clash.differ; before = n.clash.before; in_first = n.clash.in_first; in_second = n.clash.in_second };
+      first_is = n.first_is;
+      second_is = n.second_is;
+      ordered = n.ordered;
+      later = n.later;
+    }
+
+-- and two of more than a list
+pub names_more : (all : List Booked) (these : Booked → Type 0) (first second : Key) (t : ℤ) → ((b : Booked) → Contains all b → these b) → NamesClash all first second t → rooms.NamesClash these first second t
+names_more all these first second t within n = record {
+  a = n.a;
+  b = n.b;
+  of_first = within n.a n.clash.first;
+  of_second = within n.b n.clash.second;
+  clash = record { differ = n.clash.differ; before = n.clash.before; in_first = n.clash.in_first; in_second = n.clash.in_second };
+  first_is = n.first_is;
+  second_is = n.second_is;
+  ordered = n.ordered;
+  later = n.later;
+}
 
 -- ---- the own instances and the others
 
@@ -276,7 +310,7 @@ module _ (k : MeetingKey) (es : List (MeetingKey × Meeting)) (distinct_keys : I
 
   pub decides_limit : (outcome : Outcome) → outcome_of outcome ≡ messages.SinglesLimit → 10_000 - beside < length wanted → IsDecision other k kept wanted outcome
   decides_limit outcome is more = record {
-    decides = λ distinct. subst (Decides (other ++ booked_list k (kept ++ wanted))) (sym is) (many_all other k kept wanted own_differ beside beside_is few more);
+    decides = λ distinct. subst (DecidesAmong (other ++ booked_list k (kept ++ wanted))) (sym is) (many_all other k kept wanted own_differ beside beside_is few more);
     joins = λ accepted. absurd (limit_not_accept (sym is ∙ accepted));
   }
     where
@@ -289,7 +323,7 @@ module _ (k : MeetingKey) (es : List (MeetingKey × Meeting)) (distinct_keys : I
   pub decides_clash : (outcome : Outcome) (clash : Clash) → outcome_of outcome ≡ messages.Busy (owned_key_of clash.first) (owned_key_of clash.second) clash.instant → length wanted ≤ 10_000 - beside
       → (AllPairs ◌≢◌ (slots_of (kept ++ wanted)) → NamesClash (other ++ booked_list k (kept ++ wanted)) (owned_key_of clash.first) (owned_key_of clash.second) clash.instant) → IsDecision other k kept wanted outcome
   decides_clash outcome clash is few_more named = record {
-    decides = λ distinct. subst (Decides (other ++ booked_list k (kept ++ wanted))) (sym is) (few_all other k kept wanted own_differ beside beside_is few few_more, named distinct);
+    decides = λ distinct. subst (DecidesAmong (other ++ booked_list k (kept ++ wanted))) (sym is) (few_all other k kept wanted own_differ beside beside_is few few_more, named distinct);
     joins = λ accepted. absurd (busy_not_accept (owned_key_of clash.first) (owned_key_of clash.second) clash.instant (sym is ∙ accepted));
   }
 
@@ -316,6 +350,6 @@ module _ (k : MeetingKey) (es : List (MeetingKey × Meeting)) (distinct_keys : I
       let clear_now = clear_all other k kept wanted own_differ (clear_kept k es kept (kept_within before gone kept parted) clear)
       (λ s c b t d h. free s c b t (Contains-append_left other (booked_list k kept) b d) h) both_apart in
       record {
-        decides = λ distinct. subst (Decides (other ++ booked_list k (kept ++ wanted))) (sym is) (few_now, clear_now);
+        decides = λ distinct. subst (DecidesAmong (other ++ booked_list k (kept ++ wanted))) (sym is) (few_now, clear_now);
         joins = λ accepted. record { few = few_now; clear = clear_now; separate = both_apart };
       }

@@ -6,16 +6,17 @@ use Rattle.std.specs.Map.{keys_of, lookup}
 use Rattle.std.proofs.lemmas.Map.Views.{lookup-from_Contains}
 use Rattle.itip_order.proofs.Lists.{in_head, in_tail, filter_at}
 use Rattle.profile.specs.checker.Instances.{Booked}
-use Rattle.profile.specs.rooms.Rooms.{Book, confirmed}
+use Rattle.profile.specs.rooms.Rooms.{Answer, Book, Recurring, confirmed_singles, confirmed_series, is_confirmed, left_of, recurring_in, series_confirmed}
 use Rattle.room_books.specs.declared.meeting.MeetingKey.{MeetingKey}
 use Rattle.room_books.specs.declared.kept.Meeting.{Meeting}
-use Rattle.room_books.specs.Views.{same_key, all_confirmed, confirmed_of}
-use Rattle.room_books.specs.Standing.{is_of, answers_of, book_of, Meets, MeetsAt, Stands}
-use Rattle.room_books.proofs.Confirms.{zip_confirms}
+use Rattle.room_books.specs.Views.{same_key, all_confirmed, all_recurring, confirmed_of, in_room, recurring_of}
+use Rattle.room_books.specs.Standing.{is_of, of_meeting, answers_of, book_of, AreSameSeries, Meets, MeetsAt, Stands}
+use Rattle.room_books.proofs.Confirms.{zip_confirms, zip_recurs}
 use Rattle.room_books.proofs.Keys.{key_congr}
-use Rattle.room_books.proofs.Meetings.{key_parts, key_from, is_of_same, confirmed_own}
+use Rattle.room_books.proofs.Meetings.{key_parts, key_from, is_of_same, confirmed_own, hidden_of, part_own, series_own}
 use Rattle.room_books.proofs.Partition.{partition}
-use Rattle.room_books.proofs.Same.{AreSame}
+use Rattle.room_books.proofs.Same.{AreSame, same_itself, same_then, same_append}
+use Rattle.room_books.proofs.SameSeries.{AreAlike, series_none, series_append, series_turn, series_hidden}
 
 pub key_laws : IsEquivalence same_key
 key_laws = record {
@@ -41,17 +42,34 @@ module _ (entries : List (MeetingKey × Meeting)) (book : Book) (st : Stands ent
       let here : lookup (same_key e.0) entries ≡ Some e.1 = lookup-from_Contains key_laws e.0 e.1 entries distinct c in
       subst (MeetsAt (book_of e.0 book) e.0) here (st.meets e.0)
 
-  -- the meetings confirm what the book does, and as many
-  pub same_confirmed : AreSame (confirmed book) (all_confirmed entries)
-  same_confirmed = partition book.taken entries book.answers distinct
-      (λ a c h.
+  own_answers : (e : MeetingKey × Meeting) (a : Answer) → Contains (answers_of e.0 book.answers) a → is_of e.0 a.claim.part ≡ true
+  own_answers e a d = (filter_at (λ x. is_of e.0 x.claim.part) book.answers a d).1
+
+  covered : (a : Answer) → Contains book.answers a → is_confirmed book.taken a ≡ true → (e : MeetingKey × Meeting) × Contains entries e × (is_of e.0 a.claim.part ≡ true)
+  covered a c h =
       let cover = st.covered a.claim.part (st.known a c) in
       let found = found_entry cover.key entries cover.meeting cover.found in
-      (found.0, found.1, sym (is_of_same cover.key found.0.0 a.claim.part found.2) ∙ cover.is))
-      (λ e c.
-      let own = answers_of e.0 book.answers in
-      subst (λ (l : List Booked). AreSame l (confirmed_of e)) (confirmed_own e.0 book.taken own (λ a d. (filter_at (λ x. is_of e.0 x.claim.part) book.answers a d).1))
-      (zip_confirms e.0 (book_of e.0 book).taken own e.1.answers.items (meeting_at e c).answers))
+      (found.0, found.1, sym (is_of_same cover.key found.0.0 a.claim.part found.2) ∙ cover.is)
 
-  pub as_many : length (all_confirmed entries) ≡ length (confirmed book)
-  as_many = sym same_confirmed.long
+  -- the meetings confirm what the book does, and as many
+  pub same_confirmed : AreAlike book (in_room entries)
+  same_confirmed = record {
+    singles = partition AreSame (same_itself []) (λ a b c d p q. same_append a b c d p q) same_then (left_of book.taken) confirmed_of book.taken entries book.answers distinct covered
+        (λ e c.
+        let own = answers_of e.0 book.answers in
+        subst (λ (l : List Booked). AreSame l (confirmed_of e)) (confirmed_own e.0 book.taken own (own_answers e)) (zip_confirms e.0 (book_of e.0 book).taken own e.1.answers.items (meeting_at e c).answers));
+    series = partition (AreSameSeries book.taken) (series_none book.taken) (series_append book.taken) (series_turn book.taken) recurring_in recurring_of book.taken entries book.answers distinct covered
+        (λ e c.
+        let own = answers_of e.0 book.answers in
+        let t = of_meeting e.0 book.taken in
+        let here : AreSameSeries t (series_confirmed t own) (recurring_of e) = zip_recurs e.0 t own e.1.answers.items (meeting_at e c).answers in
+        series_hidden t book.taken (series_confirmed book.taken own) (recurring_of e)
+        (λ r among b. hidden_of e.0 book.taken r.part b (part_own e.0 book.taken own (own_answers e) r among))
+        (subst (λ (l : List Recurring). AreSameSeries t l (recurring_of e)) (series_own e.0 book.taken own (own_answers e)) here));
+  }
+
+  pub as_many : length (all_confirmed entries) ≡ length (confirmed_singles book)
+  as_many = sym same_confirmed.singles.long
+
+  pub as_many_series : length (all_recurring entries) ≡ length (confirmed_series book)
+  as_many_series = sym same_confirmed.series.long

@@ -21,7 +21,7 @@ use Rattle.std.proofs.lemmas.Option.{same_Some}
 use Rattle.profile.specs.events.Confirmed.{is_kept}
 use Rattle.profile.specs.events.Properties.{Says, BothOrNeither, StandsAtMostOnce, IsAddressLine, IsUidLine, IsSequenceLine, is_of, lines_named}
 use Rattle.profile.specs.rooms.Messages as messages
-use Rattle.profile.specs.rooms.Messages.{Content, SpellsMessage, IsPart, IsBody, IsContent, IsZoneRest, TellsSlot, cancels, own_revision, later_of, raised_to, slot_named, names_room}
+use Rattle.profile.specs.rooms.Messages.{Content, SpellsMessage, IsPart, IsBody, IsContent, TellsSlot, cancels, own_revision, raised_to, slot_named, names_room}
 use Rattle.profile.specs.rooms.Revisions.{Part, Slot, Whole, At, Revision, Body, Set, Absent, Cancelled, revision_cmp}
 use Rattle.profile.specs.rooms.Rooms.{Claim, is_set, is_set_body}
 use Rattle.profile.specs.rooms.Kept.{IsEventOf, IsKeptEvent, HidesSlot, Shown}
@@ -42,10 +42,10 @@ use Rattle.cal_events.specs.Meetings.{IsNamed}
 use Rattle.cal_events.proofs.InOneOrder.{of_filtered, of_mapped}
 use Rattle.cal_events.proofs.OneInstance.{event_sound}
 use Rattle.room_books.proofs.KeptOwn.{SpellPart, SpellSlot, slot_lines, own_front, own_back, own_lines, when_lines, zoned_event, zoned_says}
-use Rattle.room_books.proofs.KeptWhen.{EventFacts, IsCleanSlot, duration_clean, duration_of, event_facts, kept_rule, none_kept, own_content, own_properties, when_of}
+use Rattle.room_books.proofs.KeptWhen.{EventFacts, IsCleanSlot, duration_clean, duration_of, event_facts, kept_rule, own_content, own_properties, when_of}
 use Rattle.room_books.proofs.ZonedStarts.{local_written}
 use Rattle.room_books.proofs.KeptEvents.{hidden_own, hidden_event, hidden_says, kept_confirmed}
-use Rattle.room_books.proofs.KeptInstances.{AreAllOf, kept_all}
+use Rattle.room_books.proofs.KeptInstances.{kept_asks}
 use Rattle.room_books.proofs.KeptLines.{hidden_content, hidden_properties}
 use Rattle.room_books.proofs.KeptZones.{Lines, IsKeptTree, vevent_lines}
 use Rattle.room_books.proofs.Loops.{zip_from}
@@ -64,7 +64,7 @@ pub record IsAsked (room : List ℕ) (content : Content) (part : Part) : Type 0 
 -- and for the claim: the part, and its instances, if it is to take place
 pub record IsAskedFor (room : List ℕ) (claim : Claim) : Type 0 where
   pub asked : IsAsked room claim.content claim.part
-  pub books : AsksFor (is_set claim.part) asked.event claim.singles
+  pub books : AsksFor (is_set claim.part) asked.event claim
 
 -- the lines are a VEVENT that says such an event beside these zones, of that meeting and slot
 pub record ReadsBack (zones : List (List ℕ)) (lines : Lines) (organiser uid : List ℕ) (slot : Slot) : Type 0 where
@@ -74,7 +74,6 @@ pub record ReadsBack (zones : List (List ℕ)) (lines : Lines) (organiser uid : 
   pub properties : list_all is_property own ≡ true
   pub content : list_all is_content own ≡ true
   pub says : (owns : List Lines) (k : IsKeptTree zones owns) → SaysEvent k.kept None own said
-  pub once : said.rule ≡ None
   pub meeting : meeting_said said ≡ (organiser, uid)
   pub slot_is : messages.slot_of said ≡ slot
 
@@ -188,7 +187,7 @@ message_of octets given spells event c =
       lines = found.0;
       says = found.2;
       clean = λ line l. clean_value true octets line spells.lines (vevent_among true spells.tree (logical_lines octets) found.0 spells.object found.1 line l);
-      ready = All-contains IsReady (events_of given.meeting) event (of_message spells.tree given.method given.meeting s spells.says.read).ready c;
+      ready = All-contains IsReady (events_of given.meeting) event (of_message spells.tree given.method given.meeting s).ready c;
     }
 
 -- what is known of the organiser, the UID and the number of a part
@@ -284,7 +283,7 @@ set_zone room content part a = (message_of a.octets a.given a.spells a.event a.a
 pub record ShowsBack (room : List ℕ) (zones : List (List ℕ)) (claim : Claim) (lines : Lines) : Type 0 where
   pub back : ReadsBack zones lines claim.part.organiser claim.part.uid claim.part.slot
   pub kept : is_kept room back.said ≡ true
-  pub books : AreAllOf back.said claim.singles
+  pub books : AsksFor true back.said claim
 
 part_spelled : (room : List ℕ) (content : Content) (part : Part) (a : IsAsked room content part) (stamp : List ℕ) → WritesStamp stamp part.revision.stamp → IsRoom room
     → SpellPart part.uid part.revision.sequence (escaped part.uid) (decimal part.revision.sequence) stamp part.organiser room part.revision.stamp
@@ -338,13 +337,12 @@ shows_back room zones claim lines f set (name, given_name, k) =
             (clean_shown sequence (shown_decimal part.revision.sequence (omega arith))) (clean_shown k.stamp (shown_stamp k.stamp part.revision.stamp k.written_stamp)) (duration_clean event) (clean_address part.organiser n.organiser) (clean_address room r.text);
         says = λ owns t. zoned_says name event told.text event.recurrence number uid sequence k.stamp l.start duration part.organiser room part.revision.stamp c.rule c.additions c.exceptions rule.back event.additions _ spell_event w told.spells t.kept
             (name_means zones owns t claim.content event c m.says.zone name given_name);
-        once = none_kept event.rule rule.back rule.same m.ready.once;
         meeting = ap (λ (u : List ℕ). (part.organiser, u)) (sym a.is_part.uid);
         slot_is = sym a.is_part.slot;
       };
       kept = ap (λ x. x && not false) (kept_confirmed event event.recurrence number part.organiser part.revision.stamp room rule.back w.adds.ascending w.takes.ascending);
-      books = kept_all event number part.organiser part.revision.stamp room rule.back w.adds.ascending w.takes.ascending a.is_part.organiser facts.local rule.same m.ready.timely w.adds.are w.takes.are claim.singles
-          (subst (λ b. AsksFor b event claim.singles) set f.books);
+      books = kept_asks event number part.organiser part.revision.stamp room rule.back w.adds.ascending w.takes.ascending a.is_part.organiser facts.local rule.same w.adds.are w.takes.are claim
+          (subst (λ b. AsksFor b event claim) set f.books);
     }
   where
     or_from_right : (x : Bool) {y : Bool} → y ≡ true → (x || y) ≡ true
@@ -383,7 +381,6 @@ hides_back room zones content part lines hiding a r h k =
         content = hidden_content uid text sequence k.stamp h.text part.organiser room (clean_text part.uid n.uid) (clean_shown text (shown_stamp text h.instant tells.1)) (clean_shown sequence (shown_decimal part.revision.sequence (omega arith)))
             (clean_shown k.stamp (shown_stamp k.stamp part.revision.stamp k.written_stamp)) (clean_shown h.text (shown_stamp h.text h.instant h.written)) (clean_address part.organiser n.organiser) (clean_address room r.text);
         says = λ owns t. says t.kept;
-        once = refl;
         meeting = refl;
         slot_is = sym h.at;
       };

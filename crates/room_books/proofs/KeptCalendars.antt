@@ -1,52 +1,51 @@
 -- The kept calendar spells the confirmed instances, and the kept certificate stands for them.
-use Rattle.std.proofs.Common.{◌≡◌, ◌≢◌, ◌∙◌, ℕ, ℤ, true, false, not, ◌&&◌, List, [], ◌∷◌, ◌++◌, length, map, codes, Option, Some, None, is_some, inl, inr, refl, sym, ap, ap₂, subst, arith, lit<, Bool}
-use Rattle.std.specs.Prelude.{◌↔◌}
+use Rattle.std.proofs.Common.{◌≡◌, ◌≢◌, ◌∙◌, ℤ, true, false, not, ◌&&◌, cond, List, [], ◌∷◌, ◌++◌, filter, length, map, codes, Option, Some, None, is_some, ℕ, inl, inr, refl, sym, ap, ap₂, subst, arith, Bool}
+use Rattle.std.specs.Prelude.{◌↔◌, option_map}
+use Rattle.std.specs.Option.{option_to_list}
 use Rattle.std.specs.Ordering.{is_eq}
-use Rattle.std.specs.List.{flat_map, list_all, list_any, Contains, All, AllZip}
+use Rattle.std.specs.List.{flat_map, list_all, list_any, Contains, AllZip}
 use Rattle.std.proofs.lemmas.Bool.{and_parts, and_from, true≢false, cases_Bool, both_ways}
-use Rattle.std.proofs.lemmas.List.Elements.{All-nil, All-cons, All-tail}
+use Rattle.std.proofs.Math.Bool.{and-false}
 use Rattle.profile.specs.text.Lines.{is_content, logical_lines, reads_as_lines, written}
 use Rattle.profile.specs.text.Objects.{is_property, IsObject}
 use Rattle.profile.specs.text.Trees.{tree_name, tree_own, tree_inside}
 use Rattle.profile.specs.events.Events.{Event, SaysEvent, meeting_said}
-use Rattle.profile.specs.events.Meetings.{is_master}
+use Rattle.profile.specs.events.Meetings.{Meeting, is_master}
 use Rattle.profile.specs.events.Starts.{IsInstance}
-use Rattle.profile.specs.events.Confirmed.{Confirmed, AreConfirmed, AreSingles, IsReplaced, alone, is_kept}
-use Rattle.profile.specs.checker.Calendars.{SaysCalendar, SpellsCalendar, CertificateHolds}
+use Rattle.profile.specs.events.Confirmed.{Confirmed, AreConfirmed, AreOfRule, AreSingles, IsOneOf, IsReplaced, IsSeries, alone, by_its_rule, has_series, is_kept, is_series}
+use Rattle.profile.specs.checker.Calendars.{SpellsCalendar, CertificateHolds}
 use Rattle.profile.specs.checker.Instances.{Booked, Key}
 use Rattle.profile.specs.rooms.Messages.{opening_lines, slot_of, slot_named}
 use Rattle.profile.specs.rooms.Revisions.{Part, Slot, Whole, At, in_view, is_whole, same_meeting, same_part, same_place, slot_cmp}
-use Rattle.profile.specs.rooms.Rooms.{Claim, Answer, Book, Delivery, Runs, empty_book, confirmed, is_confirmed, is_hidden, is_set}
+use Rattle.profile.specs.rooms.Rooms.{Claim, Answer, Book, Delivery, Runs, empty_book, Confirms, Recurring, confirmed_series, confirmed_singles, is_confirmed, is_hidden, is_set}
 use Rattle.profile.specs.rooms.Kept.{Entry, Shown, Hidden, part_kept, IsKept, IsEntry, AreKept, IsKeptEvent, IsKeptCalendar, kept_certificate, zone_texts, zones_kept}
-use Rattle.profile.specs.streams.Streams.{IsDelivered}
+use Rattle.profile.specs.streams.Streams.{AsksFor, IsDelivered}
 use Rattle.cal_events.proofs.OwnSingles.{master_alone}
-use Rattle.cal_events.proofs.PlainSingles.{IsOnce, once_confirmed}
 use Rattle.itip_order.proofs.Lasting.{view_taken}
 use Rattle.itip_order.proofs.Lists.{in_head, in_tail, any_at, any_from}
 use Rattle.itip_order.proofs.Registers.{same_part_is, same_part_refl}
 use Rattle.itip_messages.proofs.ContentLines.{ReadsLines}
-use Rattle.clash_cert.proofs.MakingLemmas.{stands, singles_alone}
+use Rattle.clash_cert.proofs.MakingLemmas.{stands}
+use Rattle.room_books.specs.BySlot.{Reordered}
 use Rattle.room_books.specs.Standing.{Pairwise}
 use Rattle.room_books.proofs.AcceptedSlots.{slot_same}
 use Rattle.room_books.proofs.KeptAnswers.{IsAskedFor, shows_back, hides_back, set_body, set_zone, asked_room, IsRoom}
-use Rattle.room_books.proofs.KeptEntries.{SamePlace, EntriesDiffer, place_there, place_from, meeting_from, own_of, same_left, entries_differ, entry_placed, answer_kept}
-use Rattle.room_books.proofs.KeptInstances.{AreAllOf, none_left, singles_left}
+use Rattle.room_books.proofs.KeptEntries.{SamePlace, EntriesDiffer, place_there, place_from, meeting_from, claims_confirmed, claims_kept, claims_same, entries_differ, entry_placed, of_claims}
+use Rattle.room_books.proofs.KeptInstances.{IsHiding, none_left, series_left, singles_left}
 use Rattle.room_books.proofs.KeptMeetings.{meeting_trans}
+use Rattle.room_books.proofs.KeptReplaced.{replaced_by}
 use Rattle.room_books.proofs.KeptRuns.{KeepsAll, runs_keep}
 use Rattle.room_books.proofs.KeptZones.{Lines, LinesBack, ZoneBack, IsKeptTree, kept_spelled, vevent_lines}
 use Rattle.room_books.proofs.Loops.{zip_from, zip_to}
 use Rattle.room_books.proofs.Pairs.{pairs_from}
-use Rattle.room_books.proofs.Same.{AreSame, clear_same}
+use Rattle.room_books.proofs.Reordering.{re_back, re_flat, re_in, re_length}
 use Rattle.room_books.proofs.ZonesIn.{HasZone, HaveZones, has_zone, zones_kept_are}
-
-abbrev without_series : List Booked → Confirmed
-without_series all = record { series = []; singles = all }
 
 -- ---- the VEVENTs
 
 -- the state of what is kept of an entry
 abbrev IsState : List ℕ → Event → Entry → Type 0
-IsState room said (Shown claim) = (is_kept room said ≡ true) × AreAllOf said claim.singles
+IsState room said (Shown claim) = (is_kept room said ≡ true) × AsksFor true said claim
 IsState room said (Hidden part) = is_kept room said ≡ false
 
 -- the event says the entry
@@ -63,7 +62,6 @@ record AllBack (room : List ℕ) (zones : List (List ℕ)) (entries : List Entry
   properties : list_all (list_all is_property) owns ≡ true
   content : list_all (list_all is_content) owns ≡ true
   says : (all : List Lines) (k : IsKeptTree zones all) → AllZip (SaysEvent k.kept None) owns saids
-  once : All IsOnce saids
   entries_are : AllZip (SaysEntry room) saids entries
 
 record OneBack (room : List ℕ) (zones : List (List ℕ)) (entry : Entry) (lines : Lines) : Type 0 where
@@ -73,7 +71,6 @@ record OneBack (room : List ℕ) (zones : List (List ℕ)) (entry : Entry) (line
   properties : list_all is_property own ≡ true
   content : list_all is_content own ≡ true
   says : (all : List Lines) (k : IsKeptTree zones all) → SaysEvent k.kept None own said
-  once : IsOnce said
   entry_is : SaysEntry room said entry
 
 module _ (room : List ℕ) (book : Book) (k : KeepsAll room book) where
@@ -107,7 +104,6 @@ module _ (room : List ℕ) (book : Book) (k : KeepsAll room book) where
           properties = b.back.properties;
           content = b.back.content;
           says = b.back.says;
-          once = b.back.once;
           entry_is = record { meeting = b.back.meeting; slot = b.back.slot_is; state = (b.kept, b.books) };
         }
     one_back first (Hidden part) lines is (hiding, h, event) =
@@ -120,12 +116,11 @@ module _ (room : List ℕ) (book : Book) (k : KeepsAll room book) where
           properties = b.back.properties;
           content = b.back.content;
           says = b.back.says;
-          once = b.back.once;
           entry_is = record { meeting = b.back.meeting; slot = b.back.slot_is; state = b.kept };
         }
 
     all_back : (entries : List Entry) (each : List Lines) → ((e : Entry) → Contains entries e → (first : Part) × IsEntry book first e) → AllZip (IsKeptEvent room zones) entries each → AllBack room zones entries each
-    all_back [] [] f z = record { owns = []; saids = []; are = refl; properties = refl; content = refl; says = λ _ _. tt; once = All-nil IsOnce; entries_are = tt }
+    all_back [] [] f z = record { owns = []; saids = []; are = refl; properties = refl; content = refl; says = λ _ _. tt; entries_are = tt }
     all_back [] (lines ∷ each) f z = absurd z
     all_back (e ∷ entries) [] f z = absurd z
     all_back (e ∷ entries) (lines ∷ each) f z =
@@ -139,7 +134,6 @@ module _ (room : List ℕ) (book : Book) (k : KeepsAll room book) where
           properties = and_from _ _ one.properties rest.properties;
           content = and_from _ _ one.content rest.content;
           says = λ all t. (one.says all t, rest.says all t);
-          once = All-cons IsOnce one.said rest.saids one.once rest.once;
           entries_are = (one.entry_is, rest.entries_are);
         }
 
@@ -156,6 +150,44 @@ saids_differ room (s ∷ ss) (e ∷ es) z d = (
       d.0 other.0 other.1 (record { organiser = ap (λ (m : List ℕ × List ℕ). m.0) meeting; uid = ap (λ (m : List ℕ × List ℕ). m.1) meeting; slot = sym z.0.slot ∙ slots ∙ other.2.slot }),
   saids_differ room ss es z.1 d.1,
 )
+
+-- ---- what is confirmed
+
+-- the single instances that are left of a claim, and of an entry
+abbrev singles_of_claim : List Part → Claim → List Booked
+singles_of_claim taken claim = filter (λ booked. not (is_hidden taken claim.part booked)) claim.singles
+
+abbrev singles_of : List Part → Entry → List Booked
+singles_of taken (Shown claim) = singles_of_claim taken claim
+singles_of taken (Hidden part) = []
+
+-- and the series of a claim, where it has one
+abbrev recurring_of : Part → Option Meeting → List Recurring
+recurring_of part series = option_to_list (option_map (λ meeting. record { part = part; meeting = meeting }) series)
+
+abbrev series_of_claim : Claim → List Recurring
+series_of_claim claim = recurring_of claim.part claim.series
+
+abbrev all_series : List Entry → List Recurring
+all_series entries = flat_map series_of_claim (claims_kept entries)
+
+-- the series of an event among others
+abbrev series_of : List Event → Event → Meeting
+series_of saids said = record { master = Some (by_its_rule said (replaced_by said saids).0); overrides = [] }
+
+its_series : (saids : List Event) (said : Event) → IsSeries saids said (series_of saids said)
+its_series saids said = record { replaced = (replaced_by said saids).0; are = (replaced_by said saids).1; is = refl }
+
+-- the instances of the series are those of the other that no other part hides
+abbrev IsLeft : List Part → Meeting → Recurring → Type 0
+IsLeft taken series recurring = (b : Booked) → IsInstance series b ↔ (IsInstance recurring.meeting b × (is_hidden taken recurring.part b ≡ false))
+
+series_where : (room : List ℕ) (said : Event) → is_series room said ≡ (is_kept room said && has_series said)
+series_where room said = by (is_kept room said) (is_master said) (is_some said.rule)
+  where
+    by : (a b c : Bool) → (a && b && c) ≡ (a && (b && c))
+    by true b c = refl
+    by false b c = refl
 
 -- ---- what is left of each
 
@@ -221,76 +253,127 @@ module _ (room : List ℕ) (book : Book) (k : KeepsAll room book) (entries : Lis
       and_from _ _ whole (any_from (λ other. in_view book.taken other && same_place other (record claim.part { slot = At booked.key.slot })) book.taken (part_kept entry) (view_taken book.taken (part_kept entry) seen)
       (and_from _ _ seen (place_from (part_kept entry) (record claim.part { slot = At booked.key.slot }) place)))
 
-  left_shown : (claim : Claim) → Contains entries (Shown claim) → (said : Event) → IsOnce said → SaysEntry room said (Shown claim) → AreSingles room saids said (own_of book.taken (Shown claim))
-  left_shown claim c said once s =
-      singles_left room saids said (is_hidden book.taken claim.part) claim.singles s.state.0 once s.state.1 (record {
-        stands = λ b own h. stood_for b own h;
-        hides = stands_for;
-        master = λ b h. ap (λ (o : Option ℤ). not (is_some o)) (whole_said b h);
-      })
+  -- what hides the instances of a shown claim is what stands for them
+  module _ (claim : Claim) (c : Contains entries (Shown claim)) (said : Event) (s : SaysEntry room said (Shown claim)) where
+    -- an instance of a master is at its slot
+    at_slot : (b : Booked) → IsInstance (alone said) b → said.recurrence ≡ None → b.key.slot ≡ b.start
+    at_slot b own none = ap (λ (k : Key). k.slot) (master_alone said b none own).key
+
+    -- what stands for an instance of the whole
+    stands_for : (b : Booked) → IsInstance (alone said) b → is_master said ≡ true → IsReplaced saids said b.start → is_hidden book.taken claim.part b ≡ true
+    stands_for b own master r =
+        let found = zip_to (SaysEntry room) saids entries r.override z r.among in
+        let none = master_whole said master in
+        let whole : claim.part.slot ≡ Whole = sym s.slot ∙ ap slot_named none in
+        let meeting = sym found.2.meeting ∙ r.of ∙ s.meeting in
+        hidden_by claim b found.0 found.1 (ap (λ (o : Slot). is_eq (slot_cmp o Whole)) whole)
+        (record {
+          organiser = ap (λ (m : List ℕ × List ℕ). m.0) meeting;
+          uid = ap (λ (m : List ℕ × List ℕ). m.1) meeting;
+          slot = sym found.2.slot ∙ ap slot_named r.is ∙ ap At (sym (at_slot b own none));
+        })
+
+    -- where an instance is hidden, the event is of the whole
+    whole_said : (b : Booked) → is_hidden book.taken claim.part b ≡ true → said.recurrence ≡ None
+    whole_said b h = whole_there said.recurrence (s.slot ∙ slot_same claim.part.slot Whole (and_parts _ _ h).0)
+
+    -- an event that says an entry of that place stands for it
+    replaced_there : (b : Booked) (event : Event) (entry : Entry) (other : Part) → Contains saids event → SaysEntry room event entry → part_kept entry ≡ other → SamePlace other (record claim.part { slot = At b.key.slot }) → b.key.slot ≡ b.start
+        → IsReplaced saids said b.start
+    replaced_there b event entry other among e same place start = record {
+      override = event;
+      among = among;
+      of = e.meeting ∙ (λ i. ((same i).organiser, (same i).uid)) ∙ (λ i. (place.organiser i, place.uid i)) ∙ sym s.meeting;
+      is = instant_there event.recurrence b.start (e.slot ∙ ap (λ (q : Part). q.slot) same ∙ place.slot ∙ ap At start);
+    }
+
+    -- and something stands for it
+    stood_for : (b : Booked) → IsInstance (alone said) b → is_hidden book.taken claim.part b ≡ true → IsReplaced saids said b.start
+    stood_for b own h =
+        let both = and_parts _ _ h in
+        let found = any_at (λ other. in_view book.taken other && same_place other (record claim.part { slot = At b.key.slot })) book.taken both.1 in
+        let seen = and_parts _ _ found.2 in
+        let place = place_there found.0 (record claim.part { slot = At b.key.slot }) seen.1 in
+        let none = whole_said b h in
+        let instance : is_whole found.0 ≡ false = ap (λ (o : Slot). is_eq (slot_cmp o Whole)) place.slot in
+        let entry = other_entry claim c both.0 found.0 seen.0 (meeting_from claim.part found.0 (sym place.organiser) (sym place.uid)) instance in
+        let event = zip_from (SaysEntry room) saids entries entry.0 z entry.1 in
+        replaced_there b event.0 entry.0 found.0 event.1 event.2 entry.2 place (at_slot b own none)
+
+    hiding : IsHiding saids said (is_hidden book.taken claim.part)
+    hiding = record { stands = stood_for; hides = stands_for; master = λ b h. ap (λ (o : Option ℤ). not (is_some o)) (whole_said b h) }
+
+  left_one : (entry : Entry) → Contains entries entry → (said : Event) → SaysEntry room said entry → AreSingles room saids said (singles_of book.taken entry)
+  left_one (Shown claim) c said s = singles_left saids said (is_hidden book.taken claim.part) (hiding claim c said s) room claim.singles s.state.0 s.state.1.0
+  left_one (Hidden part) c said s = none_left room saids said s.state
+
+  left_all : (ss : List Event) (es : List Entry) → AllZip (SaysEntry room) ss es → ((e : Entry) → Contains es e → Contains entries e) → AllZip (AreSingles room saids) ss (map (singles_of book.taken) es)
+  left_all [] [] y f = tt
+  left_all [] (e ∷ es) y f = absurd y
+  left_all (s ∷ ss) [] y f = absurd y
+  left_all (s ∷ ss) (e ∷ es) y f = (left_one e (f e (in_head e es)) s y.0, left_all ss es y.1 (λ x c. f x (in_tail e es x c)))
+
+  -- ---- its series
+
+  series_one : (claim : Claim) → Contains entries (Shown claim) → (said : Event) → SaysEntry room said (Shown claim) → (meeting : Meeting) → AreOfRule said (Some meeting)
+      → IsLeft book.taken (series_of saids said) (record { part = claim.part; meeting = meeting })
+  series_one claim c said s meeting of = series_left saids said (is_hidden book.taken claim.part) (hiding claim c said s) meeting (series_of saids said) of (its_series saids said)
+
+  -- the series of these are those of these entries
+  abbrev with_rules : List Event → List Event
+  with_rules ss = filter (is_series room) ss
+
+  abbrev AreSeries : List Event → List Entry → Type 0
+  AreSeries ss es = AllZip (IsLeft book.taken) (map (series_of saids) (with_rules ss)) (all_series es)
+
+  series_shown : (claim : Claim) → Contains entries (Shown claim) → (said : Event) → SaysEntry room said (Shown claim) → (ss : List Event) (es : List Entry) → AreSeries ss es → AreSeries (said ∷ ss) (Shown claim ∷ es)
+  series_shown claim c said s ss es rest = go claim.series s.state.1.1
     where
-      -- an instance of a master is at its slot
-      at_slot : (b : Booked) → IsInstance (alone said) b → said.recurrence ≡ None → b.key.slot ≡ b.start
-      at_slot b own none = ap (λ (k : Key). k.slot) (master_alone said b none own).key
+      go : (o : Option Meeting) → AreOfRule said o → AllZip (IsLeft book.taken) (map (series_of saids) (with_rules (said ∷ ss))) (recurring_of claim.part o ++ all_series es)
+      go None of =
+          let none : is_series room said ≡ false = series_where room said ∙ ap (λ b. is_kept room said && b) of ∙ and-false (is_kept room said) in
+          subst (λ b. AllZip (IsLeft book.taken) (map (series_of saids) (cond b (said ∷ with_rules ss) (with_rules ss))) (all_series es)) (sym none) rest
+      go (Some meeting) of =
+          let some : is_series room said ≡ true = series_where room said ∙ and_from _ _ s.state.0 of.0 in
+          subst (λ b. AllZip (IsLeft book.taken) (map (series_of saids) (cond b (said ∷ with_rules ss) (with_rules ss))) (record { part = claim.part; meeting = meeting } ∷ all_series es)) (sym some) (series_one claim c said s meeting of, rest)
 
-      -- what stands for an instance of the whole
-      stands_for : (b : Booked) → IsInstance (alone said) b → is_master said ≡ true → IsReplaced saids said b.start → is_hidden book.taken claim.part b ≡ true
-      stands_for b own master r =
-          let found = zip_to (SaysEntry room) saids entries r.override z r.among in
-          let none = master_whole said master in
-          let whole : claim.part.slot ≡ Whole = sym s.slot ∙ ap slot_named none in
-          let meeting = sym found.2.meeting ∙ r.of ∙ s.meeting in
-          hidden_by claim b found.0 found.1 (ap (λ (o : Slot). is_eq (slot_cmp o Whole)) whole)
-          (record {
-            organiser = ap (λ (m : List ℕ × List ℕ). m.0) meeting;
-            uid = ap (λ (m : List ℕ × List ℕ). m.1) meeting;
-            slot = sym found.2.slot ∙ ap slot_named r.is ∙ ap At (sym (at_slot b own none));
-          })
+  series_hidden : (part : Part) (said : Event) → SaysEntry room said (Hidden part) → (ss : List Event) (es : List Entry) → AreSeries ss es → AreSeries (said ∷ ss) (Hidden part ∷ es)
+  series_hidden part said s ss es rest =
+      let none : is_series room said ≡ false = series_where room said ∙ ap (λ b. b && has_series said) s.state in
+      subst (λ b. AllZip (IsLeft book.taken) (map (series_of saids) (cond b (said ∷ with_rules ss) (with_rules ss))) (all_series es)) (sym none) rest
 
-      -- where an instance is hidden, the event is of the whole
-      whole_said : (b : Booked) → is_hidden book.taken claim.part b ≡ true → said.recurrence ≡ None
-      whole_said b h = whole_there said.recurrence (s.slot ∙ slot_same claim.part.slot Whole (and_parts _ _ h).0)
-
-      -- and something stands for it
-      stood_for : (b : Booked) → IsInstance (alone said) b → is_hidden book.taken claim.part b ≡ true → IsReplaced saids said b.start
-      stood_for b own h =
-          let both = and_parts _ _ h in
-          let found = any_at (λ other. in_view book.taken other && same_place other (record claim.part { slot = At b.key.slot })) book.taken both.1 in
-          let seen = and_parts _ _ found.2 in
-          let place = place_there found.0 (record claim.part { slot = At b.key.slot }) seen.1 in
-          let none = whole_said b h in
-          let instance : is_whole found.0 ≡ false = ap (λ (o : Slot). is_eq (slot_cmp o Whole)) place.slot in
-          let entry = other_entry claim c both.0 found.0 seen.0 (meeting_from claim.part found.0 (sym place.organiser) (sym place.uid)) instance in
-          let other = zip_from (SaysEntry room) saids entries entry.0 z entry.1 in
-          record {
-            override = other.0;
-            among = other.1;
-            of = other.2.meeting ∙ (λ i. ((entry.2 i).organiser, (entry.2 i).uid)) ∙ (λ i. (place.organiser i, place.uid i)) ∙ sym s.meeting;
-            is = instant_there other.0.recurrence b.start (other.2.slot ∙ ap (λ (q : Part). q.slot) entry.2 ∙ place.slot ∙ ap At (at_slot b own none));
-          }
-
-  left_one : (entry : Entry) → Contains entries entry → (said : Event) → IsOnce said → SaysEntry room said entry → AreSingles room saids said (own_of book.taken entry)
-  left_one (Shown claim) c said once s = left_shown claim c said once s
-  left_one (Hidden part) c said once s = none_left room saids said s.state
-
-  left_all : (ss : List Event) (es : List Entry) → AllZip (SaysEntry room) ss es → All IsOnce ss → ((e : Entry) → Contains es e → Contains entries e) → AllZip (AreSingles room saids) ss (map (own_of book.taken) es)
-  left_all [] [] y h f = tt
-  left_all [] (e ∷ es) y h f = absurd y
-  left_all (s ∷ ss) [] y h f = absurd y
-  left_all (s ∷ ss) (e ∷ es) y h f = (left_one e (f e (in_head e es)) s (h 0 s (omega arith)) y.0, left_all ss es y.1 (All-tail IsOnce s ss h) (λ x c. f x (in_tail e es x c)))
+  series_all : (ss : List Event) (es : List Entry) → AllZip (SaysEntry room) ss es → ((e : Entry) → Contains es e → Contains entries e) → AreSeries ss es
+  series_all [] [] y f = tt
+  series_all [] (e ∷ es) y f = absurd y
+  series_all (s ∷ ss) [] y f = absurd y
+  series_all (s ∷ ss) (Shown claim ∷ es) y f = series_shown claim (f (Shown claim) (in_head (Shown claim) es)) s y.0 ss es (series_all ss es y.1 (λ x c. f x (in_tail (Shown claim) es x c)))
+  series_all (s ∷ ss) (Hidden part ∷ es) y f = series_hidden part s y.0 ss es (series_all ss es y.1 (λ x c. f x (in_tail (Hidden part) es x c)))
 
 -- ---- the calendar
 
-flat_of_map : (taken : List Part) (es : List Entry) → flat_map (λ l. l) (map (own_of taken) es) ≡ flat_map (own_of taken) es
+-- the singles behind one another
+flat_of_map : (taken : List Part) (es : List Entry) → flat_map (λ l. l) (map (singles_of taken) es) ≡ flat_map (singles_of_claim taken) (claims_kept es)
 flat_of_map taken [] = refl
-flat_of_map taken (e ∷ es) = ap (λ l. own_of taken e ++ l) (flat_of_map taken es)
+flat_of_map taken (Shown claim ∷ es) = ap (λ l. singles_of_claim taken claim ++ l) (flat_of_map taken es)
+flat_of_map taken (Hidden part ∷ es) = flat_of_map taken es
 
-all_left : Book → List Entry → List Booked
-all_left book entries = flat_map (own_of book.taken) entries
+-- each event with a rule has its series
+each_series : (saids ss : List Event) → AllZip (IsSeries saids) ss (map (series_of saids) ss)
+each_series saids [] = tt
+each_series saids (s ∷ ss) = (its_series saids s, each_series saids ss)
+
+all_singles : Book → List Entry → List Booked
+all_singles book entries = flat_map (singles_of_claim book.taken) (claims_kept entries)
+
+-- what the events of a calendar confirm, where these are its entries
+record SpellsEntries (room : List ℕ) (book : Book) (entries : List Entry) (octets : List ℕ) : Type 0 where
+  series : List Meeting
+  each : AllZip (IsLeft book.taken) series (all_series entries)
+  spells : SpellsCalendar room octets (record { series = series; singles = all_singles book entries })
 
 module _ (back : LinesBack) (reads : ReadsLines) (zone_back : ZoneBack) where
-  calendar_spelled : (room : List ℕ) (book : Book) → KeepsAll room book → (octets : List ℕ) (c : IsKeptCalendar room book octets) → SpellsCalendar room octets (without_series (all_left book c.entries))
-  unfolding all_left
+  calendar_spelled : (room : List ℕ) (book : Book) → KeepsAll room book → (octets : List ℕ) (c : IsKeptCalendar room book octets) → SpellsEntries room book c.entries octets
+  unfolding all_singles
   calendar_spelled room book keeps octets c =
       let zones = zones_kept c.entries in
       let b = all_back room book keeps zones c.entries c.events (λ e h. let p = entry_placed book c.entries c.kept e h in (p.first, p.is)) c.each in
@@ -299,51 +382,98 @@ module _ (back : LinesBack) (reads : ReadsLines) (zone_back : ZoneBack) where
       let whole : octets ≡ written t.lines = c.is ∙ ap (λ l. written (opening_lines None) ++ zone_texts 0 zones ++ written (l ++ codes "END:VCALENDAR" ∷ [])) b.are ∙ t.text in
       let logical : logical_lines octets ≡ t.lines = ap logical_lines whole ∙ back t.lines t.content in
       let differ = pairs_from (λ a b. meeting_said a ≡ meeting_said b → slot_of a ≢ slot_of b) b.saids (saids_differ room b.saids c.entries b.entries_are (entries_differ book c.entries c.kept)) in
-      let left = left_all room book keeps c.entries c.kept b.saids b.entries_are b.saids c.entries b.entries_are b.once (λ e h. h) in
-      let says : SaysCalendar room t.kept (without_series (all_left book c.entries)) = record {
-        events = b.saids;
-        says = subst (λ (l : List Lines). AllZip (SaysEvent t.kept None) l b.saids) (sym t.events) (b.says b.owns t);
-        masters = λ i j d l w m n same. differ i j d l w same (ap slot_named m ∙ sym (ap slot_named n));
-        overrides = λ i j d l w slot m n same. differ i j d l w same (ap slot_named m ∙ sym (ap slot_named n));
-        are = subst (λ (all : List Booked). AreConfirmed room b.saids (without_series all)) (flat_of_map book.taken c.entries) (once_confirmed room b.saids (map (own_of book.taken) c.entries) b.once left);
-      } in
+      let singles = left_all room book keeps c.entries c.kept b.saids b.entries_are b.saids c.entries b.entries_are (λ e h. h) in
+      let series = map (series_of b.saids) (filter (is_series room) b.saids) in
+      let are : AreConfirmed room b.saids (record { series = series; singles = flat_map (singles_of_claim book.taken) (claims_kept c.entries) }) =
+      record { series = each_series b.saids (filter (is_series room) b.saids); lists = map (singles_of book.taken) c.entries; each = singles; singles = sym (flat_of_map book.taken c.entries) } in
       record {
-        lines = ap (reads_as_lines false) whole ∙ reads t.lines t.content;
-        tree = t.kept;
-        object = subst (λ (l : Lines). IsObject tree_name tree_own tree_inside false t.kept l) (sym logical) t.object;
-        says = says;
+        series = series;
+        each = series_all room book keeps c.entries c.kept b.saids b.entries_are b.saids c.entries b.entries_are (λ e h. h);
+        spells = record {
+          lines = ap (reads_as_lines false) whole ∙ reads t.lines t.content;
+          tree = t.kept;
+          object = subst (λ (l : Lines). IsObject tree_name tree_own tree_inside false t.kept l) (sym logical) t.object;
+          says = record {
+            events = b.saids;
+            says = subst (λ (l : List Lines). AllZip (SaysEvent t.kept None) l b.saids) (sym t.events) (b.says b.owns t);
+            masters = λ i j d l w m n same. differ i j d l w same (ap slot_named m ∙ sym (ap slot_named n));
+            overrides = λ i j d l w slot m n same. differ i j d l w same (ap slot_named m ∙ sym (ap slot_named n));
+            are = are;
+          };
+        };
       }
 
--- what is left is what is confirmed
-all_confirmed : (room : List ℕ) (book : Book) → KeepsAll room book → (entries : List Entry) → AreKept book entries → AreSame (all_left book entries) (confirmed book)
-unfolding all_left
-all_confirmed room book keeps entries are =
-    same_left book.taken entries book.answers
-    (λ claim c. let p = entry_placed book entries are (Shown claim) c in (p.is.answer, p.is.given, p.is.confirms, p.is.to))
-    (λ a c h. answer_kept book entries are a c (keeps.sound.known a c) h)
-    (entries_differ book entries are) keeps.once
+-- ---- it is what the book has confirmed
+
+zip_long : {X Y : Type 0} (R : X → Y → Type 0) (xs : List X) (ys : List Y) → AllZip R xs ys → length xs ≡ length ys
+zip_long R [] [] z = refl
+zip_long R [] (y ∷ ys) z = absurd z
+zip_long R (x ∷ xs) [] z = absurd z
+zip_long R (x ∷ xs) (y ∷ ys) z = let n = zip_long R xs ys z.1 in omega (arith, n)
+
+-- the calendar spells as many singles and as many series as the book has confirmed, and the same instances
+pub record SpellsConfirmed (room : List ℕ) (book : Book) (calendar : List ℕ) : Type 0 where
+  pub all : Confirmed
+  pub spells : SpellsCalendar room calendar all
+  pub singles : length all.singles ≡ length (confirmed_singles book)
+  pub series : length all.series ≡ length (confirmed_series book)
+  pub exact : (b : Booked) → IsOneOf all b ↔ Confirms book b
+
+module _ (room : List ℕ) (book : Book) (keeps : KeepsAll room book) (entries : List Entry) (are : AreKept book entries) where
+  claims : Reordered (claims_kept entries) (claims_confirmed book)
+  claims = claims_same book entries are keeps.sound.known keeps.once
+
+  singles_are : Reordered (all_singles book entries) (confirmed_singles book)
+  unfolding all_singles
+  singles_are =
+      subst (λ (l : List Booked). Reordered (flat_map (singles_of_claim book.taken) (claims_kept entries)) l) (of_claims (singles_of_claim book.taken) (filter (is_confirmed book.taken) book.answers))
+      (re_flat (singles_of_claim book.taken) (claims_kept entries) (claims_confirmed book) claims)
+
+  series_are : Reordered (all_series entries) (confirmed_series book)
+  series_are =
+      subst (λ (l : List Recurring). Reordered (flat_map series_of_claim (claims_kept entries)) l) (of_claims series_of_claim (filter (is_confirmed book.taken) book.answers))
+      (re_flat series_of_claim (claims_kept entries) (claims_confirmed book) claims)
+
+  module _ (series : List Meeting) (each : AllZip (IsLeft book.taken) series (all_series entries)) where
+    abbrev all : Confirmed
+    all = record { series = series; singles = all_singles book entries }
+
+    one_to : (b : Booked) → IsOneOf all b → Confirms book b
+    one_to b (inl c) = inl (re_in (all_singles book entries) (confirmed_singles book) singles_are b c)
+    one_to b (inr (m, c, is)) =
+        let r = zip_to (IsLeft book.taken) series (all_series entries) m each c in
+        let left = (r.2 b).0 is in
+        inr (record { series = r.0; among = re_in (all_series entries) (confirmed_series book) series_are r.0 r.1; is = left.0; shown = left.1 })
+
+    one_from : (b : Booked) → Confirms book b → IsOneOf all b
+    one_from b (inl c) = inl (re_in (confirmed_singles book) (all_singles book entries) (re_back (all_singles book entries) (confirmed_singles book) singles_are) b c)
+    one_from b (inr l) =
+        let among = re_in (confirmed_series book) (all_series entries) (re_back (all_series entries) (confirmed_series book) series_are) l.series l.among in
+        let m = zip_from (IsLeft book.taken) series (all_series entries) l.series each among in
+        inr (m.0, m.1, (m.2 b).1 (l.is, l.shown))
+
+keeps_same : LinesBack → ReadsLines → ZoneBack → (room : List ℕ) (book : Book) → KeepsAll room book → (calendar : List ℕ) → IsKeptCalendar room book calendar → SpellsConfirmed room book calendar
+keeps_same back reads zone_back room book keeps calendar c =
+    let s = calendar_spelled back reads zone_back room book keeps calendar c in
+    record {
+      all = record { series = s.series; singles = all_singles book c.entries };
+      spells = s.spells;
+      singles = re_length (all_singles book c.entries) (confirmed_singles book) (singles_are room book keeps c.entries c.kept);
+      series = zip_long (IsLeft book.taken) s.series (all_series c.entries) s.each ∙ re_length (all_series c.entries) (confirmed_series book) (series_are room book keeps c.entries c.kept);
+      exact = λ b. (one_to room book keeps c.entries c.kept s.series s.each b, one_from room book keeps c.entries c.kept s.series s.each b);
+    }
 
 -- what is kept passes
 pub keeps_pass : LinesBack → ReadsLines → ZoneBack → (room : List ℕ) (book : Book) → KeepsAll room book → (calendar : List ℕ) → IsKeptCalendar room book calendar → CertificateHolds room calendar (kept_certificate book)
 keeps_pass back reads zone_back room book keeps calendar c =
-    let same = all_confirmed room book keeps c.entries c.kept in
+    let s = keeps_same back reads zone_back room book keeps calendar c in
     let few = keeps.sound.good.few in
     record {
-      confirmed = without_series (all_left book c.entries);
-      spells = calendar_spelled back reads zone_back room book keeps calendar c;
-      stands =
-          stands (without_series (all_left book c.entries)) (record { singles = length (confirmed book); series = 0 }) (omega (arith, few), lit< tt) (sym same.long) refl
-          (singles_alone (all_left book c.entries) (clear_same (all_left book c.entries) (confirmed book) same keeps.sound.good.clear));
+      confirmed = s.all;
+      spells = s.spells;
+      stands = stands s.all (record { singles = length (confirmed_singles book); series = length (confirmed_series book) }) (omega (arith, few.singles), omega (arith, few.series)) (sym s.singles) (sym s.series)
+          (λ a b t x y clash. keeps.sound.good.clear a b t ((s.exact a).0 x) ((s.exact b).0 y) clash);
     }
-
--- the calendar spells what is confirmed, and nothing else
-abbrev pub SpellsConfirmed : List ℕ → Book → List ℕ → Type 0
-SpellsConfirmed room book calendar = (all : List Booked) × SpellsCalendar room calendar (record { series = []; singles = all }) × (length all ≡ length (confirmed book)) × ((b : Booked) → Contains all b ↔ Contains (confirmed book) b)
-
-keeps_same : LinesBack → ReadsLines → ZoneBack → (room : List ℕ) (book : Book) → KeepsAll room book → (calendar : List ℕ) → IsKeptCalendar room book calendar → SpellsConfirmed room book calendar
-keeps_same back reads zone_back room book keeps calendar c =
-    let same = all_confirmed room book keeps c.entries c.kept in
-    (all_left book c.entries, calendar_spelled back reads zone_back room book keeps calendar c, same.long, λ b. (same.to b, same.from b))
 
 pub kept_same : LinesBack → ReadsLines → ZoneBack → (room : List ℕ) (deliveries : List Delivery) → ((d : Delivery) → Contains deliveries d → IsDelivered room d)
     → (book : Book) → Runs empty_book deliveries book → (calendar : List ℕ) → IsKeptCalendar room book calendar → SpellsConfirmed room book calendar

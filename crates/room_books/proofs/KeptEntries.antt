@@ -1,28 +1,25 @@
--- What a room keeps: each entry of another meeting or slot, and what they leave is what the book has confirmed.
-use Rattle.std.proofs.Common.{◌≡◌, ◌∙◌, Bool, true, false, not, cond, List, [], ◌∷◌, filter, refl, sym, ap, ap₂, subst, inl, inr, append-nil}
+-- What a room keeps: each entry of another meeting or slot, and they claim what the book confirms.
+use Rattle.std.proofs.Common.{◌≡◌, ◌≢◌, ◌∙◌, true, List, [], ◌∷◌, ◌++◌, filter, map, refl, sym, ap, subst, inl, inr}
 use Rattle.std.specs.Prelude.{AllPairs}
 use Rattle.std.specs.declared.cmp.Ordering.TheVariants.{Less, Equal}
 use Rattle.std.specs.Ordering.{is_eq, ordering_then}
 use Rattle.std.specs.List.{Contains, flat_map, AllZip}
-use Rattle.std.proofs.lemmas.Bool.{both_ways, false_from_ne_true, not-true, not_from_false, true≢false}
+use Rattle.std.proofs.lemmas.Bool.{both_ways}
 use Rattle.std.proofs.lemmas.Cmp.{tied_itself}
 use Rattle.std.proofs.lemmas.Map.Lookups.{exact_bytes}
-use Rattle.profile.specs.checker.Instances.{Booked}
-use Rattle.profile.specs.rooms.Revisions.{Part, Slot, meeting_cmp, octets_cmp, slot_cmp, same_meeting, same_part, same_place}
-use Rattle.profile.specs.rooms.Rooms.{Claim, Answer, Book, confirmed_in, is_confirmed, is_hidden, left_of}
+use Rattle.profile.specs.rooms.Revisions.{Part, Slot, meeting_cmp, octets_cmp, slot_cmp, same_meeting, same_place}
+use Rattle.profile.specs.rooms.Rooms.{Claim, Answer, Book, is_confirmed}
 use Rattle.profile.specs.rooms.Kept.{Entry, Shown, Hidden, part_kept, IsEntry, AreKeptOf, AreKept, first_parts}
 use Rattle.cal_events.proofs.InOneOrder.{head_pairs, tail_pairs}
-use Rattle.itip_order.proofs.Lists.{in_cons, in_head, in_tail, none_in_nil, filter_at, filter_from}
+use Rattle.itip_order.proofs.Lists.{in_cons, in_head, none_in_nil, filter_at, filter_from}
 use Rattle.itip_order.proofs.Order.{is_eq_true, then_equal, slot_total, place_total}
-use Rattle.itip_order.proofs.Registers.{same_part_is, same_part_refl}
+use Rattle.room_books.specs.BySlot.{Reordered}
 use Rattle.room_books.specs.Standing.{Pairwise}
 use Rattle.room_books.proofs.AcceptedSlots.{slot_same}
 use Rattle.room_books.proofs.KeptMeetings.{Apart, firsts_apart, firsts_cover, meeting_sym, meeting_trans}
 use Rattle.room_books.proofs.Loops.{zip_from, zip_to}
-use Rattle.room_books.proofs.Meetings.{filter_none}
-use Rattle.room_books.proofs.Pairs.{flat_at, flat_from, pairs_append, pairs_filter}
-use Rattle.room_books.proofs.Partition.{confirmed_split}
-use Rattle.room_books.proofs.Same.{AreSame, same_itself, same_then, same_append, same_turned}
+use Rattle.room_books.proofs.Members.{same_members}
+use Rattle.room_books.proofs.Pairs.{flat_at, flat_from, map_at, map_from, pairs_append, pairs_filter, pairs_map}
 use Rattle.room_books.proofs.SlotsApart.{OtherPart}
 
 -- ---- places
@@ -118,70 +115,67 @@ answer_kept book entries k a c known h =
     let own : Contains es.0 (Shown a.claim) = (es.2.exact (Shown a.claim)).1 (record { of_meeting = first.2; answer = a; given = c; to = refl; confirms = h }) in
     subst (λ (l : List Entry). Contains l (Shown a.claim)) (sym k.are) (flat_from (λ c. c) k.by_meeting es.0 (Shown a.claim) es.1 own)
 
--- ---- what they leave
+-- ---- what they claim
 
--- the instances of what is shown that no other part hides
-abbrev pub own_of : List Part → Entry → List Booked
-own_of taken (Shown claim) = filter (λ booked. not (is_hidden taken claim.part booked)) claim.singles
-own_of taken (Hidden part) = []
+-- the claim of an entry that is shown
+abbrev pub claim_kept : Entry → List Claim
+claim_kept (Shown claim) = claim ∷ []
+claim_kept (Hidden part) = []
 
--- one answer alone has a part
-only_one : (f : Answer → Bool) (xs : List Answer) (a : Answer) → Pairwise OtherPart xs → Contains xs a → f a ≡ true → ((x : Answer) → f x ≡ true → x.claim.part ≡ a.claim.part) → filter f xs ≡ a ∷ []
-only_one f [] a p c t h = absurd (none_in_nil a c)
-only_one f (x ∷ xs) a p c t h = elim (in_cons x xs a c) [
-  | inl here ↦
-      let passes : f x ≡ true = ap f here ∙ t in
-      let none : filter f xs ≡ [] = filter_none f xs (λ y k. false_from_ne_true _ (λ e. p.0 y k (h x passes ∙ sym (h y e)))) in
-      ap (λ b. cond b (x ∷ filter f xs) (filter f xs)) passes ∙ ap₂ (λ y l. y ∷ l) here none
-  | inr there ↦
-      let fails : f x ≡ false = false_from_ne_true _ (λ e. p.0 a there (h x e)) in
-      ap (λ b. cond b (x ∷ filter f xs) (filter f xs)) fails ∙ only_one f xs a p.1 there t h
-]
+abbrev pub claims_kept : List Entry → List Claim
+claims_kept entries = flat_map claim_kept entries
 
-none_confirmed : (taken : List Part) (xs : List Answer) → ((a : Answer) → Contains xs a → is_confirmed taken a ≡ true → ⊥) → confirmed_in taken xs ≡ []
-none_confirmed taken xs h = ap (flat_map (left_of taken)) (filter_none (is_confirmed taken) xs (λ a c. false_from_ne_true _ (h a c)))
+-- the claims that the book confirms
+abbrev pub claims_confirmed : Book → List Claim
+claims_confirmed book = map (λ (a : Answer). a.claim) (filter (is_confirmed book.taken) book.answers)
 
-module _ (taken : List Part) where
-  one_confirmed : (a : Answer) → is_confirmed taken a ≡ true → confirmed_in taken (a ∷ []) ≡ left_of taken a
-  one_confirmed a h = ap (λ b. flat_map (left_of taken) (cond b (a ∷ []) [])) h ∙ append-nil (left_of taken a)
+pub shown_from : (entries : List Entry) (claim : Claim) → Contains entries (Shown claim) → Contains (claims_kept entries) claim
+shown_from entries claim c = flat_from claim_kept entries (Shown claim) claim c (in_head claim [])
 
-  pub same_left : (es : List Entry) (xs : List Answer) → ((c : Claim) → Contains es (Shown c) → (a : Answer) × Contains xs a × (is_confirmed taken a ≡ true) × (a.claim ≡ c))
-      → ((a : Answer) → Contains xs a → is_confirmed taken a ≡ true → Contains es (Shown a.claim)) → Pairwise EntriesDiffer es → Pairwise OtherPart xs → AreSame (flat_map (own_of taken) es) (confirmed_in taken xs)
-  same_left [] xs to from d p =
-      subst (λ (l : List Booked). AreSame [] l) (sym (none_confirmed taken xs (λ a c h. none_in_nil (Shown a.claim) (from a c h)))) (same_itself [])
-  same_left (Hidden q ∷ es) xs to from d p =
-      same_left es xs (λ c k. to c (in_tail (Hidden q) es (Shown c) k))
-      (λ a c h. elim (in_cons (Hidden q) es (Shown a.claim) (from a c h)) [ inl here ↦ absurd (other_entry q a.claim here) | inr there ↦ there ]) d.1 p
-    where
-      other_entry : (q : Part) (c : Claim) → Hidden q ≡ Shown c → ⊥
-      other_entry q c e = true≢false (sym (ap is_shown e))
-        where
-          is_shown : Entry → Bool
-          is_shown (Shown c) = true
-          is_shown (Hidden p) = false
-  same_left (Shown c ∷ es) xs to from d p =
-      let one = to c (in_head (Shown c) es) in
-      let a = one.0 in
-      let f : Answer → Bool = λ x. same_part x.claim.part c.part in
-      let own : a.claim.part ≡ c.part = ap (λ (x : Claim). x.part) one.3 in
-      let alone : filter f xs ≡ a ∷ [] = only_one f xs a p one.1 (ap (λ (q : Part). same_part q c.part) own ∙ same_part_refl c.part) (λ x e. same_part_is x.claim.part c.part e ∙ sym own) in
-      let others = filter (λ x. not (f x)) xs in
-      let first : confirmed_in taken (filter f xs) ≡ own_of taken (Shown c) = ap (confirmed_in taken) alone ∙ one_confirmed a one.2 ∙ ap (λ (x : Claim). filter (λ b. not (is_hidden taken x.part b)) x.singles) one.3 in
-      let rest = same_left es others
-      (λ e k.
-      let found = to e (in_tail (Shown c) es (Shown e) k) in
-      let apart : f found.0 ≡ false = false_from_ne_true _ (λ t. d.0 (Shown e) k (places (sym (same_part_is found.0.claim.part c.part t) ∙ ap (λ (x : Claim). x.part) found.3))) in
-      (found.0, filter_from (λ x. not (f x)) xs found.0 found.1 (not_from_false _ apart), found.2, found.3))
-      (λ x k h.
-      let there = filter_at (λ x. not (f x)) xs x k in
-      elim (in_cons (Shown c) es (Shown x.claim) (from x there.0 h)) [
-        | inl here ↦ absurd (both_ways _ (not-true _ there.1) (ap (λ (e : Entry). same_part (part_kept e) c.part) (sym here) ∙ same_part_refl c.part))
-        | inr later ↦ later
-      ])
-      d.1 (pairs_filter OtherPart (λ x. not (f x)) xs p) in
-      let split = same_turned _ _ (confirmed_split taken f xs) in
-      same_then _ _ _ (same_append (own_of taken (Shown c)) (confirmed_in taken (filter f xs)) (flat_map (own_of taken) es) (confirmed_in taken others)
-      (subst (λ (l : List Booked). AreSame (own_of taken (Shown c)) l) (sym first) (same_itself (own_of taken (Shown c)))) rest) split
-    where
-      places : {p q : Part} → p ≡ q → SamePlace p q
-      places e = record { organiser = ap (λ (x : Part). x.organiser) e; uid = ap (λ (x : Part). x.uid) e; slot = ap (λ (x : Part). x.slot) e }
+pub shown_at : (entries : List Entry) (claim : Claim) → Contains (claims_kept entries) claim → Contains entries (Shown claim)
+shown_at entries claim c = let found = flat_at claim_kept entries claim c in of_entry found.0 found.1 found.2
+  where
+    of_entry : (e : Entry) → Contains entries e → Contains (claim_kept e) claim → Contains entries (Shown claim)
+    of_entry (Shown other) k c = elim (in_cons other [] claim c) [ inl here ↦ subst (λ (x : Claim). Contains entries (Shown x)) here k | inr none ↦ absurd (none_in_nil claim none) ]
+    of_entry (Hidden part) k c = absurd (none_in_nil claim c)
+
+places : {p q : Part} → p ≡ q → SamePlace p q
+places e = record { organiser = ap (λ (x : Part). x.organiser) e; uid = ap (λ (x : Part). x.uid) e; slot = ap (λ (x : Part). x.slot) e }
+
+-- none is claimed twice
+kept_once : (entries : List Entry) → Pairwise EntriesDiffer entries → Pairwise ◌≢◌ (claims_kept entries)
+kept_once [] d = tt
+kept_once (Shown claim ∷ entries) d = (
+  λ other c same. d.0 (Shown other) (shown_at entries other c) (places (ap (λ (x : Claim). x.part) same)),
+  kept_once entries d.1,
+)
+kept_once (Hidden part ∷ entries) d = kept_once entries d.1
+
+apart_claims : (xs : List Answer) → Pairwise OtherPart xs → Pairwise (λ a b. a.claim ≢ b.claim) xs
+apart_claims [] p = tt
+apart_claims (a ∷ xs) p = (λ b c same. p.0 b c (ap (λ (x : Claim). x.part) same), apart_claims xs p.1)
+
+confirmed_once : (book : Book) → Pairwise OtherPart book.answers → Pairwise ◌≢◌ (claims_confirmed book)
+confirmed_once book once =
+    let xs = filter (is_confirmed book.taken) book.answers in
+    pairs_map ◌≢◌ (λ (a : Answer). a.claim) xs (apart_claims xs (pairs_filter OtherPart (is_confirmed book.taken) book.answers once))
+
+-- the entries claim what the book confirms, in another order
+pub claims_same : (book : Book) (entries : List Entry) → AreKept book entries → ((a : Answer) → Contains book.answers a → Contains book.taken a.claim.part) → Pairwise OtherPart book.answers
+    → Reordered (claims_kept entries) (claims_confirmed book)
+claims_same book entries are known once =
+    same_members (claims_kept entries) (claims_confirmed book) (kept_once entries (entries_differ book entries are)) (confirmed_once book once)
+    (λ claim c.
+    let p = (entry_placed book entries are (Shown claim) (shown_at entries claim c)).is in
+    subst (λ (x : Claim). Contains (claims_confirmed book) x) p.to
+    (map_from (λ (a : Answer). a.claim) (filter (is_confirmed book.taken) book.answers) p.answer (filter_from (is_confirmed book.taken) book.answers p.answer p.given p.confirms)))
+    (λ claim c.
+    let found = map_at (λ (a : Answer). a.claim) (filter (is_confirmed book.taken) book.answers) claim c in
+    let from = filter_at (is_confirmed book.taken) book.answers found.0 found.1 in
+    subst (λ (x : Claim). Contains (claims_kept entries) x) found.2
+    (shown_from entries found.0.claim (answer_kept book entries are found.0 from.0 (known found.0 from.0) from.1)))
+
+-- what the answers to some claims give
+pub of_claims : {X : Type 0} (f : Claim → List X) (xs : List Answer) → flat_map f (map (λ (a : Answer). a.claim) xs) ≡ flat_map (λ (a : Answer). f a.claim) xs
+of_claims f [] = refl
+of_claims f (a ∷ xs) = ap (λ l. f a.claim ++ l) (of_claims f xs)

@@ -58,7 +58,7 @@ hidden_says uid_is instant number uid recurrence sequence stamp start organiser 
     most = omega arith;
     in_dates = (dated.0, dated.0, dated.1);
   });
-  rule = record { line = None; once = refl; stands = λ h. absurd (false≢true h); is = tt };
+  rule = record { text = None; spells = record { line = None; once = refl; stands = λ h. absurd (false≢true h); is = tt }; gives = tt };
   occurrences = record {
     is = record { line = Some (codes "RECURRENCE-ID:" ++ recurrence); once = refl; stands = λ h. absurd (false≢true h); is = (refl, (None, instant, (refl, at), utc_means instant, (dated.0, dated.0, dated.1))) };
     adds = (tt, omega arith);

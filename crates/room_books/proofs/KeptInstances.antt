@@ -1,31 +1,27 @@
--- The instances of a kept VEVENT are those of the event that it is kept of: all that a message asks for.
-use Rattle.std.proofs.Common.{◌≡◌, ◌∙◌, refl, sym, ap, subst, inl, inr, ◌⊎◌, ℕ, ℤ, ◌<ℤ◌, ◌≤ℤ◌, T, Bool, true, false, not, List, [], Option, Some, None, arith}
-use Rattle.std.specs.Prelude.{AllPairs, Contains, filter, unwrap_or}
+-- The instances of a kept VEVENT are those of the event that it is kept of: all that a message asks for. Those that nothing hides are what the
+-- kept calendar confirms of it.
+use Rattle.std.proofs.Common.{◌≡◌, ◌∙◌, refl, sym, ap, subst, inl, inr, ◌⊎◌, ℕ, ℤ, ◌<ℤ◌, ◌≤ℤ◌, T, Bool, true, false, not, ◌&&◌, List, [], Option, Some, None, arith}
+use Rattle.std.specs.Prelude.{◌↔◌, Contains, filter, is_some, unwrap_or}
 use Rattle.std.specs.Int.Signed.{lt_z, lt_z_yes, lt_z_no}
-use Rattle.std.proofs.lemmas.Bool.{and_from, not_from_false, not-true, false_from_ne_true, true≢false}
+use Rattle.std.proofs.lemmas.Bool.{and_parts, and_from, not_from_false, not-true, false_from_ne_true, true≢false}
 use Rattle.std.proofs.lemmas.Int.{ints}
 use Rattle.std.proofs.lemmas.List.Elements.{All-nil, All-contains, Contains-get_or}
 use Rattle.std.proofs.lemmas.List.Kept.{AllPairs-filter}
 use Rattle.profile.specs.checker.Instances.{Booked, horizon}
 use Rattle.profile.specs.events.Properties.{first_second}
 use Rattle.profile.specs.events.Events.{Event}
-use Rattle.profile.specs.events.Meetings.{is_master}
-use Rattle.profile.specs.events.Starts.{IsStart, IsGiven, IsInstance, AreInstancesFrom, ComesBefore, key_at}
-use Rattle.profile.specs.events.Confirmed.{alone, is_kept, IsReplaced, IsSingle, AreSingles}
+use Rattle.profile.specs.events.Meetings.{Meeting, is_master}
+use Rattle.profile.specs.events.Starts.{IsStart, IsGiven, IsInstance, IsRuleStart, ComesBefore, key_at}
+use Rattle.profile.specs.events.Confirmed.{alone, has_series, is_kept, AreApart, AreOfRule, AreSingles, IsInstanceAmong, IsOfSeries, IsReplaced, IsSeries, IsSingle}
 use Rattle.profile.specs.rooms.Messages.{AreAscending, is_in_dates}
+use Rattle.profile.specs.rooms.Rooms.{Claim}
+use Rattle.profile.specs.streams.Streams.{AsksFor}
 use Rattle.profile.specs.series.Rules.{Parts, is_rule_day}
 use Rattle.cal_events.proofs.InOneOrder.{in_filtered, of_filtered}
 use Rattle.cal_events.proofs.OwnSingles.{IsAtStart, IsItself, master_alone, alone_master, override_alone, alone_override, of_both}
-use Rattle.cal_events.proofs.PlainSingles.{no_rule}
-use Rattle.cal_events.specs.OwnInstances.{IsTimely}
+use Rattle.cal_events.proofs.SeriesLemmas.{in_its_series, of_its_series}
 use Rattle.room_books.proofs.KeptOwn.{zoned_event}
 use Rattle.room_books.proofs.ZonedStarts.{local_written}
-
--- these are all instances of an event by itself, by start and then by slot
-pub record AreAllOf (event : Event) (instances : List Booked) : Type 0 where
-  pub each : (b : Booked) → Contains instances b → IsInstance (alone event) b
-  pub ordered : AllPairs ComesBefore instances
-  pub all : (b : Booked) → IsInstance (alone event) b → Contains instances b
 
 lesser : (a b : ℤ) → a <ℤ b → lt_z a b ≡ true
 lesser a b h = by (lt_z a b) refl
@@ -52,7 +48,7 @@ IsSameRule None (Some back) = ⊥
 IsSameRule (Some rule) None = ⊥
 
 module _ (event : Event) (number : ℕ) (organiser : List ℕ) (stamp : ℤ) (room : List ℕ) (back : Option Parts) (additions exceptions : List ℤ)
-    (organised : event.organiser ≡ Some organiser) (local_same : local_written event.times.zone event.times ≡ event.times.local) (same : IsSameRule event.rule back) (timely : IsTimely event)
+    (organised : event.organiser ≡ Some organiser) (local_same : local_written event.times.zone event.times ≡ event.times.local) (same : IsSameRule event.rule back)
     (adds : AreAscending event.additions additions) (takes : AreAscending (filter is_in_dates event.exceptions) exceptions) where
   abbrev kept : Event
   kept = zoned_event event event.recurrence number organiser stamp room back additions exceptions
@@ -139,22 +135,56 @@ module _ (event : Event) (number : ℕ) (organiser : List ℕ) (stamp : ℤ) (ro
       go (inl none) = alone_master event b none (at_start_from b (master_alone kept b none h))
       go (inr (slot, is)) = alone_override event b slot is (itself_from b (override_alone kept b slot is h))
 
-  -- none starts before the first second
-  from_first : (b : Booked) → IsInstance (alone event) b → first_second ≤ℤ b.start
-  from_first b h = go (of_both event)
-    where
-      go : OneOrOther → first_second ≤ℤ b.start
-      go (inl none) = (master_alone event b none h).starts.in_dates.0
-      go (inr (slot, is)) = subst (λ (t : ℤ). first_second ≤ℤ t) (sym (override_alone event b slot is h).starts) timely.starts.0
+  -- ---- those of its series
 
-  pub kept_all : (singles : List Booked) → AreInstancesFrom (alone event) first_second singles → AreAllOf kept singles
-  kept_all singles a = record {
-    each = λ b c. instance_to b (All-contains (λ x. IsInstance (alone event) x × (first_second ≤ℤ x.start)) singles b a.each c).0;
-    ordered = a.ordered;
-    all = λ b h. let own = instance_from b h in a.all b own (from_first b own);
-  }
+  by_rule : (rule kept_rule : Option Parts) → IsSameRule rule kept_rule → (r : Parts) → rule ≡ Some r → (t : ℤ) → IsRuleStart event.times r t → (k : Parts) × (kept_rule ≡ Some k) × IsRuleStart kept.times k t
+  by_rule None kept_rule e r is t g = cc
+  by_rule (Some rule) None e r is t g = absurd e
+  by_rule (Some rule) (Some kept_rule) e r is t g =
+      (kept_rule, refl, by_rule_to (Some rule) (Some kept_rule) e t (subst (λ (o : Option Parts). IsGiven event.times o t) (sym is) g))
 
--- ---- those that nothing hides are singles among others
+  of_rule : (rule kept_rule : Option Parts) → IsSameRule rule kept_rule → (k : Parts) → kept_rule ≡ Some k → (t : ℤ) → IsRuleStart kept.times k t → (r : Parts) × (rule ≡ Some r) × IsRuleStart event.times r t
+  of_rule rule None e k is t g = cc
+  of_rule None (Some kept_rule) e k is t g = absurd e
+  of_rule (Some rule) (Some kept_rule) e k is t g =
+      (rule, refl, by_rule_from (Some rule) (Some kept_rule) e t (subst (λ (o : Option Parts). IsGiven kept.times o t) (sym is) g))
+
+  series_to : (b : Booked) → IsOfSeries event b → IsOfSeries kept b
+  series_to b h = let r = by_rule event.rule back same h.rule h.has b.start h.starts in record { master = h.master; rule = r.0; has = r.1; starts = r.2 }
+
+  series_from : (b : Booked) → IsOfSeries kept b → IsOfSeries event b
+  series_from b h = let r = of_rule event.rule back same h.rule h.has b.start h.starts in record { master = h.master; rule = r.0; has = r.1; starts = r.2 }
+
+  both_rules : (rule kept_rule : Option Parts) → IsSameRule rule kept_rule → is_some kept_rule ≡ is_some rule
+  both_rules None None e = refl
+  both_rules (Some rule) (Some kept_rule) e = refl
+  both_rules None (Some kept_rule) e = absurd e
+  both_rules (Some rule) None e = absurd e
+
+  has_too : has_series kept ≡ has_series event
+  has_too = ap (λ b. is_master event && b) (both_rules event.rule back same)
+
+  of_rule_kept : (series : Option Meeting) → AreOfRule event series → AreOfRule kept series
+  of_rule_kept None h = has_too ∙ h
+  of_rule_kept (Some series) h = (
+    has_too ∙ h.0,
+    λ b. (
+      λ is. let own = (h.1 b).0 is in (instance_to b own.0, series_to b own.1),
+      λ own. (h.1 b).1 (instance_from b own.0, series_from b own.1),
+    ),
+  )
+
+  pub kept_asks : (claim : Claim) → AsksFor true event claim → AsksFor true kept claim
+  kept_asks claim (a, r) = (
+    record {
+      each = λ i d l. let own = a.each i d l in (instance_to _ own.0, λ s. own.1 (series_from _ s));
+      ordered = a.ordered;
+      all = λ b h apart. a.all b (instance_from b h) (λ s. apart (series_to b s));
+    },
+    of_rule_kept claim.series r,
+  )
+
+-- ---- those that nothing hides are confirmed among others
 
 -- where what hides an instance of the event is what stands for it
 pub record IsHiding (saids : List Event) (said : Event) (hidden : Booked → Bool) : Type 0 where
@@ -162,20 +192,38 @@ pub record IsHiding (saids : List Event) (said : Event) (hidden : Booked → Boo
   pub hides : (b : Booked) → IsInstance (alone said) b → is_master said ≡ true → IsReplaced saids said b.start → hidden b ≡ true
   pub master : (b : Booked) → hidden b ≡ true → is_master said ≡ true
 
-pub singles_left : (room : List ℕ) (saids : List Event) (said : Event) (hidden : Booked → Bool) (singles : List Booked) → is_kept room said ≡ true → said.rule ≡ None → AreAllOf said singles → IsHiding saids said hidden
-    → AreSingles room saids said (filter (λ b. not (hidden b)) singles)
-singles_left room saids said hidden singles kept once a h = record {
-  each = λ i d l. single (of_filtered (λ b. not (hidden b)) singles _ (Contains-get_or (filter (λ b. not (hidden b)) singles) i d l));
-  ordered = AllPairs-filter ComesBefore (λ b. not (hidden b)) singles a.ordered;
-  all = λ b s. in_filtered (λ b. not (hidden b)) singles b (a.all b s.is.is) (not_from_false _ (false_from_ne_true _ (λ t. s.is.shown (h.master b t) (h.stands b s.is.is t))));
-}
-  where
-    single : {b : Booked} → Contains singles b × (not (hidden b) ≡ true) → IsSingle room saids said b
-    single {b = b} (c, shown) = record {
-      kept = kept;
-      is = record { is = a.each b c; shown = λ master r. true≢false (sym (h.hides b (a.each b c) master r) ∙ not-true _ shown) };
-      apart = no_rule said b once;
-    }
+module _ (saids : List Event) (said : Event) (hidden : Booked → Bool) (h : IsHiding saids said hidden) where
+  among_others : (b : Booked) → IsInstance (alone said) b → not (hidden b) ≡ true → IsInstanceAmong saids said b
+  among_others b is shown = record { is = is; shown = λ master r. true≢false (sym (h.hides b is master r) ∙ not-true _ shown) }
+
+  not_hidden_there : (b : Booked) → IsInstanceAmong saids said b → not (hidden b) ≡ true
+  not_hidden_there b s = not_from_false _ (false_from_ne_true _ (λ t. s.shown (h.master b t) (h.stands b s.is t)))
+
+  -- as singles
+  pub singles_left : (room : List ℕ) (singles : List Booked) → is_kept room said ≡ true → AreApart said singles → AreSingles room saids said (filter (λ b. not (hidden b)) singles)
+  singles_left room singles kept a = record {
+    each = λ i d l. single (of_filtered (λ b. not (hidden b)) singles _ (Contains-get_or (filter (λ b. not (hidden b)) singles) i d l));
+    ordered = AllPairs-filter ComesBefore (λ b. not (hidden b)) singles a.ordered;
+    all = λ b s. in_filtered (λ b. not (hidden b)) singles b (a.all b s.is.is s.apart) (not_hidden_there b s.is);
+  }
+    where
+      single : {b : Booked} → Contains singles b × (not (hidden b) ≡ true) → IsSingle room saids said b
+      single {b = b} (c, shown) =
+          let own = All-contains (λ x. IsInstance (alone said) x × (IsOfSeries said x → ⊥)) singles b a.each c in
+          record { kept = kept; is = among_others b own.0 shown; apart = own.1 }
+
+  -- and as those of a series: the instances of the meeting that no other part hides
+  pub series_left : (meeting series : Meeting) → AreOfRule said (Some meeting) → IsSeries saids said series
+      → (b : Booked) → IsInstance series b ↔ (IsInstance meeting b × (hidden b ≡ false))
+  series_left meeting series of s b =
+      let both = and_parts _ _ of.0 in (
+        λ is.
+            let own = of_its_series saids said both.0 series s both.1 b is in
+            ((of.1 b).1 (own.0.is, own.1), not-true _ (not_hidden_there b own.0)),
+        λ left.
+            let own = (of.1 b).0 left.0 in
+            in_its_series saids said both.0 series s b (among_others b own.0 (not_from_false _ left.1)) own.1,
+      )
 
 -- of what isn't kept nothing is left
 pub none_left : (room : List ℕ) (saids : List Event) (said : Event) → is_kept room said ≡ false → AreSingles room saids said []

@@ -9,12 +9,12 @@ use Rattle.profile.specs.text.Values.{SpellsStamp, SpellsSequence, SpellsDuratio
 use Rattle.profile.specs.events.Events.{Event, Accepted, IsAttendee, SaysEvent}
 use Rattle.profile.specs.events.Occurrences.{IsListed, IsInside, entries_of, entries_named, most_entries}
 use Rattle.profile.specs.events.Properties.{is_of, lines_named, length_seconds, longest}
-use Rattle.profile.specs.events.ZonedTimes.{SaysEventTimes, IsInDates, clock_of}
+use Rattle.profile.specs.events.ZonedTimes.{EventTimes, SaysEventTimes, IsInDates, clock_of}
 use Rattle.profile.specs.rooms.Messages.{WritesTimes}
 use Rattle.profile.specs.series.Rules.{Parts, RuleText}
 use Rattle.profile.specs.series.RuleTexts.{SpellsRule}
 use Rattle.profile.specs.series.Zones.{Means, Zone}
-use Rattle.profile.specs.events.EventRules.{GivesRule, SaysEventRule}
+use Rattle.profile.specs.events.EventRules.{GivesBeside, GivesRule, SaysEventRule}
 use Rattle.ical_lines.proofs.CleanLines.{is_shown}
 use Rattle.itip_messages.proofs.TimeLists.{IsStart, rdate_name, exdate_name, times_back, times_inside, times_named, times_unnamed, utc_means}
 use Rattle.itip_messages.proofs.ZonePlaces.{StartsAs}
@@ -258,14 +258,28 @@ module _ (name : List ℕ) (event : Event) (recurrence : Option (List ℕ)) (slo
   rules_of r lacks = rules_named name event slot start duration rules additions exceptions back added taken w (own_front r uid sequence stamp) (own_back organiser room) ∙ ap (λ (l : Lines). (l ++ (rules ++ [])) ++ []) lacks ∙ append-nil (rules ++ []) ∙ append-nil rules
 
   -- the rule that they say
-  rule_of_lines : (r : Option (List ℕ)) → lines_named (codes "RRULE") (own_front r uid sequence stamp) ≡ []
-      → SaysEventRule (own r) (record { zone = event.times.zone; local = local_written event.times.zone event.times; start = event.times.start; length = event.times.length }) back
-  rule_of_lines r lacks = go back w.recurs
+  abbrev times : EventTimes
+  times = record { zone = event.times.zone; local = local_written event.times.zone event.times; start = event.times.start; length = event.times.length }
+
+  rule_of_lines : (r : Option (List ℕ)) → lines_named (codes "RRULE") (own_front r uid sequence stamp) ≡ [] → lines_named (codes "DTSTART") (own_front r uid sequence stamp) ≡ [] → SaysEventRule (own r) times back
+  rule_of_lines r lacks no_start = go back w.recurs
     where
-      go : (b : Option Parts) → SpellRule (clock_of event.times.zone) (local_written event.times.zone event.times) rules b
-          → SaysEventRule (own r) (record { zone = event.times.zone; local = local_written event.times.zone event.times; start = event.times.start; length = event.times.length }) b
-      go None none = record { line = None; once = rules_of r lacks ∙ none; stands = λ h. absurd (false≢true h); is = tt }
-      go (Some b) (value, are, shown, (text, spelled, gives)) = record { line = Some (codes "RRULE:" ++ value); once = rules_of r lacks ∙ are; stands = λ h. absurd (false≢true h); is = (text, spelled, gives) }
+      starts : start ∷ [] ≡ lines_named (codes "DTSTART") (own r)
+      starts =
+          sym (start_once name event slot start duration rules additions exceptions back added taken w (own_front r uid sequence stamp) (own_back organiser room)
+          ∙ ap (λ (l : Lines). (l ++ start ∷ []) ++ []) no_start)
+
+      go : (b : Option Parts) → SpellRule (clock_of event.times.zone) (local_written event.times.zone event.times) rules b → SaysEventRule (own r) times b
+      go None none = record {
+        text = None;
+        spells = record { line = None; once = rules_of r lacks ∙ none; stands = λ h. absurd (false≢true h); is = tt };
+        gives = subst (λ (l : Lines). GivesBeside l times None None) starts tt;
+      }
+      go (Some b) (value, are, shown, (text, spelled, gives)) = record {
+        text = Some text;
+        spells = record { line = Some (codes "RRULE:" ++ value); once = rules_of r lacks ∙ are; stands = λ h. absurd (false≢true h); is = spelled };
+        gives = subst (λ (l : Lines). GivesBeside l times (Some text) (Some b)) starts gives;
+      }
 
   pub zoned_says : SpellSlot recurrence slot → (object : Tree) → MeansZone object name event.times.zone
       → SaysEvent object None (own_lines recurrence uid sequence stamp (when_lines start duration rules additions exceptions) organiser room) (zoned_event event slot number organiser stamped room back w.adds.ascending w.takes.ascending)
@@ -281,7 +295,7 @@ module _ (name : List ℕ) (event : Event) (recurrence : Option (List ℕ)) (slo
         sequence = (Some number, record { line = Some (codes "SEQUENCE:" ++ sequence); once = named_of None (codes "SEQUENCE") refl (λ v. refl) (λ v. refl) (λ v. refl) (λ rest. refl); stands = λ _. refl; is = s.numbered }, refl);
         status = (None, named_of None (codes "STATUS") refl (λ v. refl) (λ v. refl) (λ v. refl) (λ rest. refl), refl);
         times = inl (times_of None object m refl refl refl);
-        rule = rule_of_lines None refl;
+        rule = rule_of_lines None refl refl;
         occurrences = record {
           is = record { line = None; once = named_of None (codes "RECURRENCE-ID") refl (λ v. refl) (λ v. refl) (λ v. refl) (λ rest. refl); stands = λ h. absurd (false≢true h); is = tt };
           adds = (entries_added None object refl, w.few_added);
@@ -298,7 +312,7 @@ module _ (name : List ℕ) (event : Event) (recurrence : Option (List ℕ)) (slo
         sequence = (Some number, record { line = Some (codes "SEQUENCE:" ++ sequence); once = named_of (Some text) (codes "SEQUENCE") refl (λ v. refl) (λ v. refl) (λ v. refl) (λ rest. refl); stands = λ _. refl; is = s.numbered }, refl);
         status = (None, named_of (Some text) (codes "STATUS") refl (λ v. refl) (λ v. refl) (λ v. refl) (λ rest. refl), refl);
         times = inl (times_of (Some text) object m refl refl refl);
-        rule = rule_of_lines (Some text) refl;
+        rule = rule_of_lines (Some text) refl refl;
         occurrences = record {
           is = record { line = Some (codes "RECURRENCE-ID:" ++ text); once = named_of (Some text) (codes "RECURRENCE-ID") refl (λ v. refl) (λ v. refl) (λ v. refl) (λ rest. refl); stands = λ h. absurd (false≢true h); is = (refl, (None, i, (refl, q.0), utc_means i, (q.1.0, q.1.0, q.1.1))) };
           adds = (entries_added (Some text) object refl, w.few_added);

@@ -1,5 +1,5 @@
 -- Over every run each part was asked for by some octets, and no part is answered twice.
-use Rattle.std.proofs.Common.{◌≡◌, ◌≢◌, ◌∙◌, ℕ, ℤ, Bool, true, false, filter, List, [], ◌∷◌, sym, ap, subst, arith, inl, inr}
+use Rattle.std.proofs.Common.{◌≡◌, ◌≢◌, ◌∙◌, ℕ, ℤ, Bool, true, false, filter, List, [], ◌∷◌, refl, sym, ap, subst, inl, inr}
 use Rattle.std.specs.Prelude.{AllPairs, if◌then◌else◌}
 use Rattle.std.specs.declared.cmp.Ordering.TheVariants.{Less, Equal}
 use Rattle.std.specs.List.{Contains, AllZip}
@@ -16,7 +16,7 @@ use Rattle.cal_events.proofs.InOneOrder.{head_pairs, tail_pairs, of_filtered}
 use Rattle.itip_order.proofs.Lists.{in_cons, in_head, in_tail, none_in_nil}
 use Rattle.itip_order.proofs.Order.{slot_total}
 use Rattle.room_books.proofs.Views.{view_back}
-use Rattle.room_books.proofs.Runs.{IsSound, step_sound, new_answer}
+use Rattle.room_books.proofs.Runs.{IsSound, step_sound, new_answer, runs_good}
 use Rattle.room_books.proofs.KeptAnswers.{IsAsked, IsAskedFor}
 use Rattle.room_books.proofs.SlotsApart.{OtherPart, new_once}
 use Rattle.room_books.specs.Standing.{Pairwise}
@@ -33,7 +33,7 @@ module _ (room octets : List ℕ) (given : Message) (s : SpellsMessage octets gi
   asked_for : (event : Event) (claim : Claim) → Contains (events_of given.meeting) event → IsClaim room given event claim → IsAskedFor room claim
   asked_for event claim c is = record {
     asked = record { octets = octets; given = given; spells = s; event = event; among = c; is_part = is.part };
-    books = is.singles;
+    books = is.asks;
   }
 
   abbrev Here : List Event → Type 0
@@ -123,7 +123,7 @@ pub keeps_none : (room : List ℕ) → KeepsAll room empty_book
 keeps_none room = record {
   sound = record {
     known = λ a c. absurd (none_in_nil a c);
-    good = record { clear = λ a b t c. none_in_nil a c.first; few = omega arith };
+    good = runs_good [] empty_book refl;
   };
   taken = λ p c. absurd (none_in_nil p c);
   each = λ a c. absurd (none_in_nil a c);

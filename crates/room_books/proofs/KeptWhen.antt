@@ -1,10 +1,9 @@
 -- What a message's event gives to its kept VEVENT: when it is, and the lines that say it.
-use Rattle.std.proofs.Common.{◌≡◌, ◌∙◌, refl, sym, ap, subst, inl, inr, ℕ, zero, suc, ℤ, pos, ◌+◌, ◌*◌, ◌≤◌, Bool, true, false, ◌||◌, ◌&&◌, cond, List, [], ◌∷◌, ◌++◌, length, codes, Option, Some, None, arith, lt-ltb}
+use Rattle.std.proofs.Common.{◌≡◌, ◌∙◌, refl, sym, ap, subst, inl, inr, ℕ, zero, suc, ℤ, ◌+◌, ◌*◌, ◌≤◌, Bool, true, false, ◌||◌, ◌&&◌, cond, List, [], ◌∷◌, ◌++◌, length, codes, Option, Some, None, arith, lt-ltb}
 use Rattle.std.specs.Prelude.{filter, Contains, is_some}
 use Rattle.std.specs.Option.{option_to_list}
 use Rattle.std.specs.List.{list_all, list_any, flat_map, AllZip}
 use Rattle.std.proofs.lemmas.Bool.{and_from, false≢true, true≢false, or_parts}
-use Rattle.std.proofs.lemmas.Int.{ints}
 use Rattle.std.proofs.lemmas.List.Folds.{list_all-append}
 use Rattle.profile.specs.text.Lines.{is_content, line_param, line_value}
 use Rattle.profile.specs.text.Objects.{is_property}
@@ -16,9 +15,11 @@ use Rattle.profile.specs.events.Properties.{Says, BothOrNeither, is_of, lines_na
 use Rattle.profile.specs.events.ZonedTimes.{EventTimes, SaysEventTimes, SaysTimes, SpellsZoned, IsInDates, is_in_zone, clock_of}
 use Rattle.profile.specs.series.Rules.{Parts, RuleText}
 use Rattle.profile.specs.series.RuleTexts.{SpellsRule}
-use Rattle.profile.specs.events.EventRules.{GivesRule, IsRuleLine, SaysEventRule}
+use Rattle.profile.specs.events.EventRules.{GivesRule, SaysEventRule}
 use Rattle.profile.specs.rooms.Messages.{Content, IsContent, WritesRule, WritesTimes, cancels, is_in_dates, list_lines}
-use Rattle.profile.specs.series.Zones.{Zone, Constant, IsOneMeaning, Means}
+use Rattle.profile.specs.series.Zones.{Zone, IsOneMeaning, Means}
+use Rattle.cal_events.proofs.Meanings.{utc_instant}
+use Rattle.cal_events.proofs.SaidRules.{no_rule, rule_found}
 use Rattle.ical_lines.proofs.CleanLines.{IsClean, is_shown, clean_shown, valued}
 use Rattle.ical_values.proofs.Spans.{duration_written}
 use Rattle.itip_messages.proofs.TimeLists.{IsStart, ascending_short, filter_short, rdate_name, exdate_name, times_content, times_properties, utc_means}
@@ -52,10 +53,6 @@ pub record EventFacts (event : Event) (added : Bool) : Type 0 where
   pub once : (added || is_some event.recurrence) ≡ true → event.rule ≡ None
   -- the rule is that of a text
   pub recurs : IsRuled event.times event.rule
-
-utc_instant : (local t : ℤ) → Means (Constant (pos 0)) local t → t ≡ local
-utc_instant local t (inl x) = omega (arith, ints, x.shown.1, x.shown.2)
-utc_instant local t (inr x) = absurd x.listed
 
 zone_there : (object : Tree) (name : Option (List ℕ)) (text : List ℕ) (zone : Option Zone) (local : ℤ) → SpellsZoned object name text zone local → is_some name ≡ is_some zone
 zone_there object None text None local s = refl
@@ -134,28 +131,18 @@ first_there {X = X} p q (x ∷ xs) h =
     let here = or_parts (p x) (q x) both.0 in
     ap (λ b. cond b (x ∷ filter p xs) (filter p xs)) here.0 ∙ first_there p q xs both.1
 
-none_said : (lines : Lines) (times : EventTimes) (rule : Option Parts) → SaysEventRule lines times rule → lines_named (codes "RRULE") lines ≡ [] → rule ≡ None
-none_said lines times rule s h = go s.line rule (sym h ∙ s.once) s.is
-  where
-    go : (line : Option (List ℕ)) (rule : Option Parts) → [] ≡ option_to_list line → BothOrNeither (IsRuleLine times) line rule → rule ≡ None
-    go None None e b = refl
-    go None (Some r) e b = absurd b
-    go (Some l) rule e b = cc
-
 no_rule_line : (added : Bool) (object : Tree) (lines : Lines) (times : EventTimes) (rule : Option Parts) (recurrence : Option ℤ) (additions exceptions : List ℤ) → SaysEventRule lines times rule
     → SaysOccurrences added object lines recurrence additions exceptions → (added || is_some recurrence) ≡ true → rule ≡ None
 no_rule_line added object lines times rule recurrence additions exceptions r s h =
     let there : (added || list_any (is_of (codes "RECURRENCE-ID")) lines) ≡ true = either_way added (is_some recurrence) (list_any (is_of (codes "RECURRENCE-ID")) lines) (recurrence_there object lines recurrence s.is) h in
-    none_said lines times rule r (first_there (is_of (codes "RRULE")) (is_of (codes "RDATE")) lines (and_second _ _ s.alone there))
+    no_rule lines times rule r (first_there (is_of (codes "RRULE")) (is_of (codes "RDATE")) lines (and_second _ _ s.alone there))
 
 ruled : (lines : Lines) (times : EventTimes) (rule : Option Parts) → SaysEventRule lines times rule → IsRuled times rule
-ruled lines times rule s = go s.line rule s.is
+ruled lines times rule s = go rule refl
   where
-    go : (line : Option (List ℕ)) (rule : Option Parts) → BothOrNeither (IsRuleLine times) line rule → IsRuled times rule
-    go None None b = tt
-    go None (Some r) b = absurd b
-    go (Some l) None b = absurd b
-    go (Some l) (Some r) (text, spelled, gives) = (line_value l, text, spelled, gives)
+    go : (o : Option Parts) → rule ≡ o → IsRuled times o
+    go None e = tt
+    go (Some r) e = let found = rule_found lines times rule s r e in (line_value found.line, found.text, found.spelled, found.gives)
 
 -- an event that was said with its start
 pub said_facts : (added : Bool) (object : Tree) (lines : Lines) (event : Event) → SaysEventTimes object lines event.times → SaysEventRule lines event.times event.rule
@@ -216,12 +203,6 @@ pub record KeptRule (clock : Zone) (local : ℤ) (rule : Option Parts) (rules : 
   pub back : Option Parts
   pub spells : SpellRule clock local rules back
   pub same : IsSameRule rule back
-
--- without a rule none is kept
-pub none_kept : (rule back : Option Parts) → IsSameRule rule back → rule ≡ None → back ≡ None
-none_kept None None s e = refl
-none_kept None (Some back) s e = absurd s
-none_kept (Some rule) back s e = cc
 
 pub kept_rule : (times : EventTimes) (local : ℤ) → local ≡ times.local → IsOneMeaning (clock_of times.zone) → (rule : Option Parts) (rules : Lines) → IsRuled times rule → WritesRule (clock_of times.zone) rule rules
     → KeptRule (clock_of times.zone) local rule rules

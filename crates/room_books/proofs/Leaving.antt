@@ -25,7 +25,7 @@ use Rattle.room_books.specs.declared.kept.Meeting.{Meeting}
 use Rattle.room_books.specs.declared.timeline.Busy.{Busy}
 use Rattle.room_books.specs.Instants.{HaveInstant, AreSeparate, IsParted, IsPartOf, single_cmp, the_single}
 use Rattle.room_books.specs.Timelines.{HoldsInstants, busy_in, has_single, is_place, is_leaving, same_single, IsSharedIn, IsTimelineOf}
-use Rattle.room_books.specs.Views.{same_key, booked_of, booked_list, confirmed_at, confirmed_singles, singles_by, singles_in, span_of, others, AreAllApart, IsFree}
+use Rattle.room_books.specs.Views.{same_key, booked_of, booked_list, confirmed_at, meeting_singles, singles_by, singles_in, span_of, others, AreAllApart, IsFree}
 use Rattle.room_books.proofs.Pairs.{pairs_from}
 use Rattle.room_books.proofs.Parts.{pairs_to, pairs_across, pairs_right}
 use Rattle.room_books.proofs.Places.{are_at, booked_from, held_before, holds_shared, in_booked, key_at, other_from, other_key, other_place, place_of, real, there}
@@ -150,7 +150,7 @@ module _ (k : MeetingKey) (es : List (MeetingKey × Meeting)) (distinct : IsDist
   pub staying_is : (b : Busy) → Contains items b → is_leaving own gone b ≡ false → (e : MeetingKey × Meeting) → slice_get es b.place ≡ Some e
       → Contains (others k es ++ booked_list k kept) (booked_of e.0 b.single)
   staying_is b c stays e at =
-      let confirmed : Contains (confirmed_singles e.1) b.single = subst (λ (o : Option (MeetingKey × Meeting)). Contains (singles_in o) b.single) at (real (confirmed_at es) items timeline b c) in
+      let confirmed : Contains (meeting_singles e.1) b.single = subst (λ (o : Option (MeetingKey × Meeting)). Contains (singles_in o) b.single) at (real (confirmed_at es) items timeline b c) in
       elim (cases_Bool (is_place own b.place)) [
         | inl mine ↦
             let same : same_key k e.0 ≡ true = sym (key_at k es distinct own own_is b.place e at) ∙ mine in

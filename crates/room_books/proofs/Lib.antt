@@ -6,6 +6,9 @@ pub mod Timelines
 pub mod Changing
 pub mod Places
 pub mod Same
+pub mod SameSeries
+pub mod SeriesLeft
+pub mod Rekeyed
 pub mod Deciding
 pub mod Putting
 pub mod Meetings
@@ -35,6 +38,8 @@ pub mod KeptWhen
 pub mod KeptEvents
 pub mod KeptInstances
 pub mod KeptEntries
+pub mod KeptReplaced
+pub mod Members
 pub mod KeptLines
 pub mod KeptExamples
 pub mod Examples
@@ -70,3 +75,12 @@ pub mod SlotPlaces
 pub mod Looking
 pub mod Answered
 pub mod Walking
+pub mod Fewer
+pub mod WholeAlone
+pub mod HiddenStarts
+pub mod Recurrings
+pub mod ClearBeside
+pub mod RoomSeries
+pub mod PutSeries
+pub mod WholeDeciding
+pub mod AllConfirmed

@@ -17,7 +17,7 @@ use Rattle.profile.specs.rooms.Revisions.{Part, Whole, At, slot_cmp}
 use Rattle.room_books.specs.declared.meeting.Given.{Given}
 use Rattle.room_books.specs.BySlot.{AreBySlot, slot_in}
 use Rattle.room_books.specs.Standing.{Pairwise}
-use Rattle.room_books.specs.Takings.{IsLeftAlone, IsStill, left_beside}
+use Rattle.room_books.specs.Takings.{IsLeftAlone, IsStill, LeavesAll}
 use Rattle.room_books.specs.Touching.{is_touched, IsUntouched}
 use Rattle.room_books.proofs.AcceptedSlots.{slot_from, slot_same}
 use Rattle.room_books.proofs.Pairs.{map_at, map_from}
@@ -78,13 +78,12 @@ module _ (slots : List OwnSlot) (before after : List Part) (part : Part) (answer
 
 -- one answer more that confirms all that it did
 pub one_confirms : (slots : List OwnSlot) (history : List Part) (part : Part) (answers : List Given) (i : ℕ) (given : Given) → i < length answers → given ≡ get_or answers i given
-    → ((g : Given) → Contains (take i answers) g → g.singles.items ≡ left_beside slots history part g.singles.items) → given.singles.items ≡ left_beside slots history part given.singles.items
-    → (g : Given) → Contains (take (i + 1) answers) g → g.singles.items ≡ left_beside slots history part g.singles.items
+    → ((g : Given) → Contains (take i answers) g → LeavesAll slots history part g) → LeavesAll slots history part given → (g : Given) → Contains (take (i + 1) answers) g → LeavesAll slots history part g
 one_confirms slots history part answers i given w is before this g c =
     elim (Contains-append_cases (take i answers) (given ∷ []) g (subst (λ (l : List Given). Contains l g) (one_more answers i given w is) c)) [
       | inl old ↦ before g old
       | inr new ↦ elim (in_cons given [] g new) [
-        | inl here ↦ subst (λ (z : Given). z.singles.items ≡ left_beside slots history part z.singles.items) here this
+        | inl here ↦ subst (LeavesAll slots history part) here this
         | inr none ↦ absurd (none_in_nil g none)
       ]
     ]

@@ -1,7 +1,7 @@
 -- What becomes of a meeting is a step of the book that the room stands for.
 use Rattle.std.proofs.Common.{◌≡◌, ◌≢◌, ◌∙◌, ℤ, ◌<◌, true, List, [], ◌∷◌, ◌++◌, map, length, Option, None, Some, inl, inr, refl, sym, ap, subst, arith, append-nil}
 use denote.Ref.{Bor}
-use Rattle.std.specs.Prelude.{nat_lt}
+use Rattle.std.specs.Prelude.{nat_lt, IfSome}
 use Rattle.std.specs.List.{AllZip, Contains, IsDistinct}
 use Rattle.std.specs.Map.{keys_of, lookup}
 use Rattle.std.proofs.lemmas.Bool.{true≢false, lt-ltb}
@@ -12,27 +12,28 @@ use Rattle.profile.specs.checker.Instances.{Booked}
 use Rattle.profile.specs.text.Values.{IsClockSeconds}
 use Rattle.profile.specs.rooms.Messages.{Accept}
 use Rattle.profile.specs.rooms.Revisions.{Part}
-use Rattle.profile.specs.rooms.Rooms.{Answer, Book, Claim, Decides, confirmed, if_accepted, parts_of, asked, answered}
+use Rattle.profile.specs.rooms.Rooms.{Answer, Book, Claim, Confirms, Decides, if_accepted, parts_of, asked, answered}
+use Rattle.profile.specs.events.Meetings.{Meeting as Whole}
 use Rattle.room_books.specs.declared.answer.Kind.{Kind}
 use Rattle.room_books.specs.declared.meeting.MeetingKey.{MeetingKey}
 use Rattle.room_books.specs.declared.kept.Meeting.{Meeting}
 use Rattle.room_books.specs.declared.meeting.Outcome.{Outcome}
 use Rattle.room_books.specs.declared.meeting.Outcome.TheVariants.{Accepted}
 use Rattle.room_books.specs.declared.meeting.Given.{Given}
-use Rattle.room_books.specs.declared.taking.Claim.{Claim as Asking}
+use Rattle.room_books.specs.declared.claim.Claim.{Claim as Asking}
 use Rattle.room_books.specs.Takings.{claim_said, claims_said, kind_view, AreAsked, IsAnswered, IsKindOf}
-use Rattle.room_books.specs.Views.{same_key, booked_list, all_singles, others, outcome_of}
+use Rattle.room_books.specs.Views.{same_key, all_singles, all_series, beside, joined, outcome_of}
 use Rattle.itip_order.specs.declared.part.Slot.{Slot}
 use Rattle.room_books.specs.Touching.{AllTouch}
 use Rattle.room_books.specs.BySlot.{Reordered}
-use Rattle.room_books.specs.Standing.{is_of, book_of, AreFitting, AreGiven, IsGiven, IsMeetingAfter, KeepsAll, Meets, Stands}
-use Rattle.room_books.proofs.Afters.{confirmed_asked, outcome_dated, meets_after}
+use Rattle.room_books.specs.Standing.{is_of, book_of, AreFitting, IsFitting, IsFittingSeries, AreGiven, IsGiven, IsMeetingAfter, KeepsAll, Meets, Stands}
+use Rattle.room_books.proofs.Afters.{confirmed_asked, recurring_asked, outcome_dated, meets_after}
 use Rattle.room_books.proofs.Beside.{beside_same}
 use Rattle.room_books.proofs.Runs.{new_answer}
 use Rattle.room_books.proofs.OwnBook.{own_of, asked_own, book_own, kind_own}
-use Rattle.room_books.proofs.OwnSteps.{stayed, decided_itself, given_new, would_confirm, slots_differ}
+use Rattle.room_books.proofs.OwnSteps.{stayed, decided_itself, given_new, of_one_meeting, would_confirm, would_recur}
 use Rattle.room_books.proofs.Pairs.{pairs_filter}
-use Rattle.room_books.proofs.Same.{decides_same}
+use Rattle.room_books.proofs.SameSeries.{decides_alike}
 use Rattle.room_books.proofs.SlotsApart.{OtherPart}
 
 module _ (k : MeetingKey) (entries : List (MeetingKey × Meeting)) (distinct : IsDistinct same_key (keys_of entries)) (book : Book) (st : Stands entries book)
@@ -53,14 +54,24 @@ module _ (k : MeetingKey) (entries : List (MeetingKey × Meeting)) (distinct : I
   asked_now = asked own.taken t claims
 
   -- each instance that would be confirmed was asked for, and has instants that can be written
-  all_dated : (b : Booked) → Contains (confirmed (if_accepted book claims moment all)) b → IsClockSeconds b.start × IsClockSeconds b.key.slot
-  all_dated b c =
-      let new = answered moment Accept (asked book.taken all claims) in
+  abbrev new : List Answer
+  new = answered moment Accept (asked book.taken all claims)
+
+  fits : (a : Answer) → Contains (book.answers ++ new) a → IsFitting a.claim
+  fits a c = elim (Contains-append_cases book.answers new a c) [
+    | inl old ↦ st.fit a old
+    | inr fresh ↦ fit.fit a.claim (new_answer book.taken all moment Accept claims a fresh).among
+  ]
+
+  all_dated : (b : Booked) → Confirms (if_accepted book claims moment all) b → IsClockSeconds b.start × IsClockSeconds b.key.slot
+  all_dated b (inl c) =
       let found = confirmed_asked all (book.answers ++ new) b c in
-      elim (Contains-append_cases book.answers new found.0 found.1) [
-        | inl old ↦ let f = st.fit found.0 old in (f.starts b found.2, f.slots b found.2)
-        | inr fresh ↦ let f = fit.fit found.0.claim (new_answer book.taken all moment Accept claims found.0 fresh).among in (f.starts b found.2, f.slots b found.2)
-      ]
+      let f = fits found.0 found.1 in
+      (f.starts b found.2, f.slots b found.2)
+  all_dated b (inr l) =
+      let found = recurring_asked k all (book.answers ++ new) b l in
+      let f : IsFittingSeries found.0.claim found.1 = subst (λ (o : Option Whole). IfSome o (IsFittingSeries found.0.claim)) found.3 (fits found.0 found.2).recurs in
+      (f.starts b found.4, subst IsClockSeconds (sym (f.slot b found.4)) (f.starts b found.4))
 
   module _ (part : Part) (own_part : is_of k part ≡ true) (some : 0 < length asking_all) (meeting : Meeting) (s : StandsFor meeting.held t) (kept : List Given)
       (slots : List Slot) (touches : AllTouch slots (parts_of claims)) (keeps : KeepsAll part slots (lookup (same_key k) entries) meeting.held kept) (asking : List (Bor Asking)) (are : AreAsked own.taken t asking_all asking) where
@@ -84,7 +95,7 @@ module _ (k : MeetingKey) (entries : List (MeetingKey × Meeting)) (distinct : I
     some_asked [] h = absurd (h refl)
     some_asked (x ∷ xs) h = lt-ltb 0 (length (map (λ (claim : Bor Asking). claim_said claim.now) (x ∷ xs))) (omega arith)
 
-    some_after : (kind : Kind) (outcome : Outcome) → IsAnswered (others k entries) k meeting.held moment kept asking meeting.answers.items (Some outcome) → IsKindOf own.taken t asking_all (Some outcome) kind
+    some_after : (kind : Kind) (outcome : Outcome) → IsAnswered (beside k entries) k meeting.held moment kept asking meeting.answers.items (Some outcome) → IsKindOf own.taken t asking_all (Some outcome) kind
         → IsMeetingAfter book k claims moment (kind_view kind) meeting
     some_after kind outcome answered_now said =
         let candidates = answered_now.1.0 in
@@ -95,20 +106,23 @@ module _ (k : MeetingKey) (entries : List (MeetingKey × Meeting)) (distinct : I
         let would = given_new k own is_own claims fit moment asking are meeting.held s Accepted candidates candidates accepted (decided_itself meeting.held moment asking candidates accepted) in
         let given = given_new k own is_own claims fit moment asking are meeting.held s outcome candidates decided accepted answered_now.1.3 in
         let once = pairs_filter OtherPart (λ (a : Answer). is_of k a.claim.part) book.answers st.once in
-        let decides : Decides (confirmed (if_accepted book claims moment all)) (outcome_of outcome) =
-        decides_same _ _
-        (beside_same k entries distinct book st claims fit moment (booked_list k (all_singles kept ++ all_singles candidates)) (would_confirm k own is_own claims fit moment kept candidates kept_zip would))
-        (outcome_of outcome) (is_decision.decides (slots_differ k own is_own claims fit moment once kept candidates kept_zip would)) in
+        let singles = all_singles kept ++ all_singles candidates in
+        let series = all_series kept ++ all_series candidates in
+        let alike = beside_same k entries distinct book st claims fit moment singles series
+        (would_confirm k own is_own claims fit moment kept candidates kept_zip would) (would_recur k own is_own claims fit moment kept candidates kept_zip would) in
+        let decides : Decides (if_accepted book claims moment all) (outcome_of outcome) =
+        decides_alike (if_accepted book claims moment all) (joined (beside k entries) k singles series) alike
+        (outcome_of outcome) (is_decision.decides (of_one_meeting k own is_own claims fit moment once kept candidates kept_zip would)) in
         record {
           outcome = outcome_of outcome;
           step = record { taken = refl; answers = refl; decided = λ h. decides };
           meets = subst (λ (b : Book). Meets b k meeting) (sym (book_own k book claims fit moment (outcome_of outcome)))
               (meets_after k own is_own claims fit moment (outcome_of outcome) (lookup (same_key k) entries) (st.meets k) meeting kept decided s kept_zip given answered_now.1.5
-              (λ claim c. outcome_dated (confirmed (if_accepted book claims moment all)) (outcome_of outcome) all_dated decides));
+              (λ claim c. outcome_dated (if_accepted book claims moment all) (outcome_of outcome) all_dated decides));
           kind_is = said (lt-ltb 0 (length asking_all) some) (ap (λ l. nat_lt 0 (length l)) (sym are) ∙ some_asked asking answered_now.0) ∙ kind_own k book claims fit (outcome_of outcome);
         }
 
-    pub meeting_after : (kind : Kind) (outcome : Option Outcome) → IsAnswered (others k entries) k meeting.held moment kept asking meeting.answers.items outcome → IsKindOf own.taken t asking_all outcome kind
+    pub meeting_after : (kind : Kind) (outcome : Option Outcome) → IsAnswered (beside k entries) k meeting.held moment kept asking meeting.answers.items outcome → IsKindOf own.taken t asking_all outcome kind
         → IsMeetingAfter book k claims moment (kind_view kind) meeting
     meeting_after kind None a said = none_after kind a.0 a.1 said
     meeting_after kind (Some outcome) a said = some_after kind outcome a said

@@ -1,5 +1,7 @@
 -- Parts of one meeting, and what one part more does to the view of them.
-use Rattle.std.proofs.Common.{◌≡◌, Bool, true, false, not, ◌&&◌, cond, List, [], ◌∷◌, ◌++◌, inl, inr, refl, sym, ap, ◌∙◌}
+use Rattle.std.proofs.Common.{◌≡◌, Bool, true, false, not, ◌&&◌, cond, List, [], ◌∷◌, ◌++◌, inl, inr, Option, None, Some, refl, sym, ap, ◌∙◌, subst}
+use Rattle.std.specs.Prelude.{option_map}
+use Rattle.std.specs.Option.{option_to_list}
 use Rattle.std.specs.Ordering.{is_eq, ordering_then}
 use Rattle.std.specs.declared.cmp.Ordering.TheVariants.{Equal}
 use Rattle.std.specs.Str.{bytes_eq}
@@ -12,15 +14,16 @@ use Rattle.std.proofs.lemmas.List.Elements.{filter-append}
 use Rattle.std.proofs.lemmas.Slice.Eq.{bytes_eq-Decides}
 use Rattle.ical_values.specs.Octets.{address_octets, text_octets}
 use Rattle.profile.specs.checker.Instances.{Booked}
+use Rattle.profile.specs.events.Meetings.{Meeting as Whole}
 use Rattle.profile.specs.rooms.Revisions.{Part, octets_cmp, At, slot_cmp, meeting_cmp, same_place, is_whole, is_greatest, implies, allows, in_view, same_meeting, stands_beside}
-use Rattle.profile.specs.rooms.Rooms.{Answer, is_accept, is_confirmed, is_hidden, left_of, confirmed_in}
-use Rattle.itip_order.proofs.Lists.{all_at, all_from, any_at, any_from, in_head, in_tail, filter_at, filter_from}
+use Rattle.profile.specs.rooms.Rooms.{Answer, Recurring, is_accept, is_confirmed, is_hidden, left_of, recurring_in, singles_confirmed, series_confirmed}
+use Rattle.itip_order.proofs.Lists.{all_at, all_from, any_at, any_from, in_cons, in_head, in_tail, none_in_nil, filter_at, filter_from}
 use Rattle.itip_order.proofs.Order.{is_eq_true, then_equal}
 use Rattle.itip_order.proofs.Registers.{greatest_at, greatest_from, eq_refl, implies_at, implies_from}
 use Rattle.room_books.specs.declared.meeting.MeetingKey.{MeetingKey}
 use Rattle.room_books.specs.Views.{same_key}
 use Rattle.room_books.specs.Standing.{is_of, of_meeting}
-use Rattle.room_books.proofs.Pairs.{flat_same}
+use Rattle.room_books.proofs.Pairs.{flat_at, flat_same}
 
 pub is_of_parts : (k : MeetingKey) (p : Part) → is_of k p ≡ true → (address_octets k.organiser ≡ p.organiser) × (text_octets k.uid ≡ p.uid)
 is_of_parts k p e =
@@ -149,7 +152,25 @@ left_same k h p (b ∷ bs) e =
     ap (λ t. cond (not t) (b ∷ filter (λ b. not (is_hidden (of_meeting k h) p b)) bs) (filter (λ b. not (is_hidden (of_meeting k h) p b)) bs)) (hidden_of k h p b e)
     ∙ ap (λ l. cond (not (is_hidden h p b)) (b ∷ l) l) (left_same k h p bs e)
 
-pub confirmed_own : (k : MeetingKey) (h : List Part) (xs : List Answer) → ((a : Answer) → Contains xs a → is_of k a.claim.part ≡ true) → confirmed_in (of_meeting k h) xs ≡ confirmed_in h xs
+pub series_own : (k : MeetingKey) (h : List Part) (xs : List Answer) → ((a : Answer) → Contains xs a → is_of k a.claim.part ≡ true) → series_confirmed (of_meeting k h) xs ≡ series_confirmed h xs
+series_own k h xs own =
+    ap (flat_map recurring_in) (filter_same (is_confirmed (of_meeting k h)) (is_confirmed h) xs (λ a c. ap (λ b. is_accept a.outcome && b) (view_of k h a.claim.part (own a c))))
+
+pub confirmed_own : (k : MeetingKey) (h : List Part) (xs : List Answer) → ((a : Answer) → Contains xs a → is_of k a.claim.part ≡ true) → singles_confirmed (of_meeting k h) xs ≡ singles_confirmed h xs
 confirmed_own k h xs own =
     ap (flat_map (left_of (of_meeting k h))) (filter_same (is_confirmed (of_meeting k h)) (is_confirmed h) xs (λ a c. ap (λ b. is_accept a.outcome && b) (view_of k h a.claim.part (own a c))))
     ∙ flat_same (left_of (of_meeting k h)) (left_of h) (filter (is_confirmed h) xs) (λ a c. left_same k h a.claim.part a.claim.singles (own a (filter_at (is_confirmed h) xs a c).0))
+
+-- ---- the series of answers are of their parts
+
+pub of_part : (a : Answer) (r : Recurring) → Contains (recurring_in a) r → r.part ≡ a.claim.part
+of_part a r c = at_series a.claim.series c
+  where
+    at_series : (o : Option Whole) → Contains (option_to_list (option_map (λ (meeting : Whole). record { part = a.claim.part; meeting = meeting }) o)) r → r.part ≡ a.claim.part
+    at_series None c = absurd (none_in_nil r c)
+    at_series (Some meeting) c = elim (in_cons _ [] r c) [ inl here ↦ sym (ap (λ (x : Recurring). x.part) here) | inr none ↦ absurd (none_in_nil r none) ]
+
+pub part_own : (k : MeetingKey) (t : List Part) (xs : List Answer) → ((a : Answer) → Contains xs a → is_of k a.claim.part ≡ true) → (r : Recurring) → Contains (series_confirmed t xs) r → is_of k r.part ≡ true
+part_own k t xs own r c =
+    let found = flat_at recurring_in (filter (is_confirmed t) xs) r c in
+    subst (λ (p : Part). is_of k p ≡ true) (sym (of_part found.0 r found.2)) (own found.0 (filter_at (is_confirmed t) xs found.0 found.1).0)

@@ -1,5 +1,5 @@
 -- A meeting by its own book: the answers that stay when more of its parts are taken, and what they confirm.
-use Rattle.std.proofs.Common.{◌≡◌, ◌∙◌, ℕ, ◌+◌, ◌<◌, take, get_or, Bool, true, false, not, ◌&&◌, cond, List, [], ◌∷◌, ◌++◌, map, length, inl, inr, Option, None, Some, refl, sym, ap, subst, append-nil}
+use Rattle.std.proofs.Common.{◌≡◌, ◌∙◌, ℕ, ℤ, ◌+◌, ◌<◌, take, get_or, Bool, true, false, not, ◌&&◌, cond, List, [], ◌∷◌, ◌++◌, map, length, inl, inr, Option, None, Some, refl, sym, ap, subst, append-nil}
 use Rattle.std.specs.List.{AllZip, filter, flat_map, Contains}
 use Rattle.std.proofs.lemmas.Bool.{true≢false, and_parts, and_from, or_right, not-true, not_from_false, false_from_ne_true, both_ways}
 use Rattle.std.proofs.lemmas.List.Elements.{Contains-append_left, Contains-append_right, Contains-append_cases, Contains-push, filter-append}
@@ -7,29 +7,34 @@ use Rattle.std.proofs.lemmas.List.{take_more}
 use Rattle.itip_order.specs.Parts.{slot_of}
 use Rattle.itip_order.specs.Registers.{StandsFor, at_slot}
 use Rattle.itip_order.proofs.Lasting.{view_one}
-use Rattle.itip_order.proofs.Lists.{in_head, in_tail, none_in_nil, filter_at, all_at, all_from, any_at, any_from}
+use Rattle.itip_order.proofs.Lists.{in_cons, in_head, in_tail, none_in_nil, filter_at, all_at, all_from, any_at, any_from}
 use Rattle.itip_order.proofs.Order.{slot_same, is_eq_true, then_equal}
 use Rattle.itip_order.proofs.Registers.{place_sym, place_trans, greatest_at, greatest_from, implies_at, implies_from}
 use Rattle.profile.specs.checker.Instances.{Booked}
 use Rattle.profile.specs.rooms.Revisions as Revision
 use Rattle.profile.specs.rooms.Revisions.{Part, Whole, At, in_view, same_place, is_whole, is_greatest, implies, allows, slot_cmp, same_meeting, stands_beside}
-use Rattle.profile.specs.rooms.Rooms.{Answer, Book, is_accept, is_hidden, left_of, confirmed_in}
+use Rattle.profile.specs.rooms.Rooms.{Answer, Book, Recurring, is_accept, is_confirmed, is_hidden, left_of, recurring_in, singles_confirmed, series_confirmed}
 use Rattle.room_books.specs.declared.meeting.MeetingKey.{MeetingKey}
 use Rattle.room_books.specs.declared.kept.Meeting.{Meeting}
 use Rattle.cal_events.specs.declared.instance.Single.{Single}
 use Rattle.room_books.specs.declared.meeting.Given.{Given}
 use Rattle.room_books.specs.BySlot.{Reordered, left_without, taken_at}
 use Rattle.room_books.specs.BySlot.Reordered.{re_then}
-use Rattle.room_books.specs.Takings.{IsLeftAlone, IsStill, IsViewed, left_in, left_beside, booked_in}
+use Rattle.room_books.specs.Takings.{IsLeftAlone, IsSeriesLeft, IsStill, IsViewed, is_hidden_by, left_in, left_beside, booked_in}
 use Rattle.room_books.proofs.Givens.{given_reordered, given_zip}
 use Rattle.room_books.proofs.Reordering.{re_back, re_filter, re_in, re_parts, re_swapped}
 use Rattle.room_books.specs.Touching.{is_touched, AllTouch, IsUntouched}
 use Rattle.itip_order.specs.declared.part.Slot.{Slot}
 use Rattle.std.specs.Ordering.{is_eq}
-use Rattle.room_books.specs.Views.{booked_of, booked_list}
-use Rattle.room_books.specs.Standing.{is_of, IsOwn, IsGiven, standing, KeepsAll, KeepsSome}
+use Rattle.room_books.specs.Views.{booked_of, booked_list, series_list}
+use Rattle.std.specs.Option.{option_to_list}
+use Rattle.room_books.specs.Standing.{is_of, AreSameSeries, IsOwn, IsGiven, standing, KeepsAll, KeepsSome}
 use Rattle.room_books.proofs.Loops.{zip_both, zip_push, filter_push, filter_yes, filter_no}
-use Rattle.room_books.proofs.Meetings.{filter_same, is_of_parts, same_place_of}
+use Rattle.room_books.proofs.Meetings.{filter_same, is_of_parts, of_part, same_place_of}
+use Rattle.room_books.proofs.Pairs.{flat_at}
+use Rattle.room_books.proofs.Partition.{given_by}
+use Rattle.room_books.proofs.SameSeries.{series_hidden}
+use Rattle.room_books.proofs.SeriesLeft.{left_series}
 use Rattle.room_books.proofs.Views.{hidden_stays, view_back}
 use Rattle.room_books.proofs.Places.{booked_from}
 
@@ -72,14 +77,24 @@ left_booked k t p (s ∷ xs) e =
     at_test false r = r
 
 -- one answer whose part is in the view
-pub one_confirmed : (t : List Part) (a : Answer) → in_view t a.claim.part ≡ true → confirmed_in t (a ∷ []) ≡ cond (is_accept a.outcome) (left_of t a) []
-one_confirmed t a seen = at_test (is_accept a.outcome) (in_view t a.claim.part) seen
+pub one_given : {X : Type 0} (f : Answer → List X) (t : List Part) (a : Answer) → in_view t a.claim.part ≡ true → given_by f t (a ∷ []) ≡ cond (is_accept a.outcome) (f a) []
+one_given {X} f t a seen = at_test (is_accept a.outcome) (in_view t a.claim.part) seen
   where
-    at_test : (b c : Bool) → c ≡ true → flat_map (left_of t) (cond (b && c) (a ∷ []) []) ≡ cond b (left_of t a) []
-    at_test true true e = append-nil (left_of t a)
+    at_test : (b c : Bool) → c ≡ true → flat_map f (cond (b && c) (a ∷ []) []) ≡ cond b (f a) []
+    at_test true true e = append-nil (f a)
     at_test true false e = absurd (true≢false (sym e))
     at_test false true e = refl
     at_test false false e = refl
+
+pub one_confirmed : (t : List Part) (a : Answer) → in_view t a.claim.part ≡ true → singles_confirmed t (a ∷ []) ≡ cond (is_accept a.outcome) (left_of t a) []
+one_confirmed t a seen = one_given (left_of t) t a seen
+
+-- a series among those of one answer is of its part
+one_part : (t : List Part) (a : Answer) (r : Recurring) → Contains (series_confirmed t (a ∷ [])) r → r.part ≡ a.claim.part
+one_part t a r c =
+    let found = flat_at recurring_in (filter (is_confirmed t) (a ∷ [])) r c in
+    let is : a ≡ found.0 = elim (in_cons a [] found.0 (filter_at (is_confirmed t) (a ∷ []) found.0 found.1).0) [ inl here ↦ here | inr none ↦ absurd (none_in_nil found.0 none) ] in
+    of_part found.0 r found.2 ∙ ap (λ (x : Answer). x.claim.part) (sym is)
 
 filter_cond : (f : Booked → Bool) (b : Bool) (xs : List Booked) → filter f (cond b xs []) ≡ cond b (filter f xs) []
 filter_cond f true xs = refl
@@ -105,13 +120,16 @@ untouched_view h more a taken seen other instance =
       | inr new ↦ or_right (is_whole a) _ (implies_from (is_whole w && same_meeting w a) (stands_beside w a) (λ whole. absurd (both_ways _ (instance w new) (and_parts (is_whole w) (same_meeting w a) whole).0)))
     ])))
 
--- nothing hides what is confirmed by the answer to an instance
-left_instance : (t : List Part) (a : Answer) → is_whole a.claim.part ≡ false → left_of t a ≡ a.claim.singles
-left_instance t a whole = filter_all (λ b. not (is_hidden t a.claim.part b)) a.claim.singles (λ b c. not_from_false _ (and_false _ _ whole))
+-- nothing hides an instance of a part that is one itself
+never_hidden : (t : List Part) (p : Part) (b : Booked) → is_whole p ≡ false → is_hidden t p b ≡ false
+never_hidden t p b whole = and_false _ _ whole
   where
     and_false : (x y : Bool) → x ≡ false → (x && y) ≡ false
     and_false true y e = absurd (true≢false e)
     and_false false y e = refl
+
+left_instance : (t : List Part) (a : Answer) → is_whole a.claim.part ≡ false → left_of t a ≡ a.claim.singles
+left_instance t a whole = filter_all (λ b. not (is_hidden t a.claim.part b)) a.claim.singles (λ b c. not_from_false _ (never_hidden t a.claim.part b whole))
 
 -- ---- an answer, when more parts are taken
 
@@ -144,28 +162,32 @@ module _ (key : MeetingKey) (own : Book) (more : List Part) (is_own : IsOwn key 
       in_cond false xs x c = absurd (none_in_nil x c)
 
   -- so what hides it now is a part that was taken now
-  hidden_touched : (single : Single) → Contains given.singles.items single → is_hidden (own.taken ++ more) a.claim.part (booked_in a.claim.part single) ≡ true → is_touched slots (At single.slot) ≡ true
-  hidden_touched single c hidden =
+  hidden_touched : (b : Booked) → is_hidden own.taken a.claim.part b ≡ false → is_hidden (own.taken ++ more) a.claim.part b ≡ true → is_touched slots (At b.key.slot) ≡ true
+  hidden_touched b was hidden =
       let now = own.taken ++ more in
-      let hides : List Part → Part → Bool = λ t other. in_view t other && same_place other (record a.claim.part { slot = At single.slot }) in
+      let hides : List Part → Part → Bool = λ t other. in_view t other && same_place other (record a.claim.part { slot = At b.key.slot }) in
       let both = and_parts _ _ hidden in
       let other = any_at (hides now) now both.1 in
       let shown = and_parts _ _ other.2 in
-      let slot : other.0.slot ≡ At single.slot = slot_same other.0.slot (At single.slot) (then_equal _ _ (is_eq_true _ shown.1)).1 in
+      let slot : other.0.slot ≡ At b.key.slot = slot_same other.0.slot (At b.key.slot) (then_equal _ _ (is_eq_true _ shown.1)).1 in
       elim (Contains-append_cases own.taken more other.0 other.1) [
         | inl old ↦
             let before_it = and_from _ _ (view_back own.taken more other.0 old shown.0) shown.1 in
-            absurd (both_ways _ (was_shown single c) (and_from _ _ both.0 (any_from (hides own.taken) own.taken other.0 old before_it)))
+            absurd (both_ways _ was (and_from _ _ both.0 (any_from (hides own.taken) own.taken other.0 old before_it)))
         | inr new ↦ subst (λ (x : Revision.Slot). is_touched slots x ≡ true) slot (touches other.0 new)
       ]
 
+  same_test : (t h : Bool) → (h ≡ true → t ≡ true) → (t && h) ≡ h
+  same_test true h f = refl
+  same_test false true f = f refl
+  same_test false false f = refl
+
   beside_is : left_beside slots (own.taken ++ more) a.claim.part given.singles.items ≡ left_in (own.taken ++ more) a.claim.part given.singles.items
-  beside_is = filter_same _ _ given.singles.items (λ single c. ap not (same_test _ _ (hidden_touched single c)))
-    where
-      same_test : (t h : Bool) → (h ≡ true → t ≡ true) → (t && h) ≡ h
-      same_test true h f = refl
-      same_test false true f = f refl
-      same_test false false f = refl
+  beside_is = filter_same _ _ given.singles.items (λ single c. ap not (same_test _ _ (hidden_touched (booked_in a.claim.part single) (was_shown single c))))
+
+  -- its series are the same as long as its part is in the view
+  same_series : in_view (own.taken ++ more) a.claim.part ≡ true → series_confirmed (own.taken ++ more) (a ∷ []) ≡ series_confirmed own.taken (a ∷ [])
+  same_series now = one_given recurring_in (own.taken ++ more) a now ∙ sym (one_given recurring_in own.taken a seen)
 
   -- a part that nothing touches stays in the view, and so does what it confirms
   module _ (alone : IsUntouched slots (slot_of given.slot)) where
@@ -187,6 +209,12 @@ module _ (key : MeetingKey) (own : Book) (more : List Part) (is_own : IsOwn key 
           confirms = g.confirms ∙ one_confirmed own.taken a seen
               ∙ ap (λ l. cond (is_accept a.outcome) l []) (left_instance own.taken a whole ∙ sym (left_instance (own.taken ++ more) a whole))
               ∙ sym (one_confirmed (own.taken ++ more) a untouched_stays);
+          recurs = subst (λ (l : List Recurring). AreSameSeries (own.taken ++ more) l (series_list key (option_to_list given.series))) (sym (same_series untouched_stays))
+              (series_hidden own.taken (own.taken ++ more) (series_confirmed own.taken (a ∷ [])) (series_list key (option_to_list given.series))
+              (λ r c b.
+              let single = ap is_whole (one_part own.taken a r c) ∙ whole in
+              never_hidden own.taken r.part b single ∙ sym (never_hidden (own.taken ++ more) r.part b single))
+              g.recurs);
         }
 
   pub gone : IsStill slots before after part given None → in_view (own.taken ++ more) a.claim.part ≡ false
@@ -205,7 +233,7 @@ module _ (key : MeetingKey) (own : Book) (more : List Part) (is_own : IsOwn key 
     hidden_still : (b : Booked) → not (is_hidden (own.taken ++ more) a.claim.part b) ≡ true → not (is_hidden own.taken a.claim.part b) ≡ true
     hidden_still b h = not_from_false _ (false_from_ne_true _ (λ hidden. both_ways _ (not-true _ h) (hidden_stays own.taken more a.claim.part b a_taken stays hidden)))
 
-    confirms : booked_list key left.singles.items ≡ confirmed_in (own.taken ++ more) (a ∷ [])
+    confirms : booked_list key left.singles.items ≡ singles_confirmed (own.taken ++ more) (a ∷ [])
     confirms =
         let now = own.taken ++ more in
         let f : Booked → Bool = λ b. not (is_hidden now a.claim.part b) in
@@ -218,12 +246,29 @@ module _ (key : MeetingKey) (own : Book) (more : List Part) (is_own : IsOwn key 
         ∙ ap (λ l. cond (is_accept a.outcome) l []) (filter_within f (λ b. not (is_hidden own.taken a.claim.part b)) a.claim.singles (λ b c h. hidden_still b h))
         ∙ sym (one_confirmed now a stays)
 
+    -- of its series that is left which no part taken now hides
+    recurs : AreSameSeries (own.taken ++ more) (series_confirmed (own.taken ++ more) (a ∷ [])) (series_list key (option_to_list left.series))
+    recurs =
+        let now = own.taken ++ more in
+        let part = a.claim.part in
+        let hides : Booked → Bool = is_hidden_by slots now part in
+        let at : ℤ → Bool = λ slot. hides (record { key = record { organiser = []; uid = []; slot = slot }; start = slot; end = slot }) in
+        subst (λ (l : List Recurring). AreSameSeries now l (series_list key (option_to_list left.series))) (sym (same_series stays))
+        (left_series key own.taken now part at (series_confirmed own.taken (a ∷ [])) (one_part own.taken a)
+        (λ b was clear. false_from_ne_true _ (λ hidden. both_ways _ clear (and_from _ _ (hidden_touched b was hidden) hidden)))
+        (λ b shown. (
+          false_from_ne_true _ (λ hidden. both_ways _ shown (hidden_stays own.taken more part b a_taken stays hidden)),
+          false_from_ne_true _ (λ both. both_ways _ shown (and_parts _ _ both).1),
+        ))
+        given.series left.series (subst (λ (p : Part). IsSeriesLeft (is_hidden_by slots now p) given.series left.series) same (s.3.series now stands)) g.recurs)
+
     pub still_given : IsGiven key (own.taken ++ more) a left
     still_given = record {
       slot = ap slot_of s.3.slot ∙ g.slot;
       moment = s.3.moment ∙ g.moment;
       outcome = s.3.outcome ∙ g.outcome;
       confirms = confirms;
+      recurs = recurs;
     }
 
 -- ---- all answers

@@ -1,5 +1,6 @@
 -- The answers of a meeting after claims of it were taken are those of its own book.
-use Rattle.std.proofs.Common.{◌≡◌, ◌≢◌, ◌∙◌, ℤ, Bool, true, false, not, cond, List, [], ◌∷◌, ◌++◌, map, refl, sym, ap, subst, inl, inr}
+use Rattle.std.proofs.Common.{◌≡◌, ◌≢◌, ◌∙◌, ℤ, Bool, true, false, not, cond, List, [], ◌∷◌, ◌++◌, map, refl, sym, ap, subst, inl, inr, Option, None, arith}
+use Rattle.std.specs.Option.{option_to_list}
 use denote.Ref.{Bor}
 use Rattle.std.specs.Prelude.{if◌then◌else◌}
 use Rattle.std.specs.List.{AllZip, Contains, filter, AllPairs}
@@ -13,25 +14,31 @@ use Rattle.profile.specs.checker.Instances.{Booked}
 use Rattle.profile.specs.rooms.Messages.{Accept}
 use Rattle.profile.specs.rooms.Messages as messages
 use Rattle.profile.specs.rooms.Revisions.{Part, in_view}
-use Rattle.profile.specs.rooms.Rooms.{Answer, Book, Claim, is_accept, is_hidden, confirmed_in, parts_of, asked, answered}
+use Rattle.profile.specs.rooms.Rooms.{Answer, Book, Claim, Recurring, is_accept, is_hidden, recurring_in, singles_confirmed, series_confirmed, parts_of, asked, answered}
 use Rattle.room_books.specs.declared.meeting.MeetingKey.{MeetingKey}
 use Rattle.room_books.specs.declared.meeting.Outcome.{Outcome}
 use Rattle.room_books.specs.declared.meeting.Outcome.TheVariants.{Accepted}
 use Rattle.cal_events.specs.declared.instance.Single.{Single}
+use Rattle.cal_events.specs.declared.series.Series.{Series}
+use Rattle.std.proofs.lemmas.List.{length-map}
 use Rattle.room_books.specs.declared.meeting.Given.{Given}
-use Rattle.room_books.specs.declared.taking.Claim.{Claim as Asking}
-use Rattle.room_books.specs.Takings.{claim_said, booked_in, IsAccepted, IsDecided}
-use Rattle.room_books.specs.Views.{booked_list, all_singles, slots_of, outcome_of}
-use Rattle.room_books.specs.Standing.{is_of, AreFitting, IsOwn, AreGiven, IsGiven, Pairwise, standing}
-use Rattle.room_books.proofs.Confirms.{given_confirms, zip_confirms}
+use Rattle.room_books.specs.declared.claim.Claim.{Claim as Asking}
+use Rattle.room_books.specs.Takings.{claim_said, booked_in, AreOfOneMeeting, IsAccepted, IsDecided}
+use Rattle.room_books.specs.Views.{booked_of, booked_list, all_singles, all_series, series_of, series_list, slots_of, outcome_of}
+use Rattle.room_books.specs.Standing.{is_of, AreFitting, AreSameSeries, IsFitting, IsOwn, AreGiven, IsGiven, Pairwise, standing}
+use Rattle.room_books.proofs.Confirms.{given_confirms, given_recurs, zip_confirms, zip_recurs}
 use Rattle.room_books.proofs.Givens.{given_append, given_zip}
 use Rattle.room_books.proofs.Reordering.{re_back, re_in, re_left, re_pairs}
 use Rattle.room_books.proofs.Same.{AreSame}
 use Rattle.room_books.proofs.Runs.{new_answer}
 use Rattle.room_books.proofs.Loops.{zip_both}
-use Rattle.room_books.proofs.Own.{filter_within, filter_all, booked_all, left_booked, one_confirmed}
+use Rattle.room_books.proofs.Own.{filter_within, filter_all, booked_all, left_booked, one_confirmed, one_given}
 use Rattle.room_books.proofs.Pairs.{pairs_append, pairs_filter, map_from}
-use Rattle.room_books.proofs.SlotsApart.{OtherPart, OtherSlot, IsSeen, confirmed_apart, new_once, slots_apart}
+use Rattle.room_books.proofs.SlotsApart.{OtherPart, OtherSlot, IsSeen, confirmed_apart, new_once, series_few, single_apart, slots_apart}
+use Rattle.room_books.proofs.Places.{booked_from}
+use Rattle.room_books.proofs.Rekeyed.{to_series}
+use Rattle.room_books.proofs.SameSeries.{series_none}
+use Rattle.room_books.proofs.SeriesLeft.{new_series}
 use Rattle.room_books.proofs.Views.{view_back}
 
 -- ---- one answer
@@ -44,9 +51,13 @@ decided_booked k true singles = refl
 decided_booked k false singles = refl
 
 module _ (k : MeetingKey) (t held : List Part) (s : StandsFor held t) (moment : ℤ) (outcome : Outcome) where
-  given_one : (claim : Asking) (candidate given : Given) → is_of k (part_of claim.part) ≡ true → in_view t (part_of claim.part) ≡ true → IsAccepted held claim moment candidate → IsDecided candidate outcome given
+  decided_series : (b : Bool) (all : List Recurring) (series : Option Series) → AreSameSeries t all (series_list k (option_to_list series)) → AreSameSeries t (cond b all []) (series_list k (option_to_list (if b then series else None)))
+  decided_series true all series p = p
+  decided_series false all series p = series_none t
+
+  given_one : (claim : Asking) (candidate given : Given) → is_of k (part_of claim.part) ≡ true → in_view t (part_of claim.part) ≡ true → IsFitting (claim_said claim) → IsAccepted held claim moment candidate → IsDecided candidate outcome given
       → IsGiven k t (answer_to (claim_said claim) moment (outcome_of outcome)) given
-  given_one claim candidate given own seen a d =
+  given_one claim candidate given own seen fit a d =
       let part = part_of claim.part in
       let f : Booked → Bool = λ b. not (is_hidden t part b) in
       let left : booked_list k candidate.singles.items ≡ filter f (map (booked_in part) claim.singles.items) = ap (booked_list k) (a.singles t s) ∙ left_booked k t part claim.singles.items own ∙ ap (filter f) (sym (booked_all k part claim.singles.items own)) in
@@ -56,9 +67,15 @@ module _ (k : MeetingKey) (t held : List Part) (s : StandsFor held t) (moment : 
         outcome = d.outcome_is;
         confirms = ap (booked_list k) d.singles ∙ decided_booked k (is_accept (outcome_of outcome)) candidate.singles.items ∙ ap (λ l. cond (is_accept (outcome_of outcome)) l []) left
             ∙ sym (one_confirmed t (answer_to (claim_said claim) moment (outcome_of outcome)) seen);
+        recurs =
+            let answer = answer_to (claim_said claim) moment (outcome_of outcome) in
+            let new = new_series k t (claim_said claim) claim.series candidate.series own refl fit.recurs (a.series t s) in
+            subst (λ (o : Option Series). AreSameSeries t (series_confirmed t (answer ∷ [])) (series_list k (option_to_list o))) (sym d.series)
+            (subst (λ (l : List Recurring). AreSameSeries t l (series_list k (option_to_list (if is_accept (outcome_of outcome) then candidate.series else None)))) (sym (one_given recurring_in t answer seen))
+            (decided_series (is_accept (outcome_of outcome)) (recurring_in answer) candidate.series new));
       }
 
-  given_each : (asking : List (Bor Asking)) (candidates given : List Given) → ((claim : Bor Asking) → Contains asking claim → (is_of k (part_of claim.now.part) ≡ true) × (in_view t (part_of claim.now.part) ≡ true))
+  given_each : (asking : List (Bor Asking)) (candidates given : List Given) → ((claim : Bor Asking) → Contains asking claim → (is_of k (part_of claim.now.part) ≡ true) × (in_view t (part_of claim.now.part) ≡ true) × IsFitting (claim_said claim.now))
       → AllZip (λ claim given. IsAccepted held claim.now moment given) asking candidates → AllZip (λ candidate given. IsDecided candidate outcome given) candidates given
       → AllZip (IsGiven k t) (answered moment (outcome_of outcome) (map (λ claim. claim_said claim.now) asking)) given
   given_each [] [] [] h z w = tt
@@ -68,7 +85,7 @@ module _ (k : MeetingKey) (t held : List Part) (s : StandsFor held t) (moment : 
   given_each (a ∷ rest) (c ∷ cs) [] h z w = absurd w
   given_each (a ∷ rest) (c ∷ cs) (g ∷ gs) h z w =
       let first = h a (in_head a rest) in
-      (given_one a.now c g first.0 first.1 z.0 w.0, given_each rest cs gs (λ x k. h x (in_tail a rest x k)) z.1 w.1)
+      (given_one a.now c g first.0 first.1 first.2 z.0 w.0, given_each rest cs gs (λ x k. h x (in_tail a rest x k)) z.1 w.1)
 
 -- a candidate is what it would be, were it accepted
 pub decided_itself : (held : List Part) (moment : ℤ) (asking : List (Bor Asking)) (candidates : List Given) → AllZip (λ claim given. IsAccepted held claim.now moment given) asking candidates
@@ -76,7 +93,7 @@ pub decided_itself : (held : List Part) (moment : ℤ) (asking : List (Bor Askin
 decided_itself held moment [] [] z = tt
 decided_itself held moment [] (c ∷ cs) z = absurd z
 decided_itself held moment (a ∷ rest) [] z = absurd z
-decided_itself held moment (a ∷ rest) (c ∷ cs) z = (record { slot = refl; moment = refl; outcome_is = z.0.outcome; singles = refl }, decided_itself held moment rest cs z.1)
+decided_itself held moment (a ∷ rest) (c ∷ cs) z = (record { slot = refl; moment = refl; outcome_is = z.0.outcome; singles = refl; series = refl }, decided_itself held moment rest cs z.1)
 
 -- ---- all answers of the meeting
 
@@ -103,7 +120,7 @@ module _ (k : MeetingKey) (own : Book) (is_own : IsOwn k own) (claims : List Cla
       (given_each k t held s moment outcome asking candidates given
       (λ claim c.
       let at = asked_at (claim_said claim.now) (subst (λ (l : List Claim). Contains l (claim_said claim.now)) e (map_from (λ (x : Bor Asking). claim_said x.now) asking claim c)) in
-      (fit.of_it (claim_said claim.now) at.0, at.1))
+      (fit.of_it (claim_said claim.now) at.0, at.1, fit.fit (claim_said claim.now) at.0))
       z w)
 
   -- those that stay, and those to the claims that are asked
@@ -146,19 +163,49 @@ module _ (k : MeetingKey) (own : Book) (is_own : IsOwn k own) (claims : List Cla
 
   -- what the meeting would confirm, were they accepted
   pub would_confirm : (kept candidates : List Given) → AreGiven k t stayed kept → AllZip (IsGiven k t) candidates_said candidates
-      → AreSame (confirmed_in t (own.answers ++ candidates_said)) (booked_list k (all_singles kept ++ all_singles candidates))
+      → AreSame (singles_confirmed t (own.answers ++ candidates_said)) (booked_list k (all_singles kept ++ all_singles candidates))
   would_confirm kept candidates z w =
-      subst (λ (l : List Single). AreSame (confirmed_in t (own.answers ++ candidates_said)) (booked_list k l)) (flat_map-append (λ (g : Given). g.singles.items) kept candidates)
+      subst (λ (l : List Single). AreSame (singles_confirmed t (own.answers ++ candidates_said)) (booked_list k l)) (flat_map-append (λ (g : Given). g.singles.items) kept candidates)
       (zip_confirms k t (own.answers ++ candidates_said) (kept ++ candidates) (given_after Accept kept candidates z w))
 
-  pub slots_differ : Pairwise OtherPart own.answers → (kept candidates : List Given) → AreGiven k t stayed kept → AllZip (IsGiven k t) candidates_said candidates
+  -- and its series
+  pub would_recur : (kept candidates : List Given) → AreGiven k t stayed kept → AllZip (IsGiven k t) candidates_said candidates
+      → AreSameSeries t (series_confirmed t (own.answers ++ candidates_said)) (series_list k (all_series kept ++ all_series candidates))
+  would_recur kept candidates z w =
+      subst (λ (l : List Series). AreSameSeries t (series_confirmed t (own.answers ++ candidates_said)) (series_list k l)) (flat_map-append (λ (g : Given). option_to_list g.series) kept candidates)
+      (zip_recurs k t (own.answers ++ candidates_said) (kept ++ candidates) (given_after Accept kept candidates z w))
+
+  slots_differ : Pairwise OtherPart own.answers → (kept candidates : List Given) → AreGiven k t stayed kept → AllZip (IsGiven k t) candidates_said candidates
       → AllPairs ◌≢◌ (slots_of (all_singles kept ++ all_singles candidates))
   slots_differ once kept candidates z w =
       let order = z.order ++ candidates_said in
       let same = re_left candidates_said stayed z.order z.same in
-      let confirms : confirmed_in t order ≡ booked_list k (all_singles kept ++ all_singles candidates) =
+      let confirms : singles_confirmed t order ≡ booked_list k (all_singles kept ++ all_singles candidates) =
       given_confirms k t order (kept ++ candidates) (zip_both (IsGiven k t) z.order kept candidates_said candidates z.each w) ∙ ap (booked_list k) (flat_map-append (λ (g : Given). g.singles.items) kept candidates) in
       slots_apart k (all_singles kept ++ all_singles candidates)
       (subst (Pairwise OtherSlot) confirms
       (confirmed_apart k t order (λ a c. each_seen a (re_in order (stayed ++ candidates_said) (re_back (stayed ++ candidates_said) order same) a c))
       (re_pairs OtherPart (λ a b d e. d (sym e)) (stayed ++ candidates_said) order same (parts_differ once))))
+
+  -- its instances are of one meeting
+  pub of_one_meeting : Pairwise OtherPart own.answers → (kept candidates : List Given) → AreGiven k t stayed kept → AllZip (IsGiven k t) candidates_said candidates
+      → AreOfOneMeeting (all_singles kept ++ all_singles candidates) (all_series kept ++ all_series candidates)
+  of_one_meeting once kept candidates z w =
+      let order = z.order ++ candidates_said in
+      let same = re_left candidates_said stayed z.order z.same in
+      let zipped = zip_both (IsGiven k t) z.order kept candidates_said candidates z.each w in
+      let singles = all_singles kept ++ all_singles candidates in
+      let series = all_series kept ++ all_series candidates in
+      let seen = λ (a : Answer) (c : Contains order a). each_seen a (re_in order (stayed ++ candidates_said) (re_back (stayed ++ candidates_said) order same) a c) in
+      let apart = re_pairs OtherPart (λ a b d e. d (sym e)) (stayed ++ candidates_said) order same (parts_differ once) in
+      let confirms : singles_confirmed t order ≡ booked_list k singles =
+      given_confirms k t order (kept ++ candidates) zipped ∙ ap (booked_list k) (flat_map-append (λ (g : Given). g.singles.items) kept candidates) in
+      let recurs : AreSameSeries t (series_confirmed t order) (series_list k series) =
+      subst (λ (l : List Series). AreSameSeries t (series_confirmed t order) (series_list k l)) (flat_map-append (λ (g : Given). option_to_list g.series) kept candidates) (given_recurs k t order (kept ++ candidates) zipped) in
+      record {
+        differ = slots_differ once kept candidates z w;
+        one = (let few = series_few k t order seen apart in let l = recurs.long in let m = length-map series (series_of k) in omega (arith, few, l, m));
+        apart = λ single other of c d r.
+            single_apart k t order seen apart (booked_of k single) (booked_of k other) (subst (λ (l : List Booked). Contains l (booked_of k single)) (sym confirms) (booked_from k singles single c))
+            ((recurs.same (booked_of k other)).1 (series_of k of, map_from (series_of k) series of d, to_series k of other r));
+      }

@@ -20,7 +20,7 @@ use Rattle.cal_events.specs.declared.instance.Single.{Single}
 use Rattle.cal_events.specs.declared.sweep.Span.{Span}
 use Rattle.room_books.specs.declared.timeline.Busy.{Busy}
 use Rattle.room_books.specs.Instants.{HaveInstant, AreSeparate}
-use Rattle.room_books.specs.Views.{same_key, is_other, booked_of, booked_list, slots_of, confirmed_singles, confirmed_of, confirmed_at, singles_in, singles_by, others, all_confirmed, span_of}
+use Rattle.room_books.specs.Views.{same_key, is_other, booked_of, booked_list, slots_of, meeting_singles, confirmed_of, confirmed_at, singles_in, singles_by, others, all_confirmed, all_recurring, all_series, other_recurring, recurring_of, series_at, series_by, series_in, series_of, span_of}
 use Rattle.room_books.specs.Timelines.{is_place, HoldsInstants, holds_instants, busy_in, has_single, AreAt, IsTimelineOf, IsFreeBut, IsChanged}
 use Rattle.room_books.proofs.Timelines.{has_at, has_from, single_at, single_from, holds_from}
 use Rattle.room_books.proofs.Keys.{key_congr, only_place, place_is_own}
@@ -70,7 +70,7 @@ flat_from (x ∷ es) e b c h = elim (in_cons x es e c) [
 ]
 
 -- what a place confirms is of the entry in it
-single_of_entry : (o : Option Entry) (s : Single) → Contains (singles_in o) s → (e : Entry) × (o ≡ Some e) × Contains (confirmed_singles e.1) s
+single_of_entry : (o : Option Entry) (s : Single) → Contains (singles_in o) s → (e : Entry) × (o ≡ Some e) × Contains (meeting_singles e.1) s
 single_of_entry None s c = absurd (none_in_nil s c)
 single_of_entry (Some e) s c = (e, refl, c)
 
@@ -78,7 +78,7 @@ single_of_entry (Some e) s c = (e, refl, c)
 pub others_differ : (k : MeetingKey) (es : List Entry) (s : Single) (b : Booked) → Contains (others k es) b → b.key ≢ (booked_of k s).key
 others_differ k es s b c =
     let f = in_flat (filter (is_other k) es) b c in
-    let r = in_booked f.0.0 (confirmed_singles f.0.1) b f.2 in
+    let r = in_booked f.0.0 (meeting_singles f.0.1) b f.2 in
     λ e. booked_differs k f.0.0 s r.0 (not-true _ (filter_at (is_other k) es f.0 f.1).1) (ap (λ (z : Booked). z.key) r.2 ∙ e)
 
 -- ---- the other meetings
@@ -97,15 +97,15 @@ module _ (k : MeetingKey) (es : List Entry) (distinct : IsDistinct same_key (key
       let f = in_flat (filter (is_other k) es) b c in
       let e = f.0 in
       let both = filter_at (is_other k) es e f.1 in
-      let s = in_booked e.0 (confirmed_singles e.1) b f.2 in
+      let s = in_booked e.0 (meeting_singles e.1) b f.2 in
       let at : slice_get es both.0.0 ≡ Some e = slice_get-get_or es both.0.0 e both.0.1 ∙ ap Some both.0.2 in
       (both.0.0, s.0, subst (λ (o : Option Entry). Contains (singles_in o) s.0) (sym at) s.1, ap span_of s.2, key_at both.0.0 e at ∙ not-true _ both.1)
 
   -- and what stands in another place is one of them
-  pub other_from : (q : ℕ) (e : Entry) (s : Single) → slice_get es q ≡ Some e → Contains (confirmed_singles e.1) s → is_place own q ≡ false → Contains (others k es) (booked_of e.0 s)
+  pub other_from : (q : ℕ) (e : Entry) (s : Single) → slice_get es q ≡ Some e → Contains (meeting_singles e.1) s → is_place own q ≡ false → Contains (others k es) (booked_of e.0 s)
   other_from q e s at h n = flat_from (filter (is_other k) es) e (booked_of e.0 s)
       (filter_from (is_other k) es e (entry_in es q e at) (ap not (sym (key_at q e at) ∙ n)))
-      (booked_from e.0 (confirmed_singles e.1) s h)
+      (booked_from e.0 (meeting_singles e.1) s h)
 
 -- ---- by the timeline
 
@@ -123,7 +123,7 @@ pub holds_shared : (a b : Span) (t : ℤ) → HaveInstant a b t → HoldsInstant
 holds_shared a b t h = let s = h.in_second in let e = h.before in let x = s.0 in let y = s.1 in (omega (arith, ints), omega (arith, ints))
 
 -- what is there is of an entry
-pub real_entry : (es : List Entry) (items : List Busy) → IsTimelineOf (confirmed_at es) items → (b : Busy) → Contains items b → (e : Entry) × (slice_get es b.place ≡ Some e) × Contains (confirmed_singles e.1) b.single
+pub real_entry : (es : List Entry) (items : List Busy) → IsTimelineOf (confirmed_at es) items → (b : Busy) → Contains items b → (e : Entry) × (slice_get es b.place ≡ Some e) × Contains (meeting_singles e.1) b.single
 real_entry es items timeline b c = single_of_entry (slice_get es b.place) b.single (real (confirmed_at es) items timeline b c)
 
 -- ---- the count
@@ -133,20 +133,34 @@ no_others k e [] same h = refl
 no_others k e (x ∷ es) same h =
     ap (λ t. cond (not t) (x ∷ filter (is_other k) es) (filter (is_other k) es)) (key_congr k e x.0 same ∙ h.0) ∙ ap (λ l. x ∷ l) (no_others k e es same h.1)
 
-count_at : (k : MeetingKey) (e : Entry) (es : List Entry) (t : Bool) → same_key k e.0 ≡ t → IsDistinct same_key (keys_of (e ∷ es))
-    → length (others k es) + length (singles_by (lookup (same_key k) es)) ≡ length (all_confirmed es)
-    → length (flat_map confirmed_of (cond (not t) (e ∷ filter (is_other k) es) (filter (is_other k) es))) + length (singles_by (cond t (Some e.1) (lookup (same_key k) es))) ≡ length (confirmed_of e ++ all_confirmed es)
-count_at k e es true same distinct h =
-    let n = ap (λ l. length (flat_map confirmed_of l)) (no_others k e.0 es same (IsDistinct-head same_key e.0 (keys_of es) distinct)) in
-    let o = length-map (confirmed_singles e.1) (booked_of e.0) in
-    omega (arith, n, o, length-append (confirmed_of e) (all_confirmed es))
-count_at k e es false other distinct h =
-    omega (arith, h, length-append (confirmed_of e) (others k es), length-append (confirmed_of e) (all_confirmed es))
+-- what is counted of an entry, and of the meeting that was found
+module _ {X Y : Type 0} (of : Entry → List X) (by_found : Option Meeting → List Y) (none : length (by_found None) ≡ 0) (long : (e : Entry) → length (of e) ≡ length (by_found (Some e.1))) (k : MeetingKey) where
+  count_at : (e : Entry) (es : List Entry) (t : Bool) → same_key k e.0 ≡ t → IsDistinct same_key (keys_of (e ∷ es))
+      → length (flat_map of (filter (is_other k) es)) + length (by_found (lookup (same_key k) es)) ≡ length (flat_map of es)
+      → length (flat_map of (cond (not t) (e ∷ filter (is_other k) es) (filter (is_other k) es))) + length (by_found (cond t (Some e.1) (lookup (same_key k) es))) ≡ length (of e ++ flat_map of es)
+  count_at e es true same distinct h =
+      let n = ap (λ l. length (flat_map of l)) (no_others k e.0 es same (IsDistinct-head same_key e.0 (keys_of es) distinct)) in
+      omega (arith, n, long e, length-append (of e) (flat_map of es))
+  count_at e es false other distinct h =
+      omega (arith, h, length-append (of e) (flat_map of (filter (is_other k) es)), length-append (of e) (flat_map of es))
+
+  -- what the meeting itself and the others have is all
+  pub counted_apart : (es : List Entry) → IsDistinct same_key (keys_of es) → length (flat_map of (filter (is_other k) es)) + length (by_found (lookup (same_key k) es)) ≡ length (flat_map of es)
+  counted_apart [] distinct = omega (arith, none)
+  counted_apart (e ∷ es) distinct = count_at e es (same_key k e.0) refl distinct (counted_apart es (IsDistinct-tail same_key e.0 (keys_of es) distinct))
+
+singles_long : (e : Entry) → length (confirmed_of e) ≡ length (singles_by (Some e.1))
+singles_long e = length-map (meeting_singles e.1) (booked_of e.0)
+
+series_long : (e : Entry) → length (recurring_of e) ≡ length (series_by (Some e.1))
+series_long e = length-map (all_series e.1.answers.items) (series_of e.0)
 
 -- what the meeting itself and the others have confirmed is all
 pub others_count : (k : MeetingKey) (es : List Entry) → IsDistinct same_key (keys_of es) → length (others k es) + length (singles_by (lookup (same_key k) es)) ≡ length (all_confirmed es)
-others_count k [] distinct = refl
-others_count k (e ∷ es) distinct = count_at k e es (same_key k e.0) refl distinct (others_count k es (IsDistinct-tail same_key e.0 (keys_of es) distinct))
+others_count k es distinct = counted_apart confirmed_of singles_by refl singles_long k es distinct
+
+pub other_series_count : (k : MeetingKey) (es : List Entry) → IsDistinct same_key (keys_of es) → length (other_recurring k es) + length (series_by (lookup (same_key k) es)) ≡ length (all_recurring es)
+other_series_count k es distinct = counted_apart recurring_of series_by refl series_long k es distinct
 
 -- ---- one entry more
 
@@ -161,47 +175,66 @@ pub suc_is : (n : ℕ) → 1 + n ≡ suc n
 suc_is n = omega arith
 
 module _ (k : MeetingKey) (m : Meeting) where
-  held_put_at : (e : Entry) (es : List Entry) (t : Bool) → (confirmed_at (put k m es) (place_of k es) ≡ confirmed_singles m)
-      → confirmed_at (cond t ((e.0, m) ∷ es) (e ∷ put k m es)) (cond (not t) (1 + place_of k es) 0) ≡ confirmed_singles m
-  held_put_at e es true h = refl
-  held_put_at e es false h = ap (confirmed_at (e ∷ put k m es)) (suc_is (place_of k es)) ∙ h
+  own_at : (e : Entry) (es : List Entry) (t : Bool) → ((key : MeetingKey) × (slice_get (put k m es) (place_of k es) ≡ Some (key, m)))
+      → (key : MeetingKey) × (slice_get (cond t ((e.0, m) ∷ es) (e ∷ put k m es)) (cond (not t) (1 + place_of k es) 0) ≡ Some (key, m))
+  own_at e es true h = (e.0, refl)
+  own_at e es false h = (h.0, ap (slice_get (e ∷ put k m es)) (suc_is (place_of k es)) ∙ h.1)
+
+  -- it stands in its place
+  pub own_entry : (es : List Entry) → (key : MeetingKey) × (slice_get (put k m es) (place_of k es) ≡ Some (key, m))
+  own_entry [] = (k, refl)
+  own_entry (e ∷ es) = own_at e es (same_key k e.0) (own_entry es)
 
   -- its place confirms what it does
-  pub held_put : (es : List Entry) → confirmed_at (put k m es) (place_of k es) ≡ confirmed_singles m
-  held_put [] = refl
-  held_put (e ∷ es) = held_put_at e es (same_key k e.0) (held_put es)
+  pub held_put : (es : List Entry) → confirmed_at (put k m es) (place_of k es) ≡ meeting_singles m
+  held_put es = ap singles_in (own_entry es).1
 
-  held_other_at : (e : Entry) (es : List Entry) (t : Bool) (q : ℕ) → ((r : ℕ) → r ≢ place_of k es → confirmed_at (put k m es) r ≡ confirmed_at es r) → q ≢ cond (not t) (1 + place_of k es) 0
-      → confirmed_at (cond t ((e.0, m) ∷ es) (e ∷ put k m es)) q ≡ confirmed_at (e ∷ es) q
-  held_other_at e es true zero h n = absurd (n refl)
-  held_other_at e es true (suc q) h n = refl
-  held_other_at e es false zero h n = refl
-  held_other_at e es false (suc q) h n = h q (λ same. n (ap suc same ∙ sym (suc_is (place_of k es))))
+  pub series_put : (es : List Entry) → series_at (put k m es) (place_of k es) ≡ all_series m.answers.items
+  series_put es = ap series_in (own_entry es).1
+
+  other_at : (e : Entry) (es : List Entry) (t : Bool) (q : ℕ) → ((r : ℕ) → r ≢ place_of k es → slice_get (put k m es) r ≡ slice_get es r) → q ≢ cond (not t) (1 + place_of k es) 0
+      → slice_get (cond t ((e.0, m) ∷ es) (e ∷ put k m es)) q ≡ slice_get (e ∷ es) q
+  other_at e es true zero h n = absurd (n refl)
+  other_at e es true (suc q) h n = refl
+  other_at e es false zero h n = refl
+  other_at e es false (suc q) h n = h q (λ same. n (ap suc same ∙ sym (suc_is (place_of k es))))
 
   past_one : (q : ℕ) → q ≢ 0 → slice_get {X = Entry} ((k, m) ∷ []) q ≡ None
   past_one zero n = absurd (n refl)
   past_one (suc q) n = refl
 
-  -- the other places confirm what they did
-  pub held_other : (es : List Entry) (q : ℕ) → q ≢ place_of k es → confirmed_at (put k m es) q ≡ confirmed_at es q
-  held_other [] q n = ap singles_in (past_one q n)
-  held_other (e ∷ es) q n = held_other_at e es (same_key k e.0) q (held_other es) n
+  -- the other places hold what they did
+  pub other_entry : (es : List Entry) (q : ℕ) → q ≢ place_of k es → slice_get (put k m es) q ≡ slice_get es q
+  other_entry [] q n = past_one q n
+  other_entry (e ∷ es) q n = other_at e es (same_key k e.0) q (other_entry es) n
 
-  put_count_at : (e : Entry) (es : List Entry) (t : Bool) → length (all_confirmed (put k m es)) + length (singles_by (lookup (same_key k) es)) ≡ length (all_confirmed es) + length (confirmed_singles m)
-      → length (all_confirmed (cond t ((e.0, m) ∷ es) (e ∷ put k m es))) + length (singles_by (cond t (Some e.1) (lookup (same_key k) es))) ≡ length (confirmed_of e ++ all_confirmed es) + length (confirmed_singles m)
-  put_count_at e es true h =
-      let a = length-map (confirmed_singles e.1) (booked_of e.0) in
-      let b = length-map (confirmed_singles m) (booked_of e.0) in
-      omega (arith, a, b, length-append (confirmed_of e) (all_confirmed es), length-append (booked_list e.0 (confirmed_singles m)) (all_confirmed es))
-  put_count_at e es false h = omega (arith, h, length-append (confirmed_of e) (all_confirmed es), length-append (confirmed_of e) (all_confirmed (put k m es)))
+  pub held_other : (es : List Entry) (q : ℕ) → q ≢ place_of k es → confirmed_at (put k m es) q ≡ confirmed_at es q
+  held_other es q n = ap singles_in (other_entry es q n)
+
+  pub series_other : (es : List Entry) (q : ℕ) → q ≢ place_of k es → series_at (put k m es) q ≡ series_at es q
+  series_other es q n = ap series_in (other_entry es q n)
+
+  -- what is counted of an entry, and of the meeting that was found
+  module _ {X Y : Type 0} (of : Entry → List X) (by_found : Option Meeting → List Y) (none : length (by_found None) ≡ 0) (long : (e : Entry) → length (of e) ≡ length (by_found (Some e.1))) where
+    put_count_at : (e : Entry) (es : List Entry) (t : Bool) → length (flat_map of (put k m es)) + length (by_found (lookup (same_key k) es)) ≡ length (flat_map of es) + length (by_found (Some m))
+        → length (flat_map of (cond t ((e.0, m) ∷ es) (e ∷ put k m es))) + length (by_found (cond t (Some e.1) (lookup (same_key k) es))) ≡ length (of e ++ flat_map of es) + length (by_found (Some m))
+    put_count_at e es true h = omega (arith, long e, long (e.0, m), length-append (of e) (flat_map of es), length-append (of (e.0, m)) (flat_map of es))
+    put_count_at e es false h = omega (arith, h, length-append (of e) (flat_map of es), length-append (of e) (flat_map of (put k m es)))
+
+    -- all grows by what the meeting has, less what it had
+    pub put_counted : (es : List Entry) → length (flat_map of (put k m es)) + length (by_found (lookup (same_key k) es)) ≡ length (flat_map of es) + length (by_found (Some m))
+    put_counted [] = omega (arith, none, long (k, m), length-append (of (k, m)) [])
+    put_counted (e ∷ es) = put_count_at e es (same_key k e.0) (put_counted es)
 
   -- all that is confirmed grows by what the meeting confirms, less what it did
-  pub put_count : (es : List Entry) → length (all_confirmed (put k m es)) + length (singles_by (lookup (same_key k) es)) ≡ length (all_confirmed es) + length (confirmed_singles m)
-  put_count [] = let b = length-map (confirmed_singles m) (booked_of k) in omega (arith, b, length-append (booked_list k (confirmed_singles m)) [])
-  put_count (e ∷ es) = put_count_at e es (same_key k e.0) (put_count es)
+  pub put_count : (es : List Entry) → length (all_confirmed (put k m es)) + length (singles_by (lookup (same_key k) es)) ≡ length (all_confirmed es) + length (meeting_singles m)
+  put_count es = put_counted confirmed_of singles_by refl singles_long es
+
+  pub put_series_count : (es : List Entry) → length (all_recurring (put k m es)) + length (series_by (lookup (same_key k) es)) ≡ length (all_recurring es) + length (all_series m.answers.items)
+  put_series_count es = put_counted recurring_of series_by refl series_long es
 
   -- the timeline of the entries with this one
-  pub timeline_put : (es : List Entry) (old new : List Busy) → IsTimelineOf (confirmed_at es) old → IsChanged (place_of k es) (confirmed_singles m) old new → IsTimelineOf (confirmed_at (put k m es)) new
+  pub timeline_put : (es : List Entry) (old new : List Busy) → IsTimelineOf (confirmed_at es) old → IsChanged (place_of k es) (meeting_singles m) old new → IsTimelineOf (confirmed_at (put k m es)) new
   timeline_put es old new timeline changed = record {
     held = λ x. elim (cases_Bool (x.place == place_of k es)) [
       | inl own ↦ (
@@ -249,7 +282,7 @@ module _ (k : MeetingKey) (es : List Entry) (distinct : IsDistinct same_key (key
       let other = other_key b.place e.0 e.1 n in
       let booked = booked_of e.0.0 b.single in
       let among : Contains (others k es) booked = flat_from (filter (is_other k) es) e.0 booked
-      (filter_from (is_other k) es e.0 (entry_in es b.place e.0 e.1) (ap not other)) (booked_from e.0.0 (confirmed_singles e.0.1) b.single e.2) in
+      (filter_from (is_other k) es e.0 (entry_in es b.place e.0 e.1) (ap not other)) (booked_from e.0.0 (meeting_singles e.0.1) b.single e.2) in
       clear booked (booked_of k s) t record {
         first = Contains-append_left (others k es) (booked_list k singles) booked among;
         second = Contains-append_right (others k es) (booked_list k singles) (booked_of k s) (booked_from k singles s c);

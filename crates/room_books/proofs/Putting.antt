@@ -14,7 +14,7 @@ use Rattle.profile.specs.checker.Instances.{Booked, IsClear}
 use Rattle.room_books.specs.declared.meeting.MeetingKey.{MeetingKey}
 use Rattle.room_books.specs.declared.kept.Meeting.{Meeting}
 use Rattle.cal_events.specs.declared.instance.Single.{Single}
-use Rattle.room_books.specs.Views.{same_key, is_other, booked_of, booked_list, confirmed_singles, confirmed_of, singles_by, others, all_confirmed}
+use Rattle.room_books.specs.Views.{same_key, is_other, booked_of, booked_list, meeting_singles, confirmed_of, singles_by, others, all_confirmed}
 use Rattle.room_books.proofs.Places.{in_flat, flat_from, in_booked, booked_from, no_others, others_count}
 use Rattle.room_books.proofs.Same.{AreSame, same_itself, same_append, same_swap, clear_same}
 
@@ -34,49 +34,49 @@ booked_list_same k q (s ∷ singles) e = let head = booked_same k q s e in let t
 
 module _ (k : MeetingKey) (m : Meeting) where
   put_same_at : (e : MeetingKey × Meeting) (es : List (MeetingKey × Meeting)) (t : Bool) → same_key k e.0 ≡ t → IsDistinct same_key (keys_of (e ∷ es))
-      → AreSame (all_confirmed (insert_entry same_key es k m)) (others k es ++ booked_list k (confirmed_singles m))
-      → AreSame (all_confirmed (cond t ((e.0, m) ∷ es) (e ∷ insert_entry same_key es k m))) (flat_map confirmed_of (cond (not t) (e ∷ filter (is_other k) es) (filter (is_other k) es)) ++ booked_list k (confirmed_singles m))
+      → AreSame (all_confirmed (insert_entry same_key es k m)) (others k es ++ booked_list k (meeting_singles m))
+      → AreSame (all_confirmed (cond t ((e.0, m) ∷ es) (e ∷ insert_entry same_key es k m))) (flat_map confirmed_of (cond (not t) (e ∷ filter (is_other k) es) (filter (is_other k) es)) ++ booked_list k (meeting_singles m))
   put_same_at e es true same distinct h =
       let rest : others k es ≡ all_confirmed es = ap (flat_map confirmed_of) (no_others k e.0 es same (IsDistinct-head same_key e.0 (keys_of es) distinct)) in
-      let own = booked_list_same k e.0 (confirmed_singles m) same in
-      subst (AreSame (booked_list e.0 (confirmed_singles m) ++ all_confirmed es)) (sym (λ i. rest i ++ own i)) (same_turned_about (booked_list e.0 (confirmed_singles m)) (all_confirmed es))
+      let own = booked_list_same k e.0 (meeting_singles m) same in
+      subst (AreSame (booked_list e.0 (meeting_singles m) ++ all_confirmed es)) (sym (λ i. rest i ++ own i)) (same_turned_about (booked_list e.0 (meeting_singles m)) (all_confirmed es))
     where
       same_turned_about : (a b : List Booked) → AreSame (a ++ b) (b ++ a)
       same_turned_about a b = subst (λ l. AreSame l (b ++ a)) (ap (λ l. a ++ l) (append-nil b)) (subst (λ l. AreSame (a ++ (b ++ [])) (b ++ l)) (append-nil a) (same_swap a b []))
   put_same_at e es false other distinct h =
-      subst (AreSame (confirmed_of e ++ all_confirmed (insert_entry same_key es k m))) (sym (append_assoc (confirmed_of e) (others k es) (booked_list k (confirmed_singles m))))
-      (same_append (confirmed_of e) (confirmed_of e) (all_confirmed (insert_entry same_key es k m)) (others k es ++ booked_list k (confirmed_singles m)) (same_itself (confirmed_of e)) h)
+      subst (AreSame (confirmed_of e ++ all_confirmed (insert_entry same_key es k m))) (sym (append_assoc (confirmed_of e) (others k es) (booked_list k (meeting_singles m))))
+      (same_append (confirmed_of e) (confirmed_of e) (all_confirmed (insert_entry same_key es k m)) (others k es ++ booked_list k (meeting_singles m)) (same_itself (confirmed_of e)) h)
 
-  pub put_same : (es : List (MeetingKey × Meeting)) → IsDistinct same_key (keys_of es) → AreSame (all_confirmed (insert_entry same_key es k m)) (others k es ++ booked_list k (confirmed_singles m))
-  put_same [] distinct = subst (λ l. AreSame l (booked_list k (confirmed_singles m))) (sym (append-nil (booked_list k (confirmed_singles m)))) (same_itself (booked_list k (confirmed_singles m)))
+  pub put_same : (es : List (MeetingKey × Meeting)) → IsDistinct same_key (keys_of es) → AreSame (all_confirmed (insert_entry same_key es k m)) (others k es ++ booked_list k (meeting_singles m))
+  put_same [] distinct = subst (λ l. AreSame l (booked_list k (meeting_singles m))) (sym (append-nil (booked_list k (meeting_singles m)))) (same_itself (booked_list k (meeting_singles m)))
   put_same (e ∷ es) distinct = put_same_at e es (same_key k e.0) refl distinct (put_same es (IsDistinct-tail same_key e.0 (keys_of es) distinct))
 
   -- they are clear where the others and its own are
-  pub put_clear : (es : List (MeetingKey × Meeting)) → IsDistinct same_key (keys_of es) → IsClear (others k es ++ booked_list k (confirmed_singles m)) → IsClear (all_confirmed (insert_entry same_key es k m))
-  put_clear es distinct clear = clear_same (all_confirmed (insert_entry same_key es k m)) (others k es ++ booked_list k (confirmed_singles m)) (put_same es distinct) clear
+  pub put_clear : (es : List (MeetingKey × Meeting)) → IsDistinct same_key (keys_of es) → IsClear (others k es ++ booked_list k (meeting_singles m)) → IsClear (all_confirmed (insert_entry same_key es k m))
+  put_clear es distinct clear = clear_same (all_confirmed (insert_entry same_key es k m)) (others k es ++ booked_list k (meeting_singles m)) (put_same es distinct) clear
 
 -- ---- what all confirmed before
 
 found_step : (k : MeetingKey) (e : MeetingKey × Meeting) (es : List (MeetingKey × Meeting)) (s : Single) (t : Bool) → same_key k e.0 ≡ t → Contains (singles_by (cond t (Some e.1) (lookup (same_key k) es))) s
-    → (Contains (singles_by (lookup (same_key k) es)) s → (x : MeetingKey × Meeting) × Contains es x × (same_key k x.0 ≡ true) × Contains (confirmed_singles x.1) s)
-    → (x : MeetingKey × Meeting) × Contains (e ∷ es) x × (same_key k x.0 ≡ true) × Contains (confirmed_singles x.1) s
+    → (Contains (singles_by (lookup (same_key k) es)) s → (x : MeetingKey × Meeting) × Contains es x × (same_key k x.0 ≡ true) × Contains (meeting_singles x.1) s)
+    → (x : MeetingKey × Meeting) × Contains (e ∷ es) x × (same_key k x.0 ≡ true) × Contains (meeting_singles x.1) s
 found_step k e es s true same c h = (e, in_head e es, same, c)
 found_step k e es s false other c h = let r = h c in (r.0, in_tail e es r.0 r.1, r.2, r.3)
 
 -- what a look-up finds confirmed is of an entry of that meeting
 pub found_single : (k : MeetingKey) (es : List (MeetingKey × Meeting)) (s : Single) → Contains (singles_by (lookup (same_key k) es)) s
-    → (x : MeetingKey × Meeting) × Contains es x × (same_key k x.0 ≡ true) × Contains (confirmed_singles x.1) s
+    → (x : MeetingKey × Meeting) × Contains es x × (same_key k x.0 ≡ true) × Contains (meeting_singles x.1) s
 found_single k [] s c = absurd (none_in_nil s c)
 found_single k (e ∷ es) s c = found_step k e es s (same_key k e.0) refl c (found_single k es s)
 
 module _ (k : MeetingKey) (es : List (MeetingKey × Meeting)) (kept : List Single) (own : (s : Single) → Contains kept s → Contains (singles_by (lookup (same_key k) es)) s) where
-  kept_in : (b : Booked) → Contains (others k es ++ booked_list k kept) b → Contains (all_confirmed es) b
+  pub kept_in : (b : Booked) → Contains (others k es ++ booked_list k kept) b → Contains (all_confirmed es) b
   kept_in b c = elim (Contains-append_cases (others k es) (booked_list k kept) b c) [
     | inl other ↦ (let f = in_flat (filter (is_other k) es) b other in flat_from es f.0 b (filter_at (is_other k) es f.0 f.1).0 f.2)
     | inr here ↦ (
         let s = in_booked k kept b here in
         let x = found_single k es s.0 (own s.0 s.1) in
-        flat_from es x.0 b x.1 (subst (Contains (confirmed_of x.0)) (sym (booked_same k x.0.0 s.0 x.2) ∙ s.2) (booked_from x.0.0 (confirmed_singles x.0.1) s.0 x.3)))
+        flat_from es x.0 b x.1 (subst (Contains (confirmed_of x.0)) (sym (booked_same k x.0.0 s.0 x.2) ∙ s.2) (booked_from x.0.0 (meeting_singles x.0.1) s.0 x.3)))
   ]
 
   -- the others and some of its own are clear where all are

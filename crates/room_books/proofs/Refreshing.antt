@@ -5,7 +5,7 @@ use Rattle.itip_order.specs.Parts.{part_of}
 use Rattle.profile.specs.rooms.Kept.{Refreshes}
 use Rattle.profile.specs.rooms.Revisions.{Part}
 use Rattle.profile.specs.rooms.Rooms.{is_fresh, lacks_whole, wants_whole}
-use Rattle.room_books.specs.declared.taking.Claim.{Claim}
+use Rattle.room_books.specs.declared.claim.Claim.{Claim}
 use Rattle.room_books.specs.Replying.{IsRefreshOf}
 use Rattle.room_books.specs.Takings.{claim_said, claims_said, parts_said}
 use Rattle.room_books.proofs.KindLemmas.{parts_are}

@@ -24,7 +24,7 @@ use Rattle.itip_order.proofs.Registers.{same_part_refl}
 use Rattle.room_books.specs.declared.meeting.MeetingKey.{MeetingKey}
 use Rattle.room_books.specs.declared.kept.Meeting.{Meeting}
 use Rattle.room_books.specs.declared.meeting.Given.{Given}
-use Rattle.room_books.specs.declared.taking.Claim.{Claim}
+use Rattle.room_books.specs.declared.claim.Claim.{Claim}
 use Rattle.room_books.specs.Views.{outcome_of}
 use Rattle.room_books.specs.Takings.{claim_said, claims_said}
 use Rattle.room_books.specs.Standing.{AreFitting, IsOwn, Meets, standing}

@@ -1,124 +1,168 @@
--- Over every run the confirmed instances are clear, and no more than the limit.
-use Rattle.std.proofs.Common.{◌≡◌, ℤ, ◌≤◌, Bool, true, false, not, ◌&&◌, cond, List, [], ◌∷◌, ◌++◌, inl, inr, refl, sym, ap, ◌∙◌, subst, length, arith, length-append, append-nil}
-use Rattle.std.specs.Prelude.{IsTrue, nat_lt}
+-- Over every run what is confirmed is clear, and within the limits.
+use Rattle.std.proofs.Common.{◌≡◌, ℤ, ◌≤◌, Bool, true, false, not, ◌&&◌, cond, List, [], ◌∷◌, ◌++◌, Option, Some, None, inl, inr, refl, sym, ap, ◌∙◌, subst, length, arith, length-append, append-nil}
+use Rattle.std.specs.Prelude.{IsTrue, nat_lt, option_map}
+use Rattle.std.specs.Option.{option_to_list}
 use Rattle.std.specs.List.{Contains, filter, flat_map}
 use Rattle.std.proofs.lemmas.Bool.{and_parts, and_from, true≢false, both_ways, not-true, not_from_false, false_from_ne_true, lt-ltb}
 use Rattle.std.proofs.lemmas.List.Elements.{Contains-append_left, Contains-append_right, Contains-append_cases, filter-append}
 use Rattle.std.proofs.lemmas.Grind.{flat_map-append}
-use Rattle.profile.specs.checker.Instances.{Booked, IsClear}
+use Rattle.profile.specs.checker.Instances.{Booked}
+use Rattle.profile.specs.events.Meetings.{Meeting}
 use Rattle.profile.specs.rooms.Revisions.{Part, in_view}
 use Rattle.profile.specs.rooms.Messages.{Outcome, Accept, Busy, SeriesLimit, SinglesLimit}
-use Rattle.profile.specs.rooms.Rooms.{Claim, Answer, Book, empty_book, is_accept, is_confirmed, is_hidden, left_of, confirmed_in, confirmed, is_fresh, is_set, parts_of, asked, most_singles, Decides, answered, IsStep, Delivery, Runs}
+use Rattle.profile.specs.rooms.Rooms.{Claim, Answer, Book, Confirms, IsClear, IsWithinLimits, Recurring, empty_book, is_accept, is_confirmed, is_hidden, left_of, recurring_in, singles_confirmed, confirmed_singles, confirmed_series, is_fresh, is_set, parts_of, asked, Decides, answered, IsStep, Delivery, Runs}
 use Rattle.itip_order.proofs.Lists.{in_cons, in_head, in_tail, none_in_nil, filter_at}
-use Rattle.room_books.proofs.Pairs.{map_at, map_from}
+use Rattle.room_books.proofs.Pairs.{flat_at, map_at, map_from}
 use Rattle.room_books.proofs.Views.{view_back, hidden_stays}
 
--- clear, and no more than the limit
-pub record Good (xs : List Booked) : Type 0 where
-  pub clear : IsClear xs
-  pub few : length xs ≤ most_singles
+-- clear, and within the limits
+pub record Good (book : Book) : Type 0 where
+  pub clear : IsClear book
+  pub few : IsWithinLimits book
 
 -- each answer's part was taken
 abbrev pub AnswersTaken : Book → Type 0
 AnswersTaken book = (a : Answer) → Contains book.answers a → Contains book.taken a.claim.part
 
 -- the elements of xs are among those of ys, which is no shorter
-pub record IsWithin (xs ys : List Booked) : Type 0 where
-  pub among : (x : Booked) → Contains xs x → Contains ys x
+pub record IsWithin {X : Type 0} (xs ys : List X) : Type 0 where
+  pub among : (x : X) → Contains xs x → Contains ys x
   pub shorter : length xs ≤ length ys
 
-pub within_good : (xs ys : List Booked) → IsWithin xs ys → Good ys → Good xs
-within_good xs ys w g = record {
-  clear = λ a b t c. g.clear a b t (record {
-    first = w.among a c.first;
-    second = w.among b c.second;
-    differ = c.differ;
-    before = c.before;
-    in_first = c.in_first;
-    in_second = c.in_second;
-  });
-  few = let s = w.shorter in let f = g.few in omega arith;
+module _ {X : Type 0} where
+  within_itself : (xs : List X) → IsWithin xs xs
+  within_itself xs = record { among = λ x c. c; shorter = omega arith }
+
+  within_both : (f g xs ys : List X) → IsWithin f g → IsWithin xs ys → IsWithin (f ++ xs) (g ++ ys)
+  within_both f g xs ys v w = record {
+    among = λ x c. elim (Contains-append_cases f xs x c) [
+      | inl here ↦ Contains-append_left g ys x (v.among x here)
+      | inr there ↦ Contains-append_right g ys x (w.among x there)
+    ];
+    shorter = let s = w.shorter in let t = v.shorter in omega (arith, length-append f xs, length-append g ys);
+  }
+
+  within_more : (f xs ys : List X) → IsWithin xs ys → IsWithin xs (f ++ ys)
+  within_more f xs ys w = record {
+    among = λ x c. Contains-append_right f ys x (w.among x c);
+    shorter = let s = w.shorter in omega (arith, length-append f ys);
+  }
+
+  -- a stronger test keeps fewer
+  within_test : (q p : X → Bool) (xs : List X) → ((x : X) → q x ≡ true → p x ≡ true) → IsWithin (filter q xs) (filter p xs)
+  within_test q p [] f = within_itself []
+  within_test q p (b ∷ xs) f = step (q b) (p b) (f b) (within_test q p xs f)
+    where
+      step : (c d : Bool) → (c ≡ true → d ≡ true) → IsWithin (filter q xs) (filter p xs) → IsWithin (cond c (b ∷ filter q xs) (filter q xs)) (cond d (b ∷ filter p xs) (filter p xs))
+      step true true f w = within_both (b ∷ []) (b ∷ []) (filter q xs) (filter p xs) (within_itself (b ∷ [])) w
+      step true false f w = absurd (true≢false (sym (f refl)))
+      step false true f w = within_more (b ∷ []) (filter q xs) (filter p xs) w
+      step false false f w = w
+
+  -- and of fewer answers, each of which gives fewer, there are fewer
+  within_filter : (q p : Answer → Bool) (f g : Answer → List X) (xs : List Answer) → ((a : Answer) → Contains xs a → q a ≡ true → (p a ≡ true) × IsWithin (f a) (g a))
+      → IsWithin (flat_map f (filter q xs)) (flat_map g (filter p xs))
+  within_filter q p f g [] h = within_itself []
+  within_filter q p f g (a ∷ xs) h = step (q a) (p a) (h a (in_head a xs)) (within_filter q p f g xs (λ x c. h x (in_tail a xs x c)))
+    where
+      step : (c d : Bool) → (c ≡ true → (d ≡ true) × IsWithin (f a) (g a)) → IsWithin (flat_map f (filter q xs)) (flat_map g (filter p xs))
+          → IsWithin (flat_map f (cond c (a ∷ filter q xs) (filter q xs))) (flat_map g (cond d (a ∷ filter p xs) (filter p xs)))
+      step true true h w = within_both (f a) (g a) (flat_map f (filter q xs)) (flat_map g (filter p xs)) (h refl).1 w
+      step true false h w = absurd (true≢false (sym (h refl).0))
+      step false true h w = within_more (g a) (flat_map f (filter q xs)) (flat_map g (filter p xs)) w
+      step false false h w = w
+
+-- ---- a book that confirms no more than another
+
+pub record ConfirmsLess (a b : Book) : Type 0 where
+  pub singles : IsWithin (confirmed_singles a) (confirmed_singles b)
+  pub series : IsWithin (confirmed_series a) (confirmed_series b)
+  pub left : (r : Recurring) → Contains (confirmed_series a) r → (x : Booked) → is_hidden a.taken r.part x ≡ false → is_hidden b.taken r.part x ≡ false
+
+less_confirms : (a b : Book) → ConfirmsLess a b → (x : Booked) → Confirms a x → Confirms b x
+less_confirms a b less x (inl c) = inl (less.singles.among x c)
+less_confirms a b less x (inr l) = inr (record { series = l.series; among = less.series.among l.series l.among; is = l.is; shown = less.left l.series l.among x l.shown })
+
+pub less_good : (a b : Book) → ConfirmsLess a b → Good b → Good a
+less_good a b less g = record {
+  clear = λ x y t c d clash. g.clear x y t (less_confirms a b less x c) (less_confirms a b less y d) clash;
+  few =
+      let few = g.few in
+      record {
+        series = let s = less.series.shorter in let f = few.series in omega (arith, s, f);
+        singles = let s = less.singles.shorter in let f = few.singles in omega (arith, s, f);
+      };
 }
 
-within_itself : (xs : List Booked) → IsWithin xs xs
-within_itself xs = record { among = λ x c. c; shorter = omega arith }
+abbrev book_of : List Part → List Answer → Book
+book_of taken answers = record { taken = taken; answers = answers }
 
-within_both : (f g xs ys : List Booked) → IsWithin f g → IsWithin xs ys → IsWithin (f ++ xs) (g ++ ys)
-within_both f g xs ys v w = record {
-  among = λ x c. elim (Contains-append_cases f xs x c) [
-    | inl here ↦ Contains-append_left g ys x (v.among x here)
-    | inr there ↦ Contains-append_right g ys x (w.among x there)
-  ];
-  shorter = let s = w.shorter in let t = v.shorter in omega (arith, length-append f xs, length-append g ys);
-}
-
-within_more : (f xs ys : List Booked) → IsWithin xs ys → IsWithin xs (f ++ ys)
-within_more f xs ys w = record {
-  among = λ x c. Contains-append_right f ys x (w.among x c);
-  shorter = let s = w.shorter in omega (arith, length-append f ys);
-}
-
--- a stronger test keeps fewer instances
-within_test : (q p : Booked → Bool) (xs : List Booked) → ((b : Booked) → q b ≡ true → p b ≡ true) → IsWithin (filter q xs) (filter p xs)
-within_test q p [] f = within_itself []
-within_test q p (b ∷ xs) f = step (q b) (p b) (f b) (within_test q p xs f)
-  where
-    step : (c d : Bool) → (c ≡ true → d ≡ true) → IsWithin (filter q xs) (filter p xs) → IsWithin (cond c (b ∷ filter q xs) (filter q xs)) (cond d (b ∷ filter p xs) (filter p xs))
-    step true true f w = within_both (b ∷ []) (b ∷ []) (filter q xs) (filter p xs) (within_itself (b ∷ [])) w
-    step true false f w = absurd (true≢false (sym (f refl)))
-    step false true f w = within_more (b ∷ []) (filter q xs) (filter p xs) w
-    step false false f w = w
-
--- and of fewer answers, each with fewer instances, there are fewer
-within_filter : (q p : Answer → Bool) (f g : Answer → List Booked) (xs : List Answer) → ((a : Answer) → Contains xs a → q a ≡ true → (p a ≡ true) × IsWithin (f a) (g a))
-    → IsWithin (flat_map f (filter q xs)) (flat_map g (filter p xs))
-within_filter q p f g [] h = within_itself []
-within_filter q p f g (a ∷ xs) h = step (q a) (p a) (h a (in_head a xs)) (within_filter q p f g xs (λ x c. h x (in_tail a xs x c)))
-  where
-    step : (c d : Bool) → (c ≡ true → (d ≡ true) × IsWithin (f a) (g a)) → IsWithin (flat_map f (filter q xs)) (flat_map g (filter p xs))
-        → IsWithin (flat_map f (cond c (a ∷ filter q xs) (filter q xs))) (flat_map g (cond d (a ∷ filter p xs) (filter p xs)))
-    step true true h w = within_both (f a) (g a) (flat_map f (filter q xs)) (flat_map g (filter p xs)) (h refl).1 w
-    step true false h w = absurd (true≢false (sym (h refl).0))
-    step false true h w = within_more (g a) (flat_map f (filter q xs)) (flat_map g (filter p xs)) w
-    step false false h w = w
+-- the series of an answer are of its part
+own_part : (part : Part) (o : Option Meeting) (r : Recurring) → Contains (option_to_list (option_map (λ (meeting : Meeting). record { part = part; meeting = meeting }) o)) r → r.part ≡ part
+own_part part None r c = absurd (none_in_nil r c)
+own_part part (Some meeting) r c = elim (in_cons _ [] r c) [ inl here ↦ sym (ap (λ (x : Recurring). x.part) here) | inr none ↦ absurd (none_in_nil r none) ]
 
 -- after more parts the old answers confirm no more than before
-pub confirmed_back : (taken more : List Part) (answers : List Answer) → ((a : Answer) → Contains answers a → Contains taken a.claim.part) → IsWithin (confirmed_in (taken ++ more) answers) (confirmed_in taken answers)
-confirmed_back taken more answers known =
-    within_filter (is_confirmed (taken ++ more)) (is_confirmed taken) (left_of (taken ++ more)) (left_of taken) answers (λ a c e.
-    let both = and_parts _ _ e in
-    let part = a.claim.part in (
-      and_from _ _ both.0 (view_back taken more part (known a c) both.1),
-      within_test (λ b. not (is_hidden (taken ++ more) part b)) (λ b. not (is_hidden taken part b)) a.claim.singles (λ b left.
-          not_from_false _ (false_from_ne_true _ (λ hidden. both_ways _ (not-true _ left) (hidden_stays taken more part b (known a c) both.1 hidden)))),
-    ))
+pub confirmed_back : (taken more : List Part) (answers : List Answer) → ((a : Answer) → Contains answers a → Contains taken a.claim.part) → ConfirmsLess (book_of (taken ++ more) answers) (book_of taken answers)
+confirmed_back taken more answers known = record {
+  singles = within_filter (is_confirmed (taken ++ more)) (is_confirmed taken) (left_of (taken ++ more)) (left_of taken) answers (λ a c e. (
+    still a c e,
+    within_test (λ b. not (is_hidden (taken ++ more) a.claim.part b)) (λ b. not (is_hidden taken a.claim.part b)) a.claim.singles (λ b left. not_from_false _ (shown a c e b (not-true _ left))),
+  ));
+  series = within_filter (is_confirmed (taken ++ more)) (is_confirmed taken) recurring_in recurring_in answers (λ a c e. (still a c e, within_itself (recurring_in a)));
+  left = λ r c x h.
+      let found = flat_at recurring_in (filter (is_confirmed (taken ++ more)) answers) r c in
+      let from = filter_at (is_confirmed (taken ++ more)) answers found.0 found.1 in
+      let part = own_part found.0.claim.part found.0.claim.series r found.2 in
+      subst (λ (p : Part). is_hidden taken p x ≡ false) (sym part) (shown found.0 from.0 from.1 x (subst (λ (p : Part). is_hidden (taken ++ more) p x ≡ false) part h));
+}
+  where
+    still : (a : Answer) → Contains answers a → is_confirmed (taken ++ more) a ≡ true → is_confirmed taken a ≡ true
+    still a c e = let both = and_parts _ _ e in and_from _ _ both.0 (view_back taken more a.claim.part (known a c) both.1)
 
-pub confirmed_split : (taken : List Part) (xs ys : List Answer) → confirmed_in taken (xs ++ ys) ≡ confirmed_in taken xs ++ confirmed_in taken ys
+    -- what no part hides now was hidden by none
+    shown : (a : Answer) → Contains answers a → is_confirmed (taken ++ more) a ≡ true → (b : Booked) → is_hidden (taken ++ more) a.claim.part b ≡ false → is_hidden taken a.claim.part b ≡ false
+    shown a c e b h =
+        let seen = (and_parts (is_accept a.outcome) (in_view (taken ++ more) a.claim.part) e).1 in
+        false_from_ne_true (is_hidden taken a.claim.part b) (λ hidden. both_ways (is_hidden (taken ++ more) a.claim.part b) h (hidden_stays taken more a.claim.part b (known a c) seen hidden))
+
+pub confirmed_split : (taken : List Part) (xs ys : List Answer) → singles_confirmed taken (xs ++ ys) ≡ singles_confirmed taken xs ++ singles_confirmed taken ys
 confirmed_split taken xs ys = ap (flat_map (left_of taken)) (filter-append (is_confirmed taken) xs ys) ∙ flat_map-append (left_of taken) (filter (is_confirmed taken) xs) (filter (is_confirmed taken) ys)
 
-declined_are : (taken : List Part) (moment : ℤ) (outcome : Outcome) (claims : List Claim) → is_accept outcome ≡ false → confirmed_in taken (answered moment outcome claims) ≡ []
+-- of the same confirmed answers as much is confirmed
+same_less : (taken : List Part) (xs ys : List Answer) → filter (is_confirmed taken) xs ≡ filter (is_confirmed taken) ys → ConfirmsLess (book_of taken xs) (book_of taken ys)
+same_less taken xs ys e = record {
+  singles = subst (λ (l : List Answer). IsWithin (confirmed_singles (book_of taken xs)) (flat_map (left_of taken) l)) e (within_itself (confirmed_singles (book_of taken xs)));
+  series = subst (λ (l : List Answer). IsWithin (confirmed_series (book_of taken xs)) (flat_map recurring_in l)) e (within_itself (confirmed_series (book_of taken xs)));
+  left = λ r c x h. h;
+}
+
+declined_are : (taken : List Part) (moment : ℤ) (outcome : Outcome) (claims : List Claim) → is_accept outcome ≡ false → filter (is_confirmed taken) (answered moment outcome claims) ≡ []
 declined_are taken moment outcome [] e = refl
 declined_are taken moment outcome (c ∷ cs) e =
-    ap (λ b. flat_map (left_of taken) (cond (b && in_view taken c.part) (record { claim = c; moment = moment; outcome = outcome } ∷ filter (is_confirmed taken) (answered moment outcome cs)) (filter (is_confirmed taken) (answered moment outcome cs)))) e
-    ∙ declined_are taken moment outcome cs e
+    let rest = filter (is_confirmed taken) (answered moment outcome cs) in
+    ap (λ b. cond (b && in_view taken c.part) (record { claim = c; moment = moment; outcome = outcome } ∷ rest) rest) e ∙ declined_are taken moment outcome cs e
 
-good_none : (old : List Booked) (new : List Booked) → Good old → new ≡ [] → Good (old ++ new)
-good_none old new g e = subst Good (sym (ap (λ l. old ++ l) e ∙ append-nil old)) g
+good_none : (taken : List Part) (old new : List Answer) → Good (book_of taken old) → filter (is_confirmed taken) new ≡ [] → Good (book_of taken (old ++ new))
+good_none taken old new g e =
+    less_good (book_of taken (old ++ new)) (book_of taken old)
+    (same_less taken (old ++ new) old (filter-append (is_confirmed taken) old new ∙ ap (λ l. filter (is_confirmed taken) old ++ l) e ∙ append-nil (filter (is_confirmed taken) old))) g
 
--- where those that stayed are good, what was decided leaves good ones
-decided_good : (old : List Booked) (taken : List Part) (moment : ℤ) (outcome : Outcome) (claims : List Claim) → Good old → (IsTrue (nat_lt 0 (length claims)) → Decides (old ++ confirmed_in taken (answered moment Accept claims)) outcome) → Good (old ++ confirmed_in taken (answered moment outcome claims))
-decided_good old taken moment Accept [] g d = good_none old [] g refl
-decided_good old taken moment Accept (c ∷ cs) g d =
+-- where the old answers are good, what was decided leaves good ones
+decided_good : (taken : List Part) (old : List Answer) (moment : ℤ) (outcome : Outcome) (claims : List Claim) → Good (book_of taken old) → (IsTrue (nat_lt 0 (length claims)) → Decides (book_of taken (old ++ answered moment Accept claims)) outcome)
+    → Good (book_of taken (old ++ answered moment outcome claims))
+decided_good taken old moment Accept [] g d = good_none taken old [] g refl
+decided_good taken old moment Accept (c ∷ cs) g d =
     let both = d (lt-ltb 0 (length (c ∷ cs)) (omega arith)) in
     record { clear = both.1; few = both.0 }
-decided_good old taken moment (Busy a b t) claims g d = good_none old _ g (declined_are taken moment (Busy a b t) claims refl)
-decided_good old taken moment SeriesLimit claims g d = good_none old _ g (declined_are taken moment SeriesLimit claims refl)
-decided_good old taken moment SinglesLimit claims g d = good_none old _ g (declined_are taken moment SinglesLimit claims refl)
+decided_good taken old moment (Busy a b t) claims g d = good_none taken old (answered moment (Busy a b t) claims) g (declined_are taken moment (Busy a b t) claims refl)
+decided_good taken old moment SeriesLimit claims g d = good_none taken old (answered moment SeriesLimit claims) g (declined_are taken moment SeriesLimit claims refl)
+decided_good taken old moment SinglesLimit claims g d = good_none taken old (answered moment SinglesLimit claims) g (declined_are taken moment SinglesLimit claims refl)
 
 -- what holds of each book that a room reaches
 pub record IsSound (book : Book) : Type 0 where
   pub known : AnswersTaken book
-  pub good : Good (confirmed book)
+  pub good : Good book
 
 answered_part : (moment : ℤ) (outcome : Outcome) (claims : List Claim) (a : Answer) → Contains (answered moment outcome claims) a → (c : Claim) × Contains claims c × (a.claim ≡ c)
 answered_part moment outcome [] a c = absurd (none_in_nil a c)
@@ -154,10 +198,9 @@ pub step_sound : (before : Book) (claims : List Claim) (moment : ℤ) (outcome :
 step_sound before claims moment outcome after s sound =
     let asked_now = asked before.taken after.taken claims in
     let is_asked = λ (c : Claim) (h : Contains asked_now c). filter_at (λ c. is_set c.part && is_fresh before.taken after.taken c.part) claims c h in
-    let stayed = subst (λ (t : List Part). IsWithin (confirmed_in t before.answers) (confirmed before)) (sym s.taken) (confirmed_back before.taken (parts_of claims) before.answers sound.known) in
-    let kept = within_good _ _ stayed sound.good in
-    let now = decided_good (confirmed_in after.taken before.answers) after.taken moment outcome asked_now kept
-    (λ some. subst (λ (l : List Booked). Decides l outcome) (confirmed_split after.taken before.answers (answered moment Accept asked_now)) (s.decided some)) in
+    let stayed = less_good (book_of (before.taken ++ parts_of claims) before.answers) before (confirmed_back before.taken (parts_of claims) before.answers sound.known) sound.good in
+    let old = subst (λ (t : List Part). Good (book_of t before.answers)) (sym s.taken) stayed in
+    let now = decided_good after.taken before.answers moment outcome asked_now old s.decided in
     record {
       known = λ a c.
           let P : List Part → Type 0 = λ t. Contains t a.claim.part in
@@ -168,19 +211,23 @@ step_sound before claims moment outcome after s sound =
                 Contains-append_right before.taken (parts_of claims) a.claim.part
                 (subst (λ (c : Claim). Contains (parts_of claims) c.part) (sym found.2) (map_from (λ (c : Claim). c.part) claims found.0 (is_asked found.0 found.1).0))
           ]);
-      good = subst Good (sym (ap (confirmed_in after.taken) s.answers ∙ confirmed_split after.taken before.answers (answered moment outcome asked_now))) now;
+      good = subst (λ (l : List Answer). Good (book_of after.taken l)) (sym s.answers) now;
     }
 
 empty_sound : IsSound empty_book
 empty_sound = record {
   known = λ a c. absurd (none_in_nil a c);
-  good = record { clear = λ a b t c. none_in_nil a c.first; few = omega arith };
+  good = record { clear = λ a b t c. absurd (none_confirmed a c); few = record { series = omega arith; singles = omega arith } };
 }
+  where
+    none_confirmed : (x : Booked) → Confirms empty_book x → ⊥
+    none_confirmed x (inl c) = none_in_nil x c
+    none_confirmed x (inr l) = none_in_nil l.series l.among
 
 run_sound : (before : Book) (ds : List Delivery) (after : Book) → Runs before ds after → IsSound before → IsSound after
 run_sound before [] after r sound = subst IsSound (sym r) sound
 run_sound before (d ∷ ds) after r sound =
     run_sound r.0 ds after r.3 (step_sound before d.claims d.moment r.1 r.0 r.2 sound)
 
-pub runs_good : (ds : List Delivery) (book : Book) → Runs empty_book ds book → Good (confirmed book)
+pub runs_good : (ds : List Delivery) (book : Book) → Runs empty_book ds book → Good book
 runs_good ds book r = (run_sound empty_book ds book r empty_sound).good

@@ -1,64 +1,52 @@
--- Lists with the same instances, and as many.
-use Rattle.std.proofs.Common.{◌≡◌, ℕ, ◌<◌, ◌≤◌, ℤ, List, ◌++◌, inl, inr, refl, sym, ◌∙◌, subst, length, arith, length-append}
+-- Lists with the same elements, and as many.
+use Rattle.std.proofs.Common.{◌≡◌, ℤ, List, ◌++◌, inl, inr, refl, sym, ◌∙◌, length, arith, length-append}
 use Rattle.std.specs.List.{Contains}
 use Rattle.std.proofs.lemmas.List.Elements.{Contains-append_left, Contains-append_right, Contains-append_cases}
 use Rattle.profile.specs.checker.Instances.{Booked, IsClash, IsClear}
-use Rattle.profile.specs.rooms.Messages.{Outcome, Accept, Busy, SeriesLimit, SinglesLimit}
-use Rattle.profile.specs.rooms.Rooms.{Decides, most_singles}
 
 -- the same elements, and as many
-pub record AreSame (xs ys : List Booked) : Type 0 where
-  pub to : (x : Booked) → Contains xs x → Contains ys x
-  pub from : (x : Booked) → Contains ys x → Contains xs x
+pub record AreSame {X : Type 0} (xs ys : List X) : Type 0 where
+  pub to : (x : X) → Contains xs x → Contains ys x
+  pub from : (x : X) → Contains ys x → Contains xs x
   pub long : length xs ≡ length ys
 
-pub same_itself : (xs : List Booked) → AreSame xs xs
-same_itself xs = record { to = λ x c. c; from = λ x c. c; long = refl }
+module _ {X : Type 0} where
+  pub same_itself : (xs : List X) → AreSame xs xs
+  same_itself xs = record { to = λ x c. c; from = λ x c. c; long = refl }
 
-pub same_then : (xs ys zs : List Booked) → AreSame xs ys → AreSame ys zs → AreSame xs zs
-same_then xs ys zs p q = record { to = λ x c. q.to x (p.to x c); from = λ x c. p.from x (q.from x c); long = p.long ∙ q.long }
+  pub same_then : (xs ys zs : List X) → AreSame xs ys → AreSame ys zs → AreSame xs zs
+  same_then xs ys zs p q = record { to = λ x c. q.to x (p.to x c); from = λ x c. p.from x (q.from x c); long = p.long ∙ q.long }
 
-pub same_append : (a b c d : List Booked) → AreSame a b → AreSame c d → AreSame (a ++ c) (b ++ d)
-same_append a b c d p q = record {
-  to = λ x h. elim (Contains-append_cases a c x h) [ inl l ↦ Contains-append_left b d x (p.to x l) | inr r ↦ Contains-append_right b d x (q.to x r) ];
-  from = λ x h. elim (Contains-append_cases b d x h) [ inl l ↦ Contains-append_left a c x (p.from x l) | inr r ↦ Contains-append_right a c x (q.from x r) ];
-  long = let s = p.long in let t = q.long in omega (arith, length-append a c, length-append b d);
-}
+  pub same_append : (a b c d : List X) → AreSame a b → AreSame c d → AreSame (a ++ c) (b ++ d)
+  same_append a b c d p q = record {
+    to = λ x h. elim (Contains-append_cases a c x h) [ inl l ↦ Contains-append_left b d x (p.to x l) | inr r ↦ Contains-append_right b d x (q.to x r) ];
+    from = λ x h. elim (Contains-append_cases b d x h) [ inl l ↦ Contains-append_left a c x (p.from x l) | inr r ↦ Contains-append_right a c x (q.from x r) ];
+    long = let s = p.long in let t = q.long in omega (arith, length-append a c, length-append b d);
+  }
 
--- the first goes behind the second
-pub same_swap : (a b c : List Booked) → AreSame (a ++ (b ++ c)) (b ++ (a ++ c))
-same_swap a b c = record {
-  to = λ x h. swapped a b c x h;
-  from = λ x h. swapped b a c x h;
-  long = omega (arith, length-append a (b ++ c), length-append b (a ++ c), length-append a c, length-append b c);
-}
-  where
-    swapped : (a b c : List Booked) (x : Booked) → Contains (a ++ (b ++ c)) x → Contains (b ++ (a ++ c)) x
-    swapped a b c x h = elim (Contains-append_cases a (b ++ c) x h) [
-      | inl l ↦ Contains-append_right b (a ++ c) x (Contains-append_left a c x l)
-      | inr r ↦ elim (Contains-append_cases b c x r) [
-        | inl m ↦ Contains-append_left b (a ++ c) x m
-        | inr n ↦ Contains-append_right b (a ++ c) x (Contains-append_right a c x n)
-      ]
+  swapped : (a b c : List X) (x : X) → Contains (a ++ (b ++ c)) x → Contains (b ++ (a ++ c)) x
+  swapped a b c x h = elim (Contains-append_cases a (b ++ c) x h) [
+    | inl l ↦ Contains-append_right b (a ++ c) x (Contains-append_left a c x l)
+    | inr r ↦ elim (Contains-append_cases b c x r) [
+      | inl m ↦ Contains-append_left b (a ++ c) x m
+      | inr n ↦ Contains-append_right b (a ++ c) x (Contains-append_right a c x n)
     ]
+  ]
+
+  -- the first goes behind the second
+  pub same_swap : (a b c : List X) → AreSame (a ++ (b ++ c)) (b ++ (a ++ c))
+  same_swap a b c = record {
+    to = λ x h. swapped a b c x h;
+    from = λ x h. swapped b a c x h;
+    long = omega (arith, length-append a (b ++ c), length-append b (a ++ c), length-append a c, length-append b c);
+  }
+
+  pub same_turned : (xs ys : List X) → AreSame xs ys → AreSame ys xs
+  same_turned xs ys same = record { to = same.from; from = same.to; long = sym same.long }
 
 clash_same : (xs ys : List Booked) → AreSame xs ys → (a b : Booked) (t : ℤ) → IsClash xs a b t → IsClash ys a b t
 clash_same xs ys same a b t c =
     record { first = same.to a c.first; second = same.to b c.second; differ = c.differ; before = c.before; in_first = c.in_first; in_second = c.in_second }
 
-pub same_turned : (xs ys : List Booked) → AreSame xs ys → AreSame ys xs
-same_turned xs ys same = record { to = same.from; from = same.to; long = sym same.long }
-
 pub clear_same : (xs ys : List Booked) → AreSame xs ys → IsClear ys → IsClear xs
 clear_same xs ys same clear a b t c = clear a b t (clash_same xs ys same a b t c)
-
--- what is decided of the one is decided of the other
-pub decides_same : (xs ys : List Booked) → AreSame xs ys → (o : Outcome) → Decides xs o → Decides ys o
-decides_same xs ys same Accept d =
-    (subst (λ (n : ℕ). n ≤ most_singles) same.long d.0, λ a b t c. d.1 a b t (clash_same ys xs (same_turned xs ys same) a b t c))
-decides_same xs ys same (Busy first second t) d = (
-  subst (λ (n : ℕ). n ≤ most_singles) same.long d.0,
-  (let n = d.1 in record { a = n.a; b = n.b; clash = clash_same xs ys same n.a n.b t n.clash; first_is = n.first_is; second_is = n.second_is; ordered = n.ordered; later = n.later }),
-)
-decides_same xs ys same SinglesLimit d = subst (λ (n : ℕ). most_singles < n) same.long d
-decides_same xs ys same SeriesLimit d = absurd d

@@ -8,17 +8,22 @@ use Rattle.std.proofs.lemmas.List.Elements.{filter-append, Contains-append_cases
 use Rattle.indexmap.specs.IndexMap.{insert_entry}
 use Rattle.itip_order.proofs.Lists.{in_head, in_tail, filter_at}
 use Rattle.profile.specs.rooms.Revisions.{Part, in_view}
-use Rattle.profile.specs.rooms.Rooms.{Claim, Answer, Book, Kind, is_set, parts_of, asked, answered, shown}
+use Rattle.profile.specs.rooms.Rooms.{Claim, Answer, Book, Kind, is_set, parts_of, asked, answered, series_confirmed, shown}
 use Rattle.profile.specs.rooms.Kept.{Replies, Refreshes, ShowsAnswer, first_parts}
 use Rattle.itip_order.specs.Registers.{StandsFor as HoldsAll}
 use Rattle.room_books.specs.Takings.{StandsAt}
 use Rattle.room_books.proofs.Afters.{stands_at}
 use Rattle.room_books.specs.declared.meeting.MeetingKey.{MeetingKey}
 use Rattle.room_books.specs.declared.kept.Meeting.{Meeting}
-use Rattle.room_books.specs.Views.{same_key}
-use Rattle.room_books.specs.Standing.{SlotDated, is_of, AreFitting, of_meeting, answers_of, book_of, IsOwn, IsGiven, Meets, MeetsAt, Covers, AreKeysOf, Stands, book_after, IsMeetingAfter, StepsWith}
+use Rattle.std.specs.Prelude.{option_map}
+use Rattle.std.specs.Option.{option_to_list}
+use Rattle.profile.specs.events.Events.{Event}
+use Rattle.cal_events.specs.SaidSeries.{series_said}
+use Rattle.cal_events.specs.declared.series.Series.{Series}
+use Rattle.room_books.specs.Views.{same_key, series_of, series_list}
+use Rattle.room_books.specs.Standing.{SlotDated, is_of, AreFitting, AreSameSeries, of_meeting, answers_of, book_of, IsOwn, IsGiven, Meets, MeetsAt, Covers, AreKeysOf, Stands, book_after, IsMeetingAfter, StepsWith}
 use Rattle.room_books.proofs.Arrivals.{arrives}
-use Rattle.room_books.proofs.Meetings.{key_from, is_of_same, one_meeting, of_more_other, filter_none, view_of}
+use Rattle.room_books.proofs.Meetings.{key_from, key_parts, is_of_same, one_meeting, of_more_other, filter_none, view_of}
 use Rattle.room_books.proofs.Pairs.{pairs_append, map_at}
 use Rattle.room_books.proofs.Putting.{booked_list_same}
 use Rattle.room_books.proofs.OwnBook.{own_of, taken_own, wants_own}
@@ -73,6 +78,18 @@ book_same k q book e = λ i. record {
   answers = filter (λ a. is_of_same k q a.claim.part e i) book.answers;
 }
 
+-- a series of one meeting is the same however its name is spelled
+pub series_same : (k q : MeetingKey) (series : List Series) → same_key k q ≡ true → series_list k series ≡ series_list q series
+series_same k q [] e = refl
+series_same k q (s ∷ series) e =
+    let parts = key_parts k q e in
+    let first : series_of k s ≡ series_of q s = λ i. record {
+      master = option_map (λ (event : Event). record event { uid = parts.1 i; organiser = Some (parts.0 i) }) (series_said s).master;
+      overrides = [];
+    } in
+    let rest = series_same k q series e in
+    λ i. first i ∷ rest i
+
 meets_same : (k q : MeetingKey) (book : Book) (m : Meeting) → same_key k q ≡ true → Meets (book_of k book) k m → Meets (book_of q book) q m
 meets_same k q book m e h = subst (λ (own : Book). Meets own q m) (book_same k q book e) record {
   held = h.held;
@@ -80,7 +97,7 @@ meets_same k q book m e h = subst (λ (own : Book). Meets own q m) (book_same k 
     order = h.answers.order;
     same = h.answers.same;
     each = zip_weaker (IsGiven k (of_meeting k book.taken)) (IsGiven q (of_meeting k book.taken)) h.answers.order m.answers.items
-        (λ a g r. record { slot = r.slot; moment = r.moment; outcome = r.outcome; confirms = sym (booked_list_same k q g.singles.items e) ∙ r.confirms }) h.answers.each;
+        (λ a g r. record { slot = r.slot; moment = r.moment; outcome = r.outcome; confirms = sym (booked_list_same k q g.singles.items e) ∙ r.confirms; recurs = subst (AreSameSeries (of_meeting k book.taken) (series_confirmed (of_meeting k book.taken) (a ∷ []))) (series_same k q (option_to_list g.series) e) r.recurs }) h.answers.each;
   };
   answered = h.answered;
   dated = h.dated;

@@ -160,7 +160,7 @@ shared_none leaves items span none b t c n shared =
 
 -- one more that shares none
 pub none_more : (leaves : Busy → Bool) (items : List Busy) (wanted : List Single) (k : ℕ) (d : Single) → k < length wanted → IsSharedIn leaves items (get_or wanted k d).span None
-    → (AreTaken leaves items (drop k wanted) None → AreTaken leaves items wanted None) → AreTaken leaves items (drop (k + 1) wanted) None → AreTaken leaves items wanted None
+    → (AreTaken leaves items (Contains (drop k wanted)) None → AreTaken leaves items (Contains wanted) None) → AreTaken leaves items (Contains (drop (k + 1) wanted)) None → AreTaken leaves items (Contains wanted) None
 none_more leaves items wanted k d within none before rest = before (λ s c.
     elim (in_cons (get_or wanted k d) (drop (suc k) wanted) s (subst (λ (l : List Single). Contains l s) (drop-cons wanted k d within) c)) [
       | inl here ↦ subst (λ (z : Single). IsSharedIn leaves items z.span None) here none
@@ -169,6 +169,10 @@ none_more leaves items wanted k d within none before rest = before (λ s c.
   where
     next : suc k ≡ k + 1
     next = omega arith
+
+-- where it doesn't leave, none of those that are wanted shares an instant with it
+abbrev pub IsNoneTaken : (Busy → Bool) → (Single → Type 0) → Busy → Type 0
+IsNoneTaken leaves wanted b = (s : Single) (t : ℤ) → wanted s → leaves b ≡ false → HaveInstant s.span b.single.span t → ⊥
 
 -- ---- one less, one more
 

@@ -10,7 +10,7 @@ use Rattle.itip_order.specs.Parts.{part_of, slot_of}
 use Rattle.itip_order.proofs.Lists.{any_from}
 use Rattle.itip_order.proofs.Order.{slot_total}
 use Rattle.profile.specs.rooms.Revisions.{Part, slot_cmp}
-use Rattle.room_books.specs.declared.taking.Claim.{Claim}
+use Rattle.room_books.specs.declared.claim.Claim.{Claim}
 use Rattle.room_books.specs.Takings.{parts_said}
 use Rattle.room_books.specs.Touching.{AllTouch}
 use Rattle.room_books.proofs.Pairs.{map_at, map_from}

@@ -13,7 +13,7 @@ use Rattle.itip_order.proofs.Order.{slot_total, meeting_total, revision_total, p
 use Rattle.itip_order.proofs.Registers.{Greatest, greatest_at, greatest_from, greatest_unique, implies_at, implies_from, place_sym, place_trans}
 use Rattle.profile.specs.checker.Instances.{Booked}
 use Rattle.profile.specs.rooms.Revisions.{Slot, Whole, At, Revision, Part, slot_cmp, meeting_cmp, revision_cmp, part_cmp, same_meeting, same_place, is_whole, is_greatest, implies, stands_beside, allows, in_view}
-use Rattle.profile.specs.rooms.Rooms.{Answer, is_confirmed, is_hidden, left_of, confirmed_in}
+use Rattle.profile.specs.rooms.Rooms.{Answer, is_confirmed, is_hidden, left_of, singles_confirmed}
 
 -- one of two parts of a place is at most the other
 pub le_unless : (w q : Part) → is_le (part_cmp w q) ≡ false → is_le (part_cmp q w) ≡ true
@@ -143,7 +143,7 @@ all_left : (taken : List Part) → AllWhole taken → (xs : List Answer) → fla
 all_left taken whole [] = refl
 all_left taken whole (a ∷ xs) = ap₂ (λ x y. x ++ y) (left_all taken whole a) (all_left taken whole xs)
 
-pub confirmed_all : (taken : List Part) → AllWhole taken → (answers : List Answer) → confirmed_in taken answers ≡ flat_map (λ a. a.claim.singles) (filter (is_confirmed taken) answers)
+pub confirmed_all : (taken : List Part) → AllWhole taken → (answers : List Answer) → singles_confirmed taken answers ≡ flat_map (λ a. a.claim.singles) (filter (is_confirmed taken) answers)
 confirmed_all taken whole answers = all_left taken whole (filter (is_confirmed taken) answers)
 
 -- one more

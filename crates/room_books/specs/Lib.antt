@@ -9,3 +9,5 @@ pub mod Replying
 pub mod Claiming
 pub mod BySlot
 pub mod Touching
+pub mod Wholes
+pub mod Recurrings

@@ -11,7 +11,7 @@ use Rattle.itip_messages.specs.Replies.{Answers, outcome_of as decision_outcome}
 use Rattle.itip_messages.specs.declared.reply.ReplyEvent.{ReplyEvent}
 use Rattle.itip_order.specs.Parts.{part_of, slot_of}
 use Rattle.room_books.specs.declared.meeting.Given.{Given}
-use Rattle.room_books.specs.declared.taking.Claim.{Claim}
+use Rattle.room_books.specs.declared.claim.Claim.{Claim}
 use Rattle.room_books.specs.Views.{outcome_of}
 use Rattle.room_books.specs.Takings.{claim_said, claims_said, OutcomeDated}
 use Rattle.room_books.specs.Standing.{SlotDated}

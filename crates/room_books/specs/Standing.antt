@@ -1,5 +1,6 @@
 -- What the meetings of a room stand for: the parts that were taken, and the answers to them.
-use Rattle.std.specs.Prelude.{◌≡◌, ◌≢◌, ℕ, ℤ, ◌≤◌, Bool, true, ◌&&◌, List, [], ◌∷◌, ◌++◌, length, filter, Contains, Option, Some, None, slice_get}
+use Rattle.std.specs.Prelude.{◌≡◌, ◌≢◌, ◌↔◌, ℕ, ℤ, Bool, true, ◌&&◌, List, [], ◌∷◌, ◌++◌, length, filter, Contains, Option, Some, None, IfSome, slice_get}
+use Rattle.std.specs.Option.{option_to_list}
 use Rattle.std.specs.Str.{bytes_eq, IsUtf8}
 use Rattle.std.specs.List.{AllZip}
 use Rattle.std.specs.Map.{lookup, keys_of, values_of}
@@ -8,11 +9,14 @@ use Rattle.ical_values.specs.Octets.{address_octets, text_octets}
 use Rattle.itip_order.specs.Registers.{StandsFor, together}
 use Rattle.itip_order.specs.declared.part.Slot.{Slot as OwnSlot}
 use Rattle.itip_order.specs.Parts.{slot_of}
-use Rattle.profile.specs.checker.Instances.{Booked, IsClear}
+use Rattle.profile.specs.checker.Instances.{Booked}
+use Rattle.profile.specs.events.Meetings.{Meeting as Series}
+use Rattle.profile.specs.events.Starts.{IsInstance}
+use Rattle.profile.specs.events.Confirmed.{IsInSeries}
 use Rattle.profile.specs.text.Values.{IsClockSeconds}
 use Rattle.profile.specs.rooms.Revisions.{Part, Slot, Whole, At, Body, Set, Absent, Cancelled, in_view}
 use Rattle.profile.specs.rooms.Messages.{Outcome}
-use Rattle.profile.specs.rooms.Rooms.{Claim, Answer, Book, Kind, is_set, parts_of, asked, answered, confirmed, confirmed_in, most_singles, IsStep, kind_of}
+use Rattle.profile.specs.rooms.Rooms.{Claim, Answer, Book, Kind, Recurring, is_set, parts_of, asked, answered, singles_confirmed, series_confirmed, IsClear, IsLeftOf, IsStep, IsWithinLimits, kind_of}
 use Rattle.profile.specs.rooms.Kept.{Replies, Refreshes, first_parts}
 use Rattle.room_books.specs.declared.meeting.MeetingKey.{MeetingKey}
 use Rattle.room_books.specs.declared.kept.Meeting.{Meeting}
@@ -22,7 +26,7 @@ use Rattle.cal_events.specs.declared.instance.Single.{Single}
 use Rattle.room_books.specs.declared.meeting.Given.{Given}
 use Rattle.room_books.specs.Takings.{answers_by, answers_then, body_content, held_after, IsMade, OutcomeDated}
 use Rattle.room_books.specs.Touching.{AllTouch}
-use Rattle.room_books.specs.Views.{same_key, booked_list, outcome_of}
+use Rattle.room_books.specs.Views.{same_key, booked_list, series_list, outcome_of}
 
 -- ---- claims
 
@@ -46,6 +50,15 @@ abbrev pub IsOfSlot : Slot → ℤ → Type 0
 IsOfSlot Whole slot = Unit {0}
 IsOfSlot (At t) slot = slot ≡ t
 
+-- the series of a claim is of its part, a whole: its instances are of its meeting, each at its original start, and none of them is a single
+pub record IsFittingSeries (claim : Claim) (series : Series) : Type 0 where
+  pub whole : claim.part.slot ≡ Whole
+  pub organiser : (b : Booked) → IsInstance series b → b.key.organiser ≡ claim.part.organiser
+  pub uid : (b : Booked) → IsInstance series b → b.key.uid ≡ claim.part.uid
+  pub slot : (b : Booked) → IsInstance series b → b.key.slot ≡ b.start
+  pub starts : (b : Booked) → IsInstance series b → IsClockSeconds b.start
+  pub apart : (a b : Booked) → Contains claim.singles a → IsInstance series b → a.key.slot ≢ b.key.slot
+
 -- what a claim asks for is of its part: the content its body's, the instances of its meeting and slot, each once
 pub record IsFitting (claim : Claim) : Type 0 where
   pub content : claim.content ≡ body_content claim.part.body
@@ -56,6 +69,7 @@ pub record IsFitting (claim : Claim) : Type 0 where
   pub differ : Pairwise (λ a b. a.key.slot ≢ b.key.slot) claim.singles
   pub starts : (b : Booked) → Contains claim.singles b → IsClockSeconds b.start
   pub slots : (b : Booked) → Contains claim.singles b → IsClockSeconds b.key.slot
+  pub recurs : IfSome claim.series (IsFittingSeries claim)
 
 -- the slot can be written as a stamp
 abbrev pub SlotDated : Slot → Type 0
@@ -90,12 +104,18 @@ pub record IsOwn (key : MeetingKey) (own : Book) : Type 0 where
 abbrev pub standing : List Part → List Answer → List Answer
 standing taken answers = filter (λ a. in_view taken a.claim.part) answers
 
+-- there are as many series, and those of the first that other parts leave have the same instances as those of the second
+pub record AreSameSeries (taken : List Part) (all : List Recurring) (series : List Series) : Type 0 where
+  pub long : length all ≡ length series
+  pub same : (b : Booked) → IsLeftOf taken all b ↔ IsInSeries series b
+
 -- the meeting has this answer, and what it confirms
 pub record IsGiven (key : MeetingKey) (taken : List Part) (answer : Answer) (given : Given) : Type 0 where
   pub slot : slot_of given.slot ≡ answer.claim.part.slot
   pub moment : given.moment ≡ answer.moment
   pub outcome : outcome_of given.outcome ≡ answer.outcome
-  pub confirms : booked_list key given.singles.items ≡ confirmed_in taken (answer ∷ [])
+  pub confirms : booked_list key given.singles.items ≡ singles_confirmed taken (answer ∷ [])
+  pub recurs : AreSameSeries taken (series_confirmed taken (answer ∷ [])) (series_list key (option_to_list given.series))
 
 -- all instants of an answer can be written as stamps
 pub record IsDated (given : Given) : Type 0 where
@@ -156,8 +176,8 @@ pub record Stands (entries : List (MeetingKey × Meeting)) (book : Book) : Type 
   pub fit : (answer : Answer) → Contains book.answers answer → IsFitting answer.claim
   pub dated : (part : Part) → Contains book.taken part → SlotDated part.slot
   pub once : Pairwise (λ a b. a.claim.part ≢ b.claim.part) book.answers
-  pub clear : IsClear (confirmed book)
-  pub few : length (confirmed book) ≤ most_singles
+  pub clear : IsClear book
+  pub few : IsWithinLimits book
   pub meets : (key : MeetingKey) → MeetsAt (book_of key book) key (lookup (same_key key) entries)
 
 -- the book after these claims, where this was decided

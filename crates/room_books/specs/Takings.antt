@@ -1,29 +1,35 @@
 -- What a message does to its meeting.
-use Rattle.std.specs.Prelude.{◌≡◌, ◌≢◌, ◌⊎◌, ◌++◌, ℕ, ℤ, true, false, not, ◌&&◌, nat_lt, IsTrue, if◌then◌else◌, List, [], ◌∷◌, take, drop, ◌==◌, length, map, filter, AllPairs, Option, Some, None, option_map, is_some, Vec}
+use Rattle.std.specs.Prelude.{◌≡◌, ◌≢◌, ◌⊎◌, ◌↔◌, ◌<◌, ◌≤◌, ◌++◌, ℕ, ℤ, Bool, true, false, Contains, not, ◌&&◌, nat_lt, IsTrue, if◌then◌else◌, List, [], ◌∷◌, take, drop, length, map, filter, AllPairs, Option, Some, None, option_map, is_some, Vec}
 use Rattle.std.specs.List.{AllZip}
+use Rattle.std.specs.Option.{option_to_list}
 use denote.Ref.{Bor}
 use Rattle.profile.specs.text.Values.{IsClockSeconds}
 use Rattle.cal_events.specs.Calendars.{owned_key_of}
 use Rattle.itip_order.specs.Registers.{StandsFor, IsInView, HasNone, at_slot, together}
 use Rattle.itip_order.specs.declared.part.Slot.{Slot}
 use Rattle.itip_order.specs.Parts.{part_of, slot_of}
-use Rattle.profile.specs.checker.Instances.{Booked}
+use Rattle.profile.specs.checker.Instances.{Key, Booked, IsClash, IsClear, booked_cmp}
+use Rattle.profile.specs.events.Starts.{IsInstance}
+use Rattle.profile.specs.events.Confirmed.{Confirmed, IsOneOf}
+use Rattle.cal_events.specs.SaidSeries.{series_said}
+use Rattle.cal_events.specs.declared.series.Series.{Series}
+use Rattle.std.specs.declared.cmp.Ordering.TheVariants.{Less}
 use Rattle.profile.specs.rooms.Revisions as revisions
 use Rattle.profile.specs.rooms.Messages as messages
 use Rattle.profile.specs.rooms.Rooms as rooms
 use Rattle.room_books.specs.declared.answer.Answer.{Answer}
 use Rattle.room_books.specs.declared.answer.Kind.{Kind}
 use Rattle.room_books.specs.declared.answer.Kind.TheVariants as kind
-use Rattle.room_books.specs.declared.answer.LimitKind.TheVariants.{Series, Singles}
+use Rattle.room_books.specs.declared.answer.LimitKind.TheVariants as limits
 use Rattle.room_books.specs.declared.kept.Meeting.{Meeting}
 use Rattle.room_books.specs.declared.kept.Changes.{Changes}
 use Rattle.room_books.specs.BySlot.{Reordered, left_without}
 use Rattle.cal_events.specs.declared.instance.Single.{Single}
 use Rattle.room_books.specs.declared.meeting.Given.{Given}
 use Rattle.room_books.specs.declared.meeting.Outcome.{Outcome}
-use Rattle.room_books.specs.declared.taking.Claim.{Claim}
+use Rattle.room_books.specs.declared.claim.Claim.{Claim}
 use Rattle.room_books.specs.declared.meeting.MeetingKey.{MeetingKey}
-use Rattle.room_books.specs.Views.{outcome_of, all_singles, booked_list, slots_of, MayJoin}
+use Rattle.room_books.specs.Views.{outcome_of, all_singles, all_series, booked_list, joined, slots_of, IsClearIn, MayJoin, Recurs, SeriesMayJoin}
 use Rattle.room_books.specs.Instants.{IsPartOf}
 use Rattle.room_books.specs.Touching.{is_touched, IsUntouched}
 use Rattle.std.specs.Str.Lines.{lines}
@@ -36,8 +42,8 @@ use Rattle.itip_messages.specs.Bodies.{zone_place}
 abbrev pub kind_view : Kind → rooms.Kind
 kind_view kind.Accepted = rooms.Accepted
 kind_view (kind.Declined clash) = rooms.Declined (owned_key_of clash.first) (owned_key_of clash.second) clash.instant
-kind_view (kind.Limit Series) = rooms.SeriesSpent
-kind_view (kind.Limit Singles) = rooms.SinglesSpent
+kind_view (kind.Limit limits.Series) = rooms.SeriesSpent
+kind_view (kind.Limit limits.Singles) = rooms.SinglesSpent
 kind_view kind.Cancelled = rooms.Withdrawn
 kind_view kind.Repeated = rooms.Repeated
 kind_view kind.Stale = rooms.Stale
@@ -84,6 +90,7 @@ claim_said claim = record {
   part = part_of claim.part;
   content = body_content (part_of claim.part).body;
   singles = map (booked_in (part_of claim.part)) claim.singles.items;
+  series = option_map series_said claim.series;
 }
 
 abbrev pub claims_said : List Claim → List rooms.Claim
@@ -135,17 +142,48 @@ left_in history part singles = filter (λ single. not (rooms.is_hidden history p
 abbrev pub left_beside : List Slot → List revisions.Part → revisions.Part → List Single → List Single
 left_beside slots history part singles = filter (λ single. not (is_touched slots (revisions.At single.slot) && rooms.is_hidden history part (booked_in part single))) singles
 
+-- a part of one of these slots in the view of the history stands for the instance of a part
+abbrev pub is_hidden_by : List Slot → List revisions.Part → revisions.Part → Booked → Bool
+is_hidden_by slots history part booked = is_touched slots (revisions.At booked.key.slot) && rooms.is_hidden history part booked
+
+-- one series is the other without the instances that are hidden so; there is one where there was one
+abbrev pub IsSeriesLeft : (Booked → Bool) → Option Series → Option Series → Type 0
+IsSeriesLeft hides None None = Unit {0}
+IsSeriesLeft hides None (Some left) = ⊥
+IsSeriesLeft hides (Some series) None = ⊥
+IsSeriesLeft hides (Some series) (Some left) = (booked : Booked) → IsInstance (series_said left) booked ↔ (IsInstance (series_said series) booked × (hides booked ≡ false))
+
+-- the instances of the part that are hidden so are those of these original starts
+abbrev pub AreHiddenStarts : List Slot → List revisions.Part → revisions.Part → List ℤ → Type 0
+AreHiddenStarts slots history part starts = (booked : Booked) → Contains starts booked.key.slot ↔ (is_hidden_by slots history part booked ≡ true)
+
+-- a part of this slot in the view of the history stands for the instance of this original start, or none does for an instance
+abbrev pub IsHiddenStart : List revisions.Part → revisions.Part → revisions.Slot → Option ℤ → Type 0
+IsHiddenStart history part slot None = (booked : Booked) → slot ≡ revisions.At booked.key.slot → rooms.is_hidden history part booked ≡ false
+IsHiddenStart history part slot (Some start) = (slot ≡ revisions.At start) × ((booked : Booked) → booked.key.slot ≡ start → rooms.is_hidden history part booked ≡ true)
+
+-- no part of these slots in the view stands for an instance that the answer to a part confirms
+pub record LeavesAll (slots : List Slot) (history : List revisions.Part) (part : revisions.Part) (given : Given) : Type 0 where
+  pub singles : given.singles.items ≡ left_beside slots history part given.singles.items
+  pub series : IsSeriesLeft (is_hidden_by slots history part) given.series given.series
+
 -- one answer is the other, with the instances that are left where parts of these slots were taken
 pub record IsLeftOf (slots : List Slot) (held : List revisions.Part) (of : revisions.Part) (given left : Given) : Type 0 where
   pub slot : left.slot ≡ given.slot
   pub moment : left.moment ≡ given.moment
   pub outcome : outcome_of left.outcome ≡ outcome_of given.outcome
   pub singles : (history : List revisions.Part) → StandsFor held history → left.singles.items ≡ left_beside slots history of given.singles.items
+  pub series : (history : List revisions.Part) → StandsFor held history → IsSeriesLeft (is_hidden_by slots history of) given.series left.series
 
 -- what an answer confirms, if it is left
 abbrev pub singles_left : Option Given → List Single
 singles_left None = []
 singles_left (Some left) = left.singles.items
+
+-- and the series that it confirms
+abbrev pub series_still : Option Given → List Series
+series_still None = []
+series_still (Some left) = option_to_list left.series
 
 -- the answer to a claim at a moment, were it accepted
 pub record IsAccepted (held : List revisions.Part) (claim : Claim) (moment : ℤ) (given : Given) : Type 0 where
@@ -153,6 +191,7 @@ pub record IsAccepted (held : List revisions.Part) (claim : Claim) (moment : ℤ
   pub moment_is : given.moment ≡ moment
   pub outcome : outcome_of given.outcome ≡ messages.Accept
   pub singles : (history : List revisions.Part) → StandsFor held history → given.singles.items ≡ left_in history (part_of claim.part) claim.singles.items
+  pub series : (history : List revisions.Part) → StandsFor held history → IsSeriesLeft (rooms.is_hidden history (part_of claim.part)) claim.series given.series
   pub part : IsPartOf given.singles.items claim.singles.items
 
 -- a candidate with what was decided: it confirms something only where that is to accept it
@@ -161,21 +200,70 @@ pub record IsDecided (candidate : Given) (outcome : Outcome) (given : Given) : T
   pub moment : given.moment ≡ candidate.moment
   pub outcome_is : outcome_of given.outcome ≡ outcome_of outcome
   pub singles : given.singles.items ≡ (if rooms.is_accept (outcome_of outcome) then candidate.singles.items else [])
+  pub series : given.series ≡ (if rooms.is_accept (outcome_of outcome) then candidate.series else None)
 
--- what is decided of candidates beside what a meeting keeps and all that the others have confirmed: where all its instances have
+-- the two keys are those of a clash, at the later start; the lesser by start, organiser, UID and slot comes first
+pub record NamesClash (all : List Booked) (first second : Key) (t : ℤ) : Type 0 where
+  pub a : Booked
+  pub b : Booked
+  pub clash : IsClash all a b t
+  pub first_is : a.key ≡ first
+  pub second_is : b.key ≡ second
+  pub ordered : booked_cmp a b ≡ Less
+  pub later : t ≡ b.start
+
+-- what is decided where these singles would be confirmed: the limit is looked at first, then whether any two clash; any clash may be named
+abbrev pub DecidesAmong : List Booked → messages.Outcome → Type 0
+DecidesAmong all messages.Accept = (length all ≤ rooms.most_singles) × IsClear all
+DecidesAmong all (messages.Busy first second t) = (length all ≤ rooms.most_singles) × NamesClash all first second t
+DecidesAmong all messages.SinglesLimit = rooms.most_singles < length all
+DecidesAmong all messages.SeriesLimit = ⊥
+
+-- what is decided of singles beside what a meeting keeps and all that the others have confirmed: where all its instances have
 -- different original starts, as the machine decides; and what is accepted may be confirmed
 pub record IsDecision (others : List Booked) (key : MeetingKey) (kept wanted : List Single) (outcome : Outcome) : Type 0 where
-  pub decides : AllPairs ◌≢◌ (slots_of (kept ++ wanted)) → rooms.Decides (others ++ booked_list key (kept ++ wanted)) (outcome_of outcome)
+  pub decides : AllPairs ◌≢◌ (slots_of (kept ++ wanted)) → DecidesAmong (others ++ booked_list key (kept ++ wanted)) (outcome_of outcome)
   pub joins : outcome_of outcome ≡ messages.Accept → MayJoin others key (kept ++ wanted)
 
+-- ---- what is decided where this would be confirmed, in singles and in series
+
+pub record AreWithinLimits (all : Confirmed) : Type 0 where
+  pub series : length all.series ≤ rooms.most_series
+  pub singles : length all.singles ≤ rooms.most_singles
+
+-- the limit of series is looked at first, then that of singles, then whether any two clash
+abbrev pub DecidesOf : Confirmed → messages.Outcome → Type 0
+DecidesOf all messages.SeriesLimit = rooms.most_series < length all.series
+DecidesOf all messages.SinglesLimit = (length all.series ≤ rooms.most_series) × (rooms.most_singles < length all.singles)
+DecidesOf all messages.Accept = AreWithinLimits all × IsClearIn all
+DecidesOf all (messages.Busy first second t) = AreWithinLimits all × rooms.NamesClash (IsOneOf all) first second t
+
+-- instances of one meeting: their original starts differ, and at most its whole recurs
+pub record AreOfOneMeeting (singles : List Single) (series : List Series) : Type 0 where
+  pub differ : AllPairs ◌≢◌ (slots_of singles)
+  pub one : length series ≤ 1
+  pub apart : (single other : Single) (of : Series) → Contains singles single → Contains series of → Recurs of other → single.slot ≢ other.slot
+
+-- what is decided of candidates beside what a meeting keeps and all that the others have confirmed, where its instances are of one meeting,
+-- as the machine decides; and what is accepted may be confirmed
+pub record IsWholeDecision (others : Confirmed) (key : MeetingKey) (kept candidates : List Given) (outcome : Outcome) : Type 0 where
+  pub decides : AreOfOneMeeting (all_singles kept ++ all_singles candidates) (all_series kept ++ all_series candidates)
+      → DecidesOf (joined others key (all_singles kept ++ all_singles candidates) (all_series kept ++ all_series candidates)) (outcome_of outcome)
+  pub joins : outcome_of outcome ≡ messages.Accept → MayJoin others.singles key (all_singles kept ++ all_singles candidates)
+  pub series : outcome_of outcome ≡ messages.Accept → SeriesMayJoin others key (all_singles kept ++ all_singles candidates) (all_series kept ++ all_series candidates)
+
+-- with these answers a meeting may be confirmed beside the others
+abbrev pub MayJoinAll : Confirmed → MeetingKey → List Given → Type 0
+MayJoinAll others key answers = SeriesMayJoin others key (all_singles answers) (all_series answers)
+
 -- the answers that stay, and those to the claims that are asked, decided as one
-abbrev pub IsAnswered : List Booked → MeetingKey → List revisions.Part → ℤ → List Given → List (Bor Claim) → List Given → Option Outcome → Type 0
+abbrev pub IsAnswered : Confirmed → MeetingKey → List revisions.Part → ℤ → List Given → List (Bor Claim) → List Given → Option Outcome → Type 0
 IsAnswered others key held moment kept asked answers None = (asked ≡ []) × Reordered kept answers
 IsAnswered others key held moment kept asked answers (Some outcome) =
     (asked ≢ []) × ((candidates : List Given) × (decided : List Given)
     × AllZip (λ claim given. IsAccepted held claim.now moment given) asked candidates
     × AllZip (λ candidate given. IsDecided candidate outcome given) candidates decided
-    × IsDecision others key (all_singles kept) (all_singles candidates) outcome
+    × IsWholeDecision others key kept candidates outcome
     × Reordered (kept ++ decided) answers)
 
 -- what was decided of a message; nothing hangs on it where nothing was

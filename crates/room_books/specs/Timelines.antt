@@ -64,9 +64,9 @@ IsSharedIn leaves items span None = (b : Busy) (t : ℤ) → Contains items b �
 IsSharedIn leaves items span (Some b) = Contains items b × (leaves b ≡ false) × Overlap span b.single.span
 
 -- one that doesn't leave shares an instant with one of these, or none does
-abbrev pub AreTaken : (Busy → Bool) → List Busy → List Single → Option (Single × Busy) → Type 0
-AreTaken leaves items wanted None = (s : Single) → Contains wanted s → IsSharedIn leaves items s.span None
-AreTaken leaves items wanted (Some p) = Contains wanted p.0 × IsSharedIn leaves items p.0.span (Some p.1)
+abbrev pub AreTaken : (Busy → Bool) → List Busy → (Single → Type 0) → Option (Single × Busy) → Type 0
+AreTaken leaves items wanted None = (s : Single) → wanted s → IsSharedIn leaves items s.span None
+AreTaken leaves items wanted (Some p) = wanted p.0 × IsSharedIn leaves items p.0.span (Some p.1)
 
 -- none of these shares an instant with the span
 abbrev pub IsFreeAmong : List Busy → Span → Type 0

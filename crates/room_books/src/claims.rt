@@ -1,19 +1,20 @@
 //! What a message asks of a room: a claim for each of its parts.
 
-ghost use Rattle.std.specs.Prelude.{◌≡◌, ◌<◌, ◌^◌, [], ◌∷◌, filter, IfOk, Option, if◌then◌else◌};
+ghost use Rattle.std.specs.Prelude.{◌≡◌, ◌<◌, ◌^◌, [], ◌∷◌, filter, true, IfOk, Option, if◌then◌else◌};
 ghost use Rattle.std.specs.List.{AllZip, list_any};
 ghost use Rattle.ical_values.specs.Octets.{address_octets};
 ghost use Rattle.itip_messages.specs.Messages.{StandsFor, has_part};
 ghost use Rattle.itip_order.specs.Parts.{part_of};
+ghost use Rattle.room_books.specs.Wholes.{is_of_whole};
 ghost use Rattle.profile.specs.rooms.Messages as profile;
 ghost use Rattle.profile.specs.rooms.Rooms.{is_set};
-ghost use Rattle.room_books.specs.Claiming.{AreClaimed, IsAsking, IsClaimIn};
+ghost use Rattle.room_books.specs.Claiming.{series_asked, AreClaimed, IsAsking, IsClaimIn, IsSameSeries};
 
-use crate::taking::Claim;
-use cal_events::Single;
+use crate::claim::{Claim, takes_place};
+use cal_events::Series;
 use ical_values::Address;
 use itip_messages::{Message, MessageComponent};
-use itip_order::Part;
+use itip_order::{Part, Slot};
 use std::alloc::{AllocError, Global};
 
 /// The claims that a message has for a room, the whole meeting first and then its instances; none where it isn't addressed to it.
@@ -51,19 +52,40 @@ fn claim_in(
     ensures { IfOk result (IsClaimIn (address_octets room.now) message.now component.now) }
 {
     let part = message.part(component, room)?;
-    claim_for(alloc, part, component.singles.as_slice())
+    claim_for(alloc, part, component)
 }
 
-/// The claim of a part that asks for these instances, if it is to take place.
-fn claim_for(alloc: Global, part: Part, singles: &[Single]) -> Result<Claim, AllocError>
-    ensures { IfOk result (IsAsking part singles.now) }
+/// The claim of a part that asks for the instances of a component, if it is to take place.
+fn claim_for(alloc: Global, part: Part, component: &MessageComponent) -> Result<Claim, AllocError>
+    ensures { IfOk result (IsAsking part component.now) }
 {
-    let mut claim = Claim {
-        part,
-        singles: Vec::new(alloc),
-    };
-    if claim.is_set() {
-        claim.singles.extend_from_slice(singles)?;
+    let mut singles = Vec::new(alloc);
+    let mut series = None;
+    if takes_place(&part) {
+        singles.extend_from_slice(&component.singles)?;
+        series = series_for(alloc, &part, component)?;
     }
-    Ok(claim)
+    Ok(Claim {
+        part,
+        singles,
+        series,
+    })
+}
+
+/// A copy of the series that a component has, where its part is of the whole; an instance alone has none.
+fn series_for(
+    alloc: Global,
+    part: &Part,
+    component: &MessageComponent,
+) -> Result<Option<Series>, AllocError>
+    ensures same { IfOk result (IsSameSeries (series_asked (part_of part.now) component.now)) }
+    ensures whole { IfOk result (λ series. is_of_whole series part.now.slot ≡ true) }
+{
+    let Slot::Whole = part.slot else {
+        return Ok(None);
+    };
+    match &component.series {
+        Some(series) => Ok(Some(series.without(alloc, &[])?)),
+        None => Ok(None),
+    }
 }

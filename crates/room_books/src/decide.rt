@@ -1,6 +1,6 @@
 //! The decision: may instances of a meeting be confirmed beside those that are?
 
-ghost use Rattle.std.specs.Prelude.{◌≡◌, ◌≤◌, ◌+◌, ◌++◌, List, IfOk, length};
+ghost use Rattle.std.specs.Prelude.{◌≡◌, ◌≤◌, ◌+◌, ◌++◌, List, IfOk, length, map, Contains};
 ghost use Rattle.std.specs.Ordering.{is_lt};
 ghost use Rattle.std.specs.List.{IsDistinct};
 ghost use Rattle.std.specs.Map.{lookup};
@@ -8,7 +8,7 @@ ghost use Rattle.indexmap.specs.IndexMap.{keys};
 ghost use Rattle.profile.specs.checker.Instances.{booked_cmp, IsClear};
 ghost use Rattle.clash_cert.specs.Makings.{AreNamed, HasKeys};
 ghost use Rattle.cal_events.specs.declared.instance.Single.{Single};
-ghost use Rattle.room_books.specs.Views.{all_confirmed, booked_of, booked_list, confirmed_at, others, same_key, singles_by, spans_of, AreAllApart, AreBusyIn, HaveOverlap};
+ghost use Rattle.room_books.specs.Views.{all_confirmed, booked_of, booked_list, confirmed_at, others, same_key, singles_by, spans_of, AreAllApart, RecursIn, AreBusyIn, HaveOverlap};
 ghost use Rattle.room_books.specs.Instants.{IsLater, IsParted};
 ghost use Rattle.room_books.specs.Takings.{IsDecision};
 ghost use Rattle.room_books.specs.Timelines.{IsTimelineOf};
@@ -18,10 +18,13 @@ use crate::gone::Gone;
 use crate::kept::Meeting;
 use crate::meeting::{MeetingKey, Outcome};
 use crate::timeline::Timeline;
-use cal_events::{Single, Span, first_overlap};
+use cal_events::{Series, Single, Span, first_overlap};
 use clash_cert::Clash;
 use indexmap::IndexMap;
 use std::alloc::{AllocError, Global};
+
+/// How many series a room may have confirmed; this profile's choice.
+pub const MOST_SERIES: usize = 64;
 
 /// How many single instances a room may have confirmed; this profile's choice.
 pub const MOST_SINGLES: usize = 10_000;
@@ -31,10 +34,10 @@ pub type Meetings = IndexMap<MeetingKey, Meeting>;
 
 /// An instance that is asked for, and one that stays confirmed and shares an instant with it.
 #[derive(Clone, Copy)]
-struct Shared<'a> {
-    asked: Single,
-    other: &'a MeetingKey,
-    booked: Single,
+pub(crate) struct Shared<'a> {
+    pub asked: Single,
+    pub other: &'a MeetingKey,
+    pub booked: Single,
 }
 
 /// What is decided where a meeting asks for more instances than it keeps, and some of those that the timeline has of it are gone, beside
@@ -86,7 +89,7 @@ fn busy_beside<'a>(
     requires timed { IsTimelineOf (confirmed_at meetings.now.entries) timeline.now.busy.items }
     requires apart { AreAllApart meetings.now.entries }
     ensures { (kept : List Single) → IsParted (singles_by (lookup (same_key key.now) meetings.now.entries)) gone.now kept
-        → AreBusyIn (others key.now meetings.now.entries ++ booked_list key.now kept) wanted.now result }
+        → AreBusyIn (others key.now meetings.now.entries ++ booked_list key.now kept) (Contains wanted.now) result }
 {
     let own = meetings.get_index_of(key);
     let (asked, busy) = timeline.first_taken(wanted, own, gone)?;
@@ -96,6 +99,33 @@ fn busy_beside<'a>(
         other,
         booked: busy.single,
     })
+}
+
+/// An instance of one of these series, and a single that stays confirmed, of another meeting or of the same, that share an instant.
+pub(crate) fn busy_beside_series<'a>(
+    meetings: &'a Meetings,
+    timeline: &Timeline,
+    key: &MeetingKey,
+    gone: &Gone,
+    all: &[&Series],
+) -> Option<Shared<'a>>
+    requires timed { IsTimelineOf (confirmed_at meetings.now.entries) timeline.now.busy.items }
+    requires apart { AreAllApart meetings.now.entries }
+    ensures { (kept : List Single) → IsParted (singles_by (lookup (same_key key.now) meetings.now.entries)) gone.now kept
+        → AreBusyIn (others key.now meetings.now.entries ++ booked_list key.now kept) (RecursIn (map (λ one. one.now) all.now)) result }
+{
+    let own = meetings.get_index_of(key);
+    for series in all {
+        if let Some((asked, busy)) = timeline.first_of_series(series, own, gone) {
+            let (other, _) = meetings.get_index(busy.place)?;
+            return Some(Shared {
+                asked,
+                other,
+                booked: busy.single,
+            });
+        }
+    }
+    None
 }
 
 /// Two of these instances of a meeting that share an instant.
@@ -133,7 +163,7 @@ fn later_start(a: Span, b: Span) -> i64
 
 /// The clash of two instances: the lesser by start, organiser, UID and slot is first, and the instant is the later
 /// start.
-fn clash_between(
+pub(crate) fn clash_between(
     key: &MeetingKey,
     asked: Single,
     other: &MeetingKey,

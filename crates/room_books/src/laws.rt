@@ -1,18 +1,20 @@
 //! What holds of each room, whatever it takes: laws, with nothing to do.
 
-ghost use Rattle.std.specs.Prelude.{◌≡◌, ◌≤◌, ◌↔◌, ℕ, ℤ, List, [], length, Contains};
-ghost use Rattle.profile.specs.checker.Instances.{Booked, IsClear};
-ghost use Rattle.profile.specs.rooms.Rooms.{Answer, Book, Delivery, Runs, empty_book, confirmed, most_singles};
+ghost use Rattle.std.specs.Prelude.{◌≡◌, ◌↔◌, ℕ, ℤ, List, length, Contains};
+ghost use Rattle.profile.specs.checker.Instances.{Booked};
+ghost use Rattle.profile.specs.events.Confirmed.{Confirmed, IsOneOf};
+ghost use Rattle.profile.specs.rooms.Rooms.{Answer, Book, Delivery, Runs, empty_book, IsClear, IsWithinLimits};
+ghost use Rattle.profile.specs.rooms.Rooms.{Confirms, confirmed_series, confirmed_singles};
 ghost use Rattle.profile.specs.streams.Streams.{IsDelivered, AllAnswers, Hosted, new_box};
 ghost use Rattle.profile.specs.rooms.Kept.{IsKeptCalendar, kept_certificate};
 ghost use Rattle.profile.specs.checker.Calendars.{CertificateHolds, SpellsCalendar};
 ghost use Rattle.profile.specs.Headline.{AcceptedWhereClear, KeptTextsPass};
 
 /// Whatever messages a room took, one after another from the first: no two of its confirmed instances of
-/// different keys hold the room in the same second, and there are no more of them than the limit.
+/// different keys hold the room in the same second, and its series and its single instances are within their limits.
 pub fn runs_stay_clear()
-    ensures clear { (deliveries : List Delivery) (book : Book) → Runs empty_book deliveries book → IsClear (confirmed book) }
-    ensures few { (deliveries : List Delivery) (book : Book) → Runs empty_book deliveries book → length (confirmed book) ≤ most_singles }
+    ensures clear { (deliveries : List Delivery) (book : Book) → Runs empty_book deliveries book → IsClear book }
+    ensures few { (deliveries : List Delivery) (book : Book) → Runs empty_book deliveries book → IsWithinLimits book }
 {}
 
 /// An answer is final. Whatever a room takes later, the answer stays; and no part is answered twice. So where the same
@@ -26,7 +28,7 @@ pub fn answers_stay()
 {}
 
 /// A new revision is accepted exactly where no two of the instances that would be confirmed with it hold the room in the same second,
-/// and they are within the limit; and a decline for a clash names two of them and a second in both.
+/// and the limits are kept; and a decline for a clash names two of them and a second in both.
 pub fn accepted_where_clear()
     ensures { AcceptedWhereClear }
 {}
@@ -40,12 +42,13 @@ pub fn kept_texts_pass()
     cal_zones::zone_reads_back();
 }
 
-/// And that calendar spells exactly what the room has confirmed: the same instances, and as many, without series.
+/// And that calendar spells exactly what the room has confirmed: as many singles, as many series, and the same instances.
 pub fn kept_texts_spell()
     ensures { (room : List ℕ) (deliveries : List Delivery) (book : Book) (text : List ℕ)
         → ((taken : Delivery) → Contains deliveries taken → IsDelivered room taken) → Runs empty_book deliveries book → IsKeptCalendar room book text
-        → (all : List Booked) × SpellsCalendar room text (record { series = []; singles = all }) × (length all ≡ length (confirmed book))
-        × ((booked : Booked) → Contains all booked ↔ Contains (confirmed book) booked) }
+        → (all : Confirmed) × SpellsCalendar room text all
+        × (length all.singles ≡ length (confirmed_singles book)) × (length all.series ≡ length (confirmed_series book))
+        × ((booked : Booked) → IsOneOf all booked ↔ Confirms book booked) }
 {
     ical_lines::lines_read_back();
     cal_zones::zone_reads_back();

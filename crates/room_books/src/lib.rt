@@ -2,15 +2,19 @@
 #![tactic(auto)]
 
 pub mod answer;
+mod claim;
 mod claims;
+mod confirming;
 mod decide;
 mod gone;
 mod kept;
 mod laws;
 pub mod meeting;
+mod recurring;
 mod refresh;
 mod reply;
 pub mod room;
+mod series;
 mod slots;
 mod taking;
 mod texts;

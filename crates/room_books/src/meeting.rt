@@ -1,16 +1,14 @@
 //! The name of a meeting, and the answers to its parts.
 
-ghost use Rattle.std.specs.Prelude.{◌≡◌, IfOk};
-ghost use Rattle.ical_values.specs.Octets.{address_octets, text_octets};
-ghost use Rattle.cal_events.specs.Calendars.{instance_of, owned_key_of};
-ghost use Rattle.room_books.specs.Views.{all_singles, booked_of, IsKeyOf};
+ghost use Rattle.std.specs.Prelude.{◌≡◌, true, IfOk};
+ghost use Rattle.room_books.specs.Wholes.{is_of_whole};
 
 use crate::answer::LimitKind;
-use cal_events::{Instance, InstanceKey, OwnedKey, Single};
+use cal_events::{Instance, InstanceKey, OwnedKey, Series, Single};
 use clash_cert::Clash;
 use ical_values::{Address, Stamp, Text};
 use itip_order::Slot;
-use std::alloc::{AllocError, Global};
+use std::alloc::AllocError;
 
 /// A meeting's name: the UID of an ORGANIZER.
 #[derive(PartialEq, Eq, Hash, Drop)]
@@ -20,6 +18,10 @@ pub struct MeetingKey {
 }
 
 impl MeetingKey {
+    ghost use Rattle.ical_values.specs.Octets.{address_octets, text_octets};
+    ghost use Rattle.cal_events.specs.Calendars.{instance_of, owned_key_of};
+    ghost use Rattle.room_books.specs.Views.{booked_of, IsKeyOf};
+
     /// The name of the meeting that has this ORGANIZER's address and this UID, both copied (RFC 5545 3.8.4.7).
     /// It fails only where memory runs out.
     pub fn of(organiser: &Address, uid: &Text) -> Result<MeetingKey, AllocError>
@@ -79,15 +81,8 @@ pub struct Given {
     pub outcome: Outcome,
     /// None unless the part was accepted, and none that another part in the view stands for.
     pub singles: Vec<Single>,
-}
-
-/// The instances that these answers confirm.
-pub(crate) fn singles_of(alloc: Global, answers: &[Given]) -> Result<Vec<Single>, AllocError>
-    ensures { IfOk result (λ singles. singles.items ≡ all_singles answers.now) }
-{
-    let mut singles = Vec::new(alloc);
-    for given in answers {
-        singles.extend_from_slice(&given.singles)?;
-    }
-    Ok(singles)
+    /// The instances that its RRULE gives, without those that another part in the view stands for. None unless the part was accepted. A whole
+    /// alone recurs.
+    pub series: Option<Series>,
+    ghost whole: { is_of_whole series slot ≡ true },
 }

@@ -17,10 +17,10 @@ ghost use Rattle.room_books.specs.BySlot.{AreBySlot};
 ghost use Rattle.room_books.specs.Replying.{AreShown, CanTell, AllTell, IsEventIn, IsReplyOf, ShowsGiven, WritesAnswers};
 
 use crate::answer::LimitKind;
+use crate::claim::Claim;
 use crate::kept::Changes;
 use crate::meeting::{Given, Outcome};
 use crate::slots::answer_after;
-use crate::taking::Claim;
 use clash_cert::Clash;
 use ical_values::{Address, Stamp};
 use itip_messages::{Conflict, Decision, ObjectWriter, ReplyEvent, write_event};

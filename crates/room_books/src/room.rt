@@ -1,7 +1,8 @@
 //! A room takes messages one after another. A message is taken whole or not at all: everything is computed
 //! beside the room, and put into it by the last step.
 
-ghost use Rattle.std.specs.Prelude.{◌≡◌, ◌<◌, ◌≤◌, ◌++◌, List, [], length, IfOk, OnOk, OnErr, IsTrue};
+ghost use Rattle.std.specs.Prelude.{◌≡◌, ◌≢◌, ◌⊎◌, ◌<◌, ◌≤◌, ◌+◌, ◌++◌, ℕ, List, [], Contains, length, map, IfOk, OnOk, OnErr, IsTrue};
+ghost use Rattle.std.specs.Vec.{vec_len, vec_capacity};
 ghost use Rattle.std.specs.List.{IsDistinct};
 ghost use Rattle.std.specs.Map.{lookup};
 ghost use Rattle.indexmap.specs.IndexMap.{keys, insert_index, IsUnchanged};
@@ -13,11 +14,13 @@ ghost use Rattle.profile.specs.checker.Instances.{IsClear};
 ghost use Rattle.itip_messages.specs.Messages.{StandsFor};
 ghost use Rattle.profile.specs.rooms.Messages as profile;
 ghost use Rattle.profile.specs.streams.Streams.{AreClaims};
-ghost use Rattle.profile.specs.rooms.Rooms.{Claim, Book, empty_book};
+ghost use Rattle.profile.specs.rooms.Rooms as rooms;
+ghost use Rattle.profile.specs.rooms.Rooms.{Book, empty_book};
 ghost use Rattle.profile.specs.rooms.Kept.{kept_certificate, IsKeptCalendar, Refreshes, Replies};
 ghost use Rattle.room_books.specs.Instants.{AreSeparate, IsParted, Shifts};
-ghost use Rattle.room_books.specs.Views.{same_key, all_confirmed, all_singles, confirmed_at, singles_by, others, AreAllApart, IsKeyOf};
-ghost use Rattle.room_books.specs.Views.{MayJoin};
+ghost use Rattle.room_books.specs.Views.{same_key, all_confirmed, all_singles, booked_list, confirmed_at, singles_by, others, AreAllApart, IsKeyOf};
+ghost use Rattle.room_books.specs.Views.{all_recurring, all_series, beside, in_room, other_recurring, recurring_at, series_at, series_by, AreFewer, AreRecurring, IsClearIn, MayJoin};
+ghost use Rattle.room_books.specs.Recurrings.{recurring_said, AreAllOf, AreClearBeside, AreNewClear};
 ghost use Rattle.cal_events.specs.declared.instance.Single.{Single};
 ghost use Rattle.room_books.specs.Timelines.{IsTimelineOf};
 ghost use Rattle.room_books.specs.Takings.{answers_by, answers_then, claims_said, held_after, kept_then, kind_view, octets_in, parts_said, refresh_octets};
@@ -26,21 +29,27 @@ ghost use Rattle.room_books.specs.BySlot.{AreBySlot};
 ghost use Rattle.std.specs.List.Sorted.{IsSortedByKey};
 ghost use Rattle.itip_order.specs.Parts.{slot_of};
 ghost use Rattle.profile.specs.rooms.Revisions.{slot_cmp};
-ghost use Rattle.room_books.specs.Takings.{StandsAt, IsMade, IsDecision, IsAnswered, IsKindOf};
+ghost use Rattle.room_books.specs.Takings.{StandsAt, IsMade, IsDecision, IsWholeDecision, IsAnswered, IsKindOf, MayJoinAll};
 ghost use Rattle.room_books.specs.Standing.{Stands, StepsWith, AreFitting, IsMeetingAfter, IsOwn, Meets, IsPutIn, IsRenewed};
 
-use crate::answer::{Answer, Kind};
+use crate::answer::{Answer, Kind, LimitKind};
+use crate::claim::Claim;
 use crate::claims::claims_of;
-use crate::decide::{Meetings, decide, keys_differ};
+use crate::confirming::{count_series, kept_series, series_of, singles_of};
+use crate::decide::{
+    MOST_SERIES, Meetings, Shared, busy_beside_series, clash_between, decide, keys_differ,
+};
+use crate::gone::Gone;
 use crate::kept::{Changes, Meeting};
-use crate::meeting::{Given, MeetingKey, Outcome, singles_of};
+use crate::meeting::{Given, MeetingKey, Outcome};
+use crate::recurring::{Recurring, clash_from, push_all, single_beside};
 use crate::refresh::refresh_to;
 use crate::reply::reply_to;
-use crate::slots::slots_of;
-use crate::taking::{self, Kept, Views, candidates, decided, held_with, parts_of};
+use crate::slots::{answers_of, slots_of};
+use crate::taking::{Kept, Views, candidates, decided, held_with, is_accept, parts_of};
 use crate::texts::{calendar_of, certificate_octets};
 use crate::timeline::Timeline;
-use cal_events::Single;
+use cal_events::{Series, Single};
 use clash_cert::{Clash, Confirmed, make};
 use ical_values::{Address, Stamp};
 use indexmap::IndexMap;
@@ -55,10 +64,18 @@ pub struct Room {
     address: Address,
     meetings: Meetings,
     timeline: Timeline,
+    /// The places of the meetings that have series confirmed.
+    recurring: Vec<usize>,
+    /// How many series are confirmed.
+    series: usize,
     ghost timed: { IsTimelineOf (confirmed_at meetings.entries) timeline.busy.items },
     ghost counted: { timeline.confirmed ≡ length (all_confirmed meetings.entries) },
     ghost clear: { IsClear (all_confirmed meetings.entries) },
     ghost apart: { AreAllApart meetings.entries },
+    ghost recurs: { AreRecurring (series_at meetings.entries) recurring.items },
+    ghost series_counted: { series ≡ length (all_recurring meetings.entries) },
+    ghost series_few: { series ≤ 64 },
+    ghost series_clear: { IsClearIn (in_room meetings.entries) },
 }
 
 /// What a message does to the answers of its meeting, the instances that the meeting no longer confirms and those that it confirms now and
@@ -93,17 +110,16 @@ struct Answered {
 
 /// What a room has confirmed is clear, whatever it takes.
 impl Confirmed for Room {
-    ghost use Rattle.std.specs.Prelude.{[]};
-    ghost use Rattle.room_books.specs.Views.{all_confirmed};
+    ghost use Rattle.room_books.specs.Views.{in_room};
 
-    ghost confirmed = { λ room. record { series = []; singles = all_confirmed room.meetings.entries } };
+    ghost confirmed = { λ room. in_room room.meetings.entries };
 
     fn count(&self) -> u64 {
         self.timeline.confirmed() as u64
     }
 
     fn count_of_series(&self) -> u64 {
-        0
+        self.series as u64
     }
 
     fn clash(&self, _alloc: Global) -> Result<Option<Clash>, AllocError> {
@@ -122,6 +138,8 @@ impl Room {
             address,
             meetings: IndexMap::new(alloc),
             timeline: Timeline::new(alloc),
+            recurring: Vec::new(alloc),
+            series: 0,
         }
     }
 
@@ -150,7 +168,7 @@ impl Room {
     pub fn take(&mut self, message: &Message, now: Stamp) -> Result<Answer, AllocError>
         // From each book that the room stands for it makes a step of the room machine, with the claims of the message.
         ensures steps { IfOk result (λ answer. (said : profile.Message) → StandsFor message.now said → (book : Book) → Stands self.old.meetings.entries book
-            → (claims : List Claim) × AreClaims (address_octets self.old.address) said claims
+            → (claims : List rooms.Claim) × AreClaims (address_octets self.old.address) said claims
             × StepsWith (address_octets self.old.address) self.new.meetings.entries book claims now (kind_view answer.kind) (reply_octets answer) (profile.is_add said.method) (refresh_octets answer)) }
         ensures address { self.new.address ≡ self.old.address }
         ensures err { OnErr result (IsUnchanged self.old.meetings self.new.meetings) }
@@ -187,7 +205,7 @@ impl Room {
     fn take_claims(
         &mut self,
         first: &Part,
-        claims: &[taking::Claim],
+        claims: &[Claim],
         adds: bool,
         now: Stamp,
     ) -> Result<Answer, AllocError>
@@ -222,7 +240,7 @@ impl Room {
         &self,
         key: &MeetingKey,
         first: &Part,
-        claims: &[taking::Claim],
+        claims: &[Claim],
         more: &Held,
         adds: bool,
         now: Stamp,
@@ -238,6 +256,8 @@ impl Room {
             → IsMeetingAfter book key.now (claims_said claims.now) now (kind_view taken.kind) meeting) }
         ensures joins { IfOk result (λ taken.
             MayJoin (others key.now self.now.meetings.entries) key.now (all_singles (answers_then (answers_by (lookup (same_key key.now) self.now.meetings.entries)) taken.changes))) }
+        ensures recurs { IfOk result (λ taken.
+            MayJoinAll (beside key.now self.now.meetings.entries) key.now (answers_then (answers_by (lookup (same_key key.now) self.now.meetings.entries)) taken.changes)) }
         ensures replies { IfOk result (λ taken. (own : Book) (meeting : Meeting) → AreFitting key.now (claims_said claims.now)
             → IsOwn key.now own
             → IsMade (held_after (lookup (same_key key.now) self.now.meetings.entries) more.now) (answers_then (answers_by (lookup (same_key key.now) self.now.meetings.entries)) taken.changes) meeting
@@ -282,7 +302,7 @@ impl Room {
     fn refresh_of(
         &self,
         key: &MeetingKey,
-        claims: &[taking::Claim],
+        claims: &[Claim],
         adds: bool,
         held: &Together<'_>,
         moment: Stamp,
@@ -321,7 +341,7 @@ impl Room {
         &self,
         key: &MeetingKey,
         first: &Part,
-        claims: &[taking::Claim],
+        claims: &[Claim],
         held: &Together<'_>,
         now: Stamp,
     ) -> Result<Settled, AllocError>
@@ -337,6 +357,8 @@ impl Room {
             (all_singles (answers_then (answers_by (lookup (same_key key.now) self.now.meetings.entries)) settled.changes))) }
         ensures joins { IfOk result (λ settled.
             MayJoin (others key.now self.now.meetings.entries) key.now (all_singles (answers_then (answers_by (lookup (same_key key.now) self.now.meetings.entries)) settled.changes))) }
+        ensures recurs { IfOk result (λ settled.
+            MayJoinAll (beside key.now self.now.meetings.entries) key.now (answers_then (answers_by (lookup (same_key key.now) self.now.meetings.entries)) settled.changes)) }
     {
         keys_differ(&self.meetings);
         let views = Views {
@@ -364,17 +386,20 @@ impl Room {
         held: &Together<'_>,
         lost: Vec<Slot>,
         left: Vec<Given>,
-        asked: &[&taking::Claim],
+        asked: &[&Claim],
         gone: &[Single],
         now: Stamp,
     ) -> Result<Answered, AllocError>
         requires rises { IsSortedByKey slot_of slot_cmp lost.items }
         requires parted { IsParted (singles_by (lookup (same_key key.now) self.now.meetings.entries)) gone.now (all_singles (kept_then (lookup (same_key key.now) self.now.meetings.entries) lost.items left.items)) }
-        ensures answered { IfOk result (λ answered. IsAnswered (others key.now self.now.meetings.entries) key.now held.now now
+        requires less { AreFewer (series_by (lookup (same_key key.now) self.now.meetings.entries)) (all_series (kept_then (lookup (same_key key.now) self.now.meetings.entries) lost.items left.items)) }
+        ensures answered { IfOk result (λ answered. IsAnswered (beside key.now self.now.meetings.entries) key.now held.now now
             (kept_then (lookup (same_key key.now) self.now.meetings.entries) lost.items left.items) asked.now (answers_then (answers_by (lookup (same_key key.now) self.now.meetings.entries)) answered.changes) answered.outcome) }
         ensures added { IfOk result (λ answered. IsParted (all_singles (answers_then (answers_by (lookup (same_key key.now) self.now.meetings.entries)) answered.changes)) (all_singles (kept_then (lookup (same_key key.now) self.now.meetings.entries) lost.items left.items)) answered.added.items) }
         ensures joins { IfOk result (λ answered.
             MayJoin (others key.now self.now.meetings.entries) key.now (all_singles (answers_then (answers_by (lookup (same_key key.now) self.now.meetings.entries)) answered.changes))) }
+        ensures recurs { IfOk result (λ answered.
+            MayJoinAll (beside key.now self.now.meetings.entries) key.now (answers_then (answers_by (lookup (same_key key.now) self.now.meetings.entries)) answered.changes)) }
     {
         keys_differ(&self.meetings);
         if asked.is_empty() {
@@ -385,7 +410,7 @@ impl Room {
             });
         }
         let candidates = candidates(self.alloc, held, asked, now)?;
-        let outcome = self.decide(key, gone, &candidates)?;
+        let outcome = self.decide(key, gone, &lost, &left, &candidates)?;
         let mut new = decided(self.alloc, candidates, &outcome)?;
         let added = singles_of(self.alloc, &new)?;
         let mut coming = left;
@@ -398,20 +423,53 @@ impl Room {
         })
     }
 
-    /// What is decided of candidates beside what a meeting keeps, where these of its instances are gone, and all that the others have.
+    /// What is decided of candidates beside what a meeting keeps, where the answers of these slots are lost, this is left of them and these of
+    /// its instances are gone, and beside all that the others have: the limit of series is looked at first, then that of singles.
     fn decide(
         &self,
         key: &MeetingKey,
         gone: &[Single],
+        lost: &[Slot],
+        left: &[Given],
         candidates: &[Given],
+    ) -> Result<Outcome, AllocError>
+        requires rises { IsSortedByKey slot_of slot_cmp lost.now }
+        requires parted { IsParted (singles_by (lookup (same_key key.now) self.now.meetings.entries)) gone.now (all_singles (kept_then (lookup (same_key key.now) self.now.meetings.entries) lost.now left.now)) }
+        requires less { AreFewer (series_by (lookup (same_key key.now) self.now.meetings.entries)) (all_series (kept_then (lookup (same_key key.now) self.now.meetings.entries) lost.now left.now)) }
+        ensures { IfOk result (IsWholeDecision (beside key.now self.now.meetings.entries) key.now (kept_then (lookup (same_key key.now) self.now.meetings.entries) lost.now left.now) candidates.now) }
+    {
+        keys_differ(&self.meetings);
+        let wanted = series_of(self.alloc, candidates)?;
+        let before = self.answers_before(key);
+        let kept = kept_series(self.alloc, before, lost, left)?;
+        let others = self.series - count_series(before);
+        if kept.len() + wanted.len() > MOST_SERIES - others {
+            return Ok(Outcome::Limit(LimitKind::Series));
+        }
+        let singles = singles_of(self.alloc, candidates)?;
+        let outcome = self.decide_singles(key, gone, &singles)?;
+        if !is_accept(&outcome) {
+            return Ok(outcome);
+        }
+        match self.clash_in_series(key, gone, &kept, &singles, &wanted)? {
+            Some(clash) => Ok(Outcome::Declined(clash)),
+            None => Ok(outcome),
+        }
+    }
+
+    /// What is decided of these instances beside those that a meeting keeps alone, where these are gone, and all that the others have so.
+    fn decide_singles(
+        &self,
+        key: &MeetingKey,
+        gone: &[Single],
+        wanted: &[Single],
     ) -> Result<Outcome, AllocError>
         requires parted { (kept : List Single) × IsParted (singles_by (lookup (same_key key.now) self.now.meetings.entries)) gone.now kept }
         ensures { IfOk result (λ outcome. (kept : List Single)
             → IsParted (singles_by (lookup (same_key key.now) self.now.meetings.entries)) gone.now kept
-            → IsDecision (others key.now self.now.meetings.entries) key.now kept (all_singles candidates.now) outcome) }
+            → IsDecision (others key.now self.now.meetings.entries) key.now kept wanted.now outcome) }
     {
         keys_differ(&self.meetings);
-        let wanted = singles_of(self.alloc, candidates)?;
         let beside = self.timeline.confirmed() - gone.len();
         let outcome = decide(
             self.alloc,
@@ -420,9 +478,80 @@ impl Room {
             key,
             beside,
             gone,
-            &wanted,
+            wanted,
         )?;
         Ok(outcome)
+    }
+
+    /// A clash of two instances of which one is asked for, and one is of a series. The meeting keeps these series, and asks for these singles
+    /// and series.
+    fn clash_in_series<'a>(
+        &'a self,
+        key: &'a MeetingKey,
+        gone: &[Single],
+        kept: &[&'a Series],
+        singles: &[Single],
+        wanted: &[&'a Series],
+    ) -> Result<Option<Clash>, AllocError>
+        requires parted { (own : List Single) × IsParted (singles_by (lookup (same_key key.now) self.now.meetings.entries)) gone.now own }
+        ensures { IfOk result (λ found. (own : List Single)
+            → IsParted (singles_by (lookup (same_key key.now) self.now.meetings.entries)) gone.now own
+            → AreClearBeside (beside key.now self.now.meetings.entries) key.now own (map (λ one. one.now) kept.now) singles.now (map (λ one. one.now) wanted.now) found) }
+    {
+        let mut all = self.recurring_beside(key)?;
+        push_all(&mut all, key, kept)?;
+        let from = all.len();
+        push_all(&mut all, key, wanted)?;
+        let found = match single_beside(singles, &all) {
+            Some(shared) => Some(shared),
+            None => self.clash_of_new(key, gone, &all, from, wanted)?,
+        };
+        let Some(shared) = found else {
+            return Ok(None);
+        };
+        let clash = clash_between(key, shared.asked, shared.other, shared.booked)?;
+        Ok(Some(clash))
+    }
+
+    /// The series that the other meetings have confirmed.
+    fn recurring_beside(&self, key: &MeetingKey) -> Result<Vec<Recurring<'_>>, AllocError>
+        ensures { IfOk result (λ all. AreAllOf (other_recurring key.now self.now.meetings.entries) all.items) }
+    {
+        keys_differ(&self.meetings);
+        let own = self.meetings.get_index_of(key);
+        let mut all = Vec::new(self.alloc);
+        for place in &self.recurring {
+            if own == Some(*place) {
+                continue;
+            }
+            push_at(&mut all, &self.meetings, *place)?;
+        }
+        Ok(all)
+    }
+
+    /// Two instances that share an instant, one of them of a series that is asked for: these are the series from a place on.
+    fn clash_of_new<'a>(
+        &'a self,
+        key: &MeetingKey,
+        gone: &[Single],
+        all: &[Recurring<'a>],
+        from: usize,
+        wanted: &[&Series],
+    ) -> Result<Option<Shared<'a>>, AllocError>
+        requires { from ≤ length all.now }
+        ensures { IfOk result (λ found. (own : List Single)
+            → IsParted (singles_by (lookup (same_key key.now) self.now.meetings.entries)) gone.now own
+            → AreNewClear (others key.now self.now.meetings.entries ++ booked_list key.now own) all.now from (map (λ one. one.now) wanted.now) found) }
+    {
+        if wanted.is_empty() {
+            return Ok(None);
+        }
+        if let Some(shared) = clash_from(all, from) {
+            return Ok(Some(shared));
+        }
+        let gone = Gone::of(self.alloc, gone)?;
+        let found = busy_beside_series(&self.meetings, &self.timeline, key, &gone, wanted);
+        Ok(found)
     }
 
     /// Puts more of a meeting in its place, and changes its answers; takes what is gone out of the timeline, and puts in what is added.
@@ -437,15 +566,69 @@ impl Room {
         requires shifts { Shifts (singles_by (lookup (same_key key) self.old.meetings.entries)) gone.now added.now
             (all_singles (answers_then (answers_by (lookup (same_key key) self.old.meetings.entries)) changes)) }
         requires joins { MayJoin (others key self.old.meetings.entries) key (all_singles (answers_then (answers_by (lookup (same_key key) self.old.meetings.entries)) changes)) }
+        requires recurs { MayJoinAll (beside key self.old.meetings.entries) key (answers_then (answers_by (lookup (same_key key) self.old.meetings.entries)) changes) }
         ensures put { OnOk result (IsPutIn key more changes self.old.meetings.entries self.new.meetings.entries) }
         ensures address { self.new.address ≡ self.old.address }
         ensures err { OnErr result (IsUnchanged self.old.meetings self.new.meetings) }
     {
         keys_differ(&self.meetings);
         self.timeline.reserve(added.len())?;
+        self.recurring.reserve(1)?;
+        let before = count_series(self.answers_before(&key));
         let place = put_in(self.alloc, &mut self.meetings, key, more, changes)?;
         self.timeline.change(place, gone, added);
+        let after = series_in(&self.meetings, place);
+        self.series = self.series - before + after;
+        mark(&mut self.recurring, place, after > 0);
         Ok(())
+    }
+}
+
+/// How many series the meeting in a place has confirmed.
+fn series_in(meetings: &Meetings, place: usize) -> usize
+    ensures { result ≡ length (series_at meetings.now.entries place) }
+{
+    match meetings.get_index(place) {
+        Some((_, meeting)) => count_series(&meeting.answers),
+        None => 0,
+    }
+}
+
+/// Puts the series of the meeting in a place behind others.
+fn push_at<'a>(
+    all: &mut Vec<Recurring<'a>>,
+    meetings: &'a Meetings,
+    place: usize,
+) -> Result<(), AllocError>
+    ensures { OnOk result (map recurring_said all.new.items ≡ map recurring_said all.old.items ++ recurring_at meetings.now.entries place) }
+{
+    let Some((key, meeting)) = meetings.get_index(place) else {
+        return Ok(());
+    };
+    for given in answers_of(&meeting.answers, Slot::Whole) {
+        if let Some(series) = &given.series {
+            all.push(Recurring { key, series })?;
+        }
+    }
+    Ok(())
+}
+
+/// Puts a place among others, or takes it out. There is room for it.
+fn mark(places: &mut Vec<usize>, place: usize, is_one: bool)
+    requires room { vec_len places.old + 1 ≤ vec_capacity places.old }
+    ensures others { (other : ℕ) → other ≢ place → Contains places.old.items other → Contains places.new.items other }
+    ensures own { IsTrue is_one → Contains places.new.items place }
+    ensures no_more { (other : ℕ) → Contains places.new.items other → Contains places.old.items other ⊎ (IsTrue is_one × (other ≡ place)) }
+{
+    match places.iter().position(|own| *own == place) {
+        Some(at) if !is_one => {
+            places.remove(at);
+        }
+        None if is_one => {
+            // there is room for it
+            let _ = places.push(place);
+        }
+        _ => {}
     }
 }
 

@@ -10,9 +10,9 @@ ghost use Rattle.room_books.specs.Touching as touching;
 ghost use Rattle.room_books.specs.Touching.{AllTouch};
 ghost use Rattle.room_books.specs.BySlot.{AreBySlot, givens, is_at, is_below, is_up_to, taken_at, IsPlace};
 
+use crate::claim::Claim;
 use crate::kept::Changes;
 use crate::meeting::Given;
-use crate::taking::Claim;
 use itip_order::Slot;
 use std::alloc::{AllocError, Global};
 

@@ -11,39 +11,27 @@ ghost use Rattle.profile.specs.rooms.Revisions.{slot_cmp};
 ghost use Rattle.room_books.specs.Takings as takings;
 ghost use Rattle.room_books.specs.Touching as touching;
 ghost use Rattle.itip_order.specs.Registers.{StandsFor};
-ghost use Rattle.room_books.specs.Views.{outcome_of, all_singles, singles_by};
+ghost use Rattle.room_books.specs.Views.{outcome_of, all_singles, all_series, series_by, singles_by, AreFewer};
+ghost use Rattle.std.specs.Option.{option_to_list};
 ghost use Rattle.room_books.specs.BySlot.{AreBySlot, givens};
 ghost use Rattle.room_books.specs.Instants.{IsPartOf, IsParted, IsSplit, Sheds};
 ghost use Rattle.room_books.specs.Touching.{IsUntouched};
 ghost use Rattle.room_books.specs.declared.meeting.Given.{Given};
 ghost use Rattle.room_books.specs.Standing.{KeepsAll, KeepsSome};
-ghost use Rattle.room_books.specs.Takings.{StandsAt, held_after, AreAsked, booked_in, left_in, IsLeftOf, IsAccepted, IsDecided, IsKindOf};
-ghost use Rattle.room_books.specs.Takings.{IsLeftAlone, IsStill, kept_then, kind_view, parts_said, singles_left};
+ghost use Rattle.profile.specs.checker.Instances.{Booked};
+ghost use Rattle.room_books.specs.Takings.{LeavesAll, StandsAt, held_after, AreAsked, booked_in, left_in, IsLeftOf, IsAccepted, IsDecided, IsKindOf};
+ghost use Rattle.room_books.specs.Takings.{IsLeftAlone, IsStill, kept_then, kind_view, parts_said, series_still, singles_left};
 
 use crate::answer::Kind;
+use crate::claim::Claim;
 use crate::kept::Meeting;
 use crate::meeting::{Given, Outcome};
+use crate::series::{hides_start, series_beside, series_left};
 use crate::slots::{answers_at, answers_of, is_touched};
 use cal_events::Single;
 use ical_values::Stamp;
-use itip_order::{Body, Held, Part, Slot, Together};
+use itip_order::{Held, Part, Slot, Together};
 use std::alloc::{AllocError, Global};
-
-/// A part of a message, and the instances that it asks for: none where it isn't to take place.
-#[derive(Drop)]
-pub struct Claim {
-    pub part: Part,
-    pub singles: Vec<Single>,
-}
-
-impl Claim {
-    /// Whether the part is to take place.
-    pub fn is_set(&self) -> bool
-        ensures { result ≡ is_set (part_of self.now.part) }
-    {
-        matches!(self.part.body, Body::Set(_))
-    }
-}
 
 /// What becomes of the answers of a meeting before anything new is decided.
 #[derive(Drop)]
@@ -210,6 +198,8 @@ impl<'a> Views<'a> {
         ensures parted { IfOk result (λ kept.
             IsParted (singles_by (option_copied self.now.before)) kept.gone.items
             (all_singles (kept_then (option_copied self.now.before) kept.lost.items kept.left.items))) }
+        ensures fewer { IfOk result (λ kept.
+            AreFewer (series_by (option_copied self.now.before)) (all_series (kept_then (option_copied self.now.before) kept.lost.items kept.left.items))) }
         ensures rises { IfOk result (λ kept. IsSortedByKey slot_of slot_cmp kept.lost.items) }
     {
         let Some(meeting) = self.before else {
@@ -242,6 +232,7 @@ fn left_at(
     ensures lost { IfOk result (λ kept. kept.lost ≡ lost) }
     ensures left { IfOk result (λ kept. KeepsSome (part_of part.now) slots.now before.now after.now (givens out.now) kept.left.items) }
     ensures split { IfOk result (λ kept. IsSplit (all_singles (givens out.now)) kept.gone.items (all_singles kept.left.items)) }
+    ensures fewer { IfOk result (λ kept. AreFewer (all_series (givens out.now)) (all_series kept.left.items)) }
 {
     let mut left = Vec::new(alloc);
     let mut gone = Vec::new(alloc);
@@ -336,10 +327,10 @@ fn stays(
 fn confirms_all(held: &Together<'_>, part: &Part, slots: &[Slot], answers: &[Given]) -> bool
     requires { IsSortedByKey slot_of slot_cmp slots.now }
     ensures { IsTrue result → (history : List revisions.Part) → StandsFor held.now history → (given : Given) → Contains answers.now given
-        → given.singles.items ≡ takings.left_beside slots.now history (part_of part.now) given.singles.items }
+        → LeavesAll slots.now history (part_of part.now) given }
 {
     for given in answers {
-        if any_hidden(held, part, slots, &given.singles) {
+        if !given.confirms_all(held, part, slots) {
             return false;
         }
     }
@@ -391,6 +382,7 @@ fn still(
     requires { IsSortedByKey slot_of slot_cmp slots.now }
     ensures still { IfOk result (IsStill slots.now before.now after.now (part_of part.now) given.now) }
     ensures sheds { IfOk result (λ still. Sheds given.now.singles.items (singles_left still) gone.old.items gone.new.items) }
+    ensures fewer { IfOk result (λ still. AreFewer (option_to_list given.now.series) (series_still still)) }
 {
     let Some(own) = before.part_in(part, given.slot) else {
         gone.extend_from_slice(&given.singles)?;
@@ -404,6 +396,17 @@ fn still(
 }
 
 impl Given {
+    /// Whether no part of these slots in the view stands for an instance that this answer to a part confirms.
+    fn confirms_all(&self, held: &Together<'_>, part: &Part, slots: &[Slot]) -> bool
+        requires { IsSortedByKey slot_of slot_cmp slots.now }
+        ensures { IsTrue result → (history : List revisions.Part) → StandsFor held.now history → LeavesAll slots.now history (part_of part.now) self.now }
+    {
+        if any_hidden(held, part, slots, &self.singles) {
+            return false;
+        }
+        !hides_start(held, part, slots, &self.series)
+    }
+
     /// The same answer to a part, with those of its instances that no part of these slots in the view stands for; the others go
     /// behind those that are gone.
     fn left(
@@ -417,14 +420,17 @@ impl Given {
         requires { IsSortedByKey slot_of slot_cmp slots.now }
         ensures left { IfOk result (IsLeftOf slots.now held.now (part_of part.now) self.now) }
         ensures sheds { IfOk result (λ left. Sheds self.now.singles.items left.singles.items gone.old.items gone.new.items) }
+        ensures fewer { IfOk result (λ left. AreFewer (option_to_list self.now.series) (option_to_list left.series)) }
     {
         let outcome = self.outcome.clone()?;
         let singles = left_beside(alloc, held, part, slots, &self.singles, gone)?;
+        let series = series_beside(alloc, held, part, slots, &self.series)?;
         Ok(Given {
             slot: self.slot,
             moment: self.moment,
             outcome,
             singles,
+            series,
         })
     }
 
@@ -438,23 +444,37 @@ impl Given {
         ensures { IfOk result (IsAccepted held.now claim.now moment) }
     {
         let singles = left_of(alloc, held, &claim.part, &claim.singles)?;
+        let series = series_left(alloc, held, &claim.part, &claim.series)?;
         Ok(Given {
             slot: claim.part.slot,
             moment,
             outcome: Outcome::Accepted,
             singles,
+            series,
         })
     }
 
     /// The same answer with what was decided: it confirms something only where that is to accept it.
-    fn decided(mut self, alloc: Global, outcome: &Outcome) -> Result<Given, AllocError>
+    fn decided(self, alloc: Global, outcome: &Outcome) -> Result<Given, AllocError>
         ensures { IfOk result (IsDecided self outcome.now) }
     {
-        if !is_accept(outcome) {
-            self.singles = Vec::new(alloc);
+        let outcome = outcome.clone()?;
+        if is_accept(&outcome) {
+            return Ok(Given {
+                slot: self.slot,
+                moment: self.moment,
+                outcome,
+                singles: self.singles,
+                series: self.series,
+            });
         }
-        self.outcome = outcome.clone()?;
-        Ok(self)
+        Ok(Given {
+            slot: self.slot,
+            moment: self.moment,
+            outcome,
+            singles: Vec::new(alloc),
+            series: None,
+        })
     }
 }
 
@@ -514,8 +534,16 @@ fn left_beside(
 fn is_hidden(held: &Together<'_>, part: &Part, single: Single) -> bool
     ensures { (history : List revisions.Part) → StandsFor held.now history → result ≡ rooms.is_hidden history (part_of part.now) (booked_in (part_of part.now) single) }
 {
+    is_start_hidden(held, part, single.slot)
+}
+
+/// Whether another part in the view stands for the instance of a part with this original start.
+pub fn is_start_hidden(held: &Together<'_>, part: &Part, start: i64) -> bool
+    ensures { (history : List revisions.Part) → StandsFor held.now history → (booked : Booked) → booked.key.slot ≡ start
+        → result ≡ rooms.is_hidden history (part_of part.now) booked }
+{
     match part.slot {
-        Slot::Whole => held.part_in(part, Slot::At(single.slot)).is_some(),
+        Slot::Whole => held.part_in(part, Slot::At(start)).is_some(),
         Slot::At(_) => false,
     }
 }

@@ -6,10 +6,12 @@ ghost use Rattle.cal_events.specs.declared.instance.Single.{Single};
 ghost use Rattle.room_books.specs.Timelines.{AreBusy, HoldsInstants, IsPlaceAfter, AreTaken, IsSharedIn, IsFreeAmong, AreAt, IsChanged};
 ghost use Rattle.room_books.specs.Timelines.{IsShift, IsTaken, IsPut, IsTimelineOf, is_leaving, stays, starts_before, busy_in, has_busy};
 ghost use Rattle.room_books.specs.Instants.{AreSeparate};
+ghost use Rattle.room_books.specs.Views.{Recurs};
 ghost use Rattle.std.specs.Vec.{vec_len, vec_capacity};
 
 use crate::gone::Gone;
-use cal_events::{HORIZON, Single, Span};
+use crate::recurring::as_single;
+use cal_events::{HORIZON, Series, Single, Span};
 use std::alloc::{AllocError, Global};
 
 /// An instance that holds the room.
@@ -58,11 +60,32 @@ impl Timeline {
         own: Option<usize>,
         gone: &Gone,
     ) -> Option<(Single, Busy)>
-        ensures { AreTaken (is_leaving own gone.now) self.now.busy.items wanted.now result }
+        ensures { AreTaken (is_leaving own gone.now) self.now.busy.items (Contains wanted.now) result }
     {
         for single in wanted {
             if let Some(busy) = self.taken_in(single.span, own, gone) {
                 return Some((*single, busy));
+            }
+        }
+        None
+    }
+
+    /// An instance of a series that shares an instant with one that isn't leaving the own place, and that instance. For each of these it
+    /// jumps into the series once.
+    pub(crate) fn first_of_series(
+        &self,
+        series: &Series,
+        own: Option<usize>,
+        gone: &Gone,
+    ) -> Option<(Single, Busy)>
+        ensures { AreTaken (is_leaving own gone.now) self.now.busy.items (Recurs series.now) result }
+    {
+        for busy in &self.busy {
+            if is_gone(busy, own, gone) {
+                continue;
+            }
+            if let Some(instance) = series.first_overlap(busy.single.span) {
+                return Some((as_single(&instance), *busy));
             }
         }
         None

@@ -125,7 +125,7 @@ pub fn explanation(number: u8) -> Option<&'static str>
             "90: the preamble can't be read; for `keep`, also a room that it doesn't name. What to do: see `roombox serve --help`.\n",
         ),
         99 => Some(
-            "99: not read yet in a message: RRULE; METHOD REPLY or REFRESH, or none. What to do: send single instances, or RDATE.\n",
+            "99: METHOD REPLY, REFRESH, or none in a message: not read yet. What to do: send REQUEST, ADD or CANCEL.\n",
         ),
         _ => None,
     }

@@ -1,7 +1,7 @@
 //! What is answered about the series of a calendar, two by two.
 
 use cal_events::{Calendar, Series};
-use cal_period::{Swept, sweep_alone, sweep_pair};
+use cal_period::{Swept, clash_of_pair, sweep_alone, sweep_pair};
 use example_cases::NoAnswer;
 use example_cases::answers::append;
 use ical_values::Address;
@@ -35,6 +35,39 @@ fn add(alloc: Global, list: &mut String, swept: Swept<'_>) -> Result<(), NoAnswe
     let item = match swept.shared {
         Some((first, second)) => format!(in alloc; "{} and {}", first.start, second.start)?,
         None => format!(in alloc; "clear {}", swept.drawn)?,
+    };
+    append(list, ", ", item.as_str())?;
+    Ok(())
+}
+
+/// Each pair of different series, in the order of the calendar and in the other: the starts of two instances that share an instant, the first
+/// of the first series; or that they are clear.
+pub fn clashes(alloc: Global, octets: &[u8], room: &Address) -> Result<String, NoAnswer> {
+    let calendar = Calendar::read(alloc, octets, room)?;
+    let mut list = String::new(alloc);
+    let series = calendar.series();
+    for place in 0..series.len() {
+        add_clashes(alloc, &mut list, &series[place..])?;
+    }
+    Ok(list)
+}
+
+/// The first of these series with each other one.
+fn add_clashes(alloc: Global, list: &mut String, series: &[Series]) -> Result<(), NoAnswer> {
+    let Some((first, others)) = series.split_first() else {
+        return Ok(());
+    };
+    for second in others {
+        add_clash(alloc, list, first, second)?;
+        add_clash(alloc, list, second, first)?;
+    }
+    Ok(())
+}
+
+fn add_clash(alloc: Global, list: &mut String, a: &Series, b: &Series) -> Result<(), NoAnswer> {
+    let item = match clash_of_pair(a, b) {
+        Some((first, second)) => format!(in alloc; "{} and {}", first.start, second.start)?,
+        None => "clear".to_string(alloc)?,
     };
     append(list, ", ", item.as_str())?;
     Ok(())

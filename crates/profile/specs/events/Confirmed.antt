@@ -1,6 +1,6 @@
 -- Which instances the VEVENTs of a calendar confirm in a room (RFC 5545 3.2.12, 3.8.1.11, 3.8.4.4), in series and singles.
 -- A meeting is one ORGANIZER and one UID; by RFC 5545 3.8.4.7 the UID alone is global, so this is this profile's choice.
-use Rattle.std.specs.Prelude.{◌≡◌, ◌≢◌, ◌⊎◌, ◌<ℤ◌, Contains, AllPairs, All, Bool, true, not, if◌then◌else◌, ◌&&◌, List, [], ◌∷◌, ◌++◌, filter, Some, None, is_some, ℤ, ℕ}
+use Rattle.std.specs.Prelude.{◌≡◌, ◌≢◌, ◌⊎◌, ◌↔◌, ◌<ℤ◌, Contains, AllPairs, All, Bool, true, false, not, if◌then◌else◌, ◌&&◌, List, [], ◌∷◌, ◌++◌, filter, Option, Some, None, is_some, ℤ, ℕ}
 use Rattle.std.specs.List.{AllZip, flat_map}
 use Rattle.profile.specs.checker.Instances.{Booked}
 use Rattle.profile.specs.series.Rules.{Parts}
@@ -91,6 +91,26 @@ pub record IsSeries (events : List Event) (master : Event) (series : Meeting) : 
   pub replaced : List ℤ
   pub are : AreReplaced events master replaced
   pub is : series ≡ record { master = Some (by_its_rule master replaced); overrides = [] }
+
+-- ---- of one event by itself
+
+-- all instances of an event that aren't of its series, by start, each once
+pub record AreApart (event : Event) (singles : List Booked) : Type 0 where
+  pub each : All (λ instance. IsInstance (alone event) instance × (IsOfSeries event instance → ⊥)) singles
+  pub ordered : AllPairs ComesBefore singles
+  pub all : (instance : Booked) → IsInstance (alone event) instance → (IsOfSeries event instance → ⊥) → Contains singles instance
+
+-- a master with RRULE
+abbrev pub has_series : Event → Bool
+has_series event = is_master event && is_some event.rule
+
+-- the instances of this meeting are those of an event that its RRULE gives, where it has one
+abbrev pub AreOfRule : Event → Option Meeting → Type 0
+AreOfRule event None = has_series event ≡ false
+AreOfRule event (Some series) =
+    (has_series event ≡ true) × ((instance : Booked) → IsInstance series instance ↔ (IsInstance (alone event) instance × IsOfSeries event instance))
+
+-- ---- what is confirmed in a room
 
 -- what is confirmed in a room: series and singles
 pub record Confirmed : Type 0 where

@@ -1,6 +1,6 @@
 -- The rule of a VEVENT: on which days its RRULE lets it start (RFC 5545 3.3.10, 3.8.5.3). The days are those of the start's own clocks,
 -- which are those of the zone that DTSTART names, or of UTC. A day goes by its index.
-use Rattle.std.specs.Prelude.{◌≡◌, ℕ, ◌<◌, ◌⊎◌, false, true, if◌then◌else◌, List, codes, Option, Some, None, ℤ, pos, ◌-ℤ◌}
+use Rattle.std.specs.Prelude.{◌≡◌, ℕ, ◌<◌, ◌⊎◌, false, true, if◌then◌else◌, List, [], ◌∷◌, codes, Option, Some, None, ℤ, pos, ◌-ℤ◌}
 use Rattle.std.specs.Int.Signed.{lt_z}
 use Rattle.profile.specs.checker.Instances.{horizon}
 use Rattle.profile.specs.series.Days.{day_index}
@@ -9,7 +9,7 @@ use Rattle.profile.specs.text.Trees.{Tree}
 use Rattle.profile.specs.series.Rules.{Parts, RuleText, Until, UntilDay, UntilLocal, UntilInstant, rule_of, is_rule_day, last_rule_day}
 use Rattle.profile.specs.series.RuleTexts.{SpellsRule, IsLeastRuleFault}
 use Rattle.profile.specs.series.Zones.{Zone, Means, NoneFrom, IsLastDay, local_time}
-use Rattle.profile.specs.events.Properties.{first_second, Says, StandsTwice, SomeLine}
+use Rattle.profile.specs.events.Properties.{first_second, lines_named, BothOrNeither, Says, StandsTwice, SomeLine}
 use Rattle.profile.specs.events.ZonedTimes.{SaysZonedTime, clock_of, EventTimes}
 
 -- ---- the last day that UNTIL allows
@@ -52,13 +52,20 @@ pub record GivesRule (zone : Zone) (local : ℤ) (text : RuleText) (rule : Parts
   pub is : rule ≡ rule_of text day last
   pub starts : is_rule_day rule day ≡ true
 
--- the RRULE line says this rule, beside these times
-abbrev pub IsRuleLine : EventTimes → List ℕ → Parts → Type 0
-IsRuleLine times line rule = (text : RuleText) × SpellsRule (line_value line) text × GivesRule (clock_of times.zone) times.local text rule
+-- the RRULE line has this text
+abbrev pub IsRuleText : List ℕ → RuleText → Type 0
+IsRuleText line text = SpellsRule (line_value line) text
 
--- RRULE stands at most once: it says this rule, or there is none
-abbrev pub SaysEventRule : List (List ℕ) → EventTimes → Option Parts → Type 0
-SaysEventRule lines times rule = Says (codes "RRULE") false (IsRuleLine times) lines rule
+-- the rule that a text gives beside the lines of DTSTART. Without a start, as what is cancelled may be, it gives none
+abbrev pub GivesBeside : List (List ℕ) → EventTimes → Option RuleText → Option Parts → Type 0
+GivesBeside [] times text rule = rule ≡ None
+GivesBeside (start ∷ _) times text rule = BothOrNeither (GivesRule (clock_of times.zone) times.local) text rule
+
+-- RRULE stands at most once: with its text the event has this rule, or there is none
+pub record SaysEventRule (lines : List (List ℕ)) (times : EventTimes) (rule : Option Parts) : Type 0 where
+  pub text : Option RuleText
+  pub spells : Says (codes "RRULE") false IsRuleText lines text
+  pub gives : GivesBeside (lines_named (codes "DTSTART") lines) times text rule
 
 -- ---- what can be wrong with it, by the number of its refusal
 

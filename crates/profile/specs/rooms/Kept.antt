@@ -9,7 +9,7 @@ use Rattle.profile.specs.checker.Certificates.{text_of}
 use Rattle.profile.specs.rooms.Revisions.{Part, Slot, At, in_view, is_whole, same_meeting, slot_cmp}
 use Rattle.std.specs.declared.cmp.Ordering.TheVariants.{Less}
 use Rattle.profile.specs.rooms.Messages.{IsReplyEvent, IsRefreshEvent, TellsSlot, zone_text, object_lines, opening_lines}
-use Rattle.profile.specs.rooms.Rooms.{Claim, Answer, Book, confirmed, is_confirmed, shown, wants_whole, answers_part}
+use Rattle.profile.specs.rooms.Rooms.{Claim, Answer, Book, confirmed_singles, confirmed_series, is_confirmed, shown, wants_whole, answers_part}
 
 -- ---- replies
 
@@ -167,6 +167,6 @@ pub record IsKeptCalendar (room : List ℕ) (book : Book) (octets : List ℕ) : 
   pub each : AllZip (IsKeptEvent room (zones_kept entries)) entries events
   pub is : octets ≡ written (opening_lines None) ++ zone_texts 0 (zones_kept entries) ++ written (flat_map (λ lines. lines) events ++ codes "END:VCALENDAR" ∷ [])
 
--- the certificate for it: its count of singles
+-- the certificate for it: its counts, and an entry for each pair of series
 abbrev pub kept_certificate : Book → List ℕ
-kept_certificate book = text_of (record { singles = length (confirmed book); series = 0 })
+kept_certificate book = text_of (record { singles = length (confirmed_singles book); series = length (confirmed_series book) })

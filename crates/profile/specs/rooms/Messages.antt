@@ -6,10 +6,10 @@ use Rattle.std.specs.Str.{bytes_eq}
 use Rattle.std.specs.Char.{is_ascii_alphabetic, is_ascii_digit}
 use Rattle.profile.specs.text.Lines.{line_value, is_same_name, logical_lines, reads_as_lines, written}
 use Rattle.profile.specs.text.Objects.{IsObject}
-use Rattle.profile.specs.text.Trees.{Tree, tree_name, tree_own, tree_inside, vevents}
+use Rattle.profile.specs.text.Trees.{Tree, tree_name, tree_own, tree_inside}
 use Rattle.profile.specs.text.Values.{SpellsDate, WritesStamp, WritesLocal, duration_text, escaped}
 use Rattle.profile.specs.events.Events.{Method, Request, Add, Cancel, Event}
-use Rattle.profile.specs.events.Properties.{first_second, is_of, SomeLine, StandsTwice, IsMissing, BothOrNeither, lines_named}
+use Rattle.profile.specs.events.Properties.{first_second, SomeLine, StandsTwice, IsMissing, BothOrNeither, lines_named}
 use Rattle.profile.specs.events.ZonedTimes.{EventTimes, clock_of}
 use Rattle.profile.specs.series.Rules.{Parts, Until, UntilDay, UntilLocal, UntilInstant, text_in}
 use Rattle.profile.specs.series.RuleTexts.{rule_text}
@@ -41,18 +41,9 @@ pub record NamesMethod (own : List (List ℕ)) (method : Method) : Type 0 where
   pub once : lines_named (codes "METHOD") own ≡ line ∷ []
   pub named : is_same_name (line_value line) (method_word method) ≡ true
 
--- RRULE stands in the lines of a VEVENT: in a message it isn't read yet
-abbrev pub has_unread : List (List ℕ) → Bool
-has_unread lines = list_any (is_of (codes "RRULE")) lines
-
--- it stands in some VEVENT of the object
-abbrev pub is_unread : Tree → Bool
-is_unread object = list_any has_unread (vevents object)
-
--- a VCALENDAR says this message: in its VEVENTs nothing is unread (RFC 5546 3.2.2, 3.2.4, 3.2.5)
+-- a VCALENDAR says this message (RFC 5546 3.2.2, 3.2.4, 3.2.5)
 pub record SaysMessage (object : Tree) (message : Message) : Type 0 where
   pub method : NamesMethod (tree_own object) message.method
-  pub read : is_unread object ≡ false
   pub says : SaysMeeting object (Some message.method) message.meeting
 
 -- the octets are one VCALENDAR, within the limits of a message, and say this message
@@ -84,8 +75,6 @@ pub data MethodFault (own : List (List ℕ)) : ℕ → Type 0 where
 pub data MessageFault (object : Tree) : ℕ → Type 0 where
   in_method : {n : ℕ} → MethodFault (tree_own object) n → MessageFault object n
   in_meeting : {n : ℕ} → (method : Method) → NamesMethod (tree_own object) method → MeetingFault object (Some method) n → MessageFault object n
-  -- something in a VEVENT isn't read yet
-  not_yet : is_unread object ≡ true → MessageFault object 99
 
 -- the octets are one VCALENDAR, within the limits of a message, and the fault of this number stands in it
 pub record MessageTextFault (octets : List ℕ) (n : ℕ) : Type 0 where

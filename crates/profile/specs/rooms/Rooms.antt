@@ -1,18 +1,23 @@
 -- The room machine: what a room keeps, and one step of it. A step is a relation, as a decline may name any clash.
-use Rattle.std.specs.Prelude.{◌≡◌, ℕ, ◌<◌, ◌≤◌, Bool, true, false, not, ◌&&◌, IsTrue, if◌then◌else◌, nat_lt, List, [], ◌∷◌, ◌++◌, length, map, filter, ℤ}
+use Rattle.std.specs.Prelude.{◌≡◌, ◌⊎◌, ℕ, ◌<◌, ◌≤◌, Bool, true, false, not, ◌&&◌, IsTrue, if◌then◌else◌, nat_lt, Contains, List, [], ◌∷◌, ◌++◌, length, map, filter, Option, option_map, ℤ}
+use Rattle.std.specs.Option.{option_to_list}
 use Rattle.std.specs.List.{flat_map, list_any}
 use Rattle.std.specs.declared.cmp.Ordering.TheVariants.{Less}
-use Rattle.profile.specs.checker.Instances.{Key, Booked, IsClash, IsClear, booked_cmp}
+use Rattle.profile.specs.checker.Instances.{Key, Booked, AreClashing, AreClear, booked_cmp}
+use Rattle.profile.specs.events.Meetings.{Meeting}
+use Rattle.profile.specs.events.Starts.{IsInstance}
 use Rattle.profile.specs.rooms.Revisions.{Part, Body, At, Set, Absent, Cancelled, in_view, is_whole, same_meeting, same_part, same_place}
 use Rattle.profile.specs.rooms.Messages.{Content, Outcome, Accept, Busy, SeriesLimit, SinglesLimit}
 
 -- ---- what a room keeps
 
--- a part of a message, and what it asks for if it is to take place: what says when it is, and its instances
+-- a part of a message, and what it asks for if it is to take place: what says when it is, its single instances, and a meeting of those that its
+-- RRULE gives, if it has one
 pub record Claim : Type 0 where
   pub part : Part
   pub content : Content
   pub singles : List Booked
+  pub series : Option Meeting
 
 -- what was decided about a part, and when; it stays for good
 pub record Answer : Type 0 where
@@ -44,16 +49,47 @@ abbrev pub is_hidden : List Part → Part → Booked → Bool
 is_hidden taken part booked =
     is_whole part && list_any (λ other. in_view taken other && same_place other (record part { slot = At booked.key.slot })) taken
 
--- the instances of an answer that no other part hides
+-- the single instances of an answer that no other part hides
 abbrev pub left_of : List Part → Answer → List Booked
 left_of taken answer = filter (λ booked. not (is_hidden taken answer.claim.part booked)) answer.claim.singles
 
--- the confirmed instances, where these parts were taken and so answered
-abbrev pub confirmed_in : List Part → List Answer → List Booked
-confirmed_in taken answers = flat_map (left_of taken) (filter (is_confirmed taken) answers)
+-- the confirmed singles, where these parts were taken and so answered
+abbrev pub singles_confirmed : List Part → List Answer → List Booked
+singles_confirmed taken answers = flat_map (left_of taken) (filter (is_confirmed taken) answers)
 
-abbrev pub confirmed : Book → List Booked
-confirmed book = confirmed_in book.taken book.answers
+-- a series of a part
+pub record Recurring : Type 0 where
+  pub part : Part
+  pub meeting : Meeting
+
+-- that of an answer, where it has one
+abbrev pub recurring_in : Answer → List Recurring
+recurring_in answer = option_to_list (option_map (λ meeting. record { part = answer.claim.part; meeting = meeting }) answer.claim.series)
+
+-- the confirmed series. One of which other parts hide each instance is one too
+abbrev pub series_confirmed : List Part → List Answer → List Recurring
+series_confirmed taken answers = flat_map recurring_in (filter (is_confirmed taken) answers)
+
+-- the instance is one of one of these series, and no other part hides it
+pub record IsLeftOf (taken : List Part) (all : List Recurring) (booked : Booked) : Type 0 where
+  pub series : Recurring
+  pub among : Contains all series
+  pub is : IsInstance series.meeting booked
+  pub shown : is_hidden taken series.part booked ≡ false
+
+abbrev pub confirmed_singles : Book → List Booked
+confirmed_singles book = singles_confirmed book.taken book.answers
+
+abbrev pub confirmed_series : Book → List Recurring
+confirmed_series book = series_confirmed book.taken book.answers
+
+-- the instance is confirmed: a single, or one of a series
+abbrev pub Confirms : Book → Booked → Type 0
+Confirms book booked = Contains (confirmed_singles book) booked ⊎ IsLeftOf book.taken (confirmed_series book) booked
+
+-- no two confirmed instances clash
+abbrev pub IsClear : Book → Type 0
+IsClear book = AreClear (Confirms book) (Confirms book)
 
 -- ---- how new a part is, by the views before its message and after it
 
@@ -85,27 +121,36 @@ asked before after claims = filter (λ c. is_set c.part && is_fresh before after
 
 -- ---- the decision
 
--- how many single instances a room may have confirmed; this profile's choice
+-- how many series a room may have confirmed, and how many single instances; this profile's choice
+abbrev pub most_series : ℕ
+most_series = 64
+
 abbrev pub most_singles : ℕ
 most_singles = 10_000
 
--- the two keys are those of a clash, at the later start; the lesser by start, organiser, UID and slot comes first
-pub record NamesClash (all : List Booked) (first second : Key) (t : ℤ) : Type 0 where
+pub record IsWithinLimits (book : Book) : Type 0 where
+  pub series : length (confirmed_series book) ≤ most_series
+  pub singles : length (confirmed_singles book) ≤ most_singles
+
+-- the two keys are those of two of these instances that clash, at the later start; the lesser by start, organiser, UID and slot comes first
+pub record NamesClash (these : Booked → Type 0) (first second : Key) (t : ℤ) : Type 0 where
   pub a : Booked
   pub b : Booked
-  pub clash : IsClash all a b t
+  pub of_first : these a
+  pub of_second : these b
+  pub clash : AreClashing a b t
   pub first_is : a.key ≡ first
   pub second_is : b.key ≡ second
   pub ordered : booked_cmp a b ≡ Less
   pub later : t ≡ b.start
 
--- what is decided where these would be confirmed: the limit is looked at first, then whether any two clash; any clash may be named
-abbrev pub Decides : List Booked → Outcome → Type 0
-Decides all Accept = (length all ≤ most_singles) × IsClear all
-Decides all (Busy first second t) = (length all ≤ most_singles) × NamesClash all first second t
-Decides all SinglesLimit = most_singles < length all
--- there are no series yet
-Decides all SeriesLimit = ⊥
+-- what is decided where this would be the book: the limit of series is looked at first, then that of singles, then whether any two
+-- confirmed instances clash; any clash may be named
+abbrev pub Decides : Book → Outcome → Type 0
+Decides book SeriesLimit = most_series < length (confirmed_series book)
+Decides book SinglesLimit = (length (confirmed_series book) ≤ most_series) × (most_singles < length (confirmed_singles book))
+Decides book Accept = IsWithinLimits book × IsClear book
+Decides book (Busy first second t) = IsWithinLimits book × NamesClash (Confirms book) first second t
 
 -- ---- a step
 
@@ -119,12 +164,12 @@ if_accepted before claims moment taken =
     record { taken = taken; answers = before.answers ++ answered moment Accept (asked before.taken taken claims) }
 
 -- A message with these parts is taken at a moment: its parts are taken, the old answers stay, and each part that is asked
--- gets the one outcome, which the instances decide that would be confirmed, were each accepted
+-- gets the one outcome, which the book decides that there would be, were each accepted
 pub record IsStep (before : Book) (claims : List Claim) (moment : ℤ) (outcome : Outcome) (after : Book) : Type 0 where
   pub taken : after.taken ≡ before.taken ++ parts_of claims
   pub answers : after.answers ≡ before.answers ++ answered moment outcome (asked before.taken after.taken claims)
   pub decided : IsTrue (nat_lt 0 (length (asked before.taken after.taken claims)))
-      → Decides (confirmed (if_accepted before claims moment after.taken)) outcome
+      → Decides (if_accepted before claims moment after.taken) outcome
 
 -- a message, at a moment
 pub record Delivery : Type 0 where

@@ -1,16 +1,13 @@
 -- A stream: its preamble, its objects, and what is answered to them. Each object is a message or is refused.
-use Rattle.std.specs.Prelude.{◌≡◌, ◌≢◌, ℕ, ◌+◌, ◌<◌, ◌≤◌, ◌⊎◌, Bool, true, false, IsTrue, List, [], ◌∷◌, ◌++◌, length, map, codes, decimal, Option, ℤ, AllPairs}
+use Rattle.std.specs.Prelude.{◌≡◌, ◌≢◌, ℕ, ◌+◌, ◌<◌, ◌≤◌, ◌⊎◌, Bool, true, false, IsTrue, List, [], ◌∷◌, ◌++◌, length, map, codes, decimal, None, Option, ℤ, AllPairs}
 use Rattle.std.specs.Option.{option_to_list}
 use Rattle.std.specs.List.{flat_map, AllZip}
 use Rattle.std.specs.Str.{is_utf8}
 use Rattle.profile.specs.text.Lines.{logical_lines, text_has}
 use Rattle.profile.specs.text.Objects.{SpellsTree, most_events, count_inside, has_version, lines_have, is_begun, after_object}
 use Rattle.profile.specs.text.Trees.{Tree, tree_name, tree_own, tree_inside}
-use Rattle.profile.specs.checker.Instances.{Booked}
 use Rattle.profile.specs.events.Events.{Event}
-use Rattle.profile.specs.events.Properties.{first_second}
-use Rattle.profile.specs.events.Starts.{AreInstancesFrom}
-use Rattle.profile.specs.events.Confirmed.{alone}
+use Rattle.profile.specs.events.Confirmed.{AreApart, AreOfRule}
 use Rattle.profile.specs.rooms.Messages.{Message, SpellsMessage, MessageTextFault, IsPart, AreBySlot, parts_for, is_add, Outcome}
 use Rattle.profile.specs.rooms.Rooms.{Claim, Book, Delivery, IsStep, empty_book, is_set}
 use Rattle.profile.specs.rooms.Kept.{Replies, Refreshes}
@@ -118,15 +115,16 @@ ObjectFault n octets =
 
 -- ---- the answers
 
--- what is asked for where an event is to take place: all its instances, whichever of them other events stand for; else nothing
-abbrev pub AsksFor : Bool → Event → List Booked → Type 0
-AsksFor true event singles = AreInstancesFrom (alone event) first_second singles
-AsksFor false event singles = singles ≡ []
+-- what is asked for where an event is to take place: all its instances, whichever of them other events stand for: those that its RRULE gives,
+-- if it has one, and all others; else nothing
+abbrev pub AsksFor : Bool → Event → Claim → Type 0
+AsksFor true event claim = AreApart event claim.singles × AreOfRule event claim.series
+AsksFor false event claim = (claim.singles ≡ []) × (claim.series ≡ None)
 
 -- what an event of a message claims of a room: the part that it is, and its instances, if that is to take place
 pub record IsClaim (room : List ℕ) (message : Message) (event : Event) (claim : Claim) : Type 0 where
   pub part : IsPart room message event claim.content claim.part
-  pub singles : AsksFor (is_set claim.part) event claim.singles
+  pub asks : AsksFor (is_set claim.part) event claim
 
 -- what it claims of the room: its parts, by their slots
 pub record AreClaims (room : List ℕ) (message : Message) (claims : List Claim) : Type 0 where

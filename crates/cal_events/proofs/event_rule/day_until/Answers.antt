@@ -1,6 +1,5 @@
-use Rattle.std.proofs.Common.{◌≡◌, ◌∙◌, sym, ap, to_z, of_z, w64, arith}
+use Rattle.std.proofs.Common.{◌≡◌, ◌∙◌, sym, ap, to_z, of_z, w64}
 use Rattle.std.specs.Prelude.{Some}
-use Rattle.std.proofs.lemmas.Int.{ints}
 use Rattle.profile.specs.series.Rules.{UntilInstant}
 use Rattle.cal_rules.specs.Views.{until_of}
 use Rattle.cal_zones.specs.Kinds.{zone_of}

@@ -1,12 +1,12 @@
 use Rattle.std.proofs.Common.{◌<◌, ◌≡◌, ◌∙◌, List, length, map, take, get_or, sym, ap, subst}
-use Rattle.std.specs.List.{list_any, AllZip}
+use Rattle.std.specs.List.{AllZip}
 use Rattle.ical_lines.specs.Fault.{RefusesBy}
 use Rattle.ical_tree.specs.Tree.{component_lines, component_children, tree_of}
 use Rattle.ical_tree.specs.declared.component.Component.{Component}
 use Rattle.profile.specs.text.Trees.{Tree}
-use Rattle.profile.specs.events.Events.{SaysEvent}
-use Rattle.cal_events.specs.Events.{event_of, vevents_of, is_message, has_unread_for, IsUnreadOrFault, IsUnreadOrFaultAmong, method_read}
-use Rattle.cal_events.proofs.ReadingLemmas.{events_in, is_among, take_event, take_other, read_event, event_pushed}
+use Rattle.profile.specs.events.Events.{EventFault, SaysEvent}
+use Rattle.cal_events.specs.Events.{event_of, vevents_of, IsFaultAmong, method_read}
+use Rattle.cal_events.proofs.ReadingLemmas.{events_in, is_among, take_event, take_other, event_pushed}
 use Rattle.cal_events.proofs.ZonedLemmas.{weaker_fault}
 use Rattle.ical_values.proofs.Exits.{err_exit}
 use Rattle.cal_events.proofs.reading.read_events.Goals as goal
@@ -21,11 +21,12 @@ returns-in_err-read_event-clause-stands c =
     let same = c.children-component-items.ensures in
     let within = subst (λ (l : List Component). i < length l) same c.loop-component-test.true in
     let here = subst (λ (l : List Component). x ≡ get_or l i x) same c.component-item.is in
-    let P = IsUnreadOrFaultAmong (tree_of object) c.args.purpose (vevents_of object) in
+    let m = method_read c.args.purpose in
+    let P = IsFaultAmong (tree_of object) m (vevents_of object) in
     err_exit _ (RefusesBy P) _ c.from_residual-in_err-read_event.ensures.1
-    (weaker_fault _ (IsUnreadOrFault (tree_of object) c.args.purpose (component_lines x)) P
+    (weaker_fault _ (EventFault (tree_of object) m (component_lines x)) P
     (λ n h. (component_lines x, is_among all i x within here (sym c.if-is_named.ensures), h))
-    (subst (λ (t : Tree). RefusesBy (IsUnreadOrFault t c.args.purpose (component_lines x)) c.in_err-read_event.field-0.0) (ap tree_of c.in_ok-zones.ensures.object) c.in_err-read_event.ensures.stands))
+    (subst (λ (t : Tree). RefusesBy (EventFault t m (component_lines x)) c.in_err-read_event.field-0.0) (ap tree_of c.in_ok-zones.ensures.object) c.in_err-read_event.ensures.stands))
 
 pub loop-component-preserved : goal.loop-component-preserved
 loop-component-preserved c =
@@ -39,15 +40,12 @@ loop-component-preserved c =
     let here = subst (λ (l : List Component). x ≡ get_or l i x) same c.component-item.is in
     let new = c.if-is_named.events.items in
     elim c.if-is_named.branch [
-      | then-is_named+in_ok-read_event+in_ok-push w ↦ (
-        subst (λ vs. AllZip (SaysEvent object m) vs (map event_of new)) (sym (take_event all i x within here (sym w.if-is_named.ensures)))
-            (event_pushed object m (events_in (take i all)) (component_lines x) c.loop-component.events.items new w.in_ok-read_event.field-0 c.loop-component.invariant.0
-            (subst (λ (t : Tree). SaysEvent t m (component_lines x) (event_of w.in_ok-read_event.field-0)) (ap tree_of c.in_ok-zones.ensures.object) w.in_ok-read_event.ensures.says) (ap (λ v. v.items) w.events-is ∙ w.in_ok-push.ensures.items)),
-        read_event (has_unread_for c.args.purpose) all i x within here (sym w.if-is_named.ensures) c.loop-component.invariant.1 w.in_ok-read_event.ensures.read,
-      )
-      | else-is_named w ↦ (
-        subst (λ vs. AllZip (SaysEvent object m) vs (map event_of new)) (sym (take_other all i x within here (sym w.if-is_named.ensures)))
-            (subst (λ es. AllZip (SaysEvent object m) (events_in (take i all)) (map event_of es)) (sym (ap (λ v. v.items) w.events-is)) c.loop-component.invariant.0),
-        ap (list_any (has_unread_for c.args.purpose)) (take_other all i x within here (sym w.if-is_named.ensures)) ∙ c.loop-component.invariant.1,
-      )
+      | then-is_named+in_ok-read_event+in_ok-push w ↦
+          subst (λ vs. AllZip (SaysEvent object m) vs (map event_of new)) (sym (take_event all i x within here (sym w.if-is_named.ensures)))
+          (event_pushed object m (events_in (take i all)) (component_lines x) c.loop-component.events.items new w.in_ok-read_event.field-0 c.loop-component.invariant
+          (subst (λ (t : Tree). SaysEvent t m (component_lines x) (event_of w.in_ok-read_event.field-0)) (ap tree_of c.in_ok-zones.ensures.object) w.in_ok-read_event.ensures.says)
+          (ap (λ v. v.items) w.events-is ∙ w.in_ok-push.ensures.items))
+      | else-is_named w ↦
+          subst (λ vs. AllZip (SaysEvent object m) vs (map event_of new)) (sym (take_other all i x within here (sym w.if-is_named.ensures)))
+          (subst (λ es. AllZip (SaysEvent object m) (events_in (take i all)) (map event_of es)) (sym (ap (λ v. v.items) w.events-is)) c.loop-component.invariant)
     ]

@@ -1,4 +1,4 @@
-use Rattle.std.proofs.Common.{◌≡◌, List, ℤ, sym, subst, rules, to_z, of_z, w64, FitsSigned}
+use Rattle.std.proofs.Common.{List, ℤ, sym, subst, rules, to_z, of_z, w64, FitsSigned}
 use Rattle.std.proofs.lemmas.Int.{to_z-of_z}
 use Rattle.profile.specs.events.Meetings.{Meeting}
 use Rattle.cal_period.specs.Besides.{HasNoSharer}

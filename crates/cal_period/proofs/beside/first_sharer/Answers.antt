@@ -1,4 +1,4 @@
-use Rattle.std.proofs.Common.{map, length, arith}
+use Rattle.std.proofs.Common.{map, arith}
 use Rattle.std.proofs.lemmas.List.{length-map}
 use Rattle.cal_events.specs.SaidSeries.{series_said}
 use Rattle.cal_period.proofs.EveryPair.{said_at}

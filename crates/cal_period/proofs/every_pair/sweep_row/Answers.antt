@@ -1,4 +1,4 @@
-use Rattle.std.proofs.Common.{◌≡◌, ◌+◌, ◌-◌, ◌^◌, map, length, min, subst, arith}
+use Rattle.std.proofs.Common.{◌≡◌, ◌+◌, ◌-◌, map, length, min, subst, arith}
 use Rattle.std.proofs.lemmas.List.{length-map}
 use Rattle.cal_events.specs.SaidSeries.{series_said}
 use Rattle.cal_period.specs.Every.{pair_count, row_count}

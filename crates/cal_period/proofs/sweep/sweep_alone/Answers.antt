@@ -12,7 +12,7 @@ loop-walk-init c =
     let a = c.args.a.now in
     let known = c.known_by_start.ensures a in
     let all = all_left (series_said a) _ c.starts-starts.result known (omega (arith, ints)) c.starts-starts.ensures.left in
-    alone_first (series_said a) c.next.new.self c.to-walk.result (c.to-walk.ensures (series_said a) c.starts-starts.result c.next.new.self known all c.next.ensures.steps)
+    alone_first (series_said a) c.next.new.self c.to-walk.result (c.to-walk.ensures.begins (series_said a) c.starts-starts.result c.next.new.self known all c.next.ensures.steps)
 
 pub returns-in-Some-met_by-clause-shared : goal.returns-in-Some-met_by-clause-shared
 returns-in-Some-met_by-clause-shared c =
@@ -24,13 +24,13 @@ returns-in-Some-met_by-clause-drawn c = some_counted (series_said c.args.a.now) 
 pub loop-walk-smaller : goal.loop-walk-smaller
 loop-walk-smaller c =
     let series = series_said c.args.a.now in
-    let g = c.past-walk.ensures series c.loop-walk.starts c.next-in-Some.new.self c.loop-walk.invariant.stands c.next-in-Some.ensures.steps in
-    fewer_left series c.next-in-Some.new.self c.loop-walk.walk c.past-walk.result g.stands g.further
+    let g = c.past-walk.ensures.stands series c.loop-walk.starts c.next-in-Some.new.self c.loop-walk.invariant.stands c.next-in-Some.ensures.steps in
+    fewer_left series c.next-in-Some.new.self c.loop-walk.walk c.past-walk.result g.stands.ahead g.further
 
 pub loop-walk-preserved : goal.loop-walk-preserved
 loop-walk-preserved c =
     let series = series_said c.args.a.now in
-    let g = c.past-walk.ensures series c.loop-walk.starts c.next-in-Some.new.self c.loop-walk.invariant.stands c.next-in-Some.ensures.steps in
+    let g = c.past-walk.ensures.stands series c.loop-walk.starts c.next-in-Some.new.self c.loop-walk.invariant.stands c.next-in-Some.ensures.steps in
     alone_past series c.loop-walk.starts c.loop-walk.walk c.loop-walk.invariant c.in-Some.next c.in-Some.is c.next-in-Some.new.self c.past-walk.result c.in_default-met_by.ensures.none g
 
 pub returns-clause-shared : goal.returns-clause-shared

@@ -1,4 +1,4 @@
-use Rattle.std.proofs.Common.{◌≡◌, ◌∙◌, ◌++◌, ◌∷◌, List, ℤ, filter, codes, Option, refl, ap, subst}
+use Rattle.std.proofs.Common.{◌≡◌, ◌∙◌, ◌++◌, ◌∷◌, List, ℤ, filter, codes, Option, refl, sym, ap, subst}
 use Rattle.std.specs.Prelude.{Contains}
 use Rattle.profile.specs.text.Values.{duration_text}
 use Rattle.profile.specs.rooms.Messages.{WritesTimes, is_in_dates}
@@ -11,6 +11,9 @@ use Rattle.itip_messages.specs.Bodies.{AppendsRule}
 use Rattle.itip_messages.proofs.BodyLemmas.{body_written, clock_named}
 use Rattle.itip_messages.proofs.TimeLists.{dates_starts}
 use Rattle.itip_messages.proofs.body.canonical_body.Goals as goal
+
+pub write_rule-requires : goal.write_rule-requires
+write_rule-requires c said is = c.requires.ends said (sym c.as_ref.ensures.value ∙ is)
 
 pub write_times-requires : goal.write_times-requires
 write_times-requires c instant at = clock_named instant (c.requires.listed instant (subst (λ (l : List ℤ). Contains l instant) c.deref.ensures.value at))

@@ -2,7 +2,7 @@ use Rattle.std.proofs.Common.{◌∙◌, ◌+◌, List, take, arith, sym, ap, su
 use Rattle.std.specs.List.{AllZip, filter}
 use Rattle.ical_values.specs.Octets.{address_octets}
 use Rattle.itip_messages.specs.Messages.{has_part}
-use Rattle.room_books.specs.declared.taking.Claim.{Claim}
+use Rattle.room_books.specs.declared.claim.Claim.{Claim}
 use Rattle.room_books.specs.Claiming.{IsClaimIn}
 use Rattle.room_books.proofs.Claiming.{zip_some, zip_skip}
 use Rattle.room_books.proofs.claims.all_claims.Goals as goal

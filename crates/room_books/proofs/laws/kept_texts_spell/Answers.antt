@@ -3,4 +3,6 @@ use Rattle.room_books.proofs.KeptCalendars.{kept_same}
 use Rattle.room_books.proofs.laws.kept_texts_spell.Goals as goal
 
 pub returns : goal.returns
-returns c = λ room deliveries book calendar delivered runs kept. kept_same c.lines_read_back.ensures.lines c.lines_read_back.ensures.reads c.zone_reads_back.ensures room deliveries delivered book runs calendar kept
+returns c = λ room deliveries book calendar delivered runs kept.
+    let same = kept_same c.lines_read_back.ensures.lines c.lines_read_back.ensures.reads c.zone_reads_back.ensures room deliveries delivered book runs calendar kept in
+    (same.all, same.spells, same.singles, same.series, same.exact)

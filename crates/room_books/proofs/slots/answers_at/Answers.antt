@@ -1,10 +1,8 @@
-use Rattle.std.proofs.Common.{◌≡◌, ◌∙◌, ◌+◌, ◌-◌, ◌++◌, [], List, length, get_or, take, drop, sym, ap, subst, arith}
-use Rattle.std.specs.List.{filter}
+use Rattle.std.proofs.Common.{◌∙◌, ◌+◌, ◌++◌, List, drop, sym, ap, subst, arith}
 use Rattle.std.proofs.lemmas.List.{take_rest}
 use Rattle.itip_order.specs.declared.part.Slot.TheVariants as own
-use Rattle.itip_order.specs.Parts.{slot_of}
 use Rattle.room_books.specs.declared.meeting.Given.{Given}
-use Rattle.room_books.specs.BySlot.{givens, is_at}
+use Rattle.room_books.specs.BySlot.{givens}
 use Rattle.room_books.proofs.Walking.{IsWalked, walk_end, walk_more, walk_start}
 use Rattle.room_books.proofs.slots.answers_at.Goals as goal
 

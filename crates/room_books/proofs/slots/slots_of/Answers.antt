@@ -1,6 +1,6 @@
 use Rattle.std.proofs.Common.{◌∙◌, ◌++◌, ◌∷◌, [], take, map, sym, ap, arith}
 use Rattle.std.proofs.lemmas.List.{map-append, take_all}
-use Rattle.room_books.specs.declared.taking.Claim.{Claim}
+use Rattle.room_books.specs.declared.claim.Claim.{Claim}
 use Rattle.room_books.proofs.Loops.{one_more}
 use Rattle.room_books.proofs.Touching.{all_touch}
 use Rattle.room_books.proofs.slots.slots_of.Goals as goal

@@ -1,14 +1,12 @@
-use Rattle.std.proofs.Common.{◌≡◌, ◌∙◌, ap, FitsSigned, to_z, of_z, w64, rules, arith}
+use Rattle.std.proofs.Common.{◌≡◌, FitsSigned, to_z, of_z, w64, rules, arith}
 use Rattle.std.proofs.lemmas.Int.{ints}
-use Rattle.itip_order.specs.Parts.{part_of, slot_of}
+use Rattle.itip_order.specs.Parts.{part_of}
 use Rattle.room_books.specs.Takings.{booked_in}
-use Rattle.room_books.proofs.Hiding.{hidden_whole}
 use Rattle.room_books.proofs.taking.is_hidden.Goals as goal
 
-pub returns-in-Whole : goal.returns-in-Whole
-returns-in-Whole c = λ history s.
-    let p = part_of c.args.part.now in
+pub returns : goal.returns
+returns c = λ history s.
     let t = c.args.single.slot in
     let fits : FitsSigned w64 t = search rules in
     let same : t ≡ to_z w64 (of_z w64 t) = omega (arith, ints) in
-    c.is_some.ensures ∙ hidden_whole c.args.held.now history s p (booked_in p c.args.single) (to_z w64 (of_z w64 t)) same (ap slot_of c.in-Whole.is) c.part_in.result c.part_in.ensures.found c.part_in.ensures.none
+    c.is_start_hidden.ensures history s (booked_in (part_of c.args.part.now) c.args.single) same

@@ -5,11 +5,13 @@ use Rattle.itip_order.specs.Parts.{part_of}
 use Rattle.room_books.specs.declared.meeting.Given.{Given}
 use Rattle.room_books.specs.BySlot.{givens}
 use Rattle.room_books.specs.Instants.{Sheds, IsSplit}
-use Rattle.room_books.specs.Takings.{singles_left}
-use Rattle.room_books.specs.Views.{all_singles}
+use Rattle.room_books.specs.Takings.{series_still, singles_left}
+use Rattle.room_books.specs.Views.{all_series, all_singles, AreFewer}
 use Rattle.room_books.specs.Standing.{KeepsSome}
 use Rattle.room_books.proofs.Loops.{one_more, flat_push}
 use Rattle.room_books.proofs.Own.{keeps_none, keeps_more}
+use Rattle.std.specs.Option.{option_to_list}
+use Rattle.room_books.proofs.Fewer.{fewer_none, one_fewer}
 use Rattle.room_books.proofs.Splits.{one_shed, split_none}
 use Rattle.room_books.proofs.taking.left_at.Goals as goal
 
@@ -24,6 +26,7 @@ loop-given-init c =
     let part = part_of c.args.part.now in let slots = c.args.slots.now in let before = c.args.before.now in let after = c.args.after.now in (
       subst (λ (l : List Given). KeepsSome part slots before after [] l) (sym c.new-left.ensures.items) (keeps_none part slots before after),
       split_none [] c.new-gone.result.items c.new-left.result.items refl c.new-gone.ensures.items c.new-left.ensures.items,
+      subst (λ (l : List Given). AreFewer [] (all_series l)) (sym c.new-left.ensures.items) (fewer_none []),
     )
 
 pub loop-given-preserved : goal.loop-given-preserved
@@ -45,6 +48,10 @@ loop-given-preserved c =
       subst (λ (l : List Given). IsSplit (all_singles l) c.still.new.gone.items (all_singles new)) (sym more)
           (one_shed (givens (take i out)) given left.singles.items (all_singles old) (all_singles new) c.loop-given.gone.items c.still.new.gone.items shed
           (ap all_singles c.in_ok-push.ensures.items ∙ flat_push (λ (x : Given). x.singles.items) old left) c.loop-given.invariant.1),
+      subst (λ (l : List Given). AreFewer (all_series l) (all_series new)) (sym more)
+          (one_fewer (givens (take i out)) given (option_to_list left.series) (all_series old) (all_series new)
+          (subst (λ (x : Option Given). AreFewer (option_to_list given.series) (series_still x)) c.in-Some.is c.in_ok-still.ensures.fewer)
+          (ap all_series c.in_ok-push.ensures.items ∙ flat_push (λ (x : Given). option_to_list x.series) old left) c.loop-given.invariant.2),
     )
 
 pub loop-given-preserved-in_default : goal.loop-given-preserved-in_default
@@ -62,4 +69,6 @@ loop-given-preserved-in_default c =
           (λ e. refl)),
       subst (λ (l : List Given). IsSplit (all_singles l) c.still.new.gone.items (all_singles old)) (sym more)
           (one_shed (givens (take i out)) given [] (all_singles old) (all_singles old) c.loop-given.gone.items c.still.new.gone.items shed (sym (append-nil (all_singles old))) c.loop-given.invariant.1),
+      subst (λ (l : List Given). AreFewer (all_series l) (all_series old)) (sym more)
+          (one_fewer (givens (take i out)) given [] (all_series old) (all_series old) (fewer_none (option_to_list given.series)) (sym (append-nil (all_series old))) c.loop-given.invariant.2),
     )

@@ -3,10 +3,11 @@ use Rattle.itip_order.specs.Parts.{part_of}
 use Rattle.room_books.specs.BySlot.{givens}
 use Rattle.room_books.specs.Instants.{IsSplit}
 use Rattle.room_books.specs.Standing.{KeepsSome}
-use Rattle.room_books.specs.Views.{all_singles}
+use Rattle.room_books.specs.Views.{all_series, all_singles, AreFewer}
 use Rattle.room_books.proofs.taking.left_at.Given as goal
 
 abbrev pub invariant-loop-given : goal.invariant-loop-given
 invariant-loop-given l =
     KeepsSome (part_of l.part) l.slots l.before l.after (givens (take l.given-index l.out)) l.left.items
     × IsSplit (all_singles (givens (take l.given-index l.out))) l.gone.items (all_singles l.left.items)
+    × AreFewer (all_series (givens (take l.given-index l.out))) (all_series l.left.items)

@@ -3,7 +3,7 @@ use Rattle.std.proofs.lemmas.List.{map-append}
 use Rattle.itip_order.specs.Registers.{StandsFor}
 use Rattle.itip_order.specs.Parts.{part_of}
 use Rattle.profile.specs.rooms.Revisions.{Part}
-use Rattle.room_books.specs.declared.taking.Claim.{Claim}
+use Rattle.room_books.specs.declared.claim.Claim.{Claim}
 use Rattle.room_books.specs.Takings.{parts_said}
 use Rattle.room_books.proofs.Loops.{one_more}
 use Rattle.room_books.proofs.taking.parts_of.Goals as goal

@@ -1,35 +1,147 @@
-use Rattle.std.proofs.Common.{inl, inr}
-use Rattle.std.proofs.lemmas.Result.{IfErr-weaker}
-use Rattle.ical_lines.specs.Fault.{RefusesOnly, RefusesBy}
-use Rattle.profile.specs.events.Events.{EventFault}
-use Rattle.cal_events.specs.Events.{is_message, is_fault_for, IsUnreadOrFault, method_read}
-use Rattle.cal_events.proofs.NumberLemmas.{unread_for, refused_for}
+use Rattle.std.proofs.Common.{◌∙◌, Bool, codes, sym, ap, subst, refl, arith}
+use Rattle.ical_lines.specs.Fault.{RefusesBy}
+use Rattle.profile.specs.events.Events.{EventFault, adds_instances, may_lack_start, in_times, in_rule, in_occurrences, twice}
+use Rattle.profile.specs.events.Occurrences.{entries_named, EntriesFault, bad_additions, bad_exceptions, recurs, recurs_as_instance}
+use Rattle.profile.specs.events.EventRules.{EventRuleFault}
+use Rattle.profile.specs.events.ZonedTimes.{EventTimesFault}
+use Rattle.cal_events.specs.Events.{method_read}
+use Rattle.cal_events.specs.Zoned.{AreSaidBy}
 use Rattle.cal_events.specs.Zones.{object_of}
 use Rattle.cal_events.proofs.ZonedLemmas.{weaker_fault}
 use Rattle.ical_values.proofs.Exits.{err_exit}
 use Rattle.cal_events.proofs.component.EventComponent.read.Goals as goal
 
-pub returns-in_err-refuse_unread-clause-refuses : goal.returns-in_err-refuse_unread-clause-refuses
-returns-in_err-refuse_unread-clause-refuses c =
-    err_exit _ (RefusesOnly (is_fault_for c.args.purpose)) _ c.from_residual.ensures.1 (unread_for c.args.purpose c.args.properties.now _ c.in_err-refuse_unread.ensures.refuses c.in_err-refuse_unread.ensures.unread)
-
-pub returns-in_err-refuse_unread-clause-stands : goal.returns-in_err-refuse_unread-clause-stands
-returns-in_err-refuse_unread-clause-stands c =
-    err_exit _ (RefusesBy (IsUnreadOrFault (object_of c.args.zones.now) c.args.purpose c.args.properties.now)) _ c.from_residual.ensures.1
-    (inl (c.in_err-refuse_unread.ensures.refuses, c.in_err-refuse_unread.ensures.unread))
-
-pub returns-clause-refuses : goal.returns-clause-refuses
-returns-clause-refuses c =
+pub returns-in_err-uid-clause-stands : goal.returns-in_err-uid-clause-stands
+returns-in_err-uid-clause-stands c =
+    let m = method_read c.args.purpose in
     let object = object_of c.args.zones.now in
-    let purpose = c.args.purpose in
-    let lines = c.args.properties.now in
-    IfErr-weaker _ (RefusesBy (EventFault object (method_read purpose) lines)) (RefusesOnly (is_fault_for purpose))
-    (refused_for object purpose lines) c.read_values.ensures.stands
+    err_exit _ (RefusesBy (EventFault object m c.args.properties.now)) _ c.from_residual.ensures.1 (c.in_err-uid.ensures.stands object m)
 
-pub returns-clause-stands : goal.returns-clause-stands
-returns-clause-stands c =
+pub returns-in_err-organiser-clause-stands : goal.returns-in_err-organiser-clause-stands
+returns-in_err-organiser-clause-stands c =
     let object = object_of c.args.zones.now in
-    let purpose = c.args.purpose in
+    err_exit _ (RefusesBy (EventFault object (method_read c.args.purpose) c.args.properties.now)) _ c.from_residual-in_err-organiser.ensures.1
+    (c.in_err-organiser.ensures.stands object)
+
+pub returns-in_err-cancelled-clause-stands : goal.returns-in_err-cancelled-clause-stands
+returns-in_err-cancelled-clause-stands c =
+    let P = EventFault (object_of c.args.zones.now) (method_read c.args.purpose) c.args.properties.now in
+    err_exit _ (RefusesBy P) _ c.from_residual-in_err-cancelled.ensures.1
+    (subst P (sym c.in_err-cancelled.ensures.refuses) (twice (codes "STATUS") (4, omega arith, refl) c.in_err-cancelled.ensures.twice))
+
+pub returns-in_err-said_recurrence-clause-stands : goal.returns-in_err-said_recurrence-clause-stands
+returns-in_err-said_recurrence-clause-stands c =
+    let object = object_of c.args.zones.now in
+    let m = method_read c.args.purpose in
+    err_exit _ (RefusesBy (EventFault object m c.args.properties.now)) _ c.from_residual-in_err-said_recurrence.ensures.1
+    (in_occurrences (c.in_err-said_recurrence.ensures.stands (adds_instances m)))
+
+pub returns-in_err-said_additions-clause-stands : goal.returns-in_err-said_additions-clause-stands
+returns-in_err-said_additions-clause-stands c =
+    let object = object_of c.args.zones.now in
+    let m = method_read c.args.purpose in
     let lines = c.args.properties.now in
-    IfErr-weaker _ (RefusesBy (EventFault object (method_read purpose) lines)) (RefusesBy (IsUnreadOrFault object purpose lines))
-    (λ f h. weaker_fault f (EventFault object (method_read purpose) lines) (IsUnreadOrFault object purpose lines) (λ n x. inr x) h) c.read_values.ensures.stands
+    err_exit _ (RefusesBy (EventFault object m lines)) _ c.from_residual-in_err-said_additions.ensures.1
+    (weaker_fault _ (EntriesFault object (codes "RDATE") (entries_named (codes "RDATE") lines)) (EventFault object m lines) (λ n h. in_occurrences (bad_additions h))
+    c.in_err-said_additions.ensures.stands)
+
+pub returns-in_err-said_exceptions-clause-stands : goal.returns-in_err-said_exceptions-clause-stands
+returns-in_err-said_exceptions-clause-stands c =
+    let object = object_of c.args.zones.now in
+    let m = method_read c.args.purpose in
+    let lines = c.args.properties.now in
+    err_exit _ (RefusesBy (EventFault object m lines)) _ c.from_residual-in_err-said_exceptions.ensures.1
+    (weaker_fault _ (EntriesFault object (codes "EXDATE") (entries_named (codes "EXDATE") lines)) (EventFault object m lines) (λ n h. in_occurrences (bad_exceptions h))
+    c.in_err-said_exceptions.ensures.stands)
+
+pub returns-in_err-recurrence-clause-stands : goal.returns-in_err-recurrence-clause-stands
+returns-in_err-recurrence-clause-stands c =
+    let object = object_of c.args.zones.now in
+    let m = method_read c.args.purpose in
+    let lines = c.args.properties.now in
+    err_exit _ (RefusesBy (EventFault object m lines)) _ c.from_residual-in_err-recurrence.ensures.1
+    (in_occurrences (c.in_err-recurrence.ensures.stands object lines c.in_ok-said_recurrence.ensures.said (adds_instances m)))
+
+pub returns-in_err-additions-clause-stands : goal.returns-in_err-additions-clause-stands
+returns-in_err-additions-clause-stands c =
+    let object = object_of c.args.zones.now in
+    let m = method_read c.args.purpose in
+    let lines = c.args.properties.now in
+    err_exit _ (RefusesBy (EventFault object m lines)) _ c.from_residual-in_err-additions.ensures.1
+    (in_occurrences (c.in_err-additions.ensures.stands object lines c.in_ok-said_additions.ensures.listed (adds_instances m)))
+
+pub returns-in_err-refuse_recurring_instance-clause-stands : goal.returns-in_err-refuse_recurring_instance-clause-stands
+returns-in_err-refuse_recurring_instance-clause-stands c =
+    let m = method_read c.args.purpose in
+    let lines = c.args.properties.now in
+    let P = EventFault (object_of c.args.zones.now) m lines in
+    err_exit _ (RefusesBy P) _ c.from_residual-in_err-refuse_recurring_instance.ensures.1
+    (subst P (sym c.in_err-refuse_recurring_instance.ensures.number)
+    (in_occurrences (recurs (ap (λ b. recurs_as_instance b lines) (sym c.adds_instances.ensures) ∙ c.in_err-refuse_recurring_instance.ensures.recurs))))
+
+pub returns-in_err-said-clause-stands : goal.returns-in_err-said-clause-stands
+returns-in_err-said-clause-stands c =
+    let object = object_of c.args.zones.now in
+    let m = method_read c.args.purpose in
+    let lines = c.args.properties.now in
+    err_exit _ (RefusesBy (EventFault object m lines)) _ c.from_residual-in_err-said.ensures.1
+    (in_times (subst (λ (b : Bool). EventTimesFault b object lines c.in_err-said.field-0.0.number) c.may_lack_start.ensures c.in_err-said.ensures.stands))
+
+pub returns-in_err-said_rule-clause-stands : goal.returns-in_err-said_rule-clause-stands
+returns-in_err-said_rule-clause-stands c =
+    let object = object_of c.args.zones.now in
+    let m = method_read c.args.purpose in
+    let lines = c.args.properties.now in
+    err_exit _ (RefusesBy (EventFault object m lines)) _ c.from_residual-in_err-said_rule.ensures.1
+    (weaker_fault _ (EventRuleFault object lines) (EventFault object m lines) (λ n h. in_rule h) (c.in_err-said_rule.ensures.stands object))
+
+pub returns-in_err-attendees-clause-stands : goal.returns-in_err-attendees-clause-stands
+returns-in_err-attendees-clause-stands c =
+    let object = object_of c.args.zones.now in
+    let m = method_read c.args.purpose in
+    err_exit _ (RefusesBy (EventFault object m c.args.properties.now)) _ c.from_residual-in_err-attendees.ensures.1 (c.in_err-attendees.ensures.stands object m)
+
+pub returns-in_err-times-clause-stands : goal.returns-in_err-times-clause-stands
+returns-in_err-times-clause-stands c =
+    let object = object_of c.args.zones.now in
+    let m = method_read c.args.purpose in
+    let lines = c.args.properties.now in
+    err_exit _ (RefusesBy (EventFault object m lines)) _ c.from_residual-in_err-times.ensures.1
+    (in_times (c.in_err-times.ensures.stands (may_lack_start m) object lines (subst (λ (b : Bool). AreSaidBy b object lines c.in_ok-said.said) c.may_lack_start.ensures c.in_ok-said.ensures.said)))
+
+pub returns-in_err-rule-clause-stands : goal.returns-in_err-rule-clause-stands
+returns-in_err-rule-clause-stands c =
+    let object = object_of c.args.zones.now in
+    let m = method_read c.args.purpose in
+    let lines = c.args.properties.now in
+    err_exit _ (RefusesBy (EventFault object m lines)) _ c.from_residual-in_err-rule.ensures.1
+    (weaker_fault _ (EventRuleFault object lines) (EventFault object m lines) (λ n h. in_rule h)
+    (c.in_err-rule.ensures.stands (may_lack_start m) object lines c.in_ok-said_rule.ensures.said c.has.ensures
+    (c.in_ok-times.ensures.says (may_lack_start m) object lines (subst (λ (b : Bool). AreSaidBy b object lines c.in_ok-said.said) c.may_lack_start.ensures c.in_ok-said.ensures.said))))
+
+pub returns-clause-says : goal.returns-clause-says
+returns-clause-says c = record {
+  uid = c.in_ok-uid.ensures.reads;
+  organiser = c.in_ok-organiser.ensures.reads;
+  stamp = c.in_ok-stamp.ensures.reads;
+  sequence = c.in_ok-sequence.ensures.reads;
+  status = c.in_ok-cancelled.ensures.reads;
+  times =
+      let object = object_of c.args.zones.now in
+      let lines = c.args.properties.now in
+      let may = may_lack_start (method_read c.args.purpose) in
+      c.in_ok-times.ensures.says may object lines (subst (λ (b : Bool). AreSaidBy b object lines c.in_ok-said.said) c.may_lack_start.ensures c.in_ok-said.ensures.said);
+  rule = c.in_ok-rule.ensures.says c.args.properties.now c.in_ok-said_rule.ensures.said c.has.ensures;
+  occurrences =
+      let object = object_of c.args.zones.now in
+      let lines = c.args.properties.now in
+      let added = c.in_ok-additions.ensures.says object lines c.in_ok-said_additions.ensures.listed in
+      record {
+        is = c.in_ok-recurrence.ensures.says object lines c.in_ok-said_recurrence.ensures.said;
+        adds = added.0;
+        inside = added.1;
+        takes = c.in_ok-said_exceptions.ensures.listed.lists;
+        alone = ap (λ b. recurs_as_instance b lines) (sym c.adds_instances.ensures) ∙ c.in_ok-refuse_recurring_instance.ensures.alone;
+      };
+  attendees = c.in_ok-attendees.ensures.reads;
+}

@@ -9,9 +9,8 @@ use Rattle.ical_tree.specs.declared.component.Component.{Component}
 use Rattle.profile.specs.text.Trees.{Tree}
 use Rattle.profile.specs.faults.Faults.{is_calendar_fault}
 use Rattle.profile.specs.checker.Calendars.{CalendarFault}
-use Rattle.profile.specs.events.Events.{SaysEvent}
-use Rattle.cal_events.specs.declared.component.Purpose.TheVariants.{Meeting}
-use Rattle.cal_events.specs.Events.{event_of, vevents_of, IsUnreadOrFault}
+use Rattle.profile.specs.events.Events.{EventFault, SaysEvent}
+use Rattle.cal_events.specs.Events.{event_of, vevents_of}
 use Rattle.cal_events.specs.Drafts.{IsDraft}
 use Rattle.cal_events.proofs.EventLemmas.{push_zip}
 use Rattle.cal_events.proofs.ReadingLemmas.{events_in, is_among, take_other, take_event, event_stands}
@@ -33,7 +32,7 @@ returns-in_err-event-clause-stands c =
     let here = subst (λ (l : List Component). x ≡ get_or l i x) same c.component-item.is in
     err_exit _ (RefusesBy (CalendarFault (tree_of object))) _ c.from_residual-in_err-event.ensures.1
     (event_stands (tree_of object) (vevents_of object) (component_lines x) _ (vevents_tree object) (is_among all i x within here (sym c.if-is_named.ensures))
-    (subst (λ (t : Tree). RefusesBy (IsUnreadOrFault t Meeting (component_lines x)) c.in_err-event.field-0.0) (ap tree_of c.in_ok-zones.ensures.object) c.in_err-event.ensures.stands))
+    (subst (λ (t : Tree). RefusesBy (EventFault t None (component_lines x)) c.in_err-event.field-0.0) (ap tree_of c.in_ok-zones.ensures.object) c.in_err-event.ensures.stands))
 
 pub loop-component-preserved : goal.loop-component-preserved
 loop-component-preserved c =

@@ -1,28 +1,21 @@
-use Rattle.std.proofs.Common.{◌≡◌, sym, subst, ap, true, false, inl, inr, Bool, List, map, ℕ}
+use Rattle.std.proofs.Common.{◌≡◌, sym, subst, ap, map}
 use Rattle.std.specs.Prelude.{option_map, None}
-use Rattle.std.specs.Option.{option_to_list}
-use Rattle.std.specs.List.{list_any}
 use Rattle.ical_lines.specs.Fault.{RefusesBy}
 use Rattle.ical_tree.specs.Tree.{tree_of}
-use Rattle.profile.specs.events.Meetings.{Meeting as Said, SaysMeeting, MeetingFault}
+use Rattle.profile.specs.events.Meetings.{SaysMeeting, MeetingFault}
 use Rattle.profile.specs.checker.Instances.{Booked}
 use Rattle.ical_values.proofs.Exits.{err_exit}
-use Rattle.cal_events.specs.declared.component.Purpose.TheVariants.{Meeting}
 use Rattle.cal_events.specs.Events.{event_of}
-use Rattle.cal_events.specs.OneMeeting.{IsUnreadOrNoMeeting, meeting_of}
+use Rattle.cal_events.specs.OneMeeting.{meeting_of}
 use Rattle.cal_events.specs.SaidMeetings.{said_meeting}
-use Rattle.cal_events.proofs.ZonedLemmas.{weaker_fault}
 use Rattle.cal_events.proofs.OneInstance.{one_at, dated}
 use Rattle.cal_events.proofs.Clocks.{all_clocks, master_good}
-use Rattle.cal_events.proofs.MeetingLemmas.{all_read}
 use Rattle.profile.specs.text.Trees.{vevents}
 use Rattle.cal_events.proofs.event.Event.of_object.Goals as goal
 
 pub returns-in_err-components-clause-stands : goal.returns-in_err-components-clause-stands
 returns-in_err-components-clause-stands c =
-    let object = tree_of c.args.object.now in
-    err_exit _ (RefusesBy (MeetingFault object None)) _ c.from_residual.ensures.1
-    (weaker_fault _ (IsUnreadOrNoMeeting object Meeting) (MeetingFault object None) (all_read object) c.in_err-components.ensures.stands)
+    err_exit _ (RefusesBy (MeetingFault (tree_of c.args.object.now) None)) _ c.from_residual.ensures.1 c.in_err-components.ensures.stands
 
 pub into_event-requires-clause-clock : goal.into_event-requires-clause-clock
 into_event-requires-clause-clock c =

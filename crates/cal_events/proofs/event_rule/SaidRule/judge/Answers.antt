@@ -1,20 +1,35 @@
+use Rattle.std.proofs.Common.{◌≡◌, ◌∙◌, codes, subst, sym, inl, inr, rules}
+use Rattle.std.specs.Prelude.{Option, Some}
 use Rattle.ical_lines.specs.Fault.{RefusesBy}
-use Rattle.profile.specs.events.EventRules.{IsOutside, EventRuleFault}
+use Rattle.profile.specs.series.Rules.{Parts, RuleText}
+use Rattle.profile.specs.events.Properties.{BothOrNeither, is_of}
+use Rattle.profile.specs.events.ZonedTimes.{clock_of}
+use Rattle.profile.specs.events.EventRules.{GivesRule, IsOutside, EventRuleFault}
 use Rattle.cal_events.specs.Events.{times_of}
 use Rattle.ical_values.proofs.Exits.{err_exit}
-use Rattle.std.proofs.Common.{◌≡◌, subst, inl, inr}
-use Rattle.profile.specs.events.ZonedTimes.{clock_of}
-use Rattle.cal_events.proofs.RuleLemmas.{outside_stands, rule_there}
+use Rattle.cal_events.proofs.RuleLemmas.{outside_stands, some_named, says_beside, says_without}
 use Rattle.cal_events.proofs.ZonedLemmas.{weaker_fault}
 use Rattle.cal_events.proofs.event_rule.SaidRule.judge.Goals as goal
 
-pub returns-in_err-rule_from-in-Some-clause-stands : goal.returns-in_err-rule_from-in-Some-clause-stands
-returns-in_err-rule_from-in-Some-clause-stands c may object lines said times missing =
+pub returns-in-Some-clause-says : goal.returns-in-Some-clause-says
+returns-in-Some-clause-says c lines said has = says_without lines (times_of c.args.times.now) c.args.self.text said (sym has ∙ c.if-not-has_start.true)
+
+pub returns-in_ok-rule_from-in-Some-2-clause-says : goal.returns-in_ok-rule_from-in-Some-2-clause-says
+returns-in_ok-rule_from-in-Some-2-clause-says c lines said has =
     let t = times_of c.args.times.now in
+    let rule : Parts = c.in_ok-rule_from-in-Some-2.field-0 in
+    let gives : GivesRule (clock_of t.zone) t.local c.in-Some-2.text rule = search rules in
+    says_beside lines t c.args.self.text said (Some rule) (sym has ∙ c.if-not-has_start.false)
+    (subst (λ (o : Option RuleText). BothOrNeither (GivesRule (clock_of t.zone) t.local) o (Some rule)) (sym c.in-Some-2.is) gives)
+
+pub returns-in_err-rule_from-in-Some-2-clause-stands : goal.returns-in_err-rule_from-in-Some-2-clause-stands
+returns-in_err-rule_from-in-Some-2-clause-stands c may object lines said has times =
+    let t = times_of c.args.times.now in
+    let outside : RefusesBy (λ n. (n ≡ 34) × IsOutside (clock_of t.zone) t.local c.in-Some-2.text) c.in_err-rule_from-in-Some-2.field-0.0 = search rules in
     err_exit _ (RefusesBy (EventRuleFault object lines)) _ c.from_residual.ensures.1
-    (weaker_fault _ (λ n. (n ≡ 34) × IsOutside (clock_of t.zone) t.local c.in-Some.text) (EventRuleFault object lines)
+    (weaker_fault _ (λ n. (n ≡ 34) × IsOutside (clock_of t.zone) t.local c.in-Some-2.text) (EventRuleFault object lines)
     (λ n h. elim times [
-      | inl starts ↦ outside_stands object lines t c.args.self.text c.in-Some.text n c.in-Some.is said starts h
-      | inr (may_lack, _) ↦ absurd (rule_there lines c.args.self.text c.in-Some.text c.in-Some.is said (missing may_lack))
+      | inl starts ↦ outside_stands object lines t c.args.self.text c.in-Some-2.text n c.in-Some-2.is said starts h
+      | inr (_, none) ↦ absurd (some_named (is_of (codes "DTSTART")) lines (sym has ∙ c.if-not-has_start.false) none.missing)
     ])
-    (subst (λ x. RefusesBy (λ n. (n ≡ 34) × IsOutside (clock_of t.zone) t.local x) c.in_err-rule_from-in-Some.field-0.0) c.in-Some.text-is c.in_err-rule_from-in-Some.ensures.outside))
+    outside)

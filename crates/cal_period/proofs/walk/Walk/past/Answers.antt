@@ -1,6 +1,10 @@
-use Rattle.cal_period.proofs.Going.{gone_past}
+use Rattle.cal_period.proofs.Going.{gone_past, gone_on}
 use Rattle.cal_period.proofs.walk.Walk.past.Goals as goal
 
-pub returns : goal.returns
-returns c = λ series old new stands given.
-    gone_past series old new c.args.self.now stands c.args.next c.requires c.args.after given c.later_end.result c.saturating_add.result c.later_end.ensures c.saturating_add.ensures
+pub returns-clause-stands : goal.returns-clause-stands
+returns-clause-stands c = λ series old new s given.
+    gone_past series old new c.args.self.now s.ahead c.args.next c.requires c.args.after given s.last s.count c.later_end.result c.saturating_add.result c.later_end.ensures c.saturating_add.ensures
+
+pub returns-clause-tail : goal.returns-clause-tail
+returns-clause-tail c = λ series by old new t given.
+    gone_on series old new c.args.self.now t.ahead c.args.next c.requires c.args.after given by t.last c.later_end.result c.saturating_add.result c.later_end.ensures

@@ -10,5 +10,6 @@ returns c = record {
   moment_is = refl;
   outcome = refl;
   singles = λ history s. c.in_ok-singles.ensures.left history s ∙ ap (left_in history (part_of c.args.claim.now.part)) c.deref.ensures.value;
+  series = λ history s. c.in_ok-series.ensures.left history s;
   part = subst (IsPartOf c.in_ok-singles.singles.items) c.deref.ensures.value c.in_ok-singles.ensures.part;
 }

@@ -11,6 +11,7 @@ returns-clause-left c = record {
   moment = refl;
   outcome = search rules;
   singles = λ history s. c.in_ok-singles.ensures.left history s ∙ ap (left_beside c.args.slots.now history (part_of c.args.part.now)) c.deref.ensures.value;
+  series = λ history s. c.in_ok-series.ensures.left history s;
 }
 
 pub returns-clause-sheds : goal.returns-clause-sheds

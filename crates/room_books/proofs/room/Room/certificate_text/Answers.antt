@@ -1,13 +1,14 @@
--- The count is that of the book's confirmed instances.
-use Rattle.std.proofs.Common.{◌∙◌, length, ap}
+-- The counts are those of what the book confirms.
+use Rattle.std.proofs.Common.{◌∙◌, length}
 use Rattle.profile.specs.checker.Certificates.{text_of}
-use Rattle.clash_cert.proofs.MakingLemmas.{singles_alone}
-use Rattle.room_books.specs.Views.{all_confirmed}
-use Rattle.room_books.proofs.Entries.{as_many}
+use Rattle.room_books.specs.Views.{all_confirmed, all_recurring}
+use Rattle.room_books.proofs.Entries.{as_many, as_many_series}
 use Rattle.room_books.proofs.room.Room.certificate_text.Goals as goal
 
 pub returns : goal.returns
 returns c = λ book st.
     let entries = c.args.self.now.meetings.entries in
-    let is_made = c.in_ok-made.ensures.clear.1 (singles_alone (all_confirmed entries) c.args.self.now.clear) in
-    c.in_ok-octets.ensures (length (all_confirmed entries)) 0 is_made c.in_ok-made.ensures.counted ∙ ap (λ n. text_of (record { singles = n; series = 0 })) (as_many entries book st c.keys_differ.ensures)
+    let is_made = c.in_ok-made.ensures.clear.1 c.args.self.now.series_clear in
+    let singles = as_many entries book st c.keys_differ.ensures in
+    let series = as_many_series entries book st c.keys_differ.ensures in
+    c.in_ok-octets.ensures (length (all_confirmed entries)) (length (all_recurring entries)) is_made c.in_ok-made.ensures.counted ∙ (λ i. text_of (record { singles = singles i; series = series i }))

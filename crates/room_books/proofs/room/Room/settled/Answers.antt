@@ -11,7 +11,7 @@ use Rattle.room_books.specs.Takings.{StandsAt, AreAsked, IsAnswered, answers_by,
 use Rattle.itip_order.specs.declared.part.Slot.{Slot as OwnSlot}
 use Rattle.room_books.specs.Touching.{AllTouch}
 use Rattle.room_books.specs.Standing.{KeepsAll, book_of}
-use Rattle.room_books.specs.Views.{same_key, others, all_singles, singles_by}
+use Rattle.room_books.specs.Views.{same_key, all_series, all_singles, beside, series_by, singles_by, AreFewer}
 use Rattle.cal_events.specs.declared.instance.Single.{Single}
 use Rattle.room_books.specs.Instants.{IsParted}
 use Rattle.room_books.proofs.Answered.{answered_reordered}
@@ -40,8 +40,8 @@ returns-clause-after c = λ is_key fit book st meeting is.
     let outcome = c.in_ok-answered.answered.outcome in
     let asked = c.deref-2.result.now in
     let after_it = answers_then (answers_by (lookup (same_key k) es)) c.in_ok-answered.answered.changes in
-    let answered = subst (λ (l : List revisions.Part). IsAnswered (others k es) k l c.args.now kept asked meeting.answers.items outcome) (sym is.held_is)
-    (answered_reordered (others k es) k held c.args.now kept asked after_it meeting.answers.items outcome is.answers_are c.in_ok-answered.ensures.answered) in
+    let answered = subst (λ (l : List revisions.Part). IsAnswered (beside k es) k l c.args.now kept asked meeting.answers.items outcome) (sym is.held_is)
+    (answered_reordered (beside k es) k held c.args.now kept asked after_it meeting.answers.items outcome is.answers_are c.in_ok-answered.ensures.answered) in
     meeting_after k es c.keys_differ.ensures book st claims fit c.args.now part (is_of_from k part is_key.organiser_is is_key.uid_is) c.requires.some
     meeting (subst (λ (l : List revisions.Part). StandsFor l (own.taken ++ parts_of (claims_said claims))) (sym is.held_is) now) kept c.deref.result.now touches (subst (λ (l : List revisions.Part). KeepsAll part c.deref.result.now (lookup (same_key k) es) l kept) (sym is.held_is) keeps) asked are c.in_ok-kind.kind outcome
     answered (c.in_ok-kind.ensures own.taken (own.taken ++ parts_of (claims_said claims)) stood now)
@@ -62,3 +62,9 @@ answers_after-requires-clause-parted c =
     let lost = c.in_ok-lost.field-0.lost.items in let left = c.in_ok-lost.field-0.left.items in let gone = c.in_ok-lost.field-0.gone.items in
     subst (λ (l : List Single). IsParted (singles_by (lookup (same_key k) es)) l (all_singles (kept_then (lookup (same_key k) es) lost left))) (sym c.deref-3.ensures.value)
     (subst (λ (o : Option Meeting). IsParted (singles_by o) gone (all_singles (kept_then o lost left))) c.get.ensures.value c.in_ok-lost.ensures.parted)
+
+pub answers_after-requires-clause-less : goal.answers_after-requires-clause-less
+answers_after-requires-clause-less c =
+    let k = c.args.key.now in let es = c.args.self.now.meetings.entries in
+    let lost = c.in_ok-lost.field-0.lost.items in let left = c.in_ok-lost.field-0.left.items in
+    subst (λ (o : Option Meeting). AreFewer (series_by o) (all_series (kept_then o lost left))) c.get.ensures.value c.in_ok-lost.ensures.fewer

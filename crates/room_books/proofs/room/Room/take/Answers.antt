@@ -3,7 +3,7 @@ use Rattle.std.proofs.Common.{◌≡◌, ◌∙◌, Bool, List, [], None, Some, 
 use Rattle.std.specs.Prelude.{slice_get}
 use Rattle.ical_values.specs.Octets.{address_octets}
 use Rattle.profile.specs.streams.Streams.{AreClaims}
-use Rattle.room_books.specs.declared.taking.Claim.{Claim}
+use Rattle.room_books.specs.declared.claim.Claim.{Claim}
 use Rattle.room_books.specs.Claiming.{AreClaimed}
 use Rattle.room_books.specs.Takings.{claims_said, kind_view, reply_octets, refresh_octets}
 use Rattle.room_books.specs.Standing.{StepsWith}

@@ -1,4 +1,4 @@
-use Rattle.std.proofs.Common.{◌≡◌, ◌∙◌, List, Option, sym, ap, subst}
+use Rattle.std.proofs.Common.{◌≡◌, ◌∙◌, List, [], Option, sym, ap, subst}
 use Rattle.std.specs.List.{Contains}
 use Rattle.std.specs.Prelude.{option_copied}
 use Rattle.itip_order.specs.Parts.{part_of, slot_of}
@@ -9,10 +9,11 @@ use Rattle.room_books.specs.BySlot.{givens, left_without, taken_at}
 use Rattle.room_books.specs.Instants.{IsParted, IsSplit}
 use Rattle.room_books.specs.Takings.{IsLeftAlone, kept_then}
 use Rattle.room_books.specs.Touching.{is_touched}
-use Rattle.room_books.specs.Views.{all_singles, singles_by}
+use Rattle.room_books.specs.Views.{all_series, all_singles, series_by, singles_by, AreFewer}
 use Rattle.room_books.specs.Standing.{KeepsAll, KeepsSome}
 use Rattle.room_books.proofs.Own.{keeps_new, keeps_all}
 use Rattle.room_books.proofs.Reordering.{re_parts}
+use Rattle.room_books.proofs.Fewer.{all_fewer, fewer_none}
 use Rattle.room_books.proofs.Splits.{whole_parted}
 use Rattle.room_books.proofs.taking.Views.kept.Goals as goal
 
@@ -47,3 +48,20 @@ returns-clause-parted c =
     subst (λ (o : Option Meeting). IsParted (singles_by o) gone (all_singles (kept_then o lost left))) (sym (ap option_copied c.in-Some.is))
     (whole_parted answers (taken_at lost answers) (left_without lost answers) left gone (re_parts (λ (g : Given). is_touched lost (slot_of g.slot)) answers)
     (subst (λ (l : List Given). IsSplit (all_singles l) gone (all_singles left)) out_is c.in_ok-kept.ensures.split))
+
+pub returns-in_default-clause-fewer : goal.returns-in_default-clause-fewer
+returns-in_default-clause-fewer c =
+    let lost = c.new.result.items in let left = c.new-in_default.result.items in
+    subst (λ (o : Option Meeting). AreFewer (series_by o) (all_series (kept_then o lost left))) (sym (ap option_copied c.in_default.is))
+    (subst (λ (l : List Given). AreFewer [] (all_series l)) (sym c.new-in_default.ensures.items) (fewer_none []))
+
+pub returns-clause-fewer : goal.returns-clause-fewer
+returns-clause-fewer c =
+    let meeting = c.in-Some.meeting.now in let answers = meeting.answers.items in
+    let lost = c.in_ok-kept.kept.lost.items in let left = c.in_ok-kept.kept.left.items in
+    let lost_is : lost ≡ c.in_ok-lost.lost.items = ap (λ v. v.items) c.in_ok-kept.ensures.lost in
+    let slots_are : c.deref-3.result.now ≡ lost = c.deref-3.ensures.value ∙ sym lost_is in
+    let out_is : givens c.deref-4.result.now ≡ taken_at lost answers = ap givens c.deref-4.ensures.value ∙ c.in_ok-out.ensures ∙ (λ i. taken_at (slots_are i) (c.deref-2.ensures.value i)) in
+    subst (λ (o : Option Meeting). AreFewer (series_by o) (all_series (kept_then o lost left))) (sym (ap option_copied c.in-Some.is))
+    (all_fewer answers (taken_at lost answers) (left_without lost answers) left (re_parts (λ (g : Given). is_touched lost (slot_of g.slot)) answers)
+    (subst (λ (l : List Given). AreFewer (all_series l) (all_series left)) out_is c.in_ok-kept.ensures.fewer))

@@ -1,0 +1,12 @@
+use Rattle.std.proofs.Common.{sym, subst}
+use Rattle.profile.specs.events.Events.{Event as Said}
+use Rattle.cal_events.specs.Instances.{HasGoodClock}
+use Rattle.cal_events.specs.Overlapping.{HaveOneEnd}
+use Rattle.cal_events.proofs.OwnSingles.{of_master}
+use Rattle.cal_events.proofs.series.Series.of_copy.Goals as goal
+
+pub of_master-requires-clause-clock : goal.of_master-requires-clause-clock
+of_master-requires-clause-clock c = subst HasGoodClock (sym c.in_ok-master.ensures) c.requires.clock
+
+pub of_master-requires-clause-ends : goal.of_master-requires-clause-ends
+of_master-requires-clause-ends c = subst (λ (e : Said). HaveOneEnd (of_master e)) (sym c.in_ok-master.ensures) c.requires.ends

@@ -1,0 +1,5 @@
+use Rattle.cal_events.proofs.RuleInstances.{listed_instances}
+use Rattle.cal_events.proofs.whole.listed_series.Goals as goal
+
+pub returns : goal.returns
+returns c = listed_instances

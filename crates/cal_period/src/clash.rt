@@ -1,0 +1,66 @@
+//! A search for a clash of two series. It goes past the starts of both from where the later of them begins, less a width, to the end of the one
+//! that ends first. No memory is taken.
+ghost use Rattle.cal_events.specs.SaidSeries.{series_said};
+ghost use Rattle.cal_period.specs.Onward.{IsSharedByPair, IsFirstStart, MeetFrom, IsEntry};
+
+use crate::abreast::{Turn, turn_of};
+use crate::walk::Walk;
+use cal_events::{Instance, Series, known_by_start};
+
+/// Two instances, one of each series, that share an instant before the horizon; None where the series are clear. It begins where the later of
+/// the two first can meet, ends where the shorter series ends, and stops at the first clash. No memory is taken.
+pub fn clash_of_pair<'a>(a: &'a Series, b: &'a Series) -> Option<(Instance<'a>, Instance<'a>)>
+    ensures { IsSharedByPair (series_said a.now) (series_said b.now) result }
+{
+    known_by_start();
+    let first = first_start(a)?;
+    let second = first_start(b)?;
+    clash_onward(a, b, first.max(second))
+}
+
+/// When the first instance of a series starts, if it has one.
+fn first_start(series: &Series) -> Option<i64>
+    ensures { IsFirstStart (series_said series.now) result }
+{
+    known_by_start();
+    let mut starts = series.starts(i64::MIN);
+    let first = starts.next()?;
+    Some(first.start)
+}
+
+/// Two instances, one of each series, that share an instant, where the later of the series begins at an instant.
+fn clash_onward<'a>(a: &'a Series, b: &'a Series, from: i64) -> Option<(Instance<'a>, Instance<'a>)>
+    requires { MeetFrom (series_said a.now) (series_said b.now) from }
+    ensures { IsSharedByPair (series_said a.now) (series_said b.now) result }
+{
+    known_by_start();
+    let mut of_a = a.starts(entry(a, from));
+    let mut of_b = b.starts(entry(b, from));
+    let mut first = Walk::to(of_a.next());
+    let mut second = Walk::to(of_b.next());
+    loop {
+        match turn_of(&first, &second) {
+            Turn::First(next) => {
+                if let Some(last) = second.met_by(next) {
+                    return Some((next, last));
+                }
+                first = first.past(next, of_a.next());
+            }
+            Turn::Second(next) => {
+                if let Some(last) = first.met_by(next) {
+                    return Some((last, next));
+                }
+                second = second.past(next, of_b.next());
+            }
+            Turn::Over => return None,
+        }
+    }
+}
+
+/// Where to enter a series: what starts earlier is over by an instant.
+fn entry(series: &Series, by: i64) -> i64
+    ensures { IsEntry (series_said series.now) by result }
+{
+    known_by_start();
+    by.saturating_sub(series.width())
+}

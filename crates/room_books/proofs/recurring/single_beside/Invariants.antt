@@ -1,0 +1,8 @@
+-- If none of those that are left shares an instant with an instance, none of all does.
+use Rattle.std.proofs.Common.{None}
+use Rattle.room_books.specs.Recurrings.{IsBesideOne}
+use Rattle.room_books.proofs.Recurrings.{HoldsIfLeft}
+use Rattle.room_books.proofs.recurring.single_beside.Given as goal
+
+abbrev pub invariant-loop-single : goal.invariant-loop-single
+invariant-loop-single l = HoldsIfLeft (λ single. IsBesideOne single l.all None) l.singles l.single-index
