@@ -331,6 +331,16 @@ def beside_many(count):
         yield recurring(ENDLESS_ONES, f"20250610T{9 + sequence % 2:02}0000Z", "FREQ=DAILY;COUNT=5", sequence)
 
 
+def cancelled_one_by_one(count):
+    """A request for a long weekly series, and then so many cancellations of one instance each."""
+    yield preamble(1)
+    yield recurring(0, "20250106T090000Z", "FREQ=WEEKLY;COUNT=20000")
+    cancel = REQUEST.replace("METHOD:REQUEST", "METHOD:CANCEL").replace("SEQUENCE:0", "SEQUENCE:1")
+    for number in range(count):
+        start = (datetime(2025, 1, 6, 9) + timedelta(weeks=number)).strftime("%Y%m%dT%H%M%SZ")
+        yield crlf(cancel.format(number=0, room=ROOM.format(0), start=start, extra=f"RECURRENCE-ID:{start}\n"))
+
+
 def after(program, pieces, accepted, first, first_accepted):
     """The seconds that a stream takes beyond those of its first part."""
     whole, peak, size = serve(program, pieces, accepted)
@@ -538,6 +548,7 @@ def main():
     grown("the same in New York", (2,), lambda count: serve(program, two_series(NEW_YORK), count), None)
     joined = lambda count: after(program, singles_then_series(count, 1), count + 1, singles_then_series(count, 0), count)
     grown("a daily series asked beside singles", (1_000, 9_999), joined, None)
+    grown("instances of a series cancelled", (1_000, 10_000), lambda count: serve(program, cancelled_one_by_one(count), 1), None)
     revised = lambda count: after(program, beside_many(count), ENDLESS_ONES + count, beside_many(0), ENDLESS_ONES)
     grown(f"revisions of a series beside {ENDLESS_ONES} endless", (100, REVISIONS), revised, None)
     for work, start, rule in RULES:
