@@ -11,6 +11,7 @@ use Rattle.profile.specs.events.Confirmed.{AreApart, AreOfRule}
 use Rattle.profile.specs.rooms.Messages.{Message, SpellsMessage, MessageTextFault, IsPart, AreBySlot, parts_for, is_add, Outcome}
 use Rattle.profile.specs.rooms.Rooms.{Claim, Book, Delivery, IsStep, empty_book, is_set}
 use Rattle.profile.specs.rooms.Kept.{Replies, Refreshes}
+use Rattle.profile.specs.organisers.Objects.{OrganiserObject, SpellsOrganiserObject}
 use Rattle.profile.specs.text.Values.{SpellsStamp, IsAddress, lower_case}
 
 -- ---- the preamble. The format is roombox's own
@@ -113,6 +114,14 @@ ObjectFault n octets =
     ⊎ (TreeFault n (logical_lines octets)
     ⊎ MessageTextFault octets n))
 
+-- the octets say something to an organiser. None is hosted yet
+abbrev pub IsForNobody : ℕ → List ℕ → Type 0
+IsForNobody n octets = (said : OrganiserObject) × SpellsOrganiserObject octets said × (n ≡ 70)
+
+-- the object is refused with this number
+abbrev pub IsRefusedWith : ℕ → List ℕ → Type 0
+IsRefusedWith n octets = ObjectFault n octets ⊎ IsForNobody n octets
+
 -- ---- the answers
 
 -- what is asked for where an event is to take place: all its instances, whichever of them other events stand for: those that its RRULE gives,
@@ -173,7 +182,7 @@ refused_line k n = codes "REFUSED;OBJECT=" ++ decimal k ++ codes ":" ++ decimal 
 abbrev pub Answers : ℤ → ℕ → List ℕ → List Hosted → List Hosted → List ℕ → ℕ → Type 0
 Answers moment k object before after octets refused =
     ((message : Message) × SpellsMessage object message × AllTake moment message before after octets × (refused ≡ 0))
-    ⊎ ((n : ℕ) × ObjectFault n object × (after ≡ before) × (octets ≡ refused_line k n) × (refused ≡ 1))
+    ⊎ ((n : ℕ) × IsRefusedWith n object × (after ≡ before) × (octets ≡ refused_line k n) × (refused ≡ 1))
 
 -- step by step the answers to objects from number k on, one behind another, and how many objects are refused
 abbrev pub AllAnswers : ℤ → ℕ → List (List ℕ) → List Hosted → List Hosted → List ℕ → ℕ → Type 0
