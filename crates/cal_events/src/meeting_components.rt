@@ -1,13 +1,14 @@
 //! The VEVENTs of one meeting (RFC 5545 3.8.4.4, RFC 5546 3.2): of one UID and one ORGANIZER, and each of another slot of it.
 
-ghost use Rattle.std.specs.Prelude.{◌≡◌, ◌≢◌, ◌<◌, Some, AllPairs, length, map, filter, option_map, IfOk, IfErr, OnOk, MatchBool};
+ghost use Rattle.std.specs.Prelude.{◌≡◌, ◌≢◌, ◌<◌, ◌≤◌, Some, List, AllPairs, length, map, filter, option_map, IfOk, IfErr, OnOk, MatchBool};
 ghost use Rattle.std.specs.Option.{option_to_list};
-ghost use Rattle.std.specs.List.{list_all};
+ghost use Rattle.std.specs.List.{list_all, AllZip};
 ghost use Rattle.ical_lines.specs.Fault.{RefusesOnly, RefusesBy};
 ghost use Rattle.ical_tree.specs.Tree.{tree_of};
-ghost use Rattle.profile.specs.events.Meetings.{as_added, events_of, is_same_meeting, is_master, is_override, taken_by, AreOfOne, SaysMeeting, MeetingFault};
-ghost use Rattle.cal_events.specs.Events.{event_of, method_read};
-ghost use Rattle.cal_events.specs.Meetings.{instants_said, IsNotOne};
+ghost use Rattle.profile.specs.events.Events.{Event, SaysEvent};
+ghost use Rattle.profile.specs.events.Meetings.{as_added, events_of, is_same_meeting, is_master, is_override, taken_by, AreOfOne, InstancesDiffer, SaysMeeting, MeetingFault};
+ghost use Rattle.cal_events.specs.Events.{event_of, method_read, vevents_of};
+ghost use Rattle.cal_events.specs.Meetings.{instants_said, IsNotOne, SharesSlot};
 
 use crate::component::{EventComponent, Purpose};
 use crate::instants::Instants;
@@ -52,6 +53,27 @@ impl MeetingComponents {
             return Err(Fault::Refused(Refusal::TWO_OVERRIDES));
         }
         Ok(divided)
+    }
+
+    /// The same in the order of the text, where none is added.
+    /// Refused: as by `read`.
+    pub fn read_in_order(
+        alloc: Global,
+        object: &Component,
+        purpose: Purpose,
+    ) -> Result<Vec<EventComponent>, Fault>
+        ensures says { IfOk result (λ events. AllZip (SaysEvent (tree_of object.now) (method_read purpose)) (vevents_of object.now) (map event_of events.items)) }
+        ensures some { IfOk result (λ events. 0 < length events.items) }
+        ensures one { IfOk result (λ events. AreOfOne (map event_of events.items)) }
+        ensures masters { IfOk result (λ events. length (filter is_master (map event_of events.items)) ≤ 1) }
+        ensures differ { IfOk result (λ events. InstancesDiffer (filter is_override (map event_of events.items))) }
+        ensures refuses { IfErr result (RefusesOnly is_components_fault) }
+        ensures stands { ((events : List Event) → taken_by (method_read purpose) events ≡ events) → IfErr result (RefusesBy (MeetingFault (tree_of object.now) (method_read purpose))) }
+    {
+        let components = read_events(alloc, object, purpose)?;
+        judge_meeting(&components)?;
+        judge_slots(alloc, &components)?;
+        Ok(components)
     }
 
     /// These, divided by RECURRENCE-ID.
@@ -167,6 +189,30 @@ fn is_same_meeting(a: &EventComponent, b: &EventComponent) -> bool
     ensures { result ≡ is_same_meeting (event_of a.now) (event_of b.now) }
 {
     a.uid.as_str() == b.uid.as_str() && a.organiser_text() == b.organiser_text()
+}
+
+/// Refuses components of which two are of one slot of their meeting.
+/// Refused: 53 for two without RECURRENCE-ID, 54 for two that stand for one instance. In time n log n.
+fn judge_slots(alloc: Global, components: &[EventComponent]) -> Result<(), Fault>
+    ensures masters { OnOk result (length (filter is_master (map event_of components.now)) ≤ 1) }
+    ensures differ { OnOk result (InstancesDiffer (filter is_override (map event_of components.now))) }
+    ensures stands { IfErr result (RefusesBy (SharesSlot (map event_of components.now))) }
+{
+    let mut masters = 0;
+    let mut instants = Vec::new(alloc);
+    for component in components {
+        match component.recurrence {
+            Some(instant) => instants.push(instant)?,
+            None => masters += 1,
+        }
+    }
+    if masters > 1 {
+        return Err(Fault::Refused(Refusal::TWO_MASTERS));
+    }
+    if Instants::of(instants).has_twins() {
+        return Err(Fault::Refused(Refusal::TWO_OVERRIDES));
+    }
+    Ok(())
 }
 
 /// Whether two of the instants are one. In time n log n; it fails only for memory.

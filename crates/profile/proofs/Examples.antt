@@ -17,7 +17,7 @@ use Rattle.profile.specs.rooms.Messages.{Accept, SinglesLimit, Message, no_conte
 use Rattle.profile.specs.checker.Instances.{Booked}
 use Rattle.profile.specs.rooms.Rooms.{Answer, Book, Claim, confirmed_singles, confirmed_series, empty_book, is_confirmed, is_hidden, wants_whole}
 use Rattle.profile.specs.rooms.Kept.{IsKept, kept_certificate, first_parts, each_once, renamed}
-use Rattle.profile.specs.streams.Streams.{Now, Room, moments, rooms, refused_line, AreObjects}
+use Rattle.profile.specs.streams.Streams.{Now, Room, moments, organisers, Organiser, rooms, refused_line, AreObjects}
 
 -- ---- lists of refusals
 
@@ -351,6 +351,9 @@ refused_for_its_size = rw (decimal_digit 1 (lit< tt), decimal_digit 6 (lit< tt))
 
 the_moment : moments (Room (codes "r:1") ∷ Now (pos 5) ∷ Room (codes "r:2") ∷ []) ≡ pos 5 ∷ []
 the_moment = refl
+
+the_organisers : organisers (Organiser (codes "m:a") ∷ Now (pos 5) ∷ Room (codes "r:2") ∷ []) ≡ codes "m:a" ∷ []
+the_organisers = refl
 
 the_rooms : rooms (Room (codes "r:1") ∷ Now (pos 5) ∷ Room (codes "r:2") ∷ []) ≡ codes "r:1" ∷ codes "r:2" ∷ []
 the_rooms = refl

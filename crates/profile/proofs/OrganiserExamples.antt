@@ -1,10 +1,10 @@
 -- Worked examples of what an organiser keeps, sends and shows (RFC 6638 3.2, RFC 5546 2.1.4, 2.1.5).
 use Rattle.std.proofs.Common.{◌≡◌, ℕ, ℤ, pos, Bool, true, false, List, [], ◌∷◌, codes, Option, None, Some, refl, lit<}
-use Rattle.profile.specs.events.Events.{Event, Attendee, NeedsAction, Tentative, Accepted, Delegated, Declined, Participation}
-use Rattle.profile.specs.rooms.Revisions.{Slot, Whole, At}
+use Rattle.profile.specs.events.Events.{Event, Attendee, NeedsAction, Accepted, Declined, Participation}
+use Rattle.profile.specs.rooms.Revisions.{Whole, At}
 use Rattle.profile.specs.organisers.Objects
 use Rattle.profile.specs.organisers.Objects.{has_one_attendee, counted, NamesOperation}
-use Rattle.profile.specs.organisers.Organisers.{Stored, Heard, OrganiserBook, attendees_of, scheduled_in, without, is_attendee, is_called_off, own_sequence, sequence_after, answers_store, IsLatestOf, IsSeenOf, heard_in}
+use Rattle.profile.specs.organisers.Organisers.{Stored, Heard, OrganiserBook, attendees_of, scheduled_in, without, is_attendee, is_called_off, sequence_after, answers_store, IsSeenOf}
 
 abbrev ann : List ℕ
 ann = codes "m:ann"
