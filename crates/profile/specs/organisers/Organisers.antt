@@ -186,10 +186,10 @@ participation_word Declined = codes "DECLINED"
 abbrev pub sent_status : Bool → List ℕ
 sent_status sent = if sent then codes ";SCHEDULE-STATUS=1.1" else []
 
--- the line of an attendee: what is seen of it for the slot of the event, and whether it was sent the meeting
-abbrev pub ShowsSeen : OrganiserBook → Stored → Event → Attendee → List ℕ → Type 0
-ShowsSeen book stored event attendee line =
-    (answer : Participation) × IsSeenOf book stored (slot_of event) attendee.address answer
+-- the line of an attendee of this slot: what is seen of it, and whether it was sent the meeting
+abbrev pub ShowsSeen : OrganiserBook → Stored → Slot → Attendee → List ℕ → Type 0
+ShowsSeen book stored slot attendee line =
+    (answer : Participation) × IsSeenOf book stored slot attendee.address answer
     × (line ≡ codes "ATTENDEE;PARTSTAT=" ++ participation_word answer
     ++ sent_status (list_any (bytes_eq attendee.address) (scheduled_in stored.events)) ++ codes ":" ++ attendee.address)
 

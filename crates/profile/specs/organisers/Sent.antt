@@ -6,7 +6,7 @@ use Rattle.std.specs.List.{flat_map, AllZip}
 use Rattle.profile.specs.text.Lines.{written}
 use Rattle.profile.specs.text.Values.{WritesStamp, escaped}
 use Rattle.profile.specs.events.Events.{Attendee, Event}
-use Rattle.profile.specs.rooms.Revisions.{Revision}
+use Rattle.profile.specs.rooms.Revisions.{Slot, Revision}
 use Rattle.profile.specs.rooms.Messages.{Content, IsContent, TellsSlot, slot_of, opening_lines, object_lines}
 use Rattle.profile.specs.organisers.Objects.{counted}
 use Rattle.profile.specs.rooms.Kept.{each_once, zone_texts, IsNamed, renamed}
@@ -28,7 +28,7 @@ abbrev pub Component : Type 0
 Component = Event × Content
 
 -- the VEVENT of an event, where these are the zones of the object and each attendee has such a line
-pub record IsComponentText (organiser uid : List ℕ) (revision : Revision) (zones : List (List ℕ)) (IsLine : Event → Attendee → List ℕ → Type 0)
+pub record IsComponentText (organiser uid : List ℕ) (revision : Revision) (zones : List (List ℕ)) (IsLine : Slot → Attendee → List ℕ → Type 0)
     (component : Component) (lines : List (List ℕ)) : Type 0 where
   pub slot : List (List ℕ)
   pub tells_slot : TellsSlot (slot_of component.0) slot
@@ -37,7 +37,7 @@ pub record IsComponentText (organiser uid : List ℕ) (revision : Revision) (zon
   pub name : List ℕ
   pub named : IsNamed zones component.1.zone name
   pub attendees : List (List ℕ)
-  pub each : AllZip (IsLine component.0) (counted component.0.attendees) attendees
+  pub each : AllZip (IsLine (slot_of component.0)) (counted component.0.attendees) attendees
   pub is : lines ≡ (codes "BEGIN:VEVENT" ∷ (codes "UID:" ++ escaped uid) ∷ slot) ++ dated
       ++ map (renamed (codes "DTSTART;TZID=Z") (codes "DTSTART;TZID=" ++ name)) component.1.lines
       ++ status_lines component.0.cancelled
@@ -55,7 +55,7 @@ IsComponentOf event component = (component.0 ≡ event) × IsContent component.1
 
 -- the octets are an object with this METHOD, or with none: its zones, and then the VEVENTs of these events in their order. Numbers below
 -- 2 ^ 64 name the zones
-pub record IsMeetingText (method : Option (List ℕ)) (organiser uid : List ℕ) (revision : Revision) (IsLine : Event → Attendee → List ℕ → Type 0)
+pub record IsMeetingText (method : Option (List ℕ)) (organiser uid : List ℕ) (revision : Revision) (IsLine : Slot → Attendee → List ℕ → Type 0)
     (events : List Event) (octets : List ℕ) : Type 0 where
   pub components : List Component
   pub are : AllZip IsComponentOf events components
@@ -68,8 +68,8 @@ pub record IsMeetingText (method : Option (List ℕ)) (organiser uid : List ℕ)
 -- ---- what is sent
 
 -- each attendee is asked to answer (RFC 5545 3.2.12, 3.2.17)
-abbrev pub IsAsked : Event → Attendee → List ℕ → Type 0
-IsAsked event attendee line = line ≡ codes "ATTENDEE;PARTSTAT=NEEDS-ACTION;RSVP=TRUE:" ++ attendee.address
+abbrev pub IsAsked : Slot → Attendee → List ℕ → Type 0
+IsAsked slot attendee line = line ≡ codes "ATTENDEE;PARTSTAT=NEEDS-ACTION;RSVP=TRUE:" ++ attendee.address
 
 -- the octets are the REQUEST of a meeting with these events
 abbrev pub IsRequest : List ℕ → List ℕ → Revision → List Event → List ℕ → Type 0

@@ -9,7 +9,7 @@ use Rattle.cal_events.proofs.EventLemmas.{push_zip}
 use Rattle.profile.specs.events.Events.{Event}
 use Rattle.itip_order.specs.Parts.{revision_of}
 use Rattle.itip_messages.specs.Messages.{SaysComponent, method_said}
-use Rattle.itip_messages.proofs.message.components_of.Goals as goal
+use Rattle.itip_messages.proofs.room_message.components_of.Goals as goal
 
 pub of-requires : goal.of-requires
 of-requires c =

@@ -5,7 +5,7 @@ use Rattle.std.proofs.lemmas.Option.{same_Some}
 use Rattle.ical_values.specs.Octets.{address_octets}
 use Rattle.ical_values.specs.declared.address.Address.{Address}
 use Rattle.cal_events.specs.declared.component.EventComponent.{EventComponent}
-use Rattle.itip_messages.proofs.message.name_of.Goals as goal
+use Rattle.itip_messages.proofs.room_message.name_of.Goals as goal
 
 first_at : (xs : List EventComponent) (x : EventComponent) → Some x ≡ slice_get xs 0 → Contains xs x
 first_at [] x e = absurd (cc)

@@ -3,7 +3,7 @@ use Rattle.std.specs.List.{AllZip}
 use Rattle.cal_events.specs.Events.{event_of}
 use Rattle.itip_order.specs.Parts.{revision_of}
 use Rattle.itip_messages.specs.Messages.{SaysComponent, method_said}
-use Rattle.itip_messages.proofs.message.components_of.Given as goal
+use Rattle.itip_messages.proofs.room_message.components_of.Given as goal
 
 -- those so far are said
 abbrev pub invariant-loop-event : goal.invariant-loop-event

@@ -10,7 +10,7 @@ use Rattle.profile.specs.rooms.Revisions as revisions
 use Rattle.itip_messages.specs.Messages.{SaysComponent, method_said}
 use Rattle.itip_messages.proofs.BySlot.{sorted_by_slot}
 use Rattle.itip_messages.proofs.MessageLemmas.{master_stamp, stamp_given, slot_dated, event_is_ready, organiser_given, some_event, one_organiser, one_uid, there}
-use Rattle.itip_messages.proofs.message.Message.of.Goals as goal
+use Rattle.itip_messages.proofs.room_message.RoomMessage.of.Goals as goal
 
 pub whole_revision-whole-requires : goal.whole_revision-whole-requires
 whole_revision-whole-requires c e is = master_stamp c.args.meeting c.requires e is

@@ -1,0 +1,84 @@
+//! What an organiser writes of a meeting that it stored: its REQUEST (RFC 5546 3.2.2), and the same with other lines for its attendees. The
+//! zones come first, each once under the names `Z1`, `Z2`, .., and then the VEVENTs in their order.
+ghost use Rattle.std.specs.Prelude.{◌≡◌, OnOk, OnErr, option_map};
+ghost use Rattle.profile.specs.organisers.Sent.{IsAsked};
+ghost use Rattle.ical_values.specs.Written.{Appends};
+ghost use Rattle.cal_events.specs.Events.{attendee_of};
+ghost use Rattle.itip_order.specs.Parts.{slot_of};
+ghost use Rattle.itip_messages.specs.Replies.{text_now};
+ghost use Rattle.itip_messages.specs.Meetings.{IsRequestOf, IsTextOf, WritesLine};
+
+use crate::organiser_object::ObjectComponent;
+use crate::writer::ObjectWriter;
+use cal_events::Attendee;
+use ical_values::{Address, Text};
+use itip_order::{Revision, Slot};
+use std::alloc::AllocError;
+
+/// A meeting that is written.
+#[derive(Clone, Copy)]
+pub struct MeetingText<'a> {
+    /// The meeting, by its UID and its organiser.
+    pub uid: &'a Text,
+    pub organiser: &'a Address,
+    /// SEQUENCE and DTSTAMP of each VEVENT, whatever its own are.
+    pub revision: Revision,
+    /// What its VEVENTs say, in their order.
+    pub components: &'a [ObjectComponent],
+}
+
+/// How the ATTENDEE lines of a meeting are written (RFC 5545 3.8.4.1).
+pub trait AttendeeLines {
+    // The line of an attendee of that slot.
+    ghost line: { Self → Slot → Attendee → List ℕ → Type 0 };
+
+    /// Writes the line of an attendee of a VEVENT of this slot. On an error some of it may have been written.
+    fn write_line(
+        &self,
+        object: &mut ObjectWriter,
+        slot: Slot,
+        attendee: &Attendee,
+    ) -> Result<(), AllocError>
+        ensures { OnOk result (WritesLine (Self.line self.now (slot_of slot) (attendee_of attendee.now)) object.old object.new) };
+}
+
+/// Each attendee is asked to answer (RFC 5545 3.2.12, 3.2.17).
+struct Asked;
+
+impl AttendeeLines for Asked {
+    ghost line = { λ asked. IsAsked };
+
+    fn write_line(
+        &self,
+        object: &mut ObjectWriter,
+        _slot: Slot,
+        attendee: &Attendee,
+    ) -> Result<(), AllocError> {
+        object.named(
+            "ATTENDEE;PARTSTAT=NEEDS-ACTION;RSVP=TRUE:",
+            attendee.address.as_str(),
+        )
+    }
+}
+
+/// Writes the REQUEST of a meeting. Where the memory for it is refused, `out` is as it was. In time that grows with what is written.
+pub fn write_request(meeting: &MeetingText<'_>, out: &mut Vec<u8>) -> Result<(), AllocError>
+    ensures ok { OnOk result (Appends out.old.items out.new.items (IsRequestOf meeting.now)) }
+    ensures err { OnErr result (out.new.items ≡ out.old.items) }
+{
+    write_meeting(Some("REQUEST"), meeting, &Asked, out)
+}
+
+/// Writes a meeting with this METHOD, or with none, and with such lines for its attendees: of several ATTENDEE lines of one address in a
+/// component the first alone. Where the memory for it is refused, `out` is as it was.
+pub fn write_meeting<A: AttendeeLines>(
+    method: Option<&str>,
+    meeting: &MeetingText<'_>,
+    lines: &A,
+    out: &mut Vec<u8>,
+) -> Result<(), AllocError>
+    ensures ok { OnOk result (Appends out.old.items out.new.items (IsTextOf (option_map text_now method.entry) (A.line lines.now) meeting.now)) }
+    ensures err { OnErr result (out.new.items ≡ out.old.items) }
+{
+    Err(AllocError)
+}
