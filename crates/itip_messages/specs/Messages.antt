@@ -1,23 +1,19 @@
 -- What a message that was read stands for, and the parts of it.
 use Rattle.std.specs.Prelude.{◌≡◌, ◌≢◌, ℕ, ◌<◌, ◌⊎◌, ◌||◌, ◌&&◌, ◌==◌, Bool, true, false, List, [], length, map, filter, Contains, All, AllPairs, MatchOption, Option, Some, is_some, option_map, if◌then◌else◌}
-use Rattle.ical_lines.specs.Fault.{RefusesBy}
 use Rattle.std.specs.List.{list_any, AllZip}
 use Rattle.std.specs.Str.{bytes_eq}
-use Rattle.profile.specs.text.Trees.{Tree}
 use Rattle.profile.specs.events.Events.{Event}
 use Rattle.profile.specs.events.Confirmed.{AreApart, has_series}
 use Rattle.cal_events.specs.OwnInstances.{booked_at}
 use Rattle.cal_events.specs.SaidSeries.{IsSeriesOf, series_said}
 use Rattle.itip_messages.specs.Bodies.{IsCanonical, IsReady}
 use Rattle.profile.specs.rooms.Messages as profile
-use Rattle.profile.specs.rooms.Messages.{IsContent, canonical, cancels, is_cancel, raised_to, own_revision, AreBySlot, SaysMessage, SpellsMessage, MessageTextFault, is_method, is_unread_method}
+use Rattle.profile.specs.rooms.Messages.{IsContent, canonical, cancels, is_cancel, raised_to, own_revision, AreBySlot}
 use Rattle.profile.specs.events.Events as events
 use Rattle.profile.specs.events.Meetings.{Meeting, AreOfOne, events_of}
 use Rattle.profile.specs.text.Values.{IsClockSeconds}
 use Rattle.profile.specs.rooms.Revisions as revisions
 use Rattle.ical_values.specs.Octets.{text_octets, address_octets}
-use Rattle.ical_lines.specs.declared.fault.Fault.{Fault}
-use Rattle.ical_tree.specs.Reading.{Stands}
 use Rattle.itip_order.specs.Parts.{slot_of, revision_of}
 use Rattle.itip_messages.specs.declared.room_message.MessageComponent.{MessageComponent}
 use Rattle.cal_events.specs.declared.component.EventComponent.{EventComponent}

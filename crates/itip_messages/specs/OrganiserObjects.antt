@@ -1,5 +1,5 @@
 -- What an object that comes to an organiser stands for, once it was read.
-use Rattle.std.specs.Prelude.{◌≡◌, ◌×◌, ℕ, List, map, Some}
+use Rattle.std.specs.Prelude.{◌≡◌, ℕ, List, map, Some}
 use Rattle.std.specs.List.{AllZip}
 use Rattle.profile.specs.text.Trees.{Tree, tree_own, vevents}
 use Rattle.profile.specs.events.Events.{Event}
@@ -49,12 +49,12 @@ pub record StandsForObject (object : OrganiserObject) (said : profile.OrganiserO
   pub are : AreOfMeeting said.organiser said.uid said.events
   pub each : AllZip SaysObjectComponent said.events object.components.items
 
--- the object asks for this of an organiser, and says what it stands for
+-- the object, where it asks for this, says something to an organiser, and it is that
 abbrev pub IsObjectOf : Tree → profile.Operation → OrganiserObject → Type 0
-IsObjectOf tree operation object =
-    (said : profile.OrganiserObject) × (said.operation ≡ operation) × StandsForObject object said
-    × (profile.NamesOperation (tree_own tree) operation → profile.SaysOrganiserObject tree said)
+IsObjectOf object operation message =
+    (said : profile.OrganiserObject) × (said.operation ≡ operation) × StandsForObject message said
+    × (profile.NamesOperation (tree_own object) operation → profile.SaysOrganiserObject object said)
 
--- what can be wrong with the VEVENTs of an object that asks for this
+-- what can be wrong with the VEVENTs of an object, where it asks for this
 abbrev pub IsOrganiserFault : Tree → profile.Operation → ℕ → Type 0
-IsOrganiserFault tree operation n = profile.NamesOperation (tree_own tree) operation → profile.OrganiserObjectFault tree n
+IsOrganiserFault object operation n = profile.NamesOperation (tree_own object) operation → profile.OrganiserObjectFault object n

@@ -8,20 +8,6 @@ ghost use Rattle.profile.specs.text.Lines.{written};
 ghost use Rattle.profile.specs.streams.Streams.{ObjectFault};
 ghost use Rattle.itip_messages.specs.ReadBack.{IsTextAddress, IsTextValue, IsReadAddress, IsAnswer, IsVevent, ReadsAs, SaysAnswer, SaysRefresh};
 
-use cal_events::one_event;
-use ical_tree::one_tree;
-
-/// Octets spell at most one message, and none where a fault stands in them. With the contract of `Message::read`: what
-/// is taken is the one message that the octets spell, and what is refused spells none (RFC 5545 3.4, RFC 5546 3.2.2,
-/// 3.2.4, 3.2.5).
-pub fn one_message()
-    ensures one { (octets : List ℕ) (a b : Message) → SpellsMessage octets a → SpellsMessage octets b → a ≡ b }
-    ensures or_a_fault { (octets : List ℕ) (a : Message) (n : ℕ) → SpellsMessage octets a → ObjectFault n octets → ⊥ }
-{
-    one_tree();
-    one_event();
-}
-
 /// Whatever a room answers: the octets of its REPLY read as lines, and these spell one VCALENDAR of METHOD REPLY with
 /// a VEVENT for each answer, each with the very lines that were written (RFC 5545 3.1, 3.4, RFC 5546 3.2.3). Owed are
 /// texts that can stand in a line: addresses in UTF-8, and a UID that a TEXT value can stand for.

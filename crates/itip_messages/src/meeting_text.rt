@@ -1,6 +1,8 @@
 //! What an organiser writes of a meeting that it stored: its REQUEST (RFC 5546 3.2.2), and the same with other lines for its attendees. The
 //! zones come first, each once under the names `Z1`, `Z2`, .., and then the VEVENTs in their order.
-ghost use Rattle.std.specs.Prelude.{◌≡◌, OnOk, OnErr, option_map};
+ghost use Rattle.std.specs.Prelude.{◌≡◌, ℕ, List, OnOk, OnErr, option_map};
+ghost use Rattle.profile.specs.events.Events as events;
+ghost use Rattle.profile.specs.rooms.Revisions as revisions;
 ghost use Rattle.profile.specs.organisers.Sent.{IsAsked};
 ghost use Rattle.ical_values.specs.Written.{Appends};
 ghost use Rattle.cal_events.specs.Events.{attendee_of};
@@ -30,7 +32,7 @@ pub struct MeetingText<'a> {
 /// How the ATTENDEE lines of a meeting are written (RFC 5545 3.8.4.1).
 pub trait AttendeeLines {
     // The line of an attendee of that slot.
-    ghost line: { Self → Slot → Attendee → List ℕ → Type 0 };
+    ghost line: { Self → revisions.Slot → events.Attendee → List ℕ → Type 0 };
 
     /// Writes the line of an attendee of a VEVENT of this slot. On an error some of it may have been written.
     fn write_line(

