@@ -131,7 +131,8 @@ event = record {
   rule = Some rule;
   additions = [];
   exceptions = [];
-  attendees = record { address = codes "mailto:r1@example.com"; participation = NeedsAction } ∷ [];
+  summary = [];
+  attendees = record { address = codes "mailto:r1@example.com"; participation = NeedsAction; scheduled = true } ∷ [];
 }
 
 second_day : SpellsDate (codes "20250311") (pos 20_158)
@@ -405,7 +406,8 @@ gone = record {
   rule = None;
   additions = [];
   exceptions = [];
-  attendees = record { address = codes "mailto:r1@example.com"; participation = NeedsAction } ∷ [];
+  summary = [];
+  attendees = record { address = codes "mailto:r1@example.com"; participation = NeedsAction; scheduled = true } ∷ [];
 }
 
 second_start : WritesStamp (codes "20250311T090000Z") (pos 1_741_683_600)
