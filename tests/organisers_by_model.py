@@ -221,10 +221,12 @@ def one_reply(draw, model, organiser, uid):
     stored = model.kept.get((organiser, uid))
     last = stored.sequence if stored else 0
     answers, lines = [], []
-    slots = draw.sample([None, *(datetime(2025, 1, 7, 9) + timedelta(days=it) for it in range(3))], draw.choice([1, 1, 2]))
+    likely = [it.instance for it in stored.events] if stored and draw.random() < 0.7 else []
+    slots = list(dict.fromkeys([*likely, None, datetime(2025, 1, 7, 9), datetime(2025, 1, 8, 9)]))[: draw.choice([1, 1, 2])]
+    people = sorted(stored.named) if stored and stored.named and draw.random() < 0.9 else PEOPLE
     doubled = draw.random() < 0.05
     for slot in slots:
-        by = draw.choice(PEOPLE + [STRANGER] * (draw.random() < 0.1))
+        by = draw.choice(people + [STRANGER] * (draw.random() < 0.1))
         rank = draw.randrange(5)
         word = draw.choice([RANKS[rank], RANKS[rank].lower()]) if rank else draw.choice([None, "NEEDS-ACTION", "X-OTHER"])
         sequence = draw.choice([None, last, last, last, last, max(0, last - 1), last + (draw.random() < 0.2)])
@@ -254,9 +256,9 @@ def one_refresh(draw, model, organiser, uid):
 def conversation(draw, organisers):
     """Objects, and what is answered to each: octets, or the number of a refusal."""
     model, objects = Model(), []
-    for _ in range(draw.randrange(1, 14)):
-        organiser, uid = draw.choice(organisers), draw.choice(["s", "t", "a;b"])
-        kind = draw.choice([one_store, one_store, one_reply, one_reply, one_reply, one_refresh])
+    for _ in range(draw.randrange(1, 18)):
+        organiser, uid = draw.choice(organisers), draw.choice(["s", "s", "s", "t", "a;b"])
+        kind = draw.choice([one_store] * (1 if (organiser, uid) in model.kept else 8) + [one_reply] * 5 + [one_refresh])
         lines, answer = kind(draw, model, organiser, uid)
         objects.append((folded(lines), answer))
     return model, objects
