@@ -201,7 +201,8 @@ says object = record {
     takes = (tt, omega arith);
     alone = refl;
   };
-  attendees = (((the_room, refl), refl), tt);
+  summary = refl;
+  attendees = (record { address = (the_room, refl); participation = refl; scheduled = refl }, tt);
 }
 
 abbrev octets : List ℕ
@@ -470,7 +471,8 @@ says_gone object = record {
     takes = (tt, omega arith);
     alone = refl;
   };
-  attendees = (((the_room, refl), refl), tt);
+  summary = refl;
+  attendees = (record { address = (the_room, refl); participation = refl; scheduled = refl }, tt);
 }
 
 abbrev gone_octets : List ℕ
