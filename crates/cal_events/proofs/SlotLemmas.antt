@@ -1,5 +1,5 @@
 -- Which slots events are of: how many are masters, and for which instances the others stand.
-use Rattle.std.proofs.Common.{◌≡◌, ◌≢◌, ◌∙◌, ℕ, ◌+◌, ◌<◌, ◌≤◌, Bool, true, false, not, cond, List, [], ◌∷◌, ◌++◌, length, map, filter, get_or, take, append-nil, sym, ap, subst, refl, inl, inr, arith, ℤ, pos}
+use Rattle.std.proofs.Common.{◌≡◌, ◌≢◌, ◌∙◌, ℕ, ◌+◌, ◌<◌, ◌≤◌, not, cond, List, [], ◌∷◌, ◌++◌, length, map, filter, get_or, take, append-nil, sym, ap, subst, refl, inl, inr, arith, ℤ, pos}
 use Rattle.std.specs.Prelude.{Option, Some, None, is_some, AllPairs}
 use Rattle.std.specs.List.Sorted.{IsPermutation}
 use Rattle.std.proofs.lemmas.List.{get_or-map, length-map, length-append, map-append, take_more, take_all}
@@ -60,8 +60,8 @@ override_pushed ys x count ts t r c =
       within = omega (arith, c.within, length-append ys (x ∷ []));
       masters = c.masters ∙ ap length (sym same);
       others =
-      map-append Some ts (t ∷ []) ∙ ap (λ l. l ++ Some t ∷ []) c.others ∙ ap (λ o. instants_said others ++ o ∷ []) (sym r)
-      ∙ sym (map-append (λ (event : Event). event.recurrence) others (event_of x ∷ [])) ∙ ap instants_said (sym more);
+          map-append Some ts (t ∷ []) ∙ ap (λ l. l ++ Some t ∷ []) c.others ∙ ap (λ o. instants_said others ++ o ∷ []) (sym r)
+          ∙ sym (map-append (λ (event : Event). event.recurrence) others (event_of x ∷ [])) ∙ ap instants_said (sym more);
     }
 
 module _ (all : List EventComponent) (i : ℕ) (x : EventComponent) (count : ℕ) (ts : List ℤ) (within : i < length all) (here : x ≡ get_or all i x) (so_far : AreCounted (take i all) count ts) where

@@ -74,10 +74,7 @@ impl MeetingComponents {
     }
 
     /// These, divided by RECURRENCE-ID, which one of them at most may lack. It fails only for memory.
-    fn of(
-        alloc: Global,
-        components: Vec<EventComponent>,
-    ) -> Result<MeetingComponents, AllocError>
+    fn of(alloc: Global, components: Vec<EventComponent>) -> Result<MeetingComponents, AllocError>
         requires masters { length (filter is_master (map event_of components.items)) ≤ 1 }
         ensures master { IfOk result (λ d. filter is_master (map event_of components.items) ≡ option_to_list (option_map event_of d.master)) }
         ensures overrides { IfOk result (λ d. filter is_override (map event_of components.items) ≡ map event_of d.overrides.items) }

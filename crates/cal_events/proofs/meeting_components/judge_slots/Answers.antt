@@ -1,8 +1,7 @@
-use Rattle.std.proofs.Common.{◌≡◌, ◌∙◌, ◌++◌, ◌∷◌, [], ap, subst, sym, arith, rules, ℕ, ℤ, Fits, FitsSigned, to_z, of_z, w64, length, take, List}
+use Rattle.std.proofs.Common.{◌≡◌, ◌∙◌, ◌++◌, ◌∷◌, [], ap, arith, rules, ℤ, FitsSigned, to_z, of_z, w64}
 use Rattle.std.proofs.lemmas.List.{length-take}
 use Rattle.std.proofs.lemmas.Int.{ints}
-use Rattle.cal_events.specs.declared.component.EventComponent.{EventComponent}
-use Rattle.cal_events.proofs.SlotLemmas.{AreCounted, none_counted, master_counted, override_counted, two_masters_are, one_master_at_most, two_overrides_are, overrides_differ}
+use Rattle.cal_events.proofs.SlotLemmas.{none_counted, master_counted, override_counted, two_masters_are, one_master_at_most, two_overrides_are, overrides_differ}
 use Rattle.cal_events.proofs.meeting_components.judge_slots.Goals as goal
 use Rattle.cal_events.proofs.meeting_components.judge_slots.Goals.{in-Some+in_ok-push-in-Some, in-None}
 
