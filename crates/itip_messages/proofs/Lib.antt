@@ -17,6 +17,7 @@ pub mod OneMessage
 pub mod LineLemmas
 pub mod BySlot
 pub mod MessageLemmas
+pub mod ObjectLemmas
 pub mod TreeLemmas
 pub mod AttendeeSearch
 mod Examples

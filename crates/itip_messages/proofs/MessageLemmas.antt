@@ -104,7 +104,7 @@ pub some_itself : {A : Type 0} (o : Option A) → is_some o ≡ true → IsSome 
 some_itself None h = cc
 some_itself (Some x) h = refl
 
-some_of_map : {A B : Type 0} (f : A → B) (o : Option A) → is_some (option_map f o) ≡ true → IsSome o
+pub some_of_map : {A B : Type 0} (f : A → B) (o : Option A) → is_some (option_map f o) ≡ true → IsSome o
 some_of_map f None h = cc
 some_of_map f (Some x) h = refl
 

@@ -21,14 +21,19 @@ use Rattle.profile.specs.streams.Streams.{Said, ToRooms, ToOrganiser, Spells, Ob
 use Rattle.cal_events.proofs.OneCalendar.{OneEvent, NoFault}
 use Rattle.cal_events.proofs.OneText.{OneTree, PairsUp}
 use Rattle.cal_events.proofs.ObjectFaults.{has_version_only, has_few_events}
-use Rattle.cal_events.proofs.OneMeeting.{no_meeting_fault, one_list, one_said as one_meeting}
+use Rattle.cal_events.proofs.OneMeeting.{no_meeting_fault, one_said as one_meeting}
+use Rattle.cal_events.proofs.Zips.{zip_one}
 
 abbrev Lines : Type 0
 Lines = List (List ℕ)
 
+-- its VEVENTs say one list of events
+one_list : OneEvent → (object : Tree) (m : Option Method) (xs ys : List Event) → AllZip (SaysEvent object m) (vevents object) xs → AllZip (SaysEvent object m) (vevents object) ys → xs ≡ ys
+one_list one object m xs ys h k = zip_one (SaysEvent object m) (λ lines a b s t. one object m lines a b s t) (vevents object) xs ys h k
+
 -- ---- METHOD
 
-lower : List ℕ → List ℕ
+abbrev lower : List ℕ → List ℕ
 lower = str_to_ascii_lowercase
 
 same_lower : (word name : List ℕ) → is_same_name word name ≡ true → lower word ≡ lower name
@@ -203,12 +208,12 @@ one_spelled tree one octets (ToOrganiser a) (ToOrganiser b) s t =
 -- no fault stands in octets that are an object in which no fault of a message stands
 none_in_text : OneTree → PairsUp → (octets : List ℕ) (t : Tree) (n : ℕ) → reads_as_lines true octets ≡ true → IsObject tree_name tree_own tree_inside true t (logical_lines octets)
     → (MessageFault t n → ⊥) → ObjectFault n octets → ⊥
-none_in_text tree pairs octets t n lines object none (inl h) = true≢false (sym h ∙ read_fine true octets n lines)
-none_in_text tree pairs octets t n lines object none (inr (inl h)) = pairs true t (logical_lines octets) n object h
-none_in_text tree pairs octets t n lines object none (inr (inr (inl (x, spelled, inl (e, h))))) = has_version_only tree octets t object x (spelled, h)
-none_in_text tree pairs octets t n lines object none (inr (inr (inl (x, spelled, inr (e, h))))) = has_few_events tree octets t object x (spelled, h)
-none_in_text tree pairs octets t n lines object none (inr (inr (inr r))) =
-    none (subst (λ (x : Tree). MessageFault x n) (sym (one_tree tree octets t r.tree object r.object)) r.fault)
+none_in_text tree pairs octets t n lines object free (inl h) = true≢false (sym h ∙ read_fine true octets n lines)
+none_in_text tree pairs octets t n lines object free (inr (inl h)) = pairs true t (logical_lines octets) n object h
+none_in_text tree pairs octets t n lines object free (inr (inr (inl (x, spelled, inl (e, h))))) = has_version_only tree octets t object x (spelled, h)
+none_in_text tree pairs octets t n lines object free (inr (inr (inl (x, spelled, inr (e, h))))) = has_few_events tree octets t object x (spelled, h)
+none_in_text tree pairs octets t n lines object free (inr (inr (inr r))) =
+    free (subst (λ (x : Tree). MessageFault x n) (sym (one_tree tree octets t r.tree object r.object)) r.fault)
 
 pub no_fault : OneTree → PairsUp → OneEvent → NoFault → (octets : List ℕ) (a : Said) (n : ℕ) → Spells octets a → ObjectFault n octets → ⊥
 no_fault tree pairs one sound octets (ToRooms a) n s = none_in_text tree pairs octets s.tree n s.lines s.object (no_message_fault one sound s.tree a n s.says)
