@@ -1,8 +1,9 @@
 -- What comes to an organiser: what is known of its VEVENTs, and which fault stands in them.
-use Rattle.std.proofs.Common.{◌≡◌, ◌∙◌, ℕ, ◌<◌, ◌≤◌, Bool, true, false, List, [], ◌∷◌, length, map, filter, refl, sym, ap, subst, Option, Some, IsSome, is_some, unwrap_or}
+use Rattle.std.proofs.Common.{◌≡◌, ◌∙◌, ℕ, ◌<◌, ◌≤◌, Bool, true, false, List, [], ◌∷◌, length, map, filter, refl, sym, ap, subst, Option, Some, IsSome, is_some, unwrap_or, arith}
 use Rattle.std.specs.Prelude.{Contains, All}
 use Rattle.std.specs.List.{AllZip, list_all}
 use Rattle.std.specs.Str.{bytes_eq}
+use Rattle.std.proofs.lemmas.List.{length-map}
 use Rattle.std.proofs.lemmas.List.Elements.{All-contains}
 use Rattle.std.proofs.lemmas.List.Folds.{list_all-map}
 use Rattle.ical_lines.specs.Fault.{RefusesBy}
@@ -94,11 +95,12 @@ attendee_wrong object operation es n says h =
 -- ---- what is said
 
 -- events of one meeting are those of the names of one of them
-pub of_meeting : (es : List Event) (organiser uid : List ℕ) (first : Event) → 0 < length es → AreOfOne es → length (filter is_master es) ≤ 1 → InstancesDiffer (filter is_override es)
-    → Contains es first → first.organiser ≡ Some organiser → first.uid ≡ uid → AreOfMeeting organiser uid es
-of_meeting es organiser uid first some one masters differ c o u = record {
-  some = some;
-  of_it = λ e d. one e first d c ∙ (λ i. (unwrap_or (o i) [], u i));
+pub of_meeting : (all : List EventComponent) (organiser uid : List ℕ) (first : EventComponent) → 0 < length all → AreOfOne (map event_of all)
+    → length (filter is_master (map event_of all)) ≤ 1 → InstancesDiffer (filter is_override (map event_of all)) → Contains all first
+    → (event_of first).organiser ≡ Some organiser → (event_of first).uid ≡ uid → AreOfMeeting organiser uid (map event_of all)
+of_meeting all organiser uid first some one masters differ c o u = record {
+  some = let long = length-map all event_of in omega (arith, long, some);
+  of_it = λ e d. one e (event_of first) d (in_mapped event_of all first c) ∙ (λ i. (unwrap_or (o i) [], u i));
   masters = masters;
   differ = differ;
 }
