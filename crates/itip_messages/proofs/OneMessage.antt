@@ -158,9 +158,9 @@ module _ (object : Tree) (a : OrganiserObject) (s : SaysOrganiserObject object a
 
 -- the first event has the names
 names_of : (a : OrganiserObject) (events : List Event) → a.events ≡ events → 0 < length events → ((e : Event) → Contains a.events e → meeting_said e ≡ (a.organiser, a.uid))
-    → (e : Event) × (Contains events e × (meeting_said e ≡ (a.organiser, a.uid)))
+    → (e : Event) × Contains events e × (meeting_said e ≡ (a.organiser, a.uid))
 names_of a [] is h of = absurd (omega (arith, h))
-names_of a (e ∷ rest) is h of = (e, ((0, omega arith, refl), of e (subst (λ (l : List Event). Contains l e) (sym is) (0, omega arith, refl))))
+names_of a (e ∷ rest) is h of = (e, (0, omega arith, refl), of e (subst (λ (l : List Event). Contains l e) (sym is) (0, omega arith, refl)))
 
 one_object : OneEvent → (object : Tree) (a b : OrganiserObject) → SaysOrganiserObject object a → SaysOrganiserObject object b → a ≡ b
 one_object one object a b s t =
