@@ -48,7 +48,9 @@ impl Message {
     {
         let properties = Properties::of(alloc, object)?;
         match Kind::of(&properties)? {
-            Kind::ToRooms(method) => Ok(Message::ToRooms(RoomMessage::read(alloc, object, method)?)),
+            Kind::ToRooms(method) => Ok(Message::ToRooms(RoomMessage::read(
+                alloc, object, method,
+            )?)),
             Kind::ToOrganiser(operation) => Ok(Message::ToOrganiser(OrganiserObject::read(
                 alloc, object, operation,
             )?)),
@@ -58,10 +60,8 @@ impl Message {
 
 /// What METHOD says that a message is.
 #[derive(Clone, Copy)]
-pub(crate) enum Kind {
-    /// To rooms, by its method.
+enum Kind {
     ToRooms(Method),
-    /// To an organiser, by what is asked.
     ToOrganiser(Operation),
 }
 

@@ -165,9 +165,7 @@ fn has_one_attendee(event: &EventComponent) -> bool
 fn are_all(first: &Attendee, others: &[Attendee]) -> bool
     ensures { result ≡ list_all (λ other. bytes_eq (address_octets other.address) (address_octets first.now.address)) others.now }
 {
-    others
-        .iter()
-        .all(|other| other.address == first.address)
+    others.iter().all(|other| other.address == first.address)
 }
 
 /// What some VEVENTs say, in their order. It fails only for memory.

@@ -10,6 +10,6 @@ returns-then-not-all_have_one-clause-stands c =
 
 pub returns-clause-each : goal.returns-clause-each
 returns-clause-each c = λ speaks. elim c.else-is_of_attendee.branch [
-  else-is_of_attendee-via-then-is_of_attendee+else-not-all_have_one w ↦ sym (mapped_one_each c.args.events.now true w.if-not-all_have_one.ensures)
+  | else-is_of_attendee-via-then-is_of_attendee+else-not-all_have_one w ↦ sym (mapped_one_each c.args.events.now true w.if-not-all_have_one.ensures)
   | else-is_of_attendee-via-else-is_of_attendee w ↦ absurd (true≢false (sym speaks ∙ sym w.if-is_of_attendee.ensures))
 ]
