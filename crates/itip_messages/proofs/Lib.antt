@@ -13,9 +13,12 @@ pub mod ReplyLines
 pub mod ReplyReads
 pub mod RefreshReads
 pub mod AnswerReads
+pub mod OneMessage
 pub mod LineLemmas
 pub mod BySlot
 pub mod MessageLemmas
+pub mod ObjectLemmas
+pub mod TreeLemmas
 pub mod AttendeeSearch
 mod Examples
 pub mod ReplyExamples
