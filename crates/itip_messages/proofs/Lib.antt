@@ -14,6 +14,8 @@ pub mod ReplyReads
 pub mod RefreshReads
 pub mod AnswerReads
 pub mod LineLemmas
+pub mod WrittenLines
+pub mod CancelLines
 pub mod BySlot
 pub mod MessageLemmas
 pub mod AttendeeSearch

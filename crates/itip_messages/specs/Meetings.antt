@@ -1,11 +1,12 @@
 -- What is written of a meeting, as what was read of it stands for events.
-use Rattle.std.specs.Prelude.{◌≡◌, ◌++◌, ◌∷◌, ℕ, List, Option, codes, map}
+use Rattle.std.specs.Prelude.{◌≡◌, ◌++◌, ◌∷◌, [], ℕ, List, Option, codes, map}
 use Rattle.std.specs.List.{AllZip}
 use Rattle.profile.specs.text.Lines.{folded}
+use Rattle.profile.specs.text.Values.{escaped}
 use Rattle.profile.specs.events.Events.{Event}
 use Rattle.profile.specs.events.Events as events
 use Rattle.profile.specs.rooms.Revisions as revisions
-use Rattle.profile.specs.organisers.Sent.{IsMeetingText, IsRequest, IsCancel}
+use Rattle.profile.specs.organisers.Sent.{IsMeetingText, IsRequest, IsCancel, TellsRevision, status_lines}
 use Rattle.ical_values.specs.Octets.{text_octets, address_octets}
 use Rattle.itip_order.specs.Parts.{revision_of}
 use Rattle.itip_messages.specs.OrganiserObjects.{SaysObjectComponent}
@@ -34,3 +35,14 @@ IsRequestOf meeting octets =
 abbrev pub IsCancelOf : Cancel → List ℕ → Type 0
 IsCancelOf cancel octets =
     IsCancel (address_octets cancel.organiser.now) (text_octets cancel.uid.now) (revision_of cancel.revision) cancel.called_off (map address_octets cancel.to.now) octets
+
+-- a line for each of these addresses
+abbrev pub attendee_lines : List (List ℕ) → List (List ℕ)
+attendee_lines addresses = map (λ address. codes "ATTENDEE:" ++ address) addresses
+
+-- the lines of the VEVENT of a CANCEL
+pub record IsCancelEvent (cancel : Cancel) (lines : List (List ℕ)) : Type 0 where
+  pub dated : List (List ℕ)
+  pub tells_revision : TellsRevision (revision_of cancel.revision) dated
+  pub is : lines ≡ (codes "BEGIN:VEVENT" ∷ (codes "UID:" ++ escaped (text_octets cancel.uid.now)) ∷ []) ++ dated ++ status_lines cancel.called_off
+      ++ ((codes "ORGANIZER:" ++ address_octets cancel.organiser.now) ∷ attendee_lines (map address_octets cancel.to.now)) ++ codes "END:VEVENT" ∷ []

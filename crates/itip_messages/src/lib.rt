@@ -4,6 +4,7 @@
 mod attendees;
 mod body;
 mod cancel;
+mod event_lines;
 pub mod law;
 mod meeting_text;
 pub mod message;
