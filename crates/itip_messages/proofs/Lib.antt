@@ -16,6 +16,10 @@ pub mod AnswerReads
 pub mod LineLemmas
 pub mod WrittenLines
 pub mod CancelLines
+pub mod ZoneSets
+pub mod ZonesOnce
+pub mod NamedLines
+pub mod BodyContents
 pub mod BySlot
 pub mod MessageLemmas
 pub mod AttendeeSearch

@@ -3,6 +3,7 @@
 
 mod attendees;
 mod body;
+mod body_text;
 mod cancel;
 mod event_lines;
 pub mod law;
@@ -14,9 +15,11 @@ mod refresh;
 pub mod reply;
 pub mod room_message;
 pub mod writer;
+mod zones;
 
 pub use attendees::Attendees;
 pub use body::zone_lines;
+pub use body_text::write_body;
 pub use cancel::{Cancel, write_cancel};
 pub use law::{answers_read_back, refreshes_read_back, replies_read_back};
 pub use meeting_text::{AttendeeLines, MeetingText, write_meeting, write_request};
@@ -26,3 +29,4 @@ pub use refresh::{Refresh, write_refresh};
 pub use reply::{Conflict, ConflictKey, Decision, ReplyEvent, write_event, write_reply};
 pub use room_message::{MessageComponent, Method, RoomMessage};
 pub use writer::ObjectWriter;
+pub use zones::Zones;
