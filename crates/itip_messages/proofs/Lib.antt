@@ -16,6 +16,7 @@ pub mod AnswerReads
 pub mod LineLemmas
 pub mod WrittenLines
 pub mod CancelLines
+pub mod CountedLines
 pub mod ZoneSets
 pub mod ZonesOnce
 pub mod NamedLines
