@@ -21,6 +21,7 @@ pub mod ZoneSets
 pub mod ZonesOnce
 pub mod NamedLines
 pub mod BodyContents
+pub mod MeetingLines
 pub mod BySlot
 pub mod MessageLemmas
 pub mod AttendeeSearch
