@@ -18,11 +18,11 @@ pub fn write_slot(object: &mut ObjectWriter, slot: Slot) -> Result<(), AllocErro
 {
     match slot {
         Slot::Whole => Ok(()),
-        Slot::At(instant) => write_recurrence(object, instant),
+        Slot::At(instant) => write_instance(object, instant),
     }
 }
 
-fn write_recurrence(object: &mut ObjectWriter, instant: i64) -> Result<(), AllocError>
+fn write_instance(object: &mut ObjectWriter, instant: i64) -> Result<(), AllocError>
     ensures { OnOk result (WritesSlot (At instant) object.old object.new) }
 {
     let Some(stamp) = Stamp::of_instant(instant) else {
