@@ -13,6 +13,7 @@ pub mod ReplyLines
 pub mod ReplyReads
 pub mod RefreshReads
 pub mod AnswerReads
+pub mod OneMessage
 pub mod LineLemmas
 pub mod WrittenLines
 pub mod CancelLines
@@ -24,6 +25,8 @@ pub mod BodyContents
 pub mod MeetingLines
 pub mod BySlot
 pub mod MessageLemmas
+pub mod ObjectLemmas
+pub mod TreeLemmas
 pub mod AttendeeSearch
 mod Examples
 pub mod ReplyExamples
