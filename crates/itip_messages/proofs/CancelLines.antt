@@ -1,5 +1,5 @@
 -- The lines of a CANCEL.
-use Rattle.std.proofs.Common.{◌≡◌, ◌∙◌, ℕ, ◌+◌, ◌<◌, List, [], ◌∷◌, ◌++◌, map, take, length, get_or, codes, refl, sym, ap, Some, None, append-nil}
+use Rattle.std.proofs.Common.{◌≡◌, ◌∙◌, ℕ, ◌+◌, ◌<◌, List, [], ◌∷◌, ◌++◌, map, take, length, get_or, codes, refl, sym, ap, Some}
 use Rattle.std.proofs.lemmas.List.{take_more, map-append}
 use Rattle.ical_values.specs.declared.address.Address.{Address}
 use Rattle.ical_values.specs.Octets.{text_octets, address_octets}

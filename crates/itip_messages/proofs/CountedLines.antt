@@ -54,7 +54,7 @@ pub none_counted : (counting : List (Bor Line)) (seen : List (Bor (List ℕ))) �
 none_counted counting seen e f = record { count = ap (map line_said) e; known = λ address. ap (list_any (λ key. bytes_eq address key.now)) f }
 
 module _ (lines : List Attendee) (line : Line) (counting : List (Bor Line)) (old new : List (Bor (List ℕ))) (key : Bor (List ℕ)) (h : AreCounted lines counting old) (is : key.now ≡ address_octets line.address)
-  (put : new ≡ cond (list_any (λ other. bytes_eq key.now other.now) old) old (old ++ key ∷ [])) where
+    (put : new ≡ cond (list_any (λ other. bytes_eq key.now other.now) old) old (old ++ key ∷ [])) where
   abbrev said : Attendee
   said = attendee_of line
 

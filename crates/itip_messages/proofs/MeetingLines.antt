@@ -1,9 +1,8 @@
 -- The lines of a meeting that is written: its zones, and a VEVENT for each of its components.
-use Rattle.std.proofs.Common.{◌≡◌, ◌∙◌, ℕ, ℤ, ◌+◌, ◌<◌, ◌^◌, List, [], ◌∷◌, ◌++◌, map, filter, take, length, get_or, codes, refl, sym, ap, subst, append-nil, append_assoc, Option}
+use Rattle.std.proofs.Common.{◌≡◌, ◌∙◌, ℕ, ℤ, ◌<◌, ◌^◌, List, [], ◌∷◌, ◌++◌, filter, length, codes, refl, sym, ap, subst, Option}
 use Rattle.std.specs.Option.{option_to_list}
 use Rattle.std.specs.List.{flat_map, AllZip}
 use Rattle.std.specs.Str.{IsUtf8}
-use Rattle.std.proofs.lemmas.Grind.{flat_map-append}
 use Rattle.cal_events.proofs.EventLemmas.{push_zip}
 use Rattle.ical_values.specs.Octets.{text_octets, address_octets}
 use Rattle.ical_values.specs.Written.{Appends}
@@ -13,22 +12,20 @@ use Rattle.profile.specs.text.Values.{escaped}
 use Rattle.profile.specs.events.Events.{Attendee, Event}
 use Rattle.profile.specs.rooms.Revisions.{Slot, At}
 use Rattle.profile.specs.rooms.Messages.{Content, IsContent, TellsSlot, opening_lines}
-use Rattle.profile.specs.rooms.Messages as messages
-use Rattle.profile.specs.rooms.Kept.{each_once, zone_texts, IsNamed, renamed}
+use Rattle.profile.specs.rooms.Kept.{each_once, zone_texts}
 use Rattle.profile.specs.organisers.Objects.{counted}
-use Rattle.profile.specs.organisers.Sent.{Component, IsComponentOf, IsComponentText, IsMeetingText, TellsRevision, status_lines, zones_of}
+use Rattle.profile.specs.organisers.Sent.{Component, IsComponentOf, IsComponentText, TellsRevision, status_lines, zones_of}
 use Rattle.itip_messages.specs.declared.meeting_text.MeetingText.{MeetingText}
 use Rattle.itip_messages.specs.declared.organiser_object.ObjectComponent.{ObjectComponent}
-use Rattle.itip_messages.specs.Bodies.{IsCanonical}
-use Rattle.itip_messages.specs.BodyTexts.{WritesBody, WritesSlot, content_in, named_lines}
-use Rattle.itip_messages.specs.Meetings.{AreWritten, IsTextOf, IsWrittenComponent, WritesComponents, WritesLine, zone_in}
+use Rattle.itip_messages.specs.BodyTexts.{WritesBody, WritesSlot, content_in}
+use Rattle.itip_messages.specs.Meetings.{IsTextOf, IsWrittenComponent, WritesComponent, WritesComponents, WritesLine, zone_in}
 use Rattle.itip_messages.specs.Messages.{IsDated}
 use Rattle.itip_messages.specs.OrganiserObjects.{SaysObjectComponent}
 use Rattle.itip_messages.specs.Replies.{IsStampLine, WritesLines}
-use Rattle.itip_messages.specs.Zoning.{is_new, with_zone, with_zones}
+use Rattle.itip_messages.specs.Zoning.{is_new, with_zones}
 use Rattle.itip_messages.proofs.BodyContents.{body_of}
-use Rattle.itip_messages.proofs.WrittenLines.{push_lines, push_line, first_line, no_lines}
-use Rattle.itip_messages.proofs.ZonesOnce.{named_still, with_zones_are, zones_once}
+use Rattle.itip_messages.proofs.WrittenLines.{flat_push, push_lines, push_line, first_line, no_lines}
+use Rattle.itip_messages.proofs.ZonesOnce.{named_still, with_more, with_zones_are, zones_once}
 
 -- ---- RECURRENCE-ID
 
@@ -62,9 +59,9 @@ module _ (IsLine : Slot → Attendee → List ℕ → Type 0) (meeting : Meeting
       ++ ((codes "SUMMARY:" ++ escaped (text_octets component.summary)) ∷ (codes "ORGANIZER:" ++ address_octets meeting.organiser.now) ∷ attendees) ++ codes "END:VEVENT" ∷ []
 
   module _ (component : ObjectComponent) (zones_old zones_new : List (List ℕ)) (o0 o1 o2 o3 o4 o5 o6 o7 o8 o9 o10 : List ℕ)
-    (slot : WritesSlot (slot_of component.slot) o2 o3) (dated : WritesLines o3 o4 (TellsRevision (revision_of meeting.revision)))
-    (body : WritesBody component.canonical.items zones_old zones_new o4 o5)
-    (attendees : WritesLines o8 o9 (AllZip (IsLine (slot_of component.slot)) (counted component.attendees))) where
+      (slot : WritesSlot (slot_of component.slot) o2 o3) (dated : WritesLines o3 o4 (TellsRevision (revision_of meeting.revision)))
+      (body : WritesBody component.canonical.items zones_old zones_new o4 o5)
+      (attendees : WritesLines o8 o9 (AllZip (IsLine (slot_of component.slot)) (counted component.attendees))) where
     all_written : o1 ≡ o0 ++ folded (codes "BEGIN:VEVENT") → o2 ≡ o1 ++ folded (codes "UID:" ++ escaped (text_octets meeting.uid.now)) → o6 ≡ o5 ++ written (status_lines component.cancelled)
         → o7 ≡ o6 ++ folded (codes "SUMMARY:" ++ escaped (text_octets component.summary)) → o8 ≡ o7 ++ folded (codes "ORGANIZER:" ++ address_octets meeting.organiser.now)
         → o10 ≡ o9 ++ folded (codes "END:VEVENT") → o10 ≡ o0 ++ written (event_lines component slot.lines dated.0 body.lines attendees.0)
@@ -107,27 +104,16 @@ module _ (IsLine : Slot → Attendee → List ℕ → Type 0) (meeting : Meeting
 
     pub component_written : o1 ≡ o0 ++ folded (codes "BEGIN:VEVENT") → o2 ≡ o1 ++ folded (codes "UID:" ++ escaped (text_octets meeting.uid.now)) → o6 ≡ o5 ++ written (status_lines component.cancelled)
         → o7 ≡ o6 ++ folded (codes "SUMMARY:" ++ escaped (text_octets component.summary)) → o8 ≡ o7 ++ folded (codes "ORGANIZER:" ++ address_octets meeting.organiser.now)
-        → o10 ≡ o9 ++ folded (codes "END:VEVENT") → WritesComponents IsLine meeting (component ∷ []) zones_old zones_new o0 o10
+        → o10 ≡ o9 ++ folded (codes "END:VEVENT") → WritesComponent IsLine meeting component zones_old zones_new o0 o10
     component_written h1 h2 h6 h7 h8 h10 =
-        let lines = event_lines component slot.lines dated.0 body.lines attendees.0 in
         record {
-          zones = body.zones ∙ ap (with_zones zones_old) (sym (append-nil (zone_in component)));
-          texts = lines ∷ [];
-          each = (is_component, tt);
-          is = all_written h1 h2 h6 h7 h8 h10 ∙ ap (λ l. o0 ++ written l) (sym (append-nil lines));
+          zones = body.zones;
+          lines = event_lines component slot.lines dated.0 body.lines attendees.0;
+          event = is_component;
+          is = all_written h1 h2 h6 h7 h8 h10;
         }
 
 -- ---- all VEVENTs
-
-zip_both : {X Y : Type 0} (R : X → Y → Type 0) (xs : List X) (ys : List Y) (us : List X) (vs : List Y) → AllZip R xs ys → AllZip R us vs → AllZip R (xs ++ us) (ys ++ vs)
-zip_both R [] [] us vs h k = k
-zip_both R [] (y ∷ ys) us vs h k = absurd h
-zip_both R (x ∷ xs) [] us vs h k = absurd h
-zip_both R (x ∷ xs) (y ∷ ys) us vs h k = (h.0, zip_both R xs ys us vs h.1 k)
-
-with_more : (zones uses more : List (List ℕ)) → with_zones zones (uses ++ more) ≡ with_zones (with_zones zones uses) more
-with_more zones [] more = refl
-with_more zones (zone ∷ uses) more = with_more (with_zone zones zone) uses more
 
 -- a VEVENT and its event
 paired : List Event → List ObjectComponent → List Component
@@ -183,18 +169,18 @@ module _ (IsLine : Slot → Attendee → List ℕ → Type 0) (meeting : Meeting
 
   -- one component more
   pub components_more : (done : List ObjectComponent) (component : ObjectComponent) (zones_old zones_now zones_new : List (List ℕ)) (old now new : List ℕ)
-      → WritesComponents IsLine meeting done zones_old zones_now old now → WritesComponents IsLine meeting (component ∷ []) zones_now zones_new now new → WritesComponents IsLine meeting (done ++ component ∷ []) zones_old zones_new old new
+      → WritesComponents IsLine meeting done zones_old zones_now old now → WritesComponent IsLine meeting component zones_now zones_new now new → WritesComponents IsLine meeting (done ++ component ∷ []) zones_old zones_new old new
   components_more done component zones_old zones_now zones_new old now new a b =
-      let uses = flat_map zone_in (component ∷ []) in
+      let uses = zone_in component in
       let more = filter (is_new zones_now) (each_once uses) in
       let longer : zones_now ++ more ≡ zones_new = sym (with_zones_are zones_now uses) ∙ sym b.zones in
       let each : AllZip (IsWrittenComponent IsLine meeting zones_new) done a.texts =
       subst (λ (zones : List (List ℕ)). AllZip (IsWrittenComponent IsLine meeting zones) done a.texts) longer (all_still zones_now more done a.texts a.each) in
       record {
-        zones = b.zones ∙ ap (λ zones. with_zones zones uses) a.zones ∙ sym (with_more zones_old (flat_map zone_in done) uses) ∙ ap (with_zones zones_old) (sym (flat_map-append zone_in done (component ∷ [])));
-        texts = a.texts ++ b.texts;
-        each = zip_both (IsWrittenComponent IsLine meeting zones_new) done a.texts (component ∷ []) b.texts each b.each;
-        is = push_lines old now new (flat_map (λ l. l) a.texts) (flat_map (λ l. l) b.texts) a.is b.is ∙ ap (λ l. old ++ written l) (sym (flat_map-append (λ l. l) a.texts b.texts));
+        zones = b.zones ∙ ap (λ zones. with_zones zones uses) a.zones ∙ sym (with_more zones_old (flat_map zone_in done) uses) ∙ ap (with_zones zones_old) (sym (flat_push zone_in done component));
+        texts = a.texts ++ b.lines ∷ [];
+        each = push_zip (IsWrittenComponent IsLine meeting zones_new) done a.texts component b.lines each b.event;
+        is = push_lines old now new (flat_map (λ l. l) a.texts) b.lines a.is b.is ∙ ap (λ l. old ++ written l) (sym (flat_push (λ l. l) a.texts b.lines));
       }
 
   texts_paired : (zones : List (List ℕ)) (events : List Event) (cs : List ObjectComponent) (texts : List (List (List ℕ))) → AllZip SaysObjectComponent events cs → AllZip (IsWrittenComponent IsLine meeting zones) cs texts

@@ -1,12 +1,17 @@
 -- Lines that are written one behind another.
-use Rattle.std.proofs.Common.{◌≡◌, ◌∙◌, ℕ, List, [], ◌∷◌, ◌++◌, refl, sym, ap, codes, append_assoc, append-nil, ℤ}
+use Rattle.std.proofs.Common.{◌≡◌, ◌∙◌, ℕ, List, [], ◌∷◌, ◌++◌, refl, sym, ap, codes, append_assoc, append-nil}
 use Rattle.std.specs.Prelude.{decimal}
+use Rattle.std.specs.List.{flat_map}
 use Rattle.std.proofs.lemmas.Grind.{flat_map-append}
 use Rattle.ical_values.specs.Written.{Appends}
 use Rattle.profile.specs.text.Lines.{written, folded}
 use Rattle.profile.specs.rooms.Revisions.{Revision}
 use Rattle.profile.specs.organisers.Sent.{TellsRevision}
 use Rattle.itip_messages.specs.Replies.{IsStampLine, WritesLines}
+
+-- one element more
+pub flat_push : {X Y : Type 0} (f : X → List Y) (xs : List X) (x : X) → flat_map f (xs ++ x ∷ []) ≡ flat_map f xs ++ f x
+flat_push f xs x = flat_map-append f xs (x ∷ []) ∙ ap (λ l. flat_map f xs ++ l) (append-nil (f x))
 
 pub one_written : (old new line : List ℕ) (left rest : List (List ℕ)) (all : List ℕ) → new ≡ old ++ folded line → left ≡ line ∷ rest → old ++ written left ≡ all → new ++ written rest ≡ all
 one_written old new line left rest all is more h =

@@ -5,7 +5,7 @@ use Rattle.std.specs.List.{list_any}
 use Rattle.std.specs.Str.{bytes_eq}
 use Rattle.std.proofs.lemmas.Slice.Eq.{bytes_eq-Decides}
 use Rattle.profile.specs.rooms.Kept.{each_once, IsNamed}
-use Rattle.itip_messages.specs.Zoning.{is_new, with_zones}
+use Rattle.itip_messages.specs.Zoning.{is_new, with_zone, with_zones}
 
 abbrev Texts : Type 0
 Texts = List (List ℕ)
@@ -68,6 +68,11 @@ with_zones_are zones (zone ∷ more) = by (λ old. with_zones_are old more) (is_
     by then false e =
         then zones
         ∙ ap (λ l. zones ++ l) (sym (both (is_new zones) (λ other. not (bytes_eq zone other)) rest ∙ same_filter (λ y. not (bytes_eq zone y) && is_new zones y) (is_new zones) (known zones zone e) rest))
+
+-- those of one list and then those of another
+pub with_more : (zones uses more : Texts) → with_zones zones (uses ++ more) ≡ with_zones (with_zones zones uses) more
+with_more zones [] more = refl
+with_more zones (zone ∷ uses) more = with_more (with_zone zones zone) uses more
 
 all_new : (xs : Texts) → filter (is_new []) xs ≡ xs
 all_new [] = refl

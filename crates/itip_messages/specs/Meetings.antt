@@ -41,7 +41,15 @@ IsWrittenComponent IsLine meeting zones component lines =
     (event : Event) → SaysObjectComponent event component
     → IsComponentText (address_octets meeting.organiser.now) (text_octets meeting.uid.now) (revision_of meeting.revision) zones IsLine (event, content_in component.canonical.items) lines
 
--- the zones of these components are behind the zones if they are new; and new is old and behind it, written, a VEVENT for each of these
+-- the zone of a component is behind the zones if it is new; and new is old and behind it, written, its VEVENT
+pub record WritesComponent (IsLine : revisions.Slot → events.Attendee → List ℕ → Type 0) (meeting : MeetingText) (component : ObjectComponent)
+    (zones_old zones_new : List (List ℕ)) (old new : List ℕ) : Type 0 where
+  pub zones : zones_new ≡ with_zones zones_old (zone_in component)
+  pub lines : List (List ℕ)
+  pub event : IsWrittenComponent IsLine meeting zones_new component lines
+  pub is : new ≡ old ++ written lines
+
+-- the same for one component after another
 pub record WritesComponents (IsLine : revisions.Slot → events.Attendee → List ℕ → Type 0) (meeting : MeetingText) (components : List ObjectComponent)
     (zones_old zones_new : List (List ℕ)) (old new : List ℕ) : Type 0 where
   pub zones : zones_new ≡ with_zones zones_old (flat_map zone_in components)

@@ -17,7 +17,11 @@ const ZONE_HEAD: usize = 25;
 
 /// The lines of a body, each folded as it is written, with DTSTART in the zone under its number. A body that isn't
 /// UTF-8 has none.
-pub fn write_body(object: &mut ObjectWriter, zones: &mut Zones, body: &[u8]) -> Result<(), AllocError>
+pub fn write_body(
+    object: &mut ObjectWriter,
+    zones: &mut Zones,
+    body: &[u8],
+) -> Result<(), AllocError>
     ensures { OnOk result (WritesBody body.now zones.old zones.new object.old object.new) }
 {
     let (lines, zone) = body.split_at(zone_lines(body));

@@ -1,6 +1,6 @@
 //! What an organiser writes of a meeting that it stored: its REQUEST (RFC 5546 3.2.2), and the same with other lines for its attendees. The
 //! zones come first, each once under the names `Z1`, `Z2`, .., and then the VEVENTs in their order.
-ghost use Rattle.std.specs.Prelude.{◌≡◌, ◌++◌, ◌∷◌, [], ℕ, List, OnOk, OnErr, option_map};
+ghost use Rattle.std.specs.Prelude.{◌≡◌, ◌++◌, ℕ, List, OnOk, OnErr, option_map};
 ghost use Rattle.std.specs.List.{AllZip};
 ghost use Rattle.profile.specs.events.Events as events;
 ghost use Rattle.profile.specs.rooms.Revisions as revisions;
@@ -10,7 +10,7 @@ ghost use Rattle.ical_values.specs.Written.{Appends};
 ghost use Rattle.cal_events.specs.Events.{attendee_of};
 ghost use Rattle.itip_order.specs.Parts.{slot_of};
 ghost use Rattle.itip_messages.specs.Replies.{WritesLines, text_now};
-ghost use Rattle.itip_messages.specs.Meetings.{IsRequestOf, IsTextOf, WritesComponents, WritesLine};
+ghost use Rattle.itip_messages.specs.Meetings.{IsRequestOf, IsTextOf, WritesComponent, WritesComponents, WritesLine};
 
 use crate::body_text::write_body;
 use crate::event_lines::{write_revision, write_slot, write_status};
@@ -139,7 +139,7 @@ fn write_component<A: AttendeeLines>(
     component: &ObjectComponent,
     lines: &A,
 ) -> Result<(), AllocError>
-    ensures { OnOk result (WritesComponents (A.line lines.now) meeting.now (component.now ∷ []) zones.old zones.new object.old object.new) }
+    ensures { OnOk result (WritesComponent (A.line lines.now) meeting.now component.now zones.old zones.new object.old object.new) }
 {
     object.line("BEGIN:VEVENT")?;
     object.uid(meeting.uid)?;

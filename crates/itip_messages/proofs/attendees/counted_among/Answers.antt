@@ -1,5 +1,5 @@
 -- One line more: it counts where its address is new.
-use Rattle.std.proofs.Common.{◌∙◌, List, ℕ, map, sym, ap, subst, arith, take_all, refl}
+use Rattle.std.proofs.Common.{◌∙◌, List, map, sym, ap, subst, arith, take_all, refl}
 use Rattle.cal_events.specs.Events.{attendee_of}
 use Rattle.profile.specs.events.Events.{Attendee}
 use Rattle.profile.specs.organisers.Objects.{counted}

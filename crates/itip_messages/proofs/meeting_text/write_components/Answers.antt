@@ -1,5 +1,5 @@
 -- One component more.
-use Rattle.std.proofs.Common.{◌≡◌, ◌∙◌, ◌∷◌, ◌++◌, ◌+◌, [], List, take, take_all, sym, ap, subst, arith}
+use Rattle.std.proofs.Common.{◌≡◌, ◌∙◌, ◌∷◌, ◌++◌, ◌+◌, [], List, take, take_all, sym, ap, subst}
 use Rattle.std.proofs.lemmas.List.{take_more}
 use Rattle.itip_messages.specs.declared.organiser_object.ObjectComponent.{ObjectComponent}
 use Rattle.itip_messages.specs.Meetings.{WritesComponents}
