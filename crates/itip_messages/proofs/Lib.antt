@@ -15,6 +15,14 @@ pub mod RefreshReads
 pub mod AnswerReads
 pub mod OneMessage
 pub mod LineLemmas
+pub mod WrittenLines
+pub mod CancelLines
+pub mod CountedLines
+pub mod ZoneSets
+pub mod ZonesOnce
+pub mod NamedLines
+pub mod BodyContents
+pub mod MeetingLines
 pub mod BySlot
 pub mod MessageLemmas
 pub mod ObjectLemmas

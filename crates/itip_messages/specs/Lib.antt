@@ -7,3 +7,5 @@ pub mod Readings
 pub mod Meetings
 pub mod ReadBack
 pub mod Bodies
+pub mod Zoning
+pub mod BodyTexts

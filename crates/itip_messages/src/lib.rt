@@ -3,7 +3,9 @@
 
 mod attendees;
 mod body;
+mod body_text;
 mod cancel;
+mod event_lines;
 pub mod law;
 mod meeting_text;
 pub mod message;
@@ -13,10 +15,13 @@ mod refresh;
 pub mod reply;
 pub mod room_message;
 pub mod writer;
+mod zones;
 
 pub use attendees::Attendees;
 pub use body::zone_lines;
+pub use body_text::write_body;
 pub use cancel::{Cancel, write_cancel};
+pub use event_lines::write_slot;
 pub use law::{answers_read_back, one_message, refreshes_read_back, replies_read_back};
 pub use meeting_text::{AttendeeLines, MeetingText, write_meeting, write_request};
 pub use message::Message;
@@ -25,3 +30,4 @@ pub use refresh::{Refresh, write_refresh};
 pub use reply::{Conflict, ConflictKey, Decision, ReplyEvent, write_event, write_reply};
 pub use room_message::{MessageComponent, Method, RoomMessage};
 pub use writer::ObjectWriter;
+pub use zones::Zones;

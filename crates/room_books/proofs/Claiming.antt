@@ -40,7 +40,7 @@ use Rattle.room_books.specs.declared.claim.Claim.{Claim}
 use Rattle.room_books.specs.Claiming.{series_asked, series_at, AreClaimed, IsClaimIn, IsSameSeries}
 use Rattle.room_books.specs.Takings.{body_content, booked_in, claim_said, claims_said}
 use Rattle.room_books.specs.Standing.{Pairwise, IsFitting, IsFittingSeries, IsText, IsOfSlot, SlotDated}
-use Rattle.room_books.proofs.Bodies.{body_of}
+use Rattle.itip_messages.proofs.BodyContents.{body_of}
 use Rattle.room_books.proofs.Loops.{zip_push, one_more}
 use Rattle.room_books.proofs.Meetings.{is_of_from}
 use Rattle.room_books.proofs.Pairs.{map_from}
@@ -280,11 +280,7 @@ module _ (room : List ℕ) (message : RoomMessage) (given : profile.Message) (s 
   slot_there = ap (λ (p : Part). p.slot) x.part_is ∙ says.slot
 
   pub slot_dated : SlotDated (claim_said claim).part.slot
-  slot_dated = with_slot (claim_said claim).part.slot (subst IsDated (sym slot_there) says.dated)
-    where
-      with_slot : (o : Slot) → IsDated o → SlotDated o
-      with_slot Whole d = tt
-      with_slot (At t) d = d
+  slot_dated = subst IsDated (sym slot_there) says.dated
 
   pub name_there : (part_of claim.part).organiser ≡ address_octets message.organiser × (part_of claim.part).uid ≡ text_octets message.uid
   name_there = (ap (λ (p : Part). p.organiser) x.part_is, ap (λ (p : Part). p.uid) x.part_is)
