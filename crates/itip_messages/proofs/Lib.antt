@@ -13,6 +13,7 @@ pub mod ReplyLines
 pub mod ReplyReads
 pub mod RefreshReads
 pub mod AnswerReads
+pub mod CancelReads
 pub mod LineLemmas
 pub mod BySlot
 pub mod MessageLemmas

@@ -6,4 +6,5 @@ pub mod OrganiserObjects
 pub mod Readings
 pub mod Meetings
 pub mod ReadBack
+pub mod SentBack
 pub mod Bodies
