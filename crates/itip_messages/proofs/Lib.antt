@@ -7,6 +7,9 @@ pub mod RuleBack
 pub mod CleanBodies
 pub mod TimeLists
 pub mod ZonePlaces
+pub mod ZoneNames
+pub mod ZonedObjects
+pub mod ZonedStarts
 pub mod BodyLemmas
 pub mod WordText
 pub mod ReplyLines
