@@ -10,6 +10,7 @@ pub mod ZonePlaces
 pub mod ZoneNames
 pub mod ZonedObjects
 pub mod ZonedStarts
+pub mod SentOwn
 pub mod BodyLemmas
 pub mod WordText
 pub mod ReplyLines

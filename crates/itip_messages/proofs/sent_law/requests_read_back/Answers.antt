@@ -1,0 +1,7 @@
+-- Draft.
+use Rattle.std.proofs.Common.{refl}
+use Rattle.itip_messages.proofs.SentOwn.{sent_says}
+use Rattle.itip_messages.proofs.sent_law.requests_read_back.Goals as goal
+
+pub returns : goal.returns
+returns c = refl
