@@ -3,6 +3,7 @@ pub mod CleanUids
 pub mod ObjectTree
 pub mod ContentLines
 pub mod WrittenOctets
+pub mod RuleTwice
 pub mod RuleBack
 pub mod CleanBodies
 pub mod TimeLists
@@ -11,6 +12,7 @@ pub mod ZoneNames
 pub mod ZonedObjects
 pub mod ZonedStarts
 pub mod SentOwn
+pub mod SentWhen
 pub mod BodyLemmas
 pub mod WordText
 pub mod ReplyLines

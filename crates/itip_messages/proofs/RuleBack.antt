@@ -6,10 +6,10 @@ use Rattle.std.proofs.lemmas.Option.{same_Some}
 use Rattle.std.specs.Int.Signed.{lt_z}
 use Rattle.profile.specs.checker.Instances.{horizon}
 use Rattle.profile.specs.text.Lines.{line_value}
-use Rattle.profile.specs.text.Values.{SpellsDate}
+use Rattle.profile.specs.text.Values.{SpellsDate, WritesStamp}
 use Rattle.profile.specs.series.Days.{days_before, year_of, year_start}
 use Rattle.profile.specs.series.Rules.{Parts, RuleText, Until, UntilDay, UntilLocal, UntilInstant, is_rule_day, rule_of, text_in}
-use Rattle.profile.specs.series.RuleTexts.{HandsIn, IsGiven, SaysOr, SpellsRule, SpellsUntil, as_written, rule_text, values_of}
+use Rattle.profile.specs.series.RuleTexts.{HandsIn, IsGiven, SaysOr, SpellsRule, SpellsUntil, as_written, rule_text, until_text, values_of}
 use Rattle.profile.specs.series.Zones.{IsLastDay, IsOneMeaning, Zone}
 use Rattle.profile.specs.events.Properties.{BothOrNeither, first_second}
 use Rattle.profile.specs.events.EventRules.{GivesRule, IsLastAllowed, SaysEventRule, as_end}
@@ -23,6 +23,7 @@ use Rattle.cal_days.proofs.Dates.{named, year_ends}
 use Rattle.cal_zones.proofs.OneDay.{year_start_grows}
 use Rattle.cal_events.proofs.SaidRules.{rule_found}
 use Rattle.itip_messages.specs.Bodies.{EndIsTold, IsTold}
+use Rattle.itip_messages.proofs.RuleTwice.{text_twice}
 use Rattle.itip_messages.proofs.WrittenOctets.{is_early, rule_text_early}
 
 -- ---- the end
@@ -46,19 +47,25 @@ record EndBack (clock : Zone) (second : ℕ) (until : Option Until) (text : Opti
   end : Option Until
   hands : HandsIn until text end
   allowed : IsLastAllowed clock second end last
+  writes : BothOrNeither (WritesEnd clock) end text
+  same : until_text end text ≡ until_text until text
 
 end_back : (clock : Zone) (second : ℕ) → IsOneMeaning clock → (until : Option Until) (text : Option (List ℕ)) (last : ℕ) → BothOrNeither (WritesEnd clock) until text → IsLastAllowed clock second until last → EndBack clock second until text last
-end_back clock second one None None last w a = record { end = None; hands = refl; allowed = a }
-end_back clock second one (Some (UntilDay number)) (Some text) last w a = record { end = Some (UntilDay number); hands = w; allowed = a }
+end_back clock second one None None last w a = record { end = None; hands = refl; allowed = a; writes = tt; same = refl }
+end_back clock second one (Some (UntilDay number)) (Some text) last w a = record { end = Some (UntilDay number); hands = w; allowed = a; writes = w; same = refl }
 end_back clock second one (Some (UntilLocal local)) (Some text) last (t, means, w) (u, meant, a) = record {
   end = Some (UntilInstant (as_end t));
   hands = stamp_written text (as_end t) w;
   allowed = subst (λ (x : ℤ). IsLastDay clock second x last) (ap as_end (one local u t meant means) ∙ sym (end_twice t)) a;
+  writes = subst (WritesStamp text) (sym (end_twice t)) w;
+  same = refl;
 }
 end_back clock second one (Some (UntilInstant t)) (Some text) last w a = record {
   end = Some (UntilInstant (as_end t));
   hands = stamp_written text (as_end t) w;
   allowed = subst (λ (x : ℤ). IsLastDay clock second x last) (sym (end_twice t)) a;
+  writes = subst (WritesStamp text) (sym (end_twice t)) w;
+  same = refl;
 }
 end_back clock second one None (Some text) last w a = absurd w
 end_back clock second one (Some until) None last w a = absurd w
@@ -75,6 +82,8 @@ pub record RuleBack (clock : Zone) (local : ℤ) (rule : Parts) (lines : List (L
   pub back : Parts
   pub gives : GivesRule clock local text back
   pub same : (day : ℕ) → is_rule_day back day ≡ is_rule_day rule day
+  -- and they are written of it again
+  pub writes : WritesRule clock (Some back) lines
 
 pub rule_back : (clock : Zone) (local : ℤ) → IsOneMeaning clock → (value : List ℕ) (text : RuleText) (rule : Parts) (lines : List (List ℕ)) → SpellsRule value text → GivesRule clock local text rule → WritesRule clock (Some rule) lines
     → RuleBack clock local rule lines
@@ -95,6 +104,7 @@ rule_back clock local one value text rule lines spelled g (end, told, e) =
       back = back;
       gives = record { day = g.day; second = g.second; on = g.on; last = g.last; allowed = b.allowed; is = refl; starts = same g.day ∙ g.starts };
       same = same;
+      writes = (end, b.writes, e ∙ ap (λ (t : RuleText). (codes "RRULE:" ++ rule_text t end) ∷ []) same_text ∙ ap (λ v. (codes "RRULE:" ++ v) ∷ []) (sym (text_twice text b.end end b.same)));
     }
 
 -- ---- a date of UNTIL is at most 9999-12-31

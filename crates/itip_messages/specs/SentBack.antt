@@ -1,6 +1,7 @@
 -- What octets that an organiser wrote read back as: the message that they spell, and its parts.
-use Rattle.std.specs.Prelude.{ℕ, ◌<◌, ◌^◌, Bool, true, List, [], map, Some, None, pos}
+use Rattle.std.specs.Prelude.{◌≡◌, ℕ, ◌<◌, ◌^◌, Bool, true, List, [], map, Option, Some, None, pos}
 use Rattle.std.specs.Str.{IsUtf8}
+use Rattle.profile.specs.series.Rules.{Parts, is_rule_day}
 use Rattle.profile.specs.text.Values.{IsUid}
 use Rattle.profile.specs.events.Events.{Attendee, Event, Cancel, NeedsAction}
 use Rattle.profile.specs.events.ZonedTimes.{EventTimes}
@@ -56,3 +57,12 @@ cancel_message organiser uid revision called_off to = record { method = Cancel; 
 -- what it says to a room: the whole meeting is cancelled
 abbrev pub cancel_part : (organiser uid : List ℕ) → Revision → Part
 cancel_part organiser uid revision = record { organiser = organiser; uid = uid; slot = Whole; revision = revision; body = Cancelled }
+
+-- ---- a REQUEST
+
+-- both are missing, or both have the same days
+abbrev pub IsSameRule : Option Parts → Option Parts → Type 0
+IsSameRule None None = Unit {0}
+IsSameRule (Some rule) (Some back) = (day : ℕ) → is_rule_day back day ≡ is_rule_day rule day
+IsSameRule None (Some back) = ⊥
+IsSameRule (Some rule) None = ⊥
