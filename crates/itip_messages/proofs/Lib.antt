@@ -20,6 +20,10 @@ pub mod ReplyReads
 pub mod RefreshReads
 pub mod AnswerReads
 pub mod CancelReads
+pub mod EventLines
+pub mod StoredEvents
+pub mod SentContents
+pub mod SentEvents
 pub mod LineLemmas
 pub mod BySlot
 pub mod MessageLemmas

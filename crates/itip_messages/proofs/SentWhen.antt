@@ -1,6 +1,6 @@
 -- What an event that was read gives to the VEVENT that is sent of it: when it is, and the lines that say it.
 use Rattle.std.proofs.Common.{◌≡◌, ◌∙◌, refl, sym, ap, subst, inl, inr, ℕ, zero, suc, ℤ, ◌+◌, ◌*◌, ◌≤◌, Bool, true, false, ◌||◌, ◌&&◌, cond, List, [], ◌∷◌, ◌++◌, length, map, codes, Option, Some, None, arith, lt-ltb}
-use Rattle.std.specs.Prelude.{filter, Contains, is_some}
+use Rattle.std.specs.Prelude.{◌↔◌, filter, Contains, is_some}
 use Rattle.std.specs.Option.{option_to_list}
 use Rattle.std.specs.List.{list_all, list_any, flat_map, AllZip}
 use Rattle.std.proofs.lemmas.Bool.{and_from, false≢true, true≢false, or_parts}
@@ -201,11 +201,11 @@ pub record SentRule (clock : Zone) (local : ℤ) (rule : Option Parts) (rules : 
   pub back : Option Parts
   pub spells : SpellRule clock local rules back
   pub same : IsSameRule rule back
-  pub writes : WritesRule clock back rules
+  pub writes : (other : Lines) → WritesRule clock rule other ↔ WritesRule clock back other
 
 pub sent_rule : (times : EventTimes) (local : ℤ) → local ≡ times.local → IsOneMeaning (clock_of times.zone) → (rule : Option Parts) (rules : Lines) → IsRuled times rule → WritesRule (clock_of times.zone) rule rules
     → SentRule (clock_of times.zone) local rule rules
-sent_rule times local e one None rules r w = record { back = None; spells = w; same = tt; writes = w }
+sent_rule times local e one None rules r w = record { back = None; spells = w; same = tt; writes = λ other. (λ h. h, λ h. h) }
 sent_rule times local e one (Some rule) rules (value, text, spelled, gives) w =
     let b = rule_back (clock_of times.zone) times.local one value text rule rules spelled gives w in
     let gives_local = subst (λ (l : ℤ). GivesRule (clock_of times.zone) l b.text b.back) (sym e) b.gives in
