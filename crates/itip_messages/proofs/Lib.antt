@@ -24,6 +24,9 @@ pub mod EventLines
 pub mod StoredEvents
 pub mod SentContents
 pub mod SentEvents
+pub mod SentZones
+pub mod SentMeetings
+pub mod SentRequests
 pub mod LineLemmas
 pub mod BySlot
 pub mod MessageLemmas
