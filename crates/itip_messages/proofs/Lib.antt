@@ -27,6 +27,8 @@ pub mod SentEvents
 pub mod SentZones
 pub mod SentMeetings
 pub mod SentRequests
+pub mod SentParts
+pub mod RequestReads
 pub mod LineLemmas
 pub mod BySlot
 pub mod MessageLemmas

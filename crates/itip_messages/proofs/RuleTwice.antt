@@ -1,5 +1,5 @@
 -- A rule that is written, read and written again has the same text.
-use Rattle.std.proofs.Common.{◌≡◌, ◌∙◌, refl, sym, ap, ℕ, zero, suc, ◌<◌, ◌-◌, arith, Bool, true, false, cond, List, [], ◌∷◌, ◌++◌, map, length, codes, decimal, Option, None, Some, ℤ}
+use Rattle.std.proofs.Common.{◌≡◌, ◌∙◌, refl, sym, ap, ℕ, zero, suc, ◌-◌, arith, Bool, true, false, cond, List, [], ◌∷◌, ◌++◌, map, codes, decimal, Option, ℤ}
 use Rattle.std.specs.Prelude.{◌==◌, nat_eq, filter, Contains, if◌then◌else◌}
 use Rattle.std.specs.Fmt.{signed_decimal}
 use Rattle.std.specs.List.{list_any, range_with_len}

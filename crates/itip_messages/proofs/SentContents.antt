@@ -1,5 +1,5 @@
 -- An event that is said again has the same content.
-use Rattle.std.proofs.Common.{◌≡◌, ◌∙◌, refl, sym, ap, subst, ℤ, List, ◌∷◌, ◌++◌, ℕ, codes, filter}
+use Rattle.std.proofs.Common.{◌≡◌, ◌∙◌, sym, ap, subst, ℤ, List, ◌∷◌, ◌++◌, ℕ, codes, filter}
 use Rattle.std.specs.Prelude.{◌↔◌, Contains}
 use Rattle.profile.specs.events.Events.{Event}
 use Rattle.profile.specs.events.Properties.{BothOrNeither}

@@ -1,10 +1,9 @@
 -- A VEVENT that is sent of a stored event says it again.
-use Rattle.std.proofs.Common.{◌≡◌, ◌∙◌, refl, sym, ap, subst, ℕ, zero, suc, ℤ, ◌<◌, ◌^◌, Bool, true, false, List, [], ◌∷◌, ◌++◌, map, codes, decimal, Option, Some, None, inl, inr, arith, append_assoc, filter, not, cond}
+use Rattle.std.proofs.Common.{◌≡◌, ◌∙◌, refl, sym, ap, subst, ℕ, ℤ, ◌<◌, ◌^◌, false, List, [], ◌∷◌, ◌++◌, map, codes, decimal, Option, Some, None, inl, inr, arith, append_assoc, not}
 use Rattle.std.specs.Prelude.{Contains}
-use Rattle.std.specs.List.{list_all, AllZip}
+use Rattle.std.specs.List.{AllZip}
 use Rattle.std.specs.Str.{bytes_eq}
 use Rattle.profile.specs.events.Events.{Attendee, Event, Request, SaysEvent}
-use Rattle.profile.specs.events.ZonedTimes.{EventTimes}
 use Rattle.profile.specs.organisers.Objects.{counted}
 use Rattle.profile.specs.organisers.Sent.{Component, IsAsked, IsComponentOf, IsComponentText, status_lines}
 use Rattle.profile.specs.rooms.Messages.{Content, IsContent, TellsSlot, slot_named, slot_of}

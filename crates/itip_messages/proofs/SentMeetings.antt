@@ -1,13 +1,13 @@
 -- The meeting of events that are said again: its master and its overrides are those that were, each once.
-use Rattle.std.proofs.Common.{◌≡◌, ◌≢◌, ◌∙◌, refl, sym, ap, subst, inl, inr, ℕ, zero, suc, ℤ, ◌<◌, ◌≤◌, Bool, true, false, not, cond, List, [], ◌∷◌, ◌++◌, length, map, filter, Option, None, Some, is_some, arith}
-use Rattle.std.specs.Prelude.{◌⊎◌, AllPairs, Contains}
+use Rattle.std.proofs.Common.{◌≡◌, ◌≢◌, ◌∙◌, refl, sym, ap, subst, inl, inr, suc, ℤ, ◌≤◌, Bool, true, false, not, cond, List, [], ◌∷◌, ◌++◌, length, map, filter, Option, None, Some, is_some, arith}
+use Rattle.std.specs.Prelude.{AllPairs, Contains}
 use Rattle.std.specs.Option.{option_to_list}
 use Rattle.std.specs.List.{AllZip}
 use Rattle.std.proofs.lemmas.List.Elements.{Contains-append_cases}
 use Rattle.profile.specs.events.Events.{Event}
 use Rattle.profile.specs.events.Meetings.{InstancesDiffer, events_of, is_master, is_override}
 use Rattle.cal_events.proofs.InOneOrder.{head_pairs, mapped_pairs, of_filtered, tail_pairs}
-use Rattle.itip_order.proofs.Lists.{in_cons, in_head, in_tail, none_in_nil}
+use Rattle.itip_order.proofs.Lists.{in_cons, in_head, none_in_nil}
 use Rattle.itip_messages.specs.SentBack.{first_of, meeting_of}
 
 -- ---- of one instance each

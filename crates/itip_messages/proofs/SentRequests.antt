@@ -1,11 +1,11 @@
 -- A REQUEST that was written of a store spells a message whose events are the store's, said again.
-use Rattle.std.proofs.Common.{◌≡◌, ◌∙◌, refl, sym, ap, ap₂, subst, inl, inr, ℕ, ◌<◌, ◌≤◌, ◌^◌, Bool, true, false, List, [], ◌∷◌, ◌++◌, length, codes, Option, Some, None, arith}
+use Rattle.std.proofs.Common.{◌≡◌, ◌∙◌, refl, sym, ap, ap₂, subst, inl, inr, ℕ, ◌<◌, ◌≤◌, ◌^◌, true, false, List, [], ◌∷◌, ◌++◌, length, codes, Some, arith}
 use Rattle.std.specs.Prelude.{Contains, unwrap_or}
 use Rattle.std.specs.List.{list_all, flat_map, AllZip}
 use Rattle.std.proofs.lemmas.Bool.{and_from}
 use Rattle.profile.specs.text.Lines.{is_content, is_too_long, logical_lines, reads_as_lines, written}
 use Rattle.profile.specs.text.Objects.{IsObject, is_property}
-use Rattle.profile.specs.text.Trees.{Tree, tree_inside, tree_name, tree_own, vevents}
+use Rattle.profile.specs.text.Trees.{tree_inside, tree_name, tree_own}
 use Rattle.profile.specs.events.Events.{Event, NamesWord, Request, SaysEvent, meeting_said}
 use Rattle.profile.specs.organisers.Sent.{Component, IsAsked, IsComponentOf, IsComponentText, IsRequest, zones_of}
 use Rattle.profile.specs.rooms.Kept.{zone_texts}
@@ -14,15 +14,15 @@ use Rattle.profile.specs.rooms.Revisions.{Revision}
 use Rattle.cal_events.proofs.Zips.{zip_length}
 use Rattle.ical_lines.proofs.CleanLines.{fixed}
 use Rattle.itip_order.proofs.Lists.{in_cons, in_head, in_tail, none_in_nil}
-use Rattle.itip_messages.specs.SentBack.{IsSentAs, meeting_of, request_of}
+use Rattle.itip_messages.specs.SentBack.{IsSentAs, request_of}
 use Rattle.itip_messages.proofs.CancelReads.{bounded_reads}
 use Rattle.itip_messages.proofs.ContentLines.{IsMethod, LinesBack, ReadsLines}
 use Rattle.itip_messages.proofs.ObjectTree.{Lines, calendar_own, vevent_lines}
-use Rattle.itip_messages.proofs.SentEvents.{OneBack, one_back, request_word}
+use Rattle.itip_messages.proofs.SentEvents.{one_back, request_word}
 use Rattle.itip_messages.proofs.SentMeetings.{first_alone, masters_few, overrides_differ}
 use Rattle.itip_messages.proofs.SentZones.{sent_zones}
 use Rattle.itip_messages.proofs.StoredEvents.{AreStored, IsStored}
-use Rattle.itip_messages.proofs.ZonedObjects.{IsZonedTree, ZoneBack, bounded_object, object_octets, zoned_spelled}
+use Rattle.itip_messages.proofs.ZonedObjects.{IsZonedTree, ZoneBack, bounded_object, zoned_spelled}
 
 -- ---- all VEVENTs
 

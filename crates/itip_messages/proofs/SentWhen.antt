@@ -3,20 +3,20 @@ use Rattle.std.proofs.Common.{◌≡◌, ◌∙◌, refl, sym, ap, subst, inl, i
 use Rattle.std.specs.Prelude.{◌↔◌, filter, Contains, is_some}
 use Rattle.std.specs.Option.{option_to_list}
 use Rattle.std.specs.List.{list_all, list_any, flat_map, AllZip}
-use Rattle.std.proofs.lemmas.Bool.{and_from, false≢true, true≢false, or_parts}
+use Rattle.std.proofs.lemmas.Bool.{and_from, false≢true, or_parts}
 use Rattle.std.proofs.lemmas.List.Folds.{list_all-append}
 use Rattle.profile.specs.text.Lines.{is_content, line_param, line_value}
 use Rattle.profile.specs.text.Objects.{is_property}
 use Rattle.profile.specs.text.Trees.{Tree}
 use Rattle.profile.specs.text.Values.{WritesStamp, duration_text}
-use Rattle.profile.specs.events.Events.{Event, Method, Request, Add, Cancel, SaysEvent, adds_instances, may_lack_start}
+use Rattle.profile.specs.events.Events.{Event, Request, SaysEvent}
 use Rattle.profile.specs.events.Occurrences.{Entry, IsInside, SaysOccurrences, entries_of, IsRecurrenceLine, entries_named, most_entries}
 use Rattle.profile.specs.events.Properties.{Says, BothOrNeither, is_of, lines_named, length_seconds, longest}
 use Rattle.profile.specs.events.ZonedTimes.{EventTimes, SaysEventTimes, SaysTimes, SpellsZoned, IsInDates, is_in_zone, clock_of}
 use Rattle.profile.specs.series.Rules.{Parts, RuleText}
 use Rattle.profile.specs.series.RuleTexts.{SpellsRule}
 use Rattle.profile.specs.events.EventRules.{GivesRule, SaysEventRule}
-use Rattle.profile.specs.rooms.Messages.{Content, IsContent, WritesRule, WritesTimes, cancels, is_in_dates, list_lines}
+use Rattle.profile.specs.rooms.Messages.{Content, IsContent, WritesRule, WritesTimes, is_in_dates, list_lines}
 use Rattle.profile.specs.series.Zones.{Zone, IsOneMeaning, Means}
 use Rattle.cal_events.proofs.Meanings.{utc_instant}
 use Rattle.cal_events.proofs.SaidRules.{no_rule, rule_found}

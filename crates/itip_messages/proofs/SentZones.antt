@@ -1,6 +1,6 @@
 -- The zones of an object that is sent: each is one that some VTIMEZONE of the store said.
-use Rattle.std.proofs.Common.{◌≡◌, refl, ap, subst, inl, inr, ℕ, zero, suc, Bool, true, false, not, cond, List, [], ◌∷◌, ◌++◌, length, Option, None, Some, arith}
-use Rattle.std.specs.Prelude.{◌⊎◌, filter, Contains}
+use Rattle.std.proofs.Common.{subst, inl, inr, ℕ, not, List, [], ◌∷◌, Option, None, Some}
+use Rattle.std.specs.Prelude.{Contains}
 use Rattle.std.specs.Option.{option_to_list}
 use Rattle.std.specs.List.{flat_map, AllZip}
 use Rattle.std.specs.Str.{bytes_eq}
@@ -9,7 +9,7 @@ use Rattle.profile.specs.events.Events.{Event}
 use Rattle.profile.specs.events.Properties.{BothOrNeither}
 use Rattle.profile.specs.organisers.Sent.{Component, IsComponentOf, zones_of}
 use Rattle.profile.specs.rooms.Kept.{each_once}
-use Rattle.profile.specs.rooms.Messages.{Content, IsContent, IsZoneRest}
+use Rattle.profile.specs.rooms.Messages.{IsZoneRest}
 use Rattle.profile.specs.series.Zones.{Zone}
 use Rattle.cal_events.proofs.InOneOrder.{of_filtered}
 use Rattle.itip_order.proofs.Lists.{in_cons, in_head, in_tail, none_in_nil}

@@ -1,7 +1,6 @@
 -- What is known of the events of a store that was read: their texts can stand in lines, and they say when they are.
-use Rattle.std.proofs.Common.{◌≡◌, ◌∙◌, refl, sym, ap, subst, inl, inr, ℕ, ℤ, ◌<◌, ◌≤◌, nat_lt, Bool, true, false, List, [], ◌∷◌, length, map, filter, codes, Option, Some, None, is_some, arith}
+use Rattle.std.proofs.Common.{◌≡◌, ◌∙◌, refl, sym, ap, subst, inl, inr, ℕ, ℤ, ◌<◌, ◌≤◌, nat_lt, true, false, List, [], ◌∷◌, length, filter, codes, Option, Some, None, is_some, arith}
 use Rattle.std.specs.Prelude.{Contains, count_by, unwrap_or}
-use Rattle.std.specs.Option.{option_to_list}
 use Rattle.std.specs.List.{AllZip}
 use Rattle.std.proofs.lemmas.Bool.{false≢true}
 use Rattle.std.proofs.lemmas.Bool.Decides.{nat_tests}
@@ -9,9 +8,9 @@ use Rattle.std.proofs.lemmas.List.{length-map}
 use Rattle.std.proofs.lemmas.List.Sums.{length-filter}
 use Rattle.std.proofs.lemmas.Str.{IsUtf8-nil}
 use Rattle.profile.specs.text.Lines.{is_same_name, line_param, line_value, logical_lines}
-use Rattle.profile.specs.text.Objects.{IsObject, most_events}
+use Rattle.profile.specs.text.Objects.{most_events}
 use Rattle.profile.specs.text.Trees.{Tree, tree_inside, tree_name, tree_own, vevents}
-use Rattle.profile.specs.text.Values.{IsUid, lower_case}
+use Rattle.profile.specs.text.Values.{IsUid}
 use Rattle.profile.specs.series.Zones.{IsOneMeaning, Zone}
 use Rattle.profile.specs.series.ZoneTexts.{SaysZone}
 use Rattle.profile.specs.events.Events.{Attendee, Event, IsAttendee, Request, SaysEvent, first_text, meeting_said}

@@ -18,7 +18,7 @@ use Rattle.profile.specs.series.ZoneTexts.{SaysZone}
 use Rattle.profile.specs.text.Lines.{is_content, is_same_name, folded, written, logical_lines}
 use Rattle.profile.specs.text.Objects.{is_property, is_calendar_name, most_events, IsObject}
 use Rattle.profile.specs.text.Objects.SpellsBody.{component}
-use Rattle.profile.specs.text.Trees.{Tree, tree, none, trees_list, tree_name, tree_own, tree_inside, vevents}
+use Rattle.profile.specs.text.Trees.{Tree, tree, trees_list, tree_name, tree_own, tree_inside, vevents}
 use Rattle.profile.specs.text.Values.{escaped}
 use Rattle.profile.specs.written.WrittenZones.{WritesParts, WritesZone, IsZoneText, IsTextName, ReadsAsZone, component_lines, keeping, rule_lines}
 use Rattle.ical_lines.proofs.CleanLines.{IsClean, clean_shown, valued, fixed}
