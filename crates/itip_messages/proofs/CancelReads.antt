@@ -29,6 +29,7 @@ use Rattle.itip_messages.proofs.CleanText.{clean_address}
 use Rattle.itip_messages.proofs.CleanUids.{clean_text}
 use Rattle.itip_messages.proofs.ObjectTree.{Lines, vevent_lines, calendar_tree, object_spelled}
 use Rattle.itip_messages.proofs.ContentLines.{LinesBack, ReadsLines, IsMethod, object_content, uid_line, sequence_line, stamp_line, organiser_line, attendee_line}
+use Rattle.itip_messages.proofs.SentTexts.{bounded_reads, none_passes, status_own, text_of}
 use Rattle.itip_messages.proofs.ReplyLines.{AreOwn, own_none, own_more, own_both}
 
 -- ---- the lines of attendees
@@ -56,20 +57,9 @@ all_say (a ∷ to) f =
     let here = (f a (in_head a to)).read in
     (record { address = (here.address, sym here.lower); participation = refl; scheduled = refl }, all_say to (λ x c. f x (in_tail a to x c)))
 
-text_of : (address : List ℕ) → IsSentAddress address → IsTextAddress address
-text_of address s = record { address = s.read.address; utf8 = s.utf8 }
-
 all_own : (to : List (List ℕ)) → Sendable to → AreOwn (lines_of to)
 all_own [] f = own_none
 all_own (a ∷ to) f = own_more (line_of a) (lines_of to) (attendee_line a (clean_address a (text_of a (f a (in_head a to))))) refl (all_own to (λ x c. f x (in_tail a to x c)))
-
-none_passes : {X : Type 0} (p : X → Bool) (xs : List X) → filter p xs ≡ [] → list_any p xs ≡ false
-none_passes p [] e = refl
-none_passes {X = X} p (x ∷ xs) e = by (p x) (none_passes p xs) e
-  where
-    by : (b : Bool) → (filter p xs ≡ [] → list_any p xs ≡ false) → cond b (x ∷ filter p xs) (filter p xs) ≡ [] → b || list_any p xs ≡ false
-    by true f d = cc
-    by false f d = f d
 
 -- ---- the own lines of the VEVENT
 
@@ -77,10 +67,6 @@ abbrev own_lines : (organiser uid : List ℕ) → ℕ → List ℕ → Bool → 
 own_lines organiser uid sequence stamp called_off to =
     (codes "UID:" ++ escaped uid) ∷ (codes "SEQUENCE:" ++ decimal sequence) ∷ (codes "DTSTAMP:" ++ stamp)
     ∷ (status_lines called_off ++ ((codes "ORGANIZER:" ++ organiser) ∷ lines_of to))
-
-status_own : (called_off : Bool) → AreOwn (status_lines called_off)
-status_own true = let line : is_content (codes "STATUS:CANCELLED") ≡ true = fixed (codes "STATUS:CANCELLED") refl refl refl refl in own_more (codes "STATUS:CANCELLED") [] line refl own_none
-status_own false = own_none
 
 -- they are content lines, and properties
 are_own : (organiser uid : List ℕ) (revision : Revision) (called_off : Bool) (to : List (List ℕ)) (stamp : List ℕ) → IsSentName organiser uid revision → Sendable to → SpellsStamp stamp revision.stamp → AreOwn ((codes "DTSTAMP:" ++ stamp) ∷ [])
@@ -207,12 +193,6 @@ module _ (organiser uid : List ℕ) (revision : Revision) (to : List (List ℕ))
 
 cancel_method : IsMethod (Some (codes "CANCEL"))
 cancel_method = let m : is_content (codes "METHOD:CANCEL") ≡ true = fixed (codes "METHOD:CANCEL") refl refl refl refl in and_from _ _ m refl
-
--- within the limits of a message
-pub bounded_reads : (octets : List ℕ) → reads_as_lines false octets ≡ true → is_too_long octets ≡ false → reads_as_lines true octets ≡ true
-bounded_reads octets r short =
-    let both = and_parts (not (list_any is_faulty (logical_lines octets)) && is_utf8 (ended (logical_lines octets))) true r in
-    and_from _ _ both.0 (ap not short)
 
 only_one : (event a : Event) → Contains (event ∷ []) a → a ≡ event
 only_one event a c = elim (in_cons event [] a c) [

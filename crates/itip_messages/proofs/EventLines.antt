@@ -12,17 +12,10 @@ use Rattle.profile.specs.text.Lines.{outside_from, outside, line_value, is_contr
 use Rattle.profile.specs.text.Trees.{Tree, tree_name, tree_own, tree_inside, vevents}
 use Rattle.profile.specs.text.Objects.{SpellsBody, IsObject}
 use Rattle.profile.specs.text.Objects.SpellsBody.{nothing, property, component}
-use Rattle.itip_order.proofs.Lists.{in_cons, in_head, in_tail, none_in_nil, filter_at}
+use Rattle.cal_events.proofs.InOneOrder.{of_mapped}
+use Rattle.itip_order.proofs.Lists.{in_cons, in_tail, none_in_nil, filter_at}
 use Rattle.ical_lines.proofs.CleanLines.{IsClean}
 use Rattle.itip_messages.proofs.ObjectTree.{Lines}
-
-map_at : {X Y : Type 0} (f : X → Y) (xs : List X) (y : Y) → Contains (map f xs) y → (x : X) × Contains xs x × (f x ≡ y)
-map_at f [] y c = absurd (none_in_nil y c)
-map_at f (x ∷ xs) y c =
-    elim (in_cons (f x) (map f xs) y c) [
-      | inl here ↦ (x, in_head x xs, here)
-      | inr there ↦ let rest = map_at f xs y there in (rest.0, in_tail x xs rest.0 rest.1, rest.2)
-    ]
 
 -- ---- the value of a line
 
@@ -147,7 +140,7 @@ holds (component {lines = own} {parts = parts} {body = body} part begin end inne
 -- the lines of a VEVENT are among the lines of its object
 pub vevent_among : (bounded : Bool) (whole : Tree) (lines own : Lines) → IsObject tree_name tree_own tree_inside bounded whole lines → Contains (vevents whole) own → HasLine lines own
 vevent_among bounded whole lines own object c line k =
-    let found = map_at tree_own _ own c in
+    let found = of_mapped tree_own _ own c in
     let part = (filter_at _ (tree_inside whole) found.0 found.1).0 in
     let body = object.spelled.body in
     let inside : Contains body line = (holds object.spelled.holds).of_part found.0 part line (subst (λ (l : Lines). Contains l line) (sym found.2) k) in

@@ -19,6 +19,7 @@ pub mod ReplyLines
 pub mod ReplyReads
 pub mod RefreshReads
 pub mod AnswerReads
+pub mod SentTexts
 pub mod CancelReads
 pub mod EventLines
 pub mod StoredEvents

@@ -24,6 +24,7 @@ use Rattle.itip_messages.proofs.ObjectTree.{Lines, vevent_lines}
 use Rattle.itip_messages.proofs.ReplyLines.{AreOwn}
 use Rattle.itip_messages.proofs.SentContents.{same_content}
 use Rattle.itip_messages.proofs.SentOwn.{SpellPart, SpellSlot, asked_line, own_front, own_lines, sent_event, sent_says, slot_lines, when_lines}
+use Rattle.itip_messages.proofs.SentTexts.{text_of}
 use Rattle.itip_messages.proofs.SentWhen.{IsCleanSlot, duration_clean, duration_of, sent_own, sent_rule, when_of}
 use Rattle.itip_messages.proofs.StoredEvents.{IsStored}
 use Rattle.itip_messages.proofs.ZonedObjects.{IsZonedTree}
@@ -72,9 +73,6 @@ counted_among (b ∷ more) a c = elim (in_cons b _ a c) [
   | inl here ↦ subst (λ (x : Attendee). Contains (b ∷ more) x) here (in_head b more)
   | inr there ↦ in_tail b more a (counted_among more a (of_filtered (λ other. not (bytes_eq b.address other.address)) (counted more) a there).0)
 ]
-
-text_of : (address : List ℕ) → IsSentAddress address → IsTextAddress address
-text_of address s = record { address = s.read.address; utf8 = s.utf8 }
 
 -- ---- one VEVENT
 

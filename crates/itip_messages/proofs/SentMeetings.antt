@@ -7,6 +7,7 @@ use Rattle.std.proofs.lemmas.List.Elements.{Contains-append_cases}
 use Rattle.profile.specs.events.Events.{Event}
 use Rattle.profile.specs.events.Meetings.{InstancesDiffer, events_of, is_master, is_override}
 use Rattle.cal_events.proofs.InOneOrder.{head_pairs, mapped_pairs, of_filtered, tail_pairs}
+use Rattle.cal_events.proofs.Zips.{zip_length}
 use Rattle.itip_order.proofs.Lists.{in_cons, in_head, none_in_nil}
 use Rattle.itip_messages.specs.SentBack.{first_of, meeting_of}
 
@@ -87,12 +88,6 @@ module _ (R : Event → Event → Type 0) (slots : (a b : Event) → R a b → a
       by false true e r = cc
 
 module _ (R : Event → Event → Type 0) (slots : (a b : Event) → R a b → a.recurrence ≡ b.recurrence) where
-  zip_count : (xs ys : List Event) → AllZip R xs ys → length xs ≡ length ys
-  zip_count [] [] z = refl
-  zip_count [] (y ∷ ys) z = absurd z
-  zip_count (x ∷ xs) [] z = absurd z
-  zip_count (x ∷ xs) (y ∷ ys) z = ap suc (zip_count xs ys z.1)
-
   zip_slots : (xs ys : List Event) → AllZip R xs ys → map (λ e. e.recurrence) xs ≡ map (λ e. e.recurrence) ys
   zip_slots [] [] z = refl
   zip_slots [] (y ∷ ys) z = absurd z
@@ -109,7 +104,7 @@ module _ (R : Event → Event → Type 0) (slots : (a b : Event) → R a b → a
   overrides_zip xs ys z = picked_zip R slots is_some xs ys z
 
   pub masters_few : (xs ys : List Event) → AllZip R xs ys → length (filter is_master xs) ≤ 1 → length (filter is_master ys) ≤ 1
-  masters_few xs ys z few = omega (arith, few, zip_count (filter is_master xs) (filter is_master ys) (masters_zip xs ys z))
+  masters_few xs ys z few = omega (arith, few, zip_length R (filter is_master xs) (filter is_master ys) (masters_zip xs ys z))
 
   pub overrides_differ : (xs ys : List Event) → AllZip R xs ys → InstancesDiffer (filter is_override xs) → InstancesDiffer (filter is_override ys)
   overrides_differ xs ys z differ = subst (AllPairs ◌≢◌) (zip_slots (filter is_override xs) (filter is_override ys) (overrides_zip xs ys z)) differ

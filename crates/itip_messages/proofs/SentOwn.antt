@@ -12,6 +12,7 @@ use Rattle.profile.specs.organisers.Sent.{status_lines}
 use Rattle.profile.specs.rooms.Revisions.{Revision}
 use Rattle.profile.specs.events.Events.{Event, IsAttendee, Request, SaysEvent, first_text}
 use Rattle.itip_messages.specs.ReadBack.{IsReadAddress}
+use Rattle.itip_messages.proofs.SentTexts.{none_passes}
 use Rattle.itip_messages.specs.SentBack.{attendee_at}
 use Rattle.profile.specs.events.Occurrences.{IsListed, IsInside, entries_of, entries_named, most_entries}
 use Rattle.profile.specs.events.Properties.{is_of, lines_named, length_seconds, longest}
@@ -75,14 +76,6 @@ filter_both {X = X} p (x ∷ xs) ys = by (p x) (filter_both p xs ys)
     by : (b : Bool) → filter p (xs ++ ys) ≡ filter p xs ++ filter p ys → cond b (x ∷ filter p (xs ++ ys)) (filter p (xs ++ ys)) ≡ cond b (x ∷ filter p xs) (filter p xs) ++ filter p ys
     by true e = ap (λ l. x ∷ l) e
     by false e = e
-
-none_passes : {X : Type 0} (p : X → Bool) (xs : List X) → filter p xs ≡ [] → list_any p xs ≡ false
-none_passes p [] e = refl
-none_passes {X = X} p (x ∷ xs) e = by (p x) (none_passes p xs) e
-  where
-    by : (b : Bool) → (filter p xs ≡ [] → list_any p xs ≡ false) → cond b (x ∷ filter p xs) (filter p xs) ≡ [] → b || list_any p xs ≡ false
-    by true f d = cc
-    by false f d = f d
 
 none_of_both : {X : Type 0} (p q : X → Bool) (xs : List X) → list_any p xs ≡ false → list_any q xs ≡ false → list_any (λ x. p x || q x) xs ≡ false
 none_of_both p q [] e d = refl

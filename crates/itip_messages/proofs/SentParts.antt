@@ -11,6 +11,7 @@ use Rattle.profile.specs.organisers.Objects.{counted}
 use Rattle.profile.specs.rooms.Messages.{AreBySlot, AreParts, Content, IsBody, IsContent, IsPart, is_for, is_part_for, names_room, own_revision, parts_for, raised_to, slot_named, slot_of}
 use Rattle.profile.specs.rooms.Revisions.{Absent, Body, Cancelled, Part, Set, Slot, slot_cmp}
 use Rattle.cal_events.proofs.InOneOrder.{mapped_pairs, pairs_mapped}
+use Rattle.cal_events.proofs.SeriesLemmas.{zip_back, zip_with}
 use Rattle.itip_order.proofs.Lists.{in_cons, in_head, in_tail, none_in_nil}
 use Rattle.itip_messages.specs.SentBack.{attendee_at, first_of, meeting_of, request_of}
 use Rattle.itip_messages.proofs.SentMeetings.{AreApart, masters_zip, meetings_zip}
@@ -91,22 +92,6 @@ module _ (room : List ℕ) (xs ys : List Event) (z : AllZip IsAlike xs ys) where
 
 -- ---- by their slots
 
-zip_there : (xs ys : List Event) (x : Event) → AllZip IsAlike xs ys → Contains xs x → (y : Event) × Contains ys y × IsAlike x y
-zip_there [] ys x z c = absurd (none_in_nil x c)
-zip_there (w ∷ xs) [] x z c = absurd z
-zip_there (w ∷ xs) (y ∷ ys) x z c = elim (in_cons w xs x c) [
-  | inl here ↦ (y, in_head y ys, subst (λ (v : Event). IsAlike v y) here z.0)
-  | inr there ↦ let r = zip_there xs ys x z.1 there in (r.0, in_tail y ys r.0 r.1, r.2)
-]
-
-zip_back : (xs ys : List Event) (y : Event) → AllZip IsAlike xs ys → Contains ys y → (x : Event) × Contains xs x × IsAlike x y
-zip_back xs [] y z c = absurd (none_in_nil y c)
-zip_back [] (w ∷ ys) y z c = absurd z
-zip_back (x ∷ xs) (w ∷ ys) y z c = elim (in_cons w ys y c) [
-  | inl here ↦ (x, in_head x xs, subst (IsAlike x) here z.0)
-  | inr there ↦ let r = zip_back xs ys y z.1 there in (r.0, in_tail x xs r.0 r.1, r.2)
-]
-
 -- these are alike, in another order
 record Again (ys ordered : List Event) : Type 0 where
   again : List Event
@@ -116,7 +101,7 @@ record Again (ys ordered : List Event) : Type 0 where
 again_of : (xs ys : List Event) → AllZip IsAlike xs ys → (ordered : List Event) → ((x : Event) → Contains ordered x → Contains xs x) → Again ys ordered
 again_of xs ys z [] f = record { again = []; alike = tt; among = λ y c. absurd (none_in_nil y c) }
 again_of xs ys z (x ∷ ordered) f =
-    let one = zip_there xs ys x z (f x (in_head x ordered)) in
+    let one = zip_with IsAlike xs ys x z (f x (in_head x ordered)) in
     let rest = again_of xs ys z ordered (λ w c. f w (in_tail x ordered w c)) in
     record {
       again = one.0 ∷ rest.again;
@@ -141,8 +126,8 @@ again_by_slot xs ys ordered z differ by_slot a = record {
   exact = λ y. (
     λ c. a.among y c,
     λ c.
-        let x = zip_back xs ys y z c in
-        let other = zip_there ordered a.again x.0 a.alike ((by_slot.exact x.0).1 x.1) in
+        let x = zip_back IsAlike xs ys y z c in
+        let other = zip_with IsAlike ordered a.again x.0 a.alike ((by_slot.exact x.0).1 x.1) in
         let same : other.0 ≡ y = differ other.0 y (a.among other.0 other.1) c (sym other.2.recurrence ∙ x.2.recurrence) in
         subst (λ (w : Event). Contains a.again w) same other.1,
   );

@@ -15,7 +15,7 @@ use Rattle.cal_events.proofs.Zips.{zip_length}
 use Rattle.ical_lines.proofs.CleanLines.{fixed}
 use Rattle.itip_order.proofs.Lists.{in_cons, in_head, in_tail, none_in_nil}
 use Rattle.itip_messages.specs.SentBack.{IsSentAs, request_of}
-use Rattle.itip_messages.proofs.CancelReads.{bounded_reads}
+use Rattle.itip_messages.proofs.SentTexts.{bounded_reads}
 use Rattle.itip_messages.proofs.ContentLines.{IsMethod, LinesBack, ReadsLines}
 use Rattle.itip_messages.proofs.ObjectTree.{Lines, calendar_own, vevent_lines}
 use Rattle.itip_messages.proofs.SentEvents.{one_back, request_word}

@@ -23,6 +23,7 @@ use Rattle.cal_events.proofs.SaidRules.{no_rule, rule_found}
 use Rattle.ical_lines.proofs.CleanLines.{IsClean, is_shown, clean_shown, valued, fixed}
 use Rattle.profile.specs.organisers.Sent.{status_lines}
 use Rattle.itip_messages.proofs.ContentLines.{uid_line, sequence_line, stamp_line, organiser_line}
+use Rattle.itip_messages.proofs.SentTexts.{status_own}
 use Rattle.itip_messages.proofs.ReplyLines.{AreOwn, own_none, own_more, own_both}
 use Rattle.ical_values.proofs.Spans.{duration_written}
 use Rattle.itip_messages.proofs.TimeLists.{IsStart, ascending_short, filter_short, rdate_name, exdate_name, times_content, times_properties, utc_means}
@@ -274,10 +275,6 @@ front_properties (Some text) uid sequence stamp = refl
 attendees_own : (addresses : List (List ℕ)) → ((address : List ℕ) → Contains addresses address → IsClean address) → AreOwn (map asked_line addresses)
 attendees_own [] f = own_none
 attendees_own (a ∷ more) f = own_more (asked_line a) (map asked_line more) (attendee_content a (f a (zero, omega arith, refl))) refl (attendees_own more (λ x c. f x (suc c.0, omega (arith, c.1), c.2)))
-
-status_own : (cancelled : Bool) → AreOwn (status_lines cancelled)
-status_own true = let line : is_content (codes "STATUS:CANCELLED") ≡ true = fixed (codes "STATUS:CANCELLED") refl refl refl refl in own_more (codes "STATUS:CANCELLED") [] line refl own_none
-status_own false = own_none
 
 back_own : (cancelled : Bool) (summary organiser : List ℕ) (addresses : List (List ℕ)) → IsClean summary → IsClean organiser → ((address : List ℕ) → Contains addresses address → IsClean address) → AreOwn (own_back cancelled summary organiser addresses)
 back_own cancelled summary organiser addresses s o f =

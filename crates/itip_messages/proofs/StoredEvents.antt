@@ -1,5 +1,5 @@
 -- What is known of the events of a store that was read: their texts can stand in lines, and they say when they are.
-use Rattle.std.proofs.Common.{◌≡◌, ◌∙◌, refl, sym, ap, subst, inl, inr, ℕ, ℤ, ◌<◌, ◌≤◌, nat_lt, true, false, List, [], ◌∷◌, length, filter, codes, Option, Some, None, is_some, arith}
+use Rattle.std.proofs.Common.{◌≡◌, ◌∙◌, refl, sym, ap, subst, inl, inr, ℕ, ℤ, ◌<◌, ◌≤◌, ◌^◌, nat_lt, true, false, List, [], ◌∷◌, length, filter, codes, Option, Some, None, is_some, arith}
 use Rattle.std.specs.Prelude.{Contains, count_by, unwrap_or}
 use Rattle.std.specs.List.{AllZip}
 use Rattle.std.proofs.lemmas.Bool.{false≢true}
@@ -10,6 +10,7 @@ use Rattle.std.proofs.lemmas.Str.{IsUtf8-nil}
 use Rattle.profile.specs.text.Lines.{is_same_name, line_param, line_value, logical_lines}
 use Rattle.profile.specs.text.Objects.{most_events}
 use Rattle.profile.specs.text.Trees.{Tree, tree_inside, tree_name, tree_own, vevents}
+use Rattle.profile.specs.rooms.Revisions.{Revision}
 use Rattle.profile.specs.text.Values.{IsUid}
 use Rattle.profile.specs.series.Zones.{IsOneMeaning, Zone}
 use Rattle.profile.specs.series.ZoneTexts.{SaysZone}
@@ -25,7 +26,7 @@ use Rattle.ical_lines.proofs.CleanLines.{IsClean}
 use Rattle.ical_values.proofs.Addresses.{lower_address, lower_twice}
 use Rattle.itip_order.proofs.Lists.{filter_at, in_cons, in_head, in_tail, none_in_nil}
 use Rattle.itip_messages.specs.ReadBack.{IsTextValue}
-use Rattle.itip_messages.specs.SentBack.{IsSentAddress}
+use Rattle.itip_messages.specs.SentBack.{IsSentAddress, IsSentName}
 use Rattle.itip_messages.proofs.CleanText.{text_address}
 use Rattle.itip_messages.proofs.CleanUids.{text_value}
 use Rattle.itip_messages.proofs.EventLines.{clean_value, vevent_among}
@@ -171,3 +172,19 @@ stored_events octets said s store =
       masters = s.says.are.masters;
       differ = s.says.are.differ;
     }
+
+-- ---- what is sent of it
+
+pub stored_name : (octets : List ℕ) (said : OrganiserObject) (revision : Revision) → SpellsOrganiserObject octets said → said.operation ≡ Store → revision.sequence < 2 ^ 31 → IsSentName said.organiser said.uid revision
+stored_name octets said revision s store small =
+    let f = stored_events octets said s store in
+    let one = first_of said.events f.some in
+    let is = f.each one.0 one.1 in
+    record { address = is.address; is_uid = is.is_uid; text = is.text; small = small }
+  where
+    first_of : (events : List Event) → 0 < length events → (event : Event) × Contains events event
+    first_of [] h = absurd (omega (arith, h))
+    first_of (e ∷ events) h = (e, in_head e events)
+
+pub stored_attendee : (octets : List ℕ) (said : OrganiserObject) (event : Event) (attendee : Attendee) → SpellsOrganiserObject octets said → said.operation ≡ Store → Contains said.events event → Contains event.attendees attendee → IsSentAddress attendee.address
+stored_attendee octets said event attendee s store c k = ((stored_events octets said s store).each event c).attendees attendee k

@@ -1,11 +1,21 @@
 //! What an organiser writes reads back: the message that its octets spell, and what that says to each room.
 ghost use Rattle.std.specs.Prelude.{◌≡◌, ℕ, List, [], ◌∷◌, Contains, Bool, false, ◌<◌, ◌^◌};
+ghost use Rattle.profile.specs.events.Events.{Attendee, Event};
 ghost use Rattle.profile.specs.organisers.Objects.{OrganiserObject, SpellsOrganiserObject, Store};
 ghost use Rattle.profile.specs.organisers.Sent.{IsCancel, IsRequest};
 ghost use Rattle.profile.specs.rooms.Messages.{AreParts, SpellsMessage};
 ghost use Rattle.profile.specs.rooms.Revisions.{Revision};
 ghost use Rattle.profile.specs.text.Lines.{is_too_long};
 ghost use Rattle.itip_messages.specs.SentBack.{IsSentAddress, IsSentName, SpellsRequest, cancel_message, cancel_part};
+
+/// What an organiser read of a store can be sent: its organiser and its UID, and the addresses of its attendees.
+pub fn stored_texts_can_be_sent()
+    ensures name { (stored : List ℕ) (said : OrganiserObject) (revision : Revision)
+        → SpellsOrganiserObject stored said → said.operation ≡ Store → revision.sequence < 2 ^ 31 → IsSentName said.organiser said.uid revision }
+    ensures attendees { (stored : List ℕ) (said : OrganiserObject) (event : Event) (attendee : Attendee)
+        → SpellsOrganiserObject stored said → said.operation ≡ Store → Contains said.events event → Contains event.attendees attendee
+        → IsSentAddress attendee.address }
+{}
 
 /// Whatever an organiser takes back: the octets of its CANCEL spell a message of that METHOD, whose meeting is one VEVENT for the whole,
 /// of this organiser, UID and revision, cancelled where it is called off, with the attendees in their order (RFC 5546 3.2.5). So it says to each
