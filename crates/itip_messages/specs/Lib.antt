@@ -6,6 +6,7 @@ pub mod OrganiserObjects
 pub mod Readings
 pub mod Meetings
 pub mod ReadBack
+pub mod SentBack
 pub mod Bodies
 pub mod Zoning
 pub mod BodyTexts
