@@ -18,7 +18,7 @@ from datetime import datetime, timedelta
 NOW = "20250102T000000Z"
 ORGANISERS = ["mailto:ann@example.com", "mailto:bob@example.com"]
 STRANGER = "mailto:eve@example.com"
-PEOPLE = ["mailto:r1@example.com", "mailto:r2@example.com", "mailto:cid@example.com", "mailto:dora@example.com"]
+PEOPLE = ["mailto:r1@example.com", "mailto:r2@example.com", "mailto:cid@example.com", "mailto:dora@example.com", ORGANISERS[0]]
 MOST = 2_147_483_647
 RANKS = ["NEEDS-ACTION", "TENTATIVE", "ACCEPTED", "DELEGATED", "DECLINED"]
 HEAD = ["BEGIN:VCALENDAR", "VERSION:2.0", "PRODID:-//iTIP room box//EN"]
@@ -121,7 +121,7 @@ class Stored:
                 flags.setdefault(address, False)
             for address, by_server in event.attendees():
                 flags[address] |= by_server
-        self.named, self.sent_to = set(flags), [it for it in flags if flags[it]]
+        self.named, self.sent_to = set(flags), [it for it in flags if flags[it] and it != organiser]
         gone = [it for it in gone if it not in self.sent_to]
         self.seen = {}
         if any(it.cancelled and not it.instance for it in events):
