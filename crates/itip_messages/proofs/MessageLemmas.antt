@@ -1,5 +1,5 @@
 -- What the lines of a message say, and what is wrong with them.
-use Rattle.std.proofs.Common.{◌≡◌, ◌∙◌, ℕ, zero, suc, ◌<◌, ◌+◌, Bool, true, false, not, ◌&&◌, ◌||◌, cond, eqb, ap₂, filter, take, List, [], ◌∷◌, ◌++◌, length, map, get_or, refl, sym, ap, subst, arith, Option, Some, None, IsSome, is_some, option_map, unwrap_or, ℤ}
+use Rattle.std.proofs.Common.{◌≡◌, ◌∙◌, ℕ, zero, suc, ◌<◌, ◌+◌, Bool, true, false, not, ◌&&◌, ◌||◌, cond, eqb, ap₂, filter, take, List, [], ◌∷◌, ◌++◌, length, map, get_or, refl, sym, ap, subst, arith, inl, inr, Option, Some, None, IsSome, is_some, option_map, unwrap_or, ℤ}
 use Rattle.ical_lines.specs.Fault.{RefusesBy, RefusesOnly}
 use Rattle.std.specs.Prelude.{◌↔◌, MatchOption, Result, Ok, Err, IfErr, Contains, codes}
 use Rattle.std.specs.Option.{option_to_list}

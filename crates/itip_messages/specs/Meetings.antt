@@ -1,5 +1,5 @@
 -- What is written of a meeting, as what was read of it stands for events.
-use Rattle.std.specs.Prelude.{◌≡◌, ◌++◌, ℕ, List, Option, map}
+use Rattle.std.specs.Prelude.{◌≡◌, ◌++◌, ◌∷◌, ℕ, List, Option, codes, map}
 use Rattle.std.specs.List.{AllZip}
 use Rattle.profile.specs.text.Lines.{folded}
 use Rattle.profile.specs.events.Events.{Event}

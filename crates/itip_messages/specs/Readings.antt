@@ -3,13 +3,14 @@ use Rattle.std.specs.Prelude.{◌≡◌, ◌⊎◌, ℕ, true, false, List}
 use Rattle.ical_lines.specs.Fault.{RefusesBy}
 use Rattle.ical_lines.specs.declared.fault.Fault.{Fault}
 use Rattle.ical_tree.specs.Reading.{Stands}
+use Rattle.profile.specs.text.Lines.{is_same_name}
 use Rattle.profile.specs.text.Trees.{Tree}
 use Rattle.profile.specs.rooms.Messages as profile
 use Rattle.profile.specs.rooms.Messages.{SaysMessage, SpellsMessage, MessageTextFault, NamesMethod, is_method, method_word}
 use Rattle.profile.specs.organisers.Objects as objects
 use Rattle.profile.specs.organisers.Objects.{NamesOperation, SaysOrganiserObject, SpellsOrganiserObject}
-use Rattle.itip_messages.specs.Messages.{StandsFor}
-use Rattle.itip_messages.specs.OrganiserObjects.{StandsForObject}
+use Rattle.itip_messages.specs.Messages.{StandsFor, method_said}
+use Rattle.itip_messages.specs.OrganiserObjects.{StandsForObject, operation_said}
 use Rattle.itip_messages.specs.declared.message.Message.{Message}
 use Rattle.itip_messages.specs.declared.message.Message.TheVariants.{ToRooms, ToOrganiser}
 
