@@ -1,13 +1,13 @@
 -- A CANCEL that was written spells a message of one VEVENT, and says to each attendee that the whole meeting is cancelled.
-use Rattle.std.proofs.Common.{◌≡◌, ◌∙◌, ℕ, suc, Bool, true, false, not, ◌&&◌, ◌||◌, cond, List, [], ◌∷◌, ◌++◌, length, map, filter, codes, decimal, None, Some, refl, sym, ap, subst, arith, inl, inr, append-nil}
+use Rattle.std.proofs.Common.{◌≡◌, ◌∙◌, ℕ, suc, Bool, true, false, ◌&&◌, ◌||◌, cond, List, [], ◌∷◌, ◌++◌, length, map, codes, decimal, None, Some, refl, sym, ap, subst, arith, inl, inr, append-nil}
 use Rattle.std.specs.Prelude.{◌==◌, Contains}
 use Rattle.std.specs.List.{list_any, flat_map, AllZip}
 use Rattle.std.specs.Ordering.{is_lt}
-use Rattle.std.specs.Str.{bytes_eq, is_utf8}
-use Rattle.std.proofs.lemmas.Bool.{and_parts, and_from, or_from, false≢true}
+use Rattle.std.specs.Str.{bytes_eq}
+use Rattle.std.proofs.lemmas.Bool.{and_from, or_from, false≢true}
 use Rattle.std.proofs.lemmas.Bool.Decides.{nat_tests}
 use Rattle.std.proofs.lemmas.Slice.Eq.{bytes_eq-Decides}
-use Rattle.profile.specs.text.Lines.{ended, is_content, is_faulty, is_too_long, logical_lines, reads_as_lines, written}
+use Rattle.profile.specs.text.Lines.{is_content, is_too_long, logical_lines, reads_as_lines, written}
 use Rattle.profile.specs.text.Objects.{IsObject}
 use Rattle.profile.specs.text.Trees.{Tree, tree_name, tree_own, tree_inside}
 use Rattle.profile.specs.text.Values.{SpellsStamp, escaped}
@@ -23,7 +23,6 @@ use Rattle.ical_values.proofs.Escapes.{read_back}
 use Rattle.ical_values.proofs.Readings.{stamp_written, sequence_written}
 use Rattle.ical_values.proofs.ShownValues.{shown_stamp}
 use Rattle.itip_order.proofs.Lists.{in_cons, in_head, in_tail, none_in_nil}
-use Rattle.itip_messages.specs.ReadBack.{IsTextAddress}
 use Rattle.itip_messages.specs.SentBack.{IsSentAddress, IsSentName, attendee_at, cancel_event, cancel_message, cancel_part}
 use Rattle.itip_messages.proofs.CleanText.{clean_address}
 use Rattle.itip_messages.proofs.CleanUids.{clean_text}

@@ -28,9 +28,10 @@ pub mod SentContents
 pub mod SentEvents
 pub mod SentZones
 pub mod SentMeetings
-pub mod SentRequests
+pub mod WrittenMeetings
 pub mod SentParts
 pub mod RequestReads
+pub mod ShownReads
 pub mod LineLemmas
 pub mod WrittenLines
 pub mod CancelLines

@@ -1,5 +1,5 @@
--- What the lines of a VEVENT that an organiser writes say: the event again, in another revision, with its attendees asked to answer.
-use Rattle.std.proofs.Common.{◌≡◌, ◌∙◌, inl, refl, sym, ap, subst, ℕ, zero, suc, ℤ, ◌≤◌, arith, Bool, true, false, cond, ◌||◌, ◌&&◌, List, [], ◌∷◌, ◌++◌, length, map, codes, Option, Some, None, append-nil}
+-- What the lines of a VEVENT that an organiser writes say: the event again, in another revision, with the attendees that such lines say.
+use Rattle.std.proofs.Common.{◌≡◌, ◌∙◌, inl, refl, sym, ap, subst, ℕ, ℤ, ◌≤◌, Bool, true, false, cond, ◌||◌, ◌&&◌, List, [], ◌∷◌, ◌++◌, length, codes, Option, Some, None, append-nil}
 use Rattle.std.specs.Prelude.{filter, Contains, is_some, option_map, unwrap_or}
 use Rattle.std.specs.Option.{option_to_list}
 use Rattle.std.specs.List.{list_all, list_any, flat_map, AllZip}
@@ -7,13 +7,12 @@ use Rattle.std.proofs.lemmas.Bool.{false≢true}
 use Rattle.std.proofs.Math.Bool.{and-false}
 use Rattle.profile.specs.text.Trees.{Tree}
 use Rattle.profile.specs.text.Values.{SpellsStamp, SpellsSequence, SpellsDuration, unescaped, IsAddress, IsUid, lower_case}
-use Rattle.profile.specs.text.Lines.{is_same_name, line_value}
+use Rattle.profile.specs.text.Lines.{is_content, is_same_name, line_value}
 use Rattle.profile.specs.organisers.Sent.{status_lines}
 use Rattle.profile.specs.rooms.Revisions.{Revision}
-use Rattle.profile.specs.events.Events.{Event, IsAttendee, Request, SaysEvent, first_text}
-use Rattle.itip_messages.specs.ReadBack.{IsReadAddress}
+use Rattle.profile.specs.events.Events.{Attendee, Event, IsAttendee, Request, SaysEvent, first_text}
 use Rattle.itip_messages.proofs.SentTexts.{none_passes}
-use Rattle.itip_messages.specs.SentBack.{attendee_at}
+use Rattle.profile.specs.text.Objects.{is_property}
 use Rattle.profile.specs.events.Occurrences.{IsListed, IsInside, entries_of, entries_named, most_entries}
 use Rattle.profile.specs.events.Properties.{is_of, lines_named, length_seconds, longest}
 use Rattle.profile.specs.events.ZonedTimes.{EventTimes, SaysEventTimes, IsInDates, clock_of}
@@ -39,23 +38,20 @@ slot_lines (Some text) = (codes "RECURRENCE-ID:" ++ text) ∷ []
 abbrev pub own_front : (recurrence : Option (List ℕ)) (uid sequence stamp : List ℕ) → Lines
 own_front recurrence uid sequence stamp = ((codes "UID:" ++ uid) ∷ slot_lines recurrence) ++ ((codes "SEQUENCE:" ++ sequence) ∷ (codes "DTSTAMP:" ++ stamp) ∷ [])
 
-abbrev pub asked_line : List ℕ → List ℕ
-asked_line address = codes "ATTENDEE;PARTSTAT=NEEDS-ACTION;RSVP=TRUE:" ++ address
-
-abbrev pub own_back : (cancelled : Bool) (summary organiser : List ℕ) (addresses : List (List ℕ)) → Lines
-own_back cancelled summary organiser addresses = status_lines cancelled ++ ((codes "SUMMARY:" ++ summary) ∷ (codes "ORGANIZER:" ++ organiser) ∷ map asked_line addresses)
+abbrev pub own_back : (cancelled : Bool) (summary organiser : List ℕ) (attendees : Lines) → Lines
+own_back cancelled summary organiser attendees = status_lines cancelled ++ ((codes "SUMMARY:" ++ summary) ∷ (codes "ORGANIZER:" ++ organiser) ∷ attendees)
 
 -- what says when it is
 abbrev pub when_lines : (start duration : List ℕ) (rules additions exceptions : Lines) → Lines
 when_lines start duration rules additions exceptions = start ∷ (codes "DURATION:" ++ duration) ∷ (rules ++ (additions ++ exceptions))
 
 -- the own lines
-abbrev pub own_lines : (recurrence : Option (List ℕ)) (uid sequence stamp : List ℕ) (when : Lines) (cancelled : Bool) (summary organiser : List ℕ) (addresses : List (List ℕ)) → Lines
-own_lines recurrence uid sequence stamp when cancelled summary organiser addresses = own_front recurrence uid sequence stamp ++ when ++ own_back cancelled summary organiser addresses
+abbrev pub own_lines : (recurrence : Option (List ℕ)) (uid sequence stamp : List ℕ) (when : Lines) (cancelled : Bool) (summary organiser : List ℕ) (attendees : Lines) → Lines
+own_lines recurrence uid sequence stamp when cancelled summary organiser attendees = own_front recurrence uid sequence stamp ++ when ++ own_back cancelled summary organiser attendees
 
 -- the event that is said again, with its instants ascending; in UTC the local time is the instant
-abbrev pub sent_event : Event → Option ℤ → List ℕ → Revision → Option Parts → List ℤ → List ℤ → List (List ℕ) → Event
-sent_event event recurrence organiser revision rule additions exceptions addresses = record event {
+abbrev pub sent_event : Event → Option ℤ → List ℕ → Revision → Option Parts → List ℤ → List ℤ → List Attendee → Event
+sent_event event recurrence organiser revision rule additions exceptions attendees = record event {
   organiser = Some organiser;
   stamp = Some revision.stamp;
   sequence = revision.sequence;
@@ -64,7 +60,7 @@ sent_event event recurrence organiser revision rule additions exceptions address
   rule = rule;
   additions = additions;
   exceptions = exceptions;
-  attendees = map attendee_at addresses;
+  attendees = attendees;
 }
 
 -- ---- filters
@@ -89,14 +85,20 @@ none_of_both {X = X} p q (x ∷ xs) e d = by (p x) (q x) (none_of_both p q xs) e
 -- ---- what the values spell
 
 -- whose it is, and which revision
-pub record SpellPart (uid_is : List ℕ) (revision : Revision) (uid sequence stamp organiser : List ℕ) (addresses : List (List ℕ)) : Type 0 where
+pub record SpellPart (uid_is : List ℕ) (revision : Revision) (uid sequence stamp organiser : List ℕ) : Type 0 where
   pub uid_there : uid_is ≡ unescaped uid
   pub is_uid : IsUid uid_is
   pub numbered : SpellsSequence sequence revision.sequence
   pub stamped_is : SpellsStamp stamp revision.stamp
   pub organised : IsAddress organiser
   pub lower : lower_case organiser ≡ organiser
-  pub addressed : (address : List ℕ) → Contains addresses address → IsReadAddress address
+
+-- the line of an attendee, which says this one
+pub record IsAttendeeText (line : List ℕ) (attendee : Attendee) : Type 0 where
+  pub content : is_content line ≡ true
+  pub property : is_property line ≡ true
+  pub named : (other : List ℕ) → is_of other line ≡ is_of other (codes "ATTENDEE:")
+  pub says : IsAttendee line attendee
 
 -- which instance it is
 abbrev pub SpellSlot : Option (List ℕ) → Option ℤ → Type 0
@@ -206,114 +208,127 @@ module _ (name : List ℕ) (event : Event) (slot : Option ℤ) (start duration :
 
 -- ---- behind what says when it is
 
-back_of : (other : List ℕ) (cancelled : Bool) (summary organiser : List ℕ) (addresses : List (List ℕ)) → lines_named other (own_back cancelled summary organiser addresses)
-    ≡ lines_named other (status_lines cancelled) ++ lines_named other ((codes "SUMMARY:" ++ summary) ∷ (codes "ORGANIZER:" ++ organiser) ∷ map asked_line addresses)
-back_of other cancelled summary organiser addresses = filter_both (is_of other) (status_lines cancelled) ((codes "SUMMARY:" ++ summary) ∷ (codes "ORGANIZER:" ++ organiser) ∷ map asked_line addresses)
+back_of : (other : List ℕ) (cancelled : Bool) (summary organiser : List ℕ) (attendees : Lines) → lines_named other (own_back cancelled summary organiser attendees)
+    ≡ lines_named other (status_lines cancelled) ++ lines_named other ((codes "SUMMARY:" ++ summary) ∷ (codes "ORGANIZER:" ++ organiser) ∷ attendees)
+back_of other cancelled summary organiser attendees = filter_both (is_of other) (status_lines cancelled) ((codes "SUMMARY:" ++ summary) ∷ (codes "ORGANIZER:" ++ organiser) ∷ attendees)
 
 status_none : (other : List ℕ) → is_of other (codes "STATUS:CANCELLED") ≡ false → (cancelled : Bool) → lines_named other (status_lines cancelled) ≡ []
 status_none other e true = ap (λ b. cond b (codes "STATUS:CANCELLED" ∷ []) []) e
 status_none other e false = refl
 
-asked_none : (other : List ℕ) → ((v : List ℕ) → is_of other (asked_line v) ≡ false) → (addresses : List (List ℕ)) → lines_named other (map asked_line addresses) ≡ []
-asked_none other f [] = refl
-asked_none other f (a ∷ more) = ap (λ b. cond b (asked_line a ∷ lines_named other (map asked_line more)) (lines_named other (map asked_line more))) (f a) ∙ asked_none other f more
+all_named : (other : List ℕ) (lines : Lines) (said : List Attendee) → AllZip IsAttendeeText lines said → lines_named other lines ≡ cond (is_of other (codes "ATTENDEE:")) lines []
+all_named other [] said z = either (is_of other (codes "ATTENDEE:")) []
+  where
+    either : (b : Bool) (none : Lines) → none ≡ cond b none none
+    either true none = refl
+    either false none = refl
+all_named other (line ∷ lines) [] z = absurd z
+all_named other (line ∷ lines) (a ∷ said) z =
+    ap (λ b. cond b (line ∷ lines_named other lines) (lines_named other lines)) (z.0.named other) ∙ go (is_of other (codes "ATTENDEE:")) (all_named other lines said z.1)
+  where
+    go : (b : Bool) → lines_named other lines ≡ cond b lines [] → cond b (line ∷ lines_named other lines) (lines_named other lines) ≡ cond b (line ∷ lines) []
+    go true e = ap (λ l. line ∷ l) e
+    go false e = e
 
-asked_all : (addresses : List (List ℕ)) → lines_named (codes "ATTENDEE") (map asked_line addresses) ≡ map asked_line addresses
-asked_all [] = refl
-asked_all (a ∷ more) = ap (λ l. asked_line a ∷ l) (asked_all more)
+asked_none : (other : List ℕ) → is_of other (codes "ATTENDEE:") ≡ false → (lines : Lines) (said : List Attendee) → AllZip IsAttendeeText lines said → lines_named other lines ≡ []
+asked_none other e lines said z = all_named other lines said z ∙ ap (λ b. cond b lines []) e
+
+asked_all : (lines : Lines) (said : List Attendee) → AllZip IsAttendeeText lines said → lines_named (codes "ATTENDEE") lines ≡ lines
+asked_all lines said z = all_named (codes "ATTENDEE") lines said z
 
 -- the name stands in none of these lines
 record IsElsewhere (other : List ℕ) : Type 0 where
   status : is_of other (codes "STATUS:CANCELLED") ≡ false
   summary : (v : List ℕ) → is_of other (codes "SUMMARY:" ++ v) ≡ false
   organiser : (v : List ℕ) → is_of other (codes "ORGANIZER:" ++ v) ≡ false
-  attendee : (v : List ℕ) → is_of other (asked_line v) ≡ false
+  attendee : is_of other (codes "ATTENDEE:") ≡ false
 
-back_none : (other : List ℕ) → IsElsewhere other → (cancelled : Bool) (summary organiser : List ℕ) (addresses : List (List ℕ)) → lines_named other (own_back cancelled summary organiser addresses) ≡ []
-back_none other e cancelled summary organiser addresses =
-    let rest = lines_named other (map asked_line addresses) in
-    let behind : lines_named other ((codes "SUMMARY:" ++ summary) ∷ (codes "ORGANIZER:" ++ organiser) ∷ map asked_line addresses) ≡ [] =
+back_none : (other : List ℕ) → IsElsewhere other → (cancelled : Bool) (summary organiser : List ℕ) (attendees : Lines) (said : List Attendee) → AllZip IsAttendeeText attendees said → lines_named other (own_back cancelled summary organiser attendees) ≡ []
+back_none other e cancelled summary organiser attendees said z =
+    let rest = lines_named other attendees in
+    let behind : lines_named other ((codes "SUMMARY:" ++ summary) ∷ (codes "ORGANIZER:" ++ organiser) ∷ attendees) ≡ [] =
     (λ i. cond (e.summary summary i) ((codes "SUMMARY:" ++ summary) ∷ cond (e.organiser organiser i) ((codes "ORGANIZER:" ++ organiser) ∷ rest) rest) (cond (e.organiser organiser i) ((codes "ORGANIZER:" ++ organiser) ∷ rest) rest))
-    ∙ asked_none other e.attendee addresses in
-    back_of other cancelled summary organiser addresses ∙ (λ i. status_none other e.status cancelled i ++ behind i)
+    ∙ asked_none other e.attendee attendees said z in
+    back_of other cancelled summary organiser attendees ∙ (λ i. status_none other e.status cancelled i ++ behind i)
 
 elsewhere_uid : IsElsewhere (codes "UID")
-elsewhere_uid = record { status = refl; summary = λ v. refl; organiser = λ v. refl; attendee = λ v. refl }
+elsewhere_uid = record { status = refl; summary = λ v. refl; organiser = λ v. refl; attendee = refl }
 
 elsewhere_stamp : IsElsewhere (codes "DTSTAMP")
-elsewhere_stamp = record { status = refl; summary = λ v. refl; organiser = λ v. refl; attendee = λ v. refl }
+elsewhere_stamp = record { status = refl; summary = λ v. refl; organiser = λ v. refl; attendee = refl }
 
 elsewhere_sequence : IsElsewhere (codes "SEQUENCE")
-elsewhere_sequence = record { status = refl; summary = λ v. refl; organiser = λ v. refl; attendee = λ v. refl }
+elsewhere_sequence = record { status = refl; summary = λ v. refl; organiser = λ v. refl; attendee = refl }
 
 elsewhere_start : IsElsewhere (codes "DTSTART")
-elsewhere_start = record { status = refl; summary = λ v. refl; organiser = λ v. refl; attendee = λ v. refl }
+elsewhere_start = record { status = refl; summary = λ v. refl; organiser = λ v. refl; attendee = refl }
 
 elsewhere_end : IsElsewhere (codes "DTEND")
-elsewhere_end = record { status = refl; summary = λ v. refl; organiser = λ v. refl; attendee = λ v. refl }
+elsewhere_end = record { status = refl; summary = λ v. refl; organiser = λ v. refl; attendee = refl }
 
 elsewhere_duration : IsElsewhere (codes "DURATION")
-elsewhere_duration = record { status = refl; summary = λ v. refl; organiser = λ v. refl; attendee = λ v. refl }
+elsewhere_duration = record { status = refl; summary = λ v. refl; organiser = λ v. refl; attendee = refl }
 
 elsewhere_rule : IsElsewhere (codes "RRULE")
-elsewhere_rule = record { status = refl; summary = λ v. refl; organiser = λ v. refl; attendee = λ v. refl }
+elsewhere_rule = record { status = refl; summary = λ v. refl; organiser = λ v. refl; attendee = refl }
 
 elsewhere_additions : IsElsewhere (codes "RDATE")
-elsewhere_additions = record { status = refl; summary = λ v. refl; organiser = λ v. refl; attendee = λ v. refl }
+elsewhere_additions = record { status = refl; summary = λ v. refl; organiser = λ v. refl; attendee = refl }
 
 elsewhere_exceptions : IsElsewhere (codes "EXDATE")
-elsewhere_exceptions = record { status = refl; summary = λ v. refl; organiser = λ v. refl; attendee = λ v. refl }
+elsewhere_exceptions = record { status = refl; summary = λ v. refl; organiser = λ v. refl; attendee = refl }
 
 elsewhere_recurrence : IsElsewhere (codes "RECURRENCE-ID")
-elsewhere_recurrence = record { status = refl; summary = λ v. refl; organiser = λ v. refl; attendee = λ v. refl }
+elsewhere_recurrence = record { status = refl; summary = λ v. refl; organiser = λ v. refl; attendee = refl }
 
 -- the lines that stand there
-back_summary : (cancelled : Bool) (summary organiser : List ℕ) (addresses : List (List ℕ)) → lines_named (codes "SUMMARY") (own_back cancelled summary organiser addresses) ≡ (codes "SUMMARY:" ++ summary) ∷ []
-back_summary cancelled summary organiser addresses =
-    back_of (codes "SUMMARY") cancelled summary organiser addresses
-    ∙ (λ i. status_none (codes "SUMMARY") refl cancelled i ++ ((codes "SUMMARY:" ++ summary) ∷ asked_none (codes "SUMMARY") (λ v. refl) addresses i))
+module _ (cancelled : Bool) (summary organiser : List ℕ) (attendees : Lines) (said : List Attendee) (z : AllZip IsAttendeeText attendees said) where
+  back_summary : lines_named (codes "SUMMARY") (own_back cancelled summary organiser attendees) ≡ (codes "SUMMARY:" ++ summary) ∷ []
+  back_summary =
+      back_of (codes "SUMMARY") cancelled summary organiser attendees
+      ∙ (λ i. status_none (codes "SUMMARY") refl cancelled i ++ ((codes "SUMMARY:" ++ summary) ∷ asked_none (codes "SUMMARY") refl attendees said z i))
 
-back_organiser : (cancelled : Bool) (summary organiser : List ℕ) (addresses : List (List ℕ)) → lines_named (codes "ORGANIZER") (own_back cancelled summary organiser addresses) ≡ (codes "ORGANIZER:" ++ organiser) ∷ []
-back_organiser cancelled summary organiser addresses =
-    back_of (codes "ORGANIZER") cancelled summary organiser addresses
-    ∙ (λ i. status_none (codes "ORGANIZER") refl cancelled i ++ ((codes "ORGANIZER:" ++ organiser) ∷ asked_none (codes "ORGANIZER") (λ v. refl) addresses i))
+  back_organiser : lines_named (codes "ORGANIZER") (own_back cancelled summary organiser attendees) ≡ (codes "ORGANIZER:" ++ organiser) ∷ []
+  back_organiser =
+      back_of (codes "ORGANIZER") cancelled summary organiser attendees
+      ∙ (λ i. status_none (codes "ORGANIZER") refl cancelled i ++ ((codes "ORGANIZER:" ++ organiser) ∷ asked_none (codes "ORGANIZER") refl attendees said z i))
 
-back_attendees : (cancelled : Bool) (summary organiser : List ℕ) (addresses : List (List ℕ)) → lines_named (codes "ATTENDEE") (own_back cancelled summary organiser addresses) ≡ map asked_line addresses
-back_attendees cancelled summary organiser addresses =
-    back_of (codes "ATTENDEE") cancelled summary organiser addresses ∙ (λ i. status_none (codes "ATTENDEE") refl cancelled i ++ asked_all addresses i)
+  back_attendees : lines_named (codes "ATTENDEE") (own_back cancelled summary organiser attendees) ≡ attendees
+  back_attendees =
+      back_of (codes "ATTENDEE") cancelled summary organiser attendees ∙ (λ i. status_none (codes "ATTENDEE") refl cancelled i ++ asked_all attendees said z i)
 
 -- and STATUS, where it stands
 abbrev status_line : Bool → Option (List ℕ)
 status_line true = Some (codes "STATUS:CANCELLED")
 status_line false = None
 
-back_status : (cancelled : Bool) (summary organiser : List ℕ) (addresses : List (List ℕ)) → lines_named (codes "STATUS") (own_back cancelled summary organiser addresses) ≡ option_to_list (status_line cancelled)
-back_status true summary organiser addresses = ap (λ l. codes "STATUS:CANCELLED" ∷ l) (asked_none (codes "STATUS") (λ v. refl) addresses)
-back_status false summary organiser addresses = asked_none (codes "STATUS") (λ v. refl) addresses
+back_status : (cancelled : Bool) (summary organiser : List ℕ) (attendees : Lines) (said : List Attendee) → AllZip IsAttendeeText attendees said → lines_named (codes "STATUS") (own_back cancelled summary organiser attendees) ≡ option_to_list (status_line cancelled)
+back_status true summary organiser attendees said z = ap (λ l. codes "STATUS:CANCELLED" ∷ l) (asked_none (codes "STATUS") refl attendees said z)
+back_status false summary organiser attendees said z = asked_none (codes "STATUS") refl attendees said z
 
 status_said : (cancelled : Bool) → cancelled ≡ unwrap_or (option_map (λ status. is_same_name (line_value status) (codes "CANCELLED")) (status_line cancelled)) false
 status_said true = refl
 status_said false = refl
 
-all_say : (addresses : List (List ℕ)) → ((address : List ℕ) → Contains addresses address → IsReadAddress address) → AllZip IsAttendee (map asked_line addresses) (map attendee_at addresses)
-all_say [] f = tt
-all_say (a ∷ more) f =
-    let here = f a (zero, omega arith, refl) in
-    (record { address = (here.address, sym here.lower); participation = refl; scheduled = refl }, all_say more (λ x c. f x (suc c.0, omega (arith, c.1), c.2)))
+all_say : (lines : Lines) (said : List Attendee) → AllZip IsAttendeeText lines said → AllZip IsAttendee lines said
+all_say [] [] z = tt
+all_say [] (a ∷ said) z = absurd z
+all_say (line ∷ lines) [] z = absurd z
+all_say (line ∷ lines) (a ∷ said) z = (z.0.says, all_say lines said z.1)
 
 -- ---- what they say
 
 -- the lines whose names stand nowhere but in front, behind, or as the duration
-module _ (name : List ℕ) (event : Event) (recurrence : Option (List ℕ)) (slot : Option ℤ) (revision : Revision) (uid sequence stamp start duration summary organiser : List ℕ) (addresses : List (List ℕ)) (rules additions exceptions : Lines) (back : Option Parts) (added taken : List ℤ)
-    (s : SpellPart event.uid revision uid sequence stamp organiser addresses) (summarised : event.summary ≡ unescaped summary) (w : SpellWhen name event slot start duration rules additions exceptions back added taken) where
+module _ (name : List ℕ) (event : Event) (recurrence : Option (List ℕ)) (slot : Option ℤ) (revision : Revision) (uid sequence stamp start duration summary organiser : List ℕ) (attendees : Lines) (said : List Attendee) (rules additions exceptions : Lines) (back : Option Parts) (added taken : List ℤ)
+    (s : SpellPart event.uid revision uid sequence stamp organiser) (z : AllZip IsAttendeeText attendees said) (summarised : event.summary ≡ unescaped summary) (w : SpellWhen name event slot start duration rules additions exceptions back added taken) where
   abbrev behind : Lines
-  behind = own_back event.cancelled summary organiser addresses
+  behind = own_back event.cancelled summary organiser attendees
 
   none_behind : (other : List ℕ) → IsElsewhere other → lines_named other behind ≡ []
-  none_behind other e = back_none other e event.cancelled summary organiser addresses
+  none_behind other e = back_none other e event.cancelled summary organiser attendees said z
 
   abbrev own : Option (List ℕ) → Lines
-  own r = own_lines r uid sequence stamp (when_lines start duration rules additions exceptions) event.cancelled summary organiser addresses
+  own r = own_lines r uid sequence stamp (when_lines start duration rules additions exceptions) event.cancelled summary organiser attendees
 
   named_of : (r : Option (List ℕ)) (other : List ℕ) → is_of other (codes "DTSTART:") ≡ false → ((v : List ℕ) → is_of other (codes "RRULE:" ++ v) ≡ false) → ((v : List ℕ) → is_of other ((codes "RDATE" ++ codes ":") ++ v) ≡ false) → ((v : List ℕ) → is_of other ((codes "EXDATE" ++ codes ":") ++ v) ≡ false)
       → ((rest : Lines) → lines_named other ((codes "DURATION:" ++ duration) ∷ rest) ≡ lines_named other rest)
@@ -387,18 +402,18 @@ module _ (name : List ℕ) (event : Event) (recurrence : Option (List ℕ)) (slo
       }
 
   pub sent_says : SpellSlot recurrence slot → (object : Tree) → MeansZone object name event.times.zone
-      → SaysEvent object (Some Request) (own_lines recurrence uid sequence stamp (when_lines start duration rules additions exceptions) event.cancelled summary organiser addresses) (sent_event event slot organiser revision back w.adds.ascending w.takes.ascending addresses)
+      → SaysEvent object (Some Request) (own_lines recurrence uid sequence stamp (when_lines start duration rules additions exceptions) event.cancelled summary organiser attendees) (sent_event event slot organiser revision back w.adds.ascending w.takes.ascending said)
   sent_says spells object m = go recurrence slot spells w.alone
     where
-      go : (r : Option (List ℕ)) (o : Option ℤ) → SpellSlot r o → IsAlone o rules additions → SaysEvent object (Some Request) (own r) (sent_event event o organiser revision back w.adds.ascending w.takes.ascending addresses)
+      go : (r : Option (List ℕ)) (o : Option ℤ) → SpellSlot r o → IsAlone o rules additions → SaysEvent object (Some Request) (own r) (sent_event event o organiser revision back w.adds.ascending w.takes.ascending said)
       go None (Some i) q a = absurd q
       go (Some text) None q a = absurd q
       go None None q a = record {
         uid = record { line = Some (codes "UID:" ++ uid); once = named_of None (codes "UID") refl (λ v. refl) (λ v. refl) (λ v. refl) (λ rest. refl) [] (none_behind (codes "UID") elsewhere_uid); stands = λ _. refl; is = (s.uid_there, s.is_uid) };
-        organiser = record { line = Some (codes "ORGANIZER:" ++ organiser); once = named_of None (codes "ORGANIZER") refl (λ v. refl) (λ v. refl) (λ v. refl) (λ rest. refl) _ (back_organiser event.cancelled summary organiser addresses); stands = λ _. refl; is = (s.organised, sym s.lower) };
+        organiser = record { line = Some (codes "ORGANIZER:" ++ organiser); once = named_of None (codes "ORGANIZER") refl (λ v. refl) (λ v. refl) (λ v. refl) (λ rest. refl) _ (back_organiser event.cancelled summary organiser attendees said z); stands = λ _. refl; is = (s.organised, sym s.lower) };
         stamp = record { line = Some (codes "DTSTAMP:" ++ stamp); once = named_of None (codes "DTSTAMP") refl (λ v. refl) (λ v. refl) (λ v. refl) (λ rest. refl) [] (none_behind (codes "DTSTAMP") elsewhere_stamp); stands = λ _. refl; is = s.stamped_is };
         sequence = (Some revision.sequence, record { line = Some (codes "SEQUENCE:" ++ sequence); once = named_of None (codes "SEQUENCE") refl (λ v. refl) (λ v. refl) (λ v. refl) (λ rest. refl) [] (none_behind (codes "SEQUENCE") elsewhere_sequence); stands = λ _. refl; is = s.numbered }, refl);
-        status = (status_line event.cancelled, named_of None (codes "STATUS") refl (λ v. refl) (λ v. refl) (λ v. refl) (λ rest. refl) _ (back_status event.cancelled summary organiser addresses), status_said event.cancelled);
+        status = (status_line event.cancelled, named_of None (codes "STATUS") refl (λ v. refl) (λ v. refl) (λ v. refl) (λ rest. refl) _ (back_status event.cancelled summary organiser attendees said z), status_said event.cancelled);
         times = inl (times_of None object m refl refl refl);
         rule = rule_of_lines None refl refl;
         occurrences = record {
@@ -408,15 +423,15 @@ module _ (name : List ℕ) (event : Event) (recurrence : Option (List ℕ)) (slo
           takes = (entries_taken None object refl, w.few_taken);
           alone = ap (λ b. (false || b) && list_any (λ line. is_of (codes "RRULE") line || is_of (codes "RDATE") line) (own None)) (none_passes (is_of (codes "RECURRENCE-ID")) (own None) (named_of None (codes "RECURRENCE-ID") refl (λ v. refl) (λ v. refl) (λ v. refl) (λ rest. refl) [] (none_behind (codes "RECURRENCE-ID") elsewhere_recurrence)));
         };
-        summary = summarised ∙ sym (ap first_text (named_of None (codes "SUMMARY") refl (λ v. refl) (λ v. refl) (λ v. refl) (λ rest. refl) _ (back_summary event.cancelled summary organiser addresses)));
-        attendees = subst (λ (l : Lines). AllZip IsAttendee l (map attendee_at addresses)) (sym (named_of None (codes "ATTENDEE") refl (λ v. refl) (λ v. refl) (λ v. refl) (λ rest. refl) _ (back_attendees event.cancelled summary organiser addresses))) (all_say addresses s.addressed);
+        summary = summarised ∙ sym (ap first_text (named_of None (codes "SUMMARY") refl (λ v. refl) (λ v. refl) (λ v. refl) (λ rest. refl) _ (back_summary event.cancelled summary organiser attendees said z)));
+        attendees = subst (λ (l : Lines). AllZip IsAttendee l said) (sym (named_of None (codes "ATTENDEE") refl (λ v. refl) (λ v. refl) (λ v. refl) (λ rest. refl) _ (back_attendees event.cancelled summary organiser attendees said z))) (all_say attendees said z);
       }
       go (Some text) (Some i) q a = record {
         uid = record { line = Some (codes "UID:" ++ uid); once = named_of (Some text) (codes "UID") refl (λ v. refl) (λ v. refl) (λ v. refl) (λ rest. refl) [] (none_behind (codes "UID") elsewhere_uid); stands = λ _. refl; is = (s.uid_there, s.is_uid) };
-        organiser = record { line = Some (codes "ORGANIZER:" ++ organiser); once = named_of (Some text) (codes "ORGANIZER") refl (λ v. refl) (λ v. refl) (λ v. refl) (λ rest. refl) _ (back_organiser event.cancelled summary organiser addresses); stands = λ _. refl; is = (s.organised, sym s.lower) };
+        organiser = record { line = Some (codes "ORGANIZER:" ++ organiser); once = named_of (Some text) (codes "ORGANIZER") refl (λ v. refl) (λ v. refl) (λ v. refl) (λ rest. refl) _ (back_organiser event.cancelled summary organiser attendees said z); stands = λ _. refl; is = (s.organised, sym s.lower) };
         stamp = record { line = Some (codes "DTSTAMP:" ++ stamp); once = named_of (Some text) (codes "DTSTAMP") refl (λ v. refl) (λ v. refl) (λ v. refl) (λ rest. refl) [] (none_behind (codes "DTSTAMP") elsewhere_stamp); stands = λ _. refl; is = s.stamped_is };
         sequence = (Some revision.sequence, record { line = Some (codes "SEQUENCE:" ++ sequence); once = named_of (Some text) (codes "SEQUENCE") refl (λ v. refl) (λ v. refl) (λ v. refl) (λ rest. refl) [] (none_behind (codes "SEQUENCE") elsewhere_sequence); stands = λ _. refl; is = s.numbered }, refl);
-        status = (status_line event.cancelled, named_of (Some text) (codes "STATUS") refl (λ v. refl) (λ v. refl) (λ v. refl) (λ rest. refl) _ (back_status event.cancelled summary organiser addresses), status_said event.cancelled);
+        status = (status_line event.cancelled, named_of (Some text) (codes "STATUS") refl (λ v. refl) (λ v. refl) (λ v. refl) (λ rest. refl) _ (back_status event.cancelled summary organiser attendees said z), status_said event.cancelled);
         times = inl (times_of (Some text) object m refl refl refl);
         rule = rule_of_lines (Some text) refl refl;
         occurrences = record {
@@ -429,6 +444,6 @@ module _ (name : List ℕ) (event : Event) (recurrence : Option (List ℕ)) (slo
               none_of_both (is_of (codes "RRULE")) (is_of (codes "RDATE")) (own (Some text)) (none_passes (is_of (codes "RRULE")) (own (Some text)) (rules_of (Some text) refl ∙ a.0)) (none_passes (is_of (codes "RDATE")) (own (Some text)) (adds_of (Some text) refl ∙ a.1)) in
               ap (λ b. (false || list_any (is_of (codes "RECURRENCE-ID")) (own (Some text))) && b) none ∙ and-false (false || list_any (is_of (codes "RECURRENCE-ID")) (own (Some text)));
         };
-        summary = summarised ∙ sym (ap first_text (named_of (Some text) (codes "SUMMARY") refl (λ v. refl) (λ v. refl) (λ v. refl) (λ rest. refl) _ (back_summary event.cancelled summary organiser addresses)));
-        attendees = subst (λ (l : Lines). AllZip IsAttendee l (map attendee_at addresses)) (sym (named_of (Some text) (codes "ATTENDEE") refl (λ v. refl) (λ v. refl) (λ v. refl) (λ rest. refl) _ (back_attendees event.cancelled summary organiser addresses))) (all_say addresses s.addressed);
+        summary = summarised ∙ sym (ap first_text (named_of (Some text) (codes "SUMMARY") refl (λ v. refl) (λ v. refl) (λ v. refl) (λ rest. refl) _ (back_summary event.cancelled summary organiser attendees said z)));
+        attendees = subst (λ (l : Lines). AllZip IsAttendee l said) (sym (named_of (Some text) (codes "ATTENDEE") refl (λ v. refl) (λ v. refl) (λ v. refl) (λ rest. refl) _ (back_attendees event.cancelled summary organiser attendees said z))) (all_say attendees said z);
       }

@@ -1,5 +1,5 @@
 -- What an event that was read gives to the VEVENT that is sent of it: when it is, and the lines that say it.
-use Rattle.std.proofs.Common.{◌≡◌, ◌∙◌, refl, sym, ap, subst, inl, inr, ℕ, zero, suc, ℤ, ◌+◌, ◌*◌, ◌≤◌, Bool, true, false, ◌||◌, ◌&&◌, cond, List, [], ◌∷◌, ◌++◌, length, map, codes, Option, Some, None, arith, lt-ltb}
+use Rattle.std.proofs.Common.{◌≡◌, ◌∙◌, refl, sym, ap, subst, inl, inr, ℕ, zero, suc, ℤ, ◌+◌, ◌*◌, ◌≤◌, Bool, true, false, ◌||◌, ◌&&◌, cond, List, [], ◌∷◌, ◌++◌, length, codes, Option, Some, None, arith, lt-ltb}
 use Rattle.std.specs.Prelude.{◌↔◌, filter, Contains, is_some}
 use Rattle.std.specs.Option.{option_to_list}
 use Rattle.std.specs.List.{list_all, list_any, flat_map, AllZip}
@@ -9,7 +9,7 @@ use Rattle.profile.specs.text.Lines.{is_content, line_param, line_value}
 use Rattle.profile.specs.text.Objects.{is_property}
 use Rattle.profile.specs.text.Trees.{Tree}
 use Rattle.profile.specs.text.Values.{WritesStamp, duration_text}
-use Rattle.profile.specs.events.Events.{Event, Request, SaysEvent}
+use Rattle.profile.specs.events.Events.{Attendee, Event, Request, SaysEvent}
 use Rattle.profile.specs.events.Occurrences.{Entry, IsInside, SaysOccurrences, entries_of, IsRecurrenceLine, entries_named, most_entries}
 use Rattle.profile.specs.events.Properties.{Says, BothOrNeither, is_of, lines_named, length_seconds, longest}
 use Rattle.profile.specs.events.ZonedTimes.{EventTimes, SaysEventTimes, SaysTimes, SpellsZoned, IsInDates, is_in_zone, clock_of}
@@ -20,7 +20,7 @@ use Rattle.profile.specs.rooms.Messages.{Content, IsContent, WritesRule, WritesT
 use Rattle.profile.specs.series.Zones.{Zone, IsOneMeaning, Means}
 use Rattle.cal_events.proofs.Meanings.{utc_instant}
 use Rattle.cal_events.proofs.SaidRules.{no_rule, rule_found}
-use Rattle.ical_lines.proofs.CleanLines.{IsClean, is_shown, clean_shown, valued, fixed}
+use Rattle.ical_lines.proofs.CleanLines.{IsClean, is_shown, clean_shown, valued}
 use Rattle.profile.specs.organisers.Sent.{status_lines}
 use Rattle.itip_messages.proofs.ContentLines.{uid_line, sequence_line, stamp_line, organiser_line}
 use Rattle.itip_messages.proofs.SentTexts.{status_own}
@@ -32,7 +32,7 @@ use Rattle.itip_messages.proofs.WrittenOctets.{duration_passes, early_shown, sho
 use Rattle.itip_messages.proofs.ZonePlaces.{AreNamed}
 use Rattle.itip_messages.proofs.ZonedStarts.{IsPlainFor, local_written, start_content, start_property}
 use Rattle.itip_messages.specs.SentBack.{IsSameRule}
-use Rattle.itip_messages.proofs.SentOwn.{SpellRule, SpellWhen, IsAlone, asked_line, own_front, own_back, own_lines, when_lines}
+use Rattle.itip_messages.proofs.SentOwn.{SpellRule, SpellWhen, IsAlone, IsAttendeeText, own_front, own_back, own_lines, when_lines}
 
 abbrev Lines : Type 0
 Lines = List (List ℕ)
@@ -246,9 +246,6 @@ recurrence_line v c = valued (codes "RECURRENCE-ID:") v (lt-ltb 13 (length (code
 summary_line : (v : List ℕ) → IsClean v → is_content (codes "SUMMARY:" ++ v) ≡ true
 summary_line v c = valued (codes "SUMMARY:") v (lt-ltb 7 (length (codes "SUMMARY:" ++ v)) (omega arith)) refl refl refl c
 
-attendee_content : (v : List ℕ) → IsClean v → is_content (asked_line v) ≡ true
-attendee_content v c = valued (codes "ATTENDEE;PARTSTAT=NEEDS-ACTION;RSVP=TRUE:") v (lt-ltb 40 (length (codes "ATTENDEE;PARTSTAT=NEEDS-ACTION;RSVP=TRUE:" ++ v)) (omega arith)) refl refl refl c
-
 duration_content : (v : List ℕ) → IsClean v → is_content (codes "DURATION:" ++ v) ≡ true
 duration_content v c = valued (codes "DURATION:") v (lt-ltb 8 (length (codes "DURATION:" ++ v)) (omega arith)) refl refl refl c
 
@@ -272,14 +269,15 @@ front_properties None uid sequence stamp = refl
 front_properties (Some text) uid sequence stamp = refl
 
 -- what stands behind the content
-attendees_own : (addresses : List (List ℕ)) → ((address : List ℕ) → Contains addresses address → IsClean address) → AreOwn (map asked_line addresses)
-attendees_own [] f = own_none
-attendees_own (a ∷ more) f = own_more (asked_line a) (map asked_line more) (attendee_content a (f a (zero, omega arith, refl))) refl (attendees_own more (λ x c. f x (suc c.0, omega (arith, c.1), c.2)))
+attendees_own : (lines : Lines) (said : List Attendee) → AllZip IsAttendeeText lines said → AreOwn lines
+attendees_own [] said z = own_none
+attendees_own (line ∷ lines) [] z = absurd z
+attendees_own (line ∷ lines) (a ∷ said) z = own_more line lines z.0.content z.0.property (attendees_own lines said z.1)
 
-back_own : (cancelled : Bool) (summary organiser : List ℕ) (addresses : List (List ℕ)) → IsClean summary → IsClean organiser → ((address : List ℕ) → Contains addresses address → IsClean address) → AreOwn (own_back cancelled summary organiser addresses)
-back_own cancelled summary organiser addresses s o f =
+back_own : (cancelled : Bool) (summary organiser : List ℕ) (attendees : Lines) (said : List Attendee) → IsClean summary → IsClean organiser → AllZip IsAttendeeText attendees said → AreOwn (own_back cancelled summary organiser attendees)
+back_own cancelled summary organiser attendees said s o z =
     own_both (status_lines cancelled) _ (status_own cancelled)
-    (own_more (codes "SUMMARY:" ++ summary) _ (summary_line summary s) refl (own_more (codes "ORGANIZER:" ++ organiser) _ (organiser_line organiser o) refl (attendees_own addresses f)))
+    (own_more (codes "SUMMARY:" ++ summary) _ (summary_line summary s) refl (own_more (codes "ORGANIZER:" ++ organiser) _ (organiser_line organiser o) refl (attendees_own attendees said z)))
 
 three_pass : (p : List ℕ → Bool) (a b d : Lines) → list_all p a ≡ true → list_all p b ≡ true → list_all p d ≡ true → list_all p (a ++ b ++ d) ≡ true
 three_pass p a b d x y z = list_all-append p (a ++ b) d ∙ and_from _ _ (list_all-append p a b ∙ and_from _ _ x y) z
@@ -293,23 +291,23 @@ module _ (name : List ℕ) (event : Event) (slot : Option ℤ) (start duration :
   rules_properties None none = ap (list_all is_property) none
   rules_properties (Some b) (value, are, _, _) = ap (list_all is_property) are
 
-  pub sent_own : (recurrence : Option (List ℕ)) (uid sequence stamp summary organiser : List ℕ) (addresses : List (List ℕ)) → IsCleanSlot recurrence → IsClean uid → IsClean sequence → IsClean stamp → IsClean duration → IsClean summary → IsClean organiser
-      → ((address : List ℕ) → Contains addresses address → IsClean address)
-      → AreOwn (own_lines recurrence uid sequence stamp (when_lines start duration rules additions exceptions) event.cancelled summary organiser addresses)
-  sent_own recurrence uid sequence stamp summary organiser addresses r u n s d t o f =
-      let behind = back_own event.cancelled summary organiser addresses t o f in
+  pub sent_own : (recurrence : Option (List ℕ)) (uid sequence stamp summary organiser : List ℕ) (attendees : Lines) (said : List Attendee) → IsCleanSlot recurrence → IsClean uid → IsClean sequence → IsClean stamp → IsClean duration → IsClean summary → IsClean organiser
+      → AllZip IsAttendeeText attendees said
+      → AreOwn (own_lines recurrence uid sequence stamp (when_lines start duration rules additions exceptions) event.cancelled summary organiser attendees)
+  sent_own recurrence uid sequence stamp summary organiser attendees said r u n s d t o z =
+      let behind = back_own event.cancelled summary organiser attendees said t o z in
       let lists : list_all is_content (additions ++ exceptions) ≡ true = list_all-append is_content additions exceptions ∙ and_from _ _ (times_content (codes "RDATE") rdate_name added additions w.adds) (times_content (codes "EXDATE") exdate_name taken exceptions w.takes) in
       let all : list_all is_content (rules ++ (additions ++ exceptions)) ≡ true = list_all-append is_content rules (additions ++ exceptions) ∙ and_from _ _ (rules_content back w.recurs) lists in
       let names : list_all is_property (additions ++ exceptions) ≡ true = list_all-append is_property additions exceptions ∙ and_from _ _ (times_properties (codes "RDATE") rdate_name added additions w.adds) (times_properties (codes "EXDATE") exdate_name taken exceptions w.takes) in
       let all_names : list_all is_property (rules ++ (additions ++ exceptions)) ≡ true = list_all-append is_property rules (additions ++ exceptions) ∙ and_from _ _ (rules_properties back w.recurs) names in
       record {
         content =
-            three_pass is_content (own_front recurrence uid sequence stamp) (when_lines start duration rules additions exceptions) (own_back event.cancelled summary organiser addresses)
+            three_pass is_content (own_front recurrence uid sequence stamp) (when_lines start duration rules additions exceptions) (own_back event.cancelled summary organiser attendees)
             (front_content recurrence uid sequence stamp r u n s)
             (and_from _ _ (start_content name event.times.zone event.times start w.starts w.plain) (and_from _ _ (duration_content duration d) all))
             behind.content;
         properties =
-            three_pass is_property (own_front recurrence uid sequence stamp) (when_lines start duration rules additions exceptions) (own_back event.cancelled summary organiser addresses)
+            three_pass is_property (own_front recurrence uid sequence stamp) (when_lines start duration rules additions exceptions) (own_back event.cancelled summary organiser attendees)
             (front_properties recurrence uid sequence stamp)
             (and_from _ _ (start_property name event.times.zone event.times start w.starts w.plain) all_names)
             behind.properties;

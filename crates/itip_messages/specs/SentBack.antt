@@ -4,12 +4,13 @@ use Rattle.std.specs.List.{AllZip}
 use Rattle.std.specs.Str.{IsUtf8}
 use Rattle.profile.specs.series.Rules.{Parts, is_rule_day}
 use Rattle.profile.specs.text.Values.{IsUid}
-use Rattle.profile.specs.events.Events.{Attendee, Event, Request, Cancel, NeedsAction}
-use Rattle.profile.specs.events.Meetings.{Meeting, is_master, is_override}
+use Rattle.profile.specs.events.Events.{Attendee, Event, Participation, Request, Cancel, NeedsAction}
+use Rattle.profile.specs.events.Meetings.{Meeting, SpellsMeeting, is_master, is_override}
 use Rattle.profile.specs.events.ZonedTimes.{EventTimes}
 use Rattle.profile.specs.organisers.Objects.{counted}
-use Rattle.profile.specs.rooms.Messages.{AreAscending, AreParts, Content, IsContent, Message, SpellsMessage, is_in_dates}
-use Rattle.profile.specs.rooms.Revisions.{Part, Whole, Cancelled, Revision}
+use Rattle.profile.specs.organisers.Organisers.{IsSeenOf, OrganiserBook, Stored}
+use Rattle.profile.specs.rooms.Messages.{AreAscending, AreParts, Content, IsContent, Message, SpellsMessage, is_in_dates, slot_of}
+use Rattle.profile.specs.rooms.Revisions.{Part, Slot, Whole, Cancelled, Revision}
 use Rattle.itip_messages.specs.ReadBack.{IsReadAddress, IsTextValue}
 
 -- ---- texts
@@ -61,7 +62,7 @@ cancel_message organiser uid revision called_off to = record { method = Cancel; 
 abbrev pub cancel_part : (organiser uid : List ℕ) → Revision → Part
 cancel_part organiser uid revision = record { organiser = organiser; uid = uid; slot = Whole; revision = revision; body = Cancelled }
 
--- ---- a REQUEST
+-- ---- a meeting again
 
 -- both are missing, or both have the same days
 abbrev pub IsSameRule : Option Parts → Option Parts → Type 0
@@ -70,23 +71,31 @@ IsSameRule (Some rule) (Some back) = (day : ℕ) → is_rule_day back day ≡ is
 IsSameRule None (Some back) = ⊥
 IsSameRule (Some rule) None = ⊥
 
--- the event that is said of an event of a store, where it is sent in this revision: what is added and taken away is ascending, and of what is taken
--- away that counts which lies where a start may; each attendee stands once, and hasn't answered
-pub record IsSentAs (revision : Revision) (event sent : Event) : Type 0 where
-  pub uid : sent.uid ≡ event.uid
-  pub organiser : sent.organiser ≡ event.organiser
-  pub stamp : sent.stamp ≡ Some revision.stamp
-  pub sequence : sent.sequence ≡ revision.sequence
-  pub cancelled : sent.cancelled ≡ event.cancelled
-  pub recurrence : sent.recurrence ≡ event.recurrence
-  pub times : sent.times ≡ event.times
-  pub rule : IsSameRule event.rule sent.rule
-  pub additions : AreAscending event.additions sent.additions
-  pub exceptions : AreAscending (filter is_in_dates event.exceptions) sent.exceptions
-  pub summary : sent.summary ≡ event.summary
-  pub attendees : sent.attendees ≡ map (λ attendee. attendee_at attendee.address) (counted event.attendees)
-  -- and the same says when both are
-  pub content : (content : Content) → IsContent content event ↔ IsContent content sent
+-- the event that is said of an event of a store, in this revision: what is added and taken away is ascending, and of what is taken away that
+-- counts which lies where a start may; each attendee stands once, as such a one
+pub record IsSaidAgain (IsSuch : Slot → Attendee → Attendee → Type 0) (revision : Revision) (event said : Event) : Type 0 where
+  pub uid : said.uid ≡ event.uid
+  pub organiser : said.organiser ≡ event.organiser
+  pub stamp : said.stamp ≡ Some revision.stamp
+  pub sequence : said.sequence ≡ revision.sequence
+  pub cancelled : said.cancelled ≡ event.cancelled
+  pub recurrence : said.recurrence ≡ event.recurrence
+  pub times : said.times ≡ event.times
+  pub rule : IsSameRule event.rule said.rule
+  pub additions : AreAscending event.additions said.additions
+  pub exceptions : AreAscending (filter is_in_dates event.exceptions) said.exceptions
+  pub summary : said.summary ≡ event.summary
+  pub attendees : AllZip (IsSuch (slot_of event)) (counted event.attendees) said.attendees
+  -- and the same lines say when both are
+  pub content : (content : Content) → IsContent content event ↔ IsContent content said
+
+-- it hasn't answered yet
+abbrev pub HasNoAnswer : Slot → Attendee → Attendee → Type 0
+HasNoAnswer slot attendee said = said ≡ attendee_at attendee.address
+
+-- as it is sent
+abbrev pub IsSentAs : Revision → Event → Event → Type 0
+IsSentAs = IsSaidAgain HasNoAnswer
 
 -- the first of these, if there is one
 abbrev pub first_of : List Event → Option Event
@@ -97,7 +106,9 @@ first_of (event ∷ events) = Some event
 abbrev pub meeting_of : List Event → Meeting
 meeting_of events = record { master = first_of (filter is_master events); overrides = filter is_override events }
 
--- the REQUEST of a meeting with these events
+-- ---- a REQUEST
+
+-- that of a meeting with these events
 abbrev pub request_of : List Event → Message
 request_of events = record { method = Request; meeting = meeting_of events }
 
@@ -111,3 +122,17 @@ pub record SpellsRequest (revision : Revision) (events : List Event) (octets : L
   pub each : AllZip (IsSentAs revision) events sent
   pub spells : SpellsMessage octets (request_of sent)
   pub parts : (room : List ℕ) (parts : List Part) → AreParts room (request_of sent) parts ↔ AreParts room (request_of (map (revised revision) events)) parts
+
+-- ---- what is shown
+
+-- it has answered so, by what is seen of it
+abbrev pub HasAnswered : OrganiserBook → Stored → Slot → Attendee → Attendee → Type 0
+HasAnswered book stored slot attendee said =
+    (answer : Participation) × IsSeenOf book stored slot attendee.address answer
+    × (said ≡ record { address = attendee.address; participation = answer; scheduled = true })
+
+-- the octets spell an event with its instances: that of the store, with the answers that are seen
+pub record SpellsShown (book : OrganiserBook) (stored : Stored) (octets : List ℕ) : Type 0 where
+  pub shown : List Event
+  pub each : AllZip (IsSaidAgain (HasAnswered book stored) stored.revision) stored.events shown
+  pub spells : SpellsMeeting octets (meeting_of shown)

@@ -30,6 +30,8 @@ pub use organiser_object::{ObjectComponent, Operation, OrganiserObject};
 pub use refresh::{Refresh, write_refresh};
 pub use reply::{Conflict, ConflictKey, Decision, ReplyEvent, write_event, write_reply};
 pub use room_message::{MessageComponent, Method, RoomMessage};
-pub use sent_law::{cancels_read_back, requests_read_back, stored_texts_can_be_sent};
+pub use sent_law::{
+    cancels_read_back, requests_read_back, shown_reads_back, stored_texts_can_be_sent,
+};
 pub use writer::ObjectWriter;
 pub use zones::Zones;

@@ -1,12 +1,13 @@
 //! What an organiser writes reads back: the message that its octets spell, and what that says to each room.
-ghost use Rattle.std.specs.Prelude.{◌≡◌, ℕ, List, [], ◌∷◌, Contains, Bool, false, ◌<◌, ◌^◌};
+ghost use Rattle.std.specs.Prelude.{◌≡◌, ℕ, List, [], ◌∷◌, Contains, Bool, false, None, ◌<◌, ◌^◌};
 ghost use Rattle.profile.specs.events.Events.{Attendee, Event};
 ghost use Rattle.profile.specs.organisers.Objects.{OrganiserObject, SpellsOrganiserObject, Store};
-ghost use Rattle.profile.specs.organisers.Sent.{IsCancel, IsRequest};
+ghost use Rattle.profile.specs.organisers.Sent.{IsCancel, IsMeetingText, IsRequest};
+ghost use Rattle.profile.specs.organisers.Organisers.{OrganiserBook, ShowsSeen, Stored};
 ghost use Rattle.profile.specs.rooms.Messages.{AreParts, SpellsMessage};
 ghost use Rattle.profile.specs.rooms.Revisions.{Revision};
 ghost use Rattle.profile.specs.text.Lines.{is_too_long};
-ghost use Rattle.itip_messages.specs.SentBack.{IsSentAddress, IsSentName, SpellsRequest, cancel_message, cancel_part};
+ghost use Rattle.itip_messages.specs.SentBack.{IsSentAddress, IsSentName, SpellsRequest, SpellsShown, cancel_message, cancel_part};
 
 /// What an organiser read of a store can be sent: its organiser and its UID, and the addresses of its attendees.
 pub fn stored_texts_can_be_sent()
@@ -44,6 +45,19 @@ pub fn requests_read_back()
         → SpellsOrganiserObject stored said → said.operation ≡ Store
         → revision.sequence < 2 ^ 31 → IsRequest said.organiser said.uid revision said.events octets → is_too_long octets ≡ false
         → SpellsRequest revision said.events octets }
+{
+    ical_lines::lines_read_back();
+    cal_zones::zone_reads_back();
+}
+
+/// Whatever an organiser shows of a meeting that it stored: its octets spell an event with its instances, as a VCALENDAR without METHOD does. Its
+/// VEVENTs are those of the store, in their order, and say the same in the revision that was sent; each attendee stands once, with the answer
+/// that is seen of it. Owed is what is owed for a REQUEST.
+pub fn shown_reads_back()
+    ensures { (read : List ℕ) (said : OrganiserObject) (book : OrganiserBook) (stored : Stored) (octets : List ℕ)
+        → SpellsOrganiserObject read said → said.operation ≡ Store → stored.events ≡ said.events → stored.revision.sequence < 2 ^ 31
+        → IsMeetingText None said.organiser said.uid stored.revision (ShowsSeen book stored) stored.events octets
+        → is_too_long octets ≡ false → SpellsShown book stored octets }
 {
     ical_lines::lines_read_back();
     cal_zones::zone_reads_back();
