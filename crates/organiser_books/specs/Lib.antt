@@ -1,2 +1,4 @@
+pub mod Answers
+pub mod Attending
 pub mod Standing
 pub mod Calls

@@ -9,9 +9,11 @@ ghost use Rattle.itip_messages.specs.OrganiserObjects.{StandsForObject};
 ghost use Rattle.organiser_books.specs.Standing.{Keeps, address_of};
 ghost use Rattle.organiser_books.specs.Calls.{AnswersRefresh, CallFault, MayTake, is_call_fault, sent_of};
 
+use crate::meeting::Meeting;
 use crate::outgoing::Outgoing;
 use ical_lines::Fault;
-use ical_values::{Address, Stamp};
+use ical_values::{Address, Stamp, Text};
+use indexmap::IndexMap;
 use itip_messages::OrganiserObject;
 use std::alloc::Global;
 
@@ -20,7 +22,12 @@ use std::alloc::Global;
 pub struct Organiser {
     alloc: Global,
     address: Address,
+    /// The last store of each meeting, by its UID.
+    meetings: Meetings,
 }
+
+/// The meetings of an organiser.
+pub(crate) type Meetings = IndexMap<Text, Meeting>;
 
 impl Organiser {
     /// One that has stored nothing.
@@ -28,7 +35,11 @@ impl Organiser {
         ensures empty { Keeps result empty_organiser }
         ensures address { address_of result ≡ address_octets address }
     {
-        Organiser { alloc, address }
+        Organiser {
+            alloc,
+            address,
+            meetings: IndexMap::new(alloc),
+        }
     }
 
     /// The organiser's own address, in lower case.
