@@ -1,0 +1,4 @@
+pub mod Loops
+pub mod Lines
+pub mod Noting
+pub mod Picking

@@ -1,10 +1,11 @@
 //! The attendees of a meeting: each once, in order of first appearance, and whether the server sends it messages.
 
-ghost use Rattle.std.specs.Prelude.{◌≡◌, ◌++◌, ◌∷◌, [], ℕ, List, map, IfOk, OnOk};
+ghost use Rattle.std.specs.Prelude.{◌≡◌, ◌&&◌, not, ◌++◌, ◌∷◌, [], ℕ, List, map, IfOk, OnOk};
 ghost use Rattle.ical_values.specs.Octets.{address_octets};
 ghost use Rattle.profile.specs.events.Events as events;
+ghost use Rattle.profile.specs.organisers.Organisers.{without};
 ghost use Rattle.cal_events.specs.Events.{attendee_of};
-ghost use Rattle.organiser_books.specs.Attending.{lists_of, gone_in, is_sent, sent_in, AreAttending, AreNoted};
+ghost use Rattle.organiser_books.specs.Attending.{lists_of, is_sent, scheduled_among, AreAttending, AreNoted};
 
 use cal_events::Attendee;
 use ical_values::Address;
@@ -100,7 +101,7 @@ pub(crate) fn is_sent(attending: &Attending, address: &Address) -> bool
 
 /// Those whom the server sends messages.
 pub(crate) fn sent(alloc: Global, attending: &Attending) -> Result<Vec<Address>, AllocError>
-    ensures { IfOk result (λ sent. map address_octets sent.items ≡ sent_in attending.now.entries) }
+    ensures { IfOk result (λ sent. (lists : List (List events.Attendee)) → AreAttending lists attending.now.entries → map address_octets sent.items ≡ scheduled_among lists) }
 {
     let mut sent = Vec::new(alloc);
     for (address, attendance) in attending {
@@ -117,13 +118,21 @@ pub(crate) fn gone(
     last: &Attending,
     now: &Attending,
 ) -> Result<Vec<Address>, AllocError>
-    ensures { IfOk result (λ gone. map address_octets gone.items ≡ gone_in last.now.entries now.now.entries) }
+    ensures { IfOk result (λ gone. (before lists : List (List events.Attendee)) → AreAttending before last.now.entries → AreAttending lists now.now.entries
+        → map address_octets gone.items ≡ without (scheduled_among before) (scheduled_among lists)) }
 {
     let mut gone = Vec::new(alloc);
     for (address, attendance) in last {
-        if attendance.scheduled && !is_sent(now, address) {
+        if is_gone(address, attendance, now) {
             gone.push(address.clone()?)?;
         }
     }
     Ok(gone)
+}
+
+/// Whether the server sent messages to this attendee of the last store, and no longer does.
+fn is_gone(address: &Address, attendance: &Attendance, now: &Attending) -> bool
+    ensures { result ≡ (attendance.now.scheduled && not (is_sent (address_octets address.now) now.now.entries)) }
+{
+    attendance.scheduled && !is_sent(now, address)
 }
