@@ -4,3 +4,6 @@ pub mod Noting
 pub mod Picking
 pub mod Latest
 pub mod Hearing
+pub mod Sends
+pub mod Said
+pub mod Books

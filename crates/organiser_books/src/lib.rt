@@ -6,6 +6,9 @@ mod attending;
 mod meeting;
 mod organiser;
 mod outgoing;
+mod sending;
+mod sequence;
+mod shown;
 
 pub use organiser::Organiser;
 pub use outgoing::Outgoing;
