@@ -86,15 +86,15 @@ module _ (meetings after : Text → Option Meeting) (book : OrganiserBook) (uid 
       by : (b : Bool) → same_text uid q ≡ b → StandsAt next (text_octets q) (after q) (last_store (text_octets q) next)
       by true e =
           let is : last_store (text_octets q) next ≡ Some stored =
-              ap (λ b. cond b (Some stored) (last_store (text_octets q) book)) (ap (λ u. bytes_eq u (text_octets q)) own ∙ e) in
+          ap (λ b. cond b (Some stored) (last_store (text_octets q) book)) (ap (λ u. bytes_eq u (text_octets q)) own ∙ e) in
           let found : after q ≡ Some meeting = put q ∙ ap (λ b. cond b (Some meeting) (meetings q)) e in
           subst (λ m. StandsAt next (text_octets q) m (last_store (text_octets q) next)) (sym found) (subst (StandsAt next (text_octets q) (Some meeting)) (sym is) stands)
       by false e =
           let is : last_store (text_octets q) next ≡ last_store (text_octets q) book =
-              ap (λ b. cond b (Some stored) (last_store (text_octets q) book)) (ap (λ u. bytes_eq u (text_octets q)) own ∙ e) in
+          ap (λ b. cond b (Some stored) (last_store (text_octets q) book)) (ap (λ u. bytes_eq u (text_octets q)) own ∙ e) in
           let found : after q ≡ meetings q = put q ∙ ap (λ b. cond b (Some meeting) (meetings q)) e in
           subst (λ m. StandsAt next (text_octets q) m (last_store (text_octets q) next)) (sym found)
-              (subst (StandsAt next (text_octets q) (meetings q)) (sym is) (other_stands (text_octets q) (meetings q) (last_store (text_octets q) book) (keeps q)))
+          (subst (StandsAt next (text_octets q) (meetings q)) (sym is) (other_stands (text_octets q) (meetings q) (last_store (text_octets q) book) (keeps q)))
 
 -- ---- a reply
 
@@ -160,8 +160,8 @@ module _ (book : OrganiserBook) (heard : List Heard) (uid : List ℕ) (of_it : (
             let same : uid ≡ text_octets q = is_own ∙ same_is (text_octets own) (text_octets q) e in
             let found : after q ≡ Some m = put q ∙ ap (λ b. cond b (Some m) (meetings q)) e in
             subst (λ x. StandsAt heard_too (text_octets q) x (last_store (text_octets q) book)) (sym found)
-                (subst (StandsAt heard_too (text_octets q) (Some m)) (sym last ∙ ap (λ u. last_store u book) same) stands)
+            (subst (StandsAt heard_too (text_octets q) (Some m)) (sym last ∙ ap (λ u. last_store u book) same) stands)
         by false e =
             let found : after q ≡ meetings q = put q ∙ ap (λ b. cond b (Some m) (meetings q)) e in
             subst (λ x. StandsAt heard_too (text_octets q) x (last_store (text_octets q) book)) (sym found)
-                (other_heard (text_octets q) (ap (λ u. bytes_eq u (text_octets q)) is_own ∙ e) (meetings q) (last_store (text_octets q) book) (λ s f. stored_own (text_octets q) book.stores s f) (keeps q))
+            (other_heard (text_octets q) (ap (λ u. bytes_eq u (text_octets q)) is_own ∙ e) (meetings q) (last_store (text_octets q) book) (λ s f. stored_own (text_octets q) book.stores s f) (keeps q))

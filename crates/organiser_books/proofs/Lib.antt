@@ -7,3 +7,4 @@ pub mod Hearing
 pub mod Sends
 pub mod Said
 pub mod Books
+pub mod Taking

@@ -99,7 +99,7 @@ once_any q (x ∷ xs) e = by (bytes_eq x q) refl e (once_any q xs)
 pub among_scheduled : (lists : List (List Attendee)) (q : List ℕ) → list_any (bytes_eq q) (scheduled_among lists) ≡ list_any (schedules q) lists
 among_scheduled lists q = same_tests _ _
     (λ e. let r = any_at (bytes_eq q) (scheduled_among lists) e in
-      subst (λ z. list_any (schedules z) lists ≡ true) (sym (same_is q r.0 r.2)) (filter_at (λ a. list_any (schedules a) lists) (each_once (flat_map addresses_in lists)) r.0 r.1).1)
+    subst (λ z. list_any (schedules z) lists ≡ true) (sym (same_is q r.0 r.2)) (filter_at (λ a. list_any (schedules a) lists) (each_once (flat_map addresses_in lists)) r.0 r.1).1)
     (λ e. any_from (bytes_eq q) (scheduled_among lists) q (filter_from (λ a. list_any (schedules a) lists) (each_once (flat_map addresses_in lists)) q (once_any q (flat_map addresses_in lists) (named e)) e) (same_itself q))
   where
     named : list_any (schedules q) lists ≡ true → list_any (λ y. bytes_eq y q) (flat_map addresses_in lists) ≡ true

@@ -1,6 +1,6 @@
 -- What an organiser stands for: the last stores and what was answered to them, of all that was ever stored and answered.
-use Rattle.std.specs.Prelude.{◌≡◌, ℕ, ◌≤◌, Bool, true, false, not, is_some, List, [], ◌∷◌, ◌++◌, filter, position, Contains, Option, None, Some}
-use Rattle.std.specs.List.{AllZip, list_all, flat_map}
+use Rattle.std.specs.Prelude.{◌≡◌, ◌⊎◌, ℕ, ◌≤◌, nat_lt, Bool, true, false, not, is_some, List, [], ◌∷◌, ◌++◌, filter, position, Contains, Option, None, Some}
+use Rattle.std.specs.List.{AllZip, list_all, list_any}
 use Rattle.std.specs.Map.{lookup, keys_of}
 use Rattle.std.specs.Str.{bytes_eq}
 use Rattle.std.specs.Ordering.{is_le}
@@ -79,6 +79,18 @@ heard_of uid component = heard_by uid component component.attendees
 abbrev pub is_unknown : Meeting → List Attendee → Bool
 is_unknown meeting [] = false
 is_unknown meeting (attendee ∷ others) = not (is_some (attendance_of attendee.address meeting.attending.entries))
+
+-- one of these components answers a SEQUENCE that wasn't sent yet
+abbrev pub is_ahead : Meeting → List ObjectComponent → Bool
+is_ahead meeting components = list_any (λ component. nat_lt meeting.revision.sequence component.revision.sequence) components
+
+-- one who isn't an attendee speaks in one of them
+abbrev pub is_strange : Meeting → List ObjectComponent → Bool
+is_strange meeting components = list_any (λ component. is_unknown meeting component.attendees) components
+
+-- what can be wrong with the components of a REPLY
+abbrev pub IsReplyFault : Meeting → List ObjectComponent → ℕ → Type 0
+IsReplyFault meeting components n = ((n ≡ 71) × (is_ahead meeting components ≡ true)) ⊎ ((n ≡ 73) × (is_strange meeting components ≡ true))
 
 -- ---- meetings
 

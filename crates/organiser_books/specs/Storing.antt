@@ -2,15 +2,18 @@
 use Rattle.std.specs.Prelude.{◌≡◌, ℕ, ◌+◌, Bool, true, false, ◌&&◌, List, [], ◌∷◌, ◌++◌, Option, None, Some}
 use Rattle.std.specs.List.{list_any}
 use Rattle.ical_values.specs.Octets.{address_octets, text_octets}
-use Rattle.profile.specs.events.Events.{Event}
-use Rattle.profile.specs.organisers.Organisers.{Sent, Sends, Stored, greater}
+use Rattle.profile.specs.events.Events.{Attendee, Event}
+use Rattle.profile.specs.organisers.Organisers.{Sent, Sends, Stored, greater, without}
 use Rattle.profile.specs.organisers.Sent.{IsCancel, IsRequest}
 use Rattle.itip_order.specs.Parts.{revision_of}
 use Rattle.itip_order.specs.declared.part.Slot.{Slot}
 use Rattle.itip_order.specs.declared.part.Slot.TheVariants.{Whole, At}
 use Rattle.itip_messages.specs.declared.meeting_text.MeetingText.{MeetingText}
 use Rattle.itip_messages.specs.declared.organiser_object.ObjectComponent.{ObjectComponent}
+use Rattle.itip_order.specs.declared.part.Revision.{Revision}
+use Rattle.itip_messages.specs.declared.organiser_object.OrganiserObject.{OrganiserObject}
 use Rattle.organiser_books.specs.declared.meeting.Meeting.{Meeting}
+use Rattle.organiser_books.specs.Attending.{lists_of, scheduled_among, AreAttending}
 
 -- the greatest SEQUENCE of these components
 abbrev pub own_in : List ObjectComponent → ℕ
@@ -51,3 +54,15 @@ SendsTo false organiser stored to gone sent =
     × IsRequest organiser stored.uid stored.revision stored.events stored.object
     × Sends (λ octets. octets ≡ stored.object) to requests
     × Sends (IsCancel organiser stored.uid stored.revision false gone) gone cancels × (sent ≡ requests ++ cancels)
+
+-- the attendees of a last store, where there is one
+abbrev pub LastAttends : List (List Attendee) → Option Meeting → Type 0
+LastAttends lists None = lists ≡ []
+LastAttends lists (Some last) = AreAttending lists last.attending.entries
+
+-- what is made of these events by an object that is stored with this revision
+abbrev pub SendsObject : OrganiserObject → Revision → List Event → List (List Attendee) → List ℕ → List Sent → Type 0
+SendsObject object revision events before octets sent =
+    SendsTo (calls_off object.components.items) (address_octets object.organiser)
+    (record { uid = text_octets object.uid; events = events; revision = revision_of revision; object = octets })
+    (scheduled_among (lists_of object.components.items)) (without (scheduled_among before) (scheduled_among (lists_of object.components.items))) sent

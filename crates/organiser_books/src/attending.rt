@@ -40,11 +40,7 @@ pub(crate) fn attending(
 }
 
 /// Notes the lines of the component in this place.
-fn note_all(
-    attending: &mut Attending,
-    place: usize,
-    lines: &[Attendee],
-) -> Result<(), AllocError>
+fn note_all(attending: &mut Attending, place: usize, lines: &[Attendee]) -> Result<(), AllocError>
     ensures { OnOk result ((done : List (List events.Attendee)) → AreNoted done place [] attending.old.entries
         → AreNoted done place (map attendee_of lines.now) attending.new.entries) }
 {

@@ -3,16 +3,18 @@
 ghost use Rattle.std.specs.Prelude.{◌≡◌, ◌++◌, ◌<◌, ◌≤◌, ℕ, ◌+◌, false, List, is_some, nat_lt, map, option_map, length, OnOk, OnErr, IfErr};
 ghost use Rattle.std.specs.List.{flat_map, list_any};
 ghost use Rattle.indexmap.specs.IndexMap.{spare};
+ghost use Rattle.ical_lines.specs.Fault.{RefusesBy};
 ghost use Rattle.ical_values.specs.Octets.{address_octets};
 ghost use Rattle.profile.specs.organisers.Organisers.{Heard, Stored};
 ghost use Rattle.cal_events.specs.Events.{participation_of};
 ghost use Rattle.itip_order.specs.Parts.{revision_of, slot_of};
 ghost use Rattle.organiser_books.specs.Attending.{attendance_of, is_sent};
-ghost use Rattle.organiser_books.specs.Standing.{answer_in, answered, heard_of, is_unknown, AreSeen};
+ghost use Rattle.organiser_books.specs.Standing.{answer_in, answered, heard_of, is_ahead, is_strange, is_unknown, AreSeen, IsReplyFault};
 
 use crate::answers::{Answer, AnswerKey, Answers, put};
 use crate::attending::{Attending, is_sent};
 use cal_events::ParticipationStatus;
+use ical_lines::{Fault, Refusal};
 use ical_values::Address;
 use itip_messages::ObjectComponent;
 use itip_order::{Revision, Slot};
@@ -61,19 +63,19 @@ impl Meeting {
     }
 
     /// Whether one of the components answers a SEQUENCE that wasn't sent yet.
-    pub fn is_before(&self, components: &[ObjectComponent]) -> bool
-        ensures { result ≡ list_any (λ component. nat_lt self.now.revision.sequence component.revision.sequence) components.now }
+    fn is_ahead(&self, components: &[ObjectComponent]) -> bool
+        ensures { result ≡ is_ahead self.now components.now }
     {
-        components
-            .iter()
-            .any(|component| component.revision.sequence > self.revision.sequence)
+        components.iter().any(|component| component.revision.sequence > self.revision.sequence)
     }
 
     /// Whether one who isn't an attendee speaks in one of the components.
     pub fn is_strange(&self, components: &[ObjectComponent]) -> bool
-        ensures { result ≡ list_any (λ component. is_unknown self.now component.attendees) components.now }
+        ensures { result ≡ is_strange self.now components.now }
     {
-        components.iter().any(|component| self.is_unknown(component))
+        components
+            .iter()
+            .any(|component| self.is_unknown(component))
     }
 
     /// Whether one who isn't an attendee speaks in the component.
@@ -86,14 +88,38 @@ impl Meeting {
         }
     }
 
+    /// Takes the components of a REPLY, all of them or none. Refused: 71 for a SEQUENCE that wasn't sent yet, 73 for one who isn't an
+    /// attendee.
+    pub fn take_reply(&mut self, components: &[ObjectComponent]) -> Result<(), Fault>
+        ensures revision { self.new.revision ≡ self.old.revision }
+        ensures components { self.new.components ≡ self.old.components }
+        ensures attending { self.new.attending ≡ self.old.attending }
+        ensures object { self.new.object ≡ self.old.object }
+        ensures sent { OnOk result (is_ahead self.old components.now ≡ false) }
+        ensures known { OnOk result (is_strange self.old components.now ≡ false) }
+        ensures seen { OnOk result ((stored : Stored) (replies : List Heard) → revision_of self.old.revision ≡ stored.revision → AreSeen self.old stored replies
+            → AreSeen self.new stored (replies ++ flat_map (heard_of stored.uid) components.now)) }
+        ensures refuses { IfErr result (RefusesBy (IsReplyFault self.old components.now)) }
+        ensures err { OnErr result (self.new.answers.entries ≡ self.old.answers.entries) }
+    {
+        if self.is_ahead(components) {
+            return Err(Fault::Refused(Refusal::NOT_SENT));
+        }
+        if self.is_strange(components) {
+            return Err(Fault::Refused(Refusal::NOT_AN_ATTENDEE));
+        }
+        self.hear_all(components)?;
+        Ok(())
+    }
+
     /// Takes what these components answer, all of it or, without memory, nothing.
-    pub fn hear_all(&mut self, components: &[ObjectComponent]) -> Result<(), AllocError>
+    fn hear_all(&mut self, components: &[ObjectComponent]) -> Result<(), AllocError>
         ensures revision { self.new.revision ≡ self.old.revision }
         ensures components { self.new.components ≡ self.old.components }
         ensures attending { self.new.attending ≡ self.old.attending }
         ensures object { self.new.object ≡ self.old.object }
         ensures seen { OnOk result ((stored : Stored) (replies : List Heard) → revision_of self.old.revision ≡ stored.revision → AreSeen self.old stored replies
-            → list_any (λ component. is_unknown self.old component.attendees) components.now ≡ false
+            → is_strange self.old components.now ≡ false
             → AreSeen self.new stored (replies ++ flat_map (heard_of stored.uid) components.now)) }
         ensures err { OnErr result (self.new.answers.entries ≡ self.old.answers.entries) }
     {
@@ -129,6 +155,10 @@ impl Meeting {
             stamp: component.revision.stamp,
             status: attendee.status,
         };
-        put(&mut self.answers, AnswerKey::at(place, component.slot), answer);
+        put(
+            &mut self.answers,
+            AnswerKey::at(place, component.slot),
+            answer,
+        );
     }
 }

@@ -34,7 +34,7 @@ pub(crate) fn send(
 ) -> Result<Sending, AllocError>
     ensures { IfOk result (λ sending. (events : List Event) → AreWritten meeting.now events
         → SendsTo (calls_off meeting.now.components.now) (address_octets meeting.now.organiser.now) (stored_of meeting.now events sending.object.items)
-            (map address_octets to.items) (map address_octets gone.items) (map sent_of sending.sent.items)) }
+        (map address_octets to.items) (map address_octets gone.items) (map sent_of sending.sent.items)) }
 {
     if calls_off(meeting.components) {
         return call_off(alloc, meeting, to, gone);
@@ -51,7 +51,7 @@ fn call_off(
 ) -> Result<Sending, AllocError>
     ensures { IfOk result (λ sending. (events : List Event)
         → SendsTo true (address_octets meeting.now.organiser.now) (stored_of meeting.now events sending.object.items)
-            (map address_octets to.items) (map address_octets gone.items) (map sent_of sending.sent.items)) }
+        (map address_octets to.items) (map address_octets gone.items) (map sent_of sending.sent.items)) }
 {
     let mut all = to;
     let mut gone = gone;
@@ -71,7 +71,7 @@ fn request(
 ) -> Result<Sending, AllocError>
     ensures { IfOk result (λ sending. (events : List Event) → AreWritten meeting.now events
         → SendsTo false (address_octets meeting.now.organiser.now) (stored_of meeting.now events sending.object.items)
-            (map address_octets to.items) (map address_octets gone.items) (map sent_of sending.sent.items)) }
+        (map address_octets to.items) (map address_octets gone.items) (map sent_of sending.sent.items)) }
 {
     let object = request_of(alloc, meeting)?;
     let mut sent = Vec::new(alloc);
@@ -144,11 +144,7 @@ fn cancel_of(
 }
 
 /// Sends an object to these; nothing where there is nobody.
-fn push_sent(
-    sent: &mut Vec<Outgoing>,
-    to: Vec<Address>,
-    octets: Vec<u8>,
-) -> Result<(), AllocError>
+fn push_sent(sent: &mut Vec<Outgoing>, to: Vec<Address>, octets: Vec<u8>) -> Result<(), AllocError>
     ensures { OnOk result (map sent_of sent.new.items ≡ map sent_of sent.old.items ++ sent_to (map address_octets to.items) octets.items) }
 {
     if to.is_empty() {

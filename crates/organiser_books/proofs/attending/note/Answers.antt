@@ -14,7 +14,7 @@ returns-in-Some c = λ done own h.
     let es = c.args.attending.now.entries in
     let address = address_octets c.args.attendee.now.address in
     noted_known done c.args.place own (attendee_of c.args.attendee.now) es (c.get_mut.follows.lender c.with.result).entries c.in-Some.known.now (sym c.in-Some.ensures.value) w.1
-        (w.0 ∙ ap (set_value (is_address address) es) c.with.ensures) h
+    (w.0 ∙ ap (set_value (is_address address) es) c.with.ensures) h
 
 pub returns : goal.returns
 returns c = λ done own h.
@@ -27,4 +27,4 @@ returns c = λ done own h.
     let same : m ≡ c.args.attending.now = c.get_mut.follows.holds-at-none in
     let none : attendance_of (address_octets address) m.entries ≡ None = subst (λ l. attendance_of (address_octets address) l.entries ≡ None) (sym same) (ap (λ q. attendance_of q es) c.in_ok-address.ensures.cases ∙ was) in
     noted_new done c.args.place own attendee es c.insert.new.self.entries address c.in_ok-address.ensures.cases was
-        (c.in_ok-insert.ensures.entries ∙ insert_entry-new same_address m address value none ∙ ap (λ l. l.entries ++ (address, value) ∷ []) same) h
+    (c.in_ok-insert.ensures.entries ∙ insert_entry-new same_address m address value none ∙ ap (λ l. l.entries ++ (address, value) ∷ []) same) h

@@ -25,12 +25,12 @@ loop-component-preserved c =
       λ stored replies revision seen known.
           let done = flat_map (heard_of stored.uid) (take place components) in
           let stranger : is_unknown c.loop-component.self component.attendees ≡ false =
-              unknown_same c.loop-component.self c.args.self.now i.2 component.attendees
-              ∙ none_passes (λ (x : ObjectComponent). is_unknown c.args.self.now x.attendees) components place component known inside c.component-item.is in
+          unknown_same c.loop-component.self c.args.self.now i.2 component.attendees
+          ∙ none_passes (λ (x : ObjectComponent). is_unknown c.args.self.now x.attendees) components place component known inside c.component-item.is in
           subst (λ (l : List Heard). AreSeen c.hear.new.self stored l)
-              (append_assoc replies done (heard_of stored.uid component)
-              ∙ ap (λ (l : List Heard). replies ++ l) (sym (ap (flat_map (heard_of stored.uid)) (one_more components place component inside c.component-item.is) ∙ flat_push (heard_of stored.uid) (take place components) component)))
-              (c.hear.ensures.seen stored (replies ++ done) (ap revision_of i.0 ∙ revision) (i.4 stored replies revision seen known) stranger),
+          (append_assoc replies done (heard_of stored.uid component)
+          ∙ ap (λ (l : List Heard). replies ++ l) (sym (ap (flat_map (heard_of stored.uid)) (one_more components place component inside c.component-item.is) ∙ flat_push (heard_of stored.uid) (take place components) component)))
+          (c.hear.ensures.seen stored (replies ++ done) (ap revision_of i.0 ∙ revision) (i.4 stored replies revision seen known) stranger),
       omega (arith, room, left, inside),
     )
 
@@ -38,4 +38,4 @@ pub returns-clause-seen : goal.returns-clause-seen
 returns-clause-seen c = λ stored replies revision seen known.
     let components = c.args.components.now in
     subst (λ (l : List ObjectComponent). AreSeen c.loop-component.self stored (replies ++ flat_map (heard_of stored.uid) l)) (take_all c.loop-component.component-index components (omega arith))
-        (c.loop-component.invariant.4 stored replies revision seen known)
+    (c.loop-component.invariant.4 stored replies revision seen known)
