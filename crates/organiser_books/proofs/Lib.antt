@@ -8,3 +8,5 @@ pub mod Sends
 pub mod Said
 pub mod Books
 pub mod Taking
+pub mod Replying
+pub mod Storing

@@ -67,7 +67,7 @@ module _ (address : List ℕ) (object : OrganiserObject) (said : objects.Organis
   pub unknown_fault : (op : objects.Operation) → said.operation ≡ op → is_of_attendee op ≡ true → StandsAt book uid None (last_store uid book) → CallFault op address said book 71
   unknown_fault op kind speaks found = in_state kind (unknown (ap is_of_attendee kind ∙ speaks) (last_is ∙ stands_unknown book uid (last_store uid book) found))
 
-  heard_is : flat_map (heard_of said.uid) object.components.items ≡ heard_in said.events
+  pub heard_is : flat_map (heard_of said.uid) object.components.items ≡ heard_in said.events
   heard_is = heard_are said.uid said.events object.components.items is.each (uids_are said.organiser said.uid said.events is.are)
 
   module _ (m : Meeting) (found : StandsAt book uid (Some m) (last_store uid book)) where
@@ -77,7 +77,7 @@ module _ (address : List ℕ) (object : OrganiserObject) (said : objects.Organis
     sequence_is : m.revision.sequence ≡ known.0.revision.sequence
     sequence_is = ap (λ (r : Revision). r.sequence) known.2.revision
 
-    ahead_is : is_ahead m object.components.items ≡ list_any (λ (e : Event). nat_lt known.0.revision.sequence e.sequence) said.events
+    pub ahead_is : is_ahead m object.components.items ≡ list_any (λ (e : Event). nat_lt known.0.revision.sequence e.sequence) said.events
     ahead_is = ahead_are m.revision.sequence said.events object.components.items is.each ∙ ap (λ n. list_any (λ (e : Event). nat_lt n e.sequence) said.events) sequence_is
 
     strange_is : is_strange m object.components.items ≡ list_any (λ (h : Heard). not (is_attendee h.attendee known.0.events)) (heard_in said.events)
