@@ -16,8 +16,8 @@ pub record AreKept (books : Books) (box : Box) : Type 0 where
   pub organisers : AreKeptBy books.organisers.organisers.items box.organisers
 
 -- what the first are, the second are too
-abbrev pub KeepBoth : Books → Books → Type 0
-KeepBoth old new = (box : Box) → AreKept old box → AreKept new box
+abbrev pub KeepAll : Books → Books → Type 0
+KeepAll old new = (box : Box) → AreKept old box → AreKept new box
 
 -- an object, of which so much was kept, is taken and these octets answered, from whatever the books are
 abbrev pub TakesKept : ℤ → List ℕ → Books → Books → List ℕ → Type 0

@@ -32,7 +32,7 @@ impl Books {
     ghost use Rattle.ical_values.specs.Octets.{address_octets};
     ghost use Rattle.ical_values.specs.Refused.{IfRefused};
     ghost use Rattle.profile.specs.streams.Streams.{Box, new_box};
-    ghost use Rattle.sched_box.specs.Books.{AnswersKept, AreKept, KeepBoth, RefusesKept, TakesKept, hosted_rooms};
+    ghost use Rattle.sched_box.specs.Books.{AnswersKept, AreKept, KeepAll, RefusesKept, TakesKept, hosted_rooms};
     ghost use Rattle.sched_box.specs.Config.{config_hosts, config_rooms};
 
     /// Empty books for each room and each organiser, in the order of the configuration.
@@ -88,7 +88,7 @@ impl Books {
         ensures takes { OnOk result ((more : List ℕ) × (answers.new.items ≡ answers.old.items ++ more)
             × TakesKept now octets.now self.old self.new more) }
         ensures stands { IfErr result (RefusesBy (RefusesKept octets.now self.old)) }
-        ensures keeps { IfErr result (IfRefused (KeepBoth self.old self.new × (answers.new.items ≡ answers.old.items))) }
+        ensures keeps { IfErr result (IfRefused (KeepAll self.old self.new × (answers.new.items ≡ answers.old.items))) }
         ensures addresses { hosted_rooms self.new ≡ hosted_rooms self.old }
     {
         match read_kept(self.alloc, octets)? {
