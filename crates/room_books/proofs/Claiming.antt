@@ -11,8 +11,8 @@ use Rattle.std.proofs.lemmas.Int.{ints}
 use Rattle.std.proofs.lemmas.Option.{slice_get_within, unwrap_or-slice_get}
 use Rattle.ical_values.specs.Octets.{address_octets, text_octets}
 use Rattle.cal_events.proofs.InOneOrder.{head_pairs, tail_pairs}
-use Rattle.itip_messages.specs.declared.message.Message.{Message}
-use Rattle.itip_messages.specs.declared.message.MessageComponent.{MessageComponent}
+use Rattle.itip_messages.specs.declared.room_message.RoomMessage.{RoomMessage}
+use Rattle.itip_messages.specs.declared.room_message.MessageComponent.{MessageComponent}
 use Rattle.itip_messages.specs.Messages.{StandsFor, SaysComponent, IsDated, is_for, has_part, part_for}
 use Rattle.itip_messages.proofs.MessageLemmas.{addressed, body_is, part_said, kept_said, kept_components, kept_among, no_events}
 use Rattle.itip_order.specs.Parts.{part_of}
@@ -151,7 +151,7 @@ module _ (event : Event) (timely : IsTimely event) (dated : IsDated (profile.slo
 
 -- ---- the claim of one component
 
-module _ (room : List ℕ) (message : Message) (given : profile.Message) (s : StandsFor message given) (event : Event) (component : MessageComponent) (among : Contains (events_of given.meeting) event)
+module _ (room : List ℕ) (message : RoomMessage) (given : profile.Message) (s : StandsFor message given) (event : Event) (component : MessageComponent) (among : Contains (events_of given.meeting) event)
     (says : SaysComponent given.method (option_map own_revision given.meeting.master) event component) (claim : Claim) (x : IsClaimIn room message component claim) where
   abbrev part : Part
   part = part_for room message component
@@ -291,7 +291,7 @@ module _ (room : List ℕ) (message : Message) (given : profile.Message) (s : St
 
 -- ---- all claims
 
-module _ (room : List ℕ) (message : Message) (given : profile.Message) (s : StandsFor message given) where
+module _ (room : List ℕ) (message : RoomMessage) (given : profile.Message) (s : StandsFor message given) where
   abbrev Says : Event → MessageComponent → Type 0
   Says = SaysComponent given.method (option_map own_revision given.meeting.master)
 
