@@ -1,8 +1,9 @@
 -- The organiser that an object names takes or refuses it, and the others are as before.
-use Rattle.std.proofs.Common.{◌≡◌, ℕ, zero, suc, ◌<◌, ℤ, Bool, true, false, List, [], ◌∷◌, ◌++◌, length, map, get_or, set, Contains, refl, sym, ap, subst, ◌∙◌, arith, true≢false, ◌||◌}
+use Rattle.std.proofs.Common.{◌≡◌, ℕ, zero, suc, ◌<◌, ℤ, Bool, true, false, List, [], ◌∷◌, ◌++◌, length, map, get_or, set, Contains, Result, Ok, Err, IfOk, OnOk, refl, sym, ap, subst, ◌∙◌, arith, true≢false, ◌||◌}
 use Rattle.std.specs.List.{flat_map, list_any}
 use Rattle.std.specs.Str.{bytes_eq}
 use Rattle.std.proofs.lemmas.Bool.{or_parts}
+use Rattle.std.proofs.lemmas.List.{append-nil}
 use Rattle.std.proofs.lemmas.List.Folds.{flat_map-map}
 use Rattle.std.proofs.lemmas.Slice.Eq.{bytes_eq-Decides}
 use Rattle.ical_lines.specs.Fault.{RefusesBy}
@@ -63,6 +64,14 @@ pub reply_takes : (moment : ℤ) (object : OrganiserObject) (old new : Organiser
 reply_takes moment object old new kind steps said stands to book keeps =
     let (may, has) = steps said stands book keeps in
     (after_reply said book, has, served profile.Reply moment (address_of old) said book (after_reply said book) [] (sym stands.operation ∙ kind) may (refl, refl))
+
+-- nothing is appended for it
+pub reply_answers : {A E : Type 0} (r : Result A E) (moment : ℤ) (object : OrganiserObject) (old new : Organiser) (answers : List ℕ) → operation_said object.operation ≡ profile.Reply
+    → IfOk r (λ _. (said : profile.OrganiserObject) → StandsForObject object said → (book : OrganiserBook) → Keeps old book
+    → MayTake profile.Reply (address_of old) said book × Keeps new (after_reply said book))
+    → OnOk r ((more : List ℕ) × (answers ≡ answers ++ more) × OrganiserTakes moment object old new more)
+reply_answers (Ok u) moment object old new answers kind steps = ([], sym (append-nil answers), reply_takes moment object old new kind steps)
+reply_answers (Err f) moment object old new answers kind steps = tt
 
 pub refresh_takes : (moment : ℤ) (object : OrganiserObject) (organiser : Organiser) (octets : List ℕ) → operation_said object.operation ≡ profile.Refresh
     → ((said : profile.OrganiserObject) → StandsForObject object said → (book : OrganiserBook) → Keeps organiser book
