@@ -107,7 +107,7 @@ HasLeft None left may_read = Unit {0}
 HasLeft (Some octets) None may_read = ⊥
 HasLeft (Some octets) (Some rest) may_read = length octets + may_read ≡ length rest + 1_073_741_824
 
--- from whatever the rooms stood for; they keep their addresses, and so many octets were read
+-- from whatever the books were; the rooms keep their addresses, and so many octets were read
 pub record Sofar (moment : ℤ) (olds news : Books) (input left output written : Option (List ℕ)) (may_read : ℕ) (report : ServeReport) : Type 0 where
   pub served : (before : Box) → AreKept olds before → ServedSofar moment news input left output written before report
   pub addresses : hosted_rooms news ≡ hosted_rooms olds
@@ -358,12 +358,12 @@ pub stream_stopped : (a mid left output written : Option (List ℕ)) (moment : �
     → ServesStream (record { input = a; left = left; output = output; written = written }) (Err f)
 stream_stopped a mid left output written moment hosts fault f opens is h =
     let P : StreamFault → Type 0 = λ x. ServesStream (record { input = a; left = left; output = output; written = written }) (Err x) in
-    subst P (sym is) (inr (moment, rooms, mid, opens, h))
+    subst P (sym is) (inr (moment, hosts, mid, opens, h))
 
 pub stream_served : (a mid left output written : Option (List ℕ)) (moment : ℤ) (hosts : Hosts) (report : ServeReport) → Opens a mid moment hosts
     → Serves moment (new_box hosts) (record { input = mid; left = left; output = output; written = written }) (Ok report)
     → ServesStream (record { input = a; left = left; output = output; written = written }) (Ok report)
-stream_served a mid left output written moment hosts report opens (after, all) = (moment, rooms, mid, after, opens, all)
+stream_served a mid left output written moment hosts report opens (after, all) = (moment, hosts, mid, after, opens, all)
 
 -- the stream is its preamble and its objects
 pub stream_whole : (a mid left output written : Option (List ℕ)) (moment : ℤ) (hosts : Hosts) (report : ServeReport) → Opens a mid moment hosts
