@@ -47,7 +47,11 @@ impl Directory {
 
     /// For each room, whether a message may be for it: one of its VEVENTs names it, or is one of a CANCEL and names nobody.
     /// In time that grows with the rooms and the attendees.
-    pub(crate) fn asked_by(&self, alloc: Global, message: &RoomMessage) -> Result<Vec<bool>, AllocError>
+    pub(crate) fn asked_by(
+        &self,
+        alloc: Global,
+        message: &RoomMessage,
+    ) -> Result<Vec<bool>, AllocError>
         ensures long { IfOk result (λ asked. length asked.items ≡ length (directory_addresses self.now)) }
         ensures out { IfOk result (λ asked. LeavesOut (asks message.now) (directory_addresses self.now) asked.items) }
     {

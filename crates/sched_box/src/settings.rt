@@ -102,12 +102,7 @@ impl Settings {
 
 /// Adds a host to those of its kind, of which there may be so many; one that is there is refused.
 /// At most so many are looked at.
-fn add_host(
-    alloc: Global,
-    hosts: &mut Vec<Address>,
-    most: usize,
-    text: &str,
-) -> Result<(), Fault>
+fn add_host(alloc: Global, hosts: &mut Vec<Address>, most: usize, text: &str) -> Result<(), Fault>
     ensures address { OnOk result (IsAddress text.now) }
     ensures added { OnOk result (AddsHost most hosts.old.items hosts.new.items (lower_case text.now)) }
     ensures refuses { IfErr result (RefusesOnly is_preamble_fault) }

@@ -14,9 +14,12 @@ returns-clause-takes c =
     let new = c.take_object.new.organiser in
     on_ok_weaker c.take_object.result
     (λ t.
-    let (more, is, takes) = t in
-    (more, is, taken_at c.args.now c.args.object c.args.organisers.now.items c.args.place d new more c.requires.within c.requires.named
-    (c.take_object.ensures.address ∙ ap address_of c.index_mut.ensures.value) (subst (λ (o : Organiser). OrganiserTakes c.args.now c.args.object o new more) c.index_mut.ensures.value takes)))
+    let (more, is, takes) = t in (
+      more,
+      is,
+      taken_at c.args.now c.args.object c.args.organisers.now.items c.args.place d new more c.requires.within c.requires.named
+          (c.take_object.ensures.address ∙ ap address_of c.index_mut.ensures.value) (subst (λ (o : Organiser). OrganiserTakes c.args.now c.args.object o new more) c.index_mut.ensures.value takes),
+    ))
     c.take_object.ensures.takes
 
 pub returns-clause-stands : goal.returns-clause-stands

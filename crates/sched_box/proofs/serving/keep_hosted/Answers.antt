@@ -33,3 +33,15 @@ returns-in_err-serve_objects-clause-bound g c =
     let p = err_from_is_err_and c.from_residual-in_err-serve_objects.result c.from_residual-in_err-serve_objects.ensures.1 in
     rw (p.1, p.2)
     (keeping_stopped c.args.now (new_box hosts) c.serve_objects.new.books (g.R.Input.remaining c.args.reader.now) (g.R.Input.remaining c.serve_objects.new.reader) _ _ _ _ (c.in_err-serve_objects.ensures.serves (new_box hosts) c.in_ok-books.ensures.kept) c.in_err-serve_objects.ensures.cause)
+
+pub returns-in_err-calendar-clause-bound : goal.returns-in_err-calendar-clause-bound
+returns-in_err-calendar-clause-bound g c =
+    let (after, kept, all) = c.in_ok-serve_objects.ensures.serves (new_box (config_hosts c.args.config.now)) c.in_ok-books.ensures.kept in
+    let p = err_from_is_err_and c.from_residual-in_err-calendar.result c.from_residual-in_err-calendar.ensures.1 in
+    rw (p.1, p.2) all.bound
+
+pub returns-in_err-certificate-clause-bound : goal.returns-in_err-certificate-clause-bound
+returns-in_err-certificate-clause-bound g c =
+    let (after, kept, all) = c.in_ok-serve_objects.ensures.serves (new_box (config_hosts c.args.config.now)) c.in_ok-books.ensures.kept in
+    let p = err_from_is_err_and c.from_residual-in_err-certificate.result c.from_residual-in_err-certificate.ensures.1 in
+    rw (p.1, p.2) all.bound
