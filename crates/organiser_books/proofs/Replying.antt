@@ -89,7 +89,7 @@ module _ (address : List ℕ) (object : OrganiserObject) (said : objects.Organis
       → MayTake objects.Reply address said book × KeepsAll after (after_reply said book)
   replied kind organiser sent names seen =
       let heard : flat_map (heard_of stored.uid) object.components.items ≡ heard_in said.events =
-          ap (λ u. flat_map (heard_of u) object.components.items) (stored_own said.uid book.stores stored last) ∙ heard_is address object said is book in (
+      ap (λ u. flat_map (heard_of u) object.components.items) (stored_own said.uid book.stores stored last) ∙ heard_is address object said is book in (
         may_take address object said is book m stands objects.Reply kind refl (λ e. sent) names organiser,
         keeps_heard book (heard_in said.events) said.uid heard_own meetings after object.uid (sym is.uid) n put stored last
             (own_heard book (heard_in said.events) said.uid heard_own m n stored revision components attending octets (heard_sent sent)

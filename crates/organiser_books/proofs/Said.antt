@@ -13,13 +13,13 @@ use Rattle.profile.specs.rooms.Kept.{each_once}
 use Rattle.profile.specs.organisers.Objects as objects
 use Rattle.profile.specs.organisers.Objects.{AreOfMeeting, counted}
 use Rattle.profile.specs.organisers.Organisers as profile
-use Rattle.profile.specs.organisers.Organisers.{Heard, attendees_of, greater, heard_in, is_attendee, is_called_off, own_sequence, scheduled_in}
+use Rattle.profile.specs.organisers.Organisers.{Heard, attendees_of, greater, heard_in, is_attendee, is_called_off, own_sequence, left_to_server, scheduled_in}
 use Rattle.itip_order.specs.declared.part.Slot.{Slot}
 use Rattle.itip_order.specs.declared.part.Slot.TheVariants.{Whole, At}
 use Rattle.itip_order.specs.Parts.{revision_of, slot_of}
 use Rattle.itip_messages.specs.OrganiserObjects.{SaysObjectComponent}
 use Rattle.itip_messages.specs.declared.organiser_object.ObjectComponent.{ObjectComponent}
-use Rattle.organiser_books.specs.Attending.{addresses_in, attendance_of, lists_of, lists_said, names, scheduled_among, schedules, Attends, AreAttending, Entries}
+use Rattle.organiser_books.specs.Attending.{addresses_in, attendance_of, lists_of, lists_said, names, scheduled_among, schedules, sent_among, Attends, AreAttending, Entries}
 use Rattle.organiser_books.specs.declared.attending.Attendance.{Attendance}
 use Rattle.organiser_books.specs.declared.meeting.Meeting.{Meeting}
 use Rattle.organiser_books.specs.Standing.{heard_by, heard_of, is_unknown}
@@ -31,14 +31,17 @@ use Rattle.organiser_books.proofs.Loops.{any_flat, any_map, flat_of_map}
 pub attendees_are : (events : List Event) → attendees_of events ≡ each_once (flat_map addresses_in (lists_said events))
 attendees_are events = ap each_once (sym (flat_of_map addresses_in (λ (e : Event). e.attendees) events))
 
-pub scheduled_are : (events : List Event) → scheduled_in events ≡ scheduled_among (lists_said events)
-scheduled_are events =
+pub left_are : (events : List Event) → left_to_server events ≡ scheduled_among (lists_said events)
+left_are events =
     same_filters (λ a. list_any (profile.schedules a) events) (λ a. list_any (schedules a) (lists_said events)) (λ a. sym (any_map (schedules a) (λ (e : Event). e.attendees) events)) (attendees_of events)
     ∙ ap (filter (λ a. list_any (schedules a) (lists_said events))) (attendees_are events)
   where
     same_filters : {X : Type 0} (p q : X → Bool) → ((y : X) → p y ≡ q y) → (xs : List X) → filter p xs ≡ filter q xs
     same_filters p q h [] = refl
     same_filters p q h (x ∷ xs) = (λ i. cond (h x i) (x ∷ same_filters p q h xs i) (same_filters p q h xs i))
+
+pub scheduled_are : (organiser : List ℕ) (events : List Event) → scheduled_in organiser events ≡ sent_among organiser (lists_said events)
+scheduled_are organiser events = ap (filter (λ address. not (bytes_eq address organiser))) (left_are events)
 
 pub attendee_is : (q : List ℕ) (events : List Event) → is_attendee q events ≡ list_any (names q) (lists_said events)
 attendee_is q events = sym (any_map (names q) (λ (e : Event). e.attendees) events)

@@ -40,7 +40,7 @@ call_fault : (operation : Operation) (address : List ℕ) (said : profile.Organi
     → CallFault operation address said book n → StateFault said book n
 call_fault operation address said book n kind to (other_kind no') = absurd (no' kind)
 call_fault operation address said book n kind to (other_organiser no') = absurd (no' to)
-call_fault operation address said book n kind to (call_in_state is fault) = fault
+call_fault operation address said book n kind to (call_in_state is own fault) = fault
 
 pub refused_by : (operation : Operation) (object : OrganiserObject) (organiser : Organiser) (f : Fault) → operation_said object.operation ≡ operation
     → RefusesBy (λ n. (said : profile.OrganiserObject) → StandsForObject object said → (book : OrganiserBook) → Keeps organiser book → CallFault operation (address_of organiser) said book n) f
