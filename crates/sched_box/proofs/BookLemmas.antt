@@ -9,7 +9,7 @@ use Rattle.itip_messages.specs.declared.organiser_object.OrganiserObject.{Organi
 use Rattle.itip_messages.specs.declared.room_message.RoomMessage.{RoomMessage}
 use Rattle.profile.specs.streams.Streams.{ObjectFault, ToRooms, ToOrganiser, refused_line}
 use Rattle.sched_box.specs.Answering.{AreHosted, RoomsTake}
-use Rattle.sched_box.specs.Books.{AnswersKept, AreKept, KeepAll, RefusesKept, TakesKept}
+use Rattle.sched_box.specs.Books.{AnswersKept, KeepAll, RefusesKept, TakesKept}
 use Rattle.sched_box.specs.Objects.{kept_of}
 use Rattle.sched_box.specs.Organising.{AreKeptBy, KeepBooks, OrganisersRefuse, OrganisersTake}
 use Rattle.sched_box.specs.declared.books.Books.{Books}

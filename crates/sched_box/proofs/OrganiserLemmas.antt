@@ -21,7 +21,7 @@ use Rattle.organiser_books.specs.declared.outgoing.Outgoing.{Outgoing}
 use Rattle.profile.specs.organisers.Objects as profile
 use Rattle.profile.specs.organisers.Objects.{Operation}
 use Rattle.profile.specs.organisers.Organisers.{OrganiserBook, Sent, IsStore, StateFault, after_reply, empty_organiser}
-use Rattle.profile.specs.streams.Streams.{HostedOrganiser, HostFault, IsTaken, ServesOperation, TakesObject, not_hosted, in_state}
+use Rattle.profile.specs.streams.Streams.{HostedOrganiser, IsTaken, ServesOperation, TakesObject, not_hosted, in_state}
 use Rattle.sched_box.proofs.HostLemmas.{MadeSofar}
 use Rattle.sched_box.specs.Organising.{AreKeptBy, IsKeptBy, KeepBooks, KeepsBook, OrganiserRefuses, OrganiserTakes, OrganisersRefuse, OrganisersTake, organiser_addresses}
 

@@ -1,5 +1,5 @@
 -- The objects and answers so far, against those of the whole stream.
-use Rattle.std.proofs.Common.{◌≡◌, inl, inr, ℕ, ℤ, Bool, zero, suc, ◌+◌, ◌<◌, ◌≤◌, true, false, List, [], ◌∷◌, ◌++◌, length, take, map, Option, Some, None, IfSome, OnSome, Result, Ok, Err, refl, sym, ap, subst, ◌∙◌, arith, length-append}
+use Rattle.std.proofs.Common.{◌≡◌, inl, inr, ℕ, ℤ, Bool, zero, suc, ◌+◌, ◌<◌, ◌≤◌, true, false, List, [], ◌∷◌, ◌++◌, length, take, Option, Some, None, IfSome, OnSome, Result, Ok, Err, refl, sym, ap, subst, ◌∙◌, arith, length-append}
 use Rattle.std.proofs.lemmas.List.{append_assoc, append-nil}
 use Rattle.std.specs.Io.KnownBytes.{Appends, Consumes, Keeps, IsAtEnd}
 use Rattle.std.proofs.KnownBytes.{Appends-kept, Appends-nil, Appends-trans, Keeps-refl}
@@ -21,7 +21,6 @@ use Rattle.std.specs.Str.{bytes_eq}
 use Rattle.std.proofs.lemmas.Slice.Eq.{bytes_eq-Decides}
 use Rattle.std.proofs.lemmas.Bool.{cases_lt}
 use Rattle.profile.specs.rooms.Kept.{IsKeptCalendar, kept_certificate}
-use Rattle.std.proofs.lemmas.List.{map-append, take_more}
 use Rattle.ical_values.specs.Octets.{address_octets}
 use Rattle.ical_values.specs.declared.address.Address.{Address}
 use Rattle.profile.specs.rooms.Rooms.{empty_book}
@@ -33,7 +32,7 @@ use Rattle.sched_box.specs.Output.{StopsSending}
 use Rattle.sched_box.specs.Preamble.{Opens, OpensNot, StopsInPreamble}
 use Rattle.sched_box.proofs.HostLemmas.{MadeSofar}
 use Rattle.sched_box.proofs.ObjectLemmas.{after_short}
-use Rattle.std.proofs.Common.{get_or, take_all}
+use Rattle.std.proofs.Common.{get_or}
 
 -- ---- one object more
 

@@ -1,4 +1,4 @@
-use Rattle.std.proofs.Common.{Bool, List, ℕ, ℤ, sym, subst, rules}
+use Rattle.std.proofs.Common.{Bool, ℤ, sym, subst, rules}
 use Rattle.std.proofs.lemmas.Result.{err_from_is_err_and}
 use Rattle.profile.specs.streams.Streams.{Hosts, IsPreamble}
 use Rattle.sched_box.specs.Config.{config_hosts}
