@@ -1,5 +1,6 @@
 -- A meeting that is stored.
-use Rattle.std.proofs.Common.{◌≡◌, ◌∙◌, ℕ, ℤ, ◌+◌, ◌<◌, ◌≤◌, Bool, true, false, cond, List, [], ◌∷◌, Option, None, Some, refl, sym, ap, subst, inl, inr, arith}
+use Rattle.std.proofs.Common.{◌≡◌, ◌∙◌, ℕ, ℤ, ◌+◌, ◌<◌, ◌≤◌, Bool, true, false, cond, List, [], ◌∷◌, ◌++◌, Option, None, Some, refl, sym, ap, subst, inl, inr, arith}
+use Rattle.std.specs.Prelude.{nat_lt}
 use Rattle.std.specs.List.{AllZip, filter, Contains, position}
 use Rattle.std.specs.Map.{keys_of}
 use Rattle.std.specs.Str.{bytes_eq}
@@ -22,8 +23,8 @@ use Rattle.organiser_books.specs.declared.meeting.Meeting.{Meeting}
 use Rattle.organiser_books.specs.Attending.{is_address, lists_of, lists_said, sent_among, AreAttending}
 use Rattle.organiser_books.specs.Calls.{CallFault, MayTake}
 use Rattle.organiser_books.specs.Calls.CallFault.{in_state}
-use Rattle.organiser_books.specs.Standing.{answer_at, same_text, LatestOf, Stands, StandsAt}
-use Rattle.organiser_books.specs.Storing.{calls_off, sequence_then, LastAttends, SendsObject, SendsTo}
+use Rattle.organiser_books.specs.Standing.{answer_at, answer_in, same_text, LatestOf, Stands, StandsAt}
+use Rattle.organiser_books.specs.Storing.{calls_off, own_in, sequence_then, LastAttends, SendsObject, SendsTo}
 use Rattle.organiser_books.proofs.Books.{keeps_stored, none_answer, stored_own, KeepsAll}
 use Rattle.organiser_books.proofs.Said.{lists_are, off_are, own_are, scheduled_are}
 

@@ -1,28 +1,31 @@
 -- What the calls of an organiser take, answer and refuse.
-use Rattle.std.proofs.Common.{◌≡◌, ◌∙◌, ℕ, Bool, true, false, not, is_some, List, [], ◌∷◌, ◌++◌, Option, None, Some, refl, sym, ap, subst, inl, inr}
-use Rattle.std.specs.Prelude.{codes, nat_lt}
-use Rattle.std.specs.List.{AllZip, flat_map, list_any}
+use Rattle.std.proofs.Common.{◌≡◌, ◌∙◌, ℕ, ◌+◌, ◌<◌, ◌≤◌, Bool, true, false, not, is_some, ◌&&◌, ◌||◌, cond, List, [], ◌∷◌, ◌++◌, map, Option, None, Some, refl, sym, ap, subst, inl, inr, arith}
+use Rattle.std.specs.Prelude.{◌⊎◌, codes, nat_lt}
+use Rattle.std.specs.List.{AllZip, filter, flat_map, list_any, Contains}
 use Rattle.std.specs.Str.{bytes_eq}
-use Rattle.std.proofs.lemmas.Bool.{true≢false, both_ways}
-use Rattle.ical_values.specs.Octets.{text_octets}
+use Rattle.std.proofs.lemmas.Bool.{true≢false, both_ways, cases_lt, lt-ltb, le-ltb, false_from_ne_true}
+use Rattle.std.proofs.lemmas.List.Elements.{Contains-get_or}
+use Rattle.itip_order.proofs.Lists.{any_from}
+use Rattle.ical_values.specs.Octets.{address_octets, text_octets}
 use Rattle.profile.specs.events.Events.{Attendee, Event, Participation}
 use Rattle.profile.specs.rooms.Revisions.{Revision, Slot}
 use Rattle.profile.specs.organisers.Objects as objects
 use Rattle.profile.specs.organisers.Objects.{is_of_attendee}
-use Rattle.profile.specs.organisers.Organisers.{Heard, OrganiserBook, Stored, StateFault, heard_in, is_attendee, last_store, sent_status, participation_word, IsSeen, ShowsSeen}
+use Rattle.profile.specs.organisers.Organisers.{Heard, OrganiserBook, Stored, StateFault, heard_in, is_attendee, last_store, most_sequence, own_sequence, greater, sequence_after, scheduled_in, sent_status, participation_word, IsSeen, ShowsSeen}
 use Rattle.profile.specs.organisers.Organisers.StateFault.{unknown, ahead, spent, stranger}
 use Rattle.profile.specs.organisers.Sent.{IsComponentText, IsMeetingText}
-use Rattle.itip_messages.specs.OrganiserObjects.{operation_said, StandsForObject}
+use Rattle.itip_order.specs.Parts.{revision_of}
+use Rattle.itip_messages.specs.OrganiserObjects.{operation_said, SaysObjectComponent, StandsForObject}
 use Rattle.itip_messages.specs.declared.organiser_object.Operation.{Operation}
 use Rattle.itip_messages.specs.declared.organiser_object.Operation.TheVariants.{Store, Reply, Refresh}
 use Rattle.itip_messages.specs.declared.organiser_object.OrganiserObject.{OrganiserObject}
 use Rattle.itip_messages.specs.contracts.organiser_object.OperationPartialEq.TheImpl as operations
 use Rattle.organiser_books.specs.declared.meeting.Meeting.{Meeting}
-use Rattle.organiser_books.specs.Attending.{attendance_of, lists_said}
+use Rattle.organiser_books.specs.Attending.{attendance_of, is_sent, lists_said}
 use Rattle.organiser_books.specs.Calls.{CallFault, MayTake}
 use Rattle.organiser_books.specs.Calls.CallFault.{in_state}
 use Rattle.organiser_books.specs.Shown.{ShowsAnswered}
-use Rattle.organiser_books.specs.Standing.{answer_in, answered, heard_of, is_ahead, is_strange, IsReplyFault, Stands, StandsAt}
+use Rattle.organiser_books.specs.Standing.{answer_in, answered, heard_of, is_ahead, is_strange, AreSeen, IsReplyFault, Stands, StandsAt}
 use Rattle.organiser_books.proofs.Books.{stands_known, stands_unknown}
 use Rattle.organiser_books.proofs.Latest.{latest_is}
 use Rattle.organiser_books.proofs.Picking.{among_sent}
@@ -162,10 +165,5 @@ pub shows_seen : (organiser : List ℕ) (m : Meeting) (book : OrganiserBook) (st
 shows_seen organiser m book stored h slot a line is = (
   answered (answer_in m slot a.address),
   latest_is _ (answer_in m slot a.address) (h.seen slot a.address),
-<<<<<<< HEAD
   is ∙ ap (shown a.address (answered (answer_in m slot a.address))) (sym (ap (list_any (bytes_eq a.address)) (scheduled_are organiser stored.events) ∙ among_sent organiser (lists_said stored.events) m.attending.entries h.attending a.address)),
-=======
-  is ∙ ap (shown a.address (answered (answer_in m slot a.address))) (is_sent_is (lists_said stored.events) m.attending.entries h.attending a.address
-      ∙ sym (ap (list_any (bytes_eq a.address)) (scheduled_are stored.events) ∙ among_scheduled (lists_said stored.events) a.address)),
->>>>>>> c776d976ec76714d185498bbe0b03a7b71d42e4e
 )

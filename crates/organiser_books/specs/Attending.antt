@@ -1,5 +1,5 @@
 -- The attendees of a meeting, as an organiser has them in memory. Components count here as their ATTENDEE lines alone.
-use Rattle.std.specs.Prelude.{◌≡◌, ℕ, ◌≤◌, ◌==◌, Bool, true, false, not, ◌||◌, ◌&&◌, if◌then◌else◌, List, ◌++◌, map, filter, Option, None, Some}
+use Rattle.std.specs.Prelude.{◌≡◌, ℕ, ◌≤◌, ◌==◌, Bool, true, false, not, ◌||◌, ◌&&◌, if◌then◌else◌, List, [], ◌∷◌, ◌++◌, map, filter, Option, None, Some}
 use Rattle.std.specs.List.{flat_map, list_any}
 use Rattle.std.specs.Map.{lookup, keys_of}
 use Rattle.std.specs.Str.{bytes_eq}

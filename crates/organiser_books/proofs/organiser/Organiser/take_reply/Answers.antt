@@ -1,8 +1,9 @@
-use Rattle.std.proofs.Common.{◌∙◌, ◌++◌, refl, is_some, List, Option, None, Some, ap, sym, subst}
+use Rattle.std.proofs.Common.{◌≡◌, ◌∙◌, ◌++◌, refl, Bool, cond, true, is_some, ℕ, List, Option, None, Some, ap, sym, subst}
 use Rattle.std.specs.List.{flat_map}
 use Rattle.ical_values.proofs.Exits.{any_err}
 use Rattle.indexmap.specs.IndexMap.{get}
 use Rattle.ical_values.specs.Octets.{address_octets, text_octets}
+use Rattle.ical_values.specs.declared.text.Text.{Text}
 use Rattle.profile.specs.organisers.Objects as objects
 use Rattle.profile.specs.organisers.Organisers.{OrganiserBook, last_store}
 use Rattle.itip_messages.specs.OrganiserObjects.{StandsForObject}
@@ -32,11 +33,7 @@ returns-in_err-take_reply-clause-stands c =
     (IsReplyFault m c.deref.result.now) _
     (λ n fault said is book keeps.
     let found : StandsAt book uid (Some m) (last_store uid book) = subst (λ (o : Option Meeting). StandsAt book uid o (last_store uid book)) (sym c.in-Some.ensures.value) (keeps.each object.uid) in
-<<<<<<< HEAD
     reply_fault address object said is book m found n (sym is.operation ∙ c.in_ok-expect.ensures.kind) (sym is.organiser ∙ c.in_ok-expect.ensures.own) (subst (λ (l : List ObjectComponent). IsReplyFault m l n) c.deref.ensures.value fault))
-=======
-    reply_fault address object said is book m found n (sym is.operation ∙ c.in_ok-expect.ensures.kind) (subst (λ (l : List ObjectComponent). IsReplyFault m l n) c.deref.ensures.value fault))
->>>>>>> c776d976ec76714d185498bbe0b03a7b71d42e4e
     c.from_residual-in_err-take_reply.ensures.1 c.in_err-take_reply.ensures.refuses
 
 pub returns-in_err-take_reply-clause-err : goal.returns-in_err-take_reply-clause-err
