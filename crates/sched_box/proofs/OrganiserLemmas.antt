@@ -1,5 +1,5 @@
 -- The organiser that an object names takes or refuses it, and the others are as before.
-use Rattle.std.proofs.Common.{◌≡◌, ℕ, zero, suc, ◌<◌, ℤ, Bool, true, false, List, [], ◌∷◌, ◌++◌, length, map, get_or, set, Contains, Result, Ok, Err, IfOk, OnOk, refl, sym, ap, subst, ◌∙◌, arith, true≢false, ◌||◌}
+use Rattle.std.proofs.Common.{◌≡◌, ℕ, zero, suc, ◌<◌, ℤ, Bool, true, false, List, [], ◌∷◌, ◌++◌, length, map, get_or, set, Contains, Result, Ok, Err, IfOk, IfErr, OnOk, OnErr, refl, sym, ap, subst, ◌∙◌, arith, true≢false, ◌||◌}
 use Rattle.std.specs.List.{flat_map, list_any}
 use Rattle.std.specs.Str.{bytes_eq}
 use Rattle.std.proofs.lemmas.Bool.{or_parts}
@@ -72,6 +72,12 @@ pub reply_answers : {A E : Type 0} (r : Result A E) (moment : ℤ) (object : Org
     → OnOk r ((more : List ℕ) × (answers ≡ answers ++ more) × OrganiserTakes moment object old new more)
 reply_answers (Ok u) moment object old new answers kind steps = ([], sym (append-nil answers), reply_takes moment object old new kind steps)
 reply_answers (Err f) moment object old new answers kind steps = tt
+
+-- where it is refused the book stays
+pub reply_keeps : {A : Type 0} (r : Result A Fault) (old new : Organiser) (answers : List ℕ) → OnErr r (KeepsBook old new) → IfErr r (IfRefused (KeepsBook old new × (answers ≡ answers)))
+reply_keeps (Ok u) old new answers keeps = tt
+reply_keeps (Err Memory) old new answers keeps = tt
+reply_keeps (Err (Refused x)) old new answers keeps = (keeps, refl)
 
 pub refresh_takes : (moment : ℤ) (object : OrganiserObject) (organiser : Organiser) (octets : List ℕ) → operation_said object.operation ≡ profile.Refresh
     → ((said : profile.OrganiserObject) → StandsForObject object said → (book : OrganiserBook) → Keeps organiser book
