@@ -70,7 +70,11 @@ fn ann(alloc: Global) -> Result<Organiser, NoAnswer> {
 /// She takes objects that stand one behind another. One that is refused changes nothing.
 fn take_all(alloc: Global, organiser: &mut Organiser, octets: &[u8]) -> Result<(), NoAnswer> {
     let mut rest = octets;
-    while let Some(end) = cut(rest) {
+    // there are fewer objects than octets
+    for _ in 0..octets.len() {
+        let Some(end) = cut(rest) else {
+            return Ok(());
+        };
         let (object, after) = rest.split_at(end);
         match take(alloc, organiser, object) {
             Ok(()) | Err(Fault::Refused(_)) => rest = after,
@@ -115,11 +119,11 @@ pub fn large_answer(alloc: Global, case: Case<'_>) -> Result<String, NoAnswer> {
         alloc,
         b"now 20250102T000000Z\nroom mailto:r1@example.com\n\n",
     )?;
-    let mut octets = 0;
-    let mut receivers = 0;
+    let mut octets: usize = 0;
+    let mut receivers: usize = 0;
     for one in outgoing.iter() {
-        octets += one.octets.len();
-        receivers += one.to.len();
+        octets = octets.saturating_add(one.octets.len());
+        receivers = receivers.saturating_add(one.to.len());
         stream.extend_from_slice(one.octets.as_slice())?;
     }
     let mut reader = stream.as_slice();
