@@ -12,6 +12,7 @@ import tempfile
 from pathlib import Path
 
 NOW = "now 20250102T000000Z\n"
+ANN = "organiser mailto:ann@example.com\n"
 ROOM = "room mailto:r1@example.com\n"
 PREAMBLE = NOW + ROOM + "\n"
 R1 = "mailto:r1@example.com"
@@ -73,7 +74,7 @@ def preambles(cases, program):
         ("the room twice in another case", NOW + ROOM + "room MAILTO:R1@EXAMPLE.COM\n\n"), ("two spaces", NOW + "room  mailto:r1@example.com\n\n"),
         ("a space behind", NOW + "room mailto:r1@example.com \n\n"), ("upper case", "NOW 20250102T000000Z\n" + ROOM + "\n"),
         ("a comment", "# rooms\n" + NOW + ROOM + "\n"), ("a byte order mark", "\ufeff" + NOW + ROOM + "\n"), ("an empty line first", "\n" + NOW + ROOM + "\n"),
-        ("no empty line", NOW + ROOM), ("an organiser", NOW + ROOM + "organiser mailto:ann@example.com\n\n"), ("nothing", ""),
+        ("no empty line", NOW + ROOM), ("one organiser twice", NOW + ROOM + ANN + ANN + "\n"), ("257 organisers", NOW + ROOM + "".join(f"organiser mailto:o{n}@example.com\n" for n in range(257)) + "\n"), ("nothing", ""),
         ("65 rooms", NOW + "".join(f"room mailto:r{n}@example.com\n" for n in range(65)) + "\n"),
     ]:
         # where the preamble has no end, the object is taken as part of it
@@ -207,7 +208,7 @@ def refusals(cases, program):
         return found[0].rpartition(":")[2] if found and found[0].startswith("REFUSED") else found
 
     for method in ("REPLY", "REFRESH", None):
-        cases.holds(f"METHOD {method}", number(request(method=method)), "99")
+        cases.holds(f"METHOD {method} where no organiser is hosted", number(request(method=method)), "70")
     for method in ("PUBLISH", "COUNTER", "DECLINECOUNTER", "FOO"):
         cases.holds(f"METHOD {method}", number(request(method=method)), "60")
     cases.holds("a CANCEL without DTSTART", one(request(method="CANCEL", lines=()).replace("DTSTART:20250310T090000Z\r\n", "")), [])
@@ -426,9 +427,65 @@ def explained(cases, program):
     cases.holds("so is a word", run(program, "explain", "no")[:2], (2, ""))
 
 
+def organisers(cases, program):
+    """The section "Organisers": what is written for a store, and what of REPLY and REFRESH."""
+    def told(*objects):
+        """Of each object that is written METHOD, SEQUENCE, STATUS where there is one, and the attendees; REFUSED lines as they are."""
+        said = []
+        for line in unfolded(run(program, given=NOW + ROOM + ANN + "\n" + "".join(objects))[1]).splitlines():
+            name, _, value = line.partition(":")
+            if line.startswith("METHOD") or line.startswith("REFUSED"):
+                said.append([value] if name == "METHOD" else line)
+            elif name in ("SEQUENCE", "STATUS"):
+                said[-1].append(value)
+            elif name.startswith("ATTENDEE"):
+                said[-1].append(value.removeprefix("mailto:").partition("@")[0])
+        return said
+
+    def stored(*attendees, sequence=None, lines=(), uid="s", own=()):
+        event = [f"UID:{uid}", "DTSTAMP:20250101T000000Z", "ORGANIZER:mailto:ann@example.com", "DTSTART:20250401T090000Z", "DURATION:PT1H", *lines, *own]
+        event += [f"SEQUENCE:{sequence}"] if sequence is not None else []
+        return message(None, ["BEGIN:VEVENT", *event, *(f"ATTENDEE{it}" for it in attendees), "END:VEVENT"])
+
+    def spoken(method, who="r1", sequence=0, uid="s"):
+        event = [f"UID:{uid}", "DTSTAMP:20250102T000000Z", "ORGANIZER:mailto:ann@example.com", f"SEQUENCE:{sequence}", f"ATTENDEE;PARTSTAT=ACCEPTED:mailto:{who}@example.com"]
+        return message(method, ["BEGIN:VEVENT", *event, "END:VEVENT"])
+
+    one, two = ":mailto:r1@example.com", ":mailto:r2@example.com"
+    cases.holds("the store's own SEQUENCE at first", told(stored(one, sequence=4)), [["REQUEST", "4", "r1"]])
+    cases.holds("then at least one more", told(stored(one, sequence=4), stored(one, sequence=2)), [["REQUEST", "4", "r1"], ["REQUEST", "5", "r1"]])
+    cases.holds("or its own greater one", told(stored(one), stored(one, sequence=9)), [["REQUEST", "0", "r1"], ["REQUEST", "9", "r1"]])
+    cases.holds("no SEQUENCE is left", told(stored(one, sequence=2147483647), stored(one)), [["REQUEST", "2147483647", "r1"], "REFUSED;OBJECT=2:72"])
+    for agent in ("CLIENT", "NONE", "X-OTHER"):
+        cases.holds(f"SCHEDULE-AGENT={agent}", told(stored(f";SCHEDULE-AGENT={agent}{one}")), [])
+        cases.holds(f"SCHEDULE-AGENT={agent} beside another", told(stored(f";SCHEDULE-AGENT={agent}{one}", two)), [["REQUEST", "0", "r1", "r2"]])
+    cases.holds("SCHEDULE-AGENT=server", told(stored(f";SCHEDULE-AGENT=server{one}")), [["REQUEST", "0", "r1"]])
+    cases.holds("one is gone", told(stored(one, two), stored(two)), [["REQUEST", "0", "r1", "r2"], ["REQUEST", "1", "r2"], ["CANCEL", "1", "r1"]])
+    cases.holds("one is left to a client now", told(stored(one, two), stored(one, f";SCHEDULE-AGENT=CLIENT{two}")), [["REQUEST", "0", "r1", "r2"], ["REQUEST", "1", "r1", "r2"], ["CANCEL", "1", "r2"]])
+    off = stored(one, lines=("STATUS:CANCELLED",))
+    cases.holds("called off", told(stored(one, two), off, off), [["REQUEST", "0", "r1", "r2"], ["CANCEL", "1", "CANCELLED", "r1", "r2"], ["CANCEL", "2", "CANCELLED", "r1"]])
+    cases.holds("the organiser among the attendees", told(stored(":mailto:ann@example.com", one)), [["REQUEST", "0", "ann", "r1"]])
+    cases.holds("the organiser alone", told(stored(":mailto:ann@example.com")), [])
+    cases.holds("a REPLY", told(stored(one), spoken("REPLY")), [["REQUEST", "0", "r1"]])
+    cases.holds("a REPLY to an older store", told(stored(one), stored(one), spoken("REPLY")), [["REQUEST", "0", "r1"], ["REQUEST", "1", "r1"]])
+    cases.holds("a REPLY past the last store", told(stored(one), spoken("REPLY", sequence=1)), [["REQUEST", "0", "r1"], "REFUSED;OBJECT=2:71"])
+    cases.holds("a REPLY for a meeting that isn't known", told(spoken("REPLY")), ["REFUSED;OBJECT=1:71"])
+    cases.holds("a REPLY of a stranger", told(stored(one), spoken("REPLY", "r2")), [["REQUEST", "0", "r1"], "REFUSED;OBJECT=2:73"])
+    cases.holds("a REFRESH", told(stored(one), spoken("REFRESH")), [["REQUEST", "0", "r1"]] * 2)
+    cases.holds("a REFRESH after it was called off", told(off, spoken("REFRESH")), [["CANCEL", "0", "CANCELLED", "r1"]] * 2)
+    cases.holds("a REFRESH after a cancellation to nobody", told(stored(f";SCHEDULE-AGENT=NONE{one}", lines=("STATUS:CANCELLED",)), spoken("REFRESH")), [["CANCEL", "0", "CANCELLED"]])
+    lines = unfolded(run(program, given=NOW + ANN + "\n" + stored(one, lines=("SUMMARY;LANGUAGE=en:Plan", "SUMMARY:b", "LOCATION:here")))[1]).split("\r\n")
+    cases.holds("a REQUEST as it is shown", lines[4:], [
+        "BEGIN:VEVENT", "UID:s", "SEQUENCE:0", "DTSTAMP:20250102T000000Z", "DTSTART:20250401T090000Z", "DURATION:PT3600S", "SUMMARY:Plan", "ORGANIZER:mailto:ann@example.com",
+        "ATTENDEE;PARTSTAT=NEEDS-ACTION;RSVP=TRUE:mailto:r1@example.com", "END:VEVENT", "END:VCALENDAR", ""])
+    folder = Path(__file__).parent.parent / "examples"
+    written = run(program, given=(folder / "organiser-conversation.ics-stream").read_bytes())[1]
+    cases.holds("the example of a conversation", written, (folder / "organiser-conversation.answers").read_bytes().decode())
+
+
 def main():
     program, cases = str(Path(sys.argv[1]).resolve()), Cases()
-    for part in (preambles, decisions, instances, added, replies, refusals, kept, zones, times_in_zones, series, kept_series, explained):
+    for part in (preambles, decisions, instances, added, replies, refusals, kept, zones, times_in_zones, series, kept_series, organisers, explained):
         part(cases, program)
     print(f"{cases.count} cases, {cases.failed} failed")
     return 1 if cases.failed else 0

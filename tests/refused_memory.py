@@ -107,6 +107,9 @@ def main():
             ("the kept calendar of a series", [program, "keep", room], read("preamble", "request-series-h-excepted"), [b"", read("calendar-series-h-excepted")]),
             ("a kept calendar", [program, "keep", room], decline, [b"", read("calendar-a")]),
             ("a kept calendar with a hidden start", [program, "keep", room], read("preamble", "cancel-a-instance-sequence-1", "request-a"), [b"", read("calendar-a-hidden")]),
+            ("a store, its second revision and a refresh", [program, "serve"], read("preamble-organiser", "store-s-two", "store-s", "reply-s-1", "refresh-s"), [b"", read("sent-s-two-0"), read("sent-s-two-0", "sent-s-1", "taken-out-r2-1"), read("sent-s-two-0", "sent-s-1", "taken-out-r2-1", "sent-s-1")]),
+            ("a meeting that is called off", [program, "serve"], read("preamble-organiser", "store-s-cancelled"), [b"", read("called-off-s-0")]),
+            ("a series in a zone that is stored", [program, "serve"], read("preamble-organiser", "store-s-series"), [b"", read("sent-s-series-3")]),
             ("a check", [program, "check", kept, certificate, room], b"", [b"", b"yes\n"]),
         ]
         for name, words, stream, wholes in rows:

@@ -71,7 +71,8 @@ said = record {
   exceptions = [];
   times = record { zone = None; local = pos 1_741_597_200; start = pos 1_741_597_200; length = record { days = 0; seconds = 5_400 } };
   rule = None;
-  attendees = record { address = codes "mailto:room@example.com"; participation = Accepted } ∷ record { address = codes "mailto:room@example.com"; participation = Declined } ∷ [];
+  summary = [];
+  attendees = record { address = codes "mailto:room@example.com"; participation = Accepted; scheduled = true } ∷ record { address = codes "mailto:room@example.com"; participation = Declined; scheduled = true } ∷ [];
 }
 
 no_need : {A : Type 0} → false ≡ true → A
@@ -107,9 +108,10 @@ say object = record {
     takes = (tt, omega arith);
     alone = refl;
   };
+  summary = refl;
   attendees = (
-    (((codes "MAILTO", codes "Room@example.com", refl, refl, refl, omega arith), refl), refl),
-    ((((codes "mailto", codes "room@example.com", refl, refl, refl, omega arith), refl), refl), tt),
+    record { address = ((codes "MAILTO", codes "Room@example.com", refl, refl, refl, omega arith), refl); participation = refl; scheduled = refl },
+    (record { address = ((codes "mailto", codes "room@example.com", refl, refl, refl, omega arith), refl); participation = refl; scheduled = refl }, tt),
   );
 }
 

@@ -1,6 +1,6 @@
 -- What the readers of a VEVENT's properties say, put together.
 use Rattle.std.proofs.Common.{◌≡◌, ℕ, zero, suc, ◌+◌, ◌<◌, Bool, true, false, eqb, List, [], ◌∷◌, ◌++◌, length, get_or, drop, drop-cons, add-one, append_assoc, cond, map, codes, subst, sym, refl, ap, ◌∙◌, inl, inr, arith, ℤ, Option}
-use Rattle.std.specs.Prelude.{Option, Some, None, Result, Ok, Err, is_ok, is_some, IfOk, OnOk, OnErr, IfSome, IfNone, Contains, IsTrue, ◌↔◌}
+use Rattle.std.specs.Prelude.{Option, Some, None, option_map, unwrap_or, Result, Ok, Err, is_ok, is_some, IfOk, OnOk, OnErr, IfSome, IfNone, Contains, IsTrue, ◌↔◌}
 use Rattle.std.specs.List.{AllZip, find}
 use Rattle.std.proofs.lemmas.List.{map-append}
 use Rattle.std.proofs.lemmas.List.Elements.{Contains-append_right}
@@ -17,7 +17,7 @@ use Rattle.cal_events.specs.declared.component.Attendee.{Attendee}
 use Rattle.profile.specs.text.Lines.{line_value}
 use Rattle.profile.specs.text.Values.{SpellsDate, SpellsLocal, SpellsStamp, SpellsSequence, SpellsDuration, SpellsLong, IsUid, unescaped}
 use Rattle.profile.specs.text.Trees.{Tree}
-use Rattle.profile.specs.events.Events.{SaysSequence, EventFault, IsAttendee, bad_attendee, Method}
+use Rattle.profile.specs.events.Events.{SaysSequence, EventFault, IsAttendee, bad_attendee, Method, first_text, summary_of}
 use Rattle.profile.specs.events.Properties.{is_of, lines_named, StandsAtMostOnce, SomeLine, Says, IsUidLine, TimeKind, DateTime, time_kind, IsDateText, IsLocalText, KindFault, IsNegativeOrLong, IsNoAddress}
 use Rattle.cal_events.specs.Events.{attendee_of, IsTime}
 use Rattle.ical_tree.proofs.OneLine.{the_line}
@@ -136,3 +136,20 @@ pub find_drop : {X Y : Type 0} (p : Y → Bool) (g : X → Y) (xs : List X) (i :
     → find p (map g (drop i xs)) ≡ find p (map g (drop (i + 1) xs))
 find_drop p g xs i x w e f =
     rw (add-one, drop-cons xs i x w) (ap (λ b. cond b (Some (g (get_or xs i x))) (find p (map g (drop (suc i) xs)))) (ap (λ y. p (g y)) (sym e) ∙ f))
+
+-- ---- SUMMARY
+
+text_by : (name : List ℕ) (lines : List (List ℕ)) → first_text (lines_named name lines) ≡ unwrap_or (option_map (λ line. unescaped (line_value line)) (find (is_of name) lines)) []
+text_by name [] = refl
+text_by name (line ∷ lines) = go (is_of name line) (text_by name lines)
+  where
+    go : (b : Bool) → first_text (lines_named name lines) ≡ unwrap_or (option_map (λ line. unescaped (line_value line)) (find (is_of name) lines)) []
+        → first_text (cond b (line ∷ lines_named name lines) (lines_named name lines))
+        ≡ unwrap_or (option_map (λ line. unescaped (line_value line)) (cond b (Some line) (find (is_of name) lines))) []
+    go true rest = refl
+    go false rest = rest
+
+-- what is the first line of a property, and what stands where there is none
+pub summary_found : (lines : List (List ℕ)) (found : Option (List ℕ)) → found ≡ find (is_of (codes "SUMMARY")) lines
+    → summary_of lines ≡ unwrap_or (option_map (λ line. unescaped (line_value line)) found) []
+summary_found lines found e = text_by (codes "SUMMARY") lines ∙ ap (λ (o : Option (List ℕ)). unwrap_or (option_map (λ line. unescaped (line_value line)) o) []) (sym e)

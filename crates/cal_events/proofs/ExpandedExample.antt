@@ -37,6 +37,7 @@ master = record {
   rule = None;
   additions = second ∷ [];
   exceptions = [];
+  summary = [];
   attendees = [];
 }
 
@@ -52,6 +53,7 @@ moved = record {
   rule = None;
   additions = [];
   exceptions = [];
+  summary = [];
   attendees = [];
 }
 

@@ -37,15 +37,15 @@ stamp_one one line a b h k = one (line_value line) a b h k
 sequence_one : OneSequence → IsFunctional IsSequenceLine
 sequence_one one line a b h k = one (line_value line) a b h k
 
-attendee_same : (a b : Attendee) → a.address ≡ b.address → a.participation ≡ b.participation → a ≡ b
-attendee_same a b p q = λ i. record { address = p i; participation = q i }
+attendee_same : (a b : Attendee) → a.address ≡ b.address → a.participation ≡ b.participation → a.scheduled ≡ b.scheduled → a ≡ b
+attendee_same a b p q r = λ i. record { address = p i; participation = q i; scheduled = r i }
 
 attendee_one : IsFunctional IsAttendee
-attendee_one line a b h k = attendee_same a b (h.0.1 ∙ sym k.0.1) (h.1 ∙ sym k.1)
+attendee_one line a b h k = attendee_same a b (h.address.1 ∙ sym k.address.1) (h.participation ∙ sym k.participation) (h.scheduled ∙ sym k.scheduled)
 
 event_same : (a b : Event) → a.uid ≡ b.uid → a.organiser ≡ b.organiser → a.stamp ≡ b.stamp → a.sequence ≡ b.sequence → a.cancelled ≡ b.cancelled → a.recurrence ≡ b.recurrence
-    → a.times ≡ b.times → a.rule ≡ b.rule → a.additions ≡ b.additions → a.exceptions ≡ b.exceptions → a.attendees ≡ b.attendees → a ≡ b
-event_same a b p q r s c o t w x y u = λ i. record {
+    → a.times ≡ b.times → a.rule ≡ b.rule → a.additions ≡ b.additions → a.exceptions ≡ b.exceptions → a.summary ≡ b.summary → a.attendees ≡ b.attendees → a ≡ b
+event_same a b p q r s c o t w x y z u = λ i. record {
   uid = p i;
   organiser = q i;
   stamp = r i;
@@ -56,6 +56,7 @@ event_same a b p q r s c o t w x y u = λ i. record {
   rule = w i;
   additions = x i;
   exceptions = y i;
+  summary = z i;
   attendees = u i;
 }
 
@@ -74,6 +75,7 @@ one_event one two three zoned rules object m lines a b s t =
     (one_event_rule zoned two rules object lines a.times b.times a.rule b.rule s.times t.times s.rule t.rule)
     same.1
     same.2
+    (s.summary ∙ sym t.summary)
     (zip_one IsAttendee attendee_one (lines_named (codes "ATTENDEE") lines) a.attendees b.attendees s.attendees t.attendees)
 
 -- ---- a start or an end has at most one fault
@@ -127,7 +129,7 @@ module _ (two : OneDuration) (apart : NotBoth) (zoned : OneZonedTime) (sound : N
   no_fault n (bad_uid l) =
       let f = said_by IsUidLine (λ line. IsUid (unescaped (line_value line)) → ⊥) (codes "UID") true lines (Some event.uid) s.uid l in l.2 (subst IsUid f.1.0 f.1.1)
   no_fault n (bad_organiser l) = let f = said_by IsAddressLine IsNoAddress (codes "ORGANIZER") (is_some m) lines event.organiser s.organiser l in l.2 f.1.0
-  no_fault n (bad_attendee l) = let f = zip_at IsAttendee (lines_named (codes "ATTENDEE") lines) event.attendees l.0 s.attendees l.1 in l.2 f.1.0.0
+  no_fault n (bad_attendee l) = let f = zip_at IsAttendee (lines_named (codes "ATTENDEE") lines) event.attendees l.0 s.attendees l.1 in l.2 f.1.address.0
   no_fault n (bad_sequence l) = let f = said_by IsSequenceLine IsNoSequence (codes "SEQUENCE") false lines s.sequence.0 s.sequence.1 l in l.2 f.0 f.1
   no_fault n (no_uid h) = stands_some IsUidLine (codes "UID") true lines (Some event.uid) s.uid refl h
   no_fault n (no_stamp_given t h) = stands_some IsStampLine (codes "DTSTAMP") (is_some m) lines event.stamp s.stamp t h

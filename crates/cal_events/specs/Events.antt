@@ -45,7 +45,7 @@ participation_of Delegated = profile.Delegated
 participation_of Declined = profile.Declined
 
 abbrev pub attendee_of : Attendee → profile.Attendee
-attendee_of a = record { address = address_octets a.address; participation = participation_of a.status }
+attendee_of a = record { address = address_octets a.address; participation = participation_of a.status; scheduled = a.scheduled }
 
 abbrev pub length_of : Duration → properties.Length
 length_of d = record { days = d.days; seconds = d.seconds }
@@ -71,6 +71,7 @@ event_of e = record {
   rule = e.rule;
   additions = e.additions.items;
   exceptions = e.exceptions.items;
+  summary = text_octets e.summary;
   attendees = map attendee_of e.attendees.items;
 }
 

@@ -19,7 +19,7 @@ IsRuled event =
     × (((master : EventComponent) → event.master ≡ Some master → (is_some master.rule ≡ true) × (length master.additions.items ≡ 0))
     × (length event.overrides.items ≡ 0))
 
--- a master by its rule alone, without these starts, as if EXDATE named them, and without who attends
+-- a master by its rule alone, without these starts, as if EXDATE named them, and without its SUMMARY and who attends
 abbrev pub ruled_without : Said → List ℤ → Said
 ruled_without master starts = record {
   uid = master.uid;
@@ -32,6 +32,7 @@ ruled_without master starts = record {
   rule = master.rule;
   additions = [];
   exceptions = master.exceptions ++ starts;
+  summary = [];
   attendees = [];
 }
 

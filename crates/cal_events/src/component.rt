@@ -8,7 +8,7 @@ ghost use Rattle.ical_values.specs.Octets.{address_octets, text_octets};
 ghost use Rattle.profile.specs.text.Trees.{Tree};
 ghost use Rattle.profile.specs.faults.Faults.{is_event_fault};
 ghost use Rattle.profile.specs.text.Values.{SpellsStamp};
-ghost use Rattle.profile.specs.events.Events.{Event, Method, adds_instances, may_lack_start, answer_named, answer_of, SaysSequence, SaysEvent, IsAttendee, EventFault};
+ghost use Rattle.profile.specs.events.Events.{Event, Method, adds_instances, may_lack_start, answer_named, answer_of, is_by_server, summary_of, SaysSequence, SaysEvent, IsAttendee, EventFault};
 ghost use Rattle.profile.specs.events.Occurrences.{SaysStatus};
 ghost use Rattle.profile.specs.events.Properties.{StandsTwice, length_seconds, lines_named, malformed_number, Says, IsUidLine, IsAddressLine, IsStampLine, IsDateText, IsLocalText, IsNoAddress, UnfixedOrMalformed, time_kind, DateTime, KindFault, TimeFault};
 ghost use Rattle.cal_events.specs.Zones.{object_of, AreRead};
@@ -19,7 +19,7 @@ use crate::event_times::{EventTimes, SaidTimes, seconds_of};
 use crate::occurrences::{
     Listing, SaidInstant, SaidInstants, judge_recurrence, refuse_recurring_instance,
 };
-use crate::properties::{has, optional, required};
+use crate::properties::{first_named, has, optional, required};
 use crate::zoned::one_zoned_time;
 use crate::zones::Zones;
 use cal_rules::{Rule, one_rule};
@@ -30,7 +30,7 @@ use ical_values::duration::one_duration;
 use ical_values::sequence::one_sequence;
 use ical_values::stamp::{ends_in_z, one_stamp};
 use ical_values::{Address, LocalTime, Sequence, Stamp, Text};
-use std::alloc::Global;
+use std::alloc::{AllocError, Global};
 
 /// What a VEVENT is read for: this says which properties have to stand.
 #[derive(Clone, Copy, PartialEq, Eq)]
@@ -98,6 +98,8 @@ impl ParticipationStatus {
 pub struct Attendee {
     pub address: Address,
     pub status: ParticipationStatus,
+    /// Whether it is left to the server to send messages to it: SCHEDULE-AGENT is SERVER or missing (RFC 6638 7.1).
+    pub scheduled: bool,
 }
 
 /// What a VEVENT says.
@@ -123,6 +125,8 @@ pub struct EventComponent {
     pub additions: Vec<i64>,
     /// EXDATE: the starts that are taken away (RFC 5545 3.8.5.1), likewise; they may lie in any year from 1 to 9999.
     pub exceptions: Vec<i64>,
+    /// SUMMARY, that of the first line where there are several; empty where it is missing (RFC 5545 3.8.1.12).
+    pub summary: Text,
     /// The ATTENDEE lines in the order of the text. Of several with one address the first counts.
     pub attendees: Vec<Attendee>,
 }
@@ -155,6 +159,7 @@ impl EventComponent {
         let said_additions = SaidInstants::read(alloc, zones, properties, Listing::Additions)?;
         let said_exceptions = SaidInstants::read(alloc, zones, properties, Listing::Exceptions)?;
         let attendees = read_attendees(alloc, properties)?;
+        let summary = read_summary(alloc, properties)?;
         let times = said.judge()?;
         let recurrence = judge_recurrence(said_recurrence)?;
         let additions = said_additions.judge()?;
@@ -171,6 +176,7 @@ impl EventComponent {
             rule,
             additions,
             exceptions: said_exceptions.instants,
+            summary,
             attendees,
         })
     }
@@ -287,6 +293,16 @@ fn read_cancelled(properties: &Properties<'_>) -> Result<bool, Refusal>
     }
 }
 
+/// SUMMARY, the first of several; empty where it is missing. It fails only for memory.
+fn read_summary(alloc: Global, properties: &Properties<'_>) -> Result<Text, AllocError>
+    ensures { IfOk result (λ text. text_octets text ≡ summary_of properties.now) }
+{
+    match first_named(properties, "SUMMARY") {
+        Some(line) => Text::read(alloc, line.value()),
+        None => Text::of(alloc, ""),
+    }
+}
+
 /// What a line of a date-time says by its VALUE parameter (RFC 5545 3.2.20).
 pub(crate) enum TimeKind {
     Date,
@@ -398,5 +414,20 @@ fn read_attendee(alloc: Global, line: Line<'_>) -> Result<Attendee, Fault>
 {
     let address = Address::read(alloc, line.value())?;
     let status = ParticipationStatus::of(line.param("PARTSTAT"));
-    Ok(Attendee { address, status })
+    let scheduled = is_by_server(line);
+    Ok(Attendee {
+        address,
+        status,
+        scheduled,
+    })
+}
+
+/// Whether it is left to the server to send messages to an attendee.
+fn is_by_server(line: Line<'_>) -> bool
+    ensures { result ≡ is_by_server (line_text line.entry) }
+{
+    match line.param("SCHEDULE-AGENT") {
+        Some(agent) => agent.eq_ignore_ascii_case("SERVER"),
+        None => true,
+    }
 }

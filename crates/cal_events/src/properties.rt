@@ -1,6 +1,6 @@
 //! The properties of one VEVENT by their names (RFC 5545 3.6.1, 3.8).
 ghost use Rattle.std.specs.Prelude.{◌≡◌, ◌⊎◌, Some, option_map, IfOk, IfErr};
-ghost use Rattle.std.specs.List.{list_any};
+ghost use Rattle.std.specs.List.{find, list_any};
 ghost use Rattle.ical_lines.specs.Text.{line_text};
 ghost use Rattle.profile.specs.events.Properties.{is_of, IsMissing, StandsAtMostOnce, StandsTwice};
 
@@ -28,6 +28,18 @@ pub(crate) fn required<'a>(properties: &Properties<'a>, name: &str) -> Result<Li
     ensures faulty { IfErr result (λ _. IsMissing name.now properties.now ⊎ StandsTwice name.now properties.now) }
 {
     properties.required(name, Refusal::BAD_PROPERTY)
+}
+
+/// The first line of a property, None where there is none.
+pub(crate) fn first_named<'a>(properties: &Properties<'a>, name: &str) -> Option<Line<'a>>
+    ensures { option_map line_text result ≡ find (is_of name.now) properties.now }
+{
+    for line in properties.lines() {
+        if line.is_named(name) {
+            return Some(*line);
+        }
+    }
+    None
 }
 
 /// Whether a line of a property stands there.

@@ -27,6 +27,7 @@ use crate::single_starts::copied;
 use crate::sweep::Span;
 use cal_rules::Rule;
 use cal_zones::Zone;
+use ical_values::Text;
 use std::alloc::{AllocError, Global};
 use std::cmp::Ordering;
 
@@ -161,7 +162,7 @@ impl EventComponent {
     }
 }
 
-/// A copy of a master by its rule alone, without these starts. Who attends isn't kept. It fails only for memory.
+/// A copy of a master by its rule alone, without these starts. Its SUMMARY and who attends aren't kept. It fails only for memory.
 fn ruled_copy(
     alloc: Global,
     master: &EventComponent,
@@ -174,6 +175,7 @@ fn ruled_copy(
     let rule = master.rule.clone()?;
     let mut exceptions = copied(alloc, &master.exceptions)?;
     exceptions.extend_from_slice(starts)?;
+    let summary = Text::of(alloc, "")?;
     Ok(EventComponent {
         uid,
         organiser,
@@ -185,6 +187,7 @@ fn ruled_copy(
         rule,
         additions: Vec::new(alloc),
         exceptions,
+        summary,
         attendees: Vec::new(alloc),
     })
 }

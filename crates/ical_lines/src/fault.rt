@@ -91,16 +91,24 @@ impl Refusal {
     pub const TWO_MEETINGS: Refusal = Refusal { number: 62 };
     /// A message without ORGANIZER (RFC 5546 3.2).
     pub const NO_ORGANIZER: Refusal = Refusal { number: 63 };
+    /// A VEVENT of a REPLY or a REFRESH that doesn't have one attendee (RFC 5546 3.2.3, 3.2.6).
+    pub const NOT_ONE_ATTENDEE: Refusal = Refusal { number: 64 };
     /// RECURRENCE-ID with RANGE (RFC 5545 3.2.13, 3.8.4.4).
     pub const RANGE: Refusal = Refusal { number: 65 };
     /// No VEVENT (RFC 5546 3.2).
     pub const NO_EVENT: Refusal = Refusal { number: 66 };
     /// RRULE or RDATE beside RECURRENCE-ID: a single instance doesn't recur (RFC 5545 3.8.4.4).
     pub const RECURRING_INSTANCE: Refusal = Refusal { number: 67 };
+    /// An ORGANIZER that isn't hosted.
+    pub const NOT_HOSTED: Refusal = Refusal { number: 70 };
+    /// A REPLY to a SEQUENCE that wasn't sent yet, or a REPLY or a REFRESH for a meeting that isn't known (RFC 5546 2.1.4).
+    pub const NOT_SENT: Refusal = Refusal { number: 71 };
+    /// A store for which no greater SEQUENCE is left (RFC 5545 3.8.7.4).
+    pub const SEQUENCE_SPENT: Refusal = Refusal { number: 72 };
+    /// A REPLY or a REFRESH of one who isn't an attendee of the meeting (RFC 5546 3.2.3, 3.2.6).
+    pub const NOT_AN_ATTENDEE: Refusal = Refusal { number: 73 };
     /// A preamble or a configuration that can't be read.
     pub const BAD_PREAMBLE: Refusal = Refusal { number: 90 };
-    /// Something that roombox doesn't read yet.
-    pub const NOT_YET: Refusal = Refusal { number: 99 };
 }
 
 /// How a call that reads can fail. Either way nothing has changed.

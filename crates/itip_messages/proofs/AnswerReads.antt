@@ -1,5 +1,5 @@
 -- What the own lines of a reply's VEVENT say.
-use Rattle.std.proofs.Common.{◌≡◌, ◌∙◌, ℕ, ℤ, ◌<◌, ◌^◌, false, List, [], ◌∷◌, ◌++◌, codes, decimal, Option, None, Some, refl, sym, ap, ap₂, subst}
+use Rattle.std.proofs.Common.{true, ◌≡◌, ◌∙◌, ℕ, ℤ, ◌<◌, ◌^◌, false, List, [], ◌∷◌, ◌++◌, codes, decimal, Option, None, Some, refl, sym, ap, ap₂, subst}
 use Rattle.std.specs.List.{AllZip}
 use Rattle.std.specs.Prelude.{option_to_list}
 use Rattle.std.proofs.lemmas.List.{same_from_push}
@@ -66,11 +66,11 @@ room_named SeriesLimit room status e =
 room_named SinglesLimit room status e =
     subst (λ (s : Lines). RoomNamed (room_line SinglesLimit room) (room_line SinglesLimit room ∷ s)) (sym e) (record { uid = refl; organiser = refl; sequence = refl; stamp = refl; instance = refl; attendee = refl })
 
-room_says : (outcome : Outcome) (room : List ℕ) → IsReadAddress room → IsAttendee (room_line outcome room) (record { address = room; participation = participation_of outcome })
-room_says Accept room r = ((r.address, sym r.lower), refl)
-room_says (Busy a b t) room r = ((r.address, sym r.lower), refl)
-room_says SeriesLimit room r = ((r.address, sym r.lower), refl)
-room_says SinglesLimit room r = ((r.address, sym r.lower), refl)
+room_says : (outcome : Outcome) (room : List ℕ) → IsReadAddress room → IsAttendee (room_line outcome room) (record { address = room; participation = participation_of outcome; scheduled = true })
+room_says Accept room r = record { address = (r.address, sym r.lower); participation = refl; scheduled = refl }
+room_says (Busy a b t) room r = record { address = (r.address, sym r.lower); participation = refl; scheduled = refl }
+room_says SeriesLimit room r = record { address = (r.address, sym r.lower); participation = refl; scheduled = refl }
+room_says SinglesLimit room r = record { address = (r.address, sym r.lower); participation = refl; scheduled = refl }
 
 -- ---- the own lines
 
@@ -124,7 +124,7 @@ module _ (room : List ℕ) (part : Part) (moment : ℤ) (outcome : Outcome) (slo
       is = at;
     };
     instance = instance_said;
-    attendees = subst (λ (l : Lines). AllZip IsAttendee l (record { address = room; participation = participation_of outcome } ∷ [])) (sym (both_named (codes "ATTENDEE") slot after [] _ s.attendee r.attendee)) (room_says outcome room home, tt);
+    attendees = subst (λ (l : Lines). AllZip IsAttendee l (record { address = room; participation = participation_of outcome; scheduled = true } ∷ [])) (sym (both_named (codes "ATTENDEE") slot after [] _ s.attendee r.attendee)) (room_says outcome room home, tt);
   }
 
 -- the VEVENT's own lines

@@ -2,7 +2,7 @@
 use Rattle.std.proofs.Common.{◌≡◌, ℕ, pos, true, false, List, [], ◌∷◌, Some, None, refl, codes}
 use Rattle.profile.specs.events.Events.{Event, NeedsAction}
 use Rattle.profile.specs.events.Meetings.{is_same_meeting}
-use Rattle.profile.specs.rooms.Messages.{word, object_lines, is_method, is_unread_method, names_room}
+use Rattle.profile.specs.rooms.Messages.{word, object_lines, is_method, names_room}
 
 -- ---- words of a status
 
@@ -33,23 +33,17 @@ a_reply = refl
 a_word_of_method_is_caseless : is_method (codes "request") ≡ true
 a_word_of_method_is_caseless = refl
 
-a_request_is_read : is_unread_method (codes "REQUEST") ≡ false
-a_request_is_read = refl
-
-a_cancel_is_read : is_unread_method (codes "CANCEL") ≡ false
-a_cancel_is_read = refl
-
 a_cancel_is_a_method : is_method (codes "Cancel") ≡ true
 a_cancel_is_a_method = refl
-
-an_addition_is_read : is_unread_method (codes "ADD") ≡ false
-an_addition_is_read = refl
 
 an_addition_is_a_method : is_method (codes "Add") ≡ true
 an_addition_is_a_method = refl
 
-a_refresh_is_not_read_yet : is_unread_method (codes "REFRESH") ≡ true
-a_refresh_is_not_read_yet = refl
+a_refresh_is_a_method : is_method (codes "Refresh") ≡ true
+a_refresh_is_a_method = refl
+
+a_reply_is_a_method : is_method (codes "REPLY") ≡ true
+a_reply_is_a_method = refl
 
 publish_asks_for_nothing : is_method (codes "PUBLISH") ≡ false
 publish_asks_for_nothing = refl
@@ -69,7 +63,8 @@ meeting uid organiser = record {
   rule = None;
   additions = [];
   exceptions = [];
-  attendees = record { address = codes "mailto:r1@example.com"; participation = NeedsAction } ∷ [];
+  summary = [];
+  attendees = record { address = codes "mailto:r1@example.com"; participation = NeedsAction; scheduled = true } ∷ [];
 }
 
 two_uids_are_two_meetings : is_same_meeting (meeting (codes "a") (codes "mailto:ann@example.com")) (meeting (codes "b") (codes "mailto:ann@example.com")) ≡ false

@@ -1,17 +1,16 @@
 -- What the lines of a message say, and what is wrong with them.
-use Rattle.std.proofs.Common.{◌≡◌, ◌∙◌, ℕ, zero, suc, ◌<◌, ◌+◌, Bool, true, false, not, ◌&&◌, ◌||◌, cond, eqb, ap₂, filter, take, List, [], ◌∷◌, ◌++◌, length, map, get_or, refl, sym, ap, subst, arith, inl, inr, Option, Some, None, IsSome, is_some, option_map, unwrap_or, ℤ}
-use Rattle.ical_lines.specs.Fault.{RefusesBy, RefusesOnly}
+use Rattle.std.proofs.Common.{◌≡◌, ◌∙◌, ℕ, zero, suc, ◌<◌, ◌+◌, Bool, true, false, not, ◌&&◌, ◌||◌, cond, eqb, ap₂, filter, take, List, [], ◌∷◌, ◌++◌, length, map, get_or, refl, sym, ap, subst, arith, Option, Some, None, IsSome, is_some, option_map, unwrap_or, ℤ, append_assoc}
+use Rattle.ical_lines.specs.Fault.{RefusesBy}
 use Rattle.std.specs.Prelude.{◌↔◌, MatchOption, Result, Ok, Err, IfErr, Contains, codes}
 use Rattle.std.specs.Option.{option_to_list}
 use Rattle.std.specs.List.{list_any, AllZip}
 use Rattle.std.specs.Str.{bytes_eq}
 use Rattle.std.proofs.lemmas.Bool.{true≢false, and_parts}
 use Rattle.std.proofs.lemmas.List.{map-append, append-nil, length-map}
-use Rattle.std.proofs.lemmas.List.Elements.{filter_more, All-contains}
+use Rattle.std.proofs.lemmas.List.Elements.{filter_more, All-contains, Contains-append_right}
 use Rattle.ical_lines.specs.declared.fault.Fault.{Fault}
 use Rattle.ical_lines.specs.declared.fault.Fault.TheVariants.{Refused, Memory}
 use Rattle.ical_lines.specs.declared.fault.Refusal.{Refusal}
-use Rattle.profile.specs.faults.Faults.{is_between, is_object_fault, is_meeting_event_fault, is_message_fault, is_unread}
 use Rattle.profile.specs.text.Lines.{line_value}
 use Rattle.profile.specs.text.Trees.{Tree, tree_own}
 use Rattle.profile.specs.events.Events as events
@@ -19,7 +18,8 @@ use Rattle.profile.specs.events.Events.{Event}
 use Rattle.profile.specs.events.Confirmed.{has_series}
 use Rattle.profile.specs.events.Meetings.{Meeting, events_of, SaysMeeting, MeetingFault}
 use Rattle.profile.specs.rooms.Messages as profile
-use Rattle.profile.specs.rooms.Messages.{SaysMessage, NamesMethod, MethodFault, bad_method, unread_method, MessageFault, in_meeting, is_unread_method, is_method}
+use Rattle.profile.specs.rooms.Messages.{NamesMethod, MethodFault, bad_method, MessageFault, in_meeting, for_organiser, is_method}
+use Rattle.profile.specs.organisers.Objects.{Operation, NamesOperation}
 use Rattle.profile.specs.rooms.Messages.{AreParts, AreBySlot, Content, no_content, IsPart, IsBody, IsContent, names_room, is_addressed, is_part_for, parts_for, own_revision, cancels, is_cancel, canonical}
 use Rattle.profile.specs.rooms.Revisions as revisions
 use Rattle.profile.specs.events.Properties.{StandsAtMostOnce}
@@ -27,19 +27,21 @@ use Rattle.cal_events.specs.declared.component.EventComponent.{EventComponent}
 use Rattle.cal_events.specs.declared.component.Purpose.{Purpose}
 use Rattle.cal_events.specs.declared.meeting_components.MeetingComponents.{MeetingComponents}
 use Rattle.cal_events.specs.Events.{event_of, method_read}
-use Rattle.cal_events.specs.OneMeeting.{meeting_of, is_components_fault}
+use Rattle.cal_events.specs.OneMeeting.{meeting_of}
 use Rattle.cal_events.specs.SaidSeries.{IsSeriesOf, series_said}
 use Rattle.cal_events.specs.declared.series.Series.{Series}
-use Rattle.cal_events.proofs.EventLemmas.{some_line}
+use Rattle.cal_events.proofs.EventLemmas.{some_line, push_zip}
 use Rattle.cal_events.proofs.InOneOrder.{in_mapped, of_filtered}
 use Rattle.itip_order.specs.Parts.{slot_of}
 use Rattle.itip_order.proofs.Lists.{any_at, any_from}
-use Rattle.itip_messages.specs.declared.message.Message.{Message}
-use Rattle.itip_messages.specs.declared.message.MessageComponent.{MessageComponent}
-use Rattle.itip_messages.specs.declared.message.Method.{Method}
-use Rattle.itip_messages.specs.declared.message.Method.TheVariants.{Request, Add, Cancel}
+use Rattle.itip_messages.specs.declared.room_message.RoomMessage.{RoomMessage}
+use Rattle.itip_messages.specs.declared.room_message.MessageComponent.{MessageComponent}
+use Rattle.itip_messages.specs.declared.room_message.Method.{Method}
+use Rattle.itip_messages.specs.declared.room_message.Method.TheVariants.{Request, Add, Cancel}
 use Rattle.itip_messages.specs.Bodies.{IsReady}
-use Rattle.itip_messages.specs.Messages.{method_said, purpose_of, WordFault, IsDated, IsOfMessage, SaysComponent, event_slot, StandsFor, component_names, is_for, is_part_of, has_part, part_for}
+use Rattle.itip_messages.specs.Messages.{method_said, purpose_of, IsDated, IsOfMessage, SaysComponent, event_slot, StandsFor, component_names, is_for, is_part_of, has_part, part_for}
+use Rattle.itip_messages.specs.OrganiserObjects.{IsOrganiserFault}
+use Rattle.itip_messages.specs.Readings.{WordFault}
 use Rattle.itip_messages.proofs.BySlot.{kept_by_slot}
 
 abbrev Lines : Type 0
@@ -48,10 +50,7 @@ Lines = List (List ℕ)
 -- ---- METHOD
 
 word_stands_at : (own : Lines) (line : List ℕ) (n : ℕ) → StandsAtMostOnce (codes "METHOD") own (Some line) → WordFault (line_value line) n → MethodFault own n
-word_stands_at own line n once w = elim w [
-  | inl h ↦ subst (MethodFault own) (sym h.0) (unread_method (some_line (codes "METHOD") (λ l. is_unread_method (line_value l) ≡ true) own line once h.1))
-  | inr h ↦ subst (MethodFault own) (sym h.0) (bad_method (some_line (codes "METHOD") (λ l. is_method (line_value l) ≡ false) own line once h.1))
-]
+word_stands_at own line n once w = subst (MethodFault own) (sym w.0) (bad_method (some_line (codes "METHOD") (λ l. is_method (line_value l) ≡ false) own line once w.1))
 
 pub word_stands : {T : Type 0} (r : Result T Refusal) (own : Lines) (line : List ℕ) → StandsAtMostOnce (codes "METHOD") own (Some line) → IfErr r (λ e. WordFault (line_value line) e.number) → IfErr r (λ e. MethodFault own e.number)
 word_stands (Ok x) own line once h = tt
@@ -70,34 +69,13 @@ pub in_message : (object : Tree) (method : Method) (purpose : Purpose) (meeting 
 in_message object method purpose meeting e says = subst (λ (m : Option events.Method). SaysMeeting object m meeting) (ap method_read e ∙ read_for method) says
 
 -- what the VEVENTs of a message are refused for
-pub meeting_stands : (object : Tree) (method : Method) (purpose : Purpose) (f : Fault) → NamesMethod (tree_own object) (method_said method) → purpose ≡ purpose_of method
-    → RefusesBy (MeetingFault object (method_read purpose)) f → RefusesBy (MessageFault object) f
-meeting_stands object method purpose Memory named e s = tt
-meeting_stands object method purpose (Refused r) named e s =
-    in_meeting (method_said method) named (subst (λ (m : Option events.Method). MeetingFault object m r.number) (ap method_read e ∙ read_for method) s)
+pub meeting_stands : (object : Tree) (method : events.Method) (f : Fault) → NamesMethod (tree_own object) method → RefusesBy (MeetingFault object (Some method)) f → RefusesBy (MessageFault object) f
+meeting_stands object method Memory named s = tt
+meeting_stands object method (Refused r) named s = in_meeting method named s
 
--- its numbers
-pub meeting_numbers : (f : Fault) → RefusesOnly is_components_fault f → RefusesOnly is_message_fault f
-meeting_numbers Memory h = tt
-meeting_numbers (Refused r) h =
-    wide (is_object_fault r.number) (is_meeting_event_fault r.number) (is_between 53 54 r.number) (eqb r.number 60) (eqb r.number 62) (eqb r.number 66) (is_unread r.number) h
-  where
-    wide : (object event two method_ one none unread : Bool) → (event || two || one || none) ≡ true → (object || event || two || method_ || one || none || unread) ≡ true
-    wide true event two method_ one none unread h = refl
-    wide false true two method_ one none unread h = refl
-    wide false false true method_ one none unread h = refl
-    wide false false false true one none unread h = refl
-    wide false false false false true none unread h = refl
-    wide false false false false false true unread h = refl
-    wide false false false false false false unread h = absurd (true≢false (sym h))
-
--- the object says the message
-pub message_said : (object : Tree) (own : Lines) (method : Method) (purpose : Purpose) (meeting : Meeting) → tree_own object ≡ own → NamesMethod own (method_said method)
-    → purpose ≡ purpose_of method → SaysMeeting object (method_read purpose) meeting → SaysMessage object (record { method = method_said method; meeting = meeting })
-message_said object own method purpose meeting mine named e says = record {
-  method = subst (λ (x : Lines). NamesMethod x (method_said method)) (sym mine) named;
-  says = in_message object method purpose meeting e says;
-}
+pub object_stands : (object : Tree) (operation : Operation) (f : Fault) → NamesOperation (tree_own object) operation → RefusesBy (IsOrganiserFault object operation) f → RefusesBy (MessageFault object) f
+object_stands object operation Memory named s = tt
+object_stands object operation (Refused r) named s = for_organiser (s named)
 
 -- ---- what is known of the VEVENTs of a meeting
 
@@ -105,7 +83,7 @@ pub some_itself : {A : Type 0} (o : Option A) → is_some o ≡ true → IsSome 
 some_itself None h = cc
 some_itself (Some x) h = refl
 
-some_of_map : {A B : Type 0} (f : A → B) (o : Option A) → is_some (option_map f o) ≡ true → IsSome o
+pub some_of_map : {A B : Type 0} (f : A → B) (o : Option A) → is_some (option_map f o) ≡ true → IsSome o
 some_of_map f None h = cc
 some_of_map f (Some x) h = refl
 
@@ -127,6 +105,25 @@ module _ (meeting : Meeting) (m : IsOfMessage meeting) (events : List EventCompo
 
   pub some_event : 0 < length events
   some_event = let l = ap length are in let some : 0 < length (events_of meeting) = m.some in omega (arith, l, length-map events event_of, some)
+
+-- ---- a loop over VEVENTs
+
+-- the next one is among them
+pub next_there : (all yielded left rest : List EventComponent) (event : EventComponent) → all ≡ yielded ++ left → left ≡ event ∷ rest → Contains all event
+next_there all yielded left rest event whole next =
+    subst (λ (l : List EventComponent). Contains l event) (sym (whole ∙ ap (λ l. yielded ++ l) next)) (Contains-append_right yielded (event ∷ rest) event (0, omega arith, refl))
+
+-- and is said too
+pub said_more : {C : Type 0} (Says : Event → C → Type 0) (all yielded left rest : List EventComponent) (event : EventComponent) (items new : List C) (component : C)
+    → all ≡ yielded ++ left → left ≡ event ∷ rest → AllZip Says (map event_of yielded) items → Says (event_of event) component → new ≡ items ++ component ∷ []
+    → (all ≡ (yielded ++ event ∷ []) ++ rest) × AllZip Says (map event_of (yielded ++ event ∷ [])) new
+said_more Says all yielded left rest event items new component whole next said one pushed =
+    let more = push_zip Says (map event_of yielded) items (event_of event) component said one in (
+      whole ∙ ap (λ l. yielded ++ l) next ∙ sym (append_assoc yielded (event ∷ []) rest),
+      subst (λ (l : List Event). AllZip Says l new) (sym (map-append event_of yielded (event ∷ []))) (subst (AllZip Says (map event_of yielded ++ event_of event ∷ [])) (sym pushed) more),
+    )
+
+-- ---- the names of a meeting
 
 -- the master's
 pub master_stamp : (components : MeetingComponents) → IsOfMessage (meeting_of components) → (e : EventComponent) → components.master ≡ Some e → IsSome e.stamp
@@ -155,7 +152,7 @@ module _ (meeting : Meeting) (m : IsOfMessage meeting) (a e : Event) (c : Contai
 names_said : (room : List ℕ) (method : events.Method) (whole : Option revisions.Revision) (event : Event) (component : MessageComponent) → SaysComponent method whole event component → component_names room component ≡ names_room room event
 names_said room method whole event component s = ap (list_any (λ a. bytes_eq a.address room)) s.attendees
 
-module _ (room : List ℕ) (message : Message) (said : profile.Message) (same : method_said message.method ≡ said.method) (whole : Option revisions.Revision) where
+module _ (room : List ℕ) (message : RoomMessage) (said : profile.Message) (same : method_said message.method ≡ said.method) (whole : Option revisions.Revision) where
   abbrev Says : Event → MessageComponent → Type 0
   Says = SaysComponent said.method whole
 
@@ -203,7 +200,7 @@ body_said room method event content octets true n h k when is = (h, refl)
 body_said room method event content octets false true h k when is = (h, k, when, is)
 body_said room method event content octets false false h k when is = (h, k, refl)
 
-module _ (room : List ℕ) (message : Message) (said : profile.Message) (s : StandsFor message said) where
+module _ (room : List ℕ) (message : RoomMessage) (said : profile.Message) (s : StandsFor message said) where
   abbrev whole_of : Option revisions.Revision
   whole_of = option_map own_revision said.meeting.master
 
@@ -302,7 +299,7 @@ series_of_whole method whole event component s series is =
 
 -- ---- the loop over the components
 
-pub part_more : (room : List ℕ) (message : Message) (items : List MessageComponent) (i : ℕ) (x : MessageComponent) (old new : List revisions.Part) → i < length items → x ≡ get_or items i x
+pub part_more : (room : List ℕ) (message : RoomMessage) (items : List MessageComponent) (i : ℕ) (x : MessageComponent) (old new : List revisions.Part) → i < length items → x ≡ get_or items i x
     → has_part room message x ≡ true → old ≡ map (part_for room message) (filter (has_part room message) (take i items)) → new ≡ old ++ part_for room message x ∷ []
     → new ≡ map (part_for room message) (filter (has_part room message) (take (i + 1) items))
 part_more room message items i x old new w e h are is =
@@ -311,7 +308,7 @@ part_more room message items i x old new w e h are is =
     let one : filter p (take (i + 1) items) ≡ filter p (take i items) ++ x ∷ [] = filter_more p items i x w ∙ ap (λ y. filter p (take i items) ++ cond (p y) (y ∷ []) []) (sym e) ∙ ap (λ b. filter p (take i items) ++ cond b (x ∷ []) []) h in
     is ∙ ap (λ l. l ++ f x ∷ []) are ∙ sym (ap (map f) one ∙ map-append f (filter p (take i items)) (x ∷ []))
 
-pub part_less : (room : List ℕ) (message : Message) (items : List MessageComponent) (i : ℕ) (x : MessageComponent) (old : List revisions.Part) → i < length items → x ≡ get_or items i x
+pub part_less : (room : List ℕ) (message : RoomMessage) (items : List MessageComponent) (i : ℕ) (x : MessageComponent) (old : List revisions.Part) → i < length items → x ≡ get_or items i x
     → has_part room message x ≡ false → old ≡ map (part_for room message) (filter (has_part room message) (take i items)) → old ≡ map (part_for room message) (filter (has_part room message) (take (i + 1) items))
 part_less room message items i x old w e h are =
     let p = has_part room message in

@@ -58,11 +58,11 @@ parts_more depth own parts body (v ∷ owns) b h =
     subst (λ (l : List Tree). BodyT (suc depth) own l (body ++ flat_map vevent_lines (v ∷ owns))) (append_assoc parts (vevent_tree v ∷ []) (trees_list (vevent_trees owns)))
     (subst (λ (l : Lines). BodyT (suc depth) own ((parts ++ vevent_tree v ∷ []) ++ trees_list (vevent_trees owns)) l) (append_assoc body (vevent_lines v) (flat_map vevent_lines owns)) all)
 
-own_properties : (method : Option (List ℕ)) → list_all is_property (calendar_own method) ≡ true
+pub own_properties : (method : Option (List ℕ)) → list_all is_property (calendar_own method) ≡ true
 own_properties None = refl
 own_properties (Some name) = refl
 
-own_version : (method : Option (List ℕ)) → has_version (calendar_own method) ≡ true
+pub own_version : (method : Option (List ℕ)) → has_version (calendar_own method) ≡ true
 own_version None = refl
 own_version (Some name) = refl
 

@@ -43,7 +43,7 @@ own_says room organiser uid stamp moment home of_it is_uid at = record {
   uid_line = record { line = Some (codes "UID:" ++ escaped uid); once = refl; stands = λ _. refl; is = (sym (read_back uid), is_uid) };
   organiser_line = record { line = Some (codes "ORGANIZER:" ++ organiser); once = refl; stands = λ _. refl; is = (of_it.address, sym of_it.lower) };
   stamp = record { line = Some (codes "DTSTAMP:" ++ stamp); once = refl; stands = λ _. refl; is = at };
-  attendees = (((home.address, sym home.lower), refl), tt);
+  attendees = (record { address = (home.address, sym home.lower); participation = refl; scheduled = refl }, tt);
 }
 
 tail_of : (a b : List ℕ) (xs ys : Lines) → a ∷ xs ≡ b ∷ ys → xs ≡ ys

@@ -29,7 +29,7 @@ own_none = record { content = refl; properties = refl }
 pub own_more : (line : List ℕ) (lines : Lines) → is_content line ≡ true → is_property line ≡ true → AreOwn lines → AreOwn (line ∷ lines)
 own_more line lines c p more = record { content = and_from _ _ c more.content; properties = and_from _ _ p more.properties }
 
-own_both : (a b : Lines) → AreOwn a → AreOwn b → AreOwn (a ++ b)
+pub own_both : (a b : Lines) → AreOwn a → AreOwn b → AreOwn (a ++ b)
 own_both a b p q = record {
   content = list_all-append is_content a b ∙ and_from _ _ p.content q.content;
   properties = list_all-append is_property a b ∙ and_from _ _ p.properties q.properties;

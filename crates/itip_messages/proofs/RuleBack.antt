@@ -1,16 +1,17 @@
 -- What the RRULE of a content says: the days of the rule that it was written of, with the same end.
 use Rattle.std.proofs.Common.{◌≡◌, ◌∙◌, refl, sym, ap, subst, ℕ, suc, ◌<◌, ◌≤◌, ℤ, ◌≤ℤ◌, arith, true≢false, Bool, true, false, cond, List, [], ◌∷◌, ◌++◌, codes, Option, None, Some, pos, ◌-ℤ◌}
+use Rattle.std.specs.Prelude.{◌↔◌}
 use Rattle.std.specs.List.{list_all}
 use Rattle.std.proofs.lemmas.Int.{ints}
 use Rattle.std.proofs.lemmas.Option.{same_Some}
 use Rattle.std.specs.Int.Signed.{lt_z}
 use Rattle.profile.specs.checker.Instances.{horizon}
 use Rattle.profile.specs.text.Lines.{line_value}
-use Rattle.profile.specs.text.Values.{SpellsDate}
+use Rattle.profile.specs.text.Values.{SpellsDate, WritesStamp}
 use Rattle.profile.specs.series.Days.{days_before, year_of, year_start}
 use Rattle.profile.specs.series.Rules.{Parts, RuleText, Until, UntilDay, UntilLocal, UntilInstant, is_rule_day, rule_of, text_in}
-use Rattle.profile.specs.series.RuleTexts.{HandsIn, IsGiven, SaysOr, SpellsRule, SpellsUntil, as_written, rule_text, values_of}
-use Rattle.profile.specs.series.Zones.{IsLastDay, IsOneMeaning, Zone}
+use Rattle.profile.specs.series.RuleTexts.{HandsIn, IsGiven, SaysOr, SpellsRule, SpellsUntil, as_written, rule_text, until_text, values_of}
+use Rattle.profile.specs.series.Zones.{IsLastDay, IsOneMeaning, Means, Zone}
 use Rattle.profile.specs.events.Properties.{BothOrNeither, first_second}
 use Rattle.profile.specs.events.EventRules.{GivesRule, IsLastAllowed, SaysEventRule, as_end}
 use Rattle.profile.specs.events.ZonedTimes.{EventTimes}
@@ -23,6 +24,7 @@ use Rattle.cal_days.proofs.Dates.{named, year_ends}
 use Rattle.cal_zones.proofs.OneDay.{year_start_grows}
 use Rattle.cal_events.proofs.SaidRules.{rule_found}
 use Rattle.itip_messages.specs.Bodies.{EndIsTold, IsTold}
+use Rattle.itip_messages.proofs.RuleTwice.{text_twice}
 use Rattle.itip_messages.proofs.WrittenOctets.{is_early, rule_text_early}
 
 -- ---- the end
@@ -46,19 +48,41 @@ record EndBack (clock : Zone) (second : ℕ) (until : Option Until) (text : Opti
   end : Option Until
   hands : HandsIn until text end
   allowed : IsLastAllowed clock second end last
+  writes : (other : Option (List ℕ)) → BothOrNeither (WritesEnd clock) until other ↔ BothOrNeither (WritesEnd clock) end other
+  same : (other : Option (List ℕ)) → until_text end other ≡ until_text until other
+
+until_same : (a b : Until) (text : Option (List ℕ)) → until_text (Some a) text ≡ until_text (Some b) text
+until_same a b None = refl
+until_same a b (Some text) = refl
+
+-- a local time of UNTIL and the instant that it means have the same text
+local_writes : (clock : Zone) → IsOneMeaning clock → (local t : ℤ) → Means clock local t → (text : Option (List ℕ)) → BothOrNeither (WritesEnd clock) (Some (UntilLocal local)) text ↔ BothOrNeither (WritesEnd clock) (Some (UntilInstant (as_end t))) text
+local_writes clock one local t means None = (λ h. h, λ h. h)
+local_writes clock one local t means (Some text) = (
+  λ h. subst (WritesStamp text) (ap as_end (one local h.0 t h.1 means) ∙ sym (end_twice t)) h.2,
+  λ h. (t, means, subst (WritesStamp text) (end_twice t) h),
+)
+
+instant_writes : (clock : Zone) (t : ℤ) (text : Option (List ℕ)) → BothOrNeither (WritesEnd clock) (Some (UntilInstant t)) text ↔ BothOrNeither (WritesEnd clock) (Some (UntilInstant (as_end t))) text
+instant_writes clock t None = (λ h. h, λ h. h)
+instant_writes clock t (Some text) = (λ h. subst (WritesStamp text) (sym (end_twice t)) h, λ h. subst (WritesStamp text) (end_twice t) h)
 
 end_back : (clock : Zone) (second : ℕ) → IsOneMeaning clock → (until : Option Until) (text : Option (List ℕ)) (last : ℕ) → BothOrNeither (WritesEnd clock) until text → IsLastAllowed clock second until last → EndBack clock second until text last
-end_back clock second one None None last w a = record { end = None; hands = refl; allowed = a }
-end_back clock second one (Some (UntilDay number)) (Some text) last w a = record { end = Some (UntilDay number); hands = w; allowed = a }
+end_back clock second one None None last w a = record { end = None; hands = refl; allowed = a; writes = λ other. (λ h. h, λ h. h); same = λ other. refl }
+end_back clock second one (Some (UntilDay number)) (Some text) last w a = record { end = Some (UntilDay number); hands = w; allowed = a; writes = λ other. (λ h. h, λ h. h); same = λ other. refl }
 end_back clock second one (Some (UntilLocal local)) (Some text) last (t, means, w) (u, meant, a) = record {
   end = Some (UntilInstant (as_end t));
   hands = stamp_written text (as_end t) w;
   allowed = subst (λ (x : ℤ). IsLastDay clock second x last) (ap as_end (one local u t meant means) ∙ sym (end_twice t)) a;
+  writes = local_writes clock one local t means;
+  same = until_same (UntilInstant (as_end t)) (UntilLocal local);
 }
 end_back clock second one (Some (UntilInstant t)) (Some text) last w a = record {
   end = Some (UntilInstant (as_end t));
   hands = stamp_written text (as_end t) w;
   allowed = subst (λ (x : ℤ). IsLastDay clock second x last) (sym (end_twice t)) a;
+  writes = instant_writes clock t;
+  same = until_same (UntilInstant (as_end t)) (UntilInstant t);
 }
 end_back clock second one None (Some text) last w a = absurd w
 end_back clock second one (Some until) None last w a = absurd w
@@ -75,6 +99,8 @@ pub record RuleBack (clock : Zone) (local : ℤ) (rule : Parts) (lines : List (L
   pub back : Parts
   pub gives : GivesRule clock local text back
   pub same : (day : ℕ) → is_rule_day back day ≡ is_rule_day rule day
+  -- and the same is written of both
+  pub writes : (other : List (List ℕ)) → WritesRule clock (Some rule) other ↔ WritesRule clock (Some back) other
 
 pub rule_back : (clock : Zone) (local : ℤ) → IsOneMeaning clock → (value : List ℕ) (text : RuleText) (rule : Parts) (lines : List (List ℕ)) → SpellsRule value text → GivesRule clock local text rule → WritesRule clock (Some rule) lines
     → RuleBack clock local rule lines
@@ -83,6 +109,8 @@ rule_back clock local one value text rule lines spelled g (end, told, e) =
     let same_text : text_in rule ≡ text = ap text_in g.is in
     let told_text : BothOrNeither (WritesEnd clock) text.until end = subst (λ (u : Option Until). BothOrNeither (WritesEnd clock) u end) same_until told in
     let b = end_back clock g.second one text.until end g.last told_text g.allowed in
+    let written_same : (e : Option (List ℕ)) → (codes "RRULE:" ++ rule_text (text_in rule) e) ∷ [] ≡ (codes "RRULE:" ++ rule_text (as_written text b.end) e) ∷ [] =
+    λ e. ap (λ (t : RuleText). (codes "RRULE:" ++ rule_text t e) ∷ []) same_text ∙ ap (λ v. (codes "RRULE:" ++ v) ∷ []) (sym (text_twice text b.end e (b.same e))) in
     let allowed = is_allowed value text spelled.says spelled.together spelled.one_end in
     let back = rule_of (as_written text b.end) g.day g.last in
     let same : (day : ℕ) → is_rule_day back day ≡ is_rule_day rule day = λ day. same_days text b.end g.day g.last day allowed ∙ ap (λ (r : Parts). is_rule_day r day) (sym g.is) in
@@ -95,6 +123,10 @@ rule_back clock local one value text rule lines spelled g (end, told, e) =
       back = back;
       gives = record { day = g.day; second = g.second; on = g.on; last = g.last; allowed = b.allowed; is = refl; starts = same g.day ∙ g.starts };
       same = same;
+      writes = λ other. (
+        λ h. (h.0, (b.writes h.0).0 (subst (λ (u : Option Until). BothOrNeither (WritesEnd clock) u h.0) same_until h.1), h.2 ∙ written_same h.0),
+        λ h. (h.0, subst (λ (u : Option Until). BothOrNeither (WritesEnd clock) u h.0) (sym same_until) ((b.writes h.0).1 h.1), h.2 ∙ sym (written_same h.0)),
+      );
     }
 
 -- ---- a date of UNTIL is at most 9999-12-31

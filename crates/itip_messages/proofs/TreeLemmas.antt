@@ -11,13 +11,16 @@ use Rattle.ical_tree.specs.declared.component.Component.{Component}
 use Rattle.profile.specs.text.Lines.{logical_lines, reads_as_lines}
 use Rattle.profile.specs.rooms.Messages.{MessageFault}
 use Rattle.itip_messages.specs.declared.message.Message.{Message}
-use Rattle.itip_messages.specs.Messages.{IsMessageOf, IsSpelled, ReadFault}
+use Rattle.itip_messages.specs.declared.message.Message.TheVariants.{ToRooms, ToOrganiser}
+use Rattle.itip_messages.specs.Readings.{IsMessageOf, IsSpelled, ReadFault}
 use Rattle.ical_tree.specs.Reading.{Stands}
 
 -- the message that the octets spell
 pub message_spelled : (r : Result Message Fault) (octets : List ℕ) (c : Component) → reads_as_lines true octets ≡ true
     → IsObjectOf true c (logical_lines octets) → IfOk r (IsMessageOf (tree_of c)) → IfOk r (IsSpelled octets)
-message_spelled (Ok message) octets c lines object says =
+message_spelled (Ok (ToRooms message)) octets c lines object says =
+    (says.0, record { lines = lines; tree = tree_of c; object = object_tree true c (logical_lines octets) object; says = says.1 }, says.2)
+message_spelled (Ok (ToOrganiser message)) octets c lines object says =
     (says.0, record { lines = lines; tree = tree_of c; object = object_tree true c (logical_lines octets) object; says = says.1 }, says.2)
 message_spelled (Err e) octets c lines object says = tt
 

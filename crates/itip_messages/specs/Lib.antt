@@ -2,5 +2,11 @@ pub mod Attendees
 pub mod Replies
 pub mod Refreshes
 pub mod Messages
+pub mod OrganiserObjects
+pub mod Readings
+pub mod Meetings
 pub mod ReadBack
+pub mod SentBack
 pub mod Bodies
+pub mod Zoning
+pub mod BodyTexts

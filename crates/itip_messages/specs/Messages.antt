@@ -1,32 +1,28 @@
 -- What a message that was read stands for, and the parts of it.
-use Rattle.std.specs.Prelude.{◌≡◌, ◌≢◌, ℕ, ◌<◌, ◌⊎◌, ◌||◌, ◌&&◌, ◌==◌, Bool, true, false, List, [], length, map, filter, Contains, All, AllPairs, MatchOption, Option, Some, is_some, option_map, if◌then◌else◌}
-use Rattle.ical_lines.specs.Fault.{RefusesBy}
+use Rattle.std.specs.Prelude.{◌≡◌, ◌≢◌, ℕ, ◌<◌, ◌||◌, ◌&&◌, ◌==◌, Bool, true, false, List, [], length, map, filter, Contains, All, AllPairs, MatchOption, Option, Some, is_some, option_map, if◌then◌else◌}
 use Rattle.std.specs.List.{list_any, AllZip}
 use Rattle.std.specs.Str.{bytes_eq}
-use Rattle.profile.specs.text.Trees.{Tree}
 use Rattle.profile.specs.events.Events.{Event}
 use Rattle.profile.specs.events.Confirmed.{AreApart, has_series}
 use Rattle.cal_events.specs.OwnInstances.{booked_at}
 use Rattle.cal_events.specs.SaidSeries.{IsSeriesOf, series_said}
 use Rattle.itip_messages.specs.Bodies.{IsCanonical, IsReady}
 use Rattle.profile.specs.rooms.Messages as profile
-use Rattle.profile.specs.rooms.Messages.{IsContent, canonical, cancels, is_cancel, raised_to, own_revision, AreBySlot, SaysMessage, SpellsMessage, MessageTextFault, is_method, is_unread_method}
+use Rattle.profile.specs.rooms.Messages.{IsContent, canonical, cancels, is_cancel, raised_to, own_revision, AreBySlot}
 use Rattle.profile.specs.events.Events as events
 use Rattle.profile.specs.events.Meetings.{Meeting, AreOfOne, events_of}
 use Rattle.profile.specs.text.Values.{IsClockSeconds}
 use Rattle.profile.specs.rooms.Revisions as revisions
 use Rattle.ical_values.specs.Octets.{text_octets, address_octets}
-use Rattle.ical_lines.specs.declared.fault.Fault.{Fault}
-use Rattle.ical_tree.specs.Reading.{Stands}
 use Rattle.itip_order.specs.Parts.{slot_of, revision_of}
-use Rattle.itip_messages.specs.declared.message.MessageComponent.{MessageComponent}
+use Rattle.itip_messages.specs.declared.room_message.MessageComponent.{MessageComponent}
 use Rattle.cal_events.specs.declared.component.EventComponent.{EventComponent}
 use Rattle.cal_events.specs.declared.component.Purpose.{Purpose}
 use Rattle.cal_events.specs.declared.component.Purpose.TheVariants as purposes
 use Rattle.cal_events.specs.Events.{event_of}
-use Rattle.itip_messages.specs.declared.message.Method.{Method}
-use Rattle.itip_messages.specs.declared.message.Method.TheVariants.{Request, Add, Cancel}
-use Rattle.itip_messages.specs.declared.message.Message.{Message}
+use Rattle.itip_messages.specs.declared.room_message.Method.{Method}
+use Rattle.itip_messages.specs.declared.room_message.Method.TheVariants.{Request, Add, Cancel}
+use Rattle.itip_messages.specs.declared.room_message.RoomMessage.{RoomMessage}
 
 -- what a method stands for
 abbrev pub method_said : Method → events.Method
@@ -62,7 +58,7 @@ pub record SaysComponent (method : events.Method) (whole : Option revisions.Revi
   pub attendees : component.attendees ≡ event.attendees
 
 -- it is that message: its components are the events by their slots
-pub record StandsFor (message : Message) (said : profile.Message) : Type 0 where
+pub record StandsFor (message : RoomMessage) (said : profile.Message) : Type 0 where
   pub method : method_said message.method ≡ said.method
   pub organiser : (event : Event) → Contains (events_of said.meeting) event → event.organiser ≡ Some (address_octets message.organiser)
   pub uid : (event : Event) → Contains (events_of said.meeting) event → text_octets message.uid ≡ event.uid
@@ -80,32 +76,16 @@ pub record IsOfMessage (meeting : Meeting) : Type 0 where
   pub ready : All IsReady (events_of meeting)
   pub differ : AllPairs ◌≢◌ (map profile.slot_of (events_of meeting))
 
--- the object says a message, and it is that
-abbrev pub IsMessageOf : Tree → Message → Type 0
-IsMessageOf object message = (said : profile.Message) × SaysMessage object said × StandsFor message said
-
--- the octets spell a message, and it is that
-abbrev pub IsSpelled : List ℕ → Message → Type 0
-IsSpelled octets message = (said : profile.Message) × SpellsMessage octets said × StandsFor message said
-
--- out of memory, or a fault of the object or of what it says stands in the octets
-abbrev pub ReadFault : List ℕ → Fault → Type 0
-ReadFault octets fault = Stands true octets fault ⊎ RefusesBy (MessageTextFault octets) fault
-
--- what is wrong with the word of a METHOD
-abbrev pub WordFault : List ℕ → ℕ → Type 0
-WordFault word n = ((n ≡ 99) × (is_unread_method word ≡ true)) ⊎ ((n ≡ 60) × (is_method word ≡ false))
-
 -- an ATTENDEE line of the component has the room's address
 abbrev pub component_names : List ℕ → MessageComponent → Bool
 component_names room component = list_any (λ a. bytes_eq a.address room) component.attendees
 
 -- the message cancels, and the component has no ATTENDEE line
-abbrev pub cancels_for_all : Message → MessageComponent → Bool
+abbrev pub cancels_for_all : RoomMessage → MessageComponent → Bool
 cancels_for_all message component = is_cancel (method_said message.method) && (length component.attendees == 0)
 
 -- the component addresses the message to a room
-abbrev pub is_for : List ℕ → Message → MessageComponent → Bool
+abbrev pub is_for : List ℕ → RoomMessage → MessageComponent → Bool
 is_for room message component = component_names room component || cancels_for_all message component
 
 -- where it is addressed to the room, the component is a part for it: of a CANCEL one that addresses it, of another message each
@@ -114,11 +94,11 @@ is_part_of Request addresses = true
 is_part_of Add addresses = true
 is_part_of Cancel addresses = addresses
 
-abbrev pub has_part : List ℕ → Message → MessageComponent → Bool
+abbrev pub has_part : List ℕ → RoomMessage → MessageComponent → Bool
 has_part room message component = is_part_of message.method (component_names room component || (length component.attendees == 0))
 
 -- the part that a component is for a room
-abbrev pub part_for : List ℕ → Message → MessageComponent → revisions.Part
+abbrev pub part_for : List ℕ → RoomMessage → MessageComponent → revisions.Part
 part_for room message component = record {
   organiser = address_octets message.organiser;
   uid = text_octets message.uid;
@@ -128,6 +108,6 @@ part_for room message component = record {
 }
 
 -- the parts that its components are, where one of them addresses the room
-abbrev pub parts_for : List ℕ → Message → List revisions.Part
+abbrev pub parts_for : List ℕ → RoomMessage → List revisions.Part
 parts_for room message =
     if list_any (is_for room message) message.components.items then map (part_for room message) (filter (has_part room message) message.components.items) else []

@@ -95,11 +95,11 @@ pub record SaysAnswer (room : List ℕ) (part : Part) (moment : ℤ) (outcome : 
   pub sequence : Says (codes "SEQUENCE") true IsSequenceLine own (Some part.revision.sequence)
   pub stamp : Says (codes "DTSTAMP") true IsStampLine own (Some moment)
   pub instance : Says (codes "RECURRENCE-ID") false IsStampLine own (instance_of part.slot)
-  pub attendees : AllZip IsAttendee (lines_named (codes "ATTENDEE") own) (record { address = room; participation = participation_of outcome } ∷ [])
+  pub attendees : AllZip IsAttendee (lines_named (codes "ATTENDEE") own) (record { address = room; participation = participation_of outcome; scheduled = true } ∷ [])
 
 -- the own lines of a VEVENT ask for a meeting: each property once, and the room as the one attendee (RFC 5546 3.2.6)
 pub record SaysRefresh (room organiser uid : List ℕ) (moment : ℤ) (own : List (List ℕ)) : Type 0 where
   pub uid_line : Says (codes "UID") true IsUidLine own (Some uid)
   pub organiser_line : Says (codes "ORGANIZER") true IsAddressLine own (Some organiser)
   pub stamp : Says (codes "DTSTAMP") true IsStampLine own (Some moment)
-  pub attendees : AllZip IsAttendee (lines_named (codes "ATTENDEE") own) (record { address = room; participation = NeedsAction } ∷ [])
+  pub attendees : AllZip IsAttendee (lines_named (codes "ATTENDEE") own) (record { address = room; participation = NeedsAction; scheduled = true } ∷ [])

@@ -3,17 +3,35 @@
 
 mod attendees;
 mod body;
+mod body_text;
+mod cancel;
+mod event_lines;
 pub mod law;
+mod meeting_text;
 pub mod message;
+pub mod organiser_object;
 mod parts;
 mod refresh;
 pub mod reply;
+pub mod room_message;
+pub mod sent_law;
 pub mod writer;
+mod zones;
 
 pub use attendees::Attendees;
 pub use body::zone_lines;
+pub use body_text::write_body;
+pub use cancel::{Cancel, write_cancel};
+pub use event_lines::write_slot;
 pub use law::{answers_read_back, one_message, refreshes_read_back, replies_read_back};
-pub use message::{Message, MessageComponent, Method};
+pub use meeting_text::{AttendeeLines, MeetingText, write_meeting, write_request};
+pub use message::Message;
+pub use organiser_object::{ObjectComponent, Operation, OrganiserObject};
 pub use refresh::{Refresh, write_refresh};
 pub use reply::{Conflict, ConflictKey, Decision, ReplyEvent, write_event, write_reply};
+pub use room_message::{MessageComponent, Method, RoomMessage};
+pub use sent_law::{
+    cancels_read_back, requests_read_back, shown_reads_back, stored_texts_can_be_sent,
+};
 pub use writer::ObjectWriter;
+pub use zones::Zones;

@@ -8,12 +8,12 @@ ghost use Rattle.profile.specs.rooms.Messages as profile;
 ghost use Rattle.profile.specs.rooms.Messages.{AreParts};
 ghost use Rattle.itip_messages.specs.Messages.{StandsFor, component_names, has_part, is_for, part_for, parts_for};
 
-use crate::message::{Message, MessageComponent, Method};
+use crate::room_message::{MessageComponent, Method, RoomMessage};
 use ical_values::Address;
 use itip_order::{Body, Part};
 use std::alloc::{AllocError, Global};
 
-impl Message {
+impl RoomMessage {
     /// The parts that the message has for a room, the whole meeting first and then its instances; none where it isn't addressed to it.
     /// A component that is cancelled has a Cancelled body. Another one that doesn't name the room has an Absent body:
     /// for this room it isn't on.

@@ -23,7 +23,8 @@ event recurrence start answer cancelled = record {
   rule = None;
   additions = pos 200 ∷ [];
   exceptions = [];
-  attendees = record { address = room; participation = answer } ∷ [];
+  summary = [];
+  attendees = record { address = room; participation = answer; scheduled = true } ∷ [];
 }
 
 abbrev master : Event

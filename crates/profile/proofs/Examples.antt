@@ -8,15 +8,16 @@ use Rattle.profile.specs.faults.Faults.{is_event_fault, is_calendar_fault, is_me
 use Rattle.profile.specs.text.Lines.{line_param}
 use Rattle.profile.specs.checker.Calendars.{CalendarTextFault, in_lines, in_tree}
 use Rattle.profile.specs.text.Trees.{Tree, tree, none, more, vevents}
-use Rattle.profile.specs.events.Events.{Method, Request, Add, Cancel, may_lack_start, Event, Participation, Accepted, Declined, NeedsAction, answer_named, answer_of}
+use Rattle.profile.specs.text.Values.{unescaped}
+use Rattle.profile.specs.events.Events.{Method, Request, Add, Cancel, may_lack_start, Event, Participation, Accepted, Declined, NeedsAction, answer_named, answer_of, is_by_server, summary_of}
 use Rattle.profile.specs.events.Properties.{lines_named}
 use Rattle.profile.specs.rooms.Revisions.{Part, Whole, At, Set, Absent, Cancelled, same_meeting}
 use Rattle.profile.specs.events.Meetings.{Meeting, taken_by}
-use Rattle.profile.specs.rooms.Messages.{Accept, SinglesLimit, Message, MethodFault, no_method, no_content, list_lines, is_in_dates, cancels, is_addressed, parts_for, revision_beside, IsBody, object_lines, word}
+use Rattle.profile.specs.rooms.Messages.{Accept, SinglesLimit, Message, no_content, list_lines, is_in_dates, cancels, is_addressed, parts_for, revision_beside, IsBody, object_lines, word}
 use Rattle.profile.specs.checker.Instances.{Booked}
 use Rattle.profile.specs.rooms.Rooms.{Answer, Book, Claim, confirmed_singles, confirmed_series, empty_book, is_confirmed, is_hidden, wants_whole}
 use Rattle.profile.specs.rooms.Kept.{IsKept, kept_certificate, first_parts, each_once, renamed}
-use Rattle.profile.specs.streams.Streams.{Now, Room, moments, rooms, refused_line, AreObjects}
+use Rattle.profile.specs.streams.Streams.{Now, Room, moments, organisers, Organiser, rooms, refused_line, AreObjects}
 
 -- ---- lists of refusals
 
@@ -72,6 +73,27 @@ the_word_is_caseless = refl
 no_word_is_no_answer : answer_named (line_param (codes "PARTSTAT") (codes "ATTENDEE:mailto:r1@example.com")) ≡ NeedsAction
 no_word_is_no_answer = refl
 
+-- SCHEDULE-AGENT is SERVER, or missing
+the_server_schedules : is_by_server (codes "ATTENDEE;SCHEDULE-AGENT=server:mailto:r1@example.com") ≡ true
+the_server_schedules = refl
+
+without_an_agent_it_does : is_by_server (codes "ATTENDEE;RSVP=TRUE:mailto:r1@example.com") ≡ true
+without_an_agent_it_does = refl
+
+a_client_schedules : is_by_server (codes "ATTENDEE;SCHEDULE-AGENT=CLIENT:mailto:r1@example.com") ≡ false
+a_client_schedules = refl
+
+nobody_schedules : is_by_server (codes "ATTENDEE;SCHEDULE-AGENT=NONE:mailto:r1@example.com") ≡ false
+nobody_schedules = refl
+
+-- of two SUMMARYs the first counts, and its escapes are read
+the_first_summary : summary_of (codes "UID:a" ∷ codes "SUMMARY;LANGUAGE=en:Plan\\, and\\nmore" ∷ codes "SUMMARY:b" ∷ []) ≡ codes "Plan, and\nmore"
+unfolding unescaped
+the_first_summary = refl
+
+no_summary_is_empty : summary_of (codes "UID:a" ∷ []) ≡ []
+no_summary_is_empty = refl
+
 -- from second 100 for a day and a second
 abbrev event_with : Participation → Participation → Event
 event_with first second = record {
@@ -85,7 +107,8 @@ event_with first second = record {
   exceptions = [];
   times = record { zone = None; local = pos 100; start = pos 100; length = record { days = 1; seconds = 1 } };
   rule = None;
-  attendees = record { address = codes "r:1"; participation = first } ∷ record { address = codes "r:1"; participation = second } ∷ [];
+  summary = [];
+  attendees = record { address = codes "r:1"; participation = first; scheduled = true } ∷ record { address = codes "r:1"; participation = second; scheduled = true } ∷ [];
 }
 
 -- of two lines of one address the first counts
@@ -329,6 +352,9 @@ refused_for_its_size = rw (decimal_digit 1 (lit< tt), decimal_digit 6 (lit< tt))
 the_moment : moments (Room (codes "r:1") ∷ Now (pos 5) ∷ Room (codes "r:2") ∷ []) ≡ pos 5 ∷ []
 the_moment = refl
 
+the_organisers : organisers (Organiser (codes "m:a") ∷ Now (pos 5) ∷ Room (codes "r:2") ∷ []) ≡ codes "m:a" ∷ []
+the_organisers = refl
+
 the_rooms : rooms (Room (codes "r:1") ∷ Now (pos 5) ∷ Room (codes "r:2") ∷ []) ≡ codes "r:1" ∷ codes "r:2" ∷ []
 the_rooms = refl
 
@@ -338,6 +364,3 @@ empty_lines_are_no_object = (_, refl, refl)
 -- the second object begins after the first one's line break; a line that goes on isn't the last
 two_objects : AreObjects (codes "A:1\nEND:VCALENDAR\n\nEND:\n VCALENDAR") (codes "A:1\nEND:VCALENDAR\n" ∷ codes "\nEND:\n VCALENDAR" ∷ [])
 two_objects = (_, (refl, refl, (refl, refl, refl)), refl)
-
-no_method_is_unread : MethodFault [] 99
-no_method_is_unread = no_method refl

@@ -8,3 +8,4 @@ mod EventRuleExamples
 mod OccurrenceExamples
 mod StartExamples
 mod ConfirmedExamples
+mod OrganiserExamples

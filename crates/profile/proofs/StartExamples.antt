@@ -19,6 +19,7 @@ event recurrence start additions exceptions = record {
   rule = None;
   additions = additions;
   exceptions = exceptions;
+  summary = [];
   attendees = [];
 }
 

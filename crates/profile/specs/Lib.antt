@@ -4,6 +4,8 @@ pub mod Headline
 pub mod checker
 -- what a room takes, decides and keeps
 pub mod rooms
+-- what an organiser keeps, sends and is told
+pub mod organisers
 -- what is written for a stream
 pub mod streams
 -- what the lines of a VEVENT say

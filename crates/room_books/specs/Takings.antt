@@ -1,5 +1,5 @@
 -- What a message does to its meeting.
-use Rattle.std.specs.Prelude.{◌≡◌, ◌≢◌, ◌⊎◌, ◌↔◌, ◌<◌, ◌≤◌, ◌++◌, ℕ, ℤ, Bool, true, false, Contains, not, ◌&&◌, nat_lt, IsTrue, if◌then◌else◌, List, [], ◌∷◌, take, drop, length, map, filter, AllPairs, Option, Some, None, option_map, is_some, Vec}
+use Rattle.std.specs.Prelude.{◌≡◌, ◌≢◌, ◌⊎◌, ◌↔◌, ◌<◌, ◌≤◌, ◌++◌, ℕ, ℤ, Bool, true, false, Contains, not, ◌&&◌, nat_lt, IsTrue, if◌then◌else◌, List, [], length, map, filter, AllPairs, Option, Some, None, option_map, is_some, Vec}
 use Rattle.std.specs.List.{AllZip}
 use Rattle.std.specs.Option.{option_to_list}
 use denote.Ref.{Bor}
@@ -32,9 +32,8 @@ use Rattle.room_books.specs.declared.meeting.MeetingKey.{MeetingKey}
 use Rattle.room_books.specs.Views.{outcome_of, all_singles, all_series, booked_list, joined, slots_of, IsClearIn, MayJoin, Recurs, SeriesMayJoin}
 use Rattle.room_books.specs.Instants.{IsPartOf}
 use Rattle.room_books.specs.Touching.{is_touched, IsUntouched}
-use Rattle.std.specs.Str.Lines.{lines}
 use Rattle.profile.specs.rooms.Messages.{Content, no_content}
-use Rattle.itip_messages.specs.Bodies.{zone_place}
+use Rattle.itip_messages.specs.BodyTexts.{content_in}
 
 -- ---- what is told
 
@@ -62,15 +61,6 @@ abbrev pub refresh_octets : Answer → Option (List ℕ)
 refresh_octets answer = octets_in answer.refresh
 
 -- ---- what a message asks for
-
--- what stands behind `BEGIN:VTIMEZONE`, `TZID:Z` and their line ends; None without a VTIMEZONE
-abbrev pub zone_rest : List ℕ → Option (List ℕ)
-zone_rest [] = None
-zone_rest (c ∷ octets) = Some (drop 25 (c ∷ octets))
-
--- the octets of a body as a content: its lines, and its zone
-abbrev pub content_in : List ℕ → Content
-content_in octets = record { lines = lines (take (zone_place octets) octets); zone = zone_rest (drop (zone_place octets) octets) }
 
 abbrev pub body_content : revisions.Body → Content
 body_content (revisions.Set octets) = content_in octets

@@ -83,6 +83,7 @@ by_its_rule master replaced = record {
   rule = master.rule;
   additions = [];
   exceptions = master.exceptions ++ replaced;
+  summary = master.summary;
   attendees = master.attendees;
 }
 

@@ -34,6 +34,12 @@ may_lack_start (Some Request) = false
 may_lack_start (Some Add) = false
 may_lack_start (Some Cancel) = true
 
+-- METHOD stands once among the lines of a VCALENDAR, and names this word, caseless (RFC 5545 3.7.2)
+pub record NamesWord (own : List (List ℕ)) (word : List ℕ) : Type 0 where
+  pub line : List ℕ
+  pub once : lines_named (codes "METHOD") own ≡ line ∷ []
+  pub named : is_same_name (line_value line) word ≡ true
+
 -- ---- attendees
 
 -- what an attendee answered (RFC 5545 3.2.12)
@@ -55,13 +61,21 @@ participation_named word =
 abbrev pub answer_named : Option (List ℕ) → Participation
 answer_named word = unwrap_or (option_map participation_named word) NeedsAction
 
+-- SCHEDULE-AGENT leaves it to the server to send messages to the attendee: it is SERVER, caseless, or missing (RFC 6638 7.1)
+abbrev pub is_by_server : List ℕ → Bool
+is_by_server line = unwrap_or (option_map (λ agent. is_same_name agent (codes "SERVER")) (line_param (codes "SCHEDULE-AGENT") line)) true
+
+-- an attendee: what it answered, and whether the server of its organiser sends it messages
 pub record Attendee : Type 0 where
   pub address : List ℕ
   pub participation : Participation
+  pub scheduled : Bool
 
 -- an ATTENDEE line (RFC 5545 3.8.4.1)
-abbrev pub IsAttendee : List ℕ → Attendee → Type 0
-IsAttendee line attendee = IsAddressLine line attendee.address × (attendee.participation ≡ answer_named (line_param (codes "PARTSTAT") line))
+pub record IsAttendee (line : List ℕ) (attendee : Attendee) : Type 0 where
+  pub address : IsAddressLine line attendee.address
+  pub participation : attendee.participation ≡ answer_named (line_param (codes "PARTSTAT") line)
+  pub scheduled : attendee.scheduled ≡ is_by_server line
 
 -- ---- one event
 
@@ -78,11 +92,20 @@ pub record Event : Type 0 where
   pub rule : Option Parts
   pub additions : List ℤ
   pub exceptions : List ℤ
+  pub summary : List ℕ
   pub attendees : List Attendee
 
 -- SEQUENCE, 0 where it is missing (RFC 5545 3.8.7.4)
 abbrev pub SaysSequence : List (List ℕ) → ℕ → Type 0
 SaysSequence lines n = (given : Option ℕ) × Says (codes "SEQUENCE") false IsSequenceLine lines given × (n ≡ unwrap_or given 0)
+
+-- SUMMARY without its escapes, that of the first line where there are several, empty where there is none (RFC 5545 3.8.1.12)
+abbrev pub first_text : List (List ℕ) → List ℕ
+first_text [] = []
+first_text (line ∷ lines) = unescaped (line_value line)
+
+abbrev pub summary_of : List (List ℕ) → List ℕ
+summary_of lines = first_text (lines_named (codes "SUMMARY") lines)
 
 -- the lines of a VEVENT of an object of this METHOD, or of none, say this event. UID has to stand, in a message ORGANIZER and DTSTAMP too,
 -- and DTSTART but in a CANCEL (RFC 5545 3.6.1, RFC 5546 3.2). That a calendar's VEVENT may lack DTSTAMP and that a REQUEST may lack ATTENDEE
@@ -96,6 +119,7 @@ pub record SaysEvent (object : Tree) (method : Option Method) (lines : List (Lis
   pub times : SaysTimes (may_lack_start method) object lines event.times
   pub rule : SaysEventRule lines event.times event.rule
   pub occurrences : SaysOccurrences (adds_instances method) object lines event.recurrence event.additions event.exceptions
+  pub summary : event.summary ≡ summary_of lines
   pub attendees : AllZip IsAttendee (lines_named (codes "ATTENDEE") lines) event.attendees
 
 -- ---- what an event says of its meeting and of a room

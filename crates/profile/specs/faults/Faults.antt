@@ -34,10 +34,6 @@ is_event_fault n = is_value_fault n || is_between 50 52 n || is_between 55 56 n 
 abbrev pub is_zone_fault : ℕ → Bool
 is_zone_fault = is_between 40 43
 
--- what isn't read yet
-abbrev pub is_unread : ℕ → Bool
-is_unread n = n == 99
-
 -- a fault of one VEVENT whose times may name a VTIMEZONE of its object
 abbrev pub is_zoned_event_fault : ℕ → Bool
 is_zoned_event_fault n = is_event_fault n || is_zone_fault n
@@ -58,9 +54,13 @@ is_meeting_event_fault n = is_series_event_fault n || n == 65 || n == 67
 abbrev pub is_calendar_fault : ℕ → Bool
 is_calendar_fault n = is_object_fault n || is_meeting_event_fault n || is_between 53 54 n
 
--- a fault of a message: an object, its VEVENTs, its method, its meeting or the want of a VEVENT (RFC 5546 3.2), or what isn't read yet
+-- a fault of a message: an object, its VEVENTs, its method, its meeting, its attendees or the want of a VEVENT (RFC 5546 3.2)
 abbrev pub is_message_fault : ℕ → Bool
-is_message_fault n = is_object_fault n || is_meeting_event_fault n || is_between 53 54 n || n == 60 || n == 62 || n == 66 || is_unread n
+is_message_fault n = is_object_fault n || is_meeting_event_fault n || is_between 53 54 n || n == 60 || n == 62 || n == 64 || n == 66
+
+-- a fault of an object for an organiser, beside what the organiser keeps
+abbrev pub is_organiser_fault : ℕ → Bool
+is_organiser_fault = is_between 70 73
 
 -- a fault of a preamble or a configuration
 abbrev pub is_preamble_fault : ℕ → Bool

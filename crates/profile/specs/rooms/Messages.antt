@@ -1,4 +1,4 @@
--- Messages: their meeting, the parts that they have for a room, and replies (RFC 5546 1.4, 3.2). So far a REQUEST, an ADD or a CANCEL.
+-- Messages to rooms: their meeting, the parts that they have for a room, and replies (RFC 5546 1.4, 3.2): a REQUEST, an ADD or a CANCEL.
 use Rattle.std.specs.Prelude.{◌≡◌, ◌↔◌, ℕ, ◌/◌, ◌%◌, ◌+◌, Bool, true, false, ◌&&◌, ◌||◌, ◌==◌, if◌then◌else◌, nat_lt, List, [], ◌∷◌, ◌++◌, length, filter, codes, decimal, Contains, AllPairs, Option, Some, None, option_map, unwrap_or, ℤ, pos, ◌<ℤ◌, not}
 use Rattle.std.specs.List.{flat_map, list_any, AllZip}
 use Rattle.std.specs.Int.Signed.{lt_z}
@@ -8,8 +8,8 @@ use Rattle.profile.specs.text.Lines.{line_value, is_same_name, logical_lines, re
 use Rattle.profile.specs.text.Objects.{IsObject}
 use Rattle.profile.specs.text.Trees.{Tree, tree_name, tree_own, tree_inside}
 use Rattle.profile.specs.text.Values.{SpellsDate, WritesStamp, WritesLocal, duration_text, escaped}
-use Rattle.profile.specs.events.Events.{Method, Request, Add, Cancel, Event}
-use Rattle.profile.specs.events.Properties.{first_second, SomeLine, StandsTwice, IsMissing, BothOrNeither, lines_named}
+use Rattle.profile.specs.events.Events.{Method, Request, Add, Cancel, NamesWord, Event}
+use Rattle.profile.specs.events.Properties.{first_second, SomeLine, StandsTwice, BothOrNeither}
 use Rattle.profile.specs.events.ZonedTimes.{EventTimes, clock_of}
 use Rattle.profile.specs.series.Rules.{Parts, Until, UntilDay, UntilLocal, UntilInstant, text_in}
 use Rattle.profile.specs.series.RuleTexts.{rule_text}
@@ -20,6 +20,7 @@ use Rattle.profile.specs.checker.Instances.{Key, horizon}
 use Rattle.std.specs.declared.cmp.Ordering.TheVariants.{Less}
 use Rattle.std.specs.Ordering.{is_lt}
 use Rattle.profile.specs.events.Meetings.{Meeting, events_of, SaysMeeting, MeetingFault}
+use Rattle.profile.specs.organisers.Objects.{OrganiserObjectFault}
 use Rattle.profile.specs.rooms.Revisions.{Part, Slot, Whole, At, Revision, Body, Set, Absent, Cancelled, revision_cmp, slot_cmp}
 
 -- ---- what a message says
@@ -36,10 +37,8 @@ pub record Message : Type 0 where
   pub meeting : Meeting
 
 -- METHOD stands once among the lines of a VCALENDAR, and names this one
-pub record NamesMethod (own : List (List ℕ)) (method : Method) : Type 0 where
-  pub line : List ℕ
-  pub once : lines_named (codes "METHOD") own ≡ line ∷ []
-  pub named : is_same_name (line_value line) (method_word method) ≡ true
+abbrev pub NamesMethod : List (List ℕ) → Method → Type 0
+NamesMethod own method = NamesWord own (method_word method)
 
 -- a VCALENDAR says this message (RFC 5546 3.2.2, 3.2.4, 3.2.5)
 pub record SaysMessage (object : Tree) (message : Message) : Type 0 where
@@ -55,26 +54,22 @@ pub record SpellsMessage (octets : List ℕ) (message : Message) : Type 0 where
 
 -- ---- what can be wrong with a message
 
--- the words of METHOD that aren't read yet
-abbrev pub is_unread_method : List ℕ → Bool
-is_unread_method word = is_same_name word (codes "REPLY") || is_same_name word (codes "REFRESH")
-
 -- the words of METHOD that are taken here (RFC 5546 1.4); that PUBLISH, COUNTER and DECLINECOUNTER aren't is this profile's choice
 abbrev pub is_method : List ℕ → Bool
 is_method word =
-    is_same_name word (codes "REQUEST") || is_same_name word (codes "ADD") || is_same_name word (codes "CANCEL") || is_unread_method word
+    is_same_name word (codes "REQUEST") || is_same_name word (codes "ADD") || is_same_name word (codes "CANCEL")
+    || is_same_name word (codes "REPLY") || is_same_name word (codes "REFRESH")
 
 -- the fault of this number stands in the VCALENDAR's lines
 pub data MethodFault (own : List (List ℕ)) : ℕ → Type 0 where
   two_methods : StandsTwice (codes "METHOD") own → MethodFault own 60
   bad_method : SomeLine (codes "METHOD") (λ line. is_method (line_value line) ≡ false) own → MethodFault own 60
-  unread_method : SomeLine (codes "METHOD") (λ line. is_unread_method (line_value line) ≡ true) own → MethodFault own 99
-  no_method : IsMissing (codes "METHOD") own → MethodFault own 99
 
 -- the fault of this number stands in the lines of a VCALENDAR or of its VEVENTs
 pub data MessageFault (object : Tree) : ℕ → Type 0 where
   in_method : {n : ℕ} → MethodFault (tree_own object) n → MessageFault object n
   in_meeting : {n : ℕ} → (method : Method) → NamesMethod (tree_own object) method → MeetingFault object (Some method) n → MessageFault object n
+  for_organiser : {n : ℕ} → OrganiserObjectFault object n → MessageFault object n
 
 -- the octets are one VCALENDAR, within the limits of a message, and the fault of this number stands in it
 pub record MessageTextFault (octets : List ℕ) (n : ℕ) : Type 0 where

@@ -1,8 +1,9 @@
--- A stream: its preamble, its objects, and what is answered to them. Each object is a message or is refused.
-use Rattle.std.specs.Prelude.{◌≡◌, ◌≢◌, ℕ, ◌+◌, ◌<◌, ◌≤◌, ◌⊎◌, Bool, true, false, IsTrue, List, [], ◌∷◌, ◌++◌, length, map, codes, decimal, None, Option, ℤ, AllPairs}
+-- A stream: its preamble, its objects, and what is answered to them by a box, which hosts rooms and organisers. Each object is a message,
+-- or what an organiser stores, or is refused.
+use Rattle.std.specs.Prelude.{◌≡◌, ◌≢◌, ℕ, ◌+◌, ◌<◌, ◌≤◌, ◌⊎◌, Bool, true, false, IsTrue, List, [], ◌∷◌, ◌++◌, length, map, codes, decimal, None, Option, ℤ, AllPairs, Contains, Some}
 use Rattle.std.specs.Option.{option_to_list}
-use Rattle.std.specs.List.{flat_map, AllZip}
-use Rattle.std.specs.Str.{is_utf8}
+use Rattle.std.specs.List.{flat_map, list_any, AllZip}
+use Rattle.std.specs.Str.{is_utf8, bytes_eq}
 use Rattle.profile.specs.text.Lines.{logical_lines, text_has}
 use Rattle.profile.specs.text.Objects.{SpellsTree, most_events, count_inside, has_version, lines_have, is_begun, after_object}
 use Rattle.profile.specs.text.Trees.{Tree, tree_name, tree_own, tree_inside}
@@ -11,28 +12,44 @@ use Rattle.profile.specs.events.Confirmed.{AreApart, AreOfRule}
 use Rattle.profile.specs.rooms.Messages.{Message, SpellsMessage, MessageTextFault, IsPart, AreBySlot, parts_for, is_add, Outcome}
 use Rattle.profile.specs.rooms.Rooms.{Claim, Book, Delivery, IsStep, empty_book, is_set}
 use Rattle.profile.specs.rooms.Kept.{Replies, Refreshes}
+use Rattle.profile.specs.organisers.Objects.{Operation, Store, Reply, Refresh, OrganiserObject, SpellsOrganiserObject}
+use Rattle.profile.specs.organisers.Organisers.{Stored, OrganiserBook, Sent, IsStore, StateFault, after_reply, empty_organiser, last_store}
 use Rattle.profile.specs.text.Values.{SpellsStamp, IsAddress, lower_case}
 
 -- ---- the preamble. The format is roombox's own
 
--- what one line says: the moment of every decision, or a room
+-- what one line says: the moment of every decision, a room or an organiser
 pub data Setting : Type 0 where
   Now : ℤ → Setting
   Room : List ℕ → Setting
+  Organiser : List ℕ → Setting
+
+-- the line is this word, a space and an address
+abbrev pub IsHostLine : List ℕ → List ℕ → List ℕ → Type 0
+IsHostLine word line address = (text : List ℕ) × (line ≡ word ++ codes " " ++ text) × IsAddress text × (address ≡ lower_case text)
 
 abbrev pub IsSetting : List ℕ → Setting → Type 0
 IsSetting line (Now t) = (stamp : List ℕ) × (line ≡ codes "now " ++ stamp) × SpellsStamp stamp t
-IsSetting line (Room address) = (text : List ℕ) × (line ≡ codes "room " ++ text) × IsAddress text × (address ≡ lower_case text)
+IsSetting line (Room address) = IsHostLine (codes "room") line address
+IsSetting line (Organiser address) = IsHostLine (codes "organiser") line address
 
 abbrev pub moments : List Setting → List ℤ
 moments [] = []
 moments (Now t ∷ rest) = t ∷ moments rest
 moments (Room address ∷ rest) = moments rest
+moments (Organiser address ∷ rest) = moments rest
 
 abbrev pub rooms : List Setting → List (List ℕ)
 rooms [] = []
 rooms (Now t ∷ rest) = rooms rest
 rooms (Room address ∷ rest) = address ∷ rooms rest
+rooms (Organiser address ∷ rest) = rooms rest
+
+abbrev pub organisers : List Setting → List (List ℕ)
+organisers [] = []
+organisers (Now t ∷ rest) = organisers rest
+organisers (Room address ∷ rest) = organisers rest
+organisers (Organiser address ∷ rest) = address ∷ organisers rest
 
 -- what a preamble's lines say: each is ended by LF or CRLF, and after the last comes an empty line (closed), or nothing more
 pub data SaysSettings : Bool → List ℕ → List Setting → Type 0 where
@@ -43,36 +60,48 @@ pub data SaysSettings : Bool → List ℕ → List Setting → Type 0 where
   with_lf : {closed : Bool} {rest : List ℕ} {settings : List Setting} (line : List ℕ) (setting : Setting) → IsSetting line setting → SaysSettings closed rest settings → SaysSettings closed (line ++ 10 ∷ rest) (setting ∷ settings)
   with_crlf : {closed : Bool} {rest : List ℕ} {settings : List Setting} (line : List ℕ) (setting : Setting) → IsSetting line setting → SaysSettings closed rest settings → SaysSettings closed (line ++ 13 ∷ 10 ∷ rest) (setting ∷ settings)
 
--- the most octets of a preamble, and the most rooms that it hosts; this profile's choice
+-- the most octets of a preamble, and the most rooms and organisers that it hosts; this profile's choice
 abbrev pub most_of_preamble : ℕ
 most_of_preamble = 65_536
 
 abbrev pub most_rooms : ℕ
 most_rooms = 64
 
--- the octets of a preamble, which are UTF-8, give this moment and these rooms: the moment once, a room at least, and no room twice
-pub record IsPreamble (closed : Bool) (octets : List ℕ) (moment : ℤ) (addresses : List (List ℕ)) : Type 0 where
+abbrev pub most_organisers : ℕ
+most_organisers = 256
+
+-- the addresses that a box hosts
+pub record Hosts : Type 0 where
+  pub rooms : List (List ℕ)
+  pub organisers : List (List ℕ)
+
+-- the settings name these: one at least, and no address twice in one kind
+pub record AreHosts (settings : List Setting) (hosts : Hosts) : Type 0 where
+  pub rooms_are : rooms settings ≡ hosts.rooms
+  pub organisers_are : organisers settings ≡ hosts.organisers
+  pub some : 0 < length hosts.rooms + length hosts.organisers
+  pub few_rooms : length hosts.rooms ≤ most_rooms
+  pub few_organisers : length hosts.organisers ≤ most_organisers
+  pub rooms_differ : AllPairs ◌≢◌ hosts.rooms
+  pub organisers_differ : AllPairs ◌≢◌ hosts.organisers
+
+-- the octets of a preamble, which are UTF-8, give this moment, once, and these hosts
+pub record IsPreamble (closed : Bool) (octets : List ℕ) (moment : ℤ) (hosts : Hosts) : Type 0 where
   pub settings : List Setting
   pub says : SaysSettings closed octets settings
   pub text : is_utf8 octets ≡ true
   pub short : length octets ≤ most_of_preamble
   pub moment_is : moments settings ≡ moment ∷ []
-  pub rooms_are : rooms settings ≡ addresses
-  pub some : 0 < length addresses
-  pub few : length addresses ≤ most_rooms
-  pub differ : AllPairs ◌≢◌ addresses
+  pub are : AreHosts settings hosts
 
--- the octets of a configuration give these rooms: a preamble's lines, without a moment
-pub record IsConfiguration (closed : Bool) (octets : List ℕ) (addresses : List (List ℕ)) : Type 0 where
+-- the octets of a configuration give these: a preamble's lines, without a moment
+pub record IsConfiguration (closed : Bool) (octets : List ℕ) (hosts : Hosts) : Type 0 where
   pub settings : List Setting
   pub says : SaysSettings closed octets settings
   pub text : is_utf8 octets ≡ true
   pub short : length octets ≤ most_of_preamble
   pub timeless : moments settings ≡ []
-  pub rooms_are : rooms settings ≡ addresses
-  pub some : 0 < length addresses
-  pub few : length addresses ≤ most_rooms
-  pub differ : AllPairs ◌≢◌ addresses
+  pub are : AreHosts settings hosts
 
 -- ---- the objects of a stream
 
@@ -86,13 +115,13 @@ BeginsWith stream (object ∷ objects) rest =
 abbrev pub AreObjects : List ℕ → List (List ℕ) → Type 0
 AreObjects stream objects = (rest : List ℕ) × BeginsWith stream objects rest × (is_begun rest ≡ false)
 
--- the stream is a preamble with this moment and these rooms, and then these objects; a preamble without an empty line is all there is
-pub record IsStream (stream : List ℕ) (moment : ℤ) (addresses : List (List ℕ)) (objects : List (List ℕ)) : Type 0 where
+-- the stream is a preamble with this moment and these hosts, and then these objects; a preamble without an empty line is all there is
+pub record IsStream (stream : List ℕ) (moment : ℤ) (hosts : Hosts) (objects : List (List ℕ)) : Type 0 where
   pub preamble : List ℕ
   pub rest : List ℕ
   pub closed : Bool
   pub is : stream ≡ preamble ++ rest
-  pub says : IsPreamble closed preamble moment addresses
+  pub says : IsPreamble closed preamble moment hosts
   pub all : closed ≡ false → rest ≡ []
   pub objects_are : AreObjects rest objects
 
@@ -164,34 +193,97 @@ AllTake moment message (before ∷ befores) (after ∷ afters) octets =
     (first : List ℕ) × (rest : List ℕ) × (octets ≡ first ++ rest) × Takes moment message before after first × AllTake moment message befores afters rest
 AllTake moment message _ _ octets = ⊥
 
+-- what a box keeps of an organiser that it hosts
+pub record HostedOrganiser : Type 0 where
+  pub address : List ℕ
+  pub book : OrganiserBook
+
+-- what an organiser answers, and what it keeps then: to a store what it sends, to a REPLY nothing, to a REFRESH what it made of the last store
+abbrev pub ServesOperation : Operation → ℤ → OrganiserObject → OrganiserBook → OrganiserBook → List ℕ → Type 0
+ServesOperation Store moment said before after octets =
+    (sent : List Sent) × IsStore moment said before sent after × (octets ≡ flat_map (λ one. one.octets) sent)
+ServesOperation Reply moment said before after octets = (after ≡ after_reply said before) × (octets ≡ [])
+ServesOperation Refresh moment said before after octets =
+    (stored : Stored) × (last_store said.uid before ≡ Some stored) × (after ≡ before) × (octets ≡ stored.object)
+
+-- an organiser takes what comes to it, in which no fault stands beside what it keeps
+pub record TakesObject (moment : ℤ) (said : OrganiserObject) (before after : OrganiserBook) (octets : List ℕ) : Type 0 where
+  pub allowed : (n : ℕ) → StateFault said before n → ⊥
+  pub serves : ServesOperation said.operation moment said before after octets
+
+-- of these organisers the one whose address it names takes it
+pub record IsTaken (moment : ℤ) (said : OrganiserObject) (before after : List HostedOrganiser) (octets : List ℕ) : Type 0 where
+  pub others_before : List HostedOrganiser
+  pub others_behind : List HostedOrganiser
+  pub host : HostedOrganiser
+  pub book : OrganiserBook
+  pub address : host.address ≡ said.organiser
+  pub takes : TakesObject moment said host.book book octets
+  pub of_these : before ≡ others_before ++ host ∷ others_behind
+  pub to_these : after ≡ others_before ++ record host { book = book } ∷ others_behind
+
+-- what a box keeps: the books of its rooms and of its organisers
+pub record Box : Type 0 where
+  pub rooms : List Hosted
+  pub organisers : List HostedOrganiser
+
+-- nothing was taken
+abbrev pub new_box : Hosts → Box
+new_box hosts = record {
+  rooms = map (λ room. record { address = room; book = empty_book }) hosts.rooms;
+  organisers = map (λ organiser. record { address = organiser; book = empty_organiser }) hosts.organisers;
+}
+
+-- what octets say: a message to rooms, or something to an organiser
+pub data Said : Type 0 where
+  ToRooms : Message → Said
+  ToOrganiser : OrganiserObject → Said
+
+abbrev pub Spells : List ℕ → Said → Type 0
+Spells octets (ToRooms message) = SpellsMessage octets message
+Spells octets (ToOrganiser said) = SpellsOrganiserObject octets said
+
+-- one step of a box: all its rooms take a message, or an organiser takes what comes to it, and this is answered
+abbrev pub Steps : ℤ → Said → Box → Box → List ℕ → Type 0
+Steps moment (ToRooms message) before after octets =
+    AllTake moment message before.rooms after.rooms octets × (after.organisers ≡ before.organisers)
+Steps moment (ToOrganiser said) before after octets = IsTaken moment said before.organisers after.organisers octets × (after.rooms ≡ before.rooms)
+
+-- what can be wrong with what comes to an organiser, by the number of its refusal: the organiser isn't hosted, or as it keeps its meetings
+pub data HostFault (said : OrganiserObject) (hosted : List HostedOrganiser) : ℕ → Type 0 where
+  not_hosted : list_any (λ host. bytes_eq host.address said.organiser) hosted ≡ false → HostFault said hosted 70
+  in_state : {n : ℕ} → (host : HostedOrganiser) → Contains hosted host → host.address ≡ said.organiser → StateFault said host.book n
+      → HostFault said hosted n
+
+-- a box that keeps this refuses the octets with this number
+abbrev pub IsRefusedWith : Box → ℕ → List ℕ → Type 0
+IsRefusedWith box n octets =
+    ObjectFault n octets ⊎ ((said : OrganiserObject) × SpellsOrganiserObject octets said × HostFault said box.organisers n)
+
 -- the line for a refused object, by its place in the stream from 1
 abbrev pub refused_line : ℕ → ℕ → List ℕ
 refused_line k n = codes "REFUSED;OBJECT=" ++ decimal k ++ codes ":" ++ decimal n ++ codes "\r\n"
 
--- one step of a box, which hosts these rooms: the octets answer object k with what the rooms answer to it, or with the line for a refusal,
--- which changes no room; so many refusals it is
-abbrev pub Answers : ℤ → ℕ → List ℕ → List Hosted → List Hosted → List ℕ → ℕ → Type 0
+-- the octets answer object k: with what a step of the box answers to it, or with the line for a refusal, which changes nothing; so many
+-- refusals it is
+abbrev pub Answers : ℤ → ℕ → List ℕ → Box → Box → List ℕ → ℕ → Type 0
 Answers moment k object before after octets refused =
-    ((message : Message) × SpellsMessage object message × AllTake moment message before after octets × (refused ≡ 0))
-    ⊎ ((n : ℕ) × ObjectFault n object × (after ≡ before) × (octets ≡ refused_line k n) × (refused ≡ 1))
+    ((said : Said) × Spells object said × Steps moment said before after octets × (refused ≡ 0))
+    ⊎ ((n : ℕ) × IsRefusedWith before n object × (after ≡ before) × (octets ≡ refused_line k n) × (refused ≡ 1))
 
 -- step by step the answers to objects from number k on, one behind another, and how many objects are refused
-abbrev pub AllAnswers : ℤ → ℕ → List (List ℕ) → List Hosted → List Hosted → List ℕ → ℕ → Type 0
+abbrev pub AllAnswers : ℤ → ℕ → List (List ℕ) → Box → Box → List ℕ → ℕ → Type 0
 AllAnswers moment k [] before after octets refused = (after ≡ before) × (octets ≡ []) × (refused ≡ 0)
 AllAnswers moment k (object ∷ objects) before after octets refused =
-    (mid : List Hosted) × (first : List ℕ) × (rest : List ℕ) × (one : ℕ) × (others : ℕ) × (octets ≡ first ++ rest) × (refused ≡ one + others)
+    (mid : Box) × (first : List ℕ) × (rest : List ℕ) × (one : ℕ) × (others : ℕ) × (octets ≡ first ++ rest) × (refused ≡ one + others)
     × Answers moment k object before mid first one × AllAnswers moment (k + 1) objects mid after rest others
 
--- no room has taken anything
-abbrev pub new_box : List (List ℕ) → List Hosted
-new_box rooms = map (λ room. record { address = room; book = empty_book }) rooms
-
--- the whole of what is written for a stream that is served to its end, from rooms that have taken nothing
+-- the whole of what is written for a stream that is served to its end, by a box that has taken nothing
 pub record AnswersStream (stream octets : List ℕ) : Type 0 where
   pub moment : ℤ
-  pub rooms : List (List ℕ)
+  pub hosts : Hosts
   pub objects : List (List ℕ)
-  pub after : List Hosted
+  pub after : Box
   pub refused : ℕ
-  pub is : IsStream stream moment rooms objects
-  pub answers : AllAnswers moment 1 objects (new_box rooms) after octets refused
+  pub is : IsStream stream moment hosts objects
+  pub answers : AllAnswers moment 1 objects (new_box hosts) after octets refused

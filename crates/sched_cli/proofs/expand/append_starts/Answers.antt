@@ -1,4 +1,4 @@
-use Rattle.std.proofs.Common.{◌≡◌, ◌∙◌, ◌++◌, ◌∷◌, [], ap, sym, subst, slice_range, List, ℕ, ℤ, arith, length}
+use Rattle.std.proofs.Common.{◌≡◌, ◌∙◌, ◌++◌, ◌∷◌, [], ap, sym, subst, slice_range, List, ℕ, arith, length}
 use Rattle.std.proofs.lemmas.Bool.Decides.{Decides-int_eq}
 use Rattle.profile.specs.text.Values.{WritesStamp}
 use Rattle.sched_cli.proofs.Printing.{appended_again}

@@ -143,5 +143,6 @@ returns-clause-says c = record {
         takes = c.in_ok-said_exceptions.ensures.listed.lists;
         alone = ap (λ b. recurs_as_instance b lines) (sym c.adds_instances.ensures) ∙ c.in_ok-refuse_recurring_instance.ensures.alone;
       };
+  summary = c.in_ok-summary.ensures;
   attendees = c.in_ok-attendees.ensures.reads;
 }

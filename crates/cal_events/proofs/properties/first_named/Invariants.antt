@@ -1,0 +1,9 @@
+use Rattle.std.proofs.Common.{◌≡◌, map, drop}
+use Rattle.ical_lines.specs.Text.{line_text}
+use Rattle.std.specs.List.{find}
+use Rattle.profile.specs.events.Properties.{is_of}
+use Rattle.cal_events.proofs.properties.first_named.Given as goal
+
+-- the lines that are left decide it
+abbrev pub invariant-loop-line : goal.invariant-loop-line
+invariant-loop-line l = find (is_of l.name) l.properties ≡ find (is_of l.name) (map line_text (drop l.line-index l.line-items))

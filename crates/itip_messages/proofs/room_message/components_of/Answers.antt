@@ -1,0 +1,20 @@
+use Rattle.std.proofs.Common.{option_map}
+use Rattle.itip_order.specs.Parts.{revision_of}
+use Rattle.itip_messages.specs.Messages.{SaysComponent, method_said}
+use Rattle.itip_messages.proofs.MessageLemmas.{next_there, said_more}
+use Rattle.itip_messages.proofs.room_message.components_of.Goals as goal
+
+pub of-requires : goal.of-requires
+of-requires c =
+    let event = c.in-Some.event in
+    let there = next_there c.args.events.items c.loop-event.yielded _ c.next.new.self.rest.items event c.loop-event.invariant.0 c.in-Some.ensures.steps.0 in
+    record {
+      stamp = c.requires.stamped event there;
+      dated = c.requires.dated event there;
+      ready = c.requires.ready event there;
+    }
+
+pub loop-event-preserved : goal.loop-event-preserved
+loop-event-preserved c =
+    said_more (SaysComponent (method_said c.args.method) (option_map revision_of c.args.whole)) c.args.events.items c.loop-event.yielded _ c.next.new.self.rest.items c.in-Some.event c.loop-event.components.items c.push.new.self.items
+    c.in_ok-of.field-0 c.loop-event.invariant.0 c.in-Some.ensures.steps.0 c.loop-event.invariant.1 c.in_ok-of.ensures c.in_ok-push.ensures.items

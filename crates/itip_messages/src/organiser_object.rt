@@ -1,0 +1,186 @@
+//! What comes to an organiser: a meeting that it stores (RFC 6638 3.2.1), or an attendee's REPLY or REFRESH (RFC 5546 3.2.3, 3.2.6). The VEVENTs
+//! stay in the order of the text, in which they are sent.
+ghost use Rattle.std.specs.Prelude.{◌≡◌, true, map, Contains, IfOk, IfErr, OnOk, IsSome};
+ghost use Rattle.std.specs.List.{AllZip, list_all};
+ghost use Rattle.std.specs.Str.{bytes_eq};
+ghost use Rattle.ical_lines.specs.Fault.{RefusesOnly, RefusesBy};
+ghost use Rattle.ical_tree.specs.Tree.{tree_of};
+ghost use Rattle.profile.specs.faults.Faults.{is_message_fault};
+ghost use Rattle.profile.specs.organisers.Objects.{has_one_attendee, is_of_attendee};
+ghost use Rattle.ical_values.specs.Octets.{address_octets};
+ghost use Rattle.cal_events.specs.Events.{event_of};
+ghost use Rattle.cal_events.specs.declared.component.EventComponent.{EventComponent};
+ghost use Rattle.itip_messages.specs.Bodies.{IsReady};
+ghost use Rattle.itip_messages.specs.Messages.{IsDated, event_slot};
+ghost use Rattle.itip_messages.specs.OrganiserObjects.{IsNotOneEach, IsObjectOf, IsOrganiserFault, SaysObjectComponent, operation_said, purpose_of};
+
+use crate::attendees::Attendees;
+use crate::body::canonical_body;
+use crate::room_message::{name_of, own_revision, slot_in};
+use cal_events::{Attendee, EventComponent, MeetingComponents, Purpose};
+use ical_lines::{Fault, Refusal};
+use ical_tree::Component;
+use ical_values::{Address, Text};
+use itip_order::{Revision, Slot};
+use std::alloc::{AllocError, Global};
+
+/// What is asked of an organiser.
+#[derive(Clone, Copy, PartialEq, Eq)]
+pub enum Operation {
+    /// That it store a meeting: an object without METHOD (RFC 6638 3.2).
+    Store,
+    /// That it note an attendee's answer (RFC 5546 3.2.3).
+    Reply,
+    /// That it send a meeting to an attendee once more (RFC 5546 3.2.6).
+    Refresh,
+}
+
+impl Operation {
+    /// What a VEVENT of such an object is read for: DTSTART has to stand in a store alone.
+    fn purpose(self) -> Purpose
+        ensures { result ≡ purpose_of self }
+    {
+        match self {
+            Operation::Store => Purpose::Request,
+            Operation::Reply | Operation::Refresh => Purpose::Cancel,
+        }
+    }
+
+    /// Whether an attendee speaks.
+    pub fn is_of_attendee(self) -> bool
+        ensures { result ≡ is_of_attendee (operation_said self) }
+    {
+        matches!(self, Operation::Reply | Operation::Refresh)
+    }
+}
+
+/// What one VEVENT of such an object says.
+#[derive(Drop)]
+pub struct ObjectComponent {
+    /// The instance that RECURRENCE-ID names, else the whole meeting.
+    pub slot: Slot,
+    /// Its own SEQUENCE and DTSTAMP.
+    pub revision: Revision,
+    /// Whether its STATUS is CANCELLED (RFC 5545 3.8.1.11).
+    pub cancelled: bool,
+    /// The body in its one form, and its VTIMEZONE behind it.
+    pub canonical: Vec<u8>,
+    /// SUMMARY, empty where it is missing.
+    pub summary: Text,
+    /// The ATTENDEE lines in the order of the text.
+    pub attendees: Attendees,
+}
+
+impl ObjectComponent {
+    /// What a VEVENT says. It fails only for memory.
+    fn of(alloc: Global, event: EventComponent) -> Result<ObjectComponent, AllocError>
+        requires stamp { IsSome event.stamp }
+        requires dated { IsDated (event_slot event) }
+        requires ready { IsReady (event_of event) }
+        ensures { IfOk result (SaysObjectComponent (event_of event)) }
+    {
+        let canonical = canonical_body(alloc, &event)?;
+        let slot = slot_in(&event);
+        let revision = own_revision(&event);
+        let attendees = Attendees::of(alloc, event.attendees)?;
+        Ok(ObjectComponent {
+            slot,
+            revision,
+            cancelled: event.cancelled,
+            canonical,
+            summary: event.summary,
+            attendees,
+        })
+    }
+}
+
+/// What comes to an organiser: all its components are of one meeting, the UID of one ORGANIZER.
+#[derive(Drop)]
+pub struct OrganiserObject {
+    /// What is asked.
+    pub operation: Operation,
+    /// The ORGANIZER's address.
+    pub organiser: Address,
+    /// The UID that all its VEVENTs have, its escapes read (RFC 5545 3.8.4.7).
+    pub uid: Text,
+    /// The VEVENTs, in the order of the text.
+    pub components: Vec<ObjectComponent>,
+}
+
+impl OrganiserObject {
+    /// What an object says that asks for this.
+    /// Refused: as by `MeetingComponents::read_in_order`; 64 for a VEVENT of a REPLY or a REFRESH that doesn't have one attendee.
+    pub(crate) fn read(
+        alloc: Global,
+        object: &Component,
+        operation: Operation,
+    ) -> Result<OrganiserObject, Fault>
+        ensures says { IfOk result (IsObjectOf (tree_of object.now) (operation_said operation)) }
+        ensures refuses { IfErr result (RefusesOnly is_message_fault) }
+        ensures stands { IfErr result (RefusesBy (IsOrganiserFault (tree_of object.now) (operation_said operation))) }
+    {
+        let events = MeetingComponents::read_in_order(alloc, object, operation.purpose())?;
+        judge_attendees(operation, &events)?;
+        let (organiser, uid) = name_of(&events)?;
+        let components = components_of(alloc, events)?;
+        Ok(OrganiserObject {
+            operation,
+            organiser,
+            uid,
+            components,
+        })
+    }
+}
+
+/// Refuses VEVENTs in which an attendee speaks, where one doesn't have one attendee.
+/// Refused: 64 for such a VEVENT.
+fn judge_attendees(operation: Operation, events: &[EventComponent]) -> Result<(), Refusal>
+    ensures each { OnOk result (is_of_attendee (operation_said operation) ≡ true → list_all has_one_attendee (map event_of events.now) ≡ true) }
+    ensures stands { IfErr result (λ e. IsNotOneEach (operation_said operation) (map event_of events.now) e.number) }
+{
+    if operation.is_of_attendee() && !all_have_one(events) {
+        return Err(Refusal::NOT_ONE_ATTENDEE);
+    }
+    Ok(())
+}
+
+/// Whether each of some VEVENTs has one attendee.
+fn all_have_one(events: &[EventComponent]) -> bool
+    ensures { result ≡ list_all (λ event. has_one_attendee (event_of event)) events.now }
+{
+    events.iter().all(has_one_attendee)
+}
+
+/// Whether a VEVENT has one attendee; several lines of one address are one.
+fn has_one_attendee(event: &EventComponent) -> bool
+    ensures { result ≡ has_one_attendee (event_of event.now) }
+{
+    match event.attendees.split_first() {
+        Some((first, others)) => are_all(first, others),
+        None => false,
+    }
+}
+
+/// Whether all the others have the address of the first.
+fn are_all(first: &Attendee, others: &[Attendee]) -> bool
+    ensures { result ≡ list_all (λ other. bytes_eq (address_octets other.address) (address_octets first.now.address)) others.now }
+{
+    others.iter().all(|other| other.address == first.address)
+}
+
+/// What some VEVENTs say, in their order. It fails only for memory.
+fn components_of(
+    alloc: Global,
+    events: Vec<EventComponent>,
+) -> Result<Vec<ObjectComponent>, AllocError>
+    requires stamped { (event : EventComponent) → Contains events.items event → IsSome event.stamp }
+    requires dated { (event : EventComponent) → Contains events.items event → IsDated (event_slot event) }
+    requires ready { (event : EventComponent) → Contains events.items event → IsReady (event_of event) }
+    ensures { IfOk result (λ components. AllZip SaysObjectComponent (map event_of events.items) components.items) }
+{
+    let mut components = Vec::new(alloc);
+    for event in events {
+        components.push(ObjectComponent::of(alloc, event)?)?;
+    }
+    Ok(components)
+}

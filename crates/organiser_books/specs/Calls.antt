@@ -1,0 +1,31 @@
+-- What the calls of an organiser take, answer and refuse.
+use Rattle.std.specs.Prelude.{◌≡◌, ◌≢◌, ℕ, Bool, ◌||◌, ◌==◌, List, map, Some}
+use Rattle.ical_values.specs.Octets.{address_octets}
+use Rattle.profile.specs.faults.Faults.{is_organiser_fault}
+use Rattle.profile.specs.organisers.Objects.{Operation, OrganiserObject}
+use Rattle.profile.specs.organisers.Organisers.{OrganiserBook, Sent, Stored, StateFault, last_store}
+use Rattle.organiser_books.specs.declared.outgoing.Outgoing.{Outgoing}
+
+-- what an organiser sends
+abbrev pub sent_of : Outgoing → Sent
+sent_of outgoing = record { to = map address_octets outgoing.to.items; octets = outgoing.octets.items }
+
+-- an organiser of this address, which keeps this book, takes the object by the call for this operation
+pub record MayTake (operation : Operation) (address : List ℕ) (said : OrganiserObject) (book : OrganiserBook) : Type 0 where
+  pub kind : said.operation ≡ operation
+  pub organiser : said.organiser ≡ address
+  pub allowed : (n : ℕ) → StateFault said book n → ⊥
+
+-- and refuses it by that call: it is of another kind, or to another organiser, or a fault stands in it beside what is kept
+pub data CallFault (operation : Operation) (address : List ℕ) (said : OrganiserObject) (book : OrganiserBook) : ℕ → Type 0 where
+  other_kind : said.operation ≢ operation → CallFault operation address said book 60
+  other_organiser : said.organiser ≢ address → CallFault operation address said book 70
+  in_state : {n : ℕ} → said.operation ≡ operation → said.organiser ≡ address → StateFault said book n → CallFault operation address said book n
+
+-- their numbers
+abbrev pub is_call_fault : ℕ → Bool
+is_call_fault n = n == 60 || is_organiser_fault n
+
+-- a REFRESH is answered so: with what was made of the last store
+abbrev pub AnswersRefresh : OrganiserObject → OrganiserBook → List ℕ → Type 0
+AnswersRefresh said book octets = (stored : Stored) × (last_store said.uid book ≡ Some stored) × (octets ≡ stored.object)

@@ -1,0 +1,67 @@
+use Rattle.std.proofs.Common.{◌+◌, ◌∙◌, refl, subst}
+use Rattle.std.proofs.lemmas.Result.{err_from_is_err_and}
+use Rattle.sched_box.specs.Objects.{ReadsObject}
+use Rattle.sched_box.proofs.ServingLemmas.{forgotten_at, unsent, served_more, served_all, answered_from}
+use Rattle.sched_box.proofs.serving.serve_objects.Goals as goal
+
+pub returns-in_err-refused-clause-serves : goal.returns-in_err-refused-clause-serves
+returns-in_err-refused-clause-serves g c =
+    let olds = c.args.books.now in
+    let news = c.loop-answers.books in
+    let b = g.R.Input.remaining c.loop-answers.reader in
+    let d = g.R.Input.remaining c.next_object.new.reader in
+    let before = c.loop-answers.objects in
+    let after = c.next_object.new.self in
+    let reads = subst (ReadsObject b d before after) c.if-branch.true c.in_ok-next_object.ensures.reads in
+    let p = err_from_is_err_and c.from_residual-in_err-refused.result c.from_residual-in_err-refused.ensures.1 in
+    rw (p.1, p.2)
+    (forgotten_at c.args.now olds news (g.R.Input.remaining c.args.reader.now) b d (g.W.Output.contents c.args.writer.now) (g.W.Output.contents c.loop-answers.writer) before after c.loop-answers.report _ c.loop-answers.invariant.0 reads c.in_err-refused.ensures.memory)
+
+pub returns-in_err-send-clause-serves : goal.returns-in_err-send-clause-serves
+returns-in_err-send-clause-serves g c =
+    let olds = c.args.books.now in
+    let news = c.loop-answers.books in
+    let newer = c.take.new.self in
+    let b = g.R.Input.remaining c.loop-answers.reader in
+    let d = g.R.Input.remaining c.next_object.new.reader in
+    let before = c.loop-answers.objects in
+    let after = c.next_object.new.self in
+    let number = c.loop-answers.report.objects + 1 in
+    let sent = c.as_slice.result.now in
+    let one = c.in_ok-refused.refused in
+    let reads = subst (ReadsObject b d before after) c.if-branch.true c.in_ok-next_object.ensures.reads in
+    let answers = answered_from c.args.now number after.octets.items c.octets.result.now news newer c.clear.new.self.items c.take.new.answers.items sent one c.clear.ensures.items c.as_slice.ensures.value c.octets.ensures c.in_ok-refused.ensures.answers in
+    let p = err_from_is_err_and c.from_residual-in_err-send.result c.from_residual-in_err-send.ensures.1 in
+    rw (p.1, p.2)
+    (unsent c.args.now olds news newer (g.R.Input.remaining c.args.reader.now) b d (g.W.Output.contents c.args.writer.now) (g.W.Output.contents c.loop-answers.writer) (g.W.Output.contents c.send.new.writer) (g.W.Output.has_failed c.send.new.writer) before after c.loop-answers.report number one sent _
+    c.loop-answers.invariant.0 reads refl answers c.in_err-send.ensures.stops)
+
+pub loop-answers-preserved : goal.loop-answers-preserved
+loop-answers-preserved g c =
+    let olds = c.args.books.now in
+    let news = c.loop-answers.books in
+    let newer = c.take.new.self in
+    let b = g.R.Input.remaining c.loop-answers.reader in
+    let d = g.R.Input.remaining c.next_object.new.reader in
+    let before = c.loop-answers.objects in
+    let after = c.next_object.new.self in
+    let number = c.loop-answers.report.objects + 1 in
+    let sent = c.as_slice.result.now in
+    let one = c.in_ok-refused.refused in
+    let reads = subst (ReadsObject b d before after) c.if-branch.true c.in_ok-next_object.ensures.reads in
+    let answers = answered_from c.args.now number after.octets.items c.octets.result.now news newer c.clear.new.self.items c.take.new.answers.items sent one c.clear.ensures.items c.as_slice.ensures.value c.octets.ensures c.in_ok-refused.ensures.answers in (
+      served_more c.args.now olds news newer (g.R.Input.remaining c.args.reader.now) b d (g.W.Output.contents c.args.writer.now) (g.W.Output.contents c.loop-answers.writer) (g.W.Output.contents c.send.new.writer) before after c.loop-answers.report _ number one sent
+          c.loop-answers.invariant.0 reads refl answers c.in_ok-refused.ensures.count c.in_ok-refused.ensures.addresses c.in_ok-send.ensures.written refl refl,
+      c.in_ok-next_object.ensures.mark ∙ c.loop-answers.invariant.1,
+      c.in_ok-send.ensures.sent ∙ c.loop-answers.invariant.2,
+    )
+
+pub returns-clause-serves : goal.returns-clause-serves
+returns-clause-serves g c =
+    let b = g.R.Input.remaining c.loop-answers.reader in
+    let d = g.R.Input.remaining c.next_object.new.reader in
+    let before = c.loop-answers.objects in
+    let after = c.next_object.new.self in
+    let none = subst (ReadsObject b d before after) c.if-branch.false c.in_ok-next_object.ensures.reads in
+    served_all c.args.now c.args.books.now c.loop-answers.books (g.R.Input.remaining c.args.reader.now) b d (g.W.Output.contents c.args.writer.now) (g.W.Output.contents c.loop-answers.writer) before after c.loop-answers.report
+    c.loop-answers.invariant.0 none
