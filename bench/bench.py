@@ -15,6 +15,7 @@ import time
 from datetime import datetime, timedelta
 
 ROOM = "mailto:r{}@example.com"
+ACCEPTED, SENT = b"PARTSTAT=ACCEPTED", b"METHOD:REQUEST"
 FIRST = datetime(2025, 1, 6)
 REQUEST = """BEGIN:VCALENDAR
 VERSION:2.0
@@ -341,10 +342,28 @@ def cancelled_one_by_one(count):
         yield crlf(cancel.format(number=0, room=ROOM.format(0), start=start, extra=f"RECURRENCE-ID:{start}\n"))
 
 
-def after(program, pieces, accepted, first, first_accepted):
+def stores(count, people=1):
+    """So many meetings that one organiser stores, each for so many people."""
+    store = REQUEST.replace("METHOD:REQUEST\n", "")
+    lines = "".join(f"ATTENDEE:{ROOM.format(person)}\n" for person in range(1, people))
+    yield b"now 20250102T000000Z\norganiser mailto:ann@example.com\n\n"
+    for number in range(count):
+        yield crlf(store.format(number=number, room=ROOM.format(0), start=stamp(number), extra=lines))
+
+
+def replies(count, people):
+    """And a reply to each meeting of each of the people."""
+    yield from stores(count, people)
+    reply = REQUEST.replace("METHOD:REQUEST", "METHOD:REPLY").replace("ATTENDEE:", "ATTENDEE;PARTSTAT=ACCEPTED:")
+    for number in range(count):
+        for person in range(people):
+            yield crlf(reply.format(number=number, room=ROOM.format(person), start=stamp(number), extra=""))
+
+
+def after(program, pieces, accepted, first, first_accepted, word=ACCEPTED):
     """The seconds that a stream takes beyond those of its first part."""
-    whole, peak, size = serve(program, pieces, accepted)
-    part, _, _ = serve(program, first, first_accepted)
+    whole, peak, size = serve(program, pieces, accepted, word)
+    part, _, _ = serve(program, first, first_accepted, word)
     return max(whole - part, 1e-3), peak, size
 
 
@@ -360,13 +379,14 @@ def run(words, stream, folder=None):
         return seconds, usage.ru_maxrss * 1024, child.returncode, output.read()
 
 
-def serve(program, pieces, accepted):
+def serve(program, pieces, accepted, word=ACCEPTED):
+    """Seconds, peak octets and the size of a stream, whose answers have the word so often and refuse nothing."""
     with tempfile.TemporaryFile() as stream:
         size = sum(stream.write(piece) for piece in pieces)
         stream.seek(0)
         seconds, peak, status, output = run([program, "serve"], stream)
-    if status != 0 or output.count(b"PARTSTAT=ACCEPTED") != accepted:
-        sys.exit(f"serve: status {status}, {output.count(b'PARTSTAT=ACCEPTED')} accepted of {accepted}")
+    if status != 0 or output.count(word) != accepted or b"REFUSED" in output:
+        sys.exit(f"serve: status {status}, {output.count(word)} times {word} in place of {accepted}")
     return seconds, peak, size
 
 
@@ -536,6 +556,12 @@ def main():
     grown("a third cancels, a third revisions, a third repeats", (10_000, 100_000), changed, None)
     revised = lambda count: serve(program, overridden(count), count + 1 + REVISIONS)
     grown("overrides, one revised 1,000 times", (MOST_OVERRIDES // 10, MOST_OVERRIDES), revised, REVISIONS)
+    grown("stores of one organiser", (1_000, 10_000), lambda count: serve(program, stores(count), count, SENT), None)
+    replied = lambda count: after(program, replies(count, 1), count, stores(count), count, SENT)
+    grown("replies to them", (1_000, 10_000), replied, None)
+    replied = lambda count: after(program, replies(1, count), 1, stores(1, count), 1, SENT)
+    grown("replies of as many people to one store", (1_000, 10_000), replied, None)
+    grown("people of one store", (2_500, 25_000), lambda count: serve(program, stores(1, count), 1, SENT), None)
     grown("objects of 1 MB with folded lines", (20,), lambda count: serve(program, large_objects(count), count), "octets")
     grown("singles checked", (100_000, 1_000_000), lambda count: check(program, calendar(count), count), "octets")
     days = lambda count: check(program, calendar_of_days(count), count * (DAYS - 1))

@@ -2,6 +2,8 @@
 
     python3 bench/reading_paths.py [FILE.name ..]
 
+where FILE is as in `streams/Streams`.
+
 Without names: the three paths of docs/DEFINITIONS.md, a line a file, in the order in which the files stand on each other. A definition is a block
 between empty lines, its comment with it; it stands on the names of profile that its text has. Lines that are empty, and imports, aren't counted.
 """
@@ -13,7 +15,7 @@ from pathlib import Path
 from repository import ROOT
 
 SPECS = ROOT / "crates" / "profile" / "specs"
-IMPORT = re.compile(r"^use Rattle\.profile\.specs\.(?:\w+\.)?(\w+)\.\{([^}]*)\}", re.MULTILINE)
+IMPORT = re.compile(r"^use Rattle\.profile\.specs\.([\w.]+)\.\{([^}]*)\}", re.MULTILINE)
 # in a module with parameters a definition is indented
 DEFINED = re.compile(r"^ *(?:pub )?(?:abbrev|data|record)(?: pub)? (\w+)", re.MULTILINE)
 CONSTRUCTOR = re.compile(r"^ +(\w+) :", re.MULTILINE)
@@ -22,7 +24,7 @@ WORD = re.compile(r"[A-Za-z_]\w*")
 PATHS = {
     "the checker's yes": ["Headline.YesMeansFree"],
     "the headline": ["Headline.KeptTextsPass", "Headline.YesMeansFree", "Headline.AcceptedWhereClear"],
-    "all of what serve writes": ["Streams.AnswersStream", "First.text_fault"],
+    "all of what serve writes": ["streams/Streams.AnswersStream", "faults/First.text_fault"],
 }
 
 
@@ -33,7 +35,7 @@ class File:
         text = path.read_text(encoding="utf-8")
         self.imports = {}
         for module, names in IMPORT.findall(text):
-            self.imports |= {name.strip(): module for name in names.split(",")}
+            self.imports |= {name.strip(): module.replace(".", "/") for name in names.split(",")}
         self.blocks, self.named = [], {}
         for block in text.split("\n\n"):
             lines = [line for line in block.split("\n") if line.strip() and not line.startswith("use ")]
@@ -72,7 +74,7 @@ def below(files, module):
 
 
 def main():
-    files = {path.stem: File(path) for path in sorted(SPECS.rglob("*.antt")) if path.stem[0].isupper() and path.stem != "Lib"}
+    files = {str(path.relative_to(SPECS).with_suffix("")): File(path) for path in sorted(SPECS.rglob("*.antt")) if path.stem[0].isupper() and path.stem != "Lib"}
     order = list(dict.fromkeys(module for name in files for module in below(files, name)))
     paths = {"the names given": sys.argv[1:]} if sys.argv[1:] else PATHS
     for path, names in paths.items():

@@ -23,6 +23,7 @@ pub mod ObjectFaults
 pub mod OneInstance
 pub mod OneMeeting
 pub mod MeetingLemmas
+mod SlotLemmas
 pub mod OneZoned
 pub mod TimesLemmas
 pub mod ZoneTables

@@ -1,14 +1,13 @@
 -- The event with its instances that an object says, or the fault that stands there.
-use Rattle.std.proofs.Common.{◌≡◌, ◌≢◌, ◌∙◌, ℕ, zero, suc, ◌<◌, Bool, true, false, ◌&&◌, cond, List, [], ◌∷◌, ◌++◌, length, map, filter, get_or, append-nil, sym, ap, subst, refl, inl, inr, arith, ℤ, pos, ◌||◌}
+use Rattle.std.proofs.Common.{◌≡◌, ◌∙◌, ℕ, zero, suc, ◌<◌, Bool, true, false, ◌&&◌, cond, List, [], ◌∷◌, ◌++◌, length, map, filter, append-nil, sym, ap, subst, refl, inl, inr, arith, ℤ, ◌||◌}
 use Rattle.std.specs.Option.{option_to_list}
-use Rattle.std.specs.Prelude.{Option, Some, None, Contains, AllPairs, unwrap_or, Result, Ok, Err, IfOk, IfErr}
+use Rattle.std.specs.Prelude.{Option, Some, None, Contains, unwrap_or, Result, Ok, Err, IfOk, IfErr}
 use Rattle.std.specs.List.{AllZip, list_all}
 use Rattle.std.proofs.lemmas.List.Folds.{list_all-map}
 use Rattle.std.specs.Str.{bytes_eq}
 use Rattle.std.specs.Result.{IsErrAnd}
 use Rattle.std.proofs.lemmas.Bool.{true≢false, and_parts}
-use Rattle.std.proofs.lemmas.Option.{same_Some}
-use Rattle.std.proofs.lemmas.List.{get_or-map, length-map, map-append}
+use Rattle.std.proofs.lemmas.List.{map-append}
 use Rattle.std.proofs.lemmas.List.Elements.{filter-append}
 use Rattle.std.proofs.lemmas.Slice.Eq.{bytes_eq-Decides}
 use Rattle.ical_lines.specs.Fault.{RefusesBy, RefusesOnly}
@@ -26,7 +25,7 @@ use Rattle.profile.specs.events.Events.{Event, SaysEvent, meeting_said, Method}
 use Rattle.profile.specs.events.Meetings.{Meeting, taken_by, is_same_meeting, is_master, is_override, is_meeting_fault, AreOfOne, InstancesDiffer, SaysMeeting, SpellsMeeting, MeetingFault, in_event, two_masters, two_overrides, no_event, two_meetings, MeetingTextFault, in_lines, in_tree, no_version, many_events, in_vevents}
 use Rattle.cal_events.specs.Events.{event_of, IsFaultAmong}
 use Rattle.cal_events.specs.declared.component.EventComponent.{EventComponent}
-use Rattle.cal_events.specs.Meetings.{instants_said, IsNotOne}
+use Rattle.cal_events.specs.Meetings.{instants_said, IsNotOne, SharesSlot}
 use Rattle.cal_events.specs.SaidMeetings.{said_meeting}
 use Rattle.cal_events.specs.declared.event.Event as declared
 use Rattle.cal_events.proofs.ObjectFaults.{no_object}
@@ -80,24 +79,10 @@ components_one cs first others e h =
     subst (λ (l : List EventComponent). AreOfOne (map event_of l)) (sym e)
     (are_of_one (event_of first) (map event_of others) (list_all-map (is_same_meeting (event_of first)) event_of others ∙ sym h))
 
--- ---- instants
-
-some_differ : (ts : List ℤ) → AllPairs ◌≢◌ (map Some ts) → AllPairs ◌≢◌ ts
-some_differ ts h i j d lt w e =
-    h i j (Some d) lt (omega (arith, length-map ts (λ (t : ℤ). Some t), w))
-    (get_or-map Some ts i d (Some d) (omega (arith, lt, w)) ∙ ap Some e ∙ sym (get_or-map Some ts j d (Some d) w))
-
-differ_some : (ts : List ℤ) → AllPairs ◌≢◌ ts → AllPairs ◌≢◌ (map Some ts)
-differ_some ts h i j d lt w e =
-    let l : length (map Some ts) ≡ length ts = length-map ts Some in
-    let below : j < length ts = omega (arith, l, w) in
-    h i j (pos 0) lt below
-    (same_Some (get_or ts i (pos 0)) (get_or ts j (pos 0)) (sym (get_or-map Some ts i (pos 0) d (omega (arith, lt, below))) ∙ e ∙ get_or-map Some ts j (pos 0) d below))
-
 -- ---- components divided
 
 -- one more of a list that is filtered
-filter_push : (p : Event → Bool) (ys : List EventComponent) (x : EventComponent) → filter p (map event_of (ys ++ x ∷ [])) ≡ filter p (map event_of ys) ++ cond (p (event_of x)) (event_of x ∷ []) []
+pub filter_push : (p : Event → Bool) (ys : List EventComponent) (x : EventComponent) → filter p (map event_of (ys ++ x ∷ [])) ≡ filter p (map event_of ys) ++ cond (p (event_of x)) (event_of x ∷ []) []
 filter_push p ys x = ap (filter p) (map-append event_of ys (x ∷ [])) ∙ filter-append p (map event_of ys) (event_of x ∷ [])
 
 pub pushed : (p : Event → Bool) (ys os new : List EventComponent) (x : EventComponent) → p (event_of x) ≡ true → filter p (map event_of ys) ≡ map event_of os → new ≡ os ++ x ∷ []
@@ -137,26 +122,21 @@ module _ (object : Tree) (vs : List (List (List ℕ))) (same : vevents object �
         subst (MeetingFault object m) (sym is) (no_event (none_said object m (vevents object) (subst (λ (es : List Event). AllZip (SaysEvent object m) (vevents object) es) none said)))
     not_one_there n (inr (is, not)) = subst (MeetingFault object m) (sym is) (two_meetings events said not)
 
-    pub masters_there : (n : ℕ) → (n ≡ 53) × (1 < length (filter is_master (taken_by m events))) → MeetingFault object m n
-    masters_there n (is, more) = subst (MeetingFault object m) (sym is) (two_masters events said more)
+    pub slot_there : (n : ℕ) → SharesSlot (taken_by m events) n → MeetingFault object m n
+    slot_there n (inl (is, more)) = subst (MeetingFault object m) (sym is) (two_masters events said more)
+    slot_there n (inr (is, twins)) = subst (MeetingFault object m) (sym is) (two_overrides events said twins)
 
-    module _ (overrides : List Event) (instants : List ℤ) (kept : filter is_override (taken_by m events) ≡ overrides) (of_them : map Some instants ≡ instants_said overrides) where
-      pub twins_there : (AllPairs ◌≢◌ instants → ⊥) → MeetingFault object m 54
-      twins_there not =
-          two_overrides events said
-          (λ differ. not (some_differ instants (subst (λ (os : List (Option ℤ)). AllPairs ◌≢◌ os) (sym of_them) (subst InstancesDiffer kept differ))))
-
-      pub meeting_there : (whole : Meeting) → 0 < length events → AreOfOne events → filter is_master (taken_by m events) ≡ option_to_list whole.master → whole.overrides ≡ overrides
-          → AllPairs ◌≢◌ instants → SaysMeeting object m whole
-      meeting_there whole some one master rest differ = record {
-        events = events;
-        says = said;
-        some = some;
-        one = one;
-        master = master;
-        overrides = kept ∙ sym rest;
-        differ = subst InstancesDiffer (sym rest) (subst (λ (os : List (Option ℤ)). AllPairs ◌≢◌ os) of_them (differ_some instants differ));
-      }
+    pub meeting_there : (whole : Meeting) → 0 < length events → AreOfOne events → filter is_master (taken_by m events) ≡ option_to_list whole.master
+        → filter is_override (taken_by m events) ≡ whole.overrides → InstancesDiffer (filter is_override (taken_by m events)) → SaysMeeting object m whole
+    meeting_there whole some one master overrides differ = record {
+      events = events;
+      says = said;
+      some = some;
+      one = one;
+      master = master;
+      overrides = overrides;
+      differ = subst InstancesDiffer overrides differ;
+    }
 
 -- the numbers of what stands between them
 pub not_one_number : (events : List Event) (n : ℕ) → IsNotOne events n → is_meeting_fault n ≡ true

@@ -1,6 +1,6 @@
 //! The VEVENTs of one meeting (RFC 5545 3.8.4.4, RFC 5546 3.2): of one UID and one ORGANIZER, and each of another slot of it.
 
-ghost use Rattle.std.specs.Prelude.{◌≡◌, ◌≢◌, ◌<◌, ◌≤◌, Some, List, AllPairs, length, map, filter, option_map, IfOk, IfErr, OnOk, MatchBool};
+ghost use Rattle.std.specs.Prelude.{◌≡◌, ◌<◌, ◌≤◌, Some, List, length, map, filter, option_map, IfOk, IfErr, OnOk};
 ghost use Rattle.std.specs.Option.{option_to_list};
 ghost use Rattle.std.specs.List.{list_all, AllZip};
 ghost use Rattle.ical_lines.specs.Fault.{RefusesOnly, RefusesBy};
@@ -47,11 +47,8 @@ impl MeetingComponents {
         let components = read_events(alloc, object, purpose)?;
         judge_meeting(&components)?;
         let taken = taken_for(alloc, purpose, components)?;
+        judge_slots(alloc, &taken)?;
         let divided = MeetingComponents::of(alloc, taken)?;
-        let twins = has_twins(alloc, &divided.instants)?;
-        if twins {
-            return Err(Fault::Refused(Refusal::TWO_OVERRIDES));
-        }
         Ok(divided)
     }
 
@@ -70,16 +67,18 @@ impl MeetingComponents {
         ensures refuses { IfErr result (RefusesOnly is_components_fault) }
         ensures stands { ((events : List Event) → taken_by (method_read purpose) events ≡ events) → IfErr result (RefusesBy (MeetingFault (tree_of object.now) (method_read purpose))) }
     {
-        Err(Fault::Memory)
+        let components = read_events(alloc, object, purpose)?;
+        judge_meeting(&components)?;
+        judge_slots(alloc, &components)?;
+        Ok(components)
     }
 
-    /// These, divided by RECURRENCE-ID.
-    /// Refused: 53 for two without RECURRENCE-ID.
-    fn of(alloc: Global, components: Vec<EventComponent>) -> Result<MeetingComponents, Fault>
+    /// These, divided by RECURRENCE-ID, which one of them at most may lack. It fails only for memory.
+    fn of(alloc: Global, components: Vec<EventComponent>) -> Result<MeetingComponents, AllocError>
+        requires masters { length (filter is_master (map event_of components.items)) ≤ 1 }
         ensures master { IfOk result (λ d. filter is_master (map event_of components.items) ≡ option_to_list (option_map event_of d.master)) }
         ensures overrides { IfOk result (λ d. filter is_override (map event_of components.items) ≡ map event_of d.overrides.items) }
         ensures instants { IfOk result (λ d. map Some d.instants.items ≡ instants_said (map event_of d.overrides.items)) }
-        ensures stands { IfErr result (RefusesBy (λ n. (n ≡ 53) × (1 < length (filter is_master (map event_of components.items))))) }
     {
         let mut masters = Vec::new(alloc);
         let mut overrides = Vec::new(alloc);
@@ -91,9 +90,6 @@ impl MeetingComponents {
             } else {
                 masters.push(component)?;
             }
-        }
-        if masters.len() > 1 {
-            return Err(Fault::Refused(Refusal::TWO_MASTERS));
         }
         let master = masters.pop();
         Ok(MeetingComponents {
@@ -188,11 +184,26 @@ fn is_same_meeting(a: &EventComponent, b: &EventComponent) -> bool
     a.uid.as_str() == b.uid.as_str() && a.organiser_text() == b.organiser_text()
 }
 
-/// Whether two of the instants are one. In time n log n; it fails only for memory.
-fn has_twins(alloc: Global, instants: &[i64]) -> Result<bool, AllocError>
-    ensures { IfOk result (λ twins. MatchBool twins (AllPairs ◌≢◌ instants.now → ⊥) (AllPairs ◌≢◌ instants.now)) }
+/// Refuses components of which two are of one slot of their meeting. In time n log n.
+/// Refused: 53 for two without RECURRENCE-ID, 54 for two that stand for one instance.
+fn judge_slots(alloc: Global, components: &[EventComponent]) -> Result<(), Fault>
+    ensures masters { OnOk result (length (filter is_master (map event_of components.now)) ≤ 1) }
+    ensures differ { OnOk result (InstancesDiffer (filter is_override (map event_of components.now))) }
+    ensures stands { IfErr result (RefusesBy (SharesSlot (map event_of components.now))) }
 {
-    let mut copy = Vec::new(alloc);
-    copy.extend_from_slice(instants)?;
-    Ok(Instants::of(copy).has_twins())
+    let mut masters: usize = 0;
+    let mut instants = Vec::new(alloc);
+    for component in components {
+        match component.recurrence {
+            Some(instant) => instants.push(instant)?,
+            None => masters += 1,
+        }
+    }
+    if masters > 1 {
+        return Err(Fault::Refused(Refusal::TWO_MASTERS));
+    }
+    if Instants::of(instants).has_twins() {
+        return Err(Fault::Refused(Refusal::TWO_OVERRIDES));
+    }
+    Ok(())
 }

@@ -17,10 +17,10 @@ const ANSWERS: &str =
     "BEGIN:VCALENDAR\r\nVERSION:2.0\r\nPRODID:-//iTIP room box//EN\r\nMETHOD:REPLY\r\nBEGIN:VEVENT\r\n\
     UID:a\r\nSEQUENCE:0\r\nDTSTAMP:20250102T000000Z\r\nORGANIZER:mailto:ann@example.com\r\n\
     ATTENDEE;PARTSTAT=ACCEPTED:mailto:r1@example.com\r\nREQUEST-STATUS:2.0;Success\r\nEND:VEVENT\r\nEND:VCALENDAR\r\n\
-    REFUSED;OBJECT=2:99\r\n";
+    REFUSED;OBJECT=2:66\r\n";
 
 /// The answer to the second object.
-const REFUSED: &str = "REFUSED;OBJECT=2:99\r\n";
+const REFUSED: &str = "REFUSED;OBJECT=2:66\r\n";
 
 /// Calls that fail: so many, one after another, from one call on, counted from 1.
 #[derive(Clone, Copy)]

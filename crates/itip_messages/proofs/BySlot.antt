@@ -45,7 +45,7 @@ given R (Some l) None h b = absurd b
 given R None (Some v) h b = absurd b
 given R (Some l) (Some v) h b = refl
 
-organised : (object : Tree) (m : Method) (vs : List Lines) (es : List Event) → AllZip (SaysEvent object (Some m)) vs es → All (λ e. is_some e.organiser ≡ true) es
+pub organised : (object : Tree) (m : Method) (vs : List Lines) (es : List Event) → AllZip (SaysEvent object (Some m)) vs es → All (λ e. is_some e.organiser ≡ true) es
 organised object m [] [] z = All-nil (λ e. is_some e.organiser ≡ true)
 organised object m [] (e ∷ es) z = absurd z
 organised object m (v ∷ vs) [] z = absurd z
@@ -53,7 +53,7 @@ organised object m (v ∷ vs) (e ∷ es) z =
     let s = z.0.organiser in
     All-cons (λ (e : Event). is_some e.organiser ≡ true) e es (given _ s.line e.organiser (s.stands refl) s.is) (organised object m vs es z.1)
 
-stamped : (object : Tree) (m : Method) (vs : List Lines) (es : List Event) → AllZip (SaysEvent object (Some m)) vs es → All (λ e. is_some e.stamp ≡ true) es
+pub stamped : (object : Tree) (m : Method) (vs : List Lines) (es : List Event) → AllZip (SaysEvent object (Some m)) vs es → All (λ e. is_some e.stamp ≡ true) es
 stamped object m [] [] z = All-nil (λ e. is_some e.stamp ≡ true)
 stamped object m [] (e ∷ es) z = absurd z
 stamped object m (v ∷ vs) [] z = absurd z
@@ -66,7 +66,7 @@ in_stamps : (r : Option ℤ) → ((t : ℤ) → r ≡ Some t → IsNamed t) → 
 in_stamps None h = tt
 in_stamps (Some t) h = let n = h t refl in (omega (arith, ints, n.0), omega (arith, ints, n.1))
 
-dated : (object : Tree) (m : Method) (vs : List Lines) (es : List Event) → AllZip (SaysEvent object (Some m)) vs es → All (λ e. IsDated (slot_of e)) es
+pub dated : (object : Tree) (m : Method) (vs : List Lines) (es : List Event) → AllZip (SaysEvent object (Some m)) vs es → All (λ e. IsDated (slot_of e)) es
 dated object m [] [] z = All-nil (λ e. IsDated (slot_of e))
 dated object m [] (e ∷ es) z = absurd z
 dated object m (v ∷ vs) [] z = absurd z
@@ -101,7 +101,7 @@ event_ready object m lines event s =
       listed = listed object _ event.additions s.occurrences.inside;
     }
 
-ready : (object : Tree) (m : Method) (vs : List Lines) (es : List Event) → AllZip (SaysEvent object (Some m)) vs es → All IsReady es
+pub ready : (object : Tree) (m : Method) (vs : List Lines) (es : List Event) → AllZip (SaysEvent object (Some m)) vs es → All IsReady es
 ready object m [] [] z = All-nil IsReady
 ready object m [] (e ∷ es) z = absurd z
 ready object m (v ∷ vs) [] z = absurd z

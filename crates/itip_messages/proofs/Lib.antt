@@ -31,9 +31,20 @@ pub mod WrittenMeetings
 pub mod SentParts
 pub mod RequestReads
 pub mod ShownReads
+pub mod OneMessage
 pub mod LineLemmas
+pub mod WrittenLines
+pub mod CancelLines
+pub mod CountedLines
+pub mod ZoneSets
+pub mod ZonesOnce
+pub mod NamedLines
+pub mod BodyContents
+pub mod MeetingLines
 pub mod BySlot
 pub mod MessageLemmas
+pub mod ObjectLemmas
+pub mod TreeLemmas
 pub mod AttendeeSearch
 mod Examples
 pub mod ReplyExamples

@@ -19,7 +19,8 @@ use Rattle.profile.specs.events.Events.{Event}
 use Rattle.profile.specs.events.Confirmed.{has_series}
 use Rattle.profile.specs.events.Meetings.{Meeting, events_of, SaysMeeting, MeetingFault}
 use Rattle.profile.specs.rooms.Messages as profile
-use Rattle.profile.specs.rooms.Messages.{SaysMessage, NamesMethod, MethodFault, bad_method, MessageFault, in_meeting, is_method}
+use Rattle.profile.specs.rooms.Messages.{NamesMethod, MethodFault, bad_method, MessageFault, in_meeting, for_organiser, is_method}
+use Rattle.profile.specs.organisers.Objects.{Operation, NamesOperation}
 use Rattle.profile.specs.rooms.Messages.{AreParts, AreBySlot, Content, no_content, IsPart, IsBody, IsContent, names_room, is_addressed, is_part_for, parts_for, own_revision, cancels, is_cancel, canonical}
 use Rattle.profile.specs.rooms.Revisions as revisions
 use Rattle.profile.specs.events.Properties.{StandsAtMostOnce}
@@ -40,6 +41,7 @@ use Rattle.itip_messages.specs.declared.room_message.Method.{Method}
 use Rattle.itip_messages.specs.declared.room_message.Method.TheVariants.{Request, Add, Cancel}
 use Rattle.itip_messages.specs.Bodies.{IsReady}
 use Rattle.itip_messages.specs.Messages.{method_said, purpose_of, IsDated, IsOfMessage, SaysComponent, event_slot, StandsFor, component_names, is_for, is_part_of, has_part, part_for}
+use Rattle.itip_messages.specs.OrganiserObjects.{IsOrganiserFault}
 use Rattle.itip_messages.specs.Readings.{WordFault}
 use Rattle.itip_messages.proofs.BySlot.{kept_by_slot}
 
@@ -68,35 +70,13 @@ pub in_message : (object : Tree) (method : Method) (purpose : Purpose) (meeting 
 in_message object method purpose meeting e says = subst (λ (m : Option events.Method). SaysMeeting object m meeting) (ap method_read e ∙ read_for method) says
 
 -- what the VEVENTs of a message are refused for
-pub meeting_stands : (object : Tree) (method : Method) (purpose : Purpose) (f : Fault) → NamesMethod (tree_own object) (method_said method) → purpose ≡ purpose_of method
-    → RefusesBy (MeetingFault object (method_read purpose)) f → RefusesBy (MessageFault object) f
-meeting_stands object method purpose Memory named e s = tt
-meeting_stands object method purpose (Refused r) named e s =
-    in_meeting (method_said method) named (subst (λ (m : Option events.Method). MeetingFault object m r.number) (ap method_read e ∙ read_for method) s)
+pub meeting_stands : (object : Tree) (method : events.Method) (f : Fault) → NamesMethod (tree_own object) method → RefusesBy (MeetingFault object (Some method)) f → RefusesBy (MessageFault object) f
+meeting_stands object method Memory named s = tt
+meeting_stands object method (Refused r) named s = in_meeting method named s
 
--- its numbers
-pub meeting_numbers : (f : Fault) → RefusesOnly is_components_fault f → RefusesOnly is_message_fault f
-meeting_numbers Memory h = tt
-meeting_numbers (Refused r) h =
-    wide (is_object_fault r.number) (is_meeting_event_fault r.number) (is_between 53 54 r.number) (eqb r.number 60) (eqb r.number 62) (eqb r.number 64) (eqb r.number 66) h
-  where
-    wide : (object event two method_ one attendee none : Bool) → (event || two || one || none) ≡ true → (object || event || two || method_ || one || attendee || none) ≡ true
-    wide true event two method_ one attendee none h = refl
-    wide false true two method_ one attendee none h = refl
-    wide false false true method_ one attendee none h = refl
-    wide false false false true one attendee none h = refl
-    wide false false false false true attendee none h = refl
-    wide false false false false false true none h = refl
-    wide false false false false false false true h = refl
-    wide false false false false false false false h = absurd (true≢false (sym h))
-
--- the object says the message
-pub message_said : (object : Tree) (own : Lines) (method : Method) (purpose : Purpose) (meeting : Meeting) → tree_own object ≡ own → NamesMethod own (method_said method)
-    → purpose ≡ purpose_of method → SaysMeeting object (method_read purpose) meeting → SaysMessage object (record { method = method_said method; meeting = meeting })
-message_said object own method purpose meeting mine named e says = record {
-  method = subst (λ (x : Lines). NamesMethod x (method_said method)) (sym mine) named;
-  says = in_message object method purpose meeting e says;
-}
+pub object_stands : (object : Tree) (operation : Operation) (f : Fault) → NamesOperation (tree_own object) operation → RefusesBy (IsOrganiserFault object operation) f → RefusesBy (MessageFault object) f
+object_stands object operation Memory named s = tt
+object_stands object operation (Refused r) named s = for_organiser (s named)
 
 -- ---- what is known of the VEVENTs of a meeting
 
@@ -104,7 +84,7 @@ pub some_itself : {A : Type 0} (o : Option A) → is_some o ≡ true → IsSome 
 some_itself None h = cc
 some_itself (Some x) h = refl
 
-some_of_map : {A B : Type 0} (f : A → B) (o : Option A) → is_some (option_map f o) ≡ true → IsSome o
+pub some_of_map : {A B : Type 0} (f : A → B) (o : Option A) → is_some (option_map f o) ≡ true → IsSome o
 some_of_map f None h = cc
 some_of_map f (Some x) h = refl
 

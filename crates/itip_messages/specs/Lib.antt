@@ -8,3 +8,5 @@ pub mod Meetings
 pub mod ReadBack
 pub mod SentBack
 pub mod Bodies
+pub mod Zoning
+pub mod BodyTexts

@@ -1,6 +1,6 @@
 -- What an object that comes to an organiser stands for, once it was read.
-use Rattle.std.specs.Prelude.{◌≡◌, ℕ, List, map, Some}
-use Rattle.std.specs.List.{AllZip}
+use Rattle.std.specs.Prelude.{◌≡◌, ℕ, true, false, List, map, Some}
+use Rattle.std.specs.List.{AllZip, list_all}
 use Rattle.profile.specs.text.Trees.{Tree, tree_own, vevents}
 use Rattle.profile.specs.events.Events.{Event}
 use Rattle.profile.specs.events.Meetings.{MeetingFault}
@@ -54,6 +54,10 @@ abbrev pub IsObjectOf : Tree → profile.Operation → OrganiserObject → Type 
 IsObjectOf object operation message =
     (said : profile.OrganiserObject) × (said.operation ≡ operation) × StandsForObject message said
     × (profile.NamesOperation (tree_own object) operation → profile.SaysOrganiserObject object said)
+
+-- an attendee speaks, and one of the events doesn't have one attendee
+abbrev pub IsNotOneEach : profile.Operation → List Event → ℕ → Type 0
+IsNotOneEach operation events n = (n ≡ 64) × (is_of_attendee operation ≡ true) × (list_all has_one_attendee events ≡ false)
 
 -- what can be wrong with the VEVENTs of an object, where it asks for this
 abbrev pub IsOrganiserFault : Tree → profile.Operation → ℕ → Type 0

@@ -1,5 +1,5 @@
 -- What a message that was read says, and why one is refused.
-use Rattle.std.specs.Prelude.{◌≡◌, ◌⊎◌, ℕ, true, false, List}
+use Rattle.std.specs.Prelude.{◌≡◌, ◌⊎◌, ℕ, true, false, List, codes}
 use Rattle.ical_lines.specs.Fault.{RefusesBy}
 use Rattle.ical_lines.specs.declared.fault.Fault.{Fault}
 use Rattle.ical_tree.specs.Reading.{Stands}
@@ -13,6 +13,8 @@ use Rattle.itip_messages.specs.Messages.{StandsFor, method_said}
 use Rattle.itip_messages.specs.OrganiserObjects.{StandsForObject, operation_said}
 use Rattle.itip_messages.specs.declared.message.Message.{Message}
 use Rattle.itip_messages.specs.declared.message.Message.TheVariants.{ToRooms, ToOrganiser}
+use Rattle.itip_messages.specs.declared.message.Kind.{Kind}
+use Rattle.itip_messages.specs.declared.message.Kind.TheVariants as kinds
 
 -- the object says a message, and it is that
 abbrev pub IsMessageOf : Tree → Message → Type 0
@@ -27,6 +29,22 @@ IsSpelled octets (ToOrganiser message) = (said : objects.OrganiserObject) × Spe
 -- out of memory, or a fault of the object or of what it says stands in the octets
 abbrev pub ReadFault : List ℕ → Fault → Type 0
 ReadFault octets fault = Stands true octets fault ⊎ RefusesBy (MessageTextFault octets) fault
+
+-- METHOD among the properties of a VCALENDAR says that it is of this kind
+abbrev pub NamesKind : List (List ℕ) → Kind → Type 0
+NamesKind own (kinds.ToRooms method) = NamesMethod own (method_said method)
+NamesKind own (kinds.ToOrganiser operation) = NamesOperation own (operation_said operation)
+
+-- the word of METHOD says that an attendee asks for this; no word says that a meeting is to be stored
+abbrev pub IsOperationWord : objects.Operation → List ℕ → Type 0
+IsOperationWord objects.Store word = ⊥
+IsOperationWord objects.Reply word = is_same_name word (codes "REPLY") ≡ true
+IsOperationWord objects.Refresh word = is_same_name word (codes "REFRESH") ≡ true
+
+-- the word of METHOD says that it is of this kind
+abbrev pub IsKindWord : List ℕ → Kind → Type 0
+IsKindWord word (kinds.ToRooms method) = is_same_name word (method_word (method_said method)) ≡ true
+IsKindWord word (kinds.ToOrganiser operation) = IsOperationWord (operation_said operation) word
 
 -- what is wrong with the word of a METHOD
 abbrev pub WordFault : List ℕ → ℕ → Type 0

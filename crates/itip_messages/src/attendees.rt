@@ -7,10 +7,12 @@ ghost use Rattle.std.specs.Cmp.Lexicographic.{slice_cmp};
 ghost use Rattle.std.specs.Str.{bytes_eq};
 ghost use Rattle.ical_values.specs.Octets.{address_octets};
 ghost use Rattle.cal_events.specs.Events.{attendee_of};
-ghost use Rattle.itip_messages.specs.Attendees.{octets_of};
+ghost use Rattle.profile.specs.organisers.Objects.{counted};
+ghost use Rattle.itip_messages.specs.Attendees.{line_said, octets_of};
 
 use cal_events::Attendee;
 use ical_values::Address;
+use indexmap::IndexSet;
 use std::alloc::{AllocError, Global};
 use std::marker::Model;
 
@@ -60,12 +62,33 @@ impl Attendees {
         &self.lines
     }
 
+    /// The lines that count: of several of one address the first. In time that grows with the lines.
+    pub fn counted(&self, alloc: Global) -> Result<Vec<&Attendee>, AllocError>
+        ensures { IfOk result (λ lines. map line_said lines.items ≡ counted self.now) }
+    {
+        counted_among(alloc, &self.lines)
+    }
+
     /// Whether one of them has this address.
     pub fn contains(&self, address: &Address) -> bool
         ensures { result ≡ list_any (λ a. bytes_eq a.address (address_octets address.now)) self.now }
     {
         is_among(&self.sorted, address)
     }
+}
+
+/// Of these lines those that count.
+fn counted_among(alloc: Global, lines: &[Attendee]) -> Result<Vec<&Attendee>, AllocError>
+    ensures { IfOk result (λ counting. map line_said counting.items ≡ counted (map attendee_of lines.now)) }
+{
+    let mut seen = IndexSet::new(alloc);
+    let mut counted = Vec::new(alloc);
+    for line in lines {
+        if seen.insert(line.address.as_str())? {
+            counted.push(line)?;
+        }
+    }
+    Ok(counted)
 }
 
 /// The address of each line, in order.

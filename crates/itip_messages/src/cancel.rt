@@ -1,8 +1,12 @@
 //! What an organiser sends to those whom it takes out of a meeting, and to all where it calls the meeting off: a CANCEL (RFC 5546 3.2.5).
-ghost use Rattle.std.specs.Prelude.{◌≡◌, OnOk, OnErr};
+ghost use Rattle.std.specs.Prelude.{◌≡◌, ◌++◌, map, OnOk, OnErr};
+ghost use Rattle.profile.specs.text.Lines.{written};
+ghost use Rattle.ical_values.specs.Octets.{address_octets};
 ghost use Rattle.ical_values.specs.Written.{Appends};
-ghost use Rattle.itip_messages.specs.Meetings.{IsCancelOf};
+ghost use Rattle.itip_messages.specs.Replies.{WritesLines};
+ghost use Rattle.itip_messages.specs.Meetings.{IsCancelEvent, IsCancelOf, attendee_lines};
 
+use crate::event_lines::{write_revision, write_status};
 use crate::writer::ObjectWriter;
 use ical_values::{Address, Text};
 use itip_order::Revision;
@@ -27,5 +31,35 @@ pub fn write_cancel(cancel: &Cancel<'_>, out: &mut Vec<u8>) -> Result<(), AllocE
     ensures ok { OnOk result (Appends out.old.items out.new.items (IsCancelOf cancel.now)) }
     ensures err { OnErr result (out.new.items ≡ out.old.items) }
 {
-    Err(AllocError)
+    let mut object = ObjectWriter::new(*out.allocator());
+    object.begin_calendar(Some("CANCEL"))?;
+    write_event(&mut object, cancel)?;
+    object.end_calendar()?;
+    let octets = object.finish();
+    out.extend_from_slice(octets.as_slice())?;
+    Ok(())
+}
+
+/// Its one VEVENT. On an error some of its lines may have been written.
+fn write_event(object: &mut ObjectWriter, cancel: &Cancel<'_>) -> Result<(), AllocError>
+    ensures { OnOk result (WritesLines object.old object.new (IsCancelEvent cancel.now)) }
+{
+    object.line("BEGIN:VEVENT")?;
+    object.uid(cancel.uid)?;
+    write_revision(object, cancel.revision)?;
+    write_status(object, cancel.called_off)?;
+    object.named("ORGANIZER:", cancel.organiser.as_str())?;
+    write_attendees(object, cancel.to)?;
+    object.line("END:VEVENT")?;
+    Ok(())
+}
+
+/// A line for each of these addresses. On an error some of them may have been written.
+fn write_attendees(object: &mut ObjectWriter, addresses: &[Address]) -> Result<(), AllocError>
+    ensures { OnOk result (object.new ≡ object.old ++ written (attendee_lines (map address_octets addresses.now))) }
+{
+    for address in addresses {
+        object.named("ATTENDEE:", address.as_str())?;
+    }
+    Ok(())
 }

@@ -1,12 +1,25 @@
 //! What octets say as a message, and what a reply or a refresh that was written reads back as.
 ghost use Rattle.std.specs.Prelude.{◌≡◌, ◌<◌, ◌^◌, ◌∷◌, [], ℕ, ℤ, List, Contains, Some, codes};
 ghost use Rattle.std.specs.List.{flat_map};
-ghost use Rattle.profile.specs.rooms.Messages.{IsRefreshEvent, IsReplyEvent, Message, Outcome, SpellsMessage, object_lines};
+ghost use Rattle.profile.specs.rooms.Messages.{IsRefreshEvent, IsReplyEvent, Outcome, object_lines};
 ghost use Rattle.profile.specs.rooms.Revisions.{Part};
 ghost use Rattle.profile.specs.text.Values.{IsUid};
 ghost use Rattle.profile.specs.text.Lines.{written};
-ghost use Rattle.profile.specs.streams.Streams.{ObjectFault};
+ghost use Rattle.profile.specs.streams.Streams.{ObjectFault, Said, Spells};
 ghost use Rattle.itip_messages.specs.ReadBack.{IsTextAddress, IsTextValue, IsReadAddress, IsAnswer, IsVevent, ReadsAs, SaysAnswer, SaysRefresh};
+
+use cal_events::one_event;
+use ical_tree::one_tree;
+
+/// Octets say at most one message, to rooms or to an organiser, and none where a fault stands in them. With the contract of `Message::read`: what
+/// is taken is the one message that the octets spell, and what is refused spells none (RFC 5545 3.4, RFC 5546 3.2.2 to 3.2.6, RFC 6638 3.2).
+pub fn one_message()
+    ensures one { (octets : List ℕ) (a b : Said) → Spells octets a → Spells octets b → a ≡ b }
+    ensures or_a_fault { (octets : List ℕ) (a : Said) (n : ℕ) → Spells octets a → ObjectFault n octets → ⊥ }
+{
+    one_tree();
+    one_event();
+}
 
 /// Whatever a room answers: the octets of its REPLY read as lines, and these spell one VCALENDAR of METHOD REPLY with
 /// a VEVENT for each answer, each with the very lines that were written (RFC 5545 3.1, 3.4, RFC 5546 3.2.3). Owed are

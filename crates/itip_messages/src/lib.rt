@@ -3,7 +3,9 @@
 
 mod attendees;
 mod body;
+mod body_text;
 mod cancel;
+mod event_lines;
 pub mod law;
 mod meeting_text;
 pub mod message;
@@ -14,11 +16,14 @@ pub mod reply;
 pub mod room_message;
 pub mod sent_law;
 pub mod writer;
+mod zones;
 
 pub use attendees::Attendees;
 pub use body::zone_lines;
+pub use body_text::write_body;
 pub use cancel::{Cancel, write_cancel};
-pub use law::{answers_read_back, refreshes_read_back, replies_read_back};
+pub use event_lines::write_slot;
+pub use law::{answers_read_back, one_message, refreshes_read_back, replies_read_back};
 pub use meeting_text::{AttendeeLines, MeetingText, write_meeting, write_request};
 pub use message::Message;
 pub use organiser_object::{ObjectComponent, Operation, OrganiserObject};
@@ -29,3 +34,4 @@ pub use sent_law::{
     cancels_read_back, requests_read_back, shown_reads_back, stored_texts_can_be_sent,
 };
 pub use writer::ObjectWriter;
+pub use zones::Zones;

@@ -7,12 +7,12 @@ ghost use Rattle.ical_tree.specs.Tree.{tree_of};
 ghost use Rattle.profile.specs.faults.Faults.{is_message_fault};
 ghost use Rattle.profile.specs.text.Lines.{line_value};
 ghost use Rattle.profile.specs.rooms.Messages.{MethodFault, MessageFault};
-ghost use Rattle.itip_messages.specs.Readings.{IsMessageOf, IsSpelled, ReadFault};
+ghost use Rattle.itip_messages.specs.Readings.{IsKindWord, IsMessageOf, IsSpelled, NamesKind, ReadFault, WordFault};
 
-use crate::organiser_object::OrganiserObject;
-use crate::room_message::RoomMessage;
-use ical_lines::Fault;
-use ical_tree::Component;
+use crate::organiser_object::{Operation, OrganiserObject};
+use crate::room_message::{Method, RoomMessage};
+use ical_lines::{Fault, Limits, Line, Refusal, Unfolded};
+use ical_tree::{Component, Properties, read_object};
 use std::alloc::Global;
 
 /// A message for VEVENT.
@@ -34,7 +34,9 @@ impl Message {
         ensures refuses { IfErr result (RefusesOnly is_message_fault) }
         ensures stands { IfErr result (ReadFault bytes.now) }
     {
-        Err(Fault::Memory)
+        let text = Unfolded::read(alloc, bytes, Limits::Message)?;
+        let object = read_object(alloc, &text, Limits::Message)?;
+        Message::of_object(alloc, &object)
     }
 
     /// The message that an object is.
@@ -44,6 +46,62 @@ impl Message {
         ensures refuses { IfErr result (RefusesOnly is_message_fault) }
         ensures stands { IfErr result (RefusesBy (MessageFault (tree_of object.now))) }
     {
-        Err(Fault::Memory)
+        let properties = Properties::of(alloc, object)?;
+        match Kind::of(&properties)? {
+            Kind::ToRooms(method) => Ok(Message::ToRooms(RoomMessage::read(
+                alloc, object, method,
+            )?)),
+            Kind::ToOrganiser(operation) => Ok(Message::ToOrganiser(OrganiserObject::read(
+                alloc, object, operation,
+            )?)),
+        }
+    }
+}
+
+/// What METHOD says that a message is.
+#[derive(Clone, Copy)]
+enum Kind {
+    ToRooms(Method),
+    ToOrganiser(Operation),
+}
+
+impl Kind {
+    /// By the properties of an object; without METHOD it is a store.
+    /// Refused: 60 for a word that names no method taken here, or two lines.
+    fn of(properties: &Properties<'_>) -> Result<Kind, Refusal>
+        ensures named { IfOk result (NamesKind properties.now) }
+        ensures refuses { IfErr result (λ e. IsTrue (is_message_fault e.number)) }
+        ensures stands { IfErr result (λ e. MethodFault properties.now e.number) }
+    {
+        match properties.optional("METHOD", Refusal::BAD_METHOD)? {
+            Some(line) => Kind::named(line),
+            None => Ok(Kind::ToOrganiser(Operation::Store)),
+        }
+    }
+
+    /// By the word of METHOD.
+    /// Refused: 60 for one that isn't taken here.
+    fn named(line: Line<'_>) -> Result<Kind, Refusal>
+        ensures named { IfOk result (IsKindWord (line_value (line_text line.entry))) }
+        ensures refuses { IfErr result (λ e. IsTrue (is_message_fault e.number)) }
+        ensures stands { IfErr result (λ e. WordFault (line_value (line_text line.entry)) e.number) }
+    {
+        let word = line.value();
+        if word.eq_ignore_ascii_case("REQUEST") {
+            return Ok(Kind::ToRooms(Method::Request));
+        }
+        if word.eq_ignore_ascii_case("ADD") {
+            return Ok(Kind::ToRooms(Method::Add));
+        }
+        if word.eq_ignore_ascii_case("CANCEL") {
+            return Ok(Kind::ToRooms(Method::Cancel));
+        }
+        if word.eq_ignore_ascii_case("REPLY") {
+            return Ok(Kind::ToOrganiser(Operation::Reply));
+        }
+        if word.eq_ignore_ascii_case("REFRESH") {
+            return Ok(Kind::ToOrganiser(Operation::Refresh));
+        }
+        Err(Refusal::BAD_METHOD)
     }
 }

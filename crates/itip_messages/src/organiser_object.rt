@@ -1,20 +1,24 @@
 //! What comes to an organiser: a meeting that it stores (RFC 6638 3.2.1), or an attendee's REPLY or REFRESH (RFC 5546 3.2.3, 3.2.6). The VEVENTs
 //! stay in the order of the text, in which they are sent.
-ghost use Rattle.std.specs.Prelude.{◌≡◌, ◌<◌, true, map, length, option_map, All, IfOk, IfErr, OnOk, IsSome};
+ghost use Rattle.std.specs.Prelude.{◌≡◌, true, map, Contains, IfOk, IfErr, OnOk, IsSome};
 ghost use Rattle.std.specs.List.{AllZip, list_all};
+ghost use Rattle.std.specs.Str.{bytes_eq};
 ghost use Rattle.ical_lines.specs.Fault.{RefusesOnly, RefusesBy};
 ghost use Rattle.ical_tree.specs.Tree.{tree_of};
 ghost use Rattle.profile.specs.faults.Faults.{is_message_fault};
-ghost use Rattle.profile.specs.organisers.Objects as profile;
-ghost use Rattle.profile.specs.organisers.Objects.{are_of_one, has_one_attendee, is_of_attendee};
+ghost use Rattle.profile.specs.organisers.Objects.{has_one_attendee, is_of_attendee};
+ghost use Rattle.ical_values.specs.Octets.{address_octets};
 ghost use Rattle.cal_events.specs.Events.{event_of};
+ghost use Rattle.cal_events.specs.declared.component.EventComponent.{EventComponent};
 ghost use Rattle.itip_messages.specs.Bodies.{IsReady};
 ghost use Rattle.itip_messages.specs.Messages.{IsDated, event_slot};
-ghost use Rattle.itip_messages.specs.OrganiserObjects.{IsObjectOf, IsOrganiserFault, SaysObjectComponent, operation_said, purpose_of};
+ghost use Rattle.itip_messages.specs.OrganiserObjects.{IsNotOneEach, IsObjectOf, IsOrganiserFault, SaysObjectComponent, operation_said, purpose_of};
 
 use crate::attendees::Attendees;
-use cal_events::{EventComponent, Purpose};
-use ical_lines::Fault;
+use crate::body::canonical_body;
+use crate::room_message::{name_of, own_revision, slot_in};
+use cal_events::{Attendee, EventComponent, MeetingComponents, Purpose};
+use ical_lines::{Fault, Refusal};
 use ical_tree::Component;
 use ical_values::{Address, Text};
 use itip_order::{Revision, Slot};
@@ -75,7 +79,18 @@ impl ObjectComponent {
         requires ready { IsReady (event_of event) }
         ensures { IfOk result (SaysObjectComponent (event_of event)) }
     {
-        Err(AllocError)
+        let canonical = canonical_body(alloc, &event)?;
+        let slot = slot_in(&event);
+        let revision = own_revision(&event);
+        let attendees = Attendees::of(alloc, event.attendees)?;
+        Ok(ObjectComponent {
+            slot,
+            revision,
+            cancelled: event.cancelled,
+            canonical,
+            summary: event.summary,
+            attendees,
+        })
     }
 }
 
@@ -104,6 +119,68 @@ impl OrganiserObject {
         ensures refuses { IfErr result (RefusesOnly is_message_fault) }
         ensures stands { IfErr result (RefusesBy (IsOrganiserFault (tree_of object.now) (operation_said operation))) }
     {
-        Err(Fault::Memory)
+        let events = MeetingComponents::read_in_order(alloc, object, operation.purpose())?;
+        judge_attendees(operation, &events)?;
+        let (organiser, uid) = name_of(&events)?;
+        let components = components_of(alloc, events)?;
+        Ok(OrganiserObject {
+            operation,
+            organiser,
+            uid,
+            components,
+        })
     }
+}
+
+/// Refuses VEVENTs in which an attendee speaks, where one doesn't have one attendee.
+/// Refused: 64 for such a VEVENT.
+fn judge_attendees(operation: Operation, events: &[EventComponent]) -> Result<(), Refusal>
+    ensures each { OnOk result (is_of_attendee (operation_said operation) ≡ true → list_all has_one_attendee (map event_of events.now) ≡ true) }
+    ensures stands { IfErr result (λ e. IsNotOneEach (operation_said operation) (map event_of events.now) e.number) }
+{
+    if operation.is_of_attendee() && !all_have_one(events) {
+        return Err(Refusal::NOT_ONE_ATTENDEE);
+    }
+    Ok(())
+}
+
+/// Whether each of some VEVENTs has one attendee.
+fn all_have_one(events: &[EventComponent]) -> bool
+    ensures { result ≡ list_all (λ event. has_one_attendee (event_of event)) events.now }
+{
+    events.iter().all(|event| has_one_attendee(event))
+}
+
+/// Whether a VEVENT has one attendee; several lines of one address are one.
+fn has_one_attendee(event: &EventComponent) -> bool
+    ensures { result ≡ has_one_attendee (event_of event.now) }
+{
+    match event.attendees.split_first() {
+        Some((first, others)) => are_all(first, others),
+        None => false,
+    }
+}
+
+/// Whether all the others have the address of the first.
+fn are_all(first: &Attendee, others: &[Attendee]) -> bool
+    ensures { result ≡ list_all (λ other. bytes_eq (address_octets other.address) (address_octets first.now.address)) others.now }
+{
+    others.iter().all(|other| other.address == first.address)
+}
+
+/// What some VEVENTs say, in their order. It fails only for memory.
+fn components_of(
+    alloc: Global,
+    events: Vec<EventComponent>,
+) -> Result<Vec<ObjectComponent>, AllocError>
+    requires stamped { (event : EventComponent) → Contains events.items event → IsSome event.stamp }
+    requires dated { (event : EventComponent) → Contains events.items event → IsDated (event_slot event) }
+    requires ready { (event : EventComponent) → Contains events.items event → IsReady (event_of event) }
+    ensures { IfOk result (λ components. AllZip SaysObjectComponent (map event_of events.items) components.items) }
+{
+    let mut components = Vec::new(alloc);
+    for event in events {
+        components.push(ObjectComponent::of(alloc, event)?)?;
+    }
+    Ok(components)
 }

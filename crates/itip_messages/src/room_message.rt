@@ -158,7 +158,8 @@ impl RoomMessage {
         ensures refuses { IfErr result (RefusesOnly is_message_fault) }
         ensures stands { IfErr result (RefusesBy (MeetingFault (tree_of object.now) (Some (method_said method)))) }
     {
-        Err(Fault::Memory)
+        let meeting = MeetingComponents::read(alloc, object, method.purpose())?;
+        Ok(RoomMessage::of(alloc, method, meeting)?)
     }
 
     /// The message of that method that the VEVENTs of a meeting are. In time n log n; it fails only for memory.

@@ -132,6 +132,15 @@ impl ObjectWriter {
         self.named("UID:", text.as_str())
     }
 
+    /// SUMMARY, with its escapes.
+    pub fn summary(&mut self, summary: &Text) -> Result<(), AllocError>
+        ensures ok { OnOk result (self.new ≡ self.old ++ folded (codes "SUMMARY:" ++ escaped (text_octets summary.now))) }
+        ensures err { OnErr result (self.new ≡ self.old) }
+    {
+        let text = escaped_text(self.alloc(), summary)?;
+        self.named("SUMMARY:", text.as_str())
+    }
+
     /// SEQUENCE, in digits.
     pub fn sequence(&mut self, sequence: Sequence) -> Result<(), AllocError>
         ensures ok { OnOk result (self.new ≡ self.old ++ folded (codes "SEQUENCE:" ++ decimal sequence)) }

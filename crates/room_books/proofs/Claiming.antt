@@ -11,8 +11,8 @@ use Rattle.std.proofs.lemmas.Int.{ints}
 use Rattle.std.proofs.lemmas.Option.{slice_get_within, unwrap_or-slice_get}
 use Rattle.ical_values.specs.Octets.{address_octets, text_octets}
 use Rattle.cal_events.proofs.InOneOrder.{head_pairs, tail_pairs}
-use Rattle.itip_messages.specs.declared.message.Message.{Message}
-use Rattle.itip_messages.specs.declared.message.MessageComponent.{MessageComponent}
+use Rattle.itip_messages.specs.declared.room_message.RoomMessage.{RoomMessage}
+use Rattle.itip_messages.specs.declared.room_message.MessageComponent.{MessageComponent}
 use Rattle.itip_messages.specs.Messages.{StandsFor, SaysComponent, IsDated, is_for, has_part, part_for}
 use Rattle.itip_messages.proofs.MessageLemmas.{addressed, body_is, part_said, kept_said, kept_components, kept_among, no_events}
 use Rattle.itip_order.specs.Parts.{part_of}
@@ -40,7 +40,7 @@ use Rattle.room_books.specs.declared.claim.Claim.{Claim}
 use Rattle.room_books.specs.Claiming.{series_asked, series_at, AreClaimed, IsClaimIn, IsSameSeries}
 use Rattle.room_books.specs.Takings.{body_content, booked_in, claim_said, claims_said}
 use Rattle.room_books.specs.Standing.{Pairwise, IsFitting, IsFittingSeries, IsText, IsOfSlot, SlotDated}
-use Rattle.room_books.proofs.Bodies.{body_of}
+use Rattle.itip_messages.proofs.BodyContents.{body_of}
 use Rattle.room_books.proofs.Loops.{zip_push, one_more}
 use Rattle.room_books.proofs.Meetings.{is_of_from}
 use Rattle.room_books.proofs.Pairs.{map_from}
@@ -151,7 +151,7 @@ module _ (event : Event) (timely : IsTimely event) (dated : IsDated (profile.slo
 
 -- ---- the claim of one component
 
-module _ (room : List ℕ) (message : Message) (given : profile.Message) (s : StandsFor message given) (event : Event) (component : MessageComponent) (among : Contains (events_of given.meeting) event)
+module _ (room : List ℕ) (message : RoomMessage) (given : profile.Message) (s : StandsFor message given) (event : Event) (component : MessageComponent) (among : Contains (events_of given.meeting) event)
     (says : SaysComponent given.method (option_map own_revision given.meeting.master) event component) (claim : Claim) (x : IsClaimIn room message component claim) where
   abbrev part : Part
   part = part_for room message component
@@ -280,18 +280,14 @@ module _ (room : List ℕ) (message : Message) (given : profile.Message) (s : St
   slot_there = ap (λ (p : Part). p.slot) x.part_is ∙ says.slot
 
   pub slot_dated : SlotDated (claim_said claim).part.slot
-  slot_dated = with_slot (claim_said claim).part.slot (subst IsDated (sym slot_there) says.dated)
-    where
-      with_slot : (o : Slot) → IsDated o → SlotDated o
-      with_slot Whole d = tt
-      with_slot (At t) d = d
+  slot_dated = subst IsDated (sym slot_there) says.dated
 
   pub name_there : (part_of claim.part).organiser ≡ address_octets message.organiser × (part_of claim.part).uid ≡ text_octets message.uid
   name_there = (ap (λ (p : Part). p.organiser) x.part_is, ap (λ (p : Part). p.uid) x.part_is)
 
 -- ---- all claims
 
-module _ (room : List ℕ) (message : Message) (given : profile.Message) (s : StandsFor message given) where
+module _ (room : List ℕ) (message : RoomMessage) (given : profile.Message) (s : StandsFor message given) where
   abbrev Says : Event → MessageComponent → Type 0
   Says = SaysComponent given.method (option_map own_revision given.meeting.master)
 

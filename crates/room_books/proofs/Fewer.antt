@@ -11,7 +11,7 @@ use Rattle.cal_events.specs.declared.instance.Single.{Single}
 use Rattle.room_books.specs.BySlot.{Reordered}
 use Rattle.room_books.specs.Views.{all_series, AreFewer, Recurs}
 use Rattle.room_books.specs.declared.meeting.Given.{Given}
-use Rattle.room_books.proofs.Loops.{flat_push}
+use Rattle.itip_messages.proofs.WrittenLines.{flat_push}
 use Rattle.room_books.proofs.Reordering.{re_back, re_flat, re_in, re_length, re_swapped}
 use Rattle.room_books.specs.BySlot.Reordered.{re_then}
 

@@ -238,8 +238,8 @@ asked_room room content part a named =
     let line = zip_from IsAttendee (lines_named (codes "ATTENDEE") m.lines) event.attendees found.0 m.says.attendees found.1 in
     let stands = (filter_at (is_of (codes "ATTENDEE")) m.lines line.0 line.1).0 in
     let value = line_value line.0 in
-    let address : IsAddress value = line.2.0.0 in
-    let is : room ≡ lower_case value = sym ((bytes_eq-Decides found.0.address room).0 found.2) ∙ line.2.0.1 in
+    let address : IsAddress value = line.2.address.0 in
+    let is : room ≡ lower_case value = sym ((bytes_eq-Decides found.0.address room).0 found.2) ∙ line.2.address.1 in
     record {
       text = subst IsTextAddress (sym is) (text_address value address (m.clean line.0 stands).utf8);
       lower = subst (λ (x : List ℕ). lower_case x ≡ x) (sym is) (lower_twice value);

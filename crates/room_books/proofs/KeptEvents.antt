@@ -34,7 +34,8 @@ hidden_event uid instant sequence organiser stamp room = record {
   rule = None;
   additions = [];
   exceptions = [];
-  attendees = record { address = room; participation = Declined } ∷ [];
+  summary = [];
+  attendees = record { address = room; participation = Declined; scheduled = true } ∷ [];
 }
 
 pub hidden_says : (uid_is : List ℕ) (instant : ℤ) (number : ℕ) (uid recurrence sequence stamp start organiser room : List ℕ) (stamped : ℤ) → SpellPart uid_is number uid sequence stamp organiser room stamped → SpellsStamp recurrence instant → SpellsStamp start instant → IsStart instant
@@ -66,12 +67,13 @@ hidden_says uid_is instant number uid recurrence sequence stamp start organiser 
     takes = (tt, omega arith);
     alone = refl;
   };
-  attendees = (((s.addressed, sym s.room_lower), refl), tt);
+  summary = refl;
+  attendees = (record { address = (s.addressed, sym s.room_lower); participation = refl; scheduled = refl }, tt);
 }
 
 -- the room has accepted what is shown
 pub kept_confirmed : (event : Event) (slot : Option ℤ) (number : ℕ) (organiser : List ℕ) (stamped : ℤ) (room : List ℕ) (rule : Option Parts) (additions exceptions : List ℤ) → is_confirmed room (zoned_event event slot number organiser stamped room rule additions exceptions) ≡ true
 kept_confirmed event slot number organiser stamped room rule additions exceptions =
     let same : bytes_eq room room ≡ true = (bytes_eq-Decides room room).1 refl in
-    let attendee : Attendee = record { address = room; participation = Accepted } in
+    let attendee : Attendee = record { address = room; participation = Accepted; scheduled = true } in
     ap (λ b. unwrap_or (option_map is_accepted (option_map (λ (a : Attendee). a.participation) (cond b (Some attendee) None))) false) same

@@ -131,7 +131,8 @@ event = record {
   rule = Some rule;
   additions = [];
   exceptions = [];
-  attendees = record { address = codes "mailto:r1@example.com"; participation = NeedsAction } ∷ [];
+  summary = [];
+  attendees = record { address = codes "mailto:r1@example.com"; participation = NeedsAction; scheduled = true } ∷ [];
 }
 
 second_day : SpellsDate (codes "20250311") (pos 20_158)
@@ -200,7 +201,8 @@ says object = record {
     takes = (tt, omega arith);
     alone = refl;
   };
-  attendees = (((the_room, refl), refl), tt);
+  summary = refl;
+  attendees = (record { address = (the_room, refl); participation = refl; scheduled = refl }, tt);
 }
 
 abbrev octets : List ℕ
@@ -405,7 +407,8 @@ gone = record {
   rule = None;
   additions = [];
   exceptions = [];
-  attendees = record { address = codes "mailto:r1@example.com"; participation = NeedsAction } ∷ [];
+  summary = [];
+  attendees = record { address = codes "mailto:r1@example.com"; participation = NeedsAction; scheduled = true } ∷ [];
 }
 
 second_start : WritesStamp (codes "20250311T090000Z") (pos 1_741_683_600)
@@ -468,7 +471,8 @@ says_gone object = record {
     takes = (tt, omega arith);
     alone = refl;
   };
-  attendees = (((the_room, refl), refl), tt);
+  summary = refl;
+  attendees = (record { address = (the_room, refl); participation = refl; scheduled = refl }, tt);
 }
 
 abbrev gone_octets : List ℕ

@@ -6,7 +6,7 @@ use Rattle.std.proofs.lemmas.Bool.{false≢true}
 use Rattle.std.proofs.Math.Bool.{and-false}
 use Rattle.profile.specs.text.Trees.{Tree}
 use Rattle.profile.specs.text.Values.{SpellsStamp, SpellsSequence, SpellsDuration, unescaped, IsAddress, IsUid, lower_case}
-use Rattle.profile.specs.events.Events.{Event, Accepted, IsAttendee, SaysEvent}
+use Rattle.profile.specs.events.Events.{Event, Accepted, IsAttendee, SaysEvent, first_text}
 use Rattle.profile.specs.events.Occurrences.{IsListed, IsInside, entries_of, entries_named, most_entries}
 use Rattle.profile.specs.events.Properties.{is_of, lines_named, length_seconds, longest}
 use Rattle.profile.specs.events.ZonedTimes.{EventTimes, SaysEventTimes, IsInDates, clock_of}
@@ -55,7 +55,8 @@ zoned_event event recurrence sequence organiser stamp room rule additions except
   rule = rule;
   additions = additions;
   exceptions = exceptions;
-  attendees = record { address = room; participation = Accepted } ∷ [];
+  summary = [];
+  attendees = record { address = room; participation = Accepted; scheduled = true } ∷ [];
 }
 
 -- ---- filters
@@ -303,7 +304,8 @@ module _ (name : List ℕ) (event : Event) (recurrence : Option (List ℕ)) (slo
           takes = (entries_taken None object refl, w.few_taken);
           alone = ap (λ b. (false || b) && list_any (λ line. is_of (codes "RRULE") line || is_of (codes "RDATE") line) (own None)) (none_passes (is_of (codes "RECURRENCE-ID")) (own None) (named_of None (codes "RECURRENCE-ID") refl (λ v. refl) (λ v. refl) (λ v. refl) (λ rest. refl)));
         };
-        attendees = subst (λ (l : Lines). AllZip IsAttendee l (record { address = room; participation = Accepted } ∷ [])) (sym (named_of None (codes "ATTENDEE") refl (λ v. refl) (λ v. refl) (λ v. refl) (λ rest. refl))) (((s.addressed, sym s.room_lower), refl), tt);
+        summary = sym (ap first_text (named_of None (codes "SUMMARY") refl (λ v. refl) (λ v. refl) (λ v. refl) (λ rest. refl)));
+        attendees = subst (λ (l : Lines). AllZip IsAttendee l (record { address = room; participation = Accepted; scheduled = true } ∷ [])) (sym (named_of None (codes "ATTENDEE") refl (λ v. refl) (λ v. refl) (λ v. refl) (λ rest. refl))) (record { address = (s.addressed, sym s.room_lower); participation = refl; scheduled = refl }, tt);
       }
       go (Some text) (Some i) q a = record {
         uid = record { line = Some (codes "UID:" ++ uid); once = named_of (Some text) (codes "UID") refl (λ v. refl) (λ v. refl) (λ v. refl) (λ rest. refl); stands = λ _. refl; is = (s.uid_there, s.is_uid) };
@@ -323,5 +325,6 @@ module _ (name : List ℕ) (event : Event) (recurrence : Option (List ℕ)) (slo
               none_of_both (is_of (codes "RRULE")) (is_of (codes "RDATE")) (own (Some text)) (none_passes (is_of (codes "RRULE")) (own (Some text)) (rules_of (Some text) refl ∙ a.0)) (none_passes (is_of (codes "RDATE")) (own (Some text)) (adds_of (Some text) refl ∙ a.1)) in
               ap (λ b. (false || list_any (is_of (codes "RECURRENCE-ID")) (own (Some text))) && b) none ∙ and-false (false || list_any (is_of (codes "RECURRENCE-ID")) (own (Some text)));
         };
-        attendees = subst (λ (l : Lines). AllZip IsAttendee l (record { address = room; participation = Accepted } ∷ [])) (sym (named_of (Some text) (codes "ATTENDEE") refl (λ v. refl) (λ v. refl) (λ v. refl) (λ rest. refl))) (((s.addressed, sym s.room_lower), refl), tt);
+        summary = sym (ap first_text (named_of (Some text) (codes "SUMMARY") refl (λ v. refl) (λ v. refl) (λ v. refl) (λ rest. refl)));
+        attendees = subst (λ (l : Lines). AllZip IsAttendee l (record { address = room; participation = Accepted; scheduled = true } ∷ [])) (sym (named_of (Some text) (codes "ATTENDEE") refl (λ v. refl) (λ v. refl) (λ v. refl) (λ rest. refl))) (record { address = (s.addressed, sym s.room_lower); participation = refl; scheduled = refl }, tt);
       }

@@ -1,8 +1,9 @@
 -- Over a stream: each room's book is one that octets asked for, step by step.
-use Rattle.std.proofs.Common.{◌+◌, ℕ, ℤ, List, [], ◌∷◌, inl, inr, sym, subst}
+use Rattle.std.proofs.Common.{◌+◌, ℕ, ℤ, map, List, [], ◌∷◌, inl, inr, sym, subst}
 use Rattle.std.specs.List.{Contains}
 use Rattle.profile.specs.rooms.Messages.{Message, SpellsMessage}
-use Rattle.profile.specs.streams.Streams.{Hosted, Takes, AllTake, Answers, AllAnswers, new_box}
+use Rattle.profile.specs.streams.Streams.{Box, Hosted, Hosts, Said, ToRooms, ToOrganiser, Spells, Steps, Takes, AllTake, Answers, AllAnswers, new_box}
+use Rattle.profile.specs.rooms.Rooms.{empty_book}
 use Rattle.itip_order.proofs.Lists.{in_cons, none_in_nil}
 use Rattle.room_books.proofs.KeptRuns.{KeepsAll, keeps_none, keeps_step, all_asked}
 
@@ -24,19 +25,23 @@ all_take_keep moment message object octets (before ∷ befores) [] s t k = absur
 all_take_keep moment message object octets (before ∷ befores) (after ∷ afters) s t k =
     (take_keeps moment message object t.0 before after s t.3 k.0, all_take_keep moment message object t.1 befores afters s t.4 k.1)
 
-answers_keep : (moment : ℤ) (n : ℕ) (object octets : List ℕ) (before after : List Hosted) (refused : ℕ) → Answers moment n object before after octets refused → AllKeep before → AllKeep after
+step_keeps : (moment : ℤ) (said : Said) (object octets : List ℕ) (before after : Box) → Spells object said → Steps moment said before after octets → AllKeep before.rooms → AllKeep after.rooms
+step_keeps moment (ToRooms message) object octets before after s t k = all_take_keep moment message object octets before.rooms after.rooms s t.0 k
+step_keeps moment (ToOrganiser said) object octets before after s t k = subst AllKeep (sym t.1) k
+
+answers_keep : (moment : ℤ) (n : ℕ) (object octets : List ℕ) (before after : Box) (refused : ℕ) → Answers moment n object before after octets refused → AllKeep before.rooms → AllKeep after.rooms
 answers_keep moment n object octets before after refused a k =
     elim a [
-      | inl taken ↦ all_take_keep moment taken.0 object octets before after taken.1 taken.2 k
-      | inr fault ↦ subst AllKeep (sym fault.2) k
+      | inl taken ↦ step_keeps moment taken.0 object octets before after taken.1 taken.2 k
+      | inr fault ↦ subst (λ (box : Box). AllKeep box.rooms) (sym fault.2) k
     ]
 
-all_answers_keep : (moment : ℤ) (n : ℕ) (objects : List (List ℕ)) (before after : List Hosted) (octets : List ℕ) (refused : ℕ) → AllAnswers moment n objects before after octets refused → AllKeep before → AllKeep after
-all_answers_keep moment n [] before after octets refused a k = subst AllKeep (sym a.0) k
+all_answers_keep : (moment : ℤ) (n : ℕ) (objects : List (List ℕ)) (before after : Box) (octets : List ℕ) (refused : ℕ) → AllAnswers moment n objects before after octets refused → AllKeep before.rooms → AllKeep after.rooms
+all_answers_keep moment n [] before after octets refused a k = subst (λ (box : Box). AllKeep box.rooms) (sym a.0) k
 all_answers_keep moment n (object ∷ objects) before after octets refused a k =
     all_answers_keep moment (n + 1) objects a.0 after a.2 a.4 a.8 (answers_keep moment n object a.1 before a.0 a.3 a.7 k)
 
-none_keep : (rooms : List (List ℕ)) → AllKeep (new_box rooms)
+none_keep : (rooms : List (List ℕ)) → AllKeep (map (λ room. record { address = room; book = empty_book }) rooms)
 unfolding AllKeep
 none_keep [] = tt
 none_keep (room ∷ rooms) = (keeps_none room, none_keep rooms)
@@ -51,7 +56,7 @@ room_keeps (first ∷ rooms) room c k =
     ]
 
 -- each room's book after the objects of a stream
-pub served_keeps : (moment : ℤ) (rooms : List (List ℕ)) (n : ℕ) (objects : List (List ℕ)) (after : List Hosted) (octets : List ℕ) (refused : ℕ) → AllAnswers moment n objects (new_box rooms) after octets refused
-    → (room : Hosted) → Contains after room → KeepsAll room.address room.book
-served_keeps moment rooms n objects after octets refused a room c =
-    room_keeps after room c (all_answers_keep moment n objects (new_box rooms) after octets refused a (none_keep rooms))
+pub served_keeps : (moment : ℤ) (hosts : Hosts) (n : ℕ) (objects : List (List ℕ)) (after : Box) (octets : List ℕ) (refused : ℕ) → AllAnswers moment n objects (new_box hosts) after octets refused
+    → (room : Hosted) → Contains after.rooms room → KeepsAll room.address room.book
+served_keeps moment hosts n objects after octets refused a room c =
+    room_keeps after.rooms room c (all_answers_keep moment n objects (new_box hosts) after octets refused a (none_keep hosts.rooms))

@@ -28,8 +28,6 @@ pub mod KeptStreams
 pub mod KeptAnswers
 pub mod KeptRequests
 pub mod ZoneNames
-pub mod ZonesOnce
-pub mod ZoneSets
 pub mod KeptZones
 pub mod ZonedStarts
 pub mod ZonesIn
@@ -49,10 +47,8 @@ pub mod Writing
 pub mod AcceptedSlots
 pub mod Keeping
 pub mod PartLines
-pub mod NamedLines
 pub mod Replying
 pub mod Claiming
-pub mod Bodies
 pub mod BySlot
 pub mod RoomSteps
 pub mod KindLemmas

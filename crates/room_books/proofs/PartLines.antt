@@ -10,10 +10,12 @@ use Rattle.profile.specs.rooms.Revisions.{Part, Slot, At, Body, Set, Absent, Can
 use Rattle.profile.specs.rooms.Rooms.{is_set, is_set_body}
 use Rattle.profile.specs.text.Values.{escaped}
 use Rattle.room_books.specs.Standing.{IsText, SlotDated}
-use Rattle.room_books.specs.Takings.{body_content, content_in}
-use Rattle.room_books.specs.Keeping.{WritesBody, WritesHead, WritesSlot, WritesEntries, named_lines}
-use Rattle.room_books.specs.Zoning.{with_zones}
-use Rattle.room_books.proofs.Writing.{push_line, push_lines, no_lines, one_written_entry}
+use Rattle.room_books.specs.Takings.{body_content}
+use Rattle.itip_messages.specs.BodyTexts.{WritesBody, WritesSlot, content_in, named_lines}
+use Rattle.itip_messages.specs.Zoning.{with_zones}
+use Rattle.itip_messages.proofs.WrittenLines.{push_line, push_lines, no_lines}
+use Rattle.room_books.specs.Keeping.{WritesHead, WritesEntries}
+use Rattle.room_books.proofs.Writing.{one_written_entry}
 
 -- a part that isn't to take place isn't shown
 pub no_event : (room : List ℕ) (part : Part) (zones : List (List ℕ)) (old : List ℕ) → (is_set part ≡ true → ⊥) → WritesEntries room ((true, part) ∷ []) zones zones old old
@@ -27,18 +29,6 @@ no_event room part zones old h = one_written_entry room (true, part) [] zones zo
 -- nor is one whose instant no stamp can write
 pub no_hidden : (room : List ℕ) (part : Part) (zones : List (List ℕ)) (old : List ℕ) → (SlotDated part.slot → ⊥) → WritesEntries room ((false, part) ∷ []) zones zones old old
 no_hidden room part zones old h = one_written_entry room (false, part) [] zones zones old old refl (λ dated. absurd (h dated)) (no_lines old)
-
--- ---- RECURRENCE-ID
-
-pub no_slot : (slot : Slot) (old : List ℕ) → (SlotDated slot → TellsSlot slot []) → WritesSlot slot old old
-no_slot slot old h = record { lines = []; tells = h; is = no_lines old }
-
-pub slot_line : (t : ℤ) (old new : List ℕ) → Appends old new (IsStampLine (codes "RECURRENCE-ID:") t) → WritesSlot (At t) old new
-slot_line t old new a = record {
-  lines = (codes "RECURRENCE-ID:" ++ a.1.0) ∷ [];
-  tells = λ _. (a.1.0, a.1.1, refl);
-  is = push_line old old new (codes "RECURRENCE-ID:" ++ a.1.0) [] (no_lines old) (a.2 ∙ ap (λ l. old ++ l) a.1.2);
-}
 
 -- ---- the head of a VEVENT
 

@@ -11,7 +11,7 @@ use Rattle.room_books.specs.BySlot.{Reordered}
 use Rattle.room_books.proofs.Reordering.{re_flat, re_permutation}
 use Rattle.room_books.specs.Instants.IsSplit.{none, goes, stays}
 use Rattle.room_books.specs.Views.{all_singles}
-use Rattle.room_books.proofs.Loops.{flat_push}
+use Rattle.itip_messages.proofs.WrittenLines.{flat_push}
 
 -- ---- put together
 

@@ -7,24 +7,10 @@ use Rattle.profile.specs.rooms.Messages.{opening_lines}
 use Rattle.profile.specs.rooms.Kept.{each_once}
 use Rattle.profile.specs.rooms.Revisions.{Part}
 use Rattle.room_books.specs.Keeping.{IsEntryEvent, WritesEntries, zone_of_entry}
-use Rattle.room_books.specs.Zoning.{is_new, with_zone, with_zones}
-use Rattle.room_books.proofs.Loops.{zip_both, flat_push}
-use Rattle.room_books.proofs.ZonesOnce.{named_still, with_zones_are}
-
--- ---- written lines
-
-pub one_written : (old new line : List ℕ) (left rest : List (List ℕ)) (all : List ℕ) → new ≡ old ++ folded line → left ≡ line ∷ rest → old ++ written left ≡ all → new ++ written rest ≡ all
-one_written old new line left rest all is more h =
-    ap (λ o. o ++ written rest) is ∙ append_assoc old (folded line) (written rest) ∙ ap (λ l. old ++ written l) (sym more) ∙ h
-
-pub push_lines : (old now new : List ℕ) (xs ys : List (List ℕ)) → now ≡ old ++ written xs → new ≡ now ++ written ys → new ≡ old ++ written (xs ++ ys)
-push_lines old now new xs ys h k = k ∙ ap (λ o. o ++ written ys) h ∙ append_assoc old (written xs) (written ys) ∙ ap (λ l. old ++ l) (sym (flat_map-append folded xs ys))
-
-pub push_line : (old now new line : List ℕ) (xs : List (List ℕ)) → now ≡ old ++ written xs → new ≡ now ++ folded line → new ≡ old ++ written (xs ++ line ∷ [])
-push_line old now new line xs h k = push_lines old now new xs (line ∷ []) h (k ∙ ap (λ l. now ++ l) (sym (append-nil (folded line))))
-
-pub no_lines : (old : List ℕ) → old ≡ old ++ written []
-no_lines old = sym (append-nil old)
+use Rattle.itip_messages.specs.Zoning.{is_new, with_zones}
+use Rattle.itip_messages.proofs.WrittenLines.{flat_push, no_lines, push_line, push_lines}
+use Rattle.itip_messages.proofs.ZonesOnce.{named_still, with_more, with_zones_are}
+use Rattle.room_books.proofs.Loops.{zip_both}
 
 -- the octets of a kept calendar: its zones stand before its VEVENTs
 pub calendar_written : (begin zones events opened zoned closed whole : List ℕ) (lines : List (List ℕ)) → begin ≡ [] → opened ≡ begin ++ written (opening_lines None) → zoned ≡ opened ++ zones
@@ -35,10 +21,6 @@ calendar_written begin zones events opened zoned closed whole lines none first t
     all ∙ (λ i. (then ∙ ap (λ o. o ++ zones) open_is) i ++ closed_is i)
 
 -- ---- zones that come later
-
-pub with_more : (zones uses more : List (List ℕ)) → with_zones zones (uses ++ more) ≡ with_zones (with_zones zones uses) more
-with_more zones [] more = refl
-with_more zones (zone ∷ uses) more = with_more (with_zone zones zone) uses more
 
 event_still : (room : List ℕ) (zones more : List (List ℕ)) (entry : Bool × Part) (lines : List (List ℕ)) → IsEntryEvent room zones entry lines → IsEntryEvent room (zones ++ more) entry lines
 event_still room zones more (true, part) lines event = λ claim e f is text dated.

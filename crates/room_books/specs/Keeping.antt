@@ -3,8 +3,6 @@ use Rattle.std.specs.Prelude.{◌≡◌, ℕ, Bool, true, false, not, List, [], 
 use Rattle.std.specs.List.{flat_map, list_any, AllZip}
 use Rattle.std.specs.Option.{option_to_list}
 use Rattle.std.specs.Ordering.{is_eq}
-use Rattle.std.specs.Str.{IsUtf8}
-use Rattle.std.specs.Str.Lines.{lines as text_lines}
 use Rattle.itip_order.specs.declared.part.Slot.{Slot}
 use Rattle.itip_order.specs.Parts.{slot_of}
 use Rattle.itip_order.specs.Registers.{shown}
@@ -13,14 +11,14 @@ use Rattle.profile.specs.rooms.Revisions.{Part, is_whole, same_meeting, slot_cmp
 use Rattle.profile.specs.rooms.Messages.{TellsSlot}
 use Rattle.profile.specs.text.Values.{WritesStamp, escaped}
 use Rattle.profile.specs.rooms.Rooms.{Claim, Answer, Book, is_accept, is_confirmed, is_set}
-use Rattle.profile.specs.rooms.Kept.{first_parts, renamed, Shown, Hidden, IsKeptEvent, IsNamed}
+use Rattle.profile.specs.rooms.Kept.{first_parts, Shown, Hidden, IsKeptEvent}
 use Rattle.profile.specs.text.Lines.{written}
+use Rattle.itip_messages.specs.Zoning.{with_zones}
 use Rattle.room_books.specs.declared.kept.Meeting.{Meeting}
 use Rattle.room_books.specs.declared.meeting.Given.{Given}
 use Rattle.room_books.specs.Standing.{IsText, SlotDated}
-use Rattle.room_books.specs.Takings.{body_content, content_in}
+use Rattle.room_books.specs.Takings.{body_content}
 use Rattle.room_books.specs.Views.{outcome_of}
-use Rattle.room_books.specs.Zoning.{with_zones}
 
 -- ---- by the book
 
@@ -83,36 +81,6 @@ IsEntryEvent room zones (true, part) lines =
     (claim : Claim) → claim.part ≡ part → claim.content ≡ body_content part.body → is_set part ≡ true → IsText part.body → SlotDated part.slot
     → IsKeptEvent room zones (Shown claim) lines
 IsEntryEvent room zones (false, part) lines = SlotDated part.slot → IsKeptEvent room zones (Hidden part) lines
-
--- the lines with DTSTART in the zone of this name
-abbrev pub named_lines : List ℕ → List (List ℕ) → List (List ℕ)
-named_lines name lines = map (renamed (codes "DTSTART;TZID=Z") (codes "DTSTART;TZID=" ++ name)) lines
-
--- the name of the zone with this number; without a zone that of a body
-abbrev pub name_of : Option ℕ → List ℕ
-name_of None = codes "Z"
-name_of (Some number) = codes "Z" ++ decimal number
-
--- new is old and behind it, written, the lines of the octets, if they are text, in the zone with this number
-pub record WritesText (number : Option ℕ) (octets old new : List ℕ) : Type 0 where
-  pub lines : List (List ℕ)
-  pub text : IsUtf8 octets → lines ≡ named_lines (name_of number) (text_lines octets)
-  pub is : new ≡ old ++ written lines
-
--- the body's zone is behind the zones if it is new; and new is old and behind it, written, the lines of the body, if it is text, in that zone
-pub record WritesBody (body : List ℕ) (zones_old zones_new : List (List ℕ)) (old new : List ℕ) : Type 0 where
-  pub zones : zones_new ≡ with_zones zones_old (option_to_list (content_in body).zone)
-  pub name : List ℕ
-  pub named : IsNamed zones_new (content_in body).zone name
-  pub lines : List (List ℕ)
-  pub text : IsUtf8 body → lines ≡ named_lines name (content_in body).lines
-  pub is : new ≡ old ++ written lines
-
--- new is old and behind it, written, RECURRENCE-ID, if a stamp can write it
-pub record WritesSlot (slot : revisions.Slot) (old new : List ℕ) : Type 0 where
-  pub lines : List (List ℕ)
-  pub tells : SlotDated slot → TellsSlot slot lines
-  pub is : new ≡ old ++ written lines
 
 -- new is old and behind it, written, the lines that say which part it is
 pub record WritesHead (part : Part) (old new : List ℕ) : Type 0 where

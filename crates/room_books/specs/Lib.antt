@@ -4,7 +4,6 @@ pub mod Takings
 pub mod Standing
 pub mod Timelines
 pub mod Keeping
-pub mod Zoning
 pub mod Replying
 pub mod Claiming
 pub mod BySlot

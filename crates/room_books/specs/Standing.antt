@@ -18,6 +18,7 @@ use Rattle.profile.specs.rooms.Revisions.{Part, Slot, Whole, At, Body, Set, Abse
 use Rattle.profile.specs.rooms.Messages.{Outcome}
 use Rattle.profile.specs.rooms.Rooms.{Claim, Answer, Book, Kind, Recurring, is_set, parts_of, asked, answered, singles_confirmed, series_confirmed, IsClear, IsLeftOf, IsStep, IsWithinLimits, kind_of}
 use Rattle.profile.specs.rooms.Kept.{Replies, Refreshes, first_parts}
+use Rattle.itip_messages.specs.Messages as messages
 use Rattle.room_books.specs.declared.meeting.MeetingKey.{MeetingKey}
 use Rattle.room_books.specs.declared.kept.Meeting.{Meeting}
 use Rattle.room_books.specs.declared.kept.Changes.{Changes}
@@ -73,8 +74,7 @@ pub record IsFitting (claim : Claim) : Type 0 where
 
 -- the slot can be written as a stamp
 abbrev pub SlotDated : Slot → Type 0
-SlotDated Whole = Unit {0}
-SlotDated (At t) = IsClockSeconds t
+SlotDated slot = messages.IsDated slot
 
 -- the claims are of one meeting, each of another slot
 pub record AreFitting (key : MeetingKey) (claims : List Claim) : Type 0 where

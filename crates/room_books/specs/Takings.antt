@@ -34,7 +34,7 @@ use Rattle.room_books.specs.Instants.{IsPartOf}
 use Rattle.room_books.specs.Touching.{is_touched, IsUntouched}
 use Rattle.std.specs.Str.Lines.{lines}
 use Rattle.profile.specs.rooms.Messages.{Content, no_content}
-use Rattle.itip_messages.specs.Bodies.{zone_place}
+use Rattle.itip_messages.specs.BodyTexts.{content_in}
 
 -- ---- what is told
 
@@ -62,15 +62,6 @@ abbrev pub refresh_octets : Answer → Option (List ℕ)
 refresh_octets answer = octets_in answer.refresh
 
 -- ---- what a message asks for
-
--- what stands behind `BEGIN:VTIMEZONE`, `TZID:Z` and their line ends; None without a VTIMEZONE
-abbrev pub zone_rest : List ℕ → Option (List ℕ)
-zone_rest [] = None
-zone_rest (c ∷ octets) = Some (drop 25 (c ∷ octets))
-
--- the octets of a body as a content: its lines, and its zone
-abbrev pub content_in : List ℕ → Content
-content_in octets = record { lines = lines (take (zone_place octets) octets); zone = zone_rest (drop (zone_place octets) octets) }
 
 abbrev pub body_content : revisions.Body → Content
 body_content (revisions.Set octets) = content_in octets

@@ -13,12 +13,16 @@ ghost use Rattle.room_books.specs.Claiming.{series_asked, AreClaimed, IsAsking, 
 use crate::claim::{Claim, takes_place};
 use cal_events::Series;
 use ical_values::Address;
-use itip_messages::{Message, MessageComponent};
+use itip_messages::{MessageComponent, RoomMessage};
 use itip_order::{Part, Slot};
 use std::alloc::{AllocError, Global};
 
 /// The claims that a message has for a room, the whole meeting first and then its instances; none where it isn't addressed to it.
-pub fn claims_of(alloc: Global, message: &Message, room: &Address) -> Result<Vec<Claim>, AllocError>
+pub fn claims_of(
+    alloc: Global,
+    message: &RoomMessage,
+    room: &Address,
+) -> Result<Vec<Claim>, AllocError>
     ensures { IfOk result (λ claims. (said : profile.Message) → StandsFor message.now said → AreClaimed (address_octets room.now) said claims.items) }
 {
     if !message.is_addressed_to(room) {
@@ -30,7 +34,11 @@ pub fn claims_of(alloc: Global, message: &Message, room: &Address) -> Result<Vec
 /// A claim for each component that is a part for the room.
 // Apart from `claims_of`, which most rooms leave at its first line.
 #[inline(never)]
-fn all_claims(alloc: Global, message: &Message, room: &Address) -> Result<Vec<Claim>, AllocError>
+fn all_claims(
+    alloc: Global,
+    message: &RoomMessage,
+    room: &Address,
+) -> Result<Vec<Claim>, AllocError>
     ensures { IfOk result (λ claims. AllZip (IsClaimIn (address_octets room.now) message.now) (filter (has_part (address_octets room.now) message.now) message.now.components.items) claims.items) }
 {
     let mut claims = Vec::new(alloc);
@@ -45,7 +53,7 @@ fn all_claims(alloc: Global, message: &Message, room: &Address) -> Result<Vec<Cl
 /// The claim that a component is for a room.
 fn claim_in(
     alloc: Global,
-    message: &Message,
+    message: &RoomMessage,
     component: &MessageComponent,
     room: &Address,
 ) -> Result<Claim, AllocError>

@@ -5,7 +5,7 @@ ghost use Rattle.profile.specs.checker.Instances.{Booked};
 ghost use Rattle.profile.specs.events.Confirmed.{Confirmed, IsOneOf};
 ghost use Rattle.profile.specs.rooms.Rooms.{Answer, Book, Delivery, Runs, empty_book, IsClear, IsWithinLimits};
 ghost use Rattle.profile.specs.rooms.Rooms.{Confirms, confirmed_series, confirmed_singles};
-ghost use Rattle.profile.specs.streams.Streams.{IsDelivered, AllAnswers, Hosted, new_box};
+ghost use Rattle.profile.specs.streams.Streams.{IsDelivered, AllAnswers, Box, Hosted, Hosts, new_box};
 ghost use Rattle.profile.specs.rooms.Kept.{IsKeptCalendar, kept_certificate};
 ghost use Rattle.profile.specs.checker.Calendars.{CertificateHolds, SpellsCalendar};
 ghost use Rattle.profile.specs.Headline.{AcceptedWhereClear, KeptTextsPass};
@@ -57,9 +57,9 @@ pub fn kept_texts_spell()
 /// Whatever objects a stream has, taken or refused, one after another from the first: what each of the rooms keeps after
 /// them passes likewise.
 pub fn served_texts_pass()
-    ensures { (moment : ℤ) (rooms : List (List ℕ)) (first : ℕ) (objects : List (List ℕ)) (after : List Hosted) (replies : List ℕ) (refused : ℕ)
-        → AllAnswers moment first objects (new_box rooms) after replies refused
-        → (room : Hosted) → Contains after room
+    ensures { (moment : ℤ) (hosts : Hosts) (first : ℕ) (objects : List (List ℕ)) (after : Box) (answers : List ℕ) (refused : ℕ)
+        → AllAnswers moment first objects (new_box hosts) after answers refused
+        → (room : Hosted) → Contains after.rooms room
         → (kept : List ℕ) → IsKeptCalendar room.address room.book kept → CertificateHolds room.address kept (kept_certificate room.book) }
 {
     ical_lines::lines_read_back();

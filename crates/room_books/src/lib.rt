@@ -19,7 +19,6 @@ mod slots;
 mod taking;
 mod texts;
 mod timeline;
-mod zones;
 
 pub use answer::{Answer, Kind, LimitKind};
 pub use laws::{

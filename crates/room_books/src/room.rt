@@ -53,7 +53,7 @@ use cal_events::{Series, Single};
 use clash_cert::{Clash, Confirmed, make};
 use ical_values::{Address, Stamp};
 use indexmap::IndexMap;
-use itip_messages::Message;
+use itip_messages::RoomMessage;
 use itip_order::{Held, Part, Slot, Together};
 use std::alloc::{AllocError, Global};
 
@@ -165,7 +165,7 @@ impl Room {
     /// Takes a message at a moment, and answers it: with a reply where one of its parts is to take place and is in the view; and with a
     /// refresh where an ADD brought something new of a meeting of which nothing of the whole was ever taken (RFC 5546 3.2.6).
     /// Where memory is refused nothing has changed.
-    pub fn take(&mut self, message: &Message, now: Stamp) -> Result<Answer, AllocError>
+    pub fn take(&mut self, message: &RoomMessage, now: Stamp) -> Result<Answer, AllocError>
         // From each book that the room stands for it makes a step of the room machine, with the claims of the message.
         ensures steps { IfOk result (λ answer. (said : profile.Message) → StandsFor message.now said → (book : Book) → Stands self.old.meetings.entries book
             → (claims : List rooms.Claim) × AreClaims (address_octets self.old.address) said claims

@@ -1,37 +1,28 @@
 //! What a room keeps, as octets: its calendar, and the certificate for it.
 
-ghost use Rattle.std.specs.Prelude.{◌≡◌, ◌++◌, ◌∷◌, [], ℕ, List, true, false, Some, codes, string_bytes, IfOk, OnOk};
+ghost use Rattle.std.specs.Prelude.{◌≡◌, ◌∷◌, [], ℕ, List, true, false, IfOk, OnOk};
 ghost use Rattle.std.specs.List.Sorted.{IsPermutation, IsSortedByKey};
-ghost use Rattle.std.specs.Str.Lines.{lines};
 ghost use Rattle.indexmap.specs.IndexMap.{values};
 ghost use Rattle.ical_values.specs.Octets.{address_octets};
 ghost use Rattle.itip_order.specs.Parts.{part_of, slot_of};
 ghost use Rattle.clash_cert.specs.Makings.{HasCounts, IsCertificate};
 ghost use Rattle.profile.specs.checker.Certificates.{text_of};
-ghost use Rattle.profile.specs.rooms.Kept.{IsKeptCalendar, renamed};
+ghost use Rattle.profile.specs.rooms.Kept.{IsKeptCalendar};
 ghost use Rattle.profile.specs.rooms.Revisions.{is_whole, slot_cmp};
 ghost use Rattle.profile.specs.rooms.Rooms.{Book};
-ghost use Rattle.profile.specs.text.Lines.{folded, written};
 ghost use Rattle.room_books.specs.Standing.{Stands};
-ghost use Rattle.room_books.specs.Keeping.{WritesBody, WritesEntries, WritesHead, WritesSlot, WritesText, name_of, named_lines};
-ghost use Rattle.room_books.specs.Keeping.{accepted_slots, all_kept, entry_of, has_slot, kept_in};
+ghost use Rattle.room_books.specs.Keeping.{WritesEntries, WritesHead, accepted_slots, all_kept, entry_of, has_slot, kept_in};
 
 use crate::decide::{Meetings, keys_differ};
 use crate::kept::Meeting;
 use crate::meeting::Given;
 use crate::reply::recurrence_of;
 use crate::taking::is_accept;
-use crate::zones::Zones;
 use clash_cert::Made;
 use ical_values::Address;
-use itip_messages::{ObjectWriter, zone_lines};
+use itip_messages::{ObjectWriter, Zones, write_body, write_slot};
 use itip_order::{Body, Part, Slot};
-use itoa::Buffer;
 use std::alloc::{AllocError, Global};
-use std::str;
-
-/// The number of octets of a body's VTIMEZONE up to what stands behind its TZID: `BEGIN:VTIMEZONE`, `TZID:Z` and their line ends.
-const ZONE_HEAD: usize = 25;
 
 /// The kept calendar of a room, the meetings in order of first arrival: each accepted part in the view, and what hides instances of an
 /// accepted whole.
@@ -211,93 +202,4 @@ fn write_head(object: &mut ObjectWriter, part: &Part) -> Result<(), AllocError>
     object.sequence(part.revision.sequence)?;
     object.stamp("DTSTAMP:", part.revision.stamp)?;
     Ok(())
-}
-
-/// RECURRENCE-ID, for one instance. One at an instant that no stamp can write has none.
-fn write_slot(object: &mut ObjectWriter, slot: Slot) -> Result<(), AllocError>
-    ensures { OnOk result (WritesSlot (slot_of slot) object.old object.new) }
-{
-    let Some(recurrence) = recurrence_of(slot) else {
-        return Ok(());
-    };
-    let Some(stamp) = recurrence else {
-        return Ok(());
-    };
-    object.stamp("RECURRENCE-ID:", stamp)?;
-    Ok(())
-}
-
-/// The lines of a body, each folded as it is written, with DTSTART in the zone under its number in the calendar. A body that isn't
-/// UTF-8 has none.
-fn write_body(object: &mut ObjectWriter, zones: &mut Zones, body: &[u8]) -> Result<(), AllocError>
-    ensures { OnOk result (WritesBody body.now zones.old zones.new object.old object.new) }
-{
-    let (lines, zone) = body.split_at(zone_lines(body));
-    if zone.is_empty() {
-        write_text(object, lines, None)?;
-        return Ok(());
-    }
-    let number = zones.number_of(&zone[ZONE_HEAD.min(zone.len())..])?;
-    write_text(object, lines, Some(number))?;
-    Ok(())
-}
-
-/// The lines of these octets, each folded as it is written, with DTSTART in the zone of this number. Octets that aren't UTF-8 have
-/// none.
-fn write_text(
-    object: &mut ObjectWriter,
-    octets: &[u8],
-    number: Option<usize>,
-) -> Result<(), AllocError>
-    ensures { OnOk result (WritesText number octets.now object.old object.new) }
-{
-    let Ok(text) = str::from_utf8(octets) else {
-        return Ok(());
-    };
-    match number {
-        Some(number) => write_in_zone(object, text, number),
-        None => write_lines(object, text),
-    }
-}
-
-/// The lines of a text, each folded as it is written.
-fn write_lines(object: &mut ObjectWriter, text: &str) -> Result<(), AllocError>
-    ensures { OnOk result (object.new ≡ object.old ++ written (lines text.now)) }
-{
-    for line in text.lines() {
-        object.line(line)?;
-    }
-    Ok(())
-}
-
-/// The same, where DTSTART is in the zone of this number.
-fn write_in_zone(object: &mut ObjectWriter, text: &str, number: usize) -> Result<(), AllocError>
-    ensures { OnOk result (object.new ≡ object.old ++ written (named_lines (name_of (Some number)) (lines text.now))) }
-{
-    let start = start_in(object.alloc(), number)?;
-    for line in text.lines() {
-        write_named(object, line, start.as_str())?;
-    }
-    Ok(())
-}
-
-/// One line, which begins so where it is DTSTART in a zone.
-fn write_named(object: &mut ObjectWriter, line: &str, start: &str) -> Result<(), AllocError>
-    ensures { OnOk result (object.new ≡ object.old ++ folded (renamed (codes "DTSTART;TZID=Z") start.now line.now)) }
-{
-    match line.strip_prefix("DTSTART;TZID=Z") {
-        Some(rest) => object.named(start, rest),
-        None => object.line(line),
-    }
-}
-
-/// How DTSTART begins in the zone of this number.
-fn start_in(alloc: Global, number: usize) -> Result<String, AllocError>
-    ensures { IfOk result (λ start. string_bytes start ≡ codes "DTSTART;TZID=" ++ name_of (Some number)) }
-{
-    let mut digits = Buffer::new();
-    let mut start = String::new(alloc);
-    start.push_str("DTSTART;TZID=Z")?;
-    start.push_str(digits.format(number))?;
-    Ok(start)
 }

@@ -1,4 +1,4 @@
-//! Worked examples of messages, calendars, certificates, the order of parts, streams, commands and events, in four tables. Each line of a table
+//! Worked examples of messages, calendars, certificates, the order of parts, streams, commands, events and organisers, in five tables. Each line of a table
 //! names a call and gives its input, often as names of files. What is printed of each case is compared by `rt ci` with the file `stdout`,
 //! whose lines come from the RFCs, by hand or from another program.
 #![tactic(auto)]
@@ -13,6 +13,7 @@ mod message_files;
 mod messages;
 mod names;
 mod objects;
+mod organisers;
 mod parts;
 mod series_files;
 mod streams;
@@ -29,7 +30,9 @@ fn main(rt: HostRuntime) -> io::Result<()> {
     // made by tests/events_by_dateutil.py
     print_answers(&rt, "events.txt")?;
     // made by tests/calendars_by_icalendar.py
-    print_answers(&rt, "calendars.txt")
+    print_answers(&rt, "calendars.txt")?;
+    // made by tests/organisers_by_model.py
+    print_answers(&rt, "organisers.txt")
 }
 
 fn print_answers<R: Files + Print + AllocGlobal>(rt: &R, table: &str) -> io::Result<()> {

@@ -6,13 +6,50 @@ use example_cases::answers::{append, yes_or_no};
 use ical_lines::{Limits, Unfolded};
 use ical_tree::read_object;
 use ical_values::Address;
-use itip_messages::{Message, Method};
+use itip_messages::{Message, Method, Operation, OrganiserObject, RoomMessage};
 use itip_order::Part;
 use std::alloc::Global;
 
-/// The method, the organiser and the UID, and the start and the end of each instance that a component asks for.
+/// Of a message to rooms the method, the organiser and the UID, and the start and the end of each instance that a component asks for; of what
+/// comes to an organiser as `organiser_object` says.
 pub fn message(alloc: Global, octets: &[u8]) -> Result<String, NoAnswer> {
-    let message = Message::read(alloc, octets)?;
+    match Message::read(alloc, octets)? {
+        Message::ToRooms(message) => room_message(alloc, &message),
+        Message::ToOrganiser(object) => organiser_object(alloc, &object),
+    }
+}
+
+/// What is asked, the organiser and the UID, and of each component, in the order of the text, its slot, SEQUENCE and SUMMARY and how many
+/// ATTENDEE lines it has.
+fn organiser_object(alloc: Global, object: &OrganiserObject) -> Result<String, NoAnswer> {
+    let operation = match object.operation {
+        Operation::Store => "store",
+        Operation::Reply => "reply",
+        Operation::Refresh => "refresh",
+    };
+    let organiser = object.organiser.as_str();
+    let uid = object.uid.as_str();
+    let mut list = format!(in alloc; "{operation}, {organiser}, {uid}")?;
+    for component in &object.components {
+        let slot = slot_text(alloc, component.slot)?;
+        let sequence = component.revision.sequence.number();
+        let summary = component.summary.as_str();
+        let attendees = component.attendees.lines().len();
+        let item = format!(in alloc; "{slot} {sequence} {summary:?} {attendees}")?;
+        append(&mut list, ", ", item.as_str())?;
+    }
+    Ok(list)
+}
+
+/// What octets say to rooms; no answer where they say something to an organiser.
+fn to_rooms(alloc: Global, octets: &[u8]) -> Result<RoomMessage, NoAnswer> {
+    match Message::read(alloc, octets)? {
+        Message::ToRooms(message) => Ok(message),
+        Message::ToOrganiser(_) => Err(NoAnswer::Unreadable),
+    }
+}
+
+fn room_message(alloc: Global, message: &RoomMessage) -> Result<String, NoAnswer> {
     let method = match message.method() {
         Method::Request => "request",
         Method::Add => "add",
@@ -33,13 +70,16 @@ pub fn message(alloc: Global, octets: &[u8]) -> Result<String, NoAnswer> {
 pub fn components(alloc: Global, octets: &[u8]) -> Result<String, NoAnswer> {
     let text = Unfolded::read(alloc, octets, Limits::Message)?;
     let object = read_object(alloc, &text, Limits::Message)?;
-    let message = Message::of_object(alloc, &object)?;
-    Ok(message.components().len().to_string(alloc)?)
+    let count = match Message::of_object(alloc, &object)? {
+        Message::ToRooms(message) => message.components().len(),
+        Message::ToOrganiser(object) => object.components.len(),
+    };
+    Ok(count.to_string(alloc)?)
 }
 
 /// How many parts there are for a room, and each without its meeting.
 pub fn parts(alloc: Global, octets: &[u8], room: &Address) -> Result<String, NoAnswer> {
-    let message = Message::read(alloc, octets)?;
+    let message = to_rooms(alloc, octets)?;
     let parts = message.parts(alloc, room)?;
     let mut list = parts.len().to_string(alloc)?;
     for part in parts.iter() {
@@ -57,6 +97,6 @@ fn part_text(alloc: Global, part: &Part) -> Result<String, NoAnswer> {
 }
 
 pub fn addressed(alloc: Global, octets: &[u8], room: &Address) -> Result<String, NoAnswer> {
-    let message = Message::read(alloc, octets)?;
+    let message = to_rooms(alloc, octets)?;
     Ok(String::from_str(alloc, yes_or_no(message.is_addressed_to(room)))?)
 }

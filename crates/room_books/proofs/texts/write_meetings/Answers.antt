@@ -4,7 +4,8 @@ use Rattle.indexmap.specs.IndexMap.{values}
 use Rattle.ical_values.specs.Octets.{address_octets}
 use Rattle.profile.specs.rooms.Revisions.{Part}
 use Rattle.room_books.specs.Keeping.{WritesEntries, kept_in, all_kept}
-use Rattle.room_books.proofs.Loops.{walked, flat_push}
+use Rattle.itip_messages.proofs.WrittenLines.{flat_push}
+use Rattle.room_books.proofs.Loops.{walked}
 use Rattle.room_books.proofs.Writing.{both_written}
 use Rattle.room_books.proofs.texts.write_meetings.Goals as goal
 

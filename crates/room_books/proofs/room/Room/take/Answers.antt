@@ -8,7 +8,7 @@ use Rattle.room_books.specs.Claiming.{AreClaimed}
 use Rattle.room_books.specs.Takings.{claims_said, kind_view, reply_octets, refresh_octets}
 use Rattle.room_books.specs.Standing.{StepsWith}
 use Rattle.itip_messages.specs.Messages.{method_said}
-use Rattle.itip_messages.specs.declared.message.Method.{Method}
+use Rattle.itip_messages.specs.declared.room_message.Method.{Method}
 use Rattle.profile.specs.rooms.Messages.{is_add}
 use Rattle.room_books.proofs.Claiming.{first_in, none_first}
 use Rattle.room_books.proofs.RoomSteps.{none_steps}

@@ -1,0 +1,41 @@
+use Rattle.std.proofs.Common.{List, map, subst, sym}
+use Rattle.ical_lines.specs.Fault.{RefusesBy}
+use Rattle.ical_tree.specs.Tree.{tree_of}
+use Rattle.ical_values.proofs.Exits.{err_exit}
+use Rattle.profile.specs.events.Events.{Event}
+use Rattle.profile.specs.events.Meetings.{MeetingFault}
+use Rattle.cal_events.specs.declared.component.EventComponent.{EventComponent}
+use Rattle.cal_events.specs.Events.{event_of, method_read, vevents_of, IsFaultAmong}
+use Rattle.cal_events.specs.Meetings.{IsNotOne, SharesSlot}
+use Rattle.cal_events.proofs.TreeLemmas.{vevents_tree}
+use Rattle.cal_events.proofs.ZonedLemmas.{weaker_fault}
+use Rattle.cal_events.proofs.MeetingLemmas.{among_there, not_one_there, slot_there}
+use Rattle.cal_events.proofs.meeting_components.MeetingComponents.read_in_order.Goals as goal
+
+pub returns-in_err-components-clause-stands : goal.returns-in_err-components-clause-stands
+returns-in_err-components-clause-stands c same =
+    let object = c.args.object.now in
+    let m = method_read c.args.purpose in
+    err_exit _ (RefusesBy (MeetingFault (tree_of object) m)) _ c.from_residual.ensures.1
+    (weaker_fault _ (IsFaultAmong (tree_of object) m (vevents_of object)) (MeetingFault (tree_of object) m)
+    (among_there (tree_of object) (vevents_of object) (vevents_tree object) m) c.in_err-components.ensures.stands)
+
+pub returns-in_err-judge_meeting-clause-stands : goal.returns-in_err-judge_meeting-clause-stands
+returns-in_err-judge_meeting-clause-stands c same =
+    let object = c.args.object.now in
+    let m = method_read c.args.purpose in
+    let n = c.in_err-judge_meeting.field-0.0.number in
+    err_exit _ (RefusesBy (MeetingFault (tree_of object) m)) _ c.from_residual-in_err-judge_meeting.ensures.1
+    (not_one_there (tree_of object) (vevents_of object) (vevents_tree object) m (map event_of c.in_ok-components.components.items) c.in_ok-components.ensures.says n
+    (subst (λ (l : List EventComponent). IsNotOne (map event_of l) n) c.deref.ensures.value c.in_err-judge_meeting.ensures.stands))
+
+pub returns-in_err-judge_slots-clause-stands : goal.returns-in_err-judge_slots-clause-stands
+returns-in_err-judge_slots-clause-stands c same =
+    let object = c.args.object.now in
+    let m = method_read c.args.purpose in
+    let events = map event_of c.in_ok-components.components.items in
+    let e = c.in_err-judge_slots.field-0.0 in
+    err_exit _ (RefusesBy (MeetingFault (tree_of object) m)) _ c.from_residual-in_err-judge_slots.ensures.1
+    (weaker_fault _ (SharesSlot events) (MeetingFault (tree_of object) m)
+    (λ n h. slot_there (tree_of object) (vevents_of object) (vevents_tree object) m events c.in_ok-components.ensures.says n (subst (λ (l : List Event). SharesSlot l n) (sym (same events)) h))
+    (subst (λ (l : List EventComponent). RefusesBy (SharesSlot (map event_of l)) e) c.deref-2.ensures.value c.in_err-judge_slots.ensures.stands))

@@ -1,0 +1,31 @@
+-- One line more: it counts where its address is new.
+use Rattle.std.proofs.Common.{◌∙◌, List, map, sym, ap, subst, arith, take_all, refl}
+use Rattle.cal_events.specs.Events.{attendee_of}
+use Rattle.profile.specs.events.Events.{Attendee}
+use Rattle.profile.specs.organisers.Objects.{counted}
+use Rattle.itip_messages.proofs.CountedLines.{AreCounted, line_counts, line_known, lines_more, none_counted}
+use Rattle.itip_messages.proofs.attendees.counted_among.Goals as goal
+use Rattle.itip_messages.proofs.attendees.counted_among.Goals.{then-branch+in_ok-push, else-branch}
+
+pub loop-line-init : goal.loop-line-init
+loop-line-init c = none_counted c.new-counted.result.items c.new-seen.result.keys c.new-counted.ensures.items c.new-seen.ensures.empty
+
+pub loop-line-preserved : goal.loop-line-preserved
+loop-line-preserved c =
+    let lines = c.args.lines.now in
+    let i = c.loop-line.line-index in
+    let more = lines_more lines i c.line-item.result (omega arith) c.line-item.is in
+    let keys = c.in_ok-insert.ensures.keys in
+    elim c.if-branch.branch [
+      | then-branch+in_ok-push w ↦
+          subst (λ (said : List Attendee). AreCounted said c.if-branch.counted.items c.insert.new.self.keys) (sym more)
+          (line_counts _ c.line-item.result _ _ _ c.as_str.result c.loop-line.invariant c.as_str.ensures keys c.if-branch.counted.items _ refl (sym c.in_ok-insert.ensures.added ∙ w.if-branch.true) (ap (λ v. v.items) w.counted-is ∙ w.in_ok-push.ensures.items))
+      | else-branch w ↦
+          subst (λ (said : List Attendee). AreCounted said c.if-branch.counted.items c.insert.new.self.keys) (sym more)
+          (rw w.counted-is (line_known _ c.line-item.result _ _ _ c.as_str.result c.loop-line.invariant c.as_str.ensures keys (sym c.in_ok-insert.ensures.added ∙ w.if-branch.false)))
+    ]
+
+pub returns : goal.returns
+returns c =
+    let all = take_all c.loop-line.line-index c.args.lines.now (omega (arith, c.loop-line-test.false)) in
+    c.loop-line.invariant.count ∙ ap (λ l. counted (map attendee_of l)) all

@@ -1,0 +1,25 @@
+-- One line more.
+use Rattle.std.proofs.Common.{◌++◌, sym, ap, ◌∙◌, subst, refl, append-nil}
+use Rattle.std.specs.Iterator.{AlwaysYields}
+use Rattle.std.specs.Str.Iter.{lines_steps}
+use Rattle.std.specs.Str.Lines.{lines}
+use Rattle.std.proofs.lemmas.Iterator.Splits.{YieldsList-from_lines}
+use Rattle.profile.specs.text.Lines.{written}
+use Rattle.ical_lines.proofs.Yields.{some_more, none_more}
+use Rattle.itip_messages.proofs.WrittenLines.{one_written}
+use Rattle.itip_messages.proofs.body_text.write_lines.Goals as goal
+
+pub loop-line-init : goal.loop-line-init
+loop-line-init c = (lines c.args.text.now, subst (λ s. AlwaysYields lines_steps (λ x. x.now) s (lines c.args.text.now)) (sym c.into_iter-line-iterator.ensures.into_iter_gives) (YieldsList-from_lines c.args.text.now c.lines-line-items.ensures.rest).runs, refl)
+
+pub loop-line-preserved : goal.loop-line-preserved
+loop-line-preserved c =
+    let i = c.loop-line.invariant in
+    let more = some_more lines_steps (λ x. x.now) c.loop-line.line-iterator c.next.new.self c.in-Some.line i.0 i.1 c.in-Some.ensures.steps in
+    (more.0, more.2, one_written c.loop-line.object c.line.new.self c.in-Some.line.now i.0 more.0 _ c.in_ok-line.ensures.ok more.1 i.2)
+
+pub returns : goal.returns
+returns c =
+    let i = c.loop-line.invariant in
+    let none = none_more lines_steps (λ x. x.now) c.loop-line.line-iterator c.next.new.self i.0 i.1 c.in-None.ensures.steps in
+    sym (append-nil c.loop-line.object) ∙ ap (λ l. c.loop-line.object ++ written l) (sym none) ∙ i.2

@@ -1,0 +1,84 @@
+//! The zones of an object that is written (RFC 5545 3.6.5): each once, in order of first use, under the names `Z1`, `Z2`, ..
+ghost use Rattle.std.specs.Prelude.{◌≡◌, [], ◌++◌, ◌+◌, ◌<◌, ◌^◌, ℕ, List, Some, length, map, slice_get, IfOk, OnOk};
+ghost use Rattle.profile.specs.rooms.Kept.{zone_name, zone_texts};
+ghost use Rattle.profile.specs.rooms.Messages.{zone_text};
+ghost use Rattle.itip_messages.specs.Zoning.{with_zone};
+
+use crate::writer::ObjectWriter;
+use indexmap::IndexSet;
+use itoa::Buffer;
+use std::alloc::{AllocError, Global};
+use std::marker::Model;
+
+/// The zones so far, each as what stands behind the name of its VTIMEZONE.
+#[derive(Drop)]
+pub struct Zones {
+    alloc: Global,
+    rests: IndexSet<Vec<u8>>,
+}
+
+impl Model for Zones {
+    ghost Value = { List (List ℕ) };
+
+    ghost view = { λ zones. map (λ rest. rest.items) zones.rests.keys };
+}
+
+impl Zones {
+    /// None yet.
+    pub fn new(alloc: Global) -> Zones
+        ensures { result ≡ [] }
+    {
+        Zones {
+            alloc,
+            rests: IndexSet::new(alloc),
+        }
+    }
+
+    /// The number of a zone, counted from 1. One that isn't there yet is put behind the others. It takes as many steps as the
+    /// zone has octets.
+    pub fn number_of(&mut self, rest: &[u8]) -> Result<usize, AllocError>
+        ensures zones { OnOk result (self.new ≡ with_zone self.old rest.now) }
+        ensures number { IfOk result (λ number. (place : ℕ) × (number ≡ place + 1) × (slice_get self.new place ≡ Some rest.now)) }
+    {
+        let place = self.place_of(rest)?;
+        // no list has so many elements that there is no next number
+        let _count = self.rests.len();
+        Ok(place + 1)
+    }
+
+    /// The place of a zone, counted from 0.
+    fn place_of(&mut self, rest: &[u8]) -> Result<usize, AllocError>
+        ensures zones { OnOk result (self.new ≡ with_zone self.old rest.now) }
+        ensures there { IfOk result (λ place. slice_get self.new place ≡ Some rest.now) }
+    {
+        if let Some(place) = self.rests.get_index_of(rest) {
+            return Ok(place);
+        }
+        let copy = Vec::from_slice(self.alloc, rest)?;
+        let (place, _) = self.rests.insert_full(copy)?;
+        Ok(place)
+    }
+
+    /// Writes each zone under its number.
+    pub fn write(&self, object: &mut ObjectWriter) -> Result<(), AllocError>
+        ensures texts { OnOk result (object.new ≡ object.old ++ zone_texts 0 self.now) }
+        ensures few { length self.now < 2 ^ 64 }
+    {
+        let mut number = 0;
+        for rest in self.rests.iter() {
+            number += 1;
+            write_zone(object, number, rest.as_slice())?;
+        }
+        Ok(())
+    }
+}
+
+/// The VTIMEZONE with this behind its name, under a number.
+fn write_zone(object: &mut ObjectWriter, number: usize, rest: &[u8]) -> Result<(), AllocError>
+    ensures { (place : ℕ) → number ≡ place + 1 → OnOk result (object.new ≡ object.old ++ zone_text (zone_name place) rest.now) }
+{
+    let mut digits = Buffer::new();
+    object.line("BEGIN:VTIMEZONE")?;
+    object.named("TZID:Z", digits.format(number))?;
+    object.octets(rest)
+}

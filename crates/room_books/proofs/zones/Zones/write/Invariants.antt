@@ -1,9 +1,0 @@
--- The zones that are left come under the numbers that follow.
-use Rattle.std.proofs.Common.{◌≡◌, ◌++◌, ◌+◌, length, map}
-use Rattle.profile.specs.rooms.Kept.{zone_texts}
-use Rattle.room_books.proofs.zones.Zones.write.Given as goal
-
-abbrev pub invariant-loop-rest : goal.invariant-loop-rest
-invariant-loop-rest l =
-    (l.object ++ zone_texts l.number (map (λ text. text.items) l.rest-iterator) ≡ l.fn.object ++ zone_texts 0 l.self)
-    × (l.number + length l.rest-iterator ≡ length l.self)
