@@ -11,8 +11,8 @@ pub mod ZonePlaces
 pub mod ZoneNames
 pub mod ZonedObjects
 pub mod ZonedStarts
-pub mod SentOwn
-pub mod SentWhen
+pub mod OwnLines
+pub mod OwnWhen
 pub mod BodyLemmas
 pub mod WordText
 pub mod ReplyLines
@@ -20,6 +20,7 @@ pub mod ReplyReads
 pub mod RefreshReads
 pub mod AnswerReads
 pub mod SentTexts
+pub mod SentBehind
 pub mod CancelReads
 pub mod EventLines
 pub mod StoredEvents

@@ -18,7 +18,7 @@ use Rattle.itip_messages.proofs.SentParts.{IsAlike, names_same, same_parts}
 use Rattle.itip_messages.proofs.CleanText.{clean_address}
 use Rattle.itip_messages.proofs.ObjectTree.{calendar_own}
 use Rattle.itip_messages.proofs.SentEvents.{ReadsLine}
-use Rattle.itip_messages.proofs.SentOwn.{IsAttendeeText}
+use Rattle.itip_messages.proofs.SentBehind.{IsAttendeeText}
 use Rattle.itip_messages.proofs.SentTexts.{text_of}
 use Rattle.itip_messages.proofs.WrittenMeetings.{written_back}
 use Rattle.itip_messages.proofs.StoredEvents.{AreStored, stored_events}

@@ -22,9 +22,10 @@ use Rattle.itip_messages.proofs.CleanUids.{clean_text}
 use Rattle.itip_messages.proofs.ObjectTree.{Lines, vevent_lines}
 use Rattle.itip_messages.proofs.ReplyLines.{AreOwn}
 use Rattle.itip_messages.proofs.SentContents.{same_content}
-use Rattle.itip_messages.proofs.SentOwn.{IsAttendeeText, SpellPart, SpellSlot, own_front, own_lines, sent_event, sent_says, slot_lines, when_lines}
+use Rattle.itip_messages.proofs.OwnLines.{SpellPart, SpellSlot, event_again, own_front, own_lines, own_says, slot_lines, when_lines}
+use Rattle.itip_messages.proofs.SentBehind.{IsAttendeeText, behind_own, behind_says, own_back}
 use Rattle.itip_messages.proofs.SentTexts.{text_of}
-use Rattle.itip_messages.proofs.SentWhen.{IsCleanSlot, duration_clean, duration_of, sent_own, sent_rule, when_of}
+use Rattle.itip_messages.proofs.OwnWhen.{IsCleanSlot, are_own, duration_clean, duration_of, when_of, written_rule}
 use Rattle.itip_messages.proofs.StoredEvents.{IsStored}
 use Rattle.itip_messages.proofs.ZonedObjects.{IsZonedTree}
 use Rattle.itip_messages.proofs.ZonedStarts.{local_written, name_means, name_plain}
@@ -88,14 +89,15 @@ module _ (word : Option (List ℕ)) (IsLine : Slot → Attendee → List ℕ →
       let told = slot_told event.recurrence t.slot t.tells_slot f.dated in
       let plain = name_plain zones content event c t.name t.named in
       let l = named_lines t.name content event c in
-      let rule = sent_rule event.times (local_written event.times.zone event.times) f.facts.local f.meaning event.rule c.rule f.facts.recurs c.recurs in
+      let rule = written_rule event.times (local_written event.times.zone event.times) f.facts.local f.meaning event.rule c.rule f.facts.recurs c.recurs in
       let w = when_of t.name content event c l plain false f.facts rule event.recurrence (λ h. h) in
       let a = attendees_back IsLine IsSuch back (slot_of event) (counted event.attendees) t.attendees (λ x k. f.attendees x (counted_among event.attendees x k)) t.each in
       let sequence = decimal revision.sequence in
       let when = when_lines l.start (duration_of event) c.rule c.additions c.exceptions in
       let tail = (codes "SUMMARY:" ++ escaped event.summary) ∷ (codes "ORGANIZER:" ++ organiser) ∷ t.attendees in
       let front = own_front told.text (escaped uid) sequence d.stamp in
-      let said = sent_event event event.recurrence organiser revision rule.back w.adds.ascending w.takes.ascending a.0 in
+      let behind = own_back event.cancelled (escaped event.summary) organiser t.attendees in
+      let said = event_again event event.recurrence organiser revision rule.back w.adds.ascending w.takes.ascending event.cancelled event.summary a.0 in
       let spell : SpellPart event.uid revision (escaped uid) sequence d.stamp organiser = record {
         uid_there = f.named ∙ sym (read_back uid);
         is_uid = subst (λ (u : List ℕ). IsUid u) (sym f.named) f.is_uid;
@@ -106,19 +108,19 @@ module _ (word : Option (List ℕ)) (IsLine : Slot → Attendee → List ℕ →
       } in
       let same_times : said.times ≡ event.times = ap (λ (n : ℤ). record { zone = event.times.zone; local = n; start = event.times.start; length = event.times.length }) f.facts.local in
       record {
-        own = own_lines told.text (escaped uid) sequence d.stamp when event.cancelled (escaped event.summary) organiser t.attendees;
+        own = own_lines told.text (escaped uid) sequence d.stamp when behind;
         said = said;
         are =
             t.is
             ∙ (λ i. (codes "BEGIN:VEVENT" ∷ (codes "UID:" ++ escaped uid) ∷ told.are i) ++ d.is i ++ l.are i ++ status_lines event.cancelled ++ tail ++ codes "END:VEVENT" ∷ [])
             ∙ ap (λ (x : Lines). codes "BEGIN:VEVENT" ∷ (x ++ codes "END:VEVENT" ∷ [])) (append_assoc (front ++ when) (status_lines event.cancelled) tail);
         good =
-            sent_own t.name event event.recurrence l.start (duration_of event) c.rule c.additions c.exceptions rule.back event.additions _ w told.text (escaped uid) sequence d.stamp (escaped event.summary) organiser t.attendees a.0 told.clean (clean_text uid f.text)
-            (clean_shown sequence (shown_decimal revision.sequence (omega (arith, small)))) (clean_shown d.stamp (shown_stamp d.stamp revision.stamp d.tells)) (duration_clean event) (clean_text event.summary f.summary)
-            (clean_address organiser (text_of organiser f.address)) a.1;
+            are_own t.name event event.recurrence l.start (duration_of event) c.rule c.additions c.exceptions rule.back event.additions _ w told.text (escaped uid) sequence d.stamp behind told.clean (clean_text uid f.text)
+            (clean_shown sequence (shown_decimal revision.sequence (omega (arith, small)))) (clean_shown d.stamp (shown_stamp d.stamp revision.stamp d.tells)) (duration_clean event)
+            (behind_own event.cancelled (escaped event.summary) organiser t.attendees a.0 (clean_text event.summary f.summary) (clean_address organiser (text_of organiser f.address)) a.1);
         says = λ all k.
-            sent_says t.name event told.text event.recurrence revision (escaped uid) sequence d.stamp l.start (duration_of event) (escaped event.summary) organiser t.attendees a.0 c.rule c.additions c.exceptions rule.back event.additions _ spell a.1
-            (sym (read_back event.summary)) w told.spells k.whole (name_means word zones all k content event c f.zone t.name t.named);
+            own_says t.name event told.text event.recurrence revision (escaped uid) sequence d.stamp l.start (duration_of event) organiser behind event.cancelled event.summary a.0 c.rule c.additions c.exceptions rule.back event.additions _ spell
+            (behind_says event.cancelled event.summary organiser t.attendees a.0 a.1) w told.spells k.whole (name_means word zones all k content event c f.zone t.name t.named);
         is = record {
           uid = refl;
           organiser = sym f.organised;

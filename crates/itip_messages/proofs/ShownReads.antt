@@ -15,8 +15,9 @@ use Rattle.itip_messages.specs.SentBack.{HasAnswered, IsSentAddress, SpellsShown
 use Rattle.itip_messages.proofs.CleanText.{clean_address}
 use Rattle.itip_messages.proofs.ContentLines.{LinesBack, ReadsLines, no_method}
 use Rattle.itip_messages.proofs.ObjectTree.{Lines}
+use Rattle.itip_messages.proofs.OwnLines.{as_event}
 use Rattle.itip_messages.proofs.SentEvents.{ReadsLine}
-use Rattle.itip_messages.proofs.SentOwn.{IsAttendeeText}
+use Rattle.itip_messages.proofs.SentBehind.{IsAttendeeText}
 use Rattle.itip_messages.proofs.SentTexts.{text_of}
 use Rattle.itip_messages.proofs.StoredEvents.{AreStored, stored_events}
 use Rattle.itip_messages.proofs.WrittenMeetings.{written_back}
@@ -108,21 +109,6 @@ shown_reads_line book stored slot attendee line s (answer, seen, e) =
     (said, subst (λ (l : List ℕ). IsAttendeeText l said) (sym e) text, (answer, seen, refl))
 
 -- ---- an object without METHOD
-
--- it needs no more than a REQUEST does
-as_event : (object : Tree) (lines : Lines) (event : Event) → SaysEvent object (Some Request) lines event → SaysEvent object None lines event
-as_event object lines event s = record {
-  uid = s.uid;
-  organiser = record { line = s.organiser.line; once = s.organiser.once; stands = λ h. s.organiser.stands refl; is = s.organiser.is };
-  stamp = record { line = s.stamp.line; once = s.stamp.once; stands = λ h. s.stamp.stands refl; is = s.stamp.is };
-  sequence = s.sequence;
-  status = s.status;
-  times = s.times;
-  rule = s.rule;
-  occurrences = s.occurrences;
-  summary = s.summary;
-  attendees = s.attendees;
-}
 
 as_events : (object : Tree) (vs : List Lines) (events : List Event) → AllZip (SaysEvent object (Some Request)) vs events → AllZip (SaysEvent object None) vs events
 as_events object [] [] z = tt

@@ -31,7 +31,7 @@ use Rattle.itip_messages.proofs.CleanText.{text_address}
 use Rattle.itip_messages.proofs.CleanUids.{text_value}
 use Rattle.itip_messages.proofs.EventLines.{clean_value, vevent_among}
 use Rattle.itip_messages.proofs.ObjectTree.{Lines}
-use Rattle.itip_messages.proofs.SentWhen.{EventFacts, stored_facts}
+use Rattle.itip_messages.proofs.OwnWhen.{EventFacts, stored_facts}
 use Rattle.itip_messages.proofs.ZonedStarts.{IsSaid}
 
 -- one of the events, of this meeting

@@ -1,19 +1,15 @@
--- What the lines of a VEVENT that an organiser writes say: the event again, in another revision, with the attendees that such lines say.
+-- What the lines of a VEVENT say that is written of an event: the event again, in this revision. Its start may be in a zone, and it may have lists.
 use Rattle.std.proofs.Common.{◌≡◌, ◌∙◌, inl, refl, sym, ap, subst, ℕ, ℤ, ◌≤◌, Bool, true, false, cond, ◌||◌, ◌&&◌, List, [], ◌∷◌, ◌++◌, length, codes, Option, Some, None, append-nil}
-use Rattle.std.specs.Prelude.{filter, Contains, is_some, option_map, unwrap_or}
-use Rattle.std.specs.Option.{option_to_list}
+use Rattle.std.specs.Prelude.{filter, Contains, is_some}
 use Rattle.std.specs.List.{list_all, list_any, flat_map, AllZip}
 use Rattle.std.proofs.lemmas.Bool.{false≢true}
 use Rattle.std.proofs.Math.Bool.{and-false}
 use Rattle.profile.specs.text.Trees.{Tree}
 use Rattle.profile.specs.text.Values.{SpellsStamp, SpellsSequence, SpellsDuration, unescaped, IsAddress, IsUid, lower_case}
-use Rattle.profile.specs.text.Lines.{is_content, is_same_name, line_value}
-use Rattle.profile.specs.organisers.Sent.{status_lines}
 use Rattle.profile.specs.rooms.Revisions.{Revision}
-use Rattle.profile.specs.events.Events.{Attendee, Event, IsAttendee, Request, SaysEvent, first_text}
+use Rattle.profile.specs.events.Events.{Attendee, Event, IsAttendee, Request, SaysEvent, first_text, summary_of}
 use Rattle.itip_messages.proofs.SentTexts.{none_passes}
-use Rattle.profile.specs.text.Objects.{is_property}
-use Rattle.profile.specs.events.Occurrences.{IsListed, IsInside, entries_of, entries_named, most_entries}
+use Rattle.profile.specs.events.Occurrences.{SaysStatus, IsListed, IsInside, entries_of, entries_named, most_entries}
 use Rattle.profile.specs.events.Properties.{is_of, lines_named, length_seconds, longest}
 use Rattle.profile.specs.events.ZonedTimes.{EventTimes, SaysEventTimes, IsInDates, clock_of}
 use Rattle.profile.specs.rooms.Messages.{WritesTimes}
@@ -38,28 +34,27 @@ slot_lines (Some text) = (codes "RECURRENCE-ID:" ++ text) ∷ []
 abbrev pub own_front : (recurrence : Option (List ℕ)) (uid sequence stamp : List ℕ) → Lines
 own_front recurrence uid sequence stamp = ((codes "UID:" ++ uid) ∷ slot_lines recurrence) ++ ((codes "SEQUENCE:" ++ sequence) ∷ (codes "DTSTAMP:" ++ stamp) ∷ [])
 
-abbrev pub own_back : (cancelled : Bool) (summary organiser : List ℕ) (attendees : Lines) → Lines
-own_back cancelled summary organiser attendees = status_lines cancelled ++ ((codes "SUMMARY:" ++ summary) ∷ (codes "ORGANIZER:" ++ organiser) ∷ attendees)
-
 -- what says when it is
 abbrev pub when_lines : (start duration : List ℕ) (rules additions exceptions : Lines) → Lines
 when_lines start duration rules additions exceptions = start ∷ (codes "DURATION:" ++ duration) ∷ (rules ++ (additions ++ exceptions))
 
 -- the own lines
-abbrev pub own_lines : (recurrence : Option (List ℕ)) (uid sequence stamp : List ℕ) (when : Lines) (cancelled : Bool) (summary organiser : List ℕ) (attendees : Lines) → Lines
-own_lines recurrence uid sequence stamp when cancelled summary organiser attendees = own_front recurrence uid sequence stamp ++ when ++ own_back cancelled summary organiser attendees
+abbrev pub own_lines : (recurrence : Option (List ℕ)) (uid sequence stamp : List ℕ) (when behind : Lines) → Lines
+own_lines recurrence uid sequence stamp when behind = own_front recurrence uid sequence stamp ++ when ++ behind
 
--- the event that is said again, with its instants ascending; in UTC the local time is the instant
-abbrev pub sent_event : Event → Option ℤ → List ℕ → Revision → Option Parts → List ℤ → List ℤ → List Attendee → Event
-sent_event event recurrence organiser revision rule additions exceptions attendees = record event {
+-- the event that is said of an event, in this revision, with its instants ascending; in UTC the local time is the instant
+abbrev pub event_again : Event → Option ℤ → List ℕ → Revision → Option Parts → List ℤ → List ℤ → Bool → List ℕ → List Attendee → Event
+event_again event recurrence organiser revision rule additions exceptions cancelled summary attendees = record event {
   organiser = Some organiser;
   stamp = Some revision.stamp;
   sequence = revision.sequence;
+  cancelled = cancelled;
   recurrence = recurrence;
   times = record { zone = event.times.zone; local = local_written event.times.zone event.times; start = event.times.start; length = event.times.length };
   rule = rule;
   additions = additions;
   exceptions = exceptions;
+  summary = summary;
   attendees = attendees;
 }
 
@@ -92,13 +87,6 @@ pub record SpellPart (uid_is : List ℕ) (revision : Revision) (uid sequence sta
   pub stamped_is : SpellsStamp stamp revision.stamp
   pub organised : IsAddress organiser
   pub lower : lower_case organiser ≡ organiser
-
--- the line of an attendee, which says this one
-pub record IsAttendeeText (line : List ℕ) (attendee : Attendee) : Type 0 where
-  pub content : is_content line ≡ true
-  pub property : is_property line ≡ true
-  pub named : (other : List ℕ) → is_of other line ≡ is_of other (codes "ATTENDEE:")
-  pub says : IsAttendee line attendee
 
 -- which instance it is
 abbrev pub SpellSlot : Option (List ℕ) → Option ℤ → Type 0
@@ -208,48 +196,20 @@ module _ (name : List ℕ) (event : Event) (slot : Option ℤ) (start duration :
 
 -- ---- behind what says when it is
 
-back_of : (other : List ℕ) (cancelled : Bool) (summary organiser : List ℕ) (attendees : Lines) → lines_named other (own_back cancelled summary organiser attendees)
-    ≡ lines_named other (status_lines cancelled) ++ lines_named other ((codes "SUMMARY:" ++ summary) ∷ (codes "ORGANIZER:" ++ organiser) ∷ attendees)
-back_of other cancelled summary organiser attendees = filter_both (is_of other) (status_lines cancelled) ((codes "SUMMARY:" ++ summary) ∷ (codes "ORGANIZER:" ++ organiser) ∷ attendees)
+-- a property of another name than those that stand there
+pub record IsElsewhere (other : List ℕ) : Type 0 where
+  pub status : is_of other (codes "STATUS:CANCELLED") ≡ false
+  pub summary : (v : List ℕ) → is_of other (codes "SUMMARY:" ++ v) ≡ false
+  pub organiser : (v : List ℕ) → is_of other (codes "ORGANIZER:" ++ v) ≡ false
+  pub attendee : is_of other (codes "ATTENDEE:") ≡ false
 
-status_none : (other : List ℕ) → is_of other (codes "STATUS:CANCELLED") ≡ false → (cancelled : Bool) → lines_named other (status_lines cancelled) ≡ []
-status_none other e true = ap (λ b. cond b (codes "STATUS:CANCELLED" ∷ []) []) e
-status_none other e false = refl
-
-all_named : (other : List ℕ) (lines : Lines) (said : List Attendee) → AllZip IsAttendeeText lines said → lines_named other lines ≡ cond (is_of other (codes "ATTENDEE:")) lines []
-all_named other [] said z = either (is_of other (codes "ATTENDEE:")) []
-  where
-    either : (b : Bool) (none : Lines) → none ≡ cond b none none
-    either true none = refl
-    either false none = refl
-all_named other (line ∷ lines) [] z = absurd z
-all_named other (line ∷ lines) (a ∷ said) z =
-    ap (λ b. cond b (line ∷ lines_named other lines) (lines_named other lines)) (z.0.named other) ∙ go (is_of other (codes "ATTENDEE:")) (all_named other lines said z.1)
-  where
-    go : (b : Bool) → lines_named other lines ≡ cond b lines [] → cond b (line ∷ lines_named other lines) (lines_named other lines) ≡ cond b (line ∷ lines) []
-    go true e = ap (λ l. line ∷ l) e
-    go false e = e
-
-asked_none : (other : List ℕ) → is_of other (codes "ATTENDEE:") ≡ false → (lines : Lines) (said : List Attendee) → AllZip IsAttendeeText lines said → lines_named other lines ≡ []
-asked_none other e lines said z = all_named other lines said z ∙ ap (λ b. cond b lines []) e
-
-asked_all : (lines : Lines) (said : List Attendee) → AllZip IsAttendeeText lines said → lines_named (codes "ATTENDEE") lines ≡ lines
-asked_all lines said z = all_named (codes "ATTENDEE") lines said z
-
--- the name stands in none of these lines
-record IsElsewhere (other : List ℕ) : Type 0 where
-  status : is_of other (codes "STATUS:CANCELLED") ≡ false
-  summary : (v : List ℕ) → is_of other (codes "SUMMARY:" ++ v) ≡ false
-  organiser : (v : List ℕ) → is_of other (codes "ORGANIZER:" ++ v) ≡ false
-  attendee : is_of other (codes "ATTENDEE:") ≡ false
-
-back_none : (other : List ℕ) → IsElsewhere other → (cancelled : Bool) (summary organiser : List ℕ) (attendees : Lines) (said : List Attendee) → AllZip IsAttendeeText attendees said → lines_named other (own_back cancelled summary organiser attendees) ≡ []
-back_none other e cancelled summary organiser attendees said z =
-    let rest = lines_named other attendees in
-    let behind : lines_named other ((codes "SUMMARY:" ++ summary) ∷ (codes "ORGANIZER:" ++ organiser) ∷ attendees) ≡ [] =
-    (λ i. cond (e.summary summary i) ((codes "SUMMARY:" ++ summary) ∷ cond (e.organiser organiser i) ((codes "ORGANIZER:" ++ organiser) ∷ rest) rest) (cond (e.organiser organiser i) ((codes "ORGANIZER:" ++ organiser) ∷ rest) rest))
-    ∙ asked_none other e.attendee attendees said z in
-    back_of other cancelled summary organiser attendees ∙ (λ i. status_none other e.status cancelled i ++ behind i)
+-- the lines say whether the event is cancelled, what it is about, and who is asked; and nothing of its other properties
+pub record IsBehind (behind : Lines) (organiser : List ℕ) (is_cancelled : Bool) (about : List ℕ) (said : List Attendee) : Type 0 where
+  pub elsewhere : (other : List ℕ) → IsElsewhere other → lines_named other behind ≡ []
+  pub organised : lines_named (codes "ORGANIZER") behind ≡ (codes "ORGANIZER:" ++ organiser) ∷ []
+  pub status : SaysStatus behind is_cancelled
+  pub summary : about ≡ summary_of behind
+  pub attendees : AllZip IsAttendee (lines_named (codes "ATTENDEE") behind) said
 
 elsewhere_uid : IsElsewhere (codes "UID")
 elsewhere_uid = record { status = refl; summary = λ v. refl; organiser = λ v. refl; attendee = refl }
@@ -281,54 +241,17 @@ elsewhere_exceptions = record { status = refl; summary = λ v. refl; organiser =
 elsewhere_recurrence : IsElsewhere (codes "RECURRENCE-ID")
 elsewhere_recurrence = record { status = refl; summary = λ v. refl; organiser = λ v. refl; attendee = refl }
 
--- the lines that stand there
-module _ (cancelled : Bool) (summary organiser : List ℕ) (attendees : Lines) (said : List Attendee) (z : AllZip IsAttendeeText attendees said) where
-  back_summary : lines_named (codes "SUMMARY") (own_back cancelled summary organiser attendees) ≡ (codes "SUMMARY:" ++ summary) ∷ []
-  back_summary =
-      back_of (codes "SUMMARY") cancelled summary organiser attendees
-      ∙ (λ i. status_none (codes "SUMMARY") refl cancelled i ++ ((codes "SUMMARY:" ++ summary) ∷ asked_none (codes "SUMMARY") refl attendees said z i))
-
-  back_organiser : lines_named (codes "ORGANIZER") (own_back cancelled summary organiser attendees) ≡ (codes "ORGANIZER:" ++ organiser) ∷ []
-  back_organiser =
-      back_of (codes "ORGANIZER") cancelled summary organiser attendees
-      ∙ (λ i. status_none (codes "ORGANIZER") refl cancelled i ++ ((codes "ORGANIZER:" ++ organiser) ∷ asked_none (codes "ORGANIZER") refl attendees said z i))
-
-  back_attendees : lines_named (codes "ATTENDEE") (own_back cancelled summary organiser attendees) ≡ attendees
-  back_attendees =
-      back_of (codes "ATTENDEE") cancelled summary organiser attendees ∙ (λ i. status_none (codes "ATTENDEE") refl cancelled i ++ asked_all attendees said z i)
-
--- and STATUS, where it stands
-abbrev status_line : Bool → Option (List ℕ)
-status_line true = Some (codes "STATUS:CANCELLED")
-status_line false = None
-
-back_status : (cancelled : Bool) (summary organiser : List ℕ) (attendees : Lines) (said : List Attendee) → AllZip IsAttendeeText attendees said → lines_named (codes "STATUS") (own_back cancelled summary organiser attendees) ≡ option_to_list (status_line cancelled)
-back_status true summary organiser attendees said z = ap (λ l. codes "STATUS:CANCELLED" ∷ l) (asked_none (codes "STATUS") refl attendees said z)
-back_status false summary organiser attendees said z = asked_none (codes "STATUS") refl attendees said z
-
-status_said : (cancelled : Bool) → cancelled ≡ unwrap_or (option_map (λ status. is_same_name (line_value status) (codes "CANCELLED")) (status_line cancelled)) false
-status_said true = refl
-status_said false = refl
-
-all_say : (lines : Lines) (said : List Attendee) → AllZip IsAttendeeText lines said → AllZip IsAttendee lines said
-all_say [] [] z = tt
-all_say [] (a ∷ said) z = absurd z
-all_say (line ∷ lines) [] z = absurd z
-all_say (line ∷ lines) (a ∷ said) z = (z.0.says, all_say lines said z.1)
-
 -- ---- what they say
 
 -- the lines whose names stand nowhere but in front, behind, or as the duration
-module _ (name : List ℕ) (event : Event) (recurrence : Option (List ℕ)) (slot : Option ℤ) (revision : Revision) (uid sequence stamp start duration summary organiser : List ℕ) (attendees : Lines) (said : List Attendee) (rules additions exceptions : Lines) (back : Option Parts) (added taken : List ℤ)
-    (s : SpellPart event.uid revision uid sequence stamp organiser) (z : AllZip IsAttendeeText attendees said) (summarised : event.summary ≡ unescaped summary) (w : SpellWhen name event slot start duration rules additions exceptions back added taken) where
-  abbrev behind : Lines
-  behind = own_back event.cancelled summary organiser attendees
-
+module _ (name : List ℕ) (event : Event) (recurrence : Option (List ℕ)) (slot : Option ℤ) (revision : Revision) (uid sequence stamp start duration organiser : List ℕ) (behind : Lines) (is_cancelled : Bool) (about : List ℕ) (said : List Attendee)
+    (rules additions exceptions : Lines) (back : Option Parts) (added taken : List ℤ) (s : SpellPart event.uid revision uid sequence stamp organiser) (b : IsBehind behind organiser is_cancelled about said)
+    (w : SpellWhen name event slot start duration rules additions exceptions back added taken) where
   none_behind : (other : List ℕ) → IsElsewhere other → lines_named other behind ≡ []
-  none_behind other e = back_none other e event.cancelled summary organiser attendees said z
+  none_behind other e = b.elsewhere other e
 
   abbrev own : Option (List ℕ) → Lines
-  own r = own_lines r uid sequence stamp (when_lines start duration rules additions exceptions) event.cancelled summary organiser attendees
+  own r = own_lines r uid sequence stamp (when_lines start duration rules additions exceptions) behind
 
   named_of : (r : Option (List ℕ)) (other : List ℕ) → is_of other (codes "DTSTART:") ≡ false → ((v : List ℕ) → is_of other (codes "RRULE:" ++ v) ≡ false) → ((v : List ℕ) → is_of other ((codes "RDATE" ++ codes ":") ++ v) ≡ false) → ((v : List ℕ) → is_of other ((codes "EXDATE" ++ codes ":") ++ v) ≡ false)
       → ((rest : Lines) → lines_named other ((codes "DURATION:" ++ duration) ∷ rest) ≡ lines_named other rest)
@@ -389,31 +312,31 @@ module _ (name : List ℕ) (event : Event) (recurrence : Option (List ℕ)) (slo
           sym (start_once name event slot start duration rules additions exceptions back added taken w (own_front r uid sequence stamp) behind
           ∙ (λ i. (no_start i ++ start ∷ []) ++ none_behind (codes "DTSTART") elsewhere_start i))
 
-      go : (b : Option Parts) → SpellRule (clock_of event.times.zone) (local_written event.times.zone event.times) rules b → SaysEventRule (own r) times b
+      go : (o : Option Parts) → SpellRule (clock_of event.times.zone) (local_written event.times.zone event.times) rules o → SaysEventRule (own r) times o
       go None none = record {
         text = None;
         spells = record { line = None; once = rules_of r lacks ∙ none; stands = λ h. absurd (false≢true h); is = tt };
         gives = subst (λ (l : Lines). GivesBeside l times None None) starts tt;
       }
-      go (Some b) (value, are, shown, (text, spelled, gives)) = record {
+      go (Some o) (value, are, shown, (text, spelled, gives)) = record {
         text = Some text;
         spells = record { line = Some (codes "RRULE:" ++ value); once = rules_of r lacks ∙ are; stands = λ h. absurd (false≢true h); is = spelled };
-        gives = subst (λ (l : Lines). GivesBeside l times (Some text) (Some b)) starts gives;
+        gives = subst (λ (l : Lines). GivesBeside l times (Some text) (Some o)) starts gives;
       }
 
-  pub sent_says : SpellSlot recurrence slot → (object : Tree) → MeansZone object name event.times.zone
-      → SaysEvent object (Some Request) (own_lines recurrence uid sequence stamp (when_lines start duration rules additions exceptions) event.cancelled summary organiser attendees) (sent_event event slot organiser revision back w.adds.ascending w.takes.ascending said)
-  sent_says spells object m = go recurrence slot spells w.alone
+  pub own_says : SpellSlot recurrence slot → (object : Tree) → MeansZone object name event.times.zone
+      → SaysEvent object (Some Request) (own_lines recurrence uid sequence stamp (when_lines start duration rules additions exceptions) behind) (event_again event slot organiser revision back w.adds.ascending w.takes.ascending is_cancelled about said)
+  own_says spells object m = go recurrence slot spells w.alone
     where
-      go : (r : Option (List ℕ)) (o : Option ℤ) → SpellSlot r o → IsAlone o rules additions → SaysEvent object (Some Request) (own r) (sent_event event o organiser revision back w.adds.ascending w.takes.ascending said)
+      go : (r : Option (List ℕ)) (o : Option ℤ) → SpellSlot r o → IsAlone o rules additions → SaysEvent object (Some Request) (own r) (event_again event o organiser revision back w.adds.ascending w.takes.ascending is_cancelled about said)
       go None (Some i) q a = absurd q
       go (Some text) None q a = absurd q
       go None None q a = record {
         uid = record { line = Some (codes "UID:" ++ uid); once = named_of None (codes "UID") refl (λ v. refl) (λ v. refl) (λ v. refl) (λ rest. refl) [] (none_behind (codes "UID") elsewhere_uid); stands = λ _. refl; is = (s.uid_there, s.is_uid) };
-        organiser = record { line = Some (codes "ORGANIZER:" ++ organiser); once = named_of None (codes "ORGANIZER") refl (λ v. refl) (λ v. refl) (λ v. refl) (λ rest. refl) _ (back_organiser event.cancelled summary organiser attendees said z); stands = λ _. refl; is = (s.organised, sym s.lower) };
+        organiser = record { line = Some (codes "ORGANIZER:" ++ organiser); once = named_of None (codes "ORGANIZER") refl (λ v. refl) (λ v. refl) (λ v. refl) (λ rest. refl) _ b.organised; stands = λ _. refl; is = (s.organised, sym s.lower) };
         stamp = record { line = Some (codes "DTSTAMP:" ++ stamp); once = named_of None (codes "DTSTAMP") refl (λ v. refl) (λ v. refl) (λ v. refl) (λ rest. refl) [] (none_behind (codes "DTSTAMP") elsewhere_stamp); stands = λ _. refl; is = s.stamped_is };
         sequence = (Some revision.sequence, record { line = Some (codes "SEQUENCE:" ++ sequence); once = named_of None (codes "SEQUENCE") refl (λ v. refl) (λ v. refl) (λ v. refl) (λ rest. refl) [] (none_behind (codes "SEQUENCE") elsewhere_sequence); stands = λ _. refl; is = s.numbered }, refl);
-        status = (status_line event.cancelled, named_of None (codes "STATUS") refl (λ v. refl) (λ v. refl) (λ v. refl) (λ rest. refl) _ (back_status event.cancelled summary organiser attendees said z), status_said event.cancelled);
+        status = (b.status.0, named_of None (codes "STATUS") refl (λ v. refl) (λ v. refl) (λ v. refl) (λ rest. refl) _ b.status.1, b.status.2);
         times = inl (times_of None object m refl refl refl);
         rule = rule_of_lines None refl refl;
         occurrences = record {
@@ -421,17 +344,17 @@ module _ (name : List ℕ) (event : Event) (recurrence : Option (List ℕ)) (slo
           adds = (entries_added None object refl, w.few_added);
           inside = entries_inside None object refl;
           takes = (entries_taken None object refl, w.few_taken);
-          alone = ap (λ b. (false || b) && list_any (λ line. is_of (codes "RRULE") line || is_of (codes "RDATE") line) (own None)) (none_passes (is_of (codes "RECURRENCE-ID")) (own None) (named_of None (codes "RECURRENCE-ID") refl (λ v. refl) (λ v. refl) (λ v. refl) (λ rest. refl) [] (none_behind (codes "RECURRENCE-ID") elsewhere_recurrence)));
+          alone = ap (λ x. (false || x) && list_any (λ line. is_of (codes "RRULE") line || is_of (codes "RDATE") line) (own None)) (none_passes (is_of (codes "RECURRENCE-ID")) (own None) (named_of None (codes "RECURRENCE-ID") refl (λ v. refl) (λ v. refl) (λ v. refl) (λ rest. refl) [] (none_behind (codes "RECURRENCE-ID") elsewhere_recurrence)));
         };
-        summary = summarised ∙ sym (ap first_text (named_of None (codes "SUMMARY") refl (λ v. refl) (λ v. refl) (λ v. refl) (λ rest. refl) _ (back_summary event.cancelled summary organiser attendees said z)));
-        attendees = subst (λ (l : Lines). AllZip IsAttendee l said) (sym (named_of None (codes "ATTENDEE") refl (λ v. refl) (λ v. refl) (λ v. refl) (λ rest. refl) _ (back_attendees event.cancelled summary organiser attendees said z))) (all_say attendees said z);
+        summary = b.summary ∙ sym (ap first_text (named_of None (codes "SUMMARY") refl (λ v. refl) (λ v. refl) (λ v. refl) (λ rest. refl) _ refl));
+        attendees = subst (λ (l : Lines). AllZip IsAttendee l said) (sym (named_of None (codes "ATTENDEE") refl (λ v. refl) (λ v. refl) (λ v. refl) (λ rest. refl) _ refl)) b.attendees;
       }
       go (Some text) (Some i) q a = record {
         uid = record { line = Some (codes "UID:" ++ uid); once = named_of (Some text) (codes "UID") refl (λ v. refl) (λ v. refl) (λ v. refl) (λ rest. refl) [] (none_behind (codes "UID") elsewhere_uid); stands = λ _. refl; is = (s.uid_there, s.is_uid) };
-        organiser = record { line = Some (codes "ORGANIZER:" ++ organiser); once = named_of (Some text) (codes "ORGANIZER") refl (λ v. refl) (λ v. refl) (λ v. refl) (λ rest. refl) _ (back_organiser event.cancelled summary organiser attendees said z); stands = λ _. refl; is = (s.organised, sym s.lower) };
+        organiser = record { line = Some (codes "ORGANIZER:" ++ organiser); once = named_of (Some text) (codes "ORGANIZER") refl (λ v. refl) (λ v. refl) (λ v. refl) (λ rest. refl) _ b.organised; stands = λ _. refl; is = (s.organised, sym s.lower) };
         stamp = record { line = Some (codes "DTSTAMP:" ++ stamp); once = named_of (Some text) (codes "DTSTAMP") refl (λ v. refl) (λ v. refl) (λ v. refl) (λ rest. refl) [] (none_behind (codes "DTSTAMP") elsewhere_stamp); stands = λ _. refl; is = s.stamped_is };
         sequence = (Some revision.sequence, record { line = Some (codes "SEQUENCE:" ++ sequence); once = named_of (Some text) (codes "SEQUENCE") refl (λ v. refl) (λ v. refl) (λ v. refl) (λ rest. refl) [] (none_behind (codes "SEQUENCE") elsewhere_sequence); stands = λ _. refl; is = s.numbered }, refl);
-        status = (status_line event.cancelled, named_of (Some text) (codes "STATUS") refl (λ v. refl) (λ v. refl) (λ v. refl) (λ rest. refl) _ (back_status event.cancelled summary organiser attendees said z), status_said event.cancelled);
+        status = (b.status.0, named_of (Some text) (codes "STATUS") refl (λ v. refl) (λ v. refl) (λ v. refl) (λ rest. refl) _ b.status.1, b.status.2);
         times = inl (times_of (Some text) object m refl refl refl);
         rule = rule_of_lines (Some text) refl refl;
         occurrences = record {
@@ -442,8 +365,23 @@ module _ (name : List ℕ) (event : Event) (recurrence : Option (List ℕ)) (slo
           alone =
               let none : list_any (λ line. is_of (codes "RRULE") line || is_of (codes "RDATE") line) (own (Some text)) ≡ false =
               none_of_both (is_of (codes "RRULE")) (is_of (codes "RDATE")) (own (Some text)) (none_passes (is_of (codes "RRULE")) (own (Some text)) (rules_of (Some text) refl ∙ a.0)) (none_passes (is_of (codes "RDATE")) (own (Some text)) (adds_of (Some text) refl ∙ a.1)) in
-              ap (λ b. (false || list_any (is_of (codes "RECURRENCE-ID")) (own (Some text))) && b) none ∙ and-false (false || list_any (is_of (codes "RECURRENCE-ID")) (own (Some text)));
+              ap (λ x. (false || list_any (is_of (codes "RECURRENCE-ID")) (own (Some text))) && x) none ∙ and-false (false || list_any (is_of (codes "RECURRENCE-ID")) (own (Some text)));
         };
-        summary = summarised ∙ sym (ap first_text (named_of (Some text) (codes "SUMMARY") refl (λ v. refl) (λ v. refl) (λ v. refl) (λ rest. refl) _ (back_summary event.cancelled summary organiser attendees said z)));
-        attendees = subst (λ (l : Lines). AllZip IsAttendee l said) (sym (named_of (Some text) (codes "ATTENDEE") refl (λ v. refl) (λ v. refl) (λ v. refl) (λ rest. refl) _ (back_attendees event.cancelled summary organiser attendees said z))) (all_say attendees said z);
+        summary = b.summary ∙ sym (ap first_text (named_of (Some text) (codes "SUMMARY") refl (λ v. refl) (λ v. refl) (λ v. refl) (λ rest. refl) _ refl));
+        attendees = subst (λ (l : Lines). AllZip IsAttendee l said) (sym (named_of (Some text) (codes "ATTENDEE") refl (λ v. refl) (λ v. refl) (λ v. refl) (λ rest. refl) _ refl)) b.attendees;
       }
+
+-- an object without METHOD needs no more than a REQUEST does
+pub as_event : (object : Tree) (lines : Lines) (event : Event) → SaysEvent object (Some Request) lines event → SaysEvent object None lines event
+as_event object lines event s = record {
+  uid = s.uid;
+  organiser = record { line = s.organiser.line; once = s.organiser.once; stands = λ h. s.organiser.stands refl; is = s.organiser.is };
+  stamp = record { line = s.stamp.line; once = s.stamp.once; stands = λ h. s.stamp.stands refl; is = s.stamp.is };
+  sequence = s.sequence;
+  status = s.status;
+  times = s.times;
+  rule = s.rule;
+  occurrences = s.occurrences;
+  summary = s.summary;
+  attendees = s.attendees;
+}

@@ -1,30 +1,28 @@
--- What an event that was read gives to the VEVENT that is sent of it: when it is, and the lines that say it.
+-- What an event that was read gives to a VEVENT that is written of it: when it is, and the lines that say it.
 use Rattle.std.proofs.Common.{◌≡◌, ◌∙◌, refl, sym, ap, subst, inl, inr, ℕ, zero, suc, ℤ, ◌+◌, ◌*◌, ◌≤◌, Bool, true, false, ◌||◌, ◌&&◌, cond, List, [], ◌∷◌, ◌++◌, length, codes, Option, Some, None, arith, lt-ltb}
 use Rattle.std.specs.Prelude.{◌↔◌, filter, Contains, is_some}
 use Rattle.std.specs.Option.{option_to_list}
 use Rattle.std.specs.List.{list_all, list_any, flat_map, AllZip}
-use Rattle.std.proofs.lemmas.Bool.{and_from, false≢true, or_parts}
+use Rattle.std.proofs.lemmas.Bool.{and_from, false≢true, true≢false, or_parts}
 use Rattle.std.proofs.lemmas.List.Folds.{list_all-append}
 use Rattle.profile.specs.text.Lines.{is_content, line_param, line_value}
 use Rattle.profile.specs.text.Objects.{is_property}
 use Rattle.profile.specs.text.Trees.{Tree}
 use Rattle.profile.specs.text.Values.{WritesStamp, duration_text}
-use Rattle.profile.specs.events.Events.{Attendee, Event, Request, SaysEvent}
+use Rattle.profile.specs.events.Events.{Event, Method, Request, Add, Cancel, SaysEvent, adds_instances, may_lack_start}
 use Rattle.profile.specs.events.Occurrences.{Entry, IsInside, SaysOccurrences, entries_of, IsRecurrenceLine, entries_named, most_entries}
 use Rattle.profile.specs.events.Properties.{Says, BothOrNeither, is_of, lines_named, length_seconds, longest}
 use Rattle.profile.specs.events.ZonedTimes.{EventTimes, SaysEventTimes, SaysTimes, SpellsZoned, IsInDates, is_in_zone, clock_of}
 use Rattle.profile.specs.series.Rules.{Parts, RuleText}
 use Rattle.profile.specs.series.RuleTexts.{SpellsRule}
 use Rattle.profile.specs.events.EventRules.{GivesRule, SaysEventRule}
-use Rattle.profile.specs.rooms.Messages.{Content, IsContent, WritesRule, WritesTimes, is_in_dates, list_lines}
+use Rattle.profile.specs.rooms.Messages.{Content, IsContent, WritesRule, WritesTimes, cancels, is_in_dates, list_lines}
 use Rattle.profile.specs.series.Zones.{Zone, IsOneMeaning, Means}
 use Rattle.cal_events.proofs.Meanings.{utc_instant}
 use Rattle.cal_events.proofs.SaidRules.{no_rule, rule_found}
 use Rattle.ical_lines.proofs.CleanLines.{IsClean, is_shown, clean_shown, valued}
-use Rattle.profile.specs.organisers.Sent.{status_lines}
-use Rattle.itip_messages.proofs.ContentLines.{uid_line, sequence_line, stamp_line, organiser_line}
-use Rattle.itip_messages.proofs.SentTexts.{status_own}
-use Rattle.itip_messages.proofs.ReplyLines.{AreOwn, own_none, own_more, own_both}
+use Rattle.itip_messages.proofs.ContentLines.{uid_line, sequence_line, stamp_line}
+use Rattle.itip_messages.proofs.ReplyLines.{AreOwn}
 use Rattle.ical_values.proofs.Spans.{duration_written}
 use Rattle.itip_messages.proofs.TimeLists.{IsStart, ascending_short, filter_short, rdate_name, exdate_name, times_content, times_properties, utc_means}
 use Rattle.itip_messages.proofs.RuleBack.{rule_back}
@@ -32,7 +30,7 @@ use Rattle.itip_messages.proofs.WrittenOctets.{duration_passes, early_shown, sho
 use Rattle.itip_messages.proofs.ZonePlaces.{AreNamed}
 use Rattle.itip_messages.proofs.ZonedStarts.{IsPlainFor, local_written, start_content, start_property}
 use Rattle.itip_messages.specs.SentBack.{IsSameRule}
-use Rattle.itip_messages.proofs.SentOwn.{SpellRule, SpellWhen, IsAlone, IsAttendeeText, own_front, own_back, own_lines, when_lines}
+use Rattle.itip_messages.proofs.OwnLines.{IsAlone, SpellRule, SpellWhen, own_front, own_lines, when_lines}
 
 abbrev Lines : Type 0
 Lines = List (List ℕ)
@@ -166,7 +164,20 @@ said_facts added object lines event t r o =
       recurs = ruled lines event.times event.rule r;
     }
 
--- one of a store, where DTSTART has to stand
+start_needed : (method : Method) (event : Event) → cancels method event ≡ false → may_lack_start (Some method) ≡ false
+start_needed Request event h = refl
+start_needed Add event h = refl
+start_needed Cancel event h = absurd (true≢false h)
+
+-- one of a message, that isn't cancelled
+pub event_facts : (object : Tree) (method : Method) (lines : Lines) (event : Event) → SaysEvent object (Some method) lines event → cancels method event ≡ false → EventFacts event (adds_instances (Some method))
+event_facts object method lines event s h = go s.times
+  where
+    go : SaysTimes (may_lack_start (Some method)) object lines event.times → EventFacts event (adds_instances (Some method))
+    go (inl t) = said_facts (adds_instances (Some method)) object lines event t s.rule s.occurrences
+    go (inr lacks) = absurd (true≢false (sym lacks.0 ∙ start_needed method event h))
+
+-- and one of a store, where DTSTART has to stand
 pub stored_facts : (object : Tree) (lines : Lines) (event : Event) → SaysEvent object (Some Request) lines event → EventFacts event false
 stored_facts object lines event s = go s.times
   where
@@ -198,23 +209,23 @@ alone_lists (Some i) event clock rules additions r u f w = (
 
 -- ---- its rule, as it is written
 
-pub record SentRule (clock : Zone) (local : ℤ) (rule : Option Parts) (rules : Lines) : Type 0 where
+pub record WrittenRule (clock : Zone) (local : ℤ) (rule : Option Parts) (rules : Lines) : Type 0 where
   pub back : Option Parts
   pub spells : SpellRule clock local rules back
   pub same : IsSameRule rule back
   pub writes : (other : Lines) → WritesRule clock rule other ↔ WritesRule clock back other
 
-pub sent_rule : (times : EventTimes) (local : ℤ) → local ≡ times.local → IsOneMeaning (clock_of times.zone) → (rule : Option Parts) (rules : Lines) → IsRuled times rule → WritesRule (clock_of times.zone) rule rules
-    → SentRule (clock_of times.zone) local rule rules
-sent_rule times local e one None rules r w = record { back = None; spells = w; same = tt; writes = λ other. (λ h. h, λ h. h) }
-sent_rule times local e one (Some rule) rules (value, text, spelled, gives) w =
+pub written_rule : (times : EventTimes) (local : ℤ) → local ≡ times.local → IsOneMeaning (clock_of times.zone) → (rule : Option Parts) (rules : Lines) → IsRuled times rule → WritesRule (clock_of times.zone) rule rules
+    → WrittenRule (clock_of times.zone) local rule rules
+written_rule times local e one None rules r w = record { back = None; spells = w; same = tt; writes = λ other. (λ h. h, λ h. h) }
+written_rule times local e one (Some rule) rules (value, text, spelled, gives) w =
     let b = rule_back (clock_of times.zone) times.local one value text rule rules spelled gives w in
     let gives_local = subst (λ (l : ℤ). GivesRule (clock_of times.zone) l b.text b.back) (sym e) b.gives in
     record { back = Some b.back; spells = (b.value, b.are, early_shown b.value b.early, (b.text, b.spelled, gives_local)); same = b.same; writes = b.writes }
 
 -- the lines of the content, under the zone's name, say when the event is
 pub when_of : (name : List ℕ) (content : Content) (event : Event) (c : IsContent content event) (n : AreNamed name content event c) → IsPlainFor name event.times.zone → (added : Bool) → EventFacts event added
-    → (k : SentRule (clock_of event.times.zone) (local_written event.times.zone event.times) event.rule c.rule) → (slot : Option ℤ) → (is_some slot ≡ true → (added || is_some event.recurrence) ≡ true)
+    → (k : WrittenRule (clock_of event.times.zone) (local_written event.times.zone event.times) event.rule c.rule) → (slot : Option ℤ) → (is_some slot ≡ true → (added || is_some event.recurrence) ≡ true)
     → SpellWhen name event slot n.start (duration_of event) c.rule c.additions c.exceptions k.back event.additions (filter is_in_dates event.exceptions)
 when_of name content event c n plain added f k slot single = record {
   starts = n.starts;
@@ -243,9 +254,6 @@ when_of name content event c n plain added f k slot single = record {
 recurrence_line : (v : List ℕ) → IsClean v → is_content (codes "RECURRENCE-ID:" ++ v) ≡ true
 recurrence_line v c = valued (codes "RECURRENCE-ID:") v (lt-ltb 13 (length (codes "RECURRENCE-ID:" ++ v)) (omega arith)) refl refl refl c
 
-summary_line : (v : List ℕ) → IsClean v → is_content (codes "SUMMARY:" ++ v) ≡ true
-summary_line v c = valued (codes "SUMMARY:") v (lt-ltb 7 (length (codes "SUMMARY:" ++ v)) (omega arith)) refl refl refl c
-
 duration_content : (v : List ℕ) → IsClean v → is_content (codes "DURATION:" ++ v) ≡ true
 duration_content v c = valued (codes "DURATION:") v (lt-ltb 8 (length (codes "DURATION:" ++ v)) (omega arith)) refl refl refl c
 
@@ -268,17 +276,6 @@ front_properties : (recurrence : Option (List ℕ)) (uid sequence stamp : List �
 front_properties None uid sequence stamp = refl
 front_properties (Some text) uid sequence stamp = refl
 
--- what stands behind the content
-attendees_own : (lines : Lines) (said : List Attendee) → AllZip IsAttendeeText lines said → AreOwn lines
-attendees_own [] said z = own_none
-attendees_own (line ∷ lines) [] z = absurd z
-attendees_own (line ∷ lines) (a ∷ said) z = own_more line lines z.0.content z.0.property (attendees_own lines said z.1)
-
-back_own : (cancelled : Bool) (summary organiser : List ℕ) (attendees : Lines) (said : List Attendee) → IsClean summary → IsClean organiser → AllZip IsAttendeeText attendees said → AreOwn (own_back cancelled summary organiser attendees)
-back_own cancelled summary organiser attendees said s o z =
-    own_both (status_lines cancelled) _ (status_own cancelled)
-    (own_more (codes "SUMMARY:" ++ summary) _ (summary_line summary s) refl (own_more (codes "ORGANIZER:" ++ organiser) _ (organiser_line organiser o) refl (attendees_own attendees said z)))
-
 three_pass : (p : List ℕ → Bool) (a b d : Lines) → list_all p a ≡ true → list_all p b ≡ true → list_all p d ≡ true → list_all p (a ++ b ++ d) ≡ true
 three_pass p a b d x y z = list_all-append p (a ++ b) d ∙ and_from _ _ (list_all-append p a b ∙ and_from _ _ x y) z
 
@@ -291,24 +288,22 @@ module _ (name : List ℕ) (event : Event) (slot : Option ℤ) (start duration :
   rules_properties None none = ap (list_all is_property) none
   rules_properties (Some b) (value, are, _, _) = ap (list_all is_property) are
 
-  pub sent_own : (recurrence : Option (List ℕ)) (uid sequence stamp summary organiser : List ℕ) (attendees : Lines) (said : List Attendee) → IsCleanSlot recurrence → IsClean uid → IsClean sequence → IsClean stamp → IsClean duration → IsClean summary → IsClean organiser
-      → AllZip IsAttendeeText attendees said
-      → AreOwn (own_lines recurrence uid sequence stamp (when_lines start duration rules additions exceptions) event.cancelled summary organiser attendees)
-  sent_own recurrence uid sequence stamp summary organiser attendees said r u n s d t o z =
-      let behind = back_own event.cancelled summary organiser attendees said t o z in
+  pub are_own : (recurrence : Option (List ℕ)) (uid sequence stamp : List ℕ) (behind : Lines) → IsCleanSlot recurrence → IsClean uid → IsClean sequence → IsClean stamp → IsClean duration → AreOwn behind
+      → AreOwn (own_lines recurrence uid sequence stamp (when_lines start duration rules additions exceptions) behind)
+  are_own recurrence uid sequence stamp behind r u n s d b =
       let lists : list_all is_content (additions ++ exceptions) ≡ true = list_all-append is_content additions exceptions ∙ and_from _ _ (times_content (codes "RDATE") rdate_name added additions w.adds) (times_content (codes "EXDATE") exdate_name taken exceptions w.takes) in
       let all : list_all is_content (rules ++ (additions ++ exceptions)) ≡ true = list_all-append is_content rules (additions ++ exceptions) ∙ and_from _ _ (rules_content back w.recurs) lists in
       let names : list_all is_property (additions ++ exceptions) ≡ true = list_all-append is_property additions exceptions ∙ and_from _ _ (times_properties (codes "RDATE") rdate_name added additions w.adds) (times_properties (codes "EXDATE") exdate_name taken exceptions w.takes) in
       let all_names : list_all is_property (rules ++ (additions ++ exceptions)) ≡ true = list_all-append is_property rules (additions ++ exceptions) ∙ and_from _ _ (rules_properties back w.recurs) names in
       record {
         content =
-            three_pass is_content (own_front recurrence uid sequence stamp) (when_lines start duration rules additions exceptions) (own_back event.cancelled summary organiser attendees)
+            three_pass is_content (own_front recurrence uid sequence stamp) (when_lines start duration rules additions exceptions) behind
             (front_content recurrence uid sequence stamp r u n s)
             (and_from _ _ (start_content name event.times.zone event.times start w.starts w.plain) (and_from _ _ (duration_content duration d) all))
-            behind.content;
+            b.content;
         properties =
-            three_pass is_property (own_front recurrence uid sequence stamp) (when_lines start duration rules additions exceptions) (own_back event.cancelled summary organiser attendees)
+            three_pass is_property (own_front recurrence uid sequence stamp) (when_lines start duration rules additions exceptions) behind
             (front_properties recurrence uid sequence stamp)
             (and_from _ _ (start_property name event.times.zone event.times start w.starts w.plain) all_names)
-            behind.properties;
+            b.properties;
       }
