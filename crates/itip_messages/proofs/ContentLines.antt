@@ -30,7 +30,7 @@ attendee_line v c = valued (codes "ATTENDEE:") v (lt-ltb 8 (length (codes "ATTEN
 
 -- ---- the lines of an object
 
-vevents_content : (owns : List Lines) → list_all (list_all is_content) owns ≡ true → list_all is_content (flat_map vevent_lines owns) ≡ true
+pub vevents_content : (owns : List Lines) → list_all (list_all is_content) owns ≡ true → list_all is_content (flat_map vevent_lines owns) ≡ true
 vevents_content [] h = refl
 vevents_content (own ∷ owns) h =
     let both = and_parts (list_all is_content own) (list_all (list_all is_content) owns) h in

@@ -1,8 +1,9 @@
 -- What the lines of a VEVENT say that is written of an event: the event again, in this revision. Its start may be in a zone, and it may have lists.
 use Rattle.std.proofs.Common.{◌≡◌, ◌∙◌, inl, refl, sym, ap, subst, ℕ, ℤ, ◌≤◌, Bool, true, false, cond, ◌||◌, ◌&&◌, List, [], ◌∷◌, ◌++◌, length, codes, Option, Some, None, append-nil}
-use Rattle.std.specs.Prelude.{filter, Contains, is_some}
+use Rattle.std.specs.Prelude.{Contains, is_some}
 use Rattle.std.specs.List.{list_all, list_any, flat_map, AllZip}
 use Rattle.std.proofs.lemmas.Bool.{false≢true}
+use Rattle.std.proofs.lemmas.List.Elements.{filter-append}
 use Rattle.std.proofs.Math.Bool.{and-false}
 use Rattle.profile.specs.text.Trees.{Tree}
 use Rattle.profile.specs.text.Values.{SpellsStamp, SpellsSequence, SpellsDuration, unescaped, IsAddress, IsUid, lower_case}
@@ -59,14 +60,6 @@ event_again event recurrence organiser revision rule additions exceptions cancel
 }
 
 -- ---- filters
-
-filter_both : {X : Type 0} (p : X → Bool) (xs ys : List X) → filter p (xs ++ ys) ≡ filter p xs ++ filter p ys
-filter_both p [] ys = refl
-filter_both {X = X} p (x ∷ xs) ys = by (p x) (filter_both p xs ys)
-  where
-    by : (b : Bool) → filter p (xs ++ ys) ≡ filter p xs ++ filter p ys → cond b (x ∷ filter p (xs ++ ys)) (filter p (xs ++ ys)) ≡ cond b (x ∷ filter p xs) (filter p xs) ++ filter p ys
-    by true e = ap (λ l. x ∷ l) e
-    by false e = e
 
 none_of_both : {X : Type 0} (p q : X → Bool) (xs : List X) → list_any p xs ≡ false → list_any q xs ≡ false → list_any (λ x. p x || q x) xs ≡ false
 none_of_both p q [] e d = refl
@@ -132,8 +125,8 @@ module _ (name : List ℕ) (event : Event) (slot : Option ℤ) (start duration :
   named_parts : (other : List ℕ) → lines_named other whole ≡ (lines_named other front ++ cond (is_of other start) (start ∷ lines_named other ((codes "DURATION:" ++ duration) ∷ (rules ++ (additions ++ exceptions))))
       (lines_named other ((codes "DURATION:" ++ duration) ∷ (rules ++ (additions ++ exceptions))))) ++ lines_named other back_lines
   named_parts other =
-      filter_both (is_of other) (front ++ when_lines start duration rules additions exceptions) back_lines
-      ∙ ap (λ l. l ++ lines_named other back_lines) (filter_both (is_of other) front (when_lines start duration rules additions exceptions))
+      filter-append (is_of other) (front ++ when_lines start duration rules additions exceptions) back_lines
+      ∙ ap (λ l. l ++ lines_named other back_lines) (filter-append (is_of other) front (when_lines start duration rules additions exceptions))
 
   -- the rule's line has this name alone
   rules_unnamed : (other : List ℕ) → ((v : List ℕ) → is_of other (codes "RRULE:" ++ v) ≡ false) → lines_named other rules ≡ []
@@ -157,8 +150,8 @@ module _ (name : List ℕ) (event : Event) (slot : Option ℤ) (start duration :
   plain_named other durations lacks rules_named additions_named exceptions_named r a x d =
       let rest = lines_named other ((codes "DURATION:" ++ duration) ∷ (rules ++ (additions ++ exceptions))) in
       let not_it : is_of other start ≡ false = start_named other name event.times.zone event.times start w.starts w.plain ∙ lacks in
-      let lists : lines_named other (additions ++ exceptions) ≡ additions_named ++ exceptions_named = filter_both (is_of other) additions exceptions ∙ (λ i. a i ++ x i) in
-      let all : lines_named other (rules ++ (additions ++ exceptions)) ≡ rules_named ++ (additions_named ++ exceptions_named) = filter_both (is_of other) rules (additions ++ exceptions) ∙ (λ i. r i ++ lists i) in
+      let lists : lines_named other (additions ++ exceptions) ≡ additions_named ++ exceptions_named = filter-append (is_of other) additions exceptions ∙ (λ i. a i ++ x i) in
+      let all : lines_named other (rules ++ (additions ++ exceptions)) ≡ rules_named ++ (additions_named ++ exceptions_named) = filter-append (is_of other) rules (additions ++ exceptions) ∙ (λ i. r i ++ lists i) in
       named_parts other
       ∙ ap (λ b. (lines_named other front ++ cond b (start ∷ rest) rest) ++ lines_named other back_lines) not_it
       ∙ ap (λ l. (lines_named other front ++ l) ++ lines_named other back_lines) (d (rules ++ (additions ++ exceptions)) ∙ ap (λ l. durations ++ l) all)
@@ -175,9 +168,9 @@ module _ (name : List ℕ) (event : Event) (slot : Option ℤ) (start duration :
       let rest = lines_named (codes "DTSTART") ((codes "DURATION:" ++ duration) ∷ (rules ++ (additions ++ exceptions))) in
       let it : is_of (codes "DTSTART") start ≡ true = start_named (codes "DTSTART") name event.times.zone event.times start w.starts w.plain in
       let lists : lines_named (codes "DTSTART") (additions ++ exceptions) ≡ [] =
-      filter_both (is_of (codes "DTSTART")) additions exceptions
+      filter-append (is_of (codes "DTSTART")) additions exceptions
       ∙ (λ i. times_unnamed (codes "DTSTART") (codes "RDATE") (λ v. refl) added additions w.adds i ++ times_unnamed (codes "DTSTART") (codes "EXDATE") (λ v. refl) taken exceptions w.takes i) in
-      let none : rest ≡ [] = filter_both (is_of (codes "DTSTART")) rules (additions ++ exceptions) ∙ (λ i. rules_unnamed (codes "DTSTART") (λ v. refl) i ++ lists i) in
+      let none : rest ≡ [] = filter-append (is_of (codes "DTSTART")) rules (additions ++ exceptions) ∙ (λ i. rules_unnamed (codes "DTSTART") (λ v. refl) i ++ lists i) in
       named_parts (codes "DTSTART")
       ∙ ap (λ b. (lines_named (codes "DTSTART") front ++ cond b (start ∷ rest) rest) ++ lines_named (codes "DTSTART") back_lines) it
       ∙ ap (λ l. (lines_named (codes "DTSTART") front ++ (start ∷ l)) ++ lines_named (codes "DTSTART") back_lines) none

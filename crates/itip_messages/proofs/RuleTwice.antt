@@ -4,11 +4,11 @@ use Rattle.std.specs.Prelude.{◌==◌, nat_eq, filter, Contains, if◌then◌el
 use Rattle.std.specs.Fmt.{signed_decimal}
 use Rattle.std.specs.List.{list_any, range_with_len}
 use Rattle.std.specs.Ordering.{int_eq}
-use Rattle.std.proofs.lemmas.Bool.Decides.{nat_tests}
 use Rattle.profile.specs.series.Rules.{RuleText, Until, WeekdayNumber}
 use Rattle.profile.specs.series.RuleTexts.{as_written, count_text, entries_from, entry_text, frequency_word, is_same_entry, listed, months_from, nth_entry, nth_number, numbers_from, rule_text, until_text, weekday_word}
 use Rattle.cal_events.proofs.InOneOrder.{in_filtered, of_filtered}
 use Rattle.cal_rules.proofs.InOrder.{entry_itself, entry_one, int_itself, int_one, kept, nat_one}
+use Rattle.cal_rules.proofs.Parted.{same_octet}
 use Rattle.itip_order.proofs.Lists.{any_at, any_from}
 
 same_filter : {X : Type 0} (p q : X → Bool) (xs : List X) → ((x : X) → Contains xs x → p x ≡ q x) → filter p xs ≡ filter q xs
@@ -34,12 +34,9 @@ kept_twice {X = X} same one itself zs xs =
     ap pick (sym (one found.0 c found.2)) ∙ (of_filtered pick xs found.0 found.1).1)
     (λ h. any_from (λ z. same z c) (kept same zs xs) c (in_filtered pick xs c there h) (itself c)))
 
-nat_itself : (n : ℕ) → nat_eq n n ≡ true
-nat_itself n = grind (arith, nat_tests)
-
 months_twice : (months : List ℕ) → months_from 1 (months_from 1 months) ≡ months_from 1 months
 unfolding months_from
-months_twice months = kept_twice nat_eq nat_one nat_itself months (range_with_len 1 (13 - 1))
+months_twice months = kept_twice nat_eq nat_one same_octet months (range_with_len 1 (13 - 1))
 
 numbers_twice : (numbers : List ℤ) → numbers_from 0 (numbers_from 0 numbers) ≡ numbers_from 0 numbers
 unfolding numbers_from

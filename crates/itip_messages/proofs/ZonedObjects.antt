@@ -8,6 +8,7 @@ use Rattle.std.proofs.lemmas.Bool.Decides.{nat_tests}
 use Rattle.std.proofs.lemmas.List.{length-map}
 use Rattle.std.proofs.lemmas.List.Sums.{length-filter}
 use Rattle.std.proofs.lemmas.Grind.{flat_map-append}
+use Rattle.std.proofs.lemmas.List.Elements.{filter-append}
 use Rattle.std.proofs.lemmas.List.Folds.{list_all-append}
 use Rattle.profile.specs.events.ZonedTimes.{has_zone_name, vtimezones, zone_named, SaysZoneOf}
 use Rattle.profile.specs.rooms.Kept.{zone_name, zone_texts}
@@ -29,7 +30,7 @@ use Rattle.ical_tree.proofs.OneTree.{one_tree}
 use Rattle.cal_zones.proofs.WrittenParts.{part_content, name_line}
 use Rattle.itip_messages.proofs.WrittenOctets.{rule_value, rule_shown}
 use Rattle.itip_messages.proofs.ObjectTree.{Lines, vevent_lines, vevent_tree, calendar_own, own_properties, own_version}
-use Rattle.itip_messages.proofs.ContentLines.{LinesBack, IsMethod}
+use Rattle.itip_messages.proofs.ContentLines.{LinesBack, IsMethod, vevents_content}
 use Rattle.itip_messages.proofs.ZoneNames.{name_clean, name_text, name_itself, other_place, same_bytes, has_its_name}
 
 -- what a zone reads back as that was written
@@ -208,13 +209,6 @@ vevents_more own parts body (v ∷ owns) b h =
     subst (λ (l : List Tree). BodyT 7 own l (body ++ flat_map vevent_lines (v ∷ owns))) (append_assoc parts (vevent_tree v ∷ []) (map vevent_tree owns))
     (subst (λ (l : Lines). BodyT 7 own ((parts ++ vevent_tree v ∷ []) ++ map vevent_tree owns) l) (append_assoc body (vevent_lines v) (flat_map vevent_lines owns)) all)
 
-vevents_content : (owns : List Lines) → list_all (list_all is_content) owns ≡ true → list_all is_content (flat_map vevent_lines owns) ≡ true
-vevents_content [] h = refl
-vevents_content (own ∷ owns) h =
-    let both = and_parts (list_all is_content own) (list_all (list_all is_content) owns) h in
-    list_all-append is_content (vevent_lines own) (flat_map vevent_lines owns)
-    ∙ and_from _ _ (framed (codes "BEGIN:VEVENT") (codes "END:VEVENT") own (fixed (codes "BEGIN:VEVENT") refl refl refl refl) (fixed (codes "END:VEVENT") refl refl refl refl) both.0) (vevents_content owns both.1)
-
 -- ---- the calendar
 
 object_own : Option (List ℕ) → Lines
@@ -226,14 +220,6 @@ trees_there (t ∷ ts) = ap (λ l. t ∷ l) (trees_there ts)
 
 object_tree : Option (List ℕ) → List Tree → Tree
 object_tree method parts = tree (codes "VCALENDAR") (object_own method) (trees_of parts)
-
-filter_both : {X : Type 0} (p : X → Bool) (xs ys : List X) → filter p (xs ++ ys) ≡ filter p xs ++ filter p ys
-filter_both p [] ys = refl
-filter_both {X = X} p (x ∷ xs) ys = by (p x) (filter_both p xs ys)
-  where
-    by : (b : Bool) → filter p (xs ++ ys) ≡ filter p xs ++ filter p ys → cond b (x ∷ filter p (xs ++ ys)) (filter p (xs ++ ys)) ≡ cond b (x ∷ filter p xs) (filter p xs) ++ filter p ys
-    by true e = ap (λ l. x ∷ l) e
-    by false e = e
 
 abbrev is_event : Tree → Bool
 is_event part = is_same_name (tree_name part) (codes "VEVENT")
@@ -326,7 +312,7 @@ zoned_spelled lines_back zone_back method fine zones owns f few properties conte
     let zs : BodyT 7 head (zone_trees 0 zones b) (head ++ inner) = zones_more head [] head 0 zones b (own_body 7 head (own_properties method)) in
     let both : BodyT 7 head parts ((head ++ inner) ++ events) = vevents_more head (zone_trees 0 zones b) (head ++ inner) owns zs properties in
     let zones_in : vtimezones (object_tree method parts) ≡ zone_trees 0 zones b =
-    ap (filter is_zone) there ∙ filter_both is_zone (zone_trees 0 zones b) (map vevent_tree owns) ∙ (λ i. zones_all 0 zones b i ++ events_no_zones owns i) ∙ append-nil (zone_trees 0 zones b) in
+    ap (filter is_zone) there ∙ filter-append is_zone (zone_trees 0 zones b) (map vevent_tree owns) ∙ (λ i. zones_all 0 zones b i ++ events_no_zones owns i) ∙ append-nil (zone_trees 0 zones b) in
     let opening : list_all is_content (opening_lines method) ≡ true =
     and_from _ _ (fixed (codes "BEGIN:VCALENDAR") refl refl refl refl) (and_from _ _ (fixed (codes "VERSION:2.0") refl refl refl refl) (and_from _ _ (fixed (codes "PRODID:-//iTIP room box//EN") refl refl refl refl) fine)) in
     let ending : list_all is_content (events ++ codes "END:VCALENDAR" ∷ []) ≡ true =
@@ -352,7 +338,7 @@ zoned_spelled lines_back zone_back method fine zones owns f few properties conte
       own = refl;
       events =
           ap (λ ts. map tree_own (filter is_event ts)) there
-          ∙ ap (map tree_own) (filter_both is_event (zone_trees 0 zones b) (map vevent_tree owns) ∙ ap (λ l. l ++ filter is_event (map vevent_tree owns)) (zones_no_events 0 zones b))
+          ∙ ap (map tree_own) (filter-append is_event (zone_trees 0 zones b) (map vevent_tree owns) ∙ ap (λ l. l ++ filter is_event (map vevent_tree owns)) (zones_no_events 0 zones b))
           ∙ events_all owns;
       content =
           list_all-append is_content (opening_lines method ++ inner) (events ++ codes "END:VCALENDAR" ∷ [])
