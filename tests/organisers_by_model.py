@@ -4,7 +4,7 @@
     python3 tests/organisers_by_model.py --table N      # prints N cases of what organisers show, for crates/worked_examples/data/organisers.txt
 
 Each stream has two organisers and stores, replies and refreshes of a few meetings: instances by RECURRENCE-ID before and behind the whole meeting, RDATE
-and EXDATE, times in UTC and in New York, SUMMARY with escapes, attendees that stand twice, agents of each kind, statuses, a SEQUENCE near the last one;
+and EXDATE, times in UTC and in two zones, SUMMARY with escapes, attendees that stand twice, agents of each kind, statuses, a SEQUENCE near the last one;
 replies to older and newer stores, of strangers, of two attendees; objects of organisers that aren't hosted, with METHODs that aren't taken, with two
 VEVENTs for the whole or for one instance. Compared is all that is written, octet by octet. It ends with 1 where any differed.
 """
@@ -18,12 +18,15 @@ from datetime import datetime, timedelta
 NOW = "20250102T000000Z"
 ORGANISERS = ["mailto:ann@example.com", "mailto:bob@example.com"]
 STRANGER = "mailto:eve@example.com"
-PEOPLE = ["mailto:r1@example.com", "mailto:r2@example.com", "mailto:cid@example.com", "mailto:dora@example.com"]
+PEOPLE = ["mailto:r1@example.com", "mailto:r2@example.com", "mailto:cid@example.com", "mailto:dora@example.com", ORGANISERS[0]]
 MOST = 2_147_483_647
 RANKS = ["NEEDS-ACTION", "TENTATIVE", "ACCEPTED", "DELEGATED", "DECLINED"]
 HEAD = ["BEGIN:VCALENDAR", "VERSION:2.0", "PRODID:-//iTIP room box//EN"]
 NEW_YORK = ["BEGIN:STANDARD", "DTSTART:20071104T020000", "RRULE:FREQ=YEARLY;BYMONTH=11;BYDAY=1SU", "TZOFFSETFROM:-0400", "TZOFFSETTO:-0500", "END:STANDARD",
             "BEGIN:DAYLIGHT", "DTSTART:20070311T020000", "RRULE:FREQ=YEARLY;BYMONTH=3;BYDAY=2SU", "TZOFFSETFROM:-0500", "TZOFFSETTO:-0400", "END:DAYLIGHT"]
+KOLKATA = ["BEGIN:STANDARD", "DTSTART:19700101T000000", "TZOFFSETFROM:+0530", "TZOFFSETTO:+0530", "END:STANDARD"]
+# what a VTIMEZONE says, and its offset in the days of the meetings
+ZONES = {"America/New_York": (NEW_YORK, timedelta(hours=-5)), "Asia/Kolkata": (KOLKATA, timedelta(hours=5, minutes=30))}
 
 
 def folded(lines):
@@ -50,14 +53,18 @@ def utc(at):
     return at.strftime("%Y%m%dT%H%M%SZ")
 
 
+def vtimezone(zone, name):
+    return ["BEGIN:VTIMEZONE", f"TZID:{name}", *ZONES[zone][0], "END:VTIMEZONE"]
+
+
 class Event:
-    """One VEVENT: a start in UTC or in New York in winter, its length in seconds, dates that are added and taken away."""
+    """One VEVENT: a start in UTC or in a zone in winter, its length in seconds, dates that are added and taken away."""
 
     def __init__(self, draw, uid, instance):
         self.uid, self.instance = uid, instance
         self.start = datetime(2025, 1, 6, 9) + timedelta(days=draw.randrange(20), minutes=30 * draw.randrange(16))
         self.seconds = draw.choice([0, 1800, 3600, 86_400, 90_000])
-        self.zoned = draw.random() < 0.3
+        self.zone = draw.choice([None, None, None, *ZONES])
         self.days = draw.random() < 0.2
         dates = [self.start + timedelta(days=draw.randrange(1, 9)) for _ in range(draw.choice([0, 0, 1, 3]))]
         self.added = [] if instance else dates
@@ -65,7 +72,7 @@ class Event:
         self.cancelled = draw.random() < 0.12
         self.sequence = draw.choice([None, None, 0, 1, 2, 3, 7])
         self.summary = draw.choice([None, "Plan", "", "a, b; c\\d\ne", "Straße " * 12])
-        self.lines = [(draw.choice(PEOPLE), draw.choice([None, None, None, "SERVER", "server", "CLIENT", "NONE"])) for _ in range(draw.randrange(0, 5))]
+        self.lines = [(draw.choice(PEOPLE), draw.choice([None, None, None, None, "SERVER", "server", "CLIENT", "NONE", "X-OTHER"])) for _ in range(draw.randrange(0, 5))]
 
     def attendees(self):
         """Of several lines of one address the first: address, and whether the server sends it messages."""
@@ -77,10 +84,10 @@ class Event:
     def length(self):
         return f"P{self.seconds // 86_400}D" if self.days and self.seconds == 86_400 else f"PT{self.seconds}S"
 
-    def content(self, name):
-        """What says when it is, in the one form that is written."""
-        local = self.start - timedelta(hours=5)
-        yield f"DTSTART;TZID={name}:{local:%Y%m%dT%H%M%S}" if self.zoned else f"DTSTART:{utc(self.start)}"
+    def content(self, names):
+        """What says when it is, in the one form that is written, by the names of the zones."""
+        local = self.start + ZONES[self.zone][1] if self.zone else self.start
+        yield f"DTSTART;TZID={names[self.zone]}:{local:%Y%m%dT%H%M%S}" if self.zone else f"DTSTART:{utc(self.start)}"
         yield f"DURATION:{self.length()}"
         for word, dates in ("RDATE", self.added), ("EXDATE", self.taken):
             if dates:
@@ -89,7 +96,7 @@ class Event:
     def given(self, draw, organiser):
         """Its lines as a client writes them, in any order."""
         lines = [f"UID:{escaped(self.uid)}", "DTSTAMP:20250101T000000Z", f"ORGANIZER:{draw.choice([organiser, organiser.upper()])}"]
-        lines.append(next(self.content("America/New_York")))
+        lines.append(next(self.content({it: it for it in ZONES})))
         lines.append(f"DURATION:{self.length()}")
         if self.instance:
             lines.append(f"RECURRENCE-ID:{utc(self.instance)}")
@@ -114,7 +121,7 @@ class Stored:
                 flags.setdefault(address, False)
             for address, by_server in event.attendees():
                 flags[address] |= by_server
-        self.named, self.sent_to = set(flags), [it for it in flags if flags[it]]
+        self.named, self.sent_to = set(flags), [it for it in flags if flags[it] and it != organiser]
         gone = [it for it in gone if it not in self.sent_to]
         self.seen = {}
         if any(it.cancelled and not it.instance for it in events):
@@ -132,11 +139,12 @@ class Stored:
 
     def text(self, method, parameters):
         lines = [*HEAD, *[f"METHOD:{method}"] * bool(method)]
-        if any(it.zoned for it in self.events):
-            lines += ["BEGIN:VTIMEZONE", "TZID:Z1", *NEW_YORK, "END:VTIMEZONE"]
+        used = dict.fromkeys(it.zone for it in self.events if it.zone)
+        names = {zone: f"Z{number}" for number, zone in enumerate(used, 1)}
+        lines += [it for zone in used for it in vtimezone(zone, names[zone])]
         for event in self.events:
             lines += ["BEGIN:VEVENT", f"UID:{escaped(event.uid)}", *[f"RECURRENCE-ID:{utc(event.instance)}" for _ in [1] if event.instance]]
-            lines += [f"SEQUENCE:{self.sequence}", f"DTSTAMP:{NOW}", *event.content("Z1"), *["STATUS:CANCELLED"] * event.cancelled]
+            lines += [f"SEQUENCE:{self.sequence}", f"DTSTAMP:{NOW}", *event.content(names), *["STATUS:CANCELLED"] * event.cancelled]
             lines += [f"SUMMARY:{escaped(event.summary or '')}", f"ORGANIZER:{self.organiser}"]
             lines += [f"ATTENDEE;{parameters(event, address)}:{address}" for address, _ in event.attendees()]
             lines += ["END:VEVENT"]
@@ -202,7 +210,7 @@ def one_store(draw, model, organiser, uid):
     events = [Event(draw, uid, it) for it in slots]
     if draw.random() < 0.02:
         events[0].sequence = draw.choice([MOST, MOST - 1])
-    zone = ["BEGIN:VTIMEZONE", "TZID:America/New_York", *NEW_YORK, "END:VTIMEZONE"] if any(it.zoned for it in events) else []
+    zone = [it for name in dict.fromkeys(it.zone for it in events if it.zone) for it in vtimezone(name, name)]
     lines = [it for event in events for it in event.given(draw, organiser)]
     fault = draw.random()
     if fault < 0.04:
@@ -212,7 +220,7 @@ def one_store(draw, model, organiser, uid):
         return calendar("PUBLISH", zone + lines), 60
     if fault < 0.08:
         other = Event(draw, uid + "x", None)
-        more = ["BEGIN:VTIMEZONE", "TZID:America/New_York", *NEW_YORK, "END:VTIMEZONE"] if other.zoned and not zone else []
+        more = vtimezone(other.zone, other.zone) if other.zone else []
         return calendar(None, zone + more + lines + other.given(draw, organiser)), 62
     return calendar(None, zone + lines), model.store(organiser, events)
 
@@ -229,7 +237,7 @@ def one_reply(draw, model, organiser, uid):
         by = draw.choice(people + [STRANGER] * (draw.random() < 0.1))
         rank = draw.randrange(5)
         word = draw.choice([RANKS[rank], RANKS[rank].lower()]) if rank else draw.choice([None, "NEEDS-ACTION", "X-OTHER"])
-        sequence = draw.choice([None, last, last, last, last, max(0, last - 1), last + (draw.random() < 0.2)])
+        sequence = draw.choice([None, last, last, last, last, max(0, last - 1), min(MOST, last + (draw.random() < 0.2))])
         stamp = f"202501{draw.randrange(1, 4):02}T000000Z"
         answers.append({"by": by, "slot": slot, "sequence": sequence or 0, "stamp": stamp, "rank": rank})
         event = [f"UID:{escaped(uid)}", f"DTSTAMP:{stamp}", f"ORGANIZER:{organiser}", *[f"SEQUENCE:{sequence}" for _ in [1] if sequence is not None]]

@@ -11,8 +11,8 @@ use Rattle.profile.specs.organisers.Sent.{TellsRevision, status_lines}
 use Rattle.itip_messages.specs.declared.cancel.Cancel.{Cancel}
 use Rattle.itip_messages.specs.Replies.{WritesLines}
 use Rattle.itip_messages.specs.Meetings.{IsCancelEvent, IsCancelOf, attendee_lines}
-use Rattle.itip_messages.proofs.LineLemmas.{whole}
-use Rattle.itip_messages.proofs.WrittenLines.{push_lines, push_line, first_line}
+use Rattle.itip_messages.proofs.LineLemmas.{one_line, whole}
+use Rattle.itip_messages.proofs.WrittenLines.{push_lines, push_line}
 
 -- one address more
 pub attendee_more : (addresses : List Address) (k : ℕ) (address : Address) (old now new : List ℕ) → k < length addresses → address ≡ get_or addresses k address
@@ -36,10 +36,10 @@ event_written cancel o0 o1 o2 o3 o4 o5 o6 o7 h1 h2 w h4 h5 h6 h7 =
     let organiser = codes "ORGANIZER:" ++ address_octets cancel.organiser.now in
     let others = attendee_lines (map address_octets cancel.to.now) in
     let status = status_lines cancel.called_off in
-    let s2 : o2 ≡ o0 ++ written first = push_line o0 o1 o2 uid (codes "BEGIN:VEVENT" ∷ []) (first_line o0 o1 (codes "BEGIN:VEVENT") h1) h2 in
+    let s2 : o2 ≡ o0 ++ written first = push_line o0 o1 o2 uid (codes "BEGIN:VEVENT" ∷ []) (one_line o0 o1 (codes "BEGIN:VEVENT") h1) h2 in
     let s3 : o3 ≡ o0 ++ written (first ++ w.0) = push_lines o0 o2 o3 first w.0 s2 w.2 in
     let s4 : o4 ≡ o0 ++ written (first ++ w.0 ++ status) = push_lines o0 o3 o4 (first ++ w.0) status s3 h4 in
-    let t6 : o6 ≡ o4 ++ written (organiser ∷ others) = push_lines o4 o5 o6 (organiser ∷ []) others (first_line o4 o5 organiser h5) h6 in
+    let t6 : o6 ≡ o4 ++ written (organiser ∷ others) = push_lines o4 o5 o6 (organiser ∷ []) others (one_line o4 o5 organiser h5) h6 in
     let s6 : o6 ≡ o0 ++ written (first ++ w.0 ++ status ++ (organiser ∷ others)) = push_lines o0 o4 o6 (first ++ w.0 ++ status) (organiser ∷ others) s4 t6 in (
       first ++ w.0 ++ status ++ (organiser ∷ others) ++ codes "END:VEVENT" ∷ [],
       record { dated = w.0; tells_revision = w.1; is = refl },

@@ -19,6 +19,7 @@ pub mod ReplyLines
 pub mod ReplyReads
 pub mod RefreshReads
 pub mod AnswerReads
+pub mod OneMessage
 pub mod SentTexts
 pub mod SentBehind
 pub mod CancelReads
@@ -32,7 +33,6 @@ pub mod WrittenMeetings
 pub mod SentParts
 pub mod RequestReads
 pub mod ShownReads
-pub mod OneMessage
 pub mod LineLemmas
 pub mod WrittenLines
 pub mod CancelLines

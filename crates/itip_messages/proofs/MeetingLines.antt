@@ -24,7 +24,8 @@ use Rattle.itip_messages.specs.OrganiserObjects.{SaysObjectComponent}
 use Rattle.itip_messages.specs.Replies.{IsStampLine, WritesLines}
 use Rattle.itip_messages.specs.Zoning.{is_new, with_zones}
 use Rattle.itip_messages.proofs.BodyContents.{body_of}
-use Rattle.itip_messages.proofs.WrittenLines.{flat_push, push_lines, push_line, first_line, no_lines}
+use Rattle.itip_messages.proofs.LineLemmas.{one_line}
+use Rattle.itip_messages.proofs.WrittenLines.{flat_push, push_lines, push_line, no_lines}
 use Rattle.itip_messages.proofs.ZonesOnce.{named_still, with_more, with_zones_are, zones_once}
 
 -- ---- RECURRENCE-ID
@@ -33,7 +34,7 @@ pub slot_written : (instant stamp : ℤ) (old new : List ℕ) → stamp ≡ inst
 slot_written instant stamp old new is a = record {
   lines = (codes "RECURRENCE-ID:" ++ a.1.0) ∷ [];
   tells = λ _. subst (λ t. TellsSlot (At t) ((codes "RECURRENCE-ID:" ++ a.1.0) ∷ [])) is (a.1.0, a.1.1, refl);
-  is = first_line old new (codes "RECURRENCE-ID:" ++ a.1.0) (a.2 ∙ ap (λ l. old ++ l) a.1.2);
+  is = one_line old new (codes "RECURRENCE-ID:" ++ a.1.0) (a.2 ∙ ap (λ l. old ++ l) a.1.2);
 }
 
 -- ---- what is appended
@@ -73,12 +74,12 @@ module _ (IsLine : Slot → Attendee → List ℕ → Type 0) (meeting : Meeting
         let which : List (List ℕ) = codes "BEGIN:VEVENT" ∷ uid ∷ slot.lines in
         let status = status_lines component.cancelled in
         let people : List (List ℕ) = summary ∷ organiser ∷ attendees.0 in
-        let s2 : o2 ≡ o0 ++ written first = push_line o0 o1 o2 uid (codes "BEGIN:VEVENT" ∷ []) (first_line o0 o1 (codes "BEGIN:VEVENT") h1) h2 in
+        let s2 : o2 ≡ o0 ++ written first = push_line o0 o1 o2 uid (codes "BEGIN:VEVENT" ∷ []) (one_line o0 o1 (codes "BEGIN:VEVENT") h1) h2 in
         let s3 : o3 ≡ o0 ++ written which = push_lines o0 o2 o3 first slot.lines s2 slot.is in
         let s4 : o4 ≡ o0 ++ written (which ++ dated.0) = push_lines o0 o3 o4 which dated.0 s3 dated.2 in
         let s5 : o5 ≡ o0 ++ written (which ++ dated.0 ++ body.lines) = push_lines o0 o4 o5 (which ++ dated.0) body.lines s4 body.is in
         let s6 : o6 ≡ o0 ++ written (which ++ dated.0 ++ body.lines ++ status) = push_lines o0 o5 o6 (which ++ dated.0 ++ body.lines) status s5 h6 in
-        let t8 : o8 ≡ o6 ++ written (summary ∷ organiser ∷ []) = push_line o6 o7 o8 organiser (summary ∷ []) (first_line o6 o7 summary h7) h8 in
+        let t8 : o8 ≡ o6 ++ written (summary ∷ organiser ∷ []) = push_line o6 o7 o8 organiser (summary ∷ []) (one_line o6 o7 summary h7) h8 in
         let t9 : o9 ≡ o6 ++ written people = push_lines o6 o8 o9 (summary ∷ organiser ∷ []) attendees.0 t8 attendees.2 in
         let s9 : o9 ≡ o0 ++ written (which ++ dated.0 ++ body.lines ++ status ++ people) = push_lines o0 o6 o9 (which ++ dated.0 ++ body.lines ++ status) people s6 t9 in
         push_line o0 o9 o10 (codes "END:VEVENT") (which ++ dated.0 ++ body.lines ++ status ++ people) s9 h10

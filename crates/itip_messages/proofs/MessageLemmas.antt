@@ -1,17 +1,16 @@
 -- What the lines of a message say, and what is wrong with them.
-use Rattle.std.proofs.Common.{◌≡◌, ◌∙◌, ℕ, zero, suc, ◌<◌, ◌+◌, Bool, true, false, not, ◌&&◌, ◌||◌, cond, eqb, ap₂, filter, take, List, [], ◌∷◌, ◌++◌, length, map, get_or, refl, sym, ap, subst, arith, inl, inr, Option, Some, None, IsSome, is_some, option_map, unwrap_or, ℤ}
-use Rattle.ical_lines.specs.Fault.{RefusesBy, RefusesOnly}
+use Rattle.std.proofs.Common.{◌≡◌, ◌∙◌, ℕ, zero, suc, ◌<◌, ◌+◌, Bool, true, false, not, ◌&&◌, ◌||◌, cond, eqb, ap₂, filter, take, List, [], ◌∷◌, ◌++◌, length, map, get_or, refl, sym, ap, subst, arith, Option, Some, None, IsSome, is_some, option_map, unwrap_or, ℤ, append_assoc}
+use Rattle.ical_lines.specs.Fault.{RefusesBy}
 use Rattle.std.specs.Prelude.{◌↔◌, MatchOption, Result, Ok, Err, IfErr, Contains, codes}
 use Rattle.std.specs.Option.{option_to_list}
 use Rattle.std.specs.List.{list_any, AllZip}
 use Rattle.std.specs.Str.{bytes_eq}
 use Rattle.std.proofs.lemmas.Bool.{true≢false, and_parts}
 use Rattle.std.proofs.lemmas.List.{map-append, append-nil, length-map}
-use Rattle.std.proofs.lemmas.List.Elements.{filter_more, All-contains}
+use Rattle.std.proofs.lemmas.List.Elements.{filter_more, All-contains, Contains-append_right}
 use Rattle.ical_lines.specs.declared.fault.Fault.{Fault}
 use Rattle.ical_lines.specs.declared.fault.Fault.TheVariants.{Refused, Memory}
 use Rattle.ical_lines.specs.declared.fault.Refusal.{Refusal}
-use Rattle.profile.specs.faults.Faults.{is_between, is_object_fault, is_meeting_event_fault, is_message_fault}
 use Rattle.profile.specs.text.Lines.{line_value}
 use Rattle.profile.specs.text.Trees.{Tree, tree_own}
 use Rattle.profile.specs.events.Events as events
@@ -28,10 +27,10 @@ use Rattle.cal_events.specs.declared.component.EventComponent.{EventComponent}
 use Rattle.cal_events.specs.declared.component.Purpose.{Purpose}
 use Rattle.cal_events.specs.declared.meeting_components.MeetingComponents.{MeetingComponents}
 use Rattle.cal_events.specs.Events.{event_of, method_read}
-use Rattle.cal_events.specs.OneMeeting.{meeting_of, is_components_fault}
+use Rattle.cal_events.specs.OneMeeting.{meeting_of}
 use Rattle.cal_events.specs.SaidSeries.{IsSeriesOf, series_said}
 use Rattle.cal_events.specs.declared.series.Series.{Series}
-use Rattle.cal_events.proofs.EventLemmas.{some_line}
+use Rattle.cal_events.proofs.EventLemmas.{some_line, push_zip}
 use Rattle.cal_events.proofs.InOneOrder.{in_mapped, of_filtered}
 use Rattle.itip_order.specs.Parts.{slot_of}
 use Rattle.itip_order.proofs.Lists.{any_at, any_from}
@@ -106,6 +105,25 @@ module _ (meeting : Meeting) (m : IsOfMessage meeting) (events : List EventCompo
 
   pub some_event : 0 < length events
   some_event = let l = ap length are in let some : 0 < length (events_of meeting) = m.some in omega (arith, l, length-map events event_of, some)
+
+-- ---- a loop over VEVENTs
+
+-- the next one is among them
+pub next_there : (all yielded left rest : List EventComponent) (event : EventComponent) → all ≡ yielded ++ left → left ≡ event ∷ rest → Contains all event
+next_there all yielded left rest event whole next =
+    subst (λ (l : List EventComponent). Contains l event) (sym (whole ∙ ap (λ l. yielded ++ l) next)) (Contains-append_right yielded (event ∷ rest) event (0, omega arith, refl))
+
+-- and is said too
+pub said_more : {C : Type 0} (Says : Event → C → Type 0) (all yielded left rest : List EventComponent) (event : EventComponent) (items new : List C) (component : C)
+    → all ≡ yielded ++ left → left ≡ event ∷ rest → AllZip Says (map event_of yielded) items → Says (event_of event) component → new ≡ items ++ component ∷ []
+    → (all ≡ (yielded ++ event ∷ []) ++ rest) × AllZip Says (map event_of (yielded ++ event ∷ [])) new
+said_more Says all yielded left rest event items new component whole next said one pushed =
+    let more = push_zip Says (map event_of yielded) items (event_of event) component said one in (
+      whole ∙ ap (λ l. yielded ++ l) next ∙ sym (append_assoc yielded (event ∷ []) rest),
+      subst (λ (l : List Event). AllZip Says l new) (sym (map-append event_of yielded (event ∷ []))) (subst (AllZip Says (map event_of yielded ++ event_of event ∷ [])) (sym pushed) more),
+    )
+
+-- ---- the names of a meeting
 
 -- the master's
 pub master_stamp : (components : MeetingComponents) → IsOfMessage (meeting_of components) → (e : EventComponent) → components.master ≡ Some e → IsSome e.stamp

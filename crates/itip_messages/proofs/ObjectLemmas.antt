@@ -1,6 +1,6 @@
 -- What comes to an organiser: what is known of its VEVENTs, and which fault stands in them.
-use Rattle.std.proofs.Common.{◌≡◌, ◌∙◌, ℕ, ◌<◌, ◌≤◌, Bool, true, false, List, [], ◌∷◌, length, map, filter, refl, sym, ap, subst, Option, Some, IsSome, is_some, unwrap_or, arith}
-use Rattle.std.specs.Prelude.{Contains, All}
+use Rattle.std.proofs.Common.{◌≡◌, ◌∙◌, ℕ, ◌<◌, ◌≤◌, Bool, true, List, [], ◌∷◌, length, map, filter, refl, sym, ap, subst, Option, Some, IsSome, is_some, unwrap_or, arith}
+use Rattle.std.specs.Prelude.{Contains}
 use Rattle.std.specs.List.{AllZip, list_all}
 use Rattle.std.specs.Str.{bytes_eq}
 use Rattle.std.proofs.lemmas.List.{length-map}
@@ -9,14 +9,17 @@ use Rattle.std.proofs.lemmas.List.Folds.{list_all-map}
 use Rattle.ical_lines.specs.Fault.{RefusesBy}
 use Rattle.ical_lines.specs.declared.fault.Fault.{Fault}
 use Rattle.ical_lines.specs.declared.fault.Fault.TheVariants.{Refused, Memory}
-use Rattle.ical_values.specs.Octets.{text_octets, address_octets}
-use Rattle.profile.specs.text.Trees.{Tree, tree_own, vevents}
+use Rattle.ical_values.specs.Octets.{address_octets}
+use Rattle.profile.specs.text.Trees.{Tree, vevents}
 use Rattle.profile.specs.events.Events as events
 use Rattle.profile.specs.events.Events.{Event, SaysEvent, meeting_said}
 use Rattle.profile.specs.events.Meetings.{AreOfOne, InstancesDiffer, MeetingFault, taken_by, is_master, is_override}
 use Rattle.profile.specs.organisers.Objects as profile
-use Rattle.profile.specs.organisers.Objects.{AreOfMeeting, are_of_one, has_one_attendee, is_of_attendee, read_as, NamesOperation, SaysOrganiserObject, OrganiserObjectFault, in_meeting, not_one}
-use Rattle.cal_events.specs.Events.{attendee_of, event_of, method_read}
+use Rattle.profile.specs.organisers.Objects.{AreOfMeeting, are_of_one, has_one_attendee, read_as, OrganiserObjectFault, in_meeting, not_one}
+use Rattle.ical_tree.specs.Tree.{tree_of}
+use Rattle.ical_tree.specs.declared.component.Component.{Component}
+use Rattle.cal_events.specs.Events.{attendee_of, event_of, method_read, vevents_of}
+use Rattle.cal_events.proofs.TreeLemmas.{vevents_tree}
 use Rattle.cal_events.specs.declared.component.Attendee.{Attendee}
 use Rattle.cal_events.specs.declared.component.EventComponent.{EventComponent}
 use Rattle.cal_events.specs.declared.component.Purpose.{Purpose}
@@ -24,7 +27,7 @@ use Rattle.cal_events.proofs.InOneOrder.{in_mapped}
 use Rattle.itip_messages.specs.Bodies.{IsReady}
 use Rattle.itip_messages.specs.Messages.{IsDated, event_slot}
 use Rattle.profile.specs.rooms.Messages.{slot_of}
-use Rattle.itip_messages.specs.OrganiserObjects.{IsNotOneEach, IsOrganiserFault, SaysObjectComponent, StandsForObject, operation_said, purpose_of}
+use Rattle.itip_messages.specs.OrganiserObjects.{IsNotOneEach, IsOrganiserFault, operation_said, purpose_of}
 use Rattle.itip_messages.specs.declared.organiser_object.Operation.{Operation}
 use Rattle.itip_messages.specs.declared.organiser_object.Operation.TheVariants.{Store, Reply, Refresh}
 use Rattle.itip_messages.proofs.BySlot.{organised, stamped, dated, ready}
@@ -47,50 +50,51 @@ read_for Store = refl
 read_for Reply = refl
 read_for Refresh = refl
 
-none_added : (operation : Operation) (events : List Event) → taken_by (method_read (purpose_of operation)) events ≡ events
-none_added Store events = refl
-none_added Reply events = refl
-none_added Refresh events = refl
+pub none_added : (operation : profile.Operation) (events : List Event) → taken_by (Some (read_as operation)) events ≡ events
+none_added profile.Store events = refl
+none_added profile.Reply events = refl
+none_added profile.Refresh events = refl
 
-pub as_they_stand : (operation : Operation) (purpose : Purpose) → purpose ≡ purpose_of operation → (events : List Event) → taken_by (method_read purpose) events ≡ events
-as_they_stand operation purpose e events = subst (λ (p : Purpose). taken_by (method_read p) events ≡ events) (sym e) (none_added operation events)
+-- for what is asked
+module _ (operation : Operation) (purpose : Purpose) (e : purpose ≡ purpose_of operation) where
+  method_is : method_read purpose ≡ Some (read_as (operation_said operation))
+  method_is = ap method_read e ∙ read_for operation
 
--- the VEVENTs say these events, for what is asked
-pub said_for : (object : Tree) (operation : Operation) (purpose : Purpose) (vs : List (List (List ℕ))) (es : List Event) → purpose ≡ purpose_of operation → vevents object ≡ vs
-    → AllZip (SaysEvent object (method_read purpose)) vs es → AllZip (SaysEvent object (Some (read_as (operation_said operation)))) (vevents object) es
-said_for object operation purpose vs es e are says =
-    subst (λ (m : Option events.Method). AllZip (SaysEvent object m) (vevents object) es) (ap method_read e ∙ read_for operation)
-    (subst (λ (l : List (List (List ℕ))). AllZip (SaysEvent object (method_read purpose)) l es) (sym are) says)
+  pub as_they_stand : (es : List Event) → taken_by (method_read purpose) es ≡ es
+  as_they_stand es = subst (λ (m : Option events.Method). taken_by m es ≡ es) (sym method_is) (none_added (operation_said operation) es)
 
--- ---- what is known of each
+  -- what is wrong between them
+  pub meeting_wrong : (object : Tree) (f : Fault) → RefusesBy (MeetingFault object (method_read purpose)) f → RefusesBy (IsOrganiserFault object (operation_said operation)) f
+  meeting_wrong object Memory h = tt
+  meeting_wrong object (Refused r) h = λ named. in_meeting (operation_said operation) named (subst (λ (m : Option events.Method). MeetingFault object m r.number) method_is h)
 
-module _ (object : Tree) (m : events.Method) (all : List EventComponent) (says : AllZip (SaysEvent object (Some m)) (vevents object) (map event_of all)) where
-  pub stamp_given : (e : EventComponent) → Contains all e → IsSome e.stamp
-  stamp_given e c = some_itself e.stamp (All-contains (λ (x : Event). is_some x.stamp ≡ true) (map event_of all) (event_of e) (stamped object m (vevents object) (map event_of all) says) (in_mapped event_of all e c))
+  module _ (object : Component) (all : List EventComponent) (says : AllZip (SaysEvent (tree_of object) (method_read purpose)) (vevents_of object) (map event_of all)) where
+    -- its tree says them
+    pub said_by_tree : AllZip (SaysEvent (tree_of object) (Some (read_as (operation_said operation)))) (vevents (tree_of object)) (map event_of all)
+    said_by_tree =
+        subst (λ (m : Option events.Method). AllZip (SaysEvent (tree_of object) m) (vevents (tree_of object)) (map event_of all)) method_is
+        (subst (λ (l : List (List (List ℕ))). AllZip (SaysEvent (tree_of object) (method_read purpose)) l (map event_of all)) (sym (vevents_tree object)) says)
 
-  pub slot_dated : (e : EventComponent) → Contains all e → IsDated (event_slot e)
-  slot_dated e c = All-contains (λ (x : Event). IsDated (slot_of x)) (map event_of all) (event_of e) (dated object m (vevents object) (map event_of all) says) (in_mapped event_of all e c)
+    -- so of each this is known
+    pub stamp_given : (event : EventComponent) → Contains all event → IsSome event.stamp
+    stamp_given event c =
+        some_itself event.stamp (All-contains (λ (x : Event). is_some x.stamp ≡ true) (map event_of all) (event_of event) (stamped (tree_of object) _ (vevents (tree_of object)) (map event_of all) said_by_tree) (in_mapped event_of all event c))
 
-  pub event_is_ready : (e : EventComponent) → Contains all e → IsReady (event_of e)
-  event_is_ready e c = All-contains IsReady (map event_of all) (event_of e) (ready object m (vevents object) (map event_of all) says) (in_mapped event_of all e c)
+    pub slot_dated : (event : EventComponent) → Contains all event → IsDated (event_slot event)
+    slot_dated event c =
+        All-contains (λ (x : Event). IsDated (slot_of x)) (map event_of all) (event_of event) (dated (tree_of object) _ (vevents (tree_of object)) (map event_of all) said_by_tree) (in_mapped event_of all event c)
 
-  pub organiser_given : (e : EventComponent) → Contains all e → IsSome e.organiser
-  organiser_given e c = some_of_map _ e.organiser (All-contains (λ (x : Event). is_some x.organiser ≡ true) (map event_of all) (event_of e) (organised object m (vevents object) (map event_of all) says) (in_mapped event_of all e c))
+    pub event_is_ready : (event : EventComponent) → Contains all event → IsReady (event_of event)
+    event_is_ready event c = All-contains IsReady (map event_of all) (event_of event) (ready (tree_of object) _ (vevents (tree_of object)) (map event_of all) said_by_tree) (in_mapped event_of all event c)
 
--- ---- faults
+    pub organiser_given : (event : EventComponent) → Contains all event → IsSome event.organiser
+    organiser_given event c =
+        some_of_map _ event.organiser
+        (All-contains (λ (x : Event). is_some x.organiser ≡ true) (map event_of all) (event_of event) (organised (tree_of object) _ (vevents (tree_of object)) (map event_of all) said_by_tree) (in_mapped event_of all event c))
 
--- between them
-pub meeting_wrong : (object : Tree) (operation : Operation) (purpose : Purpose) (f : Fault) → purpose ≡ purpose_of operation
-    → RefusesBy (MeetingFault object (method_read purpose)) f → RefusesBy (IsOrganiserFault object (operation_said operation)) f
-meeting_wrong object operation purpose Memory e h = tt
-meeting_wrong object operation purpose (Refused r) e h =
-    λ named. in_meeting (operation_said operation) named (subst (λ (m : Option events.Method). MeetingFault object m r.number) (ap method_read e ∙ read_for operation) h)
-
--- and of one that doesn't have one attendee
-pub attendee_wrong : (object : Tree) (operation : Operation) (es : List Event) (n : ℕ) → AllZip (SaysEvent object (Some (read_as (operation_said operation)))) (vevents object) es
-    → IsNotOneEach (operation_said operation) es n → IsOrganiserFault object (operation_said operation) n
-attendee_wrong object operation es n says h =
-    λ named. subst (OrganiserObjectFault object) (sym h.0) (not_one (operation_said operation) named h.1 es says h.2)
+    -- where one doesn't have one attendee
+    pub attendee_wrong : (n : ℕ) → IsNotOneEach (operation_said operation) (map event_of all) n → IsOrganiserFault (tree_of object) (operation_said operation) n
+    attendee_wrong n h = λ named. subst (OrganiserObjectFault (tree_of object)) (sym h.0) (not_one (operation_said operation) named h.1 (map event_of all) said_by_tree h.2)
 
 -- ---- what is said
 

@@ -1,5 +1,5 @@
 -- Octets say at most one message, and none where a fault stands in them.
-use Rattle.std.proofs.Common.{◌≡◌, ◌∙◌, ℕ, ◌<◌, ◌≤◌, Bool, true, false, List, [], ◌∷◌, length, filter, get_or, refl, sym, ap, subst, arith, inl, inr}
+use Rattle.std.proofs.Common.{◌≡◌, ◌∙◌, ℕ, ◌<◌, ◌≤◌, true, false, List, [], ◌∷◌, length, filter, get_or, refl, sym, ap, subst, arith, inl, inr}
 use Rattle.std.specs.Prelude.{Contains, codes, Option, Some, None}
 use Rattle.std.specs.Option.{option_to_list}
 use Rattle.std.specs.List.{AllZip, list_all}
@@ -14,7 +14,7 @@ use Rattle.profile.specs.text.Trees.{Tree, tree_name, tree_own, tree_inside, vev
 use Rattle.profile.specs.events.Events.{Method, Request, Add, Cancel, NamesWord, Event, SaysEvent, meeting_said}
 use Rattle.profile.specs.events.Properties.{IsMissing}
 use Rattle.profile.specs.events.Meetings.{SaysMeeting, MeetingFault, taken_by, is_master, is_override}
-use Rattle.profile.specs.organisers.Objects.{Operation, Store, Reply, Refresh, NamesOperation, read_as, has_one_attendee, OrganiserObject, SaysOrganiserObject, OrganiserObjectFault, in_meeting, not_one}
+use Rattle.profile.specs.organisers.Objects.{Operation, Store, Reply, Refresh, NamesOperation, read_as, has_one_attendee, OrganiserObject, SaysOrganiserObject, in_meeting, not_one}
 use Rattle.profile.specs.rooms.Messages as messages
 use Rattle.profile.specs.rooms.Messages.{Message, method_word, NamesMethod, SaysMessage, MethodFault, two_methods, bad_method, MessageFault, in_method, for_organiser, is_method}
 use Rattle.profile.specs.streams.Streams.{Said, ToRooms, ToOrganiser, Spells, ObjectFault}
@@ -23,6 +23,7 @@ use Rattle.cal_events.proofs.OneText.{OneTree, PairsUp}
 use Rattle.cal_events.proofs.ObjectFaults.{has_version_only, has_few_events}
 use Rattle.cal_events.proofs.OneMeeting.{no_meeting_fault, one_said as one_meeting}
 use Rattle.cal_events.proofs.Zips.{zip_one}
+use Rattle.itip_messages.proofs.ObjectLemmas.{none_added}
 
 abbrev Lines : Type 0
 Lines = List (List ℕ)
@@ -124,12 +125,6 @@ no_message_fault one sound object a n s (for_organiser (in_meeting operation nam
 no_message_fault one sound object a n s (for_organiser (not_one operation named speaks events says h)) = apart (tree_own object) a.method operation s.method named
 
 -- ---- what it says to an organiser
-
--- the VEVENTs are taken as they stand
-none_added : (operation : Operation) (events : List Event) → taken_by (Some (read_as operation)) events ≡ events
-none_added Store events = refl
-none_added Reply events = refl
-none_added Refresh events = refl
 
 -- of a list of one or none the element
 only : (events : List Event) → length events ≤ 1 → (one : Option Event) × (events ≡ option_to_list one)

@@ -7,6 +7,7 @@ use Rattle.ical_values.specs.Written.{Appends}
 use Rattle.profile.specs.text.Lines.{written, folded}
 use Rattle.profile.specs.rooms.Revisions.{Revision}
 use Rattle.profile.specs.organisers.Sent.{TellsRevision}
+use Rattle.itip_messages.proofs.LineLemmas.{one_line}
 use Rattle.itip_messages.specs.Replies.{IsStampLine, WritesLines}
 
 -- one element more
@@ -23,9 +24,6 @@ push_lines old now new xs ys h k = k ∙ ap (λ o. o ++ written ys) h ∙ append
 pub push_line : (old now new line : List ℕ) (xs : List (List ℕ)) → now ≡ old ++ written xs → new ≡ now ++ folded line → new ≡ old ++ written (xs ++ line ∷ [])
 push_line old now new line xs h k = push_lines old now new xs (line ∷ []) h (k ∙ ap (λ l. now ++ l) (sym (append-nil (folded line))))
 
-pub first_line : (old new line : List ℕ) → new ≡ old ++ folded line → new ≡ old ++ written (line ∷ [])
-first_line old new line k = k ∙ ap (λ l. old ++ l) (sym (append-nil (folded line)))
-
 pub no_lines : (old : List ℕ) → old ≡ old ++ written []
 no_lines old = sym (append-nil old)
 
@@ -37,5 +35,5 @@ revision_written revision old now new h a =
     let first = codes "SEQUENCE:" ++ decimal revision.sequence in (
       first ∷ (codes "DTSTAMP:" ++ stamp) ∷ [],
       record { stamp = stamp; tells = a.1.1; is = refl },
-      push_line old now new (codes "DTSTAMP:" ++ stamp) (first ∷ []) (first_line old now first h) (a.2 ∙ ap (λ l. now ++ l) a.1.2),
+      push_line old now new (codes "DTSTAMP:" ++ stamp) (first ∷ []) (one_line old now first h) (a.2 ∙ ap (λ l. now ++ l) a.1.2),
     )

@@ -1,5 +1,5 @@
 -- What a message that was read stands for, and the parts of it.
-use Rattle.std.specs.Prelude.{◌≡◌, ◌≢◌, ℕ, ◌<◌, ◌⊎◌, ◌||◌, ◌&&◌, ◌==◌, Bool, true, false, List, [], length, map, filter, Contains, All, AllPairs, MatchOption, Option, Some, is_some, option_map, if◌then◌else◌}
+use Rattle.std.specs.Prelude.{◌≡◌, ◌≢◌, ℕ, ◌<◌, ◌||◌, ◌&&◌, ◌==◌, Bool, true, false, List, [], length, map, filter, Contains, All, AllPairs, MatchOption, Option, Some, is_some, option_map, if◌then◌else◌}
 use Rattle.std.specs.List.{list_any, AllZip}
 use Rattle.std.specs.Str.{bytes_eq}
 use Rattle.profile.specs.events.Events.{Event}

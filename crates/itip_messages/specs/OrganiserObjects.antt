@@ -1,9 +1,8 @@
 -- What an object that comes to an organiser stands for, once it was read.
-use Rattle.std.specs.Prelude.{◌≡◌, ℕ, true, false, List, map, Some}
+use Rattle.std.specs.Prelude.{◌≡◌, ℕ, true, false, List}
 use Rattle.std.specs.List.{AllZip, list_all}
-use Rattle.profile.specs.text.Trees.{Tree, tree_own, vevents}
+use Rattle.profile.specs.text.Trees.{Tree, tree_own}
 use Rattle.profile.specs.events.Events.{Event}
-use Rattle.profile.specs.events.Meetings.{MeetingFault}
 use Rattle.profile.specs.organisers.Objects as profile
 use Rattle.profile.specs.organisers.Objects.{AreOfMeeting, has_one_attendee, is_of_attendee, read_as}
 use Rattle.profile.specs.rooms.Messages.{own_revision}

@@ -84,7 +84,8 @@ fn counted_among(alloc: Global, lines: &[Attendee]) -> Result<Vec<&Attendee>, Al
     let mut seen = IndexSet::new(alloc);
     let mut counted = Vec::new(alloc);
     for line in lines {
-        if seen.insert(line.address.as_str())? {
+        let is_new = seen.insert(line.address.as_str())?;
+        if is_new {
             counted.push(line)?;
         }
     }

@@ -148,7 +148,7 @@ fn judge_attendees(operation: Operation, events: &[EventComponent]) -> Result<()
 fn all_have_one(events: &[EventComponent]) -> bool
     ensures { result ≡ list_all (λ event. has_one_attendee (event_of event)) events.now }
 {
-    events.iter().all(|event| has_one_attendee(event))
+    events.iter().all(has_one_attendee)
 }
 
 /// Whether a VEVENT has one attendee; several lines of one address are one.

@@ -1,0 +1,12 @@
+pub mod Loops
+pub mod Lines
+pub mod Noting
+pub mod Picking
+pub mod Latest
+pub mod Hearing
+pub mod Sends
+pub mod Said
+pub mod Books
+pub mod Taking
+pub mod Replying
+pub mod Storing

@@ -1,26 +1,53 @@
 //! An organiser's meetings: the last store of each, what was made of it, and what its attendees answered to it.
 
-ghost use Rattle.std.specs.Prelude.{◌≡◌, map, IfOk, IfErr, OnErr};
+ghost use Rattle.std.specs.Prelude.{◌≡◌, List, map, option_map, IfOk, IfErr, OnOk, OnErr};
+ghost use Rattle.std.specs.List.{AllZip};
+ghost use Rattle.indexmap.specs.IndexMap.{get};
 ghost use Rattle.ical_lines.specs.Fault.{RefusesOnly, RefusesBy};
-ghost use Rattle.ical_values.specs.Octets.{address_octets};
+ghost use Rattle.ical_values.specs.Octets.{address_octets, text_octets};
+ghost use Rattle.profile.specs.events.Events.{Attendee, Event};
 ghost use Rattle.profile.specs.organisers.Objects as profile;
-ghost use Rattle.profile.specs.organisers.Organisers.{OrganiserBook, empty_organiser, after_reply, IsStore};
-ghost use Rattle.itip_messages.specs.OrganiserObjects.{StandsForObject};
-ghost use Rattle.organiser_books.specs.Standing.{Keeps, address_of};
+ghost use Rattle.profile.specs.organisers.Organisers.{OrganiserBook, empty_organiser, after_reply, without, IsSeen, IsShown, IsStore};
+ghost use Rattle.cal_events.specs.Events.{participation_of};
+ghost use Rattle.itip_order.specs.Parts.{slot_of};
+ghost use Rattle.itip_messages.specs.OrganiserObjects.{operation_said, SaysObjectComponent, StandsForObject};
+ghost use Rattle.organiser_books.specs.Standing.{Keeps, address_of, same_text};
+ghost use Rattle.organiser_books.specs.Attending.{lists_of, scheduled_among, AreAttending};
+ghost use Rattle.organiser_books.specs.Storing.{LastAttends, SendsObject};
 ghost use Rattle.organiser_books.specs.Calls.{AnswersRefresh, CallFault, MayTake, is_call_fault, sent_of};
 
+use crate::attending::{Attending, attending, gone, sent};
+use crate::meeting::Meeting;
 use crate::outgoing::Outgoing;
-use ical_lines::Fault;
-use ical_values::{Address, Stamp};
-use itip_messages::OrganiserObject;
-use std::alloc::Global;
+use crate::sending::{Sending, send};
+use crate::sequence::sequence_after;
+use cal_events::ParticipationStatus;
+use ical_lines::{Fault, Refusal};
+use ical_values::{Address, Stamp, Text};
+use indexmap::IndexMap;
+use itip_messages::{MeetingText, Operation, OrganiserObject, write_meeting};
+use itip_order::{Revision, Slot};
+use std::alloc::{AllocError, Global};
 
 /// An organiser with its meetings.
 #[derive(Drop)]
 pub struct Organiser {
     alloc: Global,
     address: Address,
+    /// The last store of each meeting, by its UID.
+    meetings: Meetings,
 }
+
+/// What is made of an object that is stored.
+#[derive(Drop)]
+struct Made {
+    attending: Attending,
+    object: Vec<u8>,
+    sent: Vec<Outgoing>,
+}
+
+/// The meetings of an organiser.
+pub(crate) type Meetings = IndexMap<Text, Meeting>;
 
 impl Organiser {
     /// One that has stored nothing.
@@ -28,7 +55,11 @@ impl Organiser {
         ensures empty { Keeps result empty_organiser }
         ensures address { address_of result ≡ address_octets address }
     {
-        Organiser { alloc, address }
+        Organiser {
+            alloc,
+            address,
+            meetings: IndexMap::new(alloc),
+        }
     }
 
     /// The organiser's own address, in lower case.
@@ -53,7 +84,35 @@ impl Organiser {
         ensures address { address_of self.new ≡ address_of self.old }
         ensures err { OnErr result ((book : OrganiserBook) → Keeps self.old book → Keeps self.new book) }
     {
-        Err(Fault::Memory)
+        self.expect(&object, Operation::Store)?;
+        let Some(sequence) = sequence_after(self.meetings.get(&object.uid), &object.components)
+        else {
+            return Err(Fault::Refused(Refusal::SEQUENCE_SPENT));
+        };
+        let revision = Revision {
+            sequence,
+            stamp: now,
+        };
+        let Made {
+            attending,
+            object: octets,
+            sent,
+        } = self.made(&object, &revision)?;
+        let OrganiserObject {
+            operation: _,
+            organiser: _organiser,
+            uid,
+            components,
+        } = object;
+        let meeting = Meeting {
+            revision,
+            components,
+            attending,
+            object: octets,
+            answers: IndexMap::new(self.alloc),
+        };
+        self.meetings.insert(uid, meeting)?;
+        Ok(sent)
     }
 
     /// Takes an attendee's REPLY (RFC 5546 3.2.3). One to an older store says nothing of the last.
@@ -68,7 +127,12 @@ impl Organiser {
         ensures address { address_of self.new ≡ address_of self.old }
         ensures err { OnErr result ((book : OrganiserBook) → Keeps self.old book → Keeps self.new book) }
     {
-        Err(Fault::Memory)
+        self.expect(object, Operation::Reply)?;
+        let Some(meeting) = self.meetings.get_mut(&object.uid) else {
+            return Err(Fault::Refused(Refusal::NOT_SENT));
+        };
+        meeting.take_reply(&object.components)?;
+        Ok(())
     }
 
     /// Answers an attendee's REFRESH (RFC 5546 3.2.6): with the octets that were made of the last store, also where they were sent to nobody.
@@ -81,6 +145,98 @@ impl Organiser {
         ensures stands { IfErr result (RefusesBy (λ n. (said : profile.OrganiserObject) → StandsForObject object.now said → (book : OrganiserBook) → Keeps self.now book
             → CallFault profile.Refresh (address_of self.now) said book n)) }
     {
-        Err(Fault::Memory)
+        self.expect(object, Operation::Refresh)?;
+        let Some(meeting) = self.meetings.get(&object.uid) else {
+            return Err(Fault::Refused(Refusal::NOT_SENT));
+        };
+        if meeting.is_strange(&object.components) {
+            return Err(Fault::Refused(Refusal::NOT_AN_ATTENDEE));
+        }
+        Ok(meeting.object.clone()?)
+    }
+
+    /// What is seen of an attendee's answers to the last store, for a slot of the meeting; None for a meeting that isn't known and for one
+    /// who isn't an attendee of it (RFC 6638 3.2.2).
+    pub fn seen(&self, uid: &Text, slot: Slot, attendee: &Address) -> Option<ParticipationStatus>
+        ensures { (book : OrganiserBook) → Keeps self.now book
+            → IsSeen book (text_octets uid.now) (slot_of slot) (address_octets attendee.now) (option_map participation_of result) }
+    {
+        let meeting = self.meetings.get(uid)?;
+        if !meeting.has_attendee(attendee) {
+            return None;
+        }
+        Some(meeting.answered(slot, attendee))
+    }
+
+    /// The meeting of this UID as it was last sent, without METHOD, each attendee with what is seen of it and SCHEDULE-STATUS=1.1 where it
+    /// was sent a message (RFC 6638 3.2.9); None for one that isn't known.
+    pub fn text(&self, uid: &Text) -> Result<Option<Vec<u8>>, AllocError>
+        ensures { IfOk result (λ text. (book : OrganiserBook) → Keeps self.now book
+            → IsShown (address_of self.now) book (text_octets uid.now) (option_map (λ octets. octets.items) text)) }
+    {
+        let Some(meeting) = self.meetings.get(uid) else {
+            return Ok(None);
+        };
+        let text = MeetingText {
+            uid,
+            organiser: &self.address,
+            revision: meeting.revision,
+            components: &meeting.components,
+        };
+        let mut octets = Vec::new(self.alloc);
+        write_meeting(None, &text, meeting, &mut octets)?;
+        Ok(Some(octets))
+    }
+
+    /// Refused: 60 for an object that asks for something else, 70 for one of another organiser.
+    fn expect(&self, object: &OrganiserObject, operation: Operation) -> Result<(), Fault>
+        ensures kind { OnOk result (operation_said object.now.operation ≡ operation_said operation) }
+        ensures own { OnOk result (address_octets object.now.organiser ≡ address_of self.now) }
+        ensures refuses { IfErr result (RefusesOnly is_call_fault) }
+        ensures stands { IfErr result (RefusesBy (λ n. (said : profile.OrganiserObject) → StandsForObject object.now said → (book : OrganiserBook)
+            → CallFault (operation_said operation) (address_of self.now) said book n)) }
+    {
+        if object.operation != operation {
+            return Err(Fault::Refused(Refusal::BAD_METHOD));
+        }
+        if object.organiser != self.address {
+            return Err(Fault::Refused(Refusal::NOT_HOSTED));
+        }
+        Ok(())
+    }
+
+    /// What is made of an object that is stored with this revision.
+    fn made(&self, object: &OrganiserObject, revision: &Revision) -> Result<Made, AllocError>
+        ensures attending { IfOk result (λ made. AreAttending (lists_of object.now.components.items) made.attending.entries) }
+        ensures sends { IfOk result (λ made. (events : List Event) (before : List (List Attendee)) → AllZip SaysObjectComponent events object.now.components.items
+            → LastAttends before (get same_text self.now.meetings object.now.uid)
+            → SendsObject object.now revision.now events before made.object.items (map sent_of made.sent.items)) }
+    {
+        let attending = attending(self.alloc, &object.components)?;
+        let to = sent(self.alloc, &attending)?;
+        let gone = self.gone(&object.uid, &attending)?;
+        let text = MeetingText {
+            uid: &object.uid,
+            organiser: &object.organiser,
+            revision: *revision,
+            components: &object.components,
+        };
+        let Sending { object, sent } = send(self.alloc, &text, to, gone)?;
+        Ok(Made {
+            attending,
+            object,
+            sent,
+        })
+    }
+
+    /// Those whom the server sent messages by the last store of this UID, and no longer does.
+    fn gone(&self, uid: &Text, now: &Attending) -> Result<Vec<Address>, AllocError>
+        ensures { IfOk result (λ gone. (before lists : List (List Attendee)) → LastAttends before (get same_text self.now.meetings uid.now) → AreAttending lists now.now.entries
+            → map address_octets gone.items ≡ without (scheduled_among before) (scheduled_among lists)) }
+    {
+        let Some(last) = self.meetings.get(uid) else {
+            return Ok(Vec::new(self.alloc));
+        };
+        gone(self.alloc, &last.attending, now)
     }
 }

@@ -49,15 +49,19 @@ in_order_of_first_appearance : attendees_of events ≡ r1 ∷ r2 ∷ r3 ∷ []
 in_order_of_first_appearance = refl
 
 -- the server sends to r2 by the instance
-by_one_of_the_events : scheduled_in events ≡ r1 ∷ r2 ∷ r3 ∷ []
+by_one_of_the_events : scheduled_in ann events ≡ r1 ∷ r2 ∷ r3 ∷ []
 by_one_of_the_events = refl
 
+-- the organiser is an attendee, and is sent nothing
+not_to_itself : scheduled_in ann (event None 0 false (attendee ann true ∷ attendee r1 true ∷ []) ∷ []) ≡ r1 ∷ []
+not_to_itself = refl
+
 -- by the first of its lines a client sends to r2
-the_first_line_counts : scheduled_in (event None 0 false (attendee r1 true ∷ attendee r2 false ∷ attendee r2 true ∷ []) ∷ []) ≡ r1 ∷ []
+the_first_line_counts : scheduled_in ann (event None 0 false (attendee r1 true ∷ attendee r2 false ∷ attendee r2 true ∷ []) ∷ []) ≡ r1 ∷ []
 the_first_line_counts = refl
 
 -- r2 was sent messages by the last store and is left to a client by this one; r3 is gone
-who_is_gone : without (scheduled_in events) (scheduled_in (event None 0 false (attendee r1 true ∷ attendee r2 false ∷ []) ∷ [])) ≡ r2 ∷ r3 ∷ []
+who_is_gone : without (scheduled_in ann events) (scheduled_in ann (event None 0 false (attendee r1 true ∷ attendee r2 false ∷ []) ∷ [])) ≡ r2 ∷ r3 ∷ []
 who_is_gone = refl
 
 r3_is_an_attendee : is_attendee r3 events ≡ true

@@ -1,8 +1,7 @@
 -- What a loop has done, one element more.
 use Rattle.std.proofs.Common.{◌≡◌, ◌∙◌, ℕ, ◌+◌, ◌<◌, Bool, true, false, cond, List, [], ◌∷◌, ◌++◌, take, length, get_or, sym, ap, subst, inl, inr, append-nil, append_assoc}
-use Rattle.std.specs.List.{flat_map, filter, Contains, AllZip}
+use Rattle.std.specs.List.{filter, Contains, AllZip}
 use Rattle.std.proofs.lemmas.List.{take_more}
-use Rattle.std.proofs.lemmas.Grind.{flat_map-append}
 use Rattle.std.proofs.lemmas.List.Elements.{filter-append}
 use Rattle.itip_order.proofs.Lists.{in_cons, in_head, in_tail, none_in_nil}
 

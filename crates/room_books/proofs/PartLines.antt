@@ -4,9 +4,9 @@ use Rattle.std.specs.Option.{option_to_list}
 use Rattle.ical_values.specs.Written.{Appends}
 use Rattle.itip_messages.specs.Replies.{IsStampLine}
 use Rattle.profile.specs.text.Lines.{written, folded}
-use Rattle.profile.specs.rooms.Messages.{Content, TellsSlot}
+use Rattle.profile.specs.rooms.Messages.{Content}
 use Rattle.profile.specs.rooms.Kept.{IsEventOf, IsNamed}
-use Rattle.profile.specs.rooms.Revisions.{Part, Slot, At, Body, Set, Absent, Cancelled}
+use Rattle.profile.specs.rooms.Revisions.{Part, At, Body, Set, Absent, Cancelled}
 use Rattle.profile.specs.rooms.Rooms.{is_set, is_set_body}
 use Rattle.profile.specs.text.Values.{escaped}
 use Rattle.room_books.specs.Standing.{IsText, SlotDated}

@@ -1,5 +1,5 @@
 -- What a message does to its meeting.
-use Rattle.std.specs.Prelude.{◌≡◌, ◌≢◌, ◌⊎◌, ◌↔◌, ◌<◌, ◌≤◌, ◌++◌, ℕ, ℤ, Bool, true, false, Contains, not, ◌&&◌, nat_lt, IsTrue, if◌then◌else◌, List, [], ◌∷◌, take, drop, length, map, filter, AllPairs, Option, Some, None, option_map, is_some, Vec}
+use Rattle.std.specs.Prelude.{◌≡◌, ◌≢◌, ◌⊎◌, ◌↔◌, ◌<◌, ◌≤◌, ◌++◌, ℕ, ℤ, Bool, true, false, Contains, not, ◌&&◌, nat_lt, IsTrue, if◌then◌else◌, List, [], length, map, filter, AllPairs, Option, Some, None, option_map, is_some, Vec}
 use Rattle.std.specs.List.{AllZip}
 use Rattle.std.specs.Option.{option_to_list}
 use denote.Ref.{Bor}
@@ -32,7 +32,6 @@ use Rattle.room_books.specs.declared.meeting.MeetingKey.{MeetingKey}
 use Rattle.room_books.specs.Views.{outcome_of, all_singles, all_series, booked_list, joined, slots_of, IsClearIn, MayJoin, Recurs, SeriesMayJoin}
 use Rattle.room_books.specs.Instants.{IsPartOf}
 use Rattle.room_books.specs.Touching.{is_touched, IsUntouched}
-use Rattle.std.specs.Str.Lines.{lines}
 use Rattle.profile.specs.rooms.Messages.{Content, no_content}
 use Rattle.itip_messages.specs.BodyTexts.{content_in}
 

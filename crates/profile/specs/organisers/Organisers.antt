@@ -1,4 +1,4 @@
--- The organiser machine: what an organiser keeps, and one step of it, as the server of RFC 6638 does it (3.2.1, 3.2.2, 3.2.6).
+-- The organiser machine: what an organiser keeps, and one step of it, as the server of RFC 6638 does it (3.2.1, 3.2.5, 3.2.8, 4.2).
 use Rattle.std.specs.Prelude.{◌≡◌, ℕ, ◌+◌, ◌<◌, Bool, true, false, not, ◌&&◌, ◌==◌, if◌then◌else◌, nat_lt, Contains, List, [], ◌∷◌, ◌++◌, map, filter, codes, Option, Some, None, ℤ}
 use Rattle.std.specs.List.{flat_map, list_any, list_all, find}
 use Rattle.std.specs.Str.{bytes_eq}
@@ -57,9 +57,13 @@ attendees_of events = each_once (flat_map (λ event. map (λ attendee. attendee.
 abbrev pub schedules : List ℕ → Event → Bool
 schedules address event = list_any (λ attendee. bytes_eq attendee.address address && attendee.scheduled) (counted event.attendees)
 
--- those of them that the server sends messages to: it is to by one of the events
-abbrev pub scheduled_in : List Event → List (List ℕ)
-scheduled_in events = filter (λ address. list_any (schedules address) events) (attendees_of events)
+-- those of them of whom it is left to the server, by one of the events
+abbrev pub left_to_server : List Event → List (List ℕ)
+left_to_server events = filter (λ address. list_any (schedules address) events) (attendees_of events)
+
+-- those that the server of this organiser sends messages to: never the organiser itself, which may be an attendee too (RFC 6638 3.2.1)
+abbrev pub scheduled_in : List ℕ → List Event → List (List ℕ)
+scheduled_in organiser events = filter (λ address. not (bytes_eq address organiser)) (left_to_server events)
 
 -- those of the first that aren't among the second
 abbrev pub without : List (List ℕ) → List (List ℕ) → List (List ℕ)
@@ -83,7 +87,7 @@ abbrev pub own_sequence : List Event → ℕ
 own_sequence [] = 0
 own_sequence (event ∷ events) = greater event.sequence (own_sequence events)
 
--- the SEQUENCE of what is sent: the events' own at first, later greater than that of the last store (RFC 5546 2.1.4, RFC 6638 3.2.8)
+-- the SEQUENCE of what is sent: the events' own at first, later greater than that of the last store (RFC 5546 2.1.4, RFC 6638 3.2.5)
 abbrev pub sequence_after : Option Stored → List Event → ℕ
 sequence_after None events = own_sequence events
 sequence_after (Some last) events = greater (own_sequence events) (last.revision.sequence + 1)
@@ -102,12 +106,12 @@ Sends IsSuch (first ∷ others) sent = (octets : List ℕ) × IsSuch octets × (
 -- the one CANCEL; else those of the meeting get its REQUEST, and those that are gone a CANCEL without STATUS (RFC 6638 3.2.1)
 abbrev pub SendsStore : Bool → List ℕ → Stored → List (List ℕ) → List Sent → Type 0
 SendsStore true organiser stored gone sent =
-    IsCancel organiser stored.uid stored.revision true (scheduled_in stored.events ++ gone) stored.object
-    × Sends (λ octets. octets ≡ stored.object) (scheduled_in stored.events ++ gone) sent
+    IsCancel organiser stored.uid stored.revision true (scheduled_in organiser stored.events ++ gone) stored.object
+    × Sends (λ octets. octets ≡ stored.object) (scheduled_in organiser stored.events ++ gone) sent
 SendsStore false organiser stored gone sent =
     (requests : List Sent) × (cancels : List Sent)
     × IsRequest organiser stored.uid stored.revision stored.events stored.object
-    × Sends (λ octets. octets ≡ stored.object) (scheduled_in stored.events) requests
+    × Sends (λ octets. octets ≡ stored.object) (scheduled_in organiser stored.events) requests
     × Sends (IsCancel organiser stored.uid stored.revision false gone) gone cancels × (sent ≡ requests ++ cancels)
 
 -- an object is stored at a moment: the book has it before all others, and this is sent
@@ -117,7 +121,7 @@ pub record IsStore (moment : ℤ) (said : OrganiserObject) (before : OrganiserBo
   pub events : stored.events ≡ said.events
   pub revision : stored.revision ≡ record { sequence = sequence_after (last_store said.uid before) said.events; stamp = moment }
   pub sends : SendsStore (is_called_off said.events) said.organiser stored
-      (without (scheduled_in (last_events (last_store said.uid before))) (scheduled_in said.events)) sent
+      (without (scheduled_in said.organiser (last_events (last_store said.uid before))) (scheduled_in said.organiser said.events)) sent
   pub kept : after ≡ record before { stores = stored ∷ before.stores }
 
 -- ---- a reply
@@ -187,18 +191,18 @@ abbrev pub sent_status : Bool → List ℕ
 sent_status sent = if sent then codes ";SCHEDULE-STATUS=1.1" else []
 
 -- the line of an attendee of this slot: what is seen of it, and whether it was sent the meeting
-abbrev pub ShowsSeen : OrganiserBook → Stored → Slot → Attendee → List ℕ → Type 0
-ShowsSeen book stored slot attendee line =
+abbrev pub ShowsSeen : List ℕ → OrganiserBook → Stored → Slot → Attendee → List ℕ → Type 0
+ShowsSeen organiser book stored slot attendee line =
     (answer : Participation) × IsSeenOf book stored slot attendee.address answer
     × (line ≡ codes "ATTENDEE;PARTSTAT=" ++ participation_word answer
-    ++ sent_status (list_any (bytes_eq attendee.address) (scheduled_in stored.events)) ++ codes ":" ++ attendee.address)
+    ++ sent_status (list_any (bytes_eq attendee.address) (scheduled_in organiser stored.events)) ++ codes ":" ++ attendee.address)
 
 -- the meeting of this UID as it was last sent, with what is seen of its attendees; None for a meeting that isn't known
 abbrev pub IsShown : List ℕ → OrganiserBook → List ℕ → Option (List ℕ) → Type 0
 IsShown organiser book uid None = last_store uid book ≡ None
 IsShown organiser book uid (Some octets) =
     (stored : Stored) × (last_store uid book ≡ Some stored)
-    × IsMeetingText None organiser uid stored.revision (ShowsSeen book stored) stored.events octets
+    × IsMeetingText None organiser uid stored.revision (ShowsSeen organiser book stored) stored.events octets
 
 -- ---- what can be wrong with an object beside what the organiser keeps, by the number of its refusal
 

@@ -1,22 +1,13 @@
-use Rattle.std.proofs.Common.{◌≡◌, ◌∙◌, ◌++◌, ◌∷◌, [], List, map, option_map, sym, ap, subst, refl, arith, append_assoc}
-use Rattle.std.specs.Prelude.{Contains}
-use Rattle.std.specs.List.{AllZip}
-use Rattle.std.proofs.lemmas.List.{map-append}
-use Rattle.std.proofs.lemmas.List.Elements.{Contains-append_right}
-use Rattle.cal_events.specs.Events.{event_of}
-use Rattle.cal_events.specs.declared.component.EventComponent.{EventComponent}
-use Rattle.cal_events.proofs.EventLemmas.{push_zip}
-use Rattle.profile.specs.events.Events.{Event}
+use Rattle.std.proofs.Common.{option_map}
 use Rattle.itip_order.specs.Parts.{revision_of}
 use Rattle.itip_messages.specs.Messages.{SaysComponent, method_said}
+use Rattle.itip_messages.proofs.MessageLemmas.{next_there, said_more}
 use Rattle.itip_messages.proofs.room_message.components_of.Goals as goal
 
 pub of-requires : goal.of-requires
 of-requires c =
     let event = c.in-Some.event in
-    let steps = c.in-Some.ensures.steps in
-    let whole : c.args.events.items ≡ c.loop-event.yielded ++ event ∷ c.next.new.self.rest.items = c.loop-event.invariant.0 ∙ ap (λ l. c.loop-event.yielded ++ l) steps.0 in
-    let there = subst (λ (l : List EventComponent). Contains l event) (sym whole) (Contains-append_right c.loop-event.yielded (event ∷ c.next.new.self.rest.items) event (0, omega arith, refl)) in
+    let there = next_there c.args.events.items c.loop-event.yielded _ c.next.new.self.rest.items event c.loop-event.invariant.0 c.in-Some.ensures.steps.0 in
     record {
       stamp = c.requires.stamped event there;
       dated = c.requires.dated event there;
@@ -25,11 +16,5 @@ of-requires c =
 
 pub loop-event-preserved : goal.loop-event-preserved
 loop-event-preserved c =
-    let R = SaysComponent (method_said c.args.method) (option_map revision_of c.args.whole) in
-    let event = c.in-Some.event in
-    let whole : c.args.events.items ≡ c.loop-event.yielded ++ event ∷ c.next.new.self.rest.items = c.loop-event.invariant.0 ∙ ap (λ l. c.loop-event.yielded ++ l) c.in-Some.ensures.steps.0 in
-    let more = push_zip R (map event_of c.loop-event.yielded) c.loop-event.components.items (event_of event) c.in_ok-of.field-0 c.loop-event.invariant.1 c.in_ok-of.ensures in (
-      whole ∙ sym (append_assoc c.loop-event.yielded (event ∷ []) c.next.new.self.rest.items),
-      subst (λ (l : List Event). AllZip R l c.push.new.self.items) (sym (map-append event_of c.loop-event.yielded (event ∷ [])))
-          (subst (AllZip R (map event_of c.loop-event.yielded ++ event_of event ∷ [])) (sym c.in_ok-push.ensures.items) more),
-    )
+    said_more (SaysComponent (method_said c.args.method) (option_map revision_of c.args.whole)) c.args.events.items c.loop-event.yielded _ c.next.new.self.rest.items c.in-Some.event c.loop-event.components.items c.push.new.self.items
+    c.in_ok-of.field-0 c.loop-event.invariant.0 c.in-Some.ensures.steps.0 c.loop-event.invariant.1 c.in_ok-of.ensures c.in_ok-push.ensures.items

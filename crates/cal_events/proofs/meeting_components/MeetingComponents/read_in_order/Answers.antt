@@ -1,9 +1,9 @@
-use Rattle.std.proofs.Common.{List, map, subst, sym}
+use Rattle.std.proofs.Common.{◌≤◌, List, length, filter, map, subst, sym}
 use Rattle.ical_lines.specs.Fault.{RefusesBy}
 use Rattle.ical_tree.specs.Tree.{tree_of}
 use Rattle.ical_values.proofs.Exits.{err_exit}
 use Rattle.profile.specs.events.Events.{Event}
-use Rattle.profile.specs.events.Meetings.{MeetingFault}
+use Rattle.profile.specs.events.Meetings.{is_master, MeetingFault}
 use Rattle.cal_events.specs.declared.component.EventComponent.{EventComponent}
 use Rattle.cal_events.specs.Events.{event_of, method_read, vevents_of, IsFaultAmong}
 use Rattle.cal_events.specs.Meetings.{IsNotOne, SharesSlot}
@@ -39,3 +39,9 @@ returns-in_err-judge_slots-clause-stands c same =
     (weaker_fault _ (SharesSlot events) (MeetingFault (tree_of object) m)
     (λ n h. slot_there (tree_of object) (vevents_of object) (vevents_tree object) m events c.in_ok-components.ensures.says n (subst (λ (l : List Event). SharesSlot l n) (sym (same events)) h))
     (subst (λ (l : List EventComponent). RefusesBy (SharesSlot (map event_of l)) e) c.deref-2.ensures.value c.in_err-judge_slots.ensures.stands))
+
+pub returns-clause-says : goal.returns-clause-says
+returns-clause-says c = c.in_ok-components.ensures.says
+
+pub returns-clause-masters : goal.returns-clause-masters
+returns-clause-masters c = subst (λ (l : List EventComponent). length (filter is_master (map event_of l)) ≤ 1) c.deref-2.ensures.value c.in_ok-judge_slots.ensures.masters

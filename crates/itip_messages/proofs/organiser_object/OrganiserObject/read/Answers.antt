@@ -5,74 +5,52 @@ use Rattle.ical_lines.specs.Fault.{RefusesBy}
 use Rattle.ical_tree.specs.Tree.{tree_of}
 use Rattle.ical_values.specs.Octets.{address_octets, text_octets}
 use Rattle.ical_values.proofs.Exits.{err_exit}
-use Rattle.profile.specs.organisers.Objects.{AreOfMeeting, has_one_attendee, is_of_attendee, read_as}
-use Rattle.cal_events.specs.Events.{event_of, vevents_of}
+use Rattle.profile.specs.organisers.Objects.{AreOfMeeting, has_one_attendee, is_of_attendee}
+use Rattle.cal_events.specs.Events.{event_of}
 use Rattle.cal_events.specs.declared.component.EventComponent.{EventComponent}
-use Rattle.cal_events.proofs.TreeLemmas.{vevents_tree}
 use Rattle.itip_messages.specs.OrganiserObjects.{IsNotOneEach, IsOrganiserFault, operation_said}
-use Rattle.itip_messages.proofs.ObjectLemmas.{as_they_stand, said_for, stamp_given, slot_dated, event_is_ready, organiser_given, meeting_wrong, attendee_wrong, of_meeting}
+use Rattle.itip_messages.proofs.ObjectLemmas.{as_they_stand, said_by_tree, stamp_given, slot_dated, event_is_ready, organiser_given, meeting_wrong, attendee_wrong, of_meeting}
 use Rattle.itip_messages.proofs.organiser_object.OrganiserObject.read.Goals as goal
 
 pub returns-in_err-events-clause-stands : goal.returns-in_err-events-clause-stands
 returns-in_err-events-clause-stands c =
     let object = tree_of c.args.object.now in
     err_exit _ (RefusesBy (IsOrganiserFault object (operation_said c.args.operation))) _ c.from_residual.ensures.1
-    (meeting_wrong object c.args.operation _ _ c.purpose.ensures (c.in_err-events.ensures.stands (as_they_stand c.args.operation _ c.purpose.ensures)))
+    (meeting_wrong c.args.operation _ c.purpose.ensures object _ (c.in_err-events.ensures.stands (as_they_stand c.args.operation _ c.purpose.ensures)))
 
 pub returns-in_err-judge_attendees-clause-stands : goal.returns-in_err-judge_attendees-clause-stands
 returns-in_err-judge_attendees-clause-stands c =
-    let object = c.args.object.now in
-    let operation = c.args.operation in
-    let items = c.in_ok-events.events.items in
-    let says = said_for (tree_of object) operation _ (vevents_of object) (map event_of items) c.purpose.ensures (vevents_tree object) c.in_ok-events.ensures.says in
-    let wrong = subst (λ (l : List EventComponent). IsNotOneEach (operation_said operation) (map event_of l) c.in_err-judge_attendees.field-0.0.number) c.deref.ensures.value c.in_err-judge_attendees.ensures.stands in
-    err_exit _ (RefusesBy (IsOrganiserFault (tree_of object) (operation_said operation))) _ c.from_residual-in_err-judge_attendees.ensures.1
-    (attendee_wrong (tree_of object) operation (map event_of items) c.in_err-judge_attendees.field-0.0.number says wrong)
+    let operation = operation_said c.args.operation in
+    let number = c.in_err-judge_attendees.field-0.0.number in
+    let wrong = subst (λ (l : List EventComponent). IsNotOneEach operation (map event_of l) number) c.deref.ensures.value c.in_err-judge_attendees.ensures.stands in
+    err_exit _ (RefusesBy (IsOrganiserFault (tree_of c.args.object.now) operation)) _ c.from_residual-in_err-judge_attendees.ensures.1
+    (attendee_wrong c.args.operation _ c.purpose.ensures c.args.object.now c.in_ok-events.events.items c.in_ok-events.ensures.says number wrong)
 
 pub name_of-requires-clause-organised : goal.name_of-requires-clause-organised
 name_of-requires-clause-organised c event at =
-    let object = c.args.object.now in
-    let operation = c.args.operation in
-    let items = c.in_ok-events.events.items in
-    let says = said_for (tree_of object) operation _ (vevents_of object) (map event_of items) c.purpose.ensures (vevents_tree object) c.in_ok-events.ensures.says in
-    organiser_given (tree_of object) (read_as (operation_said operation)) items says event (subst (λ (l : List EventComponent). Contains l event) c.deref-2.ensures.value at)
+    organiser_given c.args.operation _ c.purpose.ensures c.args.object.now c.in_ok-events.events.items c.in_ok-events.ensures.says event
+    (subst (λ (l : List EventComponent). Contains l event) c.deref-2.ensures.value at)
 
 pub components_of-requires-clause-stamped : goal.components_of-requires-clause-stamped
-components_of-requires-clause-stamped c =
-    let object = c.args.object.now in
-    let operation = c.args.operation in
-    let items = c.in_ok-events.events.items in
-    stamp_given (tree_of object) (read_as (operation_said operation)) items
-    (said_for (tree_of object) operation _ (vevents_of object) (map event_of items) c.purpose.ensures (vevents_tree object) c.in_ok-events.ensures.says)
+components_of-requires-clause-stamped c = stamp_given c.args.operation _ c.purpose.ensures c.args.object.now c.in_ok-events.events.items c.in_ok-events.ensures.says
 
 pub components_of-requires-clause-dated : goal.components_of-requires-clause-dated
-components_of-requires-clause-dated c =
-    let object = c.args.object.now in
-    let operation = c.args.operation in
-    let items = c.in_ok-events.events.items in
-    slot_dated (tree_of object) (read_as (operation_said operation)) items
-    (said_for (tree_of object) operation _ (vevents_of object) (map event_of items) c.purpose.ensures (vevents_tree object) c.in_ok-events.ensures.says)
+components_of-requires-clause-dated c = slot_dated c.args.operation _ c.purpose.ensures c.args.object.now c.in_ok-events.events.items c.in_ok-events.ensures.says
 
 pub components_of-requires-clause-ready : goal.components_of-requires-clause-ready
-components_of-requires-clause-ready c =
-    let object = c.args.object.now in
-    let operation = c.args.operation in
-    let items = c.in_ok-events.events.items in
-    event_is_ready (tree_of object) (read_as (operation_said operation)) items
-    (said_for (tree_of object) operation _ (vevents_of object) (map event_of items) c.purpose.ensures (vevents_tree object) c.in_ok-events.ensures.says)
+components_of-requires-clause-ready c = event_is_ready c.args.operation _ c.purpose.ensures c.args.object.now c.in_ok-events.events.items c.in_ok-events.ensures.says
 
 pub returns-clause-says : goal.returns-clause-says
 returns-clause-says c =
-    let object = c.args.object.now in
     let operation = operation_said c.args.operation in
     let items = c.in_ok-events.events.items in
     let events = c.in_ok-events.ensures in
     let name = c.in_ok-organiser.ensures in
     let organiser = address_octets c.in_ok-organiser.organiser in
     let uid = text_octets c.in_ok-organiser.uid in
-    let says = said_for (tree_of object) c.args.operation _ (vevents_of object) (map event_of items) c.purpose.ensures (vevents_tree object) events.says in
-    let are : AreOfMeeting organiser uid (map event_of items) = of_meeting items organiser uid name.0 events.some events.one events.masters events.differ
-    (subst (λ (l : List EventComponent). Contains l name.0) c.deref-2.ensures.value name.1) name.2 name.3 in
+    let says = said_by_tree c.args.operation _ c.purpose.ensures c.args.object.now items events.says in
+    let first = subst (λ (l : List EventComponent). Contains l name.0) c.deref-2.ensures.value name.1 in
+    let are : AreOfMeeting organiser uid (map event_of items) = of_meeting items organiser uid name.0 events.some events.one events.masters events.differ first name.2 name.3 in
     let one_each = subst (λ (l : List EventComponent). is_of_attendee operation ≡ true → list_all has_one_attendee (map event_of l) ≡ true) c.deref.ensures.value c.in_ok-judge_attendees.ensures.each in (
       record { operation = operation; organiser = organiser; uid = uid; events = map event_of items },
       refl,

@@ -1,0 +1,119 @@
+-- Attendees in memory that pass a test, and what they are in the book.
+use Rattle.std.proofs.Common.{◌≡◌, ◌∙◌, ℕ, Bool, true, false, not, ◌&&◌, ◌||◌, cond, List, [], ◌∷◌, ◌++◌, map, Option, None, Some, refl, sym, ap, subst, inl, inr}
+use Rattle.std.specs.List.{filter, flat_map, list_any, Contains, IsDistinct}
+use Rattle.std.specs.Map.{lookup, keys_of}
+use Rattle.std.specs.Str.{bytes_eq}
+use Rattle.std.specs.Cmp.{IsEquivalence, both_ways as same_tests}
+use Rattle.std.proofs.lemmas.Bool.{true≢false, and_parts, and_from, cases_Bool, both_ways, false_from_ne_true}
+use Rattle.std.proofs.lemmas.List.{map-append}
+use Rattle.std.proofs.lemmas.List.Elements.{filter-append}
+use Rattle.std.proofs.lemmas.Map.Views.{lookup-from_Contains}
+use Rattle.itip_order.proofs.Lists.{any_at, any_from, filter_at, filter_from, in_cons, in_head, in_tail, none_in_nil}
+use Rattle.ical_values.specs.Octets.{address_octets}
+use Rattle.ical_values.specs.declared.address.Address.{Address}
+use Rattle.profile.specs.events.Events.{Attendee}
+use Rattle.profile.specs.rooms.Kept.{each_once}
+use Rattle.profile.specs.organisers.Organisers.{without}
+use Rattle.organiser_books.specs.declared.attending.Attendance.{Attendance}
+use Rattle.organiser_books.specs.Attending.{Entries, addresses_in, attendance_of, gone_in, is_sent, is_sent_in, names, scheduled_among, schedules, sent_in, Attends, AreAttending}
+use Rattle.organiser_books.proofs.Loops.{any_flat, any_map, filter_both, filter_no, filter_of_map, filter_yes, same_filter}
+use Rattle.organiser_books.proofs.Lines.{all_unnamed, among_lines, same_back, same_is, same_itself}
+use Rattle.organiser_books.proofs.Noting.{same_address}
+
+abbrev pub Entry : Type 0
+Entry = Address × Attendance
+
+octets : Entry → List ℕ
+octets e = address_octets e.0
+
+abbrev pub picked : (Entry → Bool) → Entries → List (List ℕ)
+picked test entries = map (λ entry. address_octets entry.0) (filter test entries)
+
+-- ---- one entry more
+
+pub picked_yes : (test : Entry → Bool) (done : Entries) (e : Entry) (items more : List Address) (a : Address) → more ≡ items ++ a ∷ [] → address_octets a ≡ address_octets e.0
+    → map address_octets items ≡ picked test done → test e ≡ true → map address_octets more ≡ picked test (done ++ e ∷ [])
+picked_yes test done e items more a is same h t =
+    ap (map address_octets) is ∙ map-append address_octets items (a ∷ []) ∙ (λ i. h i ++ same i ∷ [])
+    ∙ sym (ap (map (λ (x : Entry). address_octets x.0)) (filter_yes test done e t) ∙ map-append (λ (x : Entry). address_octets x.0) (filter test done) (e ∷ []))
+
+pub picked_no : (test : Entry → Bool) (done : Entries) (e : Entry) (items : List Address) → map address_octets items ≡ picked test done → test e ≡ false → map address_octets items ≡ picked test (done ++ e ∷ [])
+picked_no test done e items h t = h ∙ sym (ap (map (λ (x : Entry). address_octets x.0)) (filter_no test done e t))
+
+-- ---- what they are
+
+pub same_address_laws : IsEquivalence same_address
+same_address_laws = record {
+  refl = λ x. same_itself (address_octets x);
+  symm = λ x y. same_back (address_octets x) (address_octets y);
+  congr = λ x y z e. ap (λ q. bytes_eq q (address_octets z)) (same_is (address_octets x) (address_octets y) e);
+}
+
+-- the server sends messages to those who are scheduled
+pub sent_where : (lists : List (List Attendee)) (q : List ℕ) (r : Option Attendance) → Attends lists q r → is_sent_in r ≡ list_any (schedules q) lists
+sent_where lists q None h = sym (all_unnamed q lists h)
+sent_where lists q (Some a) h = h.scheduled
+
+module _ (lists : List (List Attendee)) (es : Entries) (are : AreAttending lists es) where
+  abbrev test : List ℕ → Bool
+  test q = list_any (schedules q) lists
+
+  pub is_sent_is : (q : List ℕ) → is_sent q es ≡ test q
+  is_sent_is q = sent_where lists q (attendance_of q es) (are.each q)
+
+  module _ (distinct : IsDistinct same_address (keys_of es)) where
+    entry_sent : (e : Entry) → Contains es e → e.1.scheduled ≡ test (address_octets e.0)
+    entry_sent e c =
+        let found : attendance_of (address_octets e.0) es ≡ Some e.1 = lookup-from_Contains same_address_laws e.0 e.1 es distinct c in
+        sym (ap is_sent_in found) ∙ is_sent_is (address_octets e.0)
+
+    keys_are : map (λ (e : Entry). address_octets e.0) es ≡ each_once (flat_map addresses_in lists)
+    keys_are = map_map es ∙ are.order
+      where
+        map_map : (xs : Entries) → map (λ (e : Entry). address_octets e.0) xs ≡ map address_octets (keys_of xs)
+        map_map [] = refl
+        map_map (x ∷ xs) = ap (λ l. address_octets x.0 ∷ l) (map_map xs)
+
+    -- those whom the server sends messages
+    pub sent_is : sent_in es ≡ scheduled_among lists
+    sent_is = filter_of_map (λ (e : Entry). address_octets e.0) (λ e. e.1.scheduled) test es entry_sent ∙ ap (filter test) keys_are
+
+    -- those of them who pass another test
+    pub sent_and : (other : List ℕ → Bool) → map (λ (e : Entry). address_octets e.0) (filter (λ (e : Entry). e.1.scheduled && other (address_octets e.0)) es) ≡ filter other (scheduled_among lists)
+    sent_and other =
+        filter_of_map (λ (e : Entry). address_octets e.0) (λ e. e.1.scheduled && other (address_octets e.0)) (λ q. test q && other q) es (λ e c. ap (λ b. b && other (address_octets e.0)) (entry_sent e c))
+        ∙ ap (filter (λ q. test q && other q)) keys_are ∙ sym (filter_both other test (each_once (flat_map addresses_in lists)))
+
+-- ---- those who are gone
+
+-- what an address that comes once is among
+once_any : (q : List ℕ) (xs : List (List ℕ)) → list_any (λ y. bytes_eq y q) xs ≡ true → Contains (each_once xs) q
+once_any q [] e = absurd (true≢false (sym e))
+once_any q (x ∷ xs) e = by (bytes_eq x q) refl e (once_any q xs)
+  where
+    by : (b : Bool) → bytes_eq x q ≡ b → (b || list_any (λ y. bytes_eq y q) xs) ≡ true → (list_any (λ y. bytes_eq y q) xs ≡ true → Contains (each_once xs) q) → Contains (each_once (x ∷ xs)) q
+    by true s h r = subst (Contains (each_once (x ∷ xs))) (same_is x q s) (in_head x _)
+    by false s h r = in_tail x _ q (filter_from (λ o. not (bytes_eq x o)) (each_once xs) q (r h) (ap not s))
+
+-- an address is among those whom the server sends messages where one of the components leaves it to the server
+pub among_scheduled : (lists : List (List Attendee)) (q : List ℕ) → list_any (bytes_eq q) (scheduled_among lists) ≡ list_any (schedules q) lists
+among_scheduled lists q = same_tests _ _
+    (λ e. let r = any_at (bytes_eq q) (scheduled_among lists) e in
+    subst (λ z. list_any (schedules z) lists ≡ true) (sym (same_is q r.0 r.2)) (filter_at (λ a. list_any (schedules a) lists) (each_once (flat_map addresses_in lists)) r.0 r.1).1)
+    (λ e. any_from (bytes_eq q) (scheduled_among lists) q (filter_from (λ a. list_any (schedules a) lists) (each_once (flat_map addresses_in lists)) q (once_any q (flat_map addresses_in lists) (named e)) e) (same_itself q))
+  where
+    named : list_any (schedules q) lists ≡ true → list_any (λ y. bytes_eq y q) (flat_map addresses_in lists) ≡ true
+    named e = elim (cases_Bool (list_any (names q) lists)) [
+      | inl there ↦ any_flat (λ y. bytes_eq y q) addresses_in lists ∙ same_any lists ∙ there
+      | inr none ↦ absurd (both_ways _ (all_unnamed q lists none) e)
+    ]
+      where
+        same_any : (ls : List (List Attendee)) → list_any (λ l. list_any (λ y. bytes_eq y q) (addresses_in l)) ls ≡ list_any (names q) ls
+        same_any [] = refl
+        same_any (l ∷ ls) = λ i. any_map (λ y. bytes_eq y q) (λ (a : Attendee). a.address) l i || same_any ls i
+
+pub gone_is : (before lists : List (List Attendee)) (last now : Entries) → AreAttending before last → AreAttending lists now → IsDistinct same_address (keys_of last)
+    → gone_in last now ≡ without (scheduled_among before) (scheduled_among lists)
+gone_is before lists last now was are distinct =
+    sent_and before last was distinct (λ q. not (is_sent q now))
+    ∙ same_filter (λ q. not (is_sent q now)) (λ q. not (list_any (bytes_eq q) (scheduled_among lists))) (λ q. ap not (is_sent_is lists now are q ∙ sym (among_scheduled lists q))) (scheduled_among before)

@@ -1,0 +1,170 @@
+-- What the calls of an organiser take, answer and refuse.
+use Rattle.std.proofs.Common.{◌≡◌, ◌∙◌, ℕ, ◌+◌, ◌<◌, ◌≤◌, Bool, true, false, not, is_some, ◌&&◌, ◌||◌, cond, List, [], ◌∷◌, ◌++◌, map, Option, None, Some, refl, sym, ap, subst, inl, inr, arith}
+use Rattle.std.specs.Prelude.{◌⊎◌, codes, nat_lt}
+use Rattle.std.specs.List.{AllZip, filter, flat_map, list_any, Contains}
+use Rattle.std.specs.Str.{bytes_eq}
+use Rattle.std.proofs.lemmas.Bool.{true≢false, both_ways, cases_lt, lt-ltb, le-ltb, false_from_ne_true}
+use Rattle.std.proofs.lemmas.List.Elements.{Contains-get_or}
+use Rattle.itip_order.proofs.Lists.{any_from}
+use Rattle.ical_values.specs.Octets.{address_octets, text_octets}
+use Rattle.profile.specs.events.Events.{Attendee, Event, Participation}
+use Rattle.profile.specs.rooms.Revisions.{Revision, Slot}
+use Rattle.profile.specs.organisers.Objects as objects
+use Rattle.profile.specs.organisers.Objects.{is_of_attendee}
+use Rattle.profile.specs.organisers.Organisers.{Heard, OrganiserBook, Stored, StateFault, heard_in, is_attendee, last_store, most_sequence, own_sequence, greater, sequence_after, scheduled_in, sent_status, participation_word, IsSeen, ShowsSeen}
+use Rattle.profile.specs.organisers.Organisers.StateFault.{unknown, ahead, spent, stranger}
+use Rattle.profile.specs.organisers.Sent.{IsComponentText, IsMeetingText}
+use Rattle.itip_order.specs.Parts.{revision_of}
+use Rattle.itip_messages.specs.OrganiserObjects.{operation_said, SaysObjectComponent, StandsForObject}
+use Rattle.itip_messages.specs.declared.organiser_object.Operation.{Operation}
+use Rattle.itip_messages.specs.declared.organiser_object.Operation.TheVariants.{Store, Reply, Refresh}
+use Rattle.itip_messages.specs.declared.organiser_object.OrganiserObject.{OrganiserObject}
+use Rattle.itip_messages.specs.contracts.organiser_object.OperationPartialEq.TheImpl as operations
+use Rattle.organiser_books.specs.declared.meeting.Meeting.{Meeting}
+use Rattle.organiser_books.specs.Attending.{attendance_of, is_sent, lists_said}
+use Rattle.organiser_books.specs.Calls.{CallFault, MayTake}
+use Rattle.organiser_books.specs.Calls.CallFault.{in_state}
+use Rattle.organiser_books.specs.Shown.{ShowsAnswered}
+use Rattle.organiser_books.specs.Standing.{answer_in, answered, heard_of, is_ahead, is_strange, AreSeen, IsReplyFault, Stands, StandsAt}
+use Rattle.organiser_books.proofs.Books.{stands_known, stands_unknown}
+use Rattle.organiser_books.proofs.Latest.{latest_is}
+use Rattle.organiser_books.proofs.Picking.{among_scheduled, is_sent_is}
+use Rattle.organiser_books.proofs.Said.{ahead_are, attendee_is, heard_are, known_is, scheduled_are, strangers_are, uids_are}
+
+-- ---- what is asked
+
+-- two operations that differ are told apart
+pub operations_differ : (a b : Operation) → operations.eq-value.it a b ≡ false → operation_said a ≡ operation_said b → ⊥
+operations_differ Store Store n e = true≢false n
+operations_differ Store Reply n e = absurd (cc)
+operations_differ Store Refresh n e = absurd (cc)
+operations_differ Reply Store n e = absurd (cc)
+operations_differ Reply Reply n e = true≢false n
+operations_differ Reply Refresh n e = absurd (cc)
+operations_differ Refresh Store n e = absurd (cc)
+operations_differ Refresh Reply n e = absurd (cc)
+operations_differ Refresh Refresh n e = true≢false n
+
+some_is : {X : Type 0} (a b : X) → Some a ≡ Some b → a ≡ b
+some_is a b e = cc
+
+some_none : {X : Type 0} (a : X) → Some a ≡ None → ⊥
+some_none a e = absurd (cc)
+
+store_reply : objects.Store ≡ objects.Reply → ⊥
+store_reply e = absurd (cc)
+
+-- ---- objects
+
+module _ (address : List ℕ) (object : OrganiserObject) (said : objects.OrganiserObject) (is : StandsForObject object said) (book : OrganiserBook) where
+  abbrev uid : List ℕ
+  uid = text_octets object.uid
+
+  last_is : last_store said.uid book ≡ last_store uid book
+  last_is = ap (λ u. last_store u book) (sym is.uid)
+
+  -- of a meeting that isn't known
+  pub unknown_fault : (op : objects.Operation) → said.operation ≡ op → is_of_attendee op ≡ true → StandsAt book uid None (last_store uid book) → CallFault op address said book 71
+  unknown_fault op kind speaks found = in_state kind (unknown (ap is_of_attendee kind ∙ speaks) (last_is ∙ stands_unknown book uid (last_store uid book) found))
+
+  pub heard_is : flat_map (heard_of said.uid) object.components.items ≡ heard_in said.events
+  heard_is = heard_are said.uid said.events object.components.items is.each (uids_are said.organiser said.uid said.events is.are)
+
+  module _ (m : Meeting) (found : StandsAt book uid (Some m) (last_store uid book)) where
+    abbrev known : (stored : Stored) × (last_store uid book ≡ Some stored) × Stands m book stored
+    known = stands_known book uid m (last_store uid book) found
+
+    sequence_is : m.revision.sequence ≡ known.0.revision.sequence
+    sequence_is = ap (λ (r : Revision). r.sequence) known.2.revision
+
+    pub ahead_is : is_ahead m object.components.items ≡ list_any (λ (e : Event). nat_lt known.0.revision.sequence e.sequence) said.events
+    ahead_is = ahead_are m.revision.sequence said.events object.components.items is.each ∙ ap (λ n. list_any (λ (e : Event). nat_lt n e.sequence) said.events) sequence_is
+
+    strange_is : is_strange m object.components.items ≡ list_any (λ (h : Heard). not (is_attendee h.attendee known.0.events)) (heard_in said.events)
+    strange_is = strangers_are known.0.events m known.2.attending said.uid object.components.items ∙ ap (list_any (λ (h : Heard). not (is_attendee h.attendee known.0.events))) heard_is
+
+    pub strange_fault : (op : objects.Operation) → said.operation ≡ op → is_of_attendee op ≡ true → is_strange m object.components.items ≡ true → CallFault op address said book 73
+    strange_fault op kind speaks strange = in_state kind (stranger (ap is_of_attendee kind ∙ speaks) known.0 (last_is ∙ known.1) (sym strange_is ∙ strange))
+
+    pub ahead_fault : said.operation ≡ objects.Reply → is_ahead m object.components.items ≡ true → CallFault objects.Reply address said book 71
+    ahead_fault kind before = in_state kind (ahead kind known.0 (last_is ∙ known.1) (sym ahead_is ∙ before))
+
+    pub reply_fault : (n : ℕ) → said.operation ≡ objects.Reply → IsReplyFault m object.components.items n → CallFault objects.Reply address said book n
+    reply_fault n kind fault = elim fault [
+      | inl f ↦ subst (CallFault objects.Reply address said book) (sym f.0) (ahead_fault kind f.1)
+      | inr f ↦ subst (CallFault objects.Reply address said book) (sym f.0) (strange_fault objects.Reply kind refl f.1)
+    ]
+
+    -- nothing is wrong with what an attendee says
+    module _ (op : objects.Operation) (kind : said.operation ≡ op) (speaks : is_of_attendee op ≡ true) (sent : op ≡ objects.Reply → is_ahead m object.components.items ≡ false)
+        (names : is_strange m object.components.items ≡ false) where
+      no_fault : (n : ℕ) → StateFault said book n → ⊥
+      no_fault n (unknown a none) = some_none known.0 (sym (last_is ∙ known.1) ∙ none)
+      no_fault n (ahead reply stored last before) =
+          let same = some_is stored known.0 (sym last ∙ last_is ∙ known.1) in
+          both_ways _ (sym ahead_is ∙ sent (sym kind ∙ reply)) (subst (λ (s : Stored). list_any (λ (e : Event). nat_lt s.revision.sequence e.sequence) said.events ≡ true) same before)
+      no_fault n (spent store most) = true≢false (sym speaks ∙ ap is_of_attendee (sym kind ∙ store))
+      no_fault n (stranger a stored last strange) =
+          let same = some_is stored known.0 (sym last ∙ last_is ∙ known.1) in
+          both_ways _ (sym strange_is ∙ names) (subst (λ (s : Stored). list_any (λ (h : Heard). not (is_attendee h.attendee s.events)) (heard_in said.events) ≡ true) same strange)
+
+      pub may_take : said.organiser ≡ address → MayTake op address said book
+      may_take organiser = record { kind = kind; organiser = organiser; allowed = no_fault }
+
+-- ---- what is seen
+
+module _ (book : OrganiserBook) (uid : List ℕ) (m : Meeting) (found : StandsAt book uid (Some m) (last_store uid book)) (slot : Slot) (q : List ℕ) where
+  abbrev last : (stored : Stored) × (last_store uid book ≡ Some stored) × Stands m book stored
+  last = stands_known book uid m (last_store uid book) found
+
+  attends : is_attendee q last.0.events ≡ is_some (attendance_of q m.attending.entries)
+  attends = attendee_is q last.0.events ∙ sym (known_is (lists_said last.0.events) m.attending.entries q last.2.attending)
+
+  pub seen_none : is_some (attendance_of q m.attending.entries) ≡ false → IsSeen book uid slot q None
+  seen_none none stored is = subst (λ (s : Stored). is_attendee q s.events ≡ false) (some_is last.0 stored (sym last.1 ∙ is)) (attends ∙ none)
+
+  pub seen_some : is_some (attendance_of q m.attending.entries) ≡ true → IsSeen book uid slot q (Some (answered (answer_in m slot q)))
+  seen_some some = (last.0, last.1, attends ∙ some, latest_is _ (answer_in m slot q) (last.2.seen slot q))
+
+-- ---- what is shown
+
+zip_lift : {X Y : Type 0} (R S : X → Y → Type 0) → ((x : X) (y : Y) → R x y → S x y) → (xs : List X) (ys : List Y) → AllZip R xs ys → AllZip S xs ys
+zip_lift R S f [] [] z = tt
+zip_lift R S f [] (y ∷ ys) z = absurd z
+zip_lift R S f (x ∷ xs) [] z = absurd z
+zip_lift R S f (x ∷ xs) (y ∷ ys) z = (f x y z.0, zip_lift R S f xs ys z.1)
+
+-- where each line is also such a one
+pub text_lift : (method : Option (List ℕ)) (organiser uid : List ℕ) (revision : Revision) (R S : Slot → Attendee → List ℕ → Type 0) → ((slot : Slot) (a : Attendee) (line : List ℕ) → R slot a line → S slot a line)
+    → (events : List Event) (octets : List ℕ) → IsMeetingText method organiser uid revision R events octets → IsMeetingText method organiser uid revision S events octets
+text_lift method organiser uid revision R S f events octets t = record {
+  components = t.components;
+  are = t.are;
+  few = t.few;
+  texts = t.texts;
+  each = zip_lift (IsComponentText organiser uid revision _ R) (IsComponentText organiser uid revision _ S)
+      (λ component lines w. record {
+      slot = w.slot;
+      tells_slot = w.tells_slot;
+      dated = w.dated;
+      tells_revision = w.tells_revision;
+      name = w.name;
+      named = w.named;
+      attendees = w.attendees;
+      each = zip_lift (R _) (S _) (f _) _ w.attendees w.each;
+      is = w.is;
+    })
+      t.components t.texts t.each;
+  is = t.is;
+}
+
+abbrev shown : List ℕ → Participation → Bool → List ℕ
+shown address p b = codes "ATTENDEE;PARTSTAT=" ++ participation_word p ++ sent_status b ++ codes ":" ++ address
+
+pub shows_seen : (m : Meeting) (book : OrganiserBook) (stored : Stored) → Stands m book stored → (slot : Slot) (a : Attendee) (line : List ℕ) → ShowsAnswered m slot a line → ShowsSeen book stored slot a line
+shows_seen m book stored h slot a line is = (
+  answered (answer_in m slot a.address),
+  latest_is _ (answer_in m slot a.address) (h.seen slot a.address),
+  is ∙ ap (shown a.address (answered (answer_in m slot a.address))) (is_sent_is (lists_said stored.events) m.attending.entries h.attending a.address
+  ∙ sym (ap (list_any (bytes_eq a.address)) (scheduled_are stored.events) ∙ among_scheduled (lists_said stored.events) a.address)),
+)

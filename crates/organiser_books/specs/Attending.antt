@@ -1,0 +1,95 @@
+-- The attendees of a meeting, as an organiser has them in memory. Components count here as their ATTENDEE lines alone.
+use Rattle.std.specs.Prelude.{◌≡◌, ℕ, ◌≤◌, ◌==◌, Bool, true, false, not, ◌||◌, ◌&&◌, if◌then◌else◌, List, [], ◌∷◌, ◌++◌, map, filter, Option, None, Some}
+use Rattle.std.specs.List.{flat_map, list_any}
+use Rattle.std.specs.Map.{lookup, keys_of}
+use Rattle.std.specs.Str.{bytes_eq}
+use Rattle.ical_values.specs.Octets.{address_octets}
+use Rattle.ical_values.specs.declared.address.Address.{Address}
+use Rattle.profile.specs.events.Events.{Attendee, Event}
+use Rattle.profile.specs.organisers.Objects.{counted}
+use Rattle.profile.specs.rooms.Kept.{each_once}
+use Rattle.itip_messages.specs.declared.organiser_object.ObjectComponent.{ObjectComponent}
+use Rattle.organiser_books.specs.declared.attending.Attendance.{Attendance}
+
+-- the ATTENDEE lines of each component
+abbrev pub lists_of : List ObjectComponent → List (List Attendee)
+lists_of components = map (λ component. component.attendees) components
+
+abbrev pub lists_said : List Event → List (List Attendee)
+lists_said events = map (λ event. event.attendees) events
+
+abbrev pub addresses_in : List Attendee → List (List ℕ)
+addresses_in lines = map (λ attendee. attendee.address) lines
+
+-- one of the lines has the address
+abbrev pub names : List ℕ → List Attendee → Bool
+names address lines = list_any (λ a. bytes_eq a.address address) lines
+
+-- the server is to send it messages, by the first of its lines
+abbrev pub schedules : List ℕ → List Attendee → Bool
+schedules address lines = list_any (λ attendee. bytes_eq attendee.address address && attendee.scheduled) (counted lines)
+
+-- those that the server sends messages to
+abbrev pub scheduled_among : List (List Attendee) → List (List ℕ)
+scheduled_among lists = filter (λ address. list_any (schedules address) lists) (each_once (flat_map addresses_in lists))
+
+-- ---- in memory
+
+abbrev pub Entries : Type 0
+Entries = List (Address × Attendance)
+
+-- the address has these octets
+abbrev pub is_address : List ℕ → Address → Bool
+is_address octets address = bytes_eq octets (address_octets address)
+
+abbrev pub attendance_of : List ℕ → Entries → Option Attendance
+attendance_of address entries = lookup (is_address address) entries
+
+-- what is known of one who is an attendee of these components
+pub record IsAttending (lists : List (List Attendee)) (address : List ℕ) (attendance : Attendance) : Type 0 where
+  pub named : list_any (names address) lists ≡ true
+  pub scheduled : attendance.scheduled ≡ list_any (schedules address) lists
+
+abbrev pub Attends : List (List Attendee) → List ℕ → Option Attendance → Type 0
+Attends lists address None = list_any (names address) lists ≡ false
+Attends lists address (Some attendance) = IsAttending lists address attendance
+
+-- these are the attendees of the components, each once, in order of first appearance
+pub record AreAttending (lists : List (List Attendee)) (entries : Entries) : Type 0 where
+  pub order : map address_octets (keys_of entries) ≡ each_once (flat_map addresses_in lists)
+  pub each : (address : List ℕ) → Attends lists address (attendance_of address entries)
+
+-- the same on the way: all lines of the components before a place were noted, and some of its own
+pub record IsNoted (done : List (List Attendee)) (place : ℕ) (own : List Attendee) (address : List ℕ) (attendance : Attendance) : Type 0 where
+  pub named : (list_any (names address) done || names address own) ≡ true
+  pub scheduled : attendance.scheduled ≡ (list_any (schedules address) done || schedules address own)
+  pub last : (attendance.component == place) ≡ names address own
+  pub up_to : attendance.component ≤ place
+
+abbrev pub Noted : List (List Attendee) → ℕ → List Attendee → List ℕ → Option Attendance → Type 0
+Noted done place own address None = (list_any (names address) done || names address own) ≡ false
+Noted done place own address (Some attendance) = IsNoted done place own address attendance
+
+pub record AreNoted (done : List (List Attendee)) (place : ℕ) (own : List Attendee) (entries : Entries) : Type 0 where
+  pub order : map address_octets (keys_of entries) ≡ each_once (flat_map addresses_in done ++ addresses_in own)
+  pub each : (address : List ℕ) → Noted done place own address (attendance_of address entries)
+
+-- with one more line of the component in a place
+abbrev pub noted_too : Attendance → ℕ → Bool → Attendance
+noted_too known place scheduled = if known.component == place then known else record { scheduled = known.scheduled || scheduled; component = place }
+
+-- the server sends it messages, as is known in memory
+abbrev pub is_sent_in : Option Attendance → Bool
+is_sent_in None = false
+is_sent_in (Some attendance) = attendance.scheduled
+
+abbrev pub is_sent : List ℕ → Entries → Bool
+is_sent address entries = is_sent_in (attendance_of address entries)
+
+-- those of them
+abbrev pub sent_in : Entries → List (List ℕ)
+sent_in entries = map (λ entry. address_octets entry.0) (filter (λ entry. entry.1.scheduled) entries)
+
+-- those of the first whom the server no longer sends messages by the second
+abbrev pub gone_in : Entries → Entries → List (List ℕ)
+gone_in last now = map (λ entry. address_octets entry.0) (filter (λ entry. entry.1.scheduled && not (is_sent (address_octets entry.0) now)) last)

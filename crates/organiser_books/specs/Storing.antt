@@ -1,0 +1,68 @@
+-- What a store makes, as what was read of it says.
+use Rattle.std.specs.Prelude.{◌≡◌, ℕ, ◌+◌, Bool, true, false, ◌&&◌, List, [], ◌∷◌, ◌++◌, Option, None, Some}
+use Rattle.std.specs.List.{list_any}
+use Rattle.ical_values.specs.Octets.{address_octets, text_octets}
+use Rattle.profile.specs.events.Events.{Attendee, Event}
+use Rattle.profile.specs.organisers.Organisers.{Sent, Sends, Stored, greater, without}
+use Rattle.profile.specs.organisers.Sent.{IsCancel, IsRequest}
+use Rattle.itip_order.specs.Parts.{revision_of}
+use Rattle.itip_order.specs.declared.part.Slot.{Slot}
+use Rattle.itip_order.specs.declared.part.Slot.TheVariants.{Whole, At}
+use Rattle.itip_messages.specs.declared.meeting_text.MeetingText.{MeetingText}
+use Rattle.itip_messages.specs.declared.organiser_object.ObjectComponent.{ObjectComponent}
+use Rattle.itip_order.specs.declared.part.Revision.{Revision}
+use Rattle.itip_messages.specs.declared.organiser_object.OrganiserObject.{OrganiserObject}
+use Rattle.organiser_books.specs.declared.meeting.Meeting.{Meeting}
+use Rattle.organiser_books.specs.Attending.{lists_of, scheduled_among, AreAttending}
+
+-- the greatest SEQUENCE of these components
+abbrev pub own_in : List ObjectComponent → ℕ
+own_in [] = 0
+own_in (component ∷ components) = greater component.revision.sequence (own_in components)
+
+-- the SEQUENCE of what is sent after a last store
+abbrev pub sequence_then : Option Meeting → List ObjectComponent → ℕ
+sequence_then None components = own_in components
+sequence_then (Some last) components = greater (own_in components) (last.revision.sequence + 1)
+
+-- the component cancels the whole meeting
+abbrev pub is_whole : Slot → Bool
+is_whole Whole = true
+is_whole (At instant) = false
+
+abbrev pub cancels_whole : ObjectComponent → Bool
+cancels_whole component = is_whole component.slot && component.cancelled
+
+abbrev pub calls_off : List ObjectComponent → Bool
+calls_off components = list_any cancels_whole components
+
+-- the store of a meeting that is written, with what was made of it
+abbrev pub stored_of : MeetingText → List Event → List ℕ → Stored
+stored_of meeting events object = record { uid = text_octets meeting.uid.now; events = events; revision = revision_of meeting.revision; object = object }
+
+-- an object that is sent to these, where there are some
+abbrev pub sent_to : List (List ℕ) → List ℕ → List Sent
+sent_to [] octets = []
+sent_to (first ∷ others) octets = record { to = first ∷ others; octets = octets } ∷ []
+
+-- what is made and sent, to these and to those who are gone, of a meeting that is called off or isn't
+abbrev pub SendsTo : Bool → List ℕ → Stored → List (List ℕ) → List (List ℕ) → List Sent → Type 0
+SendsTo true organiser stored to gone sent =
+    IsCancel organiser stored.uid stored.revision true (to ++ gone) stored.object × Sends (λ octets. octets ≡ stored.object) (to ++ gone) sent
+SendsTo false organiser stored to gone sent =
+    (requests : List Sent) × (cancels : List Sent)
+    × IsRequest organiser stored.uid stored.revision stored.events stored.object
+    × Sends (λ octets. octets ≡ stored.object) to requests
+    × Sends (IsCancel organiser stored.uid stored.revision false gone) gone cancels × (sent ≡ requests ++ cancels)
+
+-- the attendees of a last store, where there is one
+abbrev pub LastAttends : List (List Attendee) → Option Meeting → Type 0
+LastAttends lists None = lists ≡ []
+LastAttends lists (Some last) = AreAttending lists last.attending.entries
+
+-- what is made of these events by an object that is stored with this revision
+abbrev pub SendsObject : OrganiserObject → Revision → List Event → List (List Attendee) → List ℕ → List Sent → Type 0
+SendsObject object revision events before octets sent =
+    SendsTo (calls_off object.components.items) (address_octets object.organiser)
+    (record { uid = text_octets object.uid; events = events; revision = revision_of revision; object = octets })
+    (scheduled_among (lists_of object.components.items)) (without (scheduled_among before) (scheduled_among (lists_of object.components.items))) sent

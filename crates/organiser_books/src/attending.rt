@@ -1,0 +1,134 @@
+//! The attendees of a meeting: each once, in order of first appearance, and whether the server sends it messages.
+
+ghost use Rattle.std.specs.Prelude.{◌≡◌, ◌&&◌, not, ◌++◌, ◌∷◌, [], ℕ, List, map, IfOk, OnOk};
+ghost use Rattle.ical_values.specs.Octets.{address_octets};
+ghost use Rattle.profile.specs.events.Events as events;
+ghost use Rattle.profile.specs.organisers.Organisers.{without};
+ghost use Rattle.cal_events.specs.Events.{attendee_of};
+ghost use Rattle.organiser_books.specs.Attending.{lists_of, is_sent, scheduled_among, AreAttending, AreNoted};
+
+use cal_events::Attendee;
+use ical_values::Address;
+use indexmap::IndexMap;
+use itip_messages::ObjectComponent;
+use std::alloc::{AllocError, Global};
+
+/// The attendees of a meeting.
+pub(crate) type Attending = IndexMap<Address, Attendance>;
+
+/// What is known of an attendee.
+#[derive(Clone, Copy, Drop)]
+pub(crate) struct Attendance {
+    /// Whether the server sends it messages: one of the components leaves it to the server (RFC 6638 7.1).
+    pub scheduled: bool,
+    /// The place of the last component that names it. Of several lines of one address in a component the first counts.
+    pub component: usize,
+}
+
+/// The attendees of these components, each line looked at once.
+pub(crate) fn attending(
+    alloc: Global,
+    components: &[ObjectComponent],
+) -> Result<Attending, AllocError>
+    ensures { IfOk result (λ attending. AreAttending (lists_of components.now) attending.entries) }
+{
+    let mut attending = IndexMap::new(alloc);
+    for (place, component) in components.iter().enumerate() {
+        note_all(&mut attending, place, component.attendees.lines())?;
+    }
+    Ok(attending)
+}
+
+/// Notes the lines of the component in this place.
+fn note_all(attending: &mut Attending, place: usize, lines: &[Attendee]) -> Result<(), AllocError>
+    ensures { OnOk result ((done : List (List events.Attendee)) → AreNoted done place [] attending.old.entries
+        → AreNoted done place (map attendee_of lines.now) attending.new.entries) }
+{
+    for attendee in lines {
+        note(attending, place, attendee)?;
+    }
+    Ok(())
+}
+
+/// Notes one more line of that component.
+fn note(attending: &mut Attending, place: usize, attendee: &Attendee) -> Result<(), AllocError>
+    ensures { OnOk result ((done : List (List events.Attendee)) (own : List events.Attendee) → AreNoted done place own attending.old.entries
+        → AreNoted done place (own ++ attendee_of attendee.now ∷ []) attending.new.entries) }
+{
+    if let Some(known) = attending.get_mut(&attendee.address) {
+        *known = known.with(place, attendee.scheduled);
+        return Ok(());
+    }
+    let address = attendee.address.clone()?;
+    let attendance = Attendance {
+        scheduled: attendee.scheduled,
+        component: place,
+    };
+    attending.insert(address, attendance)?;
+    Ok(())
+}
+
+impl Attendance {
+    ghost use Rattle.organiser_books.specs.Attending.{noted_too};
+
+    /// With one more line of the component in this place.
+    fn with(&self, place: usize, scheduled: bool) -> Attendance
+        ensures { result ≡ noted_too self.now place scheduled }
+    {
+        if self.component == place {
+            return *self;
+        }
+        Attendance {
+            scheduled: self.scheduled || scheduled,
+            component: place,
+        }
+    }
+}
+
+/// Whether the server sends messages to this address.
+pub(crate) fn is_sent(attending: &Attending, address: &Address) -> bool
+    ensures { result ≡ is_sent (address_octets address.now) attending.now.entries }
+{
+    match attending.get(address) {
+        Some(attendance) => attendance.scheduled,
+        None => false,
+    }
+}
+
+/// Those whom the server sends messages.
+pub(crate) fn sent(alloc: Global, attending: &Attending) -> Result<Vec<Address>, AllocError>
+    ensures { IfOk result (λ sent. (lists : List (List events.Attendee)) → AreAttending lists attending.now.entries → map address_octets sent.items ≡ scheduled_among lists) }
+{
+    let mut sent = Vec::new(alloc);
+    for (address, attendance) in attending {
+        if attendance.scheduled {
+            sent.push(address.clone()?)?;
+        }
+    }
+    Ok(sent)
+}
+
+/// Those whom the server sent messages, and no longer does.
+pub(crate) fn gone(
+    alloc: Global,
+    last: &Attending,
+    now: &Attending,
+) -> Result<Vec<Address>, AllocError>
+    ensures { IfOk result (λ gone. (before lists : List (List events.Attendee)) → AreAttending before last.now.entries → AreAttending lists now.now.entries
+        → map address_octets gone.items ≡ without (scheduled_among before) (scheduled_among lists)) }
+{
+    let mut gone = Vec::new(alloc);
+    for (address, attendance) in last {
+        if is_gone(address, attendance, now) {
+            gone.push(address.clone()?)?;
+        }
+    }
+    Ok(gone)
+}
+
+/// Whether the server sent messages to this attendee of the last store, and no longer does.
+fn is_gone(address: &Address, attendance: &Attendance, now: &Attending) -> bool
+    ensures { result ≡ (attendance.now.scheduled && not (is_sent (address_octets address.now) now.now.entries)) }
+{
+    attendance.scheduled && !is_sent(now, address)
+}

@@ -1,0 +1,46 @@
+//! The SEQUENCE of what is sent (RFC 6638 3.2.8).
+
+ghost use Rattle.std.specs.Prelude.{◌≡◌, ◌<◌, ◌≤◌, option_copied, IfSome, IfNone};
+ghost use Rattle.profile.specs.organisers.Organisers.{greater, most_sequence};
+ghost use Rattle.organiser_books.specs.Storing.{own_in, sequence_then};
+
+use crate::meeting::Meeting;
+use ical_values::Sequence;
+use itip_messages::ObjectComponent;
+
+/// The components' own SEQUENCE at first, later greater than that of the last store (RFC 5546 2.1.4); None where none is left.
+pub(crate) fn sequence_after(
+    last: Option<&Meeting>,
+    components: &[ObjectComponent],
+) -> Option<Sequence>
+    ensures is { IfSome result (λ sequence. sequence ≡ sequence_then (option_copied last.entry) components.now) }
+    ensures fits { IfSome result (λ sequence. sequence ≤ most_sequence) }
+    ensures none { IfNone result (most_sequence < sequence_then (option_copied last.entry) components.now) }
+{
+    let own = own_sequence(components);
+    let Some(last) = last else {
+        return Some(own);
+    };
+    let next = Sequence::of_number(last.revision.sequence.number() + 1)?;
+    Some(greater(own, next))
+}
+
+/// The greatest SEQUENCE of these components.
+fn own_sequence(components: &[ObjectComponent]) -> Sequence
+    ensures { result ≡ own_in components.now }
+{
+    let mut greatest = Sequence::zero();
+    for component in components {
+        greatest = greater(greatest, component.revision.sequence);
+    }
+    greatest
+}
+
+fn greater(a: Sequence, b: Sequence) -> Sequence
+    ensures { result ≡ greater a b }
+{
+    if a < b {
+        return b;
+    }
+    a
+}

@@ -1,0 +1,57 @@
+//! How the attendees of a meeting are shown: with what they answered, and whether they were sent it (RFC 6638 3.2.9, 7.3).
+
+ghost use Rattle.std.specs.Prelude.{◌≡◌, ◌++◌, codes, string_bytes, IfOk};
+ghost use Rattle.profile.specs.organisers.Organisers.{participation_word, sent_status};
+ghost use Rattle.cal_events.specs.Events.{participation_of};
+ghost use Rattle.organiser_books.specs.Shown.{ShowsAnswered};
+
+use crate::meeting::Meeting;
+use cal_events::{Attendee, ParticipationStatus};
+use itip_messages::{AttendeeLines, ObjectWriter};
+use itip_order::Slot;
+use std::alloc::{AllocError, Global};
+
+impl AttendeeLines for Meeting {
+    ghost line = { ShowsAnswered };
+
+    fn write_line(
+        &self,
+        object: &mut ObjectWriter,
+        slot: Slot,
+        attendee: &Attendee,
+    ) -> Result<(), AllocError> {
+        let status = self.answered(slot, &attendee.address);
+        let sent = self.is_sent(&attendee.address);
+        let name = named(object.alloc(), status, sent)?;
+        object.named(name.as_str(), attendee.address.as_str())
+    }
+}
+
+/// The name of the line, with its parameters and colon.
+fn named(alloc: Global, status: ParticipationStatus, sent: bool) -> Result<String, AllocError>
+    ensures { IfOk result (λ name. string_bytes name ≡ codes "ATTENDEE;PARTSTAT=" ++ participation_word (participation_of status) ++ sent_status sent ++ codes ":") }
+{
+    let word = word_of(status);
+    let status = status_of(sent);
+    Ok(format!(in alloc; "ATTENDEE;PARTSTAT={word}{status}:")?)
+}
+
+/// The word of PARTSTAT (RFC 5545 3.2.12).
+fn word_of(status: ParticipationStatus) -> &'static str
+    ensures { result.now ≡ participation_word (participation_of status) }
+{
+    match status {
+        ParticipationStatus::NeedsAction => "NEEDS-ACTION",
+        ParticipationStatus::Tentative => "TENTATIVE",
+        ParticipationStatus::Accepted => "ACCEPTED",
+        ParticipationStatus::Delegated => "DELEGATED",
+        ParticipationStatus::Declined => "DECLINED",
+    }
+}
+
+/// SCHEDULE-STATUS, where it was sent the meeting (RFC 6638 7.3).
+fn status_of(sent: bool) -> &'static str
+    ensures { result.now ≡ sent_status sent }
+{
+    if sent { ";SCHEDULE-STATUS=1.1" } else { "" }
+}
